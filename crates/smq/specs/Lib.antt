@@ -1,0 +1,9 @@
+pub mod Decimal
+pub mod Row
+pub mod Script
+pub mod Steps
+pub mod Laws
+pub mod Words
+pub mod Play
+pub mod Report
+pub mod Run

@@ -1,0 +1,124 @@
+-- What an append changes, and when it is refused.
+use Rattle.std.proofs.Common.{◌≡◌, ◌≢◌, ◌⊎◌, ℕ, cond, List, [], ◌++◌, Option, Some, None, refl, sym, ap, ◌∙◌, subst, inl, inr}
+use Rattle.std.specs.Prelude.{option_map, unwrap_or}
+use Rattle.std.specs.Cmp.{nat_cmp_total, tied_itself}
+use Rattle.std.specs.FinMap.{FinMap, get, insert, get-insert, same_map, nat_cmp-IsAntisymmetric}
+use Rattle.std.specs.Ordering.{nat_cmp, is_eq}
+use Rattle.std.specs.declared.cmp.Ordering.{Ordering}
+use Rattle.std.specs.declared.cmp.Ordering.TheVariants.{Less, Equal, Greater}
+use Rattle.smq_kit.specs.declared.names.LinkId.{LinkId}
+use Rattle.smq_kit.specs.declared.place.Dir.{Dir}
+use Rattle.smq_kit.specs.declared.place.Dir.TheVariants.{FromClient, FromCentre}
+use Rattle.smq_kit.specs.declared.refusal.Refusal.{Refusal}
+use Rattle.smq_frame.specs.Stream.{Octet, handed_in}
+use Rattle.smq_book.specs.declared.edit.Edit.{Edit}
+use Rattle.smq_book.specs.declared.edit.Edit.TheVariants.{Append}
+use Rattle.smq_book.specs.declared.session.Session.{Session}
+use Rattle.smq_book.specs.Batch.{BatchValue}
+use Rattle.smq_book.specs.Present.{PresentValue, session_of, direction, octets_in, octets_of}
+use Rattle.smq_book.specs.Replies.{reply}
+use Rattle.smq_book.specs.Steps.{session_with, session_after, change, step_unless, step, Appends}
+use Rattle.smq_book.proofs.Answered.{new_session}
+
+-- ---- the session of a batch
+
+with-grown : (d : Dir) (octets : List Octet) (s : Session) → direction d (session_with d octets s) ≡ direction d s ++ octets
+with-grown FromClient octets s = refl
+with-grown FromCentre octets s = refl
+
+with-other : (d e : Dir) (octets : List Octet) (s : Session) → e ≢ d → direction e (session_with d octets s) ≡ direction e s
+with-other FromClient FromClient octets s ne = absurd (ne refl)
+with-other FromClient FromCentre octets s ne = refl
+with-other FromCentre FromClient octets s ne = refl
+with-other FromCentre FromCentre octets s ne = absurd (ne refl)
+
+with-link : (d : Dir) (octets : List Octet) (s : Session) → (session_with d octets s).link ≡ s.link
+with-link FromClient octets s = refl
+with-link FromCentre octets s = refl
+
+no_octets : (d : Dir) (b : BatchValue) → direction d (new_session b) ≡ []
+no_octets FromClient b = refl
+no_octets FromCentre b = refl
+
+after-grown : (o : Option Session) (b : BatchValue) → direction b.dir (session_after o b) ≡ octets_in b.dir o ++ handed_in b.moment b.octets
+after-grown None b = with-grown b.dir (handed_in b.moment b.octets) (new_session b) ∙ ap (λ (t : List Octet). t ++ handed_in b.moment b.octets) (no_octets b.dir b)
+after-grown (Some s) b = with-grown b.dir (handed_in b.moment b.octets) s
+
+after-other : (o : Option Session) (b : BatchValue) (d : Dir) → d ≢ b.dir → direction d (session_after o b) ≡ octets_in d o
+after-other None b d ne = with-other b.dir d (handed_in b.moment b.octets) (new_session b) ne ∙ no_octets d b
+after-other (Some s) b d ne = with-other b.dir d (handed_in b.moment b.octets) s ne
+
+after-link : (o : Option Session) (b : BatchValue) → (session_after o b).link ≡ unwrap_or (option_map (λ (s : Session). s.link) o) b.link
+after-link None b = with-link b.dir (handed_in b.moment b.octets) (new_session b)
+after-link (Some s) b = with-link b.dir (handed_in b.moment b.octets) s
+
+-- ---- a change at one number
+
+get-here : {X : Type 0} (m : FinMap nat_cmp X) (k : ℕ) (v : X) → get (insert m k v) k ≡ Some v
+get-here m k v = get-insert nat_cmp_total m k v k ∙ (λ i. cond (is_eq (tied_itself nat_cmp_total k i)) (Some v) (get m k))
+
+unless : {X : Type 0} (k q : ℕ) (v w : X) (o : Ordering) → nat_cmp q k ≡ o → q ≢ k → cond (is_eq o) v w ≡ w
+unless k q v w Less e ne = refl
+unless k q v w Equal e ne = absurd (ne (nat_cmp-IsAntisymmetric q k e))
+unless k q v w Greater e ne = refl
+
+get-elsewhere : {X : Type 0} (m : FinMap nat_cmp X) (k q : ℕ) (v : X) → q ≢ k → get (insert m k v) q ≡ get m q
+get-elsewhere m k q v ne = get-insert nat_cmp_total m k v q ∙ unless k q (Some v) (get m q) (nat_cmp q k) refl ne
+
+pub appends-change : (p : PresentValue) (b : BatchValue) → Appends p (change p (Append b)) b
+appends-change p b =
+    let here : session_of (change p (Append b)) b.session.0 ≡ Some (session_after (session_of p b.session.0) b) = get-here p.sessions b.session.0 (session_after (session_of p b.session.0) b) in
+    record {
+      grown = ap (octets_in b.dir) here ∙ after-grown (session_of p b.session.0) b;
+      other_direction = λ d ne. ap (octets_in d) here ∙ after-other (session_of p b.session.0) b d ne;
+      link = ap (option_map (λ (s : Session). s.link)) here ∙ ap Some (after-link (session_of p b.session.0) b);
+      elsewhere = λ q ne. get-elsewhere p.sessions b.session.0 q (session_after (session_of p b.session.0) b) ne;
+    }
+
+-- ---- no other change
+
+same_link : (a b : LinkId) (o : Option LinkId) → Some a ≡ o → Some b ≡ o → a ≡ b
+same_link a b o e f = cc
+
+same_session : (o u : Option Session) (k : LinkId) → option_map (λ (s : Session). s.link) o ≡ Some k → option_map (λ (s : Session). s.link) u ≡ Some k → ((d : Dir) → octets_in d o ≡ octets_in d u) → o ≡ u
+same_session None u k e f h = absurd cc
+same_session (Some s) None k e f h = absurd cc
+same_session (Some s) (Some t) k e f h =
+    let link : s.link ≡ t.link = same_link s.link t.link (Some k) e f in
+    λ i. Some (record { link = link i; client = h FromClient i; centre = h FromCentre i })
+
+either_dir : (d e : Dir) → (d ≡ e) ⊎ (d ≢ e)
+either_dir FromClient FromClient = inl refl
+either_dir FromClient FromCentre = inr (λ h. cc)
+either_dir FromCentre FromClient = inr (λ h. cc)
+either_dir FromCentre FromCentre = inl refl
+
+same_octets : (p q r : PresentValue) (b : BatchValue) → Appends p q b → Appends p r b → (d : Dir) → octets_of q b.session.0 d ≡ octets_of r b.session.0 d
+same_octets p q r b one two d =
+    elim (either_dir d b.dir) [
+      | inl is ↦ subst (λ (e : Dir). octets_of q b.session.0 e ≡ octets_of r b.session.0 e) (sym is) (one.grown ∙ sym two.grown)
+      | inr ne ↦ one.other_direction d ne ∙ sym (two.other_direction d ne)
+    ]
+
+either_number : (q k : ℕ) (o : Ordering) → nat_cmp q k ≡ o → (q ≡ k) ⊎ (q ≢ k)
+either_number q k Less e = inr (λ is. let same : nat_cmp q k ≡ Equal = subst (λ (n : ℕ). nat_cmp q n ≡ Equal) is (tied_itself nat_cmp_total q) in cc)
+either_number q k Equal e = inl (nat_cmp-IsAntisymmetric q k e)
+either_number q k Greater e = inr (λ is. let same : nat_cmp q k ≡ Equal = subst (λ (n : ℕ). nat_cmp q n ≡ Equal) is (tied_itself nat_cmp_total q) in cc)
+
+same_at : (p q r : PresentValue) (b : BatchValue) → Appends p q b → Appends p r b → (n : ℕ) → session_of q n ≡ session_of r n
+same_at p q r b one two n =
+    elim (either_number n b.session.0 (nat_cmp n b.session.0) refl) [
+      | inl is ↦ subst (λ (m : ℕ). session_of q m ≡ session_of r m) (sym is) (same_session (session_of q b.session.0) (session_of r b.session.0) _ one.link two.link (same_octets p q r b one two))
+      | inr ne ↦ one.elsewhere n ne ∙ sym (two.elsewhere n ne)
+    ]
+
+pub appends-alone : (p q : PresentValue) (b : BatchValue) → Appends p q b → q ≡ change p (Append b)
+appends-alone p q b one =
+    let same : q.sessions ≡ (change p (Append b)).sessions = same_map nat_cmp_total nat_cmp-IsAntisymmetric _ _ (same_at p q (change p (Append b)) b one (appends-change p b)) in
+    λ i. record { sessions = same i }
+
+pub step-made : (p : PresentValue) (e : Edit) → reply p e ≡ None → step p e ≡ change p e
+step-made p e h = ap (λ (o : Option Refusal). step_unless o p e) h
+
+pub step-refused : (p : PresentValue) (e : Edit) (r : Refusal) → reply p e ≡ Some r → step p e ≡ p
+step-refused p e r h = ap (λ (o : Option Refusal). step_unless o p e) h

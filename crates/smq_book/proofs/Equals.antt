@@ -1,0 +1,45 @@
+-- `==` of tables.
+use Rattle.std.proofs.Common.{◌≡◌, ℕ, Bool, true, false, List, refl, sym, ap, ◌∙◌}
+use Rattle.std.specs.Prelude.{◌&&◌, nat_eq, Decides, IsTrue, ◌↔◌}
+use Rattle.std.specs.Ordering.{is_eq}
+use Rattle.std.specs.Cmp.{unsigned_Decides}
+use Rattle.std.specs.Cmp.Lexicographic.{pointwise}
+use Rattle.std.specs.FinMap.{entries, same_entries_map}
+use Rattle.std.specs.List.Sorted.{IsStrictlySortedBy}
+use Rattle.std.specs.Map.{keys_of}
+use Rattle.std.proofs.lemmas.Cmp.{eq_by_cmp_equiv}
+use Rattle.std.proofs.lemmas.Map.Views.{tells_apart}
+use Rattle.std.proofs.lemmas.Slice.Eq.{slice_eq-Decides}
+use Rattle.smq_book.specs.declared.tally.Row.{Row}
+use Rattle.smq_book.specs.contracts.tally.RowOrd.TheImpl.Laws as row_laws
+use Rattle.smq_book.specs.contracts.tally.RowPartialEq.TheImpl as row_eq
+use Rattle.smq_book.specs.Tally.{TablesValue, same_row}
+use Rattle.smq_book.specs.Equal.{tables_eq, same_entry}
+use Rattle.smq_book.specs.RowOrder.{kept_cmp, rows_total}
+use Rattle.smq_book.proofs.RowOrders.{row-order, rows_exact, entries-seen}
+use Rattle.smq_book.proofs.Stored.{seen}
+
+row-equal : (x y : Row) → (row_eq.ghosts).eq x y ≡ same_row x y
+row-equal x y = row_laws.matches_eq-law x y ∙ (λ i. is_eq (row-order i x y))
+
+pub eq-seen : (es fs : List (Row × ℕ)) → IsStrictlySortedBy kept_cmp (keys_of es) → IsStrictlySortedBy kept_cmp (keys_of fs)
+    → pointwise (λ (p q : Row × ℕ). (row_eq.ghosts).eq p.0 q.0 && nat_eq p.1 q.1) es fs ≡ tables_eq (seen es) (seen fs)
+eq-seen es fs s t =
+    (λ i. pointwise (λ (p q : Row × ℕ). row-equal p.0 q.0 i && nat_eq p.1 q.1) es fs)
+    ∙ (λ i. pointwise same_entry (sym (entries-seen es s) i) (sym (entries-seen fs t) i))
+
+both_true : (a b : Bool) → (a && b) ≡ true → (a ≡ true) × (b ≡ true)
+both_true true b e = (refl, e)
+both_true false b e = absurd (Rattle.std.proofs.lemmas.Bool.false≢true e)
+
+one_entry : (p q : Row × ℕ) → Decides (same_entry p q) (p ≡ q)
+one_entry p q = (
+  λ e. let h : (same_row p.0 q.0 ≡ true) × (nat_eq p.1 q.1 ≡ true) = both_true (same_row p.0 q.0) (nat_eq p.1 q.1) e in
+      λ i. (tells_apart rows_exact p.0 q.0 h.0 i, (unsigned_Decides p.1 q.1).0 h.1 i),
+  λ e. ap (same_entry p) (sym e) ∙ (λ i. (eq_by_cmp_equiv rows_total).refl p.0 i && (unsigned_Decides p.1 p.1).1 refl i),
+)
+
+pub equal-same : (t u : TablesValue) → IsTrue (tables_eq t u) ↔ (t ≡ u)
+equal-same t u =
+    let d = slice_eq-Decides one_entry (entries t.counts) (entries u.counts) (tables_eq t u) refl in
+    (λ e. λ i. record { counts = same_entries_map t.counts u.counts (d.0 e) i }, λ e. d.1 (ap (λ (x : TablesValue). entries x.counts) e))

@@ -1,0 +1,14 @@
+pub mod Growth
+pub mod Answered
+pub mod Maps
+pub mod Appended
+pub mod Changes
+pub mod Fits
+pub mod Worked
+pub mod Ranks
+pub mod Turns
+pub mod RowOrders
+pub mod Counted
+pub mod Tallies
+pub mod Stored
+pub mod Equals

@@ -1,0 +1,53 @@
+-- What an edit leaves present.
+use Rattle.std.specs.Prelude.{◌≡◌, ◌≢◌, ℕ, List, [], ◌++◌, fold, Option, Some, None, unwrap_or}
+use Rattle.std.specs.FinMap as map
+use Rattle.smq_kit.specs.declared.place.Dir.{Dir}
+use Rattle.smq_kit.specs.declared.place.Dir.TheVariants.{FromClient, FromCentre}
+use Rattle.smq_kit.specs.declared.refusal.Refusal.{Refusal}
+use Rattle.smq_frame.specs.Stream.{Octet, handed_in}
+use Rattle.smq_book.specs.declared.edit.Edit.{Edit}
+use Rattle.smq_book.specs.declared.edit.Edit.TheVariants.{Append}
+use Rattle.smq_book.specs.declared.session.Session.{Session}
+use Rattle.smq_book.specs.Batch.{BatchValue}
+use Rattle.smq_book.specs.Present.{PresentValue, session_of, link_of, octets_of}
+use Rattle.smq_book.specs.Replies.{reply}
+
+-- a session with octets put after one direction
+abbrev pub session_with : Dir → List Octet → Session → Session
+session_with FromClient octets session = record session { client = session.client ++ octets }
+session_with FromCentre octets session = record session { centre = session.centre ++ octets }
+
+-- the batch's session once its octets are put after their direction; a new one gets the batch's link
+abbrev pub session_after : Option Session → BatchValue → Session
+session_after None batch =
+    session_with batch.dir (handed_in batch.moment batch.octets) (record { link = batch.link; client = []; centre = [] })
+session_after (Some session) batch =
+    session_with batch.dir (handed_in batch.moment batch.octets) session
+
+-- the plain change that an edit is
+abbrev pub change : PresentValue → Edit → PresentValue
+change p (Append batch) =
+    record { sessions = map.insert p.sessions batch.session.0 (session_after (session_of p batch.session.0) batch) }
+
+-- the plain change, or none where there is a refusal
+abbrev pub step_unless : Option Refusal → PresentValue → Edit → PresentValue
+step_unless None p edit = change p edit
+step_unless (Some refusal) p edit = p
+
+-- what is present after an edit that wasn't refused for want of memory
+abbrev pub step : PresentValue → Edit → PresentValue
+step p edit = step_unless (reply p edit) p edit
+
+-- what is present after a list of such edits
+abbrev pub steps : PresentValue → List Edit → PresentValue
+steps p edits = fold step p edits
+
+-- The batch's octets, each with its moment, are put after their direction. Nothing else changes, but that a new session
+-- gets the batch's link.
+pub record Appends (old new : PresentValue) (batch : BatchValue) : Type 0 where
+  pub grown : octets_of new batch.session.0 batch.dir
+      ≡ octets_of old batch.session.0 batch.dir ++ handed_in batch.moment batch.octets
+  pub other_direction : (dir : Dir) → dir ≢ batch.dir
+      → octets_of new batch.session.0 dir ≡ octets_of old batch.session.0 dir
+  pub link : link_of new batch.session.0 ≡ Some (unwrap_or (link_of old batch.session.0) batch.link)
+  pub elsewhere : (number : ℕ) → number ≢ batch.session.0 → session_of new number ≡ session_of old number

@@ -1,0 +1,83 @@
+//! The book.
+ghost use Rattle.std.specs.Prelude.{◌≡◌, IfOk};
+ghost use Rattle.smq_book.specs.Present.{empty, tail_in};
+ghost use Rattle.smq_book.specs.Replies.{Answers, reply};
+ghost use Rattle.smq_book.specs.Scratch.{scratch};
+ghost use Rattle.smq_book.specs.Steps.{step};
+
+use crate::{Edit, Present, Tables};
+use smq_frame::Tail;
+use smq_kit::{Dir, Refusal, SessionId};
+use std::alloc::{AllocError, Global};
+use std::marker::Model;
+
+/// One book of captured sessions. A contract sees what is present.
+#[derive(Drop)]
+pub struct Book {
+    present: Present,
+    nothing: Tail,
+}
+
+impl Model for Book {
+    ghost use Rattle.std.specs.Prelude.{◌≡◌, []};
+    ghost use Rattle.smq_frame.specs.Tail.{tail_of};
+    ghost use Rattle.smq_book.specs.Present.{PresentValue, present_code};
+
+    ghost Value = { PresentValue };
+
+    ghost coded = { present_code };
+
+    ghost view = { λ b. b.present };
+
+    ghost invariant = { λ b. b.nothing ≡ tail_of [] };
+}
+
+impl Book {
+    /// A book in which nothing is present.
+    pub fn new(alloc: Global) -> Book
+        ensures { result ≡ empty }
+    {
+        Book {
+            present: Present::new(alloc),
+            nothing: Tail::at(0),
+        }
+    }
+
+    /// What is present.
+    pub fn present(&self) -> &Present
+        ensures { result.now ≡ self.now }
+    {
+        &self.present
+    }
+
+    /// The tail of one direction of a session, on which its next octets are prepared. A session that is absent has no
+    /// octets.
+    pub fn tail(&self, session: SessionId, dir: Dir) -> &Tail
+        ensures { result.now ≡ tail_in self.now session.0 dir }
+    {
+        match self.present.session(session) {
+            None => &self.nothing,
+            Some(found) => found.direction(dir).tail(),
+        }
+    }
+
+    /// Makes an edit, or refuses it and changes nothing. An `Append` is refused, in order: where its session is present
+    /// under another link (`OtherLink`); where its tail isn't that of its direction (`OutOfStep`); where its moment is
+    /// below the direction's last (`Backward`); and for want of memory (`Memory`).
+    pub fn apply(&mut self, alloc: Global, edit: Edit) -> Result<(), Refusal>
+        ensures { Answers (reply self.old edit) result
+            (self.new ≡ step self.old edit) (self.new ≡ self.old) }
+    {
+        match edit {
+            Edit::Append { batch } => self.present.append(alloc, batch),
+        }
+    }
+
+    /// The tables of what is present, counted from nothing.
+    pub fn tables(&self, alloc: Global) -> Result<Tables, AllocError>
+        ensures { IfOk result (λ tables. tables ≡ scratch self.now) }
+    {
+        let facts = self.present.facts(alloc)?;
+        Tables::of_facts(alloc, facts.as_slice())
+    }
+}

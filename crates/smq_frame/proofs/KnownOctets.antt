@@ -1,0 +1,26 @@
+-- The definitions computed on known octets.
+use Rattle.std.proofs.Common.{refl}
+use Rattle.smq_frame.specs.Framing.{stated_length, frames_of, frames_within, rest_of, rest_within}
+use Rattle.smq_frame.specs.Known.{FramesOfKnownOctets}
+use Rattle.smq_frame.specs.Stream.{stamped, placed, frames_after}
+use Rattle.smq_frame.specs.Tail.{tail_from, tail_after}
+
+pub frames_of_known_octets_lem : FramesOfKnownOctets
+unfolding stated_length frames_of frames_within rest_of rest_within stamped placed frames_after tail_from tail_after
+frames_of_known_octets_lem = record {
+  shortest = refl;
+  shortest_tail = refl;
+  too_short = refl;
+  longest = refl;
+  longest_waits = refl;
+  too_long = refl;
+  three_wait = refl;
+  two_frames = refl;
+  three_left = refl;
+  completed = refl;
+  one_before = refl;
+  all_after = refl;
+  broken_there = refl;
+  broken_for_good = refl;
+  none_after = refl;
+}

@@ -1,0 +1,6 @@
+pub mod Splits
+pub mod Steps
+pub mod Tails
+pub mod TailTests
+pub mod Streams
+pub mod KnownOctets

@@ -1,0 +1,71 @@
+-- The tail after a piece.
+use Rattle.std.proofs.Common.{◌≡◌, ℕ, ◌+◌, ◌-◌, ◌≤◌, ◌⊎◌, Bool, true, false, cond, List, [], ◌∷◌, ◌++◌, length, Option, Some, None, refl, sym, ap, ◌∙◌, subst, inl, inr, append_assoc, zero-add, arith, rules}
+use Rattle.std.specs.Prelude.{All, map, is_some}
+use Rattle.smq_frame.specs.Frame.{FrameValue}
+use Rattle.std.proofs.lemmas.Bool.{both_ways}
+use Rattle.std.proofs.lemmas.List.{append-nil, length-append}
+use Rattle.std.proofs.lemmas.List.Elements.{All-nil, All-cons}
+use Rattle.smq_frame.specs.Framing.{IsWaiting, IsBad, Splits, is_bad, frames_of, rest_of}
+use Rattle.smq_frame.specs.Tail.{TailValue, TailFollows, tail_with, tail_from, tail_of, tail_after}
+use Rattle.smq_frame.specs.Stream.{placed, frames_after}
+use Rattle.smq_frame.proofs.Splits.{is_bad_from, begins_frame-waiting, split_stands, split_is, rest_of-short}
+use Rattle.smq_frame.proofs.Steps.{octets-placed}
+
+pub waits_where : (r : List ℕ) → IsWaiting r ⊎ IsBad r → is_bad r ≡ false → IsWaiting r
+waits_where r (inl w) e = w
+waits_where r (inr b) e = absurd (both_ways (is_bad r) e (is_bad_from r b))
+
+pub ruleset tail_facts = (waits_where)
+
+pub rest_ends : (o : List ℕ) → IsWaiting (rest_of o) ⊎ IsBad (rest_of o)
+rest_ends o = let s = split_stands o in s.ends
+
+pub rest_short : (o : List ℕ) → length (rest_of o) ≤ length o
+rest_short o = omega (arith, rest_of-short o)
+
+pub frames_after-whole : (t : TailValue) (m : ℕ) (p : List ℕ) → t.broken ≡ None → frames_after t m p ≡ placed m (t.offset - length t.rest) (frames_of (t.rest ++ p))
+unfolding frames_after
+frames_after-whole t m p e = rw e refl
+
+pub frames_after-broken : (t : TailValue) (m : ℕ) (p : List ℕ) → is_some t.broken ≡ true → frames_after t m p ≡ []
+unfolding frames_after
+frames_after-broken t m p e = rw e refl
+
+pub tail_after-whole : (t : TailValue) (p : List ℕ) → t.broken ≡ None → tail_after t p ≡ tail_with (t.offset - length t.rest + length (t.rest ++ p)) (rest_of (t.rest ++ p))
+unfolding tail_after tail_from
+tail_after-whole t p e = rw e refl
+
+pub tail_after-broken : (t : TailValue) (p : List ℕ) → is_some t.broken ≡ true → tail_after t p ≡ (record { offset = t.offset + length p; rest = []; broken = t.broken })
+unfolding tail_after
+tail_after-broken t p e = rw e refl
+
+pub split_octets : (m at : ℕ) (o : List ℕ) → Splits o (map (λ f. f.octets) (placed m at (frames_of o))) (rest_of o)
+split_octets m at o = rw (octets-placed m at (frames_of o)) (split_stands o)
+
+-- the moments of frames placed at one moment
+pub moments-placed : (m at : ℕ) (fs : List (List ℕ)) → All (λ (f : FrameValue). f.moment ≡ m) (placed m at fs)
+unfolding placed
+moments-placed m at [] = All-nil (λ (f : FrameValue). f.moment ≡ m)
+moments-placed m at (f ∷ fs) = All-cons (λ (g : FrameValue). g.moment ≡ m) (record { offset = at; moment = m; octets = f }) (placed m (at + length f) fs) refl (moments-placed m (at + length f) fs)
+
+-- ---- the relation tells the tail
+
+pub tail_from-is : (start : ℕ) (o : List ℕ) → tail_from start o ≡ tail_with (start + length o) (rest_of o)
+unfolding tail_from
+tail_from-is start o = refl
+
+tail_with-waiting : (n : ℕ) (r : List ℕ) → is_bad r ≡ false → tail_with n r ≡ (record { offset = n; rest = r; broken = None })
+tail_with-waiting n r e = rw e refl
+
+tail_with-bad : (n : ℕ) (r : List ℕ) → is_bad r ≡ true → tail_with n r ≡ (record { offset = n; rest = []; broken = Some (n - length r) })
+tail_with-bad n r e = rw e refl
+
+pub tail_follows : (octets : List ℕ) (frames : List (List ℕ)) (rest : List ℕ) → Splits octets frames rest → TailFollows octets rest
+tail_follows o fs r s =
+    let is : tail_of o ≡ tail_with (length o) r = tail_from-is 0 o ∙ rw (zero-add (length o), (split_is o fs r s).1) refl in
+    record {
+      waits = λ w. is ∙ tail_with-waiting (length o) r (begins_frame-waiting r w);
+      breaks = λ b. is ∙ tail_with-bad (length o) r (is_bad_from r b);
+    }
+
+pub ruleset frames_facts = (rest_ends, rest_short, frames_after-whole, frames_after-broken, tail_after-whole, tail_after-broken, split_octets, length-append)

@@ -1,0 +1,5 @@
+pub mod Framing
+pub mod Frame
+pub mod Tail
+pub mod Stream
+pub mod Known

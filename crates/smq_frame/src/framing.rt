@@ -1,0 +1,140 @@
+//! Whole PDUs cut from the front of a stream's octets.
+ghost use Rattle.std.specs.Prelude.{◌≡◌, ◌⊎◌, ◌+◌, ◌^◌, ◌<◌, ◌≤◌, ◌++◌, [], length, map, true, false, None, All, MatchOption, IfOk, IsSome};
+ghost use Rattle.smq_frame.specs.Framing.{stated_length, begins_frame, is_bad, frames_of, rest_of, IsWaiting, IsBad, Splits};
+ghost use Rattle.smq_frame.specs.Stream.{placed, frames_after};
+ghost use Rattle.smq_frame.specs.Tail.{tail_with, tail_after};
+
+use crate::{Frame, LONGEST_STREAM, Tail};
+use bytes::Bytes;
+use smq_kit::Moment;
+use std::alloc::{AllocError, Global};
+
+/// The fewest octets of a PDU, which are its header (SMPP 3.4, section 3).
+pub const SHORTEST_PDU: u32 = 16;
+
+/// The most octets of a PDU.
+pub const LONGEST_PDU: u32 = 131_072;
+
+/// The frames that a piece completes, each stamped with the piece's moment, and the tail after it.
+/// With no rest to go on from, the frames share the piece's octets; else rest and piece are copied
+/// together once. A bad length is no error: the tail is then broken, and nothing more is framed.
+#[tactic(auto, using(crate::proofs::Tails::frames_facts))]
+pub fn frames(
+    alloc: Global,
+    tail: &Tail,
+    moment: Moment,
+    piece: &Bytes,
+) -> Result<(Vec<Frame>, Tail), AllocError>
+    requires { tail.now.offset + length piece.now ≤ LONGEST_STREAM }
+    ensures frames { IfOk result (λ r. r.0.items ≡ frames_after tail.now moment piece.now) }
+    ensures stamped { IfOk result (λ r. All (λ frame. frame.moment ≡ moment) r.0.items) }
+    ensures tail { IfOk result (λ r. r.1 ≡ tail_after tail.now piece.now) }
+
+    // The rest and the piece are these frames, one after the other, and no others.
+    ensures split { IfOk result (λ r. tail.now.broken ≡ None →
+        Splits (tail.now.rest ++ piece.now) (map (λ frame. frame.octets) r.0.items)
+        (rest_of (tail.now.rest ++ piece.now))) }
+
+    // Of a broken stream nothing is framed, and its offset alone grows.
+    ensures none { IfOk result (λ r. IsSome tail.now.broken → r.0.items ≡ []) }
+    ensures broken { IfOk result (λ r. IsSome tail.now.broken →
+        r.1 ≡ record tail.now { offset = tail.now.offset + length piece.now }) }
+{
+    let offset = tail.offset() + piece.len() as u64;
+    let rest = tail.rest();
+    if let Some(broken) = tail.broken() {
+        return Ok((Vec::new(alloc), Tail::broken_at(offset, broken)));
+    }
+    let start = tail.offset() - rest.len() as u64;
+    let octets = joined(alloc, rest, piece)?;
+    let (found, left) = cut(alloc, octets, start, moment)?;
+    Ok((found, tail_left(offset, left)))
+}
+
+/// The octets of both, one after the other. With no rest nothing is copied.
+fn joined(alloc: Global, rest: &[u8], piece: &Bytes) -> Result<Bytes, AllocError>
+    requires { length rest.now + length piece.now < 2 ^ 64 }
+    ensures { IfOk result (λ octets. octets ≡ rest.now ++ piece.now) }
+{
+    if rest.is_empty() {
+        return piece.clone();
+    }
+    let mut both = Vec::with_capacity(alloc, rest.len() + piece.len())?;
+    both.extend_from_slice(rest)?;
+    both.extend_from_slice(piece.as_slice())?;
+    Ok(Bytes::from_vec(both)?)
+}
+
+/// The frames at the front, the first of which stands at `start`, and what is left after them.
+fn cut(
+    alloc: Global,
+    octets: Bytes,
+    start: u64,
+    moment: Moment,
+) -> Result<(Vec<Frame>, Bytes), AllocError>
+    requires { start + length octets ≤ LONGEST_STREAM }
+    ensures frames { IfOk result (λ r. r.0.items ≡ placed moment start (frames_of octets)) }
+    ensures rest { IfOk result (λ r. r.1 ≡ rest_of octets) }
+{
+    let mut found = Vec::new(alloc);
+    let mut rest = octets;
+    let mut offset = start;
+    while let Some(len) = whole_frame(rest.as_slice()) {
+        let frame = rest.split_to(len)?;
+        found.push(Frame {
+            offset,
+            moment,
+            octets: frame,
+        })?;
+        offset += len as u64;
+    }
+    Ok((found, rest))
+}
+
+/// The tail where so many octets were taken and these are left after the frames.
+#[tactic(auto, using(crate::proofs::Tails::tail_facts))]
+fn tail_left(offset: u64, rest: Bytes) -> Tail
+    requires within { length rest ≤ offset }
+    requires ends { IsWaiting rest ⊎ IsBad rest }
+    ensures { result ≡ tail_with offset rest }
+{
+    if begins_badly(rest.as_slice()) {
+        return Tail::broken_at(offset, offset - rest.len() as u64);
+    }
+    Tail::waiting(offset, rest)
+}
+
+/// The length of the whole frame at the front, if there is one.
+fn whole_frame(octets: &[u8]) -> Option<usize>
+    ensures { MatchOption result (begins_frame octets.now ≡ false)
+        (λ n. (begins_frame octets.now ≡ true) × (n ≡ stated_length octets.now)
+        × (16 ≤ n) × (n ≤ length octets.now)) }
+{
+    let len = command_length(octets)?;
+    if len < SHORTEST_PDU || len > LONGEST_PDU || len as usize > octets.len() {
+        return None;
+    }
+    Some(len as usize)
+}
+
+/// Whether a length outside the limits stands at the front.
+fn begins_badly(octets: &[u8]) -> bool
+    ensures { result ≡ is_bad octets.now }
+{
+    match command_length(octets) {
+        None => false,
+        Some(len) => len < SHORTEST_PDU || len > LONGEST_PDU,
+    }
+}
+
+/// The length that the first four octets state, if there are four (SMPP 3.4, section 3).
+#[tactic(auto, unfolding(crate::specs::Framing::stated_length))]
+fn command_length(octets: &[u8]) -> Option<u32>
+    ensures { MatchOption result (length octets.now < 4)
+        (λ n. (4 ≤ length octets.now) × (n ≡ stated_length octets.now)) }
+{
+    if octets.len() < 4 {
+        return None;
+    }
+    Some(u32::from_be_bytes([octets[0], octets[1], octets[2], octets[3]]))
+}

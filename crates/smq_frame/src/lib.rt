@@ -1,0 +1,17 @@
+//! Frames of an SMPP stream that comes in pieces, with a carried rest.
+#![tactic(auto)]
+
+mod frame;
+mod framing;
+mod laws;
+mod tail;
+#[cfg(test)]
+mod tests;
+
+pub use frame::Frame;
+pub use framing::{LONGEST_PDU, SHORTEST_PDU, frames};
+pub use laws::{
+    frames_give_the_tail, frames_lie_in_their_stream, frames_of_known_octets, one_split,
+    pieces_join, stream_grows,
+};
+pub use tail::{LONGEST_STREAM, Tail};

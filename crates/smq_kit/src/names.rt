@@ -1,0 +1,13 @@
+//! Numbers that name links, sessions and routes.
+
+/// A link: one commercial connection with a message centre (SMSC), by its number.
+#[derive(Clone, Copy, Debug, PartialEq, Eq, PartialOrd, Ord)]
+pub struct LinkId(pub u32);
+
+/// A session: one captured connection of a link, with two octet streams, by its number.
+#[derive(Clone, Copy, Debug, PartialEq, Eq, PartialOrd, Ord)]
+pub struct SessionId(pub u64);
+
+/// A route: where messages for a prefix of numbers are sent, by its number.
+#[derive(Clone, Copy, Debug, PartialEq, Eq, PartialOrd, Ord)]
+pub struct RouteId(pub u32);

@@ -1,0 +1,243 @@
+-- What a body says is what its fields and parameters say.
+use Rattle.std.proofs.Common.{◌≡◌, ◌≢◌, ℕ, ◌⊎◌, inl, inr, List, ◌++◌, Option, Some, None, refl, sym, ap, subst, ◌∙◌, arith}
+use Rattle.std.specs.Prelude.{◌==◌}
+use Rattle.std.specs.List.{flat_map}
+use Rattle.std.proofs.lemmas.Bool.{cases_Bool, eqb-true, eqb-false, ne_eqb}
+use Rattle.smq_pdu.specs.Commands.{submit_sm, submit_sm_resp, deliver_sm}
+use Rattle.smq_pdu.specs.Fields.{Mandatory, AreOctets, spelling}
+use Rattle.smq_pdu.specs.Parameters.{Tlv, tlv_spelling}
+use Rattle.smq_pdu.specs.Bodies.{SubmitValue, DeliverValue, SubmitBody, AnswerBody, DeliverBody, OtherBody, UndecodableBody, IsBody, IsMessageId, submit_said, deliver_said}
+use Rattle.smq_pdu.specs.Readers.{mandatory_at, tlvs_of, rest_of}
+use Rattle.smq_pdu.specs.Pdu.{id_of, before_zero, submit_of, deliver_of, body_of}
+use Rattle.smq_pdu.specs.Laws.{command_at, body_at, said, IsSubmit, IsDeliver, IsUndecodable, IsAnswer, IsAnswerWithoutId, IsOther}
+use Rattle.smq_pdu.proofs.Mandatory.{some_is, pair_is, mandatory_found, mandatory_again}
+use Rattle.smq_pdu.proofs.Parameters.{octets_parts, octets_right, parameters_stand, parameters_again}
+use Rattle.smq_pdu.proofs.MessageIds.{id_again, id_cases}
+
+-- ---- a body by its relation
+
+abbrev after : List Tlv → List ℕ → List ℕ
+after tlvs rest = flat_map tlv_spelling tlvs ++ rest
+
+body_reads : (b rest : List ℕ) (m : Mandatory) (tlvs : List Tlv) → IsBody b m tlvs rest → mandatory_at b ≡ Some (m, after tlvs rest)
+body_reads b rest m tlvs h = mandatory_again b (after tlvs rest) m (record { parts = h.parts; texts = h.texts })
+
+body_tlvs : (b rest : List ℕ) (m : Mandatory) (tlvs : List Tlv) → IsBody b m tlvs rest → (tlvs ≡ tlvs_of (after tlvs rest)) × (rest ≡ rest_of (after tlvs rest))
+body_tlvs b rest m tlvs h = parameters_again (after tlvs rest) rest tlvs (record { parts = refl; each = h.each; ends = h.ends })
+
+body_stands : (b r : List ℕ) (m : Mandatory) → AreOctets b → mandatory_at b ≡ Some (m, r) → IsBody b m (tlvs_of r) (rest_of r)
+body_stands b r m h e =
+    let begins = mandatory_found b r m e in
+    let left : AreOctets r = octets_right (spelling m) r (subst AreOctets begins.parts h) in
+    let parameters = parameters_stand r left in
+    record { parts = begins.parts ∙ ap (λ (a : List ℕ). spelling m ++ a) parameters.parts; texts = begins.texts; each = parameters.each; ends = parameters.ends }
+
+pub body_unique : (b : List ℕ) (m n : Mandatory) (ts us : List Tlv) (r s : List ℕ) → IsBody b m ts r → IsBody b n us s → (m ≡ n) × (ts ≡ us) × (r ≡ s)
+body_unique b m n ts us r s h k =
+    let same = pair_is (m, after ts r) (n, after us s) (sym (body_reads b r m ts h) ∙ body_reads b s n us k) in
+    let one = body_tlvs b r m ts h in
+    let two = body_tlvs b s n us k in
+    (same.0, one.0 ∙ ap tlvs_of same.1 ∙ sym two.0, one.1 ∙ ap rest_of same.1 ∙ sym two.1)
+
+-- ---- what is read, by the command and whether the fields fit
+
+data Kind (c : ℕ) : Type 0 where
+  submits : c ≡ submit_sm → Kind c
+  answers : c ≡ submit_sm_resp → Kind c
+  delivers : c ≡ deliver_sm → Kind c
+  others : c ≢ submit_sm → c ≢ submit_sm_resp → c ≢ deliver_sm → Kind c
+
+kind_of : (c : ℕ) → Kind c
+kind_of c =
+    elim (cases_Bool (c == submit_sm)) [
+      | inl a ↦ submits (eqb-true c submit_sm a)
+      | inr a ↦ elim (cases_Bool (c == submit_sm_resp)) [
+        | inl b ↦ answers (eqb-true c submit_sm_resp b)
+        | inr b ↦ elim (cases_Bool (c == deliver_sm)) [
+          | inl d ↦ delivers (eqb-true c deliver_sm d)
+          | inr d ↦ others (eqb-false c submit_sm a) (eqb-false c submit_sm_resp b) (eqb-false c deliver_sm d)
+        ]
+      ]
+    ]
+
+of_submit : (c : ℕ) (b : List ℕ) → c ≡ submit_sm → body_of c b ≡ submit_of b
+unfolding body_of
+of_submit c b e = rw e refl
+
+of_answer : (c : ℕ) (b : List ℕ) → c ≡ submit_sm_resp → body_of c b ≡ AnswerBody (id_of b)
+unfolding body_of
+of_answer c b e = rw e refl
+
+of_deliver : (c : ℕ) (b : List ℕ) → c ≡ deliver_sm → body_of c b ≡ deliver_of b
+unfolding body_of
+of_deliver c b e = rw e refl
+
+of_other : (c : ℕ) (b : List ℕ) → c ≢ submit_sm → c ≢ submit_sm_resp → c ≢ deliver_sm → body_of c b ≡ OtherBody
+unfolding body_of
+of_other c b x y z = rw (ne_eqb c submit_sm x, ne_eqb c submit_sm_resp y, ne_eqb c deliver_sm z) refl
+
+fields_cases : {A : Type 0} (f : Option A) → (f ≡ None) ⊎ ((x : A) × (f ≡ Some x))
+fields_cases None = inl refl
+fields_cases (Some x) = inr (x, refl)
+
+submit_none : (b : List ℕ) → mandatory_at b ≡ None → submit_of b ≡ UndecodableBody
+unfolding submit_of
+submit_none b e = rw (e, submit_of) refl
+
+submit_some : (b r : List ℕ) (m : Mandatory) → mandatory_at b ≡ Some (m, r) → submit_of b ≡ SubmitBody (submit_said m)
+unfolding submit_of
+submit_some b r m e = rw (e, submit_of) refl
+
+deliver_none : (b : List ℕ) → mandatory_at b ≡ None → deliver_of b ≡ UndecodableBody
+unfolding deliver_of
+deliver_none b e = rw (e, deliver_of) refl
+
+deliver_some : (b r : List ℕ) (m : Mandatory) → mandatory_at b ≡ Some (m, r) → deliver_of b ≡ DeliverBody (deliver_said m (tlvs_of r))
+unfolding deliver_of
+deliver_some b r m e = rw (e, deliver_of) refl
+
+-- the bodies, in the order of their cases
+data Read (o : List ℕ) : Type 0 where
+  a_submit : command_at o ≡ submit_sm → (m : Mandatory) (r : List ℕ) → mandatory_at (body_at o) ≡ Some (m, r) → said o ≡ SubmitBody (submit_said m) → Read o
+  a_deliver : command_at o ≡ deliver_sm → (m : Mandatory) (r : List ℕ) → mandatory_at (body_at o) ≡ Some (m, r) → said o ≡ DeliverBody (deliver_said m (tlvs_of r)) → Read o
+  undecodable : (command_at o ≡ submit_sm) ⊎ (command_at o ≡ deliver_sm) → mandatory_at (body_at o) ≡ None → said o ≡ UndecodableBody → Read o
+  an_answer : command_at o ≡ submit_sm_resp → said o ≡ AnswerBody (id_of (body_at o)) → Read o
+  another : command_at o ≢ submit_sm → command_at o ≢ submit_sm_resp → command_at o ≢ deliver_sm → said o ≡ OtherBody → Read o
+
+read_of : (o : List ℕ) → Read o
+read_of o =
+    let c : ℕ = command_at o in
+    let b : List ℕ = body_at o in
+    elim (kind_of c) [
+      | submits e ↦ elim (fields_cases (mandatory_at b)) [
+        | inl none ↦ undecodable (inl e) none (of_submit c b e ∙ submit_none b none)
+        | inr some ↦ a_submit e some.0.0 some.0.1 some.1 (of_submit c b e ∙ submit_some b some.0.1 some.0.0 some.1)
+      ]
+      | answers e ↦ an_answer e (of_answer c b e)
+      | delivers e ↦ elim (fields_cases (mandatory_at b)) [
+        | inl none ↦ undecodable (inr e) none (of_deliver c b e ∙ deliver_none b none)
+        | inr some ↦ a_deliver e some.0.0 some.0.1 some.1 (of_deliver c b e ∙ deliver_some b some.0.1 some.0.0 some.1)
+      ]
+      | others x y z ↦ another x y z (of_other c b x y z)
+    ]
+
+-- ---- the laws
+
+body_octets : (o : List ℕ) → AreOctets o → AreOctets (body_at o)
+body_octets o h = (octets_parts 16 o h).1
+
+no_body : (b : List ℕ) → mandatory_at b ≡ None → (m : Mandatory) (tlvs : List Tlv) (rest : List ℕ) → IsBody b m tlvs rest → ⊥
+no_body b e m tlvs rest h = let differ = sym e ∙ body_reads b rest m tlvs h in cc
+
+pub says_submit : (o : List ℕ) (v : SubmitValue) → AreOctets o → said o ≡ SubmitBody v → IsSubmit o v
+says_submit o v h s =
+    elim (read_of o) [
+      | a_submit e m r found is ↦ record {
+        command = e;
+        fields = m;
+        tlvs = tlvs_of r;
+        rest = rest_of r;
+        body = body_stands (body_at o) r m (body_octets o h) found;
+        value = let same = sym s ∙ is in cc;
+      }
+      | a_deliver e m r found is ↦ absurd (let differ = sym s ∙ is in cc)
+      | undecodable e none is ↦ absurd (let differ = sym s ∙ is in cc)
+      | an_answer e is ↦ absurd (let differ = sym s ∙ is in cc)
+      | another x y z is ↦ absurd (let differ = sym s ∙ is in cc)
+    ]
+
+pub submit_says : (o : List ℕ) (v : SubmitValue) → IsSubmit o v → said o ≡ SubmitBody v
+submit_says o v h =
+    of_submit (command_at o) (body_at o) h.command ∙ submit_some (body_at o) (after h.tlvs h.rest) h.fields (body_reads (body_at o) h.rest h.fields h.tlvs h.body)
+    ∙ ap SubmitBody (sym h.value)
+
+pub says_deliver : (o : List ℕ) (v : DeliverValue) → AreOctets o → said o ≡ DeliverBody v → IsDeliver o v
+says_deliver o v h s =
+    elim (read_of o) [
+      | a_submit e m r found is ↦ absurd (let differ = sym s ∙ is in cc)
+      | a_deliver e m r found is ↦ record {
+        command = e;
+        fields = m;
+        tlvs = tlvs_of r;
+        rest = rest_of r;
+        body = body_stands (body_at o) r m (body_octets o h) found;
+        value = let same = sym s ∙ is in cc;
+      }
+      | undecodable e none is ↦ absurd (let differ = sym s ∙ is in cc)
+      | an_answer e is ↦ absurd (let differ = sym s ∙ is in cc)
+      | another x y z is ↦ absurd (let differ = sym s ∙ is in cc)
+    ]
+
+pub deliver_says : (o : List ℕ) (v : DeliverValue) → IsDeliver o v → said o ≡ DeliverBody v
+deliver_says o v h =
+    let tlvs = body_tlvs (body_at o) h.rest h.fields h.tlvs h.body in
+    of_deliver (command_at o) (body_at o) h.command ∙ deliver_some (body_at o) (after h.tlvs h.rest) h.fields (body_reads (body_at o) h.rest h.fields h.tlvs h.body)
+    ∙ ap (λ (ts : List Tlv). DeliverBody (deliver_said h.fields ts)) (sym tlvs.0) ∙ ap DeliverBody (sym h.value)
+
+pub says_undecodable : (o : List ℕ) → said o ≡ UndecodableBody → IsUndecodable o
+says_undecodable o s =
+    elim (read_of o) [
+      | a_submit e m r found is ↦ absurd (let differ = sym s ∙ is in cc)
+      | a_deliver e m r found is ↦ absurd (let differ = sym s ∙ is in cc)
+      | undecodable e none is ↦ record { command = e; none = no_body (body_at o) none }
+      | an_answer e is ↦ absurd (let differ = sym s ∙ is in cc)
+      | another x y z is ↦ absurd (let differ = sym s ∙ is in cc)
+    ]
+
+pub undecodable_says : (o : List ℕ) → AreOctets o → IsUndecodable o → said o ≡ UndecodableBody
+undecodable_says o h u =
+    elim (read_of o) [
+      | a_submit e m r found is ↦ absurd (u.none m (tlvs_of r) (rest_of r) (body_stands (body_at o) r m (body_octets o h) found))
+      | a_deliver e m r found is ↦ absurd (u.none m (tlvs_of r) (rest_of r) (body_stands (body_at o) r m (body_octets o h) found))
+      | undecodable e none is ↦ is
+      | an_answer e is ↦ elim u.command [ inl c ↦ absurd (let differ = sym e ∙ c in omega arith) | inr c ↦ absurd (let differ = sym e ∙ c in omega arith) ]
+      | another x y z is ↦ elim u.command [ inl c ↦ absurd (x c) | inr c ↦ absurd (z c) ]
+    ]
+
+pub says_other : (o : List ℕ) → said o ≡ OtherBody → IsOther o
+says_other o s =
+    elim (read_of o) [
+      | a_submit e m r found is ↦ absurd (let differ = sym s ∙ is in cc)
+      | a_deliver e m r found is ↦ absurd (let differ = sym s ∙ is in cc)
+      | undecodable e none is ↦ absurd (let differ = sym s ∙ is in cc)
+      | an_answer e is ↦ absurd (let differ = sym s ∙ is in cc)
+      | another x y z is ↦ record { no_submit = x; no_answer = y; no_deliver = z }
+    ]
+
+pub other_says : (o : List ℕ) → IsOther o → said o ≡ OtherBody
+other_says o h = of_other (command_at o) (body_at o) h.no_submit h.no_answer h.no_deliver
+
+answer_command : (o : List ℕ) (id : Option (List ℕ)) → said o ≡ AnswerBody id → (command_at o ≡ submit_sm_resp) × (id_of (body_at o) ≡ id)
+answer_command o id s =
+    elim (read_of o) [
+      | a_submit e m r found is ↦ absurd (let differ = sym s ∙ is in cc)
+      | a_deliver e m r found is ↦ absurd (let differ = sym s ∙ is in cc)
+      | undecodable e none is ↦ absurd (let differ = sym s ∙ is in cc)
+      | an_answer e is ↦ (e, let same = sym s ∙ is in cc)
+      | another x y z is ↦ absurd (let differ = sym s ∙ is in cc)
+    ]
+
+pub says_answer : (o id : List ℕ) → said o ≡ AnswerBody (Some id) → IsAnswer o id
+says_answer o id s =
+    let is = answer_command o (Some id) s in
+    elim (id_cases (body_at o)) [
+      | inl found ↦
+          let same : before_zero (body_at o) ≡ id = some_is (before_zero (body_at o)) id (sym found.0 ∙ is.1) in
+          record { command = is.0; of_body = subst (IsMessageId (body_at o)) same found.1 }
+      | inr none ↦ absurd (let differ = sym none ∙ is.1 in cc)
+    ]
+
+pub answer_says : (o id : List ℕ) → IsAnswer o id → said o ≡ AnswerBody (Some id)
+answer_says o id h = of_answer (command_at o) (body_at o) h.command ∙ ap AnswerBody (id_again (body_at o) id h.of_body)
+
+pub says_no_id : (o : List ℕ) → said o ≡ AnswerBody None → IsAnswerWithoutId o
+says_no_id o s =
+    let is = answer_command o None s in
+    record { command = is.0; none = λ id h. let differ = sym is.1 ∙ id_again (body_at o) id h in cc }
+
+pub no_id_says : (o : List ℕ) → IsAnswerWithoutId o → said o ≡ AnswerBody None
+no_id_says o h =
+    elim (id_cases (body_at o)) [
+      | inl found ↦ absurd (h.none (before_zero (body_at o)) found.1)
+      | inr none ↦ of_answer (command_at o) (body_at o) h.command ∙ ap AnswerBody none
+    ]

@@ -1,0 +1,132 @@
+-- The element that passes a test and before which so many pass it.
+use Rattle.std.proofs.Common.{◌≡◌, ℕ, zero, suc, ◌+◌, Bool, true, false, cond, List, [], ◌∷◌, take, Option, Some, None, refl, sym, ap, subst, ◌∙◌, arith}
+use Rattle.std.specs.Prelude.{slice_get, count_by, option_map, ◌==◌, ◌&&◌}
+use Rattle.std.proofs.lemmas.Bool.Decides.{nat_tests}
+use Rattle.std.proofs.lemmas.List.Sums.{sum_by-cons}
+use Rattle.smq_pdu.specs.Header.{Header}
+use Rattle.smq_pdu.specs.Pairing.{IsPair, asks, answers, is_response, nth_place, response_place, request_rank, response_rank, FindsPairs, FindsEachPair, AnswersOneRequest}
+use Rattle.smq_pdu.proofs.Mandatory.{some_is}
+
+shifted_is : (f : Option ℕ) (j : ℕ) → option_map suc f ≡ Some j → (i : ℕ) × (f ≡ Some i) × (suc i ≡ j)
+shifted_is None j e = absurd cc
+shifted_is (Some i) j e = (i, refl, some_is (suc i) j e)
+
+module _ {X : Type 0} (p : X → Bool) where
+  pub record Stands (xs : List X) (k j : ℕ) : Type 0 where
+    pub element : X
+    pub there : slice_get xs j ≡ Some element
+    pub passes : p element ≡ true
+    pub before : count_by p (take j xs) ≡ k
+
+  counted-cons : (x : X) (xs : List X) (b : Bool) → p x ≡ b → count_by p (x ∷ xs) ≡ cond b 1 0 + count_by p xs
+  counted-cons x xs b e = sum_by-cons (λ y. cond (p y) 1 0) x xs ∙ ap (λ c. cond c 1 0 + count_by p xs) e
+
+  -- ---- what is found stands there
+
+  later : (x : X) (xs : List X) (k i : ℕ) (b : Bool) → p x ≡ b → Stands xs k i → Stands (x ∷ xs) (cond b 1 0 + k) (suc i)
+  later x xs k i b e s = record {
+    element = s.element;
+    there = s.there;
+    passes = s.passes;
+    before = counted-cons x (take i xs) b e ∙ ap (λ n. cond b 1 0 + n) s.before;
+  }
+
+  stands_zero : (x : X) (xs : List X) (j : ℕ) (b : Bool) → p x ≡ b → ((i : ℕ) → nth_place p xs 0 ≡ Some i → Stands xs 0 i)
+      → cond b (Some 0) (option_map suc (nth_place p xs 0)) ≡ Some j → Stands (x ∷ xs) 0 j
+  stands_zero x xs j true e ih h = subst (λ n. Stands (x ∷ xs) 0 n) (some_is 0 j h) (record { element = x; there = refl; passes = e; before = refl })
+  stands_zero x xs j false e ih h =
+      let s = shifted_is (nth_place p xs 0) j h in
+      subst (λ n. Stands (x ∷ xs) 0 n) s.2 (later x xs 0 s.0 false e (ih s.0 s.1))
+
+  stands_suc : (x : X) (xs : List X) (k j : ℕ) (b : Bool) → p x ≡ b → ((n i : ℕ) → nth_place p xs n ≡ Some i → Stands xs n i)
+      → option_map suc (nth_place p xs (cond b k (suc k))) ≡ Some j → Stands (x ∷ xs) (suc k) j
+  stands_suc x xs k j true e ih h =
+      let s = shifted_is (nth_place p xs k) j h in
+      let more : 1 + k ≡ suc k = omega arith in
+      subst (λ n. Stands (x ∷ xs) (suc k) n) s.2 (subst (λ n. Stands (x ∷ xs) n (suc s.0)) more (later x xs k s.0 true e (ih k s.0 s.1)))
+  stands_suc x xs k j false e ih h =
+      let s = shifted_is (nth_place p xs (suc k)) j h in
+      let same : 0 + suc k ≡ suc k = omega arith in
+      subst (λ n. Stands (x ∷ xs) (suc k) n) s.2 (subst (λ n. Stands (x ∷ xs) n (suc s.0)) same (later x xs (suc k) s.0 false e (ih (suc k) s.0 s.1)))
+
+  pub stands : (xs : List X) (k j : ℕ) → nth_place p xs k ≡ Some j → Stands xs k j
+  unfolding nth_place
+  stands [] k j h = absurd cc
+  stands (x ∷ xs) zero j h = stands_zero x xs j (p x) refl (λ i. stands xs zero i) h
+  stands (x ∷ xs) (suc k) j h = stands_suc x xs k j (p x) refl (λ n i. stands xs n i) h
+
+  -- ---- what stands there is found
+
+  skipped : (x : X) (xs : List X) (k : ℕ) → p x ≡ false → nth_place p (x ∷ xs) k ≡ option_map suc (nth_place p xs k)
+  unfolding nth_place
+  skipped x xs zero e = rw e refl
+  skipped x xs (suc k) e = rw e refl
+
+  taken : (x : X) (xs : List X) (k : ℕ) → p x ≡ true → nth_place p (x ∷ xs) (suc k) ≡ option_map suc (nth_place p xs k)
+  unfolding nth_place
+  taken x xs k e = rw e refl
+
+  first : (x : X) (xs : List X) → p x ≡ true → nth_place p (x ∷ xs) 0 ≡ Some 0
+  unfolding nth_place
+  first x xs e = rw e refl
+
+  found_at : (x : X) (xs : List X) (j : ℕ) (b : Bool) → p x ≡ b → nth_place p xs (count_by p (take j xs)) ≡ Some j
+      → nth_place p (x ∷ xs) (count_by p (x ∷ take j xs)) ≡ Some (suc j)
+  found_at x xs j true e ih =
+      let count : count_by p (x ∷ take j xs) ≡ suc (count_by p (take j xs)) = counted-cons x (take j xs) true e ∙ omega arith in
+      ap (λ n. nth_place p (x ∷ xs) n) count ∙ taken x xs (count_by p (take j xs)) e ∙ ap (λ f. option_map suc f) ih
+  found_at x xs j false e ih =
+      let count : count_by p (x ∷ take j xs) ≡ count_by p (take j xs) = counted-cons x (take j xs) false e ∙ omega arith in
+      ap (λ n. nth_place p (x ∷ xs) n) count ∙ skipped x xs (count_by p (take j xs)) e ∙ ap (λ f. option_map suc f) ih
+
+  pub found : (xs : List X) (j : ℕ) (x : X) → slice_get xs j ≡ Some x → p x ≡ true → nth_place p xs (count_by p (take j xs)) ≡ Some j
+  found [] j x h t = absurd cc
+  found (y ∷ xs) zero x h t = first y xs (ap p (some_is y x h) ∙ t)
+  found (y ∷ xs) (suc j) x h t = found_at y xs j (p y) refl (found xs j x h t)
+
+-- ---- pairs
+
+both : (a b : Bool) → a && b ≡ true → (a ≡ true) × (b ≡ true)
+both true true h = (refl, refl)
+both true false h = absurd cc
+both false b h = absurd cc
+
+and_of : (a b : Bool) → a ≡ true → b ≡ true → a && b ≡ true
+and_of a b h k = rw (h, k) refl
+
+pub finds_pairs : FindsPairs
+finds_pairs mine other i j request at request_is e =
+    let s = stands (answers request.seq) other (request_rank mine i request.seq) j e in
+    let parts : (is_response s.element ≡ true) × (s.element.seq == request.seq ≡ true) = both _ _ s.passes in
+    let same : request.seq ≡ s.element.seq = grind (arith, nat_tests, parts.1) in (
+      s.element,
+      record {
+        request_at = at;
+        response_at = s.there;
+        asks = request_is;
+        answers = parts.0;
+        seq = same;
+        rank = sym s.before ∙ ap (λ n. response_rank other j n) same;
+      },
+    )
+
+pub finds_each : FindsEachPair
+finds_each mine other i j request response pair =
+    let same : response.seq == request.seq ≡ true = grind (arith, nat_tests, pair.seq) in
+    let passes : answers request.seq response ≡ true = and_of _ _ pair.answers same in
+    let rank : request_rank mine i request.seq ≡ response_rank other j request.seq = pair.rank ∙ ap (λ n. response_rank other j n) (sym pair.seq) in
+    ap (λ n. response_place other request.seq n) rank ∙ found (answers request.seq) other j response pair.response_at passes
+
+-- the place of a request is found by the rank of its response
+request_found : (mine other : List Header) (i j : ℕ) (request response : Header) → IsPair mine other i j request response
+    → nth_place (asks response.seq) mine (response_rank other j response.seq) ≡ Some i
+request_found mine other i j request response pair =
+    let same : request.seq == request.seq ≡ true = grind (arith, nat_tests) in
+    let passes : asks request.seq request ≡ true = and_of _ _ pair.asks same in
+    let here : nth_place (asks request.seq) mine (request_rank mine i request.seq) ≡ Some i = found (asks request.seq) mine i request pair.request_at passes in
+    let by_response : nth_place (asks request.seq) mine (response_rank other j response.seq) ≡ Some i = ap (λ n. nth_place (asks request.seq) mine n) (sym pair.rank) ∙ here in
+    ap (λ n. nth_place (asks n) mine (response_rank other j response.seq)) (sym pair.seq) ∙ by_response
+
+pub answers_one : AnswersOneRequest
+answers_one mine other i k j one two response first second =
+    some_is i k (sym (request_found mine other i j one response first) ∙ request_found mine other k j two response second)

@@ -1,0 +1,60 @@
+-- What the body of a PDU says, by the relations of its octets.
+use Rattle.std.specs.Prelude.{◌≡◌, ◌≢◌, ◌⊎◌, ℕ, List, drop}
+use Rattle.smq_pdu.specs.Commands.{submit_sm, submit_sm_resp, deliver_sm}
+use Rattle.smq_pdu.specs.Header.{header_at}
+use Rattle.smq_pdu.specs.Fields.{Mandatory}
+use Rattle.smq_pdu.specs.Parameters.{Tlv}
+use Rattle.smq_pdu.specs.Bodies.{SubmitValue, DeliverValue, BodyValue, IsBody, IsMessageId, submit_said, deliver_said}
+use Rattle.smq_pdu.specs.Pdu.{pdu_of}
+
+-- the command_id of a PDU
+abbrev pub command_at : List ℕ → ℕ
+command_at octets = (header_at octets).command
+
+-- the octets after its header
+abbrev pub body_at : List ℕ → List ℕ
+body_at octets = drop 16 octets
+
+-- what its body says
+abbrev pub said : List ℕ → BodyValue
+said octets = (pdu_of octets).body
+
+-- The PDU is a submit_sm whose body is some fields, parameters and a rest, and they say this.
+pub record IsSubmit (octets : List ℕ) (submit : SubmitValue) : Type 0 where
+  pub command : command_at octets ≡ submit_sm
+  pub fields : Mandatory
+  pub tlvs : List Tlv
+  pub rest : List ℕ
+  pub body : IsBody (body_at octets) fields tlvs rest
+  pub value : submit ≡ submit_said fields
+
+-- The PDU is a deliver_sm whose body is some fields, parameters and a rest, and they say this.
+pub record IsDeliver (octets : List ℕ) (deliver : DeliverValue) : Type 0 where
+  pub command : command_at octets ≡ deliver_sm
+  pub fields : Mandatory
+  pub tlvs : List Tlv
+  pub rest : List ℕ
+  pub body : IsBody (body_at octets) fields tlvs rest
+  pub value : deliver ≡ deliver_said fields tlvs
+
+-- The PDU is a submit_sm or deliver_sm whose body is no fields, parameters and rest.
+pub record IsUndecodable (octets : List ℕ) : Type 0 where
+  pub command : (command_at octets ≡ submit_sm) ⊎ (command_at octets ≡ deliver_sm)
+  pub none : (fields : Mandatory) (tlvs : List Tlv) (rest : List ℕ)
+      → IsBody (body_at octets) fields tlvs rest → ⊥
+
+-- The PDU is a submit_sm_resp with this id.
+pub record IsAnswer (octets id : List ℕ) : Type 0 where
+  pub command : command_at octets ≡ submit_sm_resp
+  pub of_body : IsMessageId (body_at octets) id
+
+-- The PDU is a submit_sm_resp with no id.
+pub record IsAnswerWithoutId (octets : List ℕ) : Type 0 where
+  pub command : command_at octets ≡ submit_sm_resp
+  pub none : (id : List ℕ) → IsMessageId (body_at octets) id → ⊥
+
+-- The PDU is none of submit_sm, submit_sm_resp and deliver_sm.
+pub record IsOther (octets : List ℕ) : Type 0 where
+  pub no_submit : command_at octets ≢ submit_sm
+  pub no_answer : command_at octets ≢ submit_sm_resp
+  pub no_deliver : command_at octets ≢ deliver_sm

@@ -1,0 +1,13 @@
+pub mod Commands
+pub mod Header
+pub mod Pairing
+pub mod Fields
+pub mod Parameters
+pub mod Bodies
+pub mod Readers
+pub mod Pdu
+pub mod Placed
+pub mod Views
+pub mod Decoded
+pub mod Laws
+pub mod Vectors

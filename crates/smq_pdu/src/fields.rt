@@ -1,0 +1,167 @@
+//! The mandatory fields of submit_sm and deliver_sm (SMPP 3.4, 4.4.1 and 4.6.1), read from left to right.
+ghost use Rattle.std.specs.Prelude.{◌≡◌, ◌<◌, ◌≤◌, List, ℕ, length, option_map, position, ◌==◌};
+ghost use Rattle.smq_pdu.specs.Readers.{octet_at, c_octet_at, octets_at, address_at, front_at, middle_at, back_at, mandatory_at};
+ghost use Rattle.smq_pdu.specs.Views.{seen_number, seen_octets, seen_address, seen_front, seen_middle, seen_back, seen_mandatory};
+
+/// A type of number, a numbering plan and an address.
+#[derive(Clone, Copy)]
+pub struct Address<'a> {
+    pub ton: u8,
+    pub npi: u8,
+    pub text: &'a [u8],
+}
+
+/// The fields up to the addresses.
+#[derive(Clone, Copy)]
+pub struct Front<'a> {
+    pub service_type: &'a [u8],
+    pub source: Address<'a>,
+    pub destination: Address<'a>,
+}
+
+/// The fields from esm_class to the times.
+#[derive(Clone, Copy)]
+pub struct Middle<'a> {
+    pub esm_class: u8,
+    pub protocol_id: u8,
+    pub priority_flag: u8,
+    pub schedule_delivery_time: &'a [u8],
+    pub validity_period: &'a [u8],
+}
+
+/// The fields from registered_delivery to the message.
+#[derive(Clone, Copy)]
+pub struct Back<'a> {
+    pub registered_delivery: u8,
+    pub replace_if_present_flag: u8,
+    pub data_coding: u8,
+    pub sm_default_msg_id: u8,
+    pub short_message: &'a [u8],
+}
+
+/// The mandatory fields, in the standard's order.
+#[derive(Clone, Copy)]
+pub struct Mandatory<'a> {
+    pub front: Front<'a>,
+    pub middle: Middle<'a>,
+    pub back: Back<'a>,
+}
+
+/// The first octet, and what follows.
+fn read_octet(octets: &[u8]) -> Option<(u8, &[u8])>
+    ensures { option_map seen_number result ≡ octet_at octets.now }
+{
+    let (first, rest) = octets.split_first()?;
+    Some((*first, rest))
+}
+
+/// The place of the first zero octet.
+pub(crate) fn zero_place(octets: &[u8]) -> Option<usize>
+    ensures { result ≡ position (λ x. x == 0) octets.now }
+{
+    octets.iter().position(|x| *x == 0)
+}
+
+/// A text up to the first zero octet, and what follows that.
+#[tactic(auto, using(crate::proofs::Texts::c_octet_facts))]
+fn read_text(octets: &[u8]) -> Option<(&[u8], &[u8])>
+    ensures { option_map seen_octets result ≡ c_octet_at octets.now }
+{
+    let len = zero_place(octets)?;
+    Some((&octets[..len], &octets[len + 1..]))
+}
+
+/// So many octets, and what follows.
+#[tactic(auto, unfolding(crate::specs::Readers::octets_at))]
+pub(crate) fn read_octets(len: usize, octets: &[u8]) -> Option<(&[u8], &[u8])>
+    ensures { option_map seen_octets result ≡ octets_at len octets.now }
+{
+    if octets.len() < len {
+        return None;
+    }
+    Some(octets.split_at(len))
+}
+
+/// An address, and what follows.
+#[tactic(auto, unfolding(crate::specs::Readers::address_at))]
+fn read_address(octets: &[u8]) -> Option<(Address<'_>, &[u8])>
+    ensures { option_map seen_address result ≡ address_at octets.now }
+{
+    let (ton, rest) = read_octet(octets)?;
+    let (npi, rest) = read_octet(rest)?;
+    let (text, rest) = read_text(rest)?;
+    Some((Address { ton, npi, text }, rest))
+}
+
+/// The fields up to the addresses, and what follows.
+#[tactic(auto, unfolding(crate::specs::Readers::front_at))]
+fn read_front(octets: &[u8]) -> Option<(Front<'_>, &[u8])>
+    ensures { option_map seen_front result ≡ front_at octets.now }
+{
+    let (service_type, rest) = read_text(octets)?;
+    let (source, rest) = read_address(rest)?;
+    let (destination, rest) = read_address(rest)?;
+    let front = Front {
+        service_type,
+        source,
+        destination,
+    };
+    Some((front, rest))
+}
+
+/// The fields from esm_class to the times, and what follows.
+#[tactic(auto, unfolding(crate::specs::Readers::middle_at))]
+fn read_middle(octets: &[u8]) -> Option<(Middle<'_>, &[u8])>
+    ensures { option_map seen_middle result ≡ middle_at octets.now }
+{
+    let (esm_class, rest) = read_octet(octets)?;
+    let (protocol_id, rest) = read_octet(rest)?;
+    let (priority_flag, rest) = read_octet(rest)?;
+    let (schedule_delivery_time, rest) = read_text(rest)?;
+    let (validity_period, rest) = read_text(rest)?;
+    let middle = Middle {
+        esm_class,
+        protocol_id,
+        priority_flag,
+        schedule_delivery_time,
+        validity_period,
+    };
+    Some((middle, rest))
+}
+
+/// The fields from registered_delivery to the message, and what follows.
+#[tactic(auto, unfolding(crate::specs::Readers::back_at))]
+fn read_back(octets: &[u8]) -> Option<(Back<'_>, &[u8])>
+    ensures { option_map seen_back result ≡ back_at octets.now }
+{
+    let (registered_delivery, rest) = read_octet(octets)?;
+    let (replace_if_present_flag, rest) = read_octet(rest)?;
+    let (data_coding, rest) = read_octet(rest)?;
+    let (sm_default_msg_id, rest) = read_octet(rest)?;
+    let (sm_length, rest) = read_octet(rest)?;
+    let (short_message, rest) = read_octets(sm_length as usize, rest)?;
+    let back = Back {
+        registered_delivery,
+        replace_if_present_flag,
+        data_coding,
+        sm_default_msg_id,
+        short_message,
+    };
+    Some((back, rest))
+}
+
+/// The mandatory fields at the front of a body, and what follows them.
+#[tactic(auto, unfolding(crate::specs::Readers::mandatory_at))]
+pub fn read_mandatory(octets: &[u8]) -> Option<(Mandatory<'_>, &[u8])>
+    ensures { option_map seen_mandatory result ≡ mandatory_at octets.now }
+{
+    let (front, rest) = read_front(octets)?;
+    let (middle, rest) = read_middle(rest)?;
+    let (back, rest) = read_back(rest)?;
+    let fields = Mandatory {
+        front,
+        middle,
+        back,
+    };
+    Some((fields, rest))
+}

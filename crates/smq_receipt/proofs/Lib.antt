@@ -1,0 +1,6 @@
+pub mod LeastPlaces
+pub mod Values
+pub mod Calendar
+pub mod KnownReceipts
+pub mod StateTable
+pub mod Standing

@@ -1,0 +1,19 @@
+//! What a deliver_sm says as a delivery receipt (SMPP 3.4, appendix B).
+#![tactic(auto)]
+
+mod date;
+mod error_code;
+mod laws;
+mod message_state;
+mod reading;
+#[cfg(test)]
+mod tests;
+mod text;
+
+pub use error_code::{ErrorCode, ErrorText, error_codes_are_ordered};
+pub use laws::{
+    dates_are_of_the_calendar, least_places_are_found, patterns_are_found,
+    readings_of_known_receipts, states_are_the_table,
+};
+pub use message_state::{MessageState, message_states_are_ordered};
+pub use reading::{Reading, Receipt, read};

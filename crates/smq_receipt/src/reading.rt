@@ -1,0 +1,184 @@
+//! What a deliver_sm says as a delivery receipt (SMPP 3.4, appendix B).
+ghost use Rattle.std.specs.Prelude.{◌≡◌, ◌==◌, ◌∷◌, bit_and};
+ghost use Rattle.std.specs.Option.{option_copied};
+ghost use Rattle.smq_pdu.specs.Decoded.{deliver_view};
+ghost use Rattle.smq_receipt.specs.Readings.{is_interim, is_receipt, text_of, usable_id, receipted_id, state_in, id_of, state_of, error_of, receipt_of, reading_of};
+
+use crate::date::centre_delay;
+use crate::text::{header_part, up_to, value_of};
+use crate::{ErrorCode, MessageState};
+use smq_kit::MessageId;
+use smq_pdu::Deliver;
+
+/// Bits 5 to 2 of esm_class, which tell what a message is (SMPP 3.4, 5.2.12).
+const MESSAGE_TYPE: u8 = 0x3C;
+
+const DELIVERY_RECEIPT: u8 = 0x04;
+
+const INTERMEDIATE_NOTIFICATION: u8 = 0x20;
+
+/// What a receipt says of the message that it is about.
+#[derive(Debug, PartialEq, Eq, Drop)]
+pub struct Receipt {
+    /// The id that the centre gave the message, as the receipt writes it.
+    pub id: MessageId,
+    /// What became of the message.
+    pub state: MessageState,
+    /// Whether it is an intermediate notification, after which another receipt comes.
+    pub interim: bool,
+    /// Why it failed, where the receipt says so.
+    pub error: ErrorCode,
+    /// Done date minus submit date, in ms, where both are there and are dates. It may be negative.
+    pub centre_delay: Option<i64>,
+}
+
+impl Receipt {
+    /// An equal receipt. It takes no memory.
+    pub fn copy(&self) -> Receipt
+        ensures { result ≡ self.now }
+    {
+        Receipt {
+            id: self.id.copy(),
+            state: self.state,
+            interim: self.interim,
+            error: self.error.copy(),
+            centre_delay: self.centre_delay,
+        }
+    }
+}
+
+/// What a deliver_sm says as a receipt.
+#[derive(Debug, PartialEq, Eq, Drop)]
+pub enum Reading {
+    Receipt(Receipt),
+    /// A receipt without a usable id, whether or not it has a state.
+    NoId,
+    /// A receipt with an id and without a usable state.
+    NoState,
+    NotReceipt,
+}
+
+/// What a deliver_sm says as a receipt. It takes no memory, and time linear in the text.
+#[tactic(auto, unfolding(crate::specs::Readings::reading_of))]
+pub fn read(deliver: &Deliver<'_>) -> Reading
+    ensures { result ≡ reading_of (deliver_view deliver.now) }
+{
+    if !is_receipt(deliver) {
+        return Reading::NotReceipt;
+    }
+    read_receipt(deliver, header_part(text_of(deliver)))
+}
+
+fn is_interim(deliver: &Deliver<'_>) -> bool
+    ensures { result ≡ is_interim (deliver_view deliver.now) }
+{
+    deliver.esm_class & MESSAGE_TYPE == INTERMEDIATE_NOTIFICATION
+}
+
+fn is_receipt(deliver: &Deliver<'_>) -> bool
+    ensures { result ≡ is_receipt (deliver_view deliver.now) }
+{
+    deliver.esm_class & MESSAGE_TYPE == DELIVERY_RECEIPT
+        || is_interim(deliver)
+        || deliver.receipted_message_id.is_some()
+}
+
+#[tactic(auto, unfolding(crate::specs::Readings::text_of))]
+fn text_of<'a>(deliver: &Deliver<'a>) -> &'a [u8]
+    ensures { result.now ≡ text_of (deliver_view deliver.now) }
+{
+    if !deliver.short_message.is_empty() {
+        return deliver.short_message;
+    }
+    match deliver.message_payload {
+        None => b"",
+        Some(payload) => payload,
+    }
+}
+
+#[tactic(auto, unfolding(crate::specs::Readings::receipt_of))]
+fn read_receipt(deliver: &Deliver<'_>, header: &[u8]) -> Reading
+    ensures { result ≡ receipt_of (deliver_view deliver.now) header.now }
+{
+    let Some(id) = read_id(deliver, header) else {
+        return Reading::NoId;
+    };
+    let Some(state) = read_state(deliver, header) else {
+        return Reading::NoState;
+    };
+    Reading::Receipt(Receipt {
+        id,
+        state,
+        interim: is_interim(deliver),
+        error: read_error(deliver, header),
+        centre_delay: centre_delay(header),
+    })
+}
+
+/// An id of 1 to 64 octets.
+#[tactic(auto, unfolding(crate::specs::Readings::usable_id))]
+fn usable_id(octets: &[u8]) -> Option<MessageId>
+    ensures { result ≡ usable_id octets.now }
+{
+    MessageId::new(octets).ok()
+}
+
+/// The id in receipted_message_id (SMPP 3.4, 5.3.2.12).
+#[tactic(auto, unfolding(crate::specs::Readings::receipted_id))]
+fn receipted_id(octets: &[u8]) -> Option<MessageId>
+    ensures { result ≡ receipted_id octets.now }
+{
+    usable_id(up_to(0, octets))
+}
+
+/// The state in message_state (SMPP 3.4, 5.3.2.35).
+#[tactic(auto, unfolding(crate::specs::Readings::state_in))]
+fn state_in(octets: &[u8]) -> Option<MessageState>
+    ensures { result ≡ state_in octets.now }
+{
+    match octets {
+        [number] => MessageState::from_number(*number),
+        _ => None,
+    }
+}
+
+#[tactic(auto, unfolding(crate::specs::Readings::id_of))]
+fn read_id(deliver: &Deliver<'_>, header: &[u8]) -> Option<MessageId>
+    ensures { result ≡ id_of (deliver_view deliver.now) header.now }
+{
+    if let Some(octets) = deliver.receipted_message_id {
+        if let Some(id) = receipted_id(octets) {
+            return Some(id);
+        }
+    }
+    usable_id(value_of(b"id:", header)?)
+}
+
+#[tactic(auto, unfolding(crate::specs::Readings::state_of))]
+fn read_state(deliver: &Deliver<'_>, header: &[u8]) -> Option<MessageState>
+    ensures { result ≡ state_of (deliver_view deliver.now) header.now }
+{
+    if let Some(octets) = deliver.message_state {
+        if let Some(state) = state_in(octets) {
+            return Some(state);
+        }
+    }
+    MessageState::from_word(value_of(b"stat:", header)?)
+}
+
+#[tactic(auto, unfolding(crate::specs::Readings::error_of))]
+fn read_error(deliver: &Deliver<'_>, header: &[u8]) -> ErrorCode
+    ensures { result ≡ error_of (deliver_view deliver.now) header.now }
+{
+    if let Some(octets) = deliver.network_error_code {
+        if let Some(code) = ErrorCode::of_network(octets) {
+            return code;
+        }
+    }
+    if let Some(value) = value_of(b"err:", header) {
+        if let Some(code) = ErrorCode::of_text(value) {
+            return code;
+        }
+    }
+    ErrorCode::Unstated
+}
