@@ -24,3 +24,10 @@ TellsRun (BadRow row) text = IsFirstBad text row
 TellsRun Read text = ⊤
 TellsRun Write text = ⊤
 TellsRun Memory text = ⊤
+
+-- the status with which the program ends at a fault, whether or not the fault can be told
+abbrev pub fault_status : RunFault → ℕ
+fault_status (BadRow row) = 2
+fault_status Read = 3
+fault_status Write = 3
+fault_status Memory = 4
