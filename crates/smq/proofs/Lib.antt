@@ -4,3 +4,4 @@ pub mod RowLemmas
 pub mod ScriptLemmas
 pub mod StepLemmas
 pub mod PlayLemmas
+pub mod ReportLemmas

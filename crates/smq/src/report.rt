@@ -1,9 +1,11 @@
 //! The text of a report.
 ghost use Rattle.std.specs.Prelude.{◌≡◌, ◌++◌, IfOk, OnOk, string_bytes};
-ghost use Rattle.smq.specs.Report.{report_of, row_text};
+ghost use Rattle.smq.specs.Report.{code_text, error_text, report_of, row_text, value_text};
 
-use smq_book::{Outcome, Tables, Value, View};
+use smq_book::{Outcome, SubmitError, Tables, Value, View};
+use smq_receipt::{ErrorCode, ErrorText};
 use std::alloc::{AllocError, Global};
+use std::str;
 
 /// The rows of the view of links, a line each.
 pub fn link_report(alloc: Global, tables: &Tables) -> Result<String, AllocError>
@@ -25,8 +27,52 @@ fn push_line(
 ) -> Result<(), AllocError>
     ensures { OnOk result (string_bytes text.new ≡ string_bytes text.old ++ row_text (value.now, outcome, count)) }
 {
-    let Value::Link(link) = value;
-    let number = link.0;
+    text.push_str("view,link,")?;
+    push_value(text, value)?;
     let name = outcome.name();
-    writeln!(text, "view,link,{number},{name},{count}")
+    writeln!(text, ",{name},{count}")
+}
+
+/// Puts a value after the text.
+pub fn push_value(text: &mut String, value: &Value) -> Result<(), AllocError>
+    ensures { OnOk result (string_bytes text.new ≡ string_bytes text.old ++ value_text value.now) }
+{
+    match value {
+        Value::Link(link) => {
+            let number = link.0;
+            write!(text, "{number}")
+        }
+        Value::Error(error) => push_error(text, error),
+    }
+}
+
+/// Puts the error of a submit after the text.
+fn push_error(text: &mut String, error: &SubmitError) -> Result<(), AllocError>
+    ensures { OnOk result (string_bytes text.new ≡ string_bytes text.old ++ error_text error.now) }
+{
+    match error {
+        SubmitError::Refused { status } => write!(text, "status:{status}"),
+        SubmitError::Failed(code) => push_code(text, code),
+    }
+}
+
+/// Puts the error of a receipt after the text.
+fn push_code(text: &mut String, code: &ErrorCode) -> Result<(), AllocError>
+    ensures { OnOk result (string_bytes text.new ≡ string_bytes text.old ++ code_text code.now) }
+{
+    match code {
+        ErrorCode::Network { kind, code } => write!(text, "net:{kind}:{code}"),
+        ErrorCode::Text(error) => {
+            let octets = text_of(error);
+            write!(text, "text:{octets}")
+        }
+        ErrorCode::Unstated => text.push_str("unstated"),
+    }
+}
+
+/// The octets of an error text as text, which they always are.
+fn text_of(error: &ErrorText) -> &str
+    ensures { result.now ≡ error.now }
+{
+    str::from_utf8(error.as_slice()).unwrap()
 }

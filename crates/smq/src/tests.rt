@@ -1,3 +1,4 @@
 //! What no clause says.
 mod reading;
+mod reporting;
 mod running;

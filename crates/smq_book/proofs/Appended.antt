@@ -1,11 +1,16 @@
--- A batch among the sessions that are present.
-use Rattle.std.proofs.Common.{◌≡◌, ℕ, cond, List, Option, Some, None, Result, subst, sym, ap, ◌∙◌}
+-- A batch among the sessions that are present, and forms among those that were set.
+use Rattle.std.proofs.Common.{◌≡◌, ℕ, cond, List, Option, Some, None, Result, Ok, Err, subst, sym, ap, ◌∙◌}
+use Rattle.std.specs.Prelude.{MatchResult}
 use Rattle.std.specs.BTreeMap.{is_at}
 use Rattle.std.specs.FinMap.{FinMap, get, insert}
 use Rattle.std.specs.Map.{lookup}
 use Rattle.std.specs.Ordering.{nat_cmp}
+use Rattle.smq_kit.specs.declared.form.Form.{Form}
+use Rattle.smq_kit.specs.declared.names.LinkId.{LinkId}
 use Rattle.smq_kit.specs.declared.refusal.Refusal.{Refusal}
-use Rattle.smq_book.specs.declared.edit.Edit.TheVariants.{Append}
+use Rattle.smq_kit.specs.declared.refusal.Refusal.TheVariants.{Memory}
+use Rattle.smq_book.specs.declared.edit.Edit.TheVariants.{Append, SetForm}
+use Rattle.smq_book.specs.declared.forms.Forms.{Forms}
 use Rattle.smq_book.specs.declared.session.Session.{Session}
 use Rattle.smq_book.specs.Batch.{BatchValue}
 use Rattle.smq_book.specs.Present.{PresentValue}
@@ -39,10 +44,20 @@ at_absent es gs fs k n b r number missing same a =
     (subst (λ (hs : List (ℕ × Session)). Answers (first_of (append_refusals None b)) r (seen fs ≡ insert (seen hs) n (session_after None b)) (seen fs ≡ seen hs)) same a)
 
 -- the same of what is present
-pub present_becomes : {T : Type 0} (p : PresentValue) (old new : FinMap nat_cmp Session) (b : BatchValue) (r : Result T Refusal) → (record { sessions = old }) ≡ p → Becomes old new b.session.0 b r
-    → Answers (reply p (Append b)) r ((record { sessions = new }) ≡ change p (Append b)) ((record { sessions = new }) ≡ p)
-present_becomes p old new b r is a =
-    let before : PresentValue = record { sessions = old } in
-    let after : PresentValue = record { sessions = new } in
+pub present_becomes : {T : Type 0} (p : PresentValue) (old new : FinMap nat_cmp Session) (forms : FinMap nat_cmp Forms) (b : BatchValue) (r : Result T Refusal) → (record { sessions = old; forms = forms }) ≡ p
+    → Becomes old new b.session.0 b r → Answers (reply p (Append b)) r ((record { sessions = new; forms = forms }) ≡ change p (Append b)) ((record { sessions = new; forms = forms }) ≡ p)
+present_becomes p old new forms b r is a =
+    let before : PresentValue = record { sessions = old; forms = forms } in
+    let after : PresentValue = record { sessions = new; forms = forms } in
+    let with : FinMap nat_cmp Session → PresentValue = λ m. record { sessions = m; forms = forms } in
     subst (λ (q : PresentValue). Answers (reply q (Append b)) r (after ≡ change q (Append b)) (after ≡ q)) is
-    (Answers-weaker (reply before (Append b)) r (λ e. ap (λ (m : FinMap nat_cmp Session). record { sessions = m }) e) (λ e. ap (λ (m : FinMap nat_cmp Session). record { sessions = m }) e) a)
+    (Answers-weaker (reply before (Append b)) r (λ e. ap with e) (λ e. ap with e) a)
+
+-- the forms of a link are put in, or memory is wanting
+pub forms_become : {T : Type 0} (p : PresentValue) (sessions : FinMap nat_cmp Session) (old new : FinMap nat_cmp Forms) (link : LinkId) (response receipt : Form) (r : Result T Refusal)
+    → (record { sessions = sessions; forms = old }) ≡ p → MatchResult r (λ _. new ≡ insert old link.0 (record { response = response; receipt = receipt })) (λ e. (e ≡ Memory) × (new ≡ old))
+    → Answers (reply p (SetForm link response receipt)) r ((record { sessions = sessions; forms = new }) ≡ change p (SetForm link response receipt)) ((record { sessions = sessions; forms = new }) ≡ p)
+forms_become p sessions old new link response receipt (Ok x) is a =
+    ap (λ (m : FinMap nat_cmp Forms). record { sessions = sessions; forms = m }) a ∙ ap (λ (q : PresentValue). change q (SetForm link response receipt)) is
+forms_become p sessions old new link response receipt (Err e) is a =
+    (a.0, ap (λ (m : FinMap nat_cmp Forms). record { sessions = sessions; forms = m }) a.1 ∙ is)

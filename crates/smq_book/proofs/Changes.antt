@@ -1,4 +1,4 @@
--- What an append changes, and when it is refused.
+-- What an edit changes, and when it is refused.
 use Rattle.std.proofs.Common.{◌≡◌, ◌≢◌, ◌⊎◌, ℕ, cond, List, [], ◌++◌, Option, Some, None, refl, sym, ap, ◌∙◌, subst, inl, inr}
 use Rattle.std.specs.Prelude.{option_map, unwrap_or}
 use Rattle.std.specs.Cmp.{nat_cmp_total, tied_itself}
@@ -6,18 +6,19 @@ use Rattle.std.specs.FinMap.{FinMap, get, insert, get-insert, same_map, nat_cmp-
 use Rattle.std.specs.Ordering.{nat_cmp, is_eq}
 use Rattle.std.specs.declared.cmp.Ordering.{Ordering}
 use Rattle.std.specs.declared.cmp.Ordering.TheVariants.{Less, Equal, Greater}
+use Rattle.smq_kit.specs.declared.form.Form.{Form}
 use Rattle.smq_kit.specs.declared.names.LinkId.{LinkId}
 use Rattle.smq_kit.specs.declared.place.Dir.{Dir}
 use Rattle.smq_kit.specs.declared.place.Dir.TheVariants.{FromClient, FromCentre}
 use Rattle.smq_kit.specs.declared.refusal.Refusal.{Refusal}
 use Rattle.smq_frame.specs.Stream.{Octet, handed_in}
 use Rattle.smq_book.specs.declared.edit.Edit.{Edit}
-use Rattle.smq_book.specs.declared.edit.Edit.TheVariants.{Append}
+use Rattle.smq_book.specs.declared.edit.Edit.TheVariants.{Append, SetForm}
 use Rattle.smq_book.specs.declared.session.Session.{Session}
 use Rattle.smq_book.specs.Batch.{BatchValue}
-use Rattle.smq_book.specs.Present.{PresentValue, session_of, direction, octets_in, octets_of}
+use Rattle.smq_book.specs.Present.{PresentValue, session_of, direction, octets_in, octets_of, set_forms_of}
 use Rattle.smq_book.specs.Replies.{reply}
-use Rattle.smq_book.specs.Steps.{session_with, session_after, change, step_unless, step, Appends}
+use Rattle.smq_book.specs.Steps.{session_with, session_after, change, step_unless, step, Appends, SetsForm}
 use Rattle.smq_book.proofs.Answered.{new_session}
 
 -- ---- the session of a batch
@@ -73,7 +74,15 @@ appends-change p b =
       other_direction = λ d ne. ap (octets_in d) here ∙ after-other (session_of p b.session.0) b d ne;
       link = ap (option_map (λ (s : Session). s.link)) here ∙ ap Some (after-link (session_of p b.session.0) b);
       elsewhere = λ q ne. get-elsewhere p.sessions b.session.0 q (session_after (session_of p b.session.0) b) ne;
+      forms = refl;
     }
+
+pub sets-change : (p : PresentValue) (link : LinkId) (response receipt : Form) → SetsForm p (change p (SetForm link response receipt)) link response receipt
+sets-change p link response receipt = record {
+  there = get-here p.forms link.0 (record { response = response; receipt = receipt });
+  elsewhere = λ q ne. get-elsewhere p.forms link.0 q (record { response = response; receipt = receipt }) ne;
+  sessions = refl;
+}
 
 -- ---- no other change
 
@@ -115,7 +124,20 @@ same_at p q r b one two n =
 pub appends-alone : (p q : PresentValue) (b : BatchValue) → Appends p q b → q ≡ change p (Append b)
 appends-alone p q b one =
     let same : q.sessions ≡ (change p (Append b)).sessions = same_map nat_cmp_total nat_cmp-IsAntisymmetric _ _ (same_at p q (change p (Append b)) b one (appends-change p b)) in
-    λ i. record { sessions = same i }
+    λ i. record { sessions = same i; forms = one.forms i }
+
+same_forms : (p q r : PresentValue) (link : LinkId) (response receipt : Form) → SetsForm p q link response receipt → SetsForm p r link response receipt → (n : ℕ) → set_forms_of q n ≡ set_forms_of r n
+same_forms p q r link response receipt one two n =
+    elim (either_number n link.0 (nat_cmp n link.0) refl) [
+      | inl is ↦ subst (λ (m : ℕ). set_forms_of q m ≡ set_forms_of r m) (sym is) (one.there ∙ sym two.there)
+      | inr ne ↦ one.elsewhere n ne ∙ sym (two.elsewhere n ne)
+    ]
+
+pub sets-alone : (p q : PresentValue) (link : LinkId) (response receipt : Form) → SetsForm p q link response receipt → q ≡ change p (SetForm link response receipt)
+sets-alone p q link response receipt one =
+    let new = change p (SetForm link response receipt) in
+    let same : q.forms ≡ new.forms = same_map nat_cmp_total nat_cmp-IsAntisymmetric _ _ (same_forms p q new link response receipt one (sets-change p link response receipt)) in
+    λ i. record { sessions = one.sessions i; forms = same i }
 
 pub step-made : (p : PresentValue) (e : Edit) → reply p e ≡ None → step p e ≡ change p e
 step-made p e h = ap (λ (o : Option Refusal). step_unless o p e) h

@@ -4,10 +4,10 @@ use Rattle.std.proofs.lemmas.List.Sums.{sum_by-cons}
 use Rattle.std.specs.Prelude.{map, count_by, unwrap_or}
 use Rattle.std.specs.List.{flat_map, list_any}
 use Rattle.std.specs.declared.cmp.Ordering.{Ordering}
-use Rattle.std.specs.declared.cmp.Ordering.TheVariants.{Less, Equal, Greater}
-use Rattle.std.specs.Ordering.{eq_by_cmp, is_eq}
+use Rattle.std.specs.Ordering.{eq_by_cmp}
 use Rattle.std.specs.Cmp.{IsTotalOrder}
 use Rattle.smq_book.specs.Tally.{positive}
+use Rattle.smq_book.proofs.Ordered.{is_equal}
 use Rattle.std.specs.FinMap.{FinMap, IsAntisymmetric, get, insert, from_entries, find, get-from_entries, get-insert, same_map}
 
 abbrev above_zero : ℕ → Bool
@@ -20,11 +20,6 @@ above_one n = let e : 1 + n ≡ suc n = omega arith in rw e refl
 whole : (n : ℕ) → cond (above_zero n) (Some n) None ≡ positive n
 whole zero = refl
 whole (suc n) = refl
-
-equal : (r : Ordering) → is_eq r ≡ true → r ≡ Equal
-equal Less e = absurd (cc)
-equal Equal e = refl
-equal Greater e = absurd (cc)
 
 module _ {A K : Type 0} {R : K → K → Ordering} (o : IsTotalOrder R) (exact : IsAntisymmetric R) (keys : A → List K) where
   abbrev pub stands : K → A → Bool
@@ -41,7 +36,7 @@ module _ {A K : Type 0} {R : K → K → Ordering} (o : IsTotalOrder R) (exact :
   find_at n [] q = refl
   find_at n (k ∷ ks) q =
       elim (eq_by_cmp R q k) as (λ b. eq_by_cmp R q k ≡ b → cond b (Some (n k)) (find R q (map (λ k. (k, n k)) ks)) ≡ cond (b || list_any (eq_by_cmp R q) ks) (Some (n q)) None) [
-        | true ↦ λ e. ap (λ (x : K). Some (n x)) (sym (exact q k (equal (R q k) e)))
+        | true ↦ λ e. ap (λ (x : K). Some (n x)) (sym (exact q k (is_equal (R q k) e)))
         | false ↦ λ e. find_at n ks q
       ] refl
 
@@ -99,7 +94,7 @@ module _ {A K : Type 0} {R : K → K → Ordering} (o : IsTotalOrder R) (exact :
   more_at false c d e = let same : d + 0 ≡ d = omega arith in rw same refl
 
   number_tied : (n : K → ℕ) (q k : K) → eq_by_cmp R q k ≡ true → n k ≡ n q
-  number_tied n q k e = ap n (sym (exact q k (equal (R q k) e)))
+  number_tied n q k e = ap n (sym (exact q k (is_equal (R q k) e)))
 
   pub has-more : (m : FinMap R ℕ) (n : K → ℕ) (k : K) → Has m n → Has (insert m k (unwrap_or (get m k) 0 + 1)) (λ q. n q + cond (eq_by_cmp R q k) 1 0)
   has-more m n k h = record {

@@ -11,16 +11,28 @@ use Rattle.std.proofs.lemmas.Cmp.{eq_by_cmp_equiv}
 use Rattle.std.proofs.lemmas.Map.Views.{tells_apart}
 use Rattle.std.proofs.lemmas.Slice.Eq.{slice_eq-Decides}
 use Rattle.smq_book.specs.declared.tally.Row.{Row}
+use Rattle.smq_book.specs.declared.tally.Value.{Value}
+use Rattle.smq_book.specs.contracts.tally.ValueOrd.TheImpl.Laws as value_laws
 use Rattle.smq_book.specs.contracts.tally.RowOrd.TheImpl.Laws as row_laws
 use Rattle.smq_book.specs.contracts.tally.RowPartialEq.TheImpl as row_eq
-use Rattle.smq_book.specs.Tally.{TablesValue, same_row}
+use Rattle.smq_book.specs.Tally.{TablesValue, same_row, value_cmp}
 use Rattle.smq_book.specs.Equal.{tables_eq, same_entry}
-use Rattle.smq_book.specs.RowOrder.{kept_cmp, rows_total}
-use Rattle.smq_book.proofs.RowOrders.{row-order, rows_exact, entries-seen}
+use Rattle.smq_book.specs.RowOrder.{kept_cmp, kept_value_eq, rows_total, values_total}
+use Rattle.smq_book.proofs.RowOrders.{row-order, rows_exact, value-order, same_value, entries-seen}
 use Rattle.smq_book.proofs.Stored.{seen}
 
 row-equal : (x y : Row) → (row_eq.ghosts).eq x y ≡ same_row x y
 row-equal x y = row_laws.matches_eq-law x y ∙ (λ i. is_eq (row-order i x y))
+
+value-equal : (a b : Value) → kept_value_eq a b ≡ is_eq (value_cmp a b)
+value-equal a b = value_laws.matches_eq-law a b ∙ (λ i. is_eq (value-order a b i))
+
+-- `==` of values says whether they are one
+pub value-same : (a b : Value) → IsTrue (kept_value_eq a b) ↔ (a ≡ b)
+value-same a b = (
+  λ e. tells_apart same_value a b (sym (value-equal a b) ∙ e),
+  λ e. value-equal a b ∙ ap (λ (x : Value). is_eq (value_cmp a x)) (sym e) ∙ (eq_by_cmp_equiv values_total).refl a,
+)
 
 pub eq-seen : (es fs : List (Row × ℕ)) → IsStrictlySortedBy kept_cmp (keys_of es) → IsStrictlySortedBy kept_cmp (keys_of fs)
     → pointwise (λ (p q : Row × ℕ). (row_eq.ghosts).eq p.0 q.0 && nat_eq p.1 q.1) es fs ≡ tables_eq (seen es) (seen fs)

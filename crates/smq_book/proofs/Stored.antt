@@ -1,26 +1,21 @@
 -- A map of std that has the counts, seen as a finite map.
-use Rattle.std.proofs.Common.{◌≡◌, ℕ, ◌+◌, cond, List, [], ◌∷◌, Option, Some, None, refl, sym, ap, ◌∙◌}
+use Rattle.std.proofs.Common.{◌≡◌, ℕ, ◌+◌, cond, List, Option, Some, None, sym, ap, ◌∙◌}
 use Rattle.std.specs.Prelude.{unwrap_or}
-use Rattle.std.specs.Ordering.{eq_by_cmp, is_eq}
-use Rattle.std.specs.Cmp.{eq_by_cmp_equiv}
 use Rattle.std.specs.Map.{lookup}
 use Rattle.std.specs.BTreeMap.{is_at}
-use Rattle.std.specs.FinMap.{FinMap, get, insert, from_entries, find, get-from_entries, get-insert, same_map}
+use Rattle.std.specs.FinMap.{FinMap, get, insert, from_entries}
 use Rattle.smq_book.specs.declared.tally.Row.{Row}
 use Rattle.smq_book.specs.Tally.{TablesValue, row_cmp}
 use Rattle.smq_book.specs.Counting.{count_of, one_more}
 use Rattle.smq_book.specs.RowOrder.{kept_cmp, rows_total}
 use Rattle.smq_book.proofs.RowOrders.{row-order, rows_exact}
+use Rattle.smq_book.proofs.Ordered as ordered
 
 abbrev pub seen : List (Row × ℕ) → TablesValue
 seen es = record { counts = from_entries es }
 
-find-lookup : (es : List (Row × ℕ)) (q : Row) → find row_cmp q es ≡ lookup (is_at (row_cmp q)) es
-find-lookup [] q = refl
-find-lookup (e ∷ es) q = ap (cond (is_at (row_cmp q) e.0) (Some e.1)) (find-lookup es q)
-
 get-row : (es : List (Row × ℕ)) (q : Row) → get (from_entries {R = row_cmp} es) q ≡ lookup (is_at (kept_cmp q)) es
-get-row es q = get-from_entries rows_total es q ∙ find-lookup es q ∙ (λ i. lookup (is_at (sym row-order i q)) es)
+get-row es q = ordered.get-kept rows_total rows_exact row-order es q
 
 -- the count that a look-up gives
 pub count-found : (es : List (Row × ℕ)) (t : TablesValue) (q : Row) (n : ℕ) → seen es ≡ t → Some n ≡ lookup (is_at (kept_cmp q)) es → n ≡ count_of t q
@@ -29,14 +24,10 @@ count-found es t q n is found = ap (λ c. unwrap_or c 0) (found ∙ sym (get-row
 pub count-missed : (es : List (Row × ℕ)) (t : TablesValue) (q : Row) → seen es ≡ t → None ≡ lookup (is_at (kept_cmp q)) es → 0 ≡ count_of t q
 count-missed es t q is found = ap (λ (c : Option ℕ). unwrap_or c 0) (found ∙ sym (get-row es q)) ∙ ap (λ (u : TablesValue). count_of u q) is
 
-tied : (k q : Row) → is_at (kept_cmp k) q ≡ eq_by_cmp row_cmp q k
-tied k q = (λ i. is_eq (row-order i k q)) ∙ (eq_by_cmp_equiv rows_total).symm k q
-
 -- one entry differs
 pub put-seen : (es fs : List (Row × ℕ)) (k : Row) (n : ℕ) → ((q : Row) → lookup (is_at (kept_cmp q)) fs ≡ cond (is_at (kept_cmp k) q) (Some n) (lookup (is_at (kept_cmp q)) es))
     → from_entries {R = row_cmp} fs ≡ insert (from_entries es) k n
-put-seen es fs k n h = same_map rows_total rows_exact _ _ (λ q.
-    get-row fs q ∙ h q ∙ (λ i. cond (tied k q i) (Some n) (sym (get-row es q) i)) ∙ sym (get-insert rows_total (from_entries es) k n q))
+put-seen es fs k n h = ordered.put-kept rows_total rows_exact row-order es fs k n h
 
 pub more-seen : (es fs : List (Row × ℕ)) (t : TablesValue) (k : Row) (n : ℕ) → seen es ≡ t → n ≡ count_of t k
     → ((q : Row) → lookup (is_at (kept_cmp q)) fs ≡ cond (is_at (kept_cmp k) q) (Some (n + 1)) (lookup (is_at (kept_cmp q)) es)) → seen fs ≡ one_more t k

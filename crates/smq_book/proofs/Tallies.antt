@@ -1,13 +1,21 @@
 -- Tables that are kept as facts come and go are those of the facts.
-use Rattle.std.proofs.Common.{◌≡◌, ℕ, ◌+◌, ◌<◌, ◌≤◌, true, false, cond, List, [], ◌∷◌, ◌++◌, length, take, get_or, ◌^◌, refl, sym, ap, ◌∙◌, arith}
-use Rattle.std.specs.Prelude.{count_by, IsPermutation, nat_lt, unwrap_or, Option, Some}
+use Rattle.std.proofs.Common.{◌≡◌, ℕ, ◌+◌, ◌<◌, ◌≤◌, Bool, ◌||◌, true, false, cond, List, [], ◌∷◌, ◌++◌, length, take, get_or, ◌^◌, refl, sym, ap, ◌∙◌, arith}
+use Rattle.std.specs.Prelude.{count_by, IsPermutation, unwrap_or, Option, Some, None, option_map}
+use Rattle.std.specs.List.{list_any}
+use Rattle.std.proofs.lemmas.Bool.{false≢true}
 use Rattle.std.proofs.lemmas.List.Sums.{sum_by-cons, sum_by-append, count_by-le-length}
 use Rattle.std.proofs.lemmas.List.{take_more, length-take}
 use Rattle.std.proofs.lemmas.List.Sorted.{sum_by-IsPermutation}
-use Rattle.std.specs.FinMap.{FinMap, get, insert, remove, empty, get-insert}
+use Rattle.std.specs.FinMap.{FinMap, get-insert}
 use Rattle.smq_book.specs.declared.tally.Fact.{Fact}
+use Rattle.smq_book.specs.declared.tally.Outcome.{Outcome}
 use Rattle.smq_book.specs.declared.tally.Row.{Row}
-use Rattle.smq_book.specs.Tally.{TablesValue, tables_of, row_cmp, same_row, rows_of_fact, stands_in, number_in}
+use Rattle.smq_book.specs.declared.tally.SubmitError.{SubmitError}
+use Rattle.smq_book.specs.declared.tally.Value.{Value}
+use Rattle.smq_book.specs.declared.tally.Value.TheVariants as w
+use Rattle.smq_book.specs.declared.tally.View.{View}
+use Rattle.smq_book.specs.declared.tally.View.TheVariants as v
+use Rattle.smq_book.specs.Tally.{TablesValue, tables_of, row_cmp, same_row, row, row_in, value_in, rows_of_fact, stands_in, number_in}
 use Rattle.smq_book.specs.Counting.{count_of, one_more, plus}
 use Rattle.smq_book.specs.RowOrder.{rows_total}
 use Rattle.smq_book.proofs.RowOrders.{rows_exact}
@@ -53,9 +61,40 @@ has-plus t n (row ∷ rows) h =
     (has-plus (one_more t row) (λ q. n q + cond (same_row q row) 1 0) rows (counted.has-more rows_total rows_exact rows_of_fact t.counts n row h))
     (λ q. omega (arith, sum_by-cons (λ r. cond (same_row q r) 1 0) row rows))
 
+-- the row of the fact's link
+abbrev link_row : Fact → Row
+link_row f = row v.Link (w.Link f.link) f.outcome
+
+-- the row of an error of the fact
+abbrev error_row : Fact → SubmitError → Row
+error_row f x = row v.Error (w.Error x) f.outcome
+
+-- the rows of the fact, where this is its error
+abbrev rows_by : Fact → Option SubmitError → List Row
+rows_by f e = link_row f ∷ (row_in v.Error f (option_map w.Error e) ++ [])
+
+-- a row of a link isn't one of an error
+apart : (f : Fact) (x : SubmitError) (view : View) (value : Value) (outcome : Outcome) → same_row (row view value outcome) (link_row f) ≡ true → same_row (row view value outcome) (error_row f x) ≡ false
+apart f x v.Link value outcome h = refl
+apart f x v.Error value outcome h = absurd (false≢true h)
+
+one_of_one : (b : Bool) → 0 + cond b 1 0 ≡ cond (b || false) 1 0
+one_of_one true = refl
+one_of_one false = refl
+
+one_of_two : (b c : Bool) → (b ≡ true → c ≡ false) → (0 + cond b 1 0) + cond c 1 0 ≡ cond (b || (c || false)) 1 0
+one_of_two true true h = absurd (false≢true (sym (h refl)))
+one_of_two true false h = refl
+one_of_two false true h = refl
+one_of_two false false h = refl
+
+once_by : (f : Fact) (e : Option SubmitError) (q : Row) → count_by (same_row q) (rows_by f e) ≡ cond (list_any (same_row q) (rows_by f e)) 1 0
+once_by f None q = one_of_one (same_row q (link_row f))
+once_by f (Some x) q = one_of_two (same_row q (link_row f)) (same_row q (error_row f x)) (apart f x q.view q.value q.outcome)
+
 -- a fact stands in a row once at most
 once : (f : Fact) (q : Row) → count_by (same_row q) (rows_of_fact f) ≡ cond (stands_in q f) 1 0
-once f q = elim (same_row q (record { view = Rattle.smq_book.specs.declared.tally.View.TheVariants.Link; value = Rattle.smq_book.specs.declared.tally.Value.TheVariants.Link f.link; outcome = f.outcome })) as (λ b. 0 + cond b 1 0 ≡ cond (Rattle.std.specs.Prelude.◌||◌ b false) 1 0) [ true ↦ refl | false ↦ refl ]
+once f q = once_by f f.error q
 
 pub plus-tables : (facts : List Fact) (f : Fact) → plus (tables_of facts) (rows_of_fact f) ≡ tables_of (facts ++ f ∷ [])
 plus-tables facts f =
@@ -77,3 +116,13 @@ room facts i n t row h few so =
     let bound = number-bound (take i facts) row in
     let short : length (take i facts) ≤ i = let e = length-take i facts in omega (arith, e) in
     rw so (omega (arith, bound, short))
+
+-- ---- the row of a link and the counts of errors
+
+count_stays : (t : TablesValue) (f : Fact) (view : View) (value : Value) (outcome : Outcome) → view ≡ v.Error → count_of (one_more t (link_row f)) (row view value outcome) ≡ count_of t (row view value outcome)
+count_stays t f v.Link value outcome e = absurd (cc)
+count_stays t f v.Error value outcome e = ap (λ (o : Option ℕ). unwrap_or o 0) (get-insert rows_total t.counts (link_row f) (count_of t (link_row f) + 1) (row v.Error value outcome))
+
+-- the row of a link counts in no row of an error
+pub errors-stay : (t : TablesValue) (f : Fact) (q : Row) → q.view ≡ v.Error → count_of (plus t (row_in v.Link f (value_in v.Link f))) q ≡ count_of t q
+errors-stay t f q e = count_stays t f q.view q.value q.outcome e

@@ -3,6 +3,7 @@ use Rattle.std.specs.Prelude.{List, map}
 use Rattle.smq_frame.specs.Stream.{Octet}
 use Rattle.smq_pdu.specs.Header.{Header}
 use Rattle.smq_pdu.specs.Bodies.{BodyValue, SubmitBody, AnswerBody, DeliverBody, OtherBody, UndecodableBody}
+use Rattle.smq_receipt.specs.Readings.{reading_of}
 use Rattle.smq_pdu.specs.Placed.{PlacedPdu, stream_pdus}
 use Rattle.smq_book.specs.declared.kept.Content.{Content}
 use Rattle.smq_book.specs.declared.kept.Content.TheVariants as c
@@ -12,7 +13,7 @@ use Rattle.smq_book.specs.declared.kept.KeptPdu.{KeptPdu}
 abbrev pub content_of_body : BodyValue → Content
 content_of_body (SubmitBody submit) = c.Submit submit.registered_delivery
 content_of_body (AnswerBody id) = c.SubmitAnswer id
-content_of_body (DeliverBody deliver) = c.Other
+content_of_body (DeliverBody deliver) = c.Deliver (reading_of deliver)
 content_of_body OtherBody = c.Other
 content_of_body UndecodableBody = c.Undecodable
 

@@ -7,7 +7,12 @@ pub mod Replies
 pub mod Steps
 pub mod InOrder
 pub mod Examples
+pub mod LinkKeys
 pub mod Submits
+pub mod Ranks
+pub mod Responses
+pub mod Receipts
+pub mod Matches
 pub mod Outcomes
 pub mod Names
 pub mod Tally
@@ -15,4 +20,5 @@ pub mod RowOrder
 pub mod Counting
 pub mod Equal
 pub mod Known
+pub mod KnownValues
 pub mod Scratch

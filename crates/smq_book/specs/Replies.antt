@@ -6,7 +6,7 @@ use Rattle.smq_kit.specs.declared.refusal.Refusal.TheVariants.{OtherLink, OutOfS
 use Rattle.smq_frame.specs.Stream.{Octet, values}
 use Rattle.smq_frame.specs.Tail.{tails_equal, tail_of}
 use Rattle.smq_book.specs.declared.edit.Edit.{Edit}
-use Rattle.smq_book.specs.declared.edit.Edit.TheVariants.{Append}
+use Rattle.smq_book.specs.declared.edit.Edit.TheVariants.{Append, SetForm}
 use Rattle.smq_book.specs.declared.session.Session.{Session}
 use Rattle.smq_book.specs.Answers.{refused_if}
 pub use Rattle.smq_book.specs.Answers.{first_of, Answers}
@@ -41,6 +41,7 @@ append_refusals session batch =
 -- the first refusal of an edit that holds, want of memory aside
 abbrev pub reply : PresentValue → Edit → Option Refusal
 reply p (Append batch) = first_of (append_refusals (session_of p batch.session.0) batch)
+reply p (SetForm link response receipt) = None
 
 -- A batch goes after its direction: its session is present under no other link, its tail is the direction's, and its
 -- moment isn't below the direction's last.

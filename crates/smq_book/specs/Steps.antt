@@ -1,15 +1,17 @@
 -- What an edit leaves present.
 use Rattle.std.specs.Prelude.{◌≡◌, ◌≢◌, ℕ, List, [], ◌++◌, fold, Option, Some, None, unwrap_or}
 use Rattle.std.specs.FinMap as map
+use Rattle.smq_kit.specs.declared.form.Form.{Form}
+use Rattle.smq_kit.specs.declared.names.LinkId.{LinkId}
 use Rattle.smq_kit.specs.declared.place.Dir.{Dir}
 use Rattle.smq_kit.specs.declared.place.Dir.TheVariants.{FromClient, FromCentre}
 use Rattle.smq_kit.specs.declared.refusal.Refusal.{Refusal}
 use Rattle.smq_frame.specs.Stream.{Octet, handed_in}
 use Rattle.smq_book.specs.declared.edit.Edit.{Edit}
-use Rattle.smq_book.specs.declared.edit.Edit.TheVariants.{Append}
+use Rattle.smq_book.specs.declared.edit.Edit.TheVariants.{Append, SetForm}
 use Rattle.smq_book.specs.declared.session.Session.{Session}
 use Rattle.smq_book.specs.Batch.{BatchValue}
-use Rattle.smq_book.specs.Present.{PresentValue, session_of, link_of, octets_of}
+use Rattle.smq_book.specs.Present.{PresentValue, session_of, link_of, octets_of, set_forms_of}
 use Rattle.smq_book.specs.Replies.{reply}
 
 -- a session with octets put after one direction
@@ -27,7 +29,9 @@ session_after (Some session) batch =
 -- the plain change that an edit is
 abbrev pub change : PresentValue → Edit → PresentValue
 change p (Append batch) =
-    record { sessions = map.insert p.sessions batch.session.0 (session_after (session_of p batch.session.0) batch) }
+    record p { sessions = map.insert p.sessions batch.session.0 (session_after (session_of p batch.session.0) batch) }
+change p (SetForm link response receipt) =
+    record p { forms = map.insert p.forms link.0 (record { response = response; receipt = receipt }) }
 
 -- the plain change, or none where there is a refusal
 abbrev pub step_unless : Option Refusal → PresentValue → Edit → PresentValue
@@ -51,3 +55,10 @@ pub record Appends (old new : PresentValue) (batch : BatchValue) : Type 0 where
       → octets_of new batch.session.0 dir ≡ octets_of old batch.session.0 dir
   pub link : link_of new batch.session.0 ≡ Some (unwrap_or (link_of old batch.session.0) batch.link)
   pub elsewhere : (number : ℕ) → number ≢ batch.session.0 → session_of new number ≡ session_of old number
+  pub forms : new.forms ≡ old.forms
+
+-- The link has these forms. Nothing else changes.
+pub record SetsForm (old new : PresentValue) (link : LinkId) (response receipt : Form) : Type 0 where
+  pub there : set_forms_of new link.0 ≡ Some (record { response = response; receipt = receipt })
+  pub elsewhere : (number : ℕ) → number ≢ link.0 → set_forms_of new number ≡ set_forms_of old number
+  pub sessions : new.sessions ≡ old.sessions

@@ -1,13 +1,17 @@
 -- The counts that a list of facts gives.
-use Rattle.std.specs.Prelude.{ℕ, zero, suc, ◌==◌, Bool, List, [], ◌∷◌, map, filter, count_by, Option, Some, None, unwrap_or, refl}
+use Rattle.std.specs.Prelude.{ℕ, zero, suc, ◌==◌, Bool, List, [], ◌∷◌, map, filter, count_by, Option, Some, None, option_map, unwrap_or, refl}
 use Rattle.std.specs.List.{flat_map, list_any}
 use Rattle.std.specs.declared.cmp.Ordering.{Ordering}
+use Rattle.std.specs.declared.cmp.Ordering.TheVariants.{Less, Greater}
 use Rattle.std.specs.Ordering.{nat_cmp, ordering_then, eq_by_cmp}
 use Rattle.std.specs.FinMap as fin
 use Rattle.std.specs.Coded.{Coded, code_by, coded_ℕ}
+use Rattle.smq_receipt.specs.Orders.{error_cmp}
 use Rattle.smq_book.specs.contracts.tally.Row as block
 use Rattle.smq_book.specs.declared.tally.View.{View}
 use Rattle.smq_book.specs.declared.tally.View.TheVariants as v
+use Rattle.smq_book.specs.declared.tally.SubmitError.{SubmitError}
+use Rattle.smq_book.specs.declared.tally.SubmitError.TheVariants as s
 use Rattle.smq_book.specs.declared.tally.Value.{Value}
 use Rattle.smq_book.specs.declared.tally.Value.TheVariants as w
 use Rattle.smq_book.specs.declared.tally.Outcome.{Outcome}
@@ -19,11 +23,12 @@ use Rattle.smq_book.specs.declared.tally.Row.{Row}
 
 -- the views, in their order
 abbrev pub views : List View
-views = v.Link ∷ []
+views = v.Link ∷ v.Error ∷ []
 
 -- the place of a view among the views
 abbrev pub view_place : View → ℕ
 view_place v.Link = 0
+view_place v.Error = 1
 
 -- the place of an outcome in the table of outcomes
 abbrev pub outcome_place : Outcome → ℕ
@@ -31,12 +36,25 @@ outcome_place o.Waiting = 0
 outcome_place o.Mismatched = 1
 outcome_place o.Refused = 2
 outcome_place o.NoId = 3
-outcome_place o.Unasked = 4
-outcome_place o.Open = 5
+outcome_place o.Ambiguous = 4
+outcome_place o.Delivered = 5
+outcome_place o.Failed = 6
+outcome_place o.Unasked = 7
+outcome_place o.Open = 8
 
--- the order of values: links by number
+-- the order of submits' errors: those of refused ones by status, then those of failed ones by the order of error codes
+abbrev pub submit_error_cmp : SubmitError → SubmitError → Ordering
+submit_error_cmp (s.Refused a) (s.Refused b) = nat_cmp a b
+submit_error_cmp (s.Refused a) (s.Failed y) = Less
+submit_error_cmp (s.Failed x) (s.Refused b) = Greater
+submit_error_cmp (s.Failed x) (s.Failed y) = error_cmp x y
+
+-- the order of values: links by number, then errors
 abbrev pub value_cmp : Value → Value → Ordering
 value_cmp (w.Link a) (w.Link b) = nat_cmp a.0 b.0
+value_cmp (w.Link a) (w.Error y) = Less
+value_cmp (w.Error x) (w.Link b) = Greater
+value_cmp (w.Error x) (w.Error y) = submit_error_cmp x y
 
 -- the order of rows: by view, then by value, then by outcome
 abbrev pub row_cmp : Row → Row → Ordering
@@ -57,6 +75,7 @@ row view value outcome = record { view = view; value = value; outcome = outcome 
 -- the fact's value in a view, if it has one there
 abbrev pub value_in : View → Fact → Option Value
 value_in v.Link f = Some (w.Link f.link)
+value_in v.Error f = option_map w.Error f.error
 
 -- the fact's row in a view, where this is its value there
 abbrev pub row_in : View → Fact → Option Value → List Row

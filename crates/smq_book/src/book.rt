@@ -63,13 +63,19 @@ impl Book {
 
     /// Makes an edit, or refuses it and changes nothing. An `Append` is refused, in order: where its session is present
     /// under another link (`OtherLink`); where its tail isn't that of its direction (`OutOfStep`); where its moment is
-    /// below the direction's last (`Backward`); and for want of memory (`Memory`).
+    /// below the direction's last (`Backward`); and for want of memory (`Memory`). A `SetForm` is refused for want of
+    /// memory alone.
     pub fn apply(&mut self, alloc: Global, edit: Edit) -> Result<(), Refusal>
         ensures { Answers (reply self.old edit) result
             (self.new ≡ step self.old edit) (self.new ≡ self.old) }
     {
         match edit {
             Edit::Append { batch } => self.present.append(alloc, batch),
+            Edit::SetForm {
+                link,
+                response,
+                receipt,
+            } => self.present.set_form(link, response, receipt),
         }
     }
 

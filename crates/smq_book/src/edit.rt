@@ -1,9 +1,18 @@
 //! The edits of a book.
 use crate::Batch;
+use smq_kit::{Form, LinkId};
 
 /// One change of what is present.
 #[derive(Drop)]
 pub enum Edit {
     /// Puts a batch after its direction. The session is made under the batch's link where it isn't present.
-    Append { batch: Batch },
+    Append {
+        batch: Batch,
+    },
+    /// Sets the forms of a link's message ids.
+    SetForm {
+        link: LinkId,
+        response: Form,
+        receipt: Form,
+    },
 }

@@ -1,96 +1,44 @@
-//! What is known of the submitted messages of a session.
-ghost use Rattle.std.specs.Prelude.{◌≡◌, ◌++◌, ◌<◌, ◌≤◌, OnOk, count_by, map, length, is_some, slice_get, Some};
-ghost use Rattle.std.specs.Option.{option_to_list, option_copied};
-ghost use Rattle.smq_pdu.specs.Pairing.{asks as asks_lem, answers as answers_lem, response_place};
-ghost use Rattle.smq_book.specs.Kept.{header_of};
-ghost use Rattle.smq_book.specs.Submits.{headers_of, answer_of as answer_of_lem, submit_by, submitted_message, asks_receipt as asks_receipt_lem};
-ghost use Rattle.smq_book.specs.Outcomes.{id_in, outcome_by, fact_of, facts_among};
+//! What is known of the submitted messages.
+ghost use Rattle.std.specs.Prelude.{◌≡◌, ◌++◌, List, IfOk, is_some, map};
+ghost use Rattle.std.specs.Option.{option_copied};
+ghost use Rattle.smq_book.specs.Submits.{id_in as id_in_lem, SubmittedMessage as Submit};
+ghost use Rattle.smq_book.specs.Receipts.{KeyedReceipt};
+ghost use Rattle.smq_book.specs.Matches.{HasNumbers, HasDeciders};
+ghost use Rattle.smq_book.specs.Outcomes.{is_delivered as is_delivered_lem, outcome_by, error_by, fact_by as fact_by_lem, fact_of as fact_of_lem, facts_among as facts_among_lem};
 
-use crate::{Content, Fact, KeptPdu, Outcome};
-use smq_kit::{Dir, LinkId, Place, SessionId};
-use smq_pdu::{agrees, is_request, is_response};
-use std::alloc::AllocError;
+use crate::accepted::Accepted;
+use crate::deciders::Deciders;
+use crate::receipts::ReceivedReceipt;
+use crate::submits::{SubmittedMessage, id_in};
+use crate::{Fact, KeptPdu, Outcome, SubmitError};
+use smq_pdu::agrees;
+use smq_receipt::MessageState;
+use std::alloc::{AllocError, Global};
 
-/// Whether it is a request of this sequence number.
-fn asks(pdu: &KeptPdu, seq: u32) -> bool
-    ensures { result ≡ asks_lem seq (header_of pdu.now) }
+fn has_id(answer: &KeptPdu) -> bool
+    ensures { result ≡ is_some (id_in_lem answer.now.content) }
 {
-    is_request(pdu.command) && pdu.seq == seq
+    id_in(&answer.content).is_some()
 }
 
-/// Whether it is a response of this sequence number.
-fn answers(pdu: &KeptPdu, seq: u32) -> bool
-    ensures { result ≡ answers_lem seq (header_of pdu.now) }
+fn is_delivered(state: MessageState) -> bool
+    ensures { result ≡ is_delivered_lem state }
 {
-    is_response(pdu.command) && pdu.seq == seq
-}
-
-/// How many of these are requests of this sequence number.
-fn count_requests(pdus: &[KeptPdu], seq: u32) -> usize
-    ensures { result ≡ count_by (asks_lem seq) (headers_of pdus.now) }
-{
-    pdus.iter().filter(|pdu| asks(pdu, seq)).count()
-}
-
-/// The place of the response of this sequence number that stands after so many others of it.
-#[tactic(auto, using(crate::proofs::Ranks::rank_facts))]
-fn answer_place(centre: &[KeptPdu], seq: u32, rank: usize) -> Option<usize>
-    ensures { result ≡ response_place (headers_of centre.now) seq rank }
-{
-    let mut left = rank;
-    for (place, pdu) in centre.iter().enumerate() {
-        if answers(pdu, seq) {
-            if left == 0 {
-                return Some(place);
-            }
-            left -= 1;
-        }
-    }
-    None
-}
-
-/// The response to the i-th PDU of the client, by sequence number and rank.
-fn answer_of<'a>(
-    client: &[KeptPdu],
-    centre: &'a [KeptPdu],
-    i: usize,
-    request: &KeptPdu,
-) -> Option<&'a KeptPdu>
-    requires { i ≤ length client.now }
-    ensures { option_copied result ≡ answer_of_lem client.now centre.now i request.now }
-{
-    let rank = count_requests(&client[..i], request.seq);
-    let place = answer_place(centre, request.seq, rank)?;
-    centre.get(place)
-}
-
-fn has_id(response: &KeptPdu) -> bool
-    ensures { result ≡ is_some (id_in response.now.content) }
-{
-    matches!(
-        &response.content,
-        Content::SubmitAnswer {
-            message_id: Some(_)
-        }
-    )
-}
-
-/// Whether bits 1 and 0 of registered_delivery ask for a delivery receipt (SMPP 3.4, 5.2.17).
-fn asks_receipt(registered_delivery: u8) -> bool
-    ensures { result ≡ asks_receipt_lem registered_delivery }
-{
-    registered_delivery % 4 != 0
+    matches!(state, MessageState::Delivered)
 }
 
 /// The outcome of the first condition that holds, in the order of the table of outcomes.
-fn outcome(request: &KeptPdu, registered_delivery: u8, answer: Option<&KeptPdu>) -> Outcome
-    ensures { result ≡ outcome_by (header_of request.now) (asks_receipt_lem registered_delivery)
-        (option_copied answer.entry) }
+fn outcome(
+    submit: &SubmittedMessage<'_>,
+    ambiguous: bool,
+    decider: Option<&ReceivedReceipt<'_>>,
+) -> Outcome
+    ensures { result ≡ outcome_by submit.now ambiguous (option_copied decider.entry) }
 {
-    let Some(answer) = answer else {
+    let Some(answer) = submit.answer else {
         return Outcome::Waiting;
     };
-    if !agrees(request.command, answer.command) {
+    if !agrees(submit.request.command, answer.command) {
         return Outcome::Mismatched;
     }
     if answer.status != 0 {
@@ -99,60 +47,87 @@ fn outcome(request: &KeptPdu, registered_delivery: u8, answer: Option<&KeptPdu>)
     if !has_id(answer) {
         return Outcome::NoId;
     }
-    if !asks_receipt(registered_delivery) {
+    if ambiguous {
+        return Outcome::Ambiguous;
+    }
+    if let Some(receipt) = decider {
+        return if is_delivered(receipt.receipt.state) {
+            Outcome::Delivered
+        } else {
+            Outcome::Failed
+        };
+    }
+    if !submit.asks_receipt {
         return Outcome::Unasked;
     }
     Outcome::Open
 }
 
-/// What is known of the i-th PDU of the client, where it is a decodable submit_sm.
-fn fact_at(
-    session: SessionId,
-    link: LinkId,
-    client: &[KeptPdu],
-    centre: &[KeptPdu],
-    i: usize,
-    pdu: &KeptPdu,
-) -> Option<Fact>
-    requires { i ≤ length client.now }
-    ensures { option_to_list result
-        ≡ map fact_of (submit_by pdu.now.content session link client.now centre.now i pdu.now) }
+/// Why a message with this outcome failed.
+fn error(
+    outcome: Outcome,
+    answer: Option<&KeptPdu>,
+    decider: Option<&ReceivedReceipt<'_>>,
+) -> Option<SubmitError>
+    ensures { result ≡ error_by outcome (option_copied answer.entry)
+        (option_copied decider.entry) }
 {
-    match pdu.content {
-        Content::Submit {
-            registered_delivery,
-        } => {
-            let answer = answer_of(client, centre, i, pdu);
-            Some(Fact {
-                place: Place {
-                    session,
-                    dir: Dir::FromClient,
-                    offset: pdu.offset,
-                },
-                moment: pdu.moment,
-                link,
-                outcome: outcome(pdu, registered_delivery, answer),
-            })
-        }
+    match outcome {
+        Outcome::Refused => Some(SubmitError::Refused {
+            status: answer?.status,
+        }),
+        Outcome::Failed => Some(SubmitError::Failed(decider?.receipt.error.copy())),
         _ => None,
     }
 }
 
-/// Puts what is known of each submitted message of a session, in their order, after what is there.
-pub(crate) fn push_facts(
-    facts: &mut Vec<Fact>,
-    session: SessionId,
-    link: LinkId,
-    client: &[KeptPdu],
-    centre: &[KeptPdu],
-) -> Result<(), AllocError>
-    ensures { OnOk result
-        (facts.new.items ≡ facts.old.items ++ facts_among session link client.now centre.now) }
+/// What is known of a message, by whether it is ambiguous and by its deciding receipt.
+fn fact_by(
+    submit: &SubmittedMessage<'_>,
+    ambiguous: bool,
+    decider: Option<&ReceivedReceipt<'_>>,
+) -> Fact
+    ensures { result ≡ fact_by_lem submit.now ambiguous (option_copied decider.entry) }
 {
-    for (i, pdu) in client.iter().enumerate() {
-        if let Some(fact) = fact_at(session, link, client, centre, i, pdu) {
-            facts.push(fact)?;
-        }
+    let outcome = outcome(submit, ambiguous, decider);
+    Fact {
+        place: submit.place(),
+        moment: submit.request.moment,
+        link: submit.source.link,
+        outcome,
+        error: error(outcome, submit.answer, decider),
     }
-    Ok(())
+}
+
+/// What is known of a message, among all that were submitted and all receipts.
+fn fact_of(submit: &SubmittedMessage<'_>, accepted: &Accepted, deciders: &Deciders<'_>) -> Fact
+    ensures { (submits : List Submit) (receipts : List KeyedReceipt)
+        → HasNumbers accepted.now.numbers submits → HasDeciders deciders.now.receipts receipts
+        → result ≡ fact_of_lem submits receipts submit.now }
+{
+    let Some(key) = submit.key() else {
+        return fact_by(submit, false, None);
+    };
+    if accepted.is_single(&key) {
+        fact_by(submit, false, deciders.receipt(&key))
+    } else {
+        fact_by(submit, true, None)
+    }
+}
+
+/// What is known of each of these messages, in their order.
+pub(crate) fn facts_among(
+    alloc: Global,
+    submits: &[SubmittedMessage<'_>],
+    deciders: &Deciders<'_>,
+) -> Result<Vec<Fact>, AllocError>
+    ensures { (receipts : List KeyedReceipt) → HasDeciders deciders.now.receipts receipts
+        → IfOk result (λ facts. facts.items ≡ facts_among_lem submits.now receipts) }
+{
+    let accepted = Accepted::of_submits(alloc, submits)?;
+    let mut facts = Vec::with_capacity(alloc, submits.len())?;
+    for submit in submits {
+        facts.push(fact_of(submit, &accepted, deciders))?;
+    }
+    Ok(facts)
 }

@@ -7,6 +7,7 @@ ghost use Rattle.smq_book.specs.Kept.{content_of_body, kept_pdu};
 use smq_frame::Frame;
 use smq_kit::{MessageId, Moment};
 use smq_pdu::{Body, Pdu, decode};
+use smq_receipt::{Reading, read};
 use std::alloc::{AllocError, Global};
 
 /// What is kept of a PDU's body.
@@ -16,6 +17,8 @@ pub enum Content {
     Submit { registered_delivery: u8 },
     /// A submit_sm_resp, with its message_id, where that has 1 to 64 octets.
     SubmitAnswer { message_id: Option<MessageId> },
+    /// A deliver_sm, as what it says as a delivery receipt.
+    Deliver { reading: Reading },
     /// Every other command.
     Other,
     /// A submit_sm or deliver_sm whose mandatory fields don't fit.
@@ -46,7 +49,9 @@ fn content_of(body: Body<'_>) -> Content
         Body::SubmitAnswer(answer) => Content::SubmitAnswer {
             message_id: answer.message_id,
         },
-        Body::Deliver(_) => Content::Other,
+        Body::Deliver(deliver) => Content::Deliver {
+            reading: read(&deliver),
+        },
         Body::Other => Content::Other,
         Body::Undecodable => Content::Undecodable,
     }

@@ -1,24 +1,32 @@
 //! Laws of replies and steps.
 ghost use Rattle.std.specs.Prelude.{◌≡◌, ◌↔◌, ◌++◌, ◌∷◌, [], ℕ, Some, None};
+ghost use Rattle.smq_kit.specs.declared.form.Form.{Form};
+ghost use Rattle.smq_kit.specs.declared.form.Form.TheVariants.{Verbatim, Decimal, Hexadecimal};
+ghost use Rattle.smq_kit.specs.declared.names.LinkId.{LinkId};
 ghost use Rattle.smq_kit.specs.declared.refusal.Refusal.{Refusal};
 ghost use Rattle.smq_kit.specs.declared.refusal.Refusal.TheVariants as r;
 ghost use Rattle.smq_kit.specs.declared.place.Dir.{Dir};
 ghost use Rattle.smq_kit.specs.declared.place.Dir.TheVariants.{FromClient, FromCentre};
 ghost use Rattle.smq_frame.specs.Stream.{handed_in};
 ghost use Rattle.smq_book.specs.declared.edit.Edit.{Edit};
-ghost use Rattle.smq_book.specs.declared.edit.Edit.TheVariants.{Append};
+ghost use Rattle.smq_book.specs.declared.edit.Edit.TheVariants.{Append, SetForm};
 ghost use Rattle.smq_book.specs.Batch.{BatchValue, prepare_refusal};
-ghost use Rattle.smq_book.specs.Examples.{one_octet, two_octets, waiting, one_more};
-ghost use Rattle.smq_book.specs.Present.{PresentValue, session_of, octets_of, tail_in};
+ghost use Rattle.smq_book.specs.Examples.{one_octet, two_octets, with_forms, with_forms_and_octets, waiting, one_more};
+ghost use Rattle.smq_book.specs.Present.{PresentValue, empty, session_of, octets_of, tail_in, opening_forms, forms_of};
 ghost use Rattle.smq_book.specs.Replies.{GoesAfter, reply};
-ghost use Rattle.smq_book.specs.Steps.{Appends, change, step};
+ghost use Rattle.smq_book.specs.Steps.{Appends, SetsForm, change, step};
 
-/// An append changes what `Appends` says, and nothing else. A refused edit is no step.
+/// An append changes what `Appends` says, and setting forms what `SetsForm` says: nothing else. A refused edit is no
+/// step.
 pub fn steps_are_plain_changes()
     ensures appends { (p : PresentValue) (batch : BatchValue) →
         Appends p (change p (Append batch)) batch }
     ensures alone { (p q : PresentValue) (batch : BatchValue) →
         Appends p q batch → q ≡ change p (Append batch) }
+    ensures sets_form { (p : PresentValue) (link : LinkId) (response receipt : Form) →
+        SetsForm p (change p (SetForm link response receipt)) link response receipt }
+    ensures alone_form { (p q : PresentValue) (link : LinkId) (response receipt : Form) →
+        SetsForm p q link response receipt → q ≡ change p (SetForm link response receipt) }
     ensures made { (p : PresentValue) (edit : Edit) →
         reply p edit ≡ None → step p edit ≡ change p edit }
     ensures refused { (p : PresentValue) (edit : Edit) (refusal : Refusal) →
@@ -69,4 +77,20 @@ pub fn octets_are_put_after_their_direction()
         ≡ handed_in 1000 (0 ∷ []) ++ handed_in 2000 (0 ∷ []) }
     ensures other_direction { octets_of two_octets 10 FromCentre ≡ [] }
     ensures stale { step one_octet (one_more 1 10 FromClient (waiting 0 []) 2000) ≡ one_octet }
+{}
+
+/// The forms of a link are both verbatim until they are set. This leaves other links and octets, and an append leaves
+/// forms.
+pub fn forms_are_verbatim_until_set()
+    ensures opening { opening_forms ≡ record { response = Verbatim; receipt = Verbatim } }
+    ensures never_set { (link : LinkId) → forms_of empty link ≡ opening_forms }
+    ensures there { forms_of with_forms (record { 0 = 1 })
+        ≡ record { response = Hexadecimal; receipt = Decimal } }
+    ensures other_link { forms_of with_forms (record { 0 = 2 })
+        ≡ record { response = Verbatim; receipt = Verbatim } }
+    ensures octets { octets_of with_forms 10 FromClient ≡ handed_in 1000 (0 ∷ []) }
+    ensures appended { octets_of with_forms_and_octets 10 FromClient
+        ≡ handed_in 1000 (0 ∷ []) ++ handed_in 2000 (0 ∷ []) }
+    ensures there_still { forms_of with_forms_and_octets (record { 0 = 1 })
+        ≡ record { response = Hexadecimal; receipt = Decimal } }
 {}

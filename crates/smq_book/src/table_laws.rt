@@ -1,18 +1,21 @@
 //! Laws of the definitions of outcomes and counts.
-ghost use Rattle.std.specs.Prelude.{◌≡◌, ◌≤◌, ◌++◌, ◌∷◌, ◌↔◌, [], ℕ, Bool, List, Option, Some, length, map, IsPermutation, IsTrue};
+ghost use Rattle.std.specs.Prelude.{◌≡◌, ◌≤◌, ◌++◌, ◌∷◌, ◌↔◌, [], ℕ, Bool, List, Option, Some, None, length, map, IsPermutation, IsTrue};
 ghost use Rattle.std.specs.List.Sorted.{IsStrictlySortedBy};
 ghost use Rattle.std.specs.FinMap as fin;
 ghost use Rattle.smq_pdu.specs.Header.{Header};
 ghost use Rattle.smq_book.specs.Submits.{answer_of};
-ghost use Rattle.smq_book.specs.Outcomes.{outcome_table, last_outcome, facts_among};
-ghost use Rattle.smq_book.specs.Known.{pdu, submit, accepted, without_id, nack, link_answer, InTurn, outcomes_among, outcomes_by_delivery};
-ghost use Rattle.smq_book.specs.Tally.{TablesValue, tables_of, count_at, number_in, rows_of_fact, row, positive, views, view_place, outcome_place, row_cmp, shown_cmp, rows_of};
-ghost use Rattle.smq_book.specs.RowOrder.{kept_cmp};
+ghost use Rattle.smq_book.specs.declared.source.Source.{Source};
+ghost use Rattle.smq_book.specs.Receipts.{ReceivedReceipt};
+ghost use Rattle.smq_book.specs.Outcomes.{outcome_table, last_outcome};
+ghost use Rattle.smq_book.specs.Known.{pdu, submit, accepted, without_id, nack, link_answer, InTurn, facts_of_session, outcomes_among, outcomes_by_delivery};
+ghost use Rattle.smq_book.specs.Tally.{TablesValue, tables_of, count_at, number_in, rows_of_fact, row, positive, views, view_place, outcome_place, value_cmp, row_cmp, shown_cmp, rows_of};
+ghost use Rattle.smq_book.specs.RowOrder.{kept_cmp, kept_value_cmp, kept_value_eq};
+ghost use Rattle.smq_book.specs.KnownValues.{known_values};
 ghost use Rattle.smq_book.specs.Equal.{tables_eq};
 ghost use Rattle.smq_book.specs.Counting.{plus};
 
-use crate::{Content, Fact, KeptPdu, Outcome, Row, Value, View};
-use smq_kit::{Dir, LinkId, SessionId};
+use crate::{Content, Fact, KeptPdu, Outcome, Row, SubmitError, Value, View};
+use smq_kit::{Dir, LinkId};
 use std::cmp::Ordering;
 
 /// Two requests of one sequence number are answered by the two responses of it in turn, whatever
@@ -60,13 +63,23 @@ pub fn outcomes_of_known_submits()
     ensures after_undecodable { outcomes_among (pdu 0 0x0000_0004 0 7 Content.Undecodable
         ∷ submit 16 7 1 ∷ []) (accepted 7 ∷ []) ≡ Outcome.Waiting ∷ [] }
     ensures of_the_centre { outcomes_among [] (submit 0 7 1 ∷ []) ≡ [] }
-    ensures fact { (session : SessionId) (link : LinkId)
-        → facts_among session link (submit 49 7 1 ∷ []) [] ≡ record {
-          place = record { session = session; dir = Dir.FromClient; offset = 49 };
+    ensures fact { (source : Source)
+        → facts_of_session source (submit 49 7 1 ∷ []) [] ≡ record {
+          place = record { session = source.session; dir = Dir.FromClient; offset = 49 };
           moment = 1000;
-          link = link;
+          link = source.link;
           outcome = Outcome.Waiting;
+          error = None;
         } ∷ [] }
+{}
+
+/// A submit stands in the row of its link, and where it has an error, in the row of its error too.
+pub fn facts_stand_in_their_rows()
+    ensures no_error { (fact : Fact) → fact.error ≡ None
+        → rows_of_fact fact ≡ row View.Link (Value.Link fact.link) fact.outcome ∷ [] }
+    ensures error { (fact : Fact) (error : SubmitError) → fact.error ≡ Some error
+        → rows_of_fact fact ≡ row View.Link (Value.Link fact.link) fact.outcome
+        ∷ row View.Error (Value.Error error) fact.outcome ∷ [] }
 {}
 
 /// A count is the number of the facts with this value in the view, and this outcome. A row stands
@@ -100,6 +113,14 @@ pub fn equal_tables_are_one()
         → IsTrue (tables_eq tables others) ↔ (tables ≡ others) }
 {}
 
+/// Values are ordered: links first, by number; then refused submits, by status; then failed ones, by
+/// the order of error codes. They are equal exactly where they are one.
+pub fn values_are_in_order()
+    ensures order { (a b : Value) → kept_value_cmp a b ≡ value_cmp a b }
+    ensures same { (a b : Value) → IsTrue (kept_value_eq a b) ↔ (a ≡ b) }
+    ensures known { (link : LinkId) → IsStrictlySortedBy value_cmp (known_values link) }
+{}
+
 /// The rows of a view stand strictly in order of value, then outcome. Outcomes are in the order of
 /// their table, views in that of theirs, and rows are compared by view, value and outcome.
 pub fn rows_are_in_order()
@@ -108,7 +129,10 @@ pub fn rows_are_in_order()
     ensures order { (a b : Row) → kept_cmp a b ≡ row_cmp a b }
     ensures exact { (a b : Row) → row_cmp a b ≡ Ordering.Equal → a ≡ b }
     ensures outcomes { (request : Header) (asks_receipt : Bool) (answer : Option KeptPdu)
-        → map (λ row. outcome_place row.1) (outcome_table request asks_receipt answer)
-        ++ outcome_place last_outcome ∷ [] ≡ 0 ∷ 1 ∷ 2 ∷ 3 ∷ 4 ∷ 5 ∷ [] }
-    ensures views { map view_place views ≡ 0 ∷ [] }
+        (ambiguous : Bool) (decider : Option ReceivedReceipt)
+        → map (λ row. outcome_place row.1)
+        (outcome_table request asks_receipt answer ambiguous decider)
+        ++ outcome_place last_outcome ∷ []
+        ≡ 0 ∷ 1 ∷ 2 ∷ 3 ∷ 4 ∷ 5 ∷ 6 ∷ 7 ∷ 8 ∷ [] }
+    ensures views { map view_place views ≡ 0 ∷ 1 ∷ [] }
 {}

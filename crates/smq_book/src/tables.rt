@@ -55,6 +55,7 @@ fn value_in(view: View, fact: &Fact) -> Option<Value>
 {
     match view {
         View::Link => Some(Value::Link(fact.link)),
+        View::Error => fact.error.as_ref().map(|error| Value::Error(error.copy())),
     }
 }
 
@@ -97,7 +98,7 @@ impl Tables {
     {
         let row = Row {
             view,
-            value: *value,
+            value: value.copy(),
             outcome,
         };
         self.count_in(&row)
@@ -115,7 +116,7 @@ impl Tables {
 
     /// Counts the fact in a view, if it has a value there.
     fn add_in_view(&mut self, view: View, fact: &Fact) -> Result<(), AllocError>
-        requires { (row : Row) → count_of self.old row + 1 < 2 ^ 64 }
+        requires { (row : Row) → row.view ≡ view → count_of self.old row + 1 < 2 ^ 64 }
         ensures { OnOk result
             (self.new ≡ plus self.old (row_in_lem view fact.now (value_in_lem view fact.now))) }
     {
@@ -130,7 +131,8 @@ impl Tables {
         requires { (row : Row) → count_of self.old row + 1 < 2 ^ 64 }
         ensures { OnOk result (self.new ≡ plus self.old (rows_of_fact fact.now)) }
     {
-        self.add_in_view(View::Link, fact)
+        self.add_in_view(View::Link, fact)?;
+        self.add_in_view(View::Error, fact)
     }
 
     /// The tables of these facts.

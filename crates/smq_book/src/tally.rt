@@ -2,12 +2,15 @@
 ghost use Rattle.std.specs.Prelude.{◌≡◌};
 
 use smq_kit::{LinkId, Moment, Place};
+use smq_receipt::ErrorCode;
 
 /// A way to count submits by a value.
 #[derive(Clone, Copy, Debug, PartialEq, Eq, PartialOrd, Ord)]
 pub enum View {
     /// By the link.
     Link,
+    /// By why it failed.
+    Error,
 }
 
 impl View {
@@ -19,15 +22,51 @@ impl View {
     {
         match self {
             View::Link => "link",
+            View::Error => "error",
+        }
+    }
+}
+
+/// Why a submit failed.
+#[derive(Debug, PartialEq, Eq, PartialOrd, Ord, Drop)]
+pub enum SubmitError {
+    /// By the command_status of its answer.
+    Refused { status: u32 },
+    /// By the error of its deciding receipt.
+    Failed(ErrorCode),
+}
+
+impl SubmitError {
+    /// An equal error. It takes no memory.
+    pub fn copy(&self) -> SubmitError
+        ensures { result ≡ self.now }
+    {
+        match self {
+            SubmitError::Refused { status } => SubmitError::Refused { status: *status },
+            SubmitError::Failed(error) => SubmitError::Failed(error.copy()),
         }
     }
 }
 
 /// What a view counts submits by.
-#[derive(Clone, Copy, Debug, PartialEq, Eq, PartialOrd, Ord)]
+#[derive(Debug, PartialEq, Eq, PartialOrd, Ord, Drop)]
 pub enum Value {
     /// The link, by number.
     Link(LinkId),
+    /// Why it failed.
+    Error(SubmitError),
+}
+
+impl Value {
+    /// An equal value. It takes no memory.
+    pub fn copy(&self) -> Value
+        ensures { result ≡ self.now }
+    {
+        match self {
+            Value::Link(link) => Value::Link(*link),
+            Value::Error(error) => Value::Error(error.copy()),
+        }
+    }
 }
 
 /// What became of a submit. Of those whose condition holds it is the first.
@@ -41,6 +80,12 @@ pub enum Outcome {
     Refused,
     /// Its answer has no message id.
     NoId,
+    /// It is accepted, and another accepted submit of its link has its key.
+    Ambiguous,
+    /// Its deciding receipt says that it was delivered.
+    Delivered,
+    /// It has a deciding receipt with another state.
+    Failed,
     /// It asks for no delivery receipt.
     Unasked,
     /// It waits for its delivery receipt.
@@ -59,6 +104,9 @@ impl Outcome {
             Outcome::Mismatched => "mismatched",
             Outcome::Refused => "refused",
             Outcome::NoId => "noid",
+            Outcome::Ambiguous => "ambiguous",
+            Outcome::Delivered => "delivered",
+            Outcome::Failed => "failed",
             Outcome::Unasked => "unasked",
             Outcome::Open => "open",
         }
@@ -66,7 +114,7 @@ impl Outcome {
 }
 
 /// What is known of one submit.
-#[derive(Clone, Copy, Debug, PartialEq, Eq)]
+#[derive(Debug, PartialEq, Eq, Drop)]
 pub struct Fact {
     /// Where its submit_sm stands.
     pub place: Place,
@@ -76,10 +124,12 @@ pub struct Fact {
     pub link: LinkId,
     /// What became of it.
     pub outcome: Outcome,
+    /// Why it failed, where it was refused or failed.
+    pub error: Option<SubmitError>,
 }
 
 /// Where a count stands: by view, then by value, then by outcome.
-#[derive(Clone, Copy, Debug, PartialEq, Eq, PartialOrd, Ord)]
+#[derive(Debug, PartialEq, Eq, PartialOrd, Ord, Drop)]
 pub struct Row {
     pub view: View,
     pub value: Value,

@@ -1,2 +1,5 @@
 mod counts;
 mod edits;
+mod ids;
+mod receipts;
+mod scripts;

@@ -2,7 +2,7 @@
 use crate::*;
 use bytes::Bytes;
 use smq_frame::Tail;
-use smq_kit::{Dir, LinkId, Moment, Refusal, SessionId};
+use smq_kit::{Dir, Form, LinkId, Moment, Refusal, SessionId};
 use std::alloc::Global;
 use std::test::Fail;
 
@@ -208,6 +208,52 @@ fn another_link_and_an_earlier_moment_are_refused(rt: HostRuntime) -> Result<(),
     let earlier = append(rt.alloc(), &mut book, 1, Dir::FromClient, 999, b"\0");
     assert_eq!(rt; earlier, Err(Refusal::Backward { last }));
     assert!(rt; is_answered_book(&book));
+    Ok(())
+}
+
+fn set_form(
+    alloc: Global,
+    book: &mut Book,
+    link: u32,
+    response: Form,
+    receipt: Form,
+) -> Result<(), Refusal> {
+    let link = LinkId(link);
+    let edit = Edit::SetForm {
+        link,
+        response,
+        receipt,
+    };
+    book.apply(alloc, edit)
+}
+
+/// The link at a place among those whose forms were set: its number, and its forms in responses and in receipts.
+fn forms_at(book: &Book, place: usize) -> Option<(u32, Form, Form)> {
+    let mut links = book.present().forms();
+    for _ in 0..place {
+        links.next()?;
+    }
+    let (number, forms) = links.next()?;
+    Some((*number, forms.response, forms.receipt))
+}
+
+#[test]
+fn forms_are_set_and_set_anew_by_link(rt: HostRuntime) -> Result<(), Fail> {
+    let alloc = rt.alloc();
+    let mut book = Book::new(alloc);
+    set_form(alloc, &mut book, 7, Form::Decimal, Form::Hexadecimal)?;
+    set_form(alloc, &mut book, 3, Form::Hexadecimal, Form::Decimal)?;
+    set_form(alloc, &mut book, 7, Form::Verbatim, Form::Decimal)?;
+    append(alloc, &mut book, 7, Dir::FromClient, 1000, SUBMIT)?;
+    let three = (3, Form::Hexadecimal, Form::Decimal);
+    let seven = (7, Form::Verbatim, Form::Decimal);
+    assert_eq!(rt; forms_at(&book, 0), Some(three));
+    assert_eq!(rt; forms_at(&book, 1), Some(seven));
+    assert_eq!(rt; forms_at(&book, 2), None);
+    let present = book.present();
+    assert_eq!(rt; present.forms_of(LinkId(7)).receipt, Form::Decimal);
+    assert_eq!(rt; present.forms_of(LinkId(4)), Forms::opening());
+    assert_eq!(rt; octets_from_client(&book), 49);
     Ok(())
 }
 

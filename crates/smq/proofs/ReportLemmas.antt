@@ -1,0 +1,24 @@
+-- Error texts are text.
+use Rattle.std.proofs.Common.{◌≡◌, ◌<◌, ℕ, List, [], ◌∷◌, true, arith}
+use Rattle.std.specs.List.{list_all}
+use Rattle.std.specs.Str.{IsAscii, IsUtf8}
+use Rattle.std.proofs.lemmas.Bool.{and_parts}
+use Rattle.std.proofs.lemmas.Bool.Decides.{nat_tests}
+use Rattle.std.proofs.lemmas.Str.{IsUtf8-from_ascii}
+use Rattle.std.proofs.lemmas.Str.Ascii.{IsAscii-nil, IsAscii-cons}
+use Rattle.smq_receipt.specs.ErrorTexts.{is_error_octet, is_error_text}
+
+below_128 : (octet : ℕ) → is_error_octet octet ≡ true → octet < 128
+below_128 octet h = grind (arith, nat_tests, h)
+
+are_ascii : (octets : List ℕ) → list_all is_error_octet octets ≡ true → IsAscii octets
+are_ascii [] h = IsAscii-nil
+are_ascii (octet ∷ octets) h =
+    let parts = and_parts _ _ h in
+    IsAscii-cons octet octets (below_128 octet parts.0) (are_ascii octets parts.1)
+
+-- an error text is text
+pub error_texts_are_text : (octets : List ℕ) → is_error_text octets ≡ true → IsUtf8 octets
+error_texts_are_text octets h =
+    let octets_are : list_all is_error_octet octets ≡ true = grind (arith, nat_tests, h) in
+    IsUtf8-from_ascii octets (are_ascii octets octets_are)
