@@ -1,7 +1,9 @@
-pub mod LawLemmas
 pub mod DecimalLemmas
-pub mod RowLemmas
-pub mod ScriptLemmas
-pub mod StepLemmas
+pub mod NextRecordLemmas
+pub mod OneReadingLemmas
+pub mod OrderLemmas
 pub mod PlayLemmas
 pub mod ReportLemmas
+pub mod RowLemmas
+pub mod ScriptLemmas
+pub mod WordLemmas

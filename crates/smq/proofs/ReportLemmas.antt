@@ -6,7 +6,7 @@ use Rattle.std.proofs.lemmas.Bool.{and_parts}
 use Rattle.std.proofs.lemmas.Bool.Decides.{nat_tests}
 use Rattle.std.proofs.lemmas.Str.{IsUtf8-from_ascii}
 use Rattle.std.proofs.lemmas.Str.Ascii.{IsAscii-nil, IsAscii-cons}
-use Rattle.smq_receipt.specs.ErrorTexts.{is_error_octet, is_error_text}
+use Rattle.smq_kit.specs.ErrorTexts.{is_error_octet, is_error_text}
 
 below_128 : (octet : ℕ) → is_error_octet octet ≡ true → octet < 128
 below_128 octet h = grind (arith, nat_tests, h)

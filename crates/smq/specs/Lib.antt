@@ -1,9 +1,11 @@
 pub mod Decimal
 pub mod Row
 pub mod Script
-pub mod Steps
+pub mod NextRecord
 pub mod Laws
 pub mod Words
 pub mod Play
 pub mod Report
-pub mod Run
+pub mod IsRun
+pub mod Statuses
+pub mod Known

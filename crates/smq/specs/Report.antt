@@ -2,15 +2,15 @@
 use Rattle.std.specs.Prelude.{ℕ, List, [], ◌∷◌, ◌++◌, codes}
 use Rattle.std.specs.List.{flat_map}
 use Rattle.std.specs.Fmt.{decimal}
-use Rattle.smq_receipt.specs.declared.error_code.ErrorCode.{ErrorCode}
-use Rattle.smq_receipt.specs.declared.error_code.ErrorCode.TheVariants as c
-use Rattle.smq_book.specs.declared.tally.SubmitError.{SubmitError}
-use Rattle.smq_book.specs.declared.tally.SubmitError.TheVariants as e
-use Rattle.smq_book.specs.declared.tally.Value.{Value}
-use Rattle.smq_book.specs.declared.tally.Value.TheVariants as v
-use Rattle.smq_book.specs.declared.tally.View.TheVariants.{Link}
-use Rattle.smq_book.specs.Names.{outcome_name}
-use Rattle.smq_book.specs.Tally.{TablesValue, ShownRow, rows_of}
+use Rattle.smq_kit.specs.declared.error_code.ErrorCode.{ErrorCode}
+use Rattle.smq_kit.specs.declared.error_code.ErrorCode.TheVariants as c
+use Rattle.smq_book.specs.declared.counting.tally.SubmitError.{SubmitError}
+use Rattle.smq_book.specs.declared.counting.tally.SubmitError.TheVariants as e
+use Rattle.smq_book.specs.declared.counting.tally.Value.{Value}
+use Rattle.smq_book.specs.declared.counting.tally.Value.TheVariants as v
+use Rattle.smq_book.specs.declared.counting.tally.View.{View}
+use Rattle.smq_book.specs.counting.Names.{outcome_name, view_name}
+use Rattle.smq_book.specs.counting.Tables.{TablesValue, ShownRow, rows_of}
 
 -- the error of a receipt as it is printed: network type and code in decimal, the octets of its text, or a word
 abbrev pub code_text : ErrorCode → List ℕ
@@ -28,10 +28,12 @@ abbrev pub value_text : Value → List ℕ
 value_text (v.Link link) = decimal link.0
 value_text (v.Error error) = error_text error
 
--- a row of the view of links: `view,link,VALUE,OUTCOME,COUNT` and a line feed
-abbrev pub row_text : ShownRow → List ℕ
-row_text row = codes "view,link," ++ value_text row.0 ++ codes "," ++ outcome_name row.1 ++ codes "," ++ decimal row.2 ++ 10 ∷ []
+-- a row of a view as it is printed: `view,VIEW,VALUE,OUTCOME,COUNT` and a line feed
+abbrev pub row_text : View → ShownRow → List ℕ
+row_text view row =
+    codes "view," ++ view_name view ++ codes "," ++ value_text row.0
+    ++ codes "," ++ outcome_name row.1 ++ codes "," ++ decimal row.2 ++ 10 ∷ []
 
--- the rows of the view of links, one after the other
-abbrev pub report_of : TablesValue → List ℕ
-report_of tables = flat_map row_text (rows_of tables Link)
+-- the rows of a view, one after the other
+abbrev pub report_of : View → TablesValue → List ℕ
+report_of view tables = flat_map (row_text view) (rows_of tables view)

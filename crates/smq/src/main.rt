@@ -1,36 +1,30 @@
 //! Plays a script of captured pieces, and reports what became of the messages.
 #![tactic(auto)]
 
+ghost use Rattle.std.specs.IoError.{error_kind};
 ghost use Rattle.std.specs.Prelude.{◌≡◌, ◌≢◌, ◌⊎◌};
+ghost use Rattle.std.specs.declared.io.ErrorKind.TheVariants as io_kind;
 ghost use Rattle.clap.specs.Words.{kind_of};
-ghost use Rattle.smq.specs.Run.{fault_status};
+ghost use Rattle.smq.specs.Statuses.{fault_status};
 
 mod decimal;
+mod input;
 mod laws;
 mod play;
 mod report;
 mod row;
 mod script;
-mod source;
+mod status;
 mod words;
 
 use clap::error::ErrorKind;
-use play::{RunFault, run_link};
+use play::{RunFault, run_query};
+use smq_book::View;
+use status::{BAD_INPUT, DONE, FAULT, NO_MEMORY, ran_status};
 use std::io;
 use std::process::ExitCode;
 use std::rt::Env;
-use words::{own_words, read_order};
-
-// The statuses with which the program ends.
-const DONE: u8 = 0;
-
-const REFUSED: u8 = 1;
-
-const BAD_INPUT: u8 = 2;
-
-const FAULT: u8 = 3;
-
-const NO_MEMORY: u8 = 4;
+use words::{Order, own_words, read_order};
 
 fn main(rt: HostRuntime) -> ExitCode {
     ExitCode::from(run(&rt))
@@ -43,13 +37,16 @@ fn run<R: Env + Input + Print + Eprint + AllocGlobal>(rt: &R) -> u8 {
         Err(error) => return no_words(rt, &error),
     };
     match read_order(rt.alloc(), words.as_slice()) {
-        Ok(_) => query(rt),
+        Ok(Order::Query { view }) => query(rt, view),
         Err(error) => refuse(rt, &error),
     }
 }
 
 /// Tells why the program's words weren't read.
-fn no_words<R: Eprint>(rt: &R, error: &io::Error) -> u8 {
+fn no_words<R: Eprint>(rt: &R, error: &io::Error) -> u8
+    ensures memory { error_kind error.now ≡ io_kind.OutOfMemory → result ≡ 4 }
+    ensures bad_words { error_kind error.now ≢ io_kind.OutOfMemory → result ≡ 2 }
+{
     if error.kind() == io::ErrorKind::OutOfMemory {
         return no_memory(rt);
     }
@@ -57,11 +54,13 @@ fn no_words<R: Eprint>(rt: &R, error: &io::Error) -> u8 {
     BAD_INPUT
 }
 
-/// Answers words that ask for nothing that the program does, or for help.
+/// Tells help where the words ask for it, or why they are refused, and gives the status.
 fn refuse<R: Print + Eprint>(rt: &R, error: &clap::Error) -> u8
-    ensures help { kind_of error.now ≡ ErrorKind.DisplayHelp → (result ≡ DONE) ⊎ (result ≡ FAULT) }
+    ensures help { kind_of error.now ≡ ErrorKind.DisplayHelp
+        → (result ≡ DONE) ⊎ (result ≡ FAULT) }
     ensures memory { kind_of error.now ≡ ErrorKind.OutOfMemory → result ≡ NO_MEMORY }
-    ensures bad_words { kind_of error.now ≢ ErrorKind.OutOfMemory → kind_of error.now ≢ ErrorKind.DisplayHelp
+    ensures bad_words { kind_of error.now ≢ ErrorKind.OutOfMemory
+        → kind_of error.now ≢ ErrorKind.DisplayHelp
         → kind_of error.now ≢ ErrorKind.DisplayVersion → result ≡ BAD_INPUT }
 {
     if error.kind() == ErrorKind::OutOfMemory {
@@ -77,18 +76,14 @@ fn refuse<R: Print + Eprint>(rt: &R, error: &clap::Error) -> u8
     }
 }
 
-/// Plays the script, and tells what was refused.
-fn query<R: Input + Print + Eprint + AllocGlobal>(rt: &R) -> u8 {
-    match run_link(rt, &mut rt.reader(), &mut io::writer(rt)) {
+/// Plays the script, writes the view, and tells what was refused.
+fn query<R: Input + Print + Eprint + AllocGlobal>(rt: &R, view: View) -> u8 {
+    match run_query(rt, view, &mut rt.reader(), &mut io::writer(rt)) {
         Ok(ran) => {
             for (row, refusal) in &ran.refused {
                 let _ = eprintln!(rt; "row {row}: {refusal}");
             }
-            if ran.refused.is_empty() {
-                DONE
-            } else {
-                REFUSED
-            }
+            ran_status(ran.refused.as_slice())
         }
         Err(fault) => fail(rt, fault),
     }

@@ -1,17 +1,17 @@
-//! A script is played on a book, and the view of links is written.
+//! A script is played on a book, and a view is written.
 ghost use Rattle.std.specs.Prelude.{◌≡◌, ◌≢◌, ◌++◌, IfOk, IfErr, IfSome, OnOk, Some, string_bytes};
 ghost use Rattle.std.specs.Io.KnownBytes.{Keeps};
-ghost use Rattle.smq_book.specs.Replies.{reply};
-ghost use Rattle.smq_book.specs.Scratch.{scratch};
-ghost use Rattle.smq_book.specs.Steps.{step};
+ghost use Rattle.smq_book.specs.present.Replies.{reply};
+ghost use Rattle.smq_book.specs.whole.Scratch.{scratch};
+ghost use Rattle.smq_book.specs.present.Steps.{step};
+ghost use Rattle.smq.specs.IsRun.{IsRun, TellsRun};
 ghost use Rattle.smq.specs.Play.{after_row, played, refusal_of, refused_rows, told};
 ghost use Rattle.smq.specs.Report.{report_of};
-ghost use Rattle.smq.specs.Run.{IsRun, TellsRun};
 
-use crate::report::link_report;
+use crate::report::view_report;
 use crate::row::PieceRow;
 use crate::script::{LoadFault, read_script};
-use smq_book::{Batch, Book, Edit, prepare};
+use smq_book::{Batch, Book, Edit, View, prepare};
 use smq_kit::Refusal;
 use std::alloc::{AllocError, Global};
 use std::io::{Read, Write};
@@ -36,15 +36,16 @@ pub enum RunFault {
     Memory,
 }
 
-/// Reads a script, plays its rows in order on a new book, and writes the rows of the view of links. A refused row is
-/// skipped. Nothing is written unless all rows can be read and memory is there.
-pub fn run_link<RT: AllocGlobal, R: Read, W: Write>(
+/// Reads a script, plays its rows in order on a new book, and writes the rows of a view. A refused row is skipped.
+/// Nothing is written unless all rows can be read and memory is there.
+pub fn run_query<RT: AllocGlobal, R: Read, W: Write>(
     rt: &RT,
+    view: View,
     reader: &mut R,
     writer: &mut W,
 ) -> Result<Ran, RunFault>
     ensures ok { IfOk result (λ ran. IfSome (R.remaining reader.old)
-        (IsRun ran.refused.items (W.contents writer.old) (W.contents writer.new))) }
+        (IsRun view ran.refused.items (W.contents writer.old) (W.contents writer.new))) }
     ensures bad_row { IfErr result (λ fault. IfSome (R.remaining reader.old) (TellsRun fault)) }
     ensures unwritten { IfErr result (λ fault. fault ≢ RunFault.Write
         → Keeps (W.contents writer.old) (W.contents writer.new)) }
@@ -55,7 +56,7 @@ pub fn run_link<RT: AllocGlobal, R: Read, W: Write>(
         Err(LoadFault::Read) => return Err(RunFault::Read),
         Err(LoadFault::Memory) => return Err(RunFault::Memory),
     };
-    let Ok((text, refused)) = report_rows(rt.alloc(), rows) else {
+    let Ok((text, refused)) = report_rows(rt.alloc(), view, rows) else {
         return Err(RunFault::Memory);
     };
     match writer.write_all(text.as_bytes()) {
@@ -64,23 +65,25 @@ pub fn run_link<RT: AllocGlobal, R: Read, W: Write>(
     }
 }
 
-/// The report of the rows, and those that are refused.
+/// The report of a view of what the rows leave present, and the rows that are refused.
 fn report_rows(
     alloc: Global,
+    view: View,
     rows: Vec<PieceRow>,
 ) -> Result<(String, Vec<(u64, Refusal)>), AllocError>
-    ensures text { IfOk result (λ made. string_bytes made.0 ≡ report_of (scratch (played rows.items))) }
+    ensures text { IfOk result (λ made.
+        string_bytes made.0 ≡ report_of view (scratch (played rows.items))) }
     ensures refused { IfOk result (λ made. made.1.items ≡ refused_rows rows.items) }
 {
     let (book, refused) = play(alloc, rows)?;
-    let tables = book.tables(alloc)?;
-    let text = link_report(alloc, &tables)?;
+    let tables = book.tables()?;
+    let text = view_report(alloc, view, &tables)?;
     Ok((text, refused))
 }
 
 /// Plays the rows in order on a new book.
 fn play(alloc: Global, rows: Vec<PieceRow>) -> Result<(Book, Vec<(u64, Refusal)>), AllocError>
-    ensures present { IfOk result (λ made. made.0 ≡ played rows.items) }
+    ensures present { IfOk result (λ made. made.0.present ≡ played rows.items) }
     ensures refused { IfOk result (λ made. made.1.items ≡ refused_rows rows.items) }
 {
     let mut book = Book::new(alloc);
@@ -101,9 +104,9 @@ fn play_next(
     number: u64,
     row: PieceRow,
 ) -> Result<(), AllocError>
-    ensures present { OnOk result (book.new ≡ after_row book.old row) }
+    ensures present { OnOk result (book.new.present ≡ after_row book.old.present row) }
     ensures noted { OnOk result
-        (refused.new.items ≡ refused.old.items ++ told number (refusal_of book.old row)) }
+        (refused.new.items ≡ refused.old.items ++ told number (refusal_of book.old.present row)) }
 {
     if let Some(refusal) = play_row(alloc, book, row)? {
         refused.push((number, refusal))?;
@@ -113,8 +116,8 @@ fn play_next(
 
 /// Puts a row's octets after their direction, unless it is refused.
 fn play_row(alloc: Global, book: &mut Book, row: PieceRow) -> Result<Option<Refusal>, AllocError>
-    ensures { IfOk result (λ refusal. (refusal ≡ refusal_of book.old row)
-        × (book.new ≡ after_row book.old row)) }
+    ensures { IfOk result (λ refusal. (refusal ≡ refusal_of book.old.present row)
+        × (book.new.present ≡ after_row book.old.present row)) }
 {
     let tail = book.tail(row.session, row.dir);
     let PieceRow {
@@ -125,17 +128,17 @@ fn play_row(alloc: Global, book: &mut Book, row: PieceRow) -> Result<Option<Refu
         octets,
     } = row;
     match prepare(alloc, link, session, dir, tail, moment, octets) {
-        Ok(batch) => append(alloc, book, batch),
+        Ok(batch) => append(book, batch),
         Err(refusal) => unless_memory(refusal),
     }
 }
 
 /// Appends a batch, unless it is refused.
-fn append(alloc: Global, book: &mut Book, batch: Batch) -> Result<Option<Refusal>, AllocError>
-    ensures { IfOk result (λ refusal. (refusal ≡ reply book.old (Edit.Append batch))
-        × (book.new ≡ step book.old (Edit.Append batch))) }
+fn append(book: &mut Book, batch: Batch) -> Result<Option<Refusal>, AllocError>
+    ensures { IfOk result (λ refusal. (refusal ≡ reply book.old.present (Edit.Append batch))
+        × (book.new.present ≡ step book.old.present (Edit.Append batch))) }
 {
-    match book.apply(alloc, Edit::Append { batch }) {
+    match book.apply(Edit::Append { batch }) {
         Ok(()) => Ok(None),
         Err(refusal) => unless_memory(refusal),
     }

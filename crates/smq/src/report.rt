@@ -3,17 +3,17 @@ ghost use Rattle.std.specs.Prelude.{◌≡◌, ◌++◌, IfOk, OnOk, string_byte
 ghost use Rattle.smq.specs.Report.{code_text, error_text, report_of, row_text, value_text};
 
 use smq_book::{Outcome, SubmitError, Tables, Value, View};
-use smq_receipt::{ErrorCode, ErrorText};
+use smq_kit::{ErrorCode, ErrorText};
 use std::alloc::{AllocError, Global};
 use std::str;
 
-/// The rows of the view of links, a line each.
-pub fn link_report(alloc: Global, tables: &Tables) -> Result<String, AllocError>
-    ensures { IfOk result (λ text. string_bytes text ≡ report_of tables.now) }
+/// The rows of a view, a line each.
+pub fn view_report(alloc: Global, view: View, tables: &Tables) -> Result<String, AllocError>
+    ensures { IfOk result (λ text. string_bytes text ≡ report_of view tables.now) }
 {
     let mut text = String::new(alloc);
-    for (value, outcome, count) in tables.rows(View::Link) {
-        push_line(&mut text, value, outcome, count)?;
+    for (value, outcome, count) in tables.rows(view) {
+        push_line(&mut text, view, value, outcome, count)?;
     }
     Ok(text)
 }
@@ -21,13 +21,16 @@ pub fn link_report(alloc: Global, tables: &Tables) -> Result<String, AllocError>
 /// Puts a row's line after the text.
 fn push_line(
     text: &mut String,
+    view: View,
     value: &Value,
     outcome: Outcome,
     count: u64,
 ) -> Result<(), AllocError>
-    ensures { OnOk result (string_bytes text.new ≡ string_bytes text.old ++ row_text (value.now, outcome, count)) }
+    ensures { OnOk result (string_bytes text.new
+        ≡ string_bytes text.old ++ row_text view (value.now, outcome, count)) }
 {
-    text.push_str("view,link,")?;
+    let view = view.name();
+    write!(text, "view,{view},")?;
     push_value(text, value)?;
     let name = outcome.name();
     writeln!(text, ",{name},{count}")

@@ -4,10 +4,10 @@ ghost use Rattle.std.specs.Prelude.{IfOk, IfErr, IfSome, OnOk, length, vec_len};
 ghost use Rattle.std.specs.Io.KnownBytes.{IsAtEnd};
 ghost use Rattle.csv.specs.Records.{fields_of};
 ghost use Rattle.smq.specs.Script.{AreRecordsOf, IfJudged, IsScript, Tells};
-ghost use Rattle.smq.specs.Steps.{AddsRow, HasGiven, TellsNext};
+ghost use Rattle.smq.specs.NextRecord.{AddsRow, HasGiven, TellsNext};
 
+use crate::input::{InputFault, MOST_OCTETS, read_whole};
 use crate::row::{PieceRow, read_row};
-use crate::source::{MOST_OCTETS, SourceFault, read_whole};
 use csv::{ByteRecord, ErrorKind, Reader, ReaderBuilder};
 use std::alloc::Global;
 use std::io::Read;
@@ -37,8 +37,8 @@ pub fn read_script<R: Read>(alloc: Global, reader: &mut R) -> Result<Vec<PieceRo
 {
     match read_whole(alloc, reader) {
         Ok(text) => rows_of(alloc, text.as_slice()),
-        Err(SourceFault::Read) => Err(LoadFault::Read),
-        Err(SourceFault::Memory) => Err(LoadFault::Memory),
+        Err(InputFault::Read) => Err(LoadFault::Read),
+        Err(InputFault::Memory) => Err(LoadFault::Memory),
     }
 }
 

@@ -1,4 +1,6 @@
 //! What no clause says.
-mod reading;
+mod faults;
 mod reporting;
 mod running;
+mod scripts;
+mod words;

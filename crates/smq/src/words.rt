@@ -1,10 +1,12 @@
 //! The words of the program.
 ghost use Rattle.std.specs.Prelude.{◌≡◌, IfOk, map};
-ghost use Rattle.clap.specs.Words.{app_of};
+ghost use Rattle.std.specs.Prelude.{Some, option_map};
+ghost use Rattle.smq_book.specs.counting.Names.{view_name};
+ghost use Rattle.clap.specs.Words.{app_of, subcommand_rows_of};
 ghost use Rattle.clap.specs.declared.builder.value_parser.ValueParser.{ValueParser};
-ghost use Rattle.smq.specs.Words.{AnswersWords, TakesViews, program};
+ghost use Rattle.smq.specs.Words.{TakesWords, AsksFor, HasOrder, TakesViews, program};
 
-use clap::{Arg, ArgAction, Command, Error};
+use clap::{Arg, ArgAction, ArgMatches, Command, Error};
 use smq_book::View;
 use std::alloc::{AllocError, Global};
 use std::convert::AsStr;
@@ -23,11 +25,42 @@ static NAMES: [&str; 1] = ["link"];
 /// What the program's words, without its own name, ask for. Where they ask for nothing that it does, the error has
 /// `clap`'s text; a request for help is an error of its own kind.
 pub fn read_order<S: AsStr>(alloc: Global, words: &[S]) -> Result<Order, Error>
-    ensures { AnswersWords result (map S.text words.now) }
+    ensures words { TakesWords result (map S.text words.now) }
+    ensures order { IfOk result (HasOrder (map S.text words.now)) }
 {
     let command = command(alloc)?;
-    command.try_get_matches_from(words)?;
-    Ok(Order::Query { view: View::Link })
+    let matches = command.try_get_matches_from(words)?;
+    Ok(order_in(&matches))
+}
+
+/// What the matches of the words ask for.
+fn order_in(matches: &ArgMatches) -> Order
+    ensures { (order : Order) → AsksFor (subcommand_rows_of matches.now) order → result ≡ order }
+{
+    let name = match matches.subcommand() {
+        Some((_, entered)) => entered.get_str("NAME"),
+        None => None,
+    };
+    Order::Query {
+        view: named_view(name),
+    }
+}
+
+/// The view of a name. `clap` lets no name through but those of views.
+fn named_view(name: Option<&str>) -> View
+    ensures { (view : View) → option_map (λ text. text.now) name.entry ≡ Some (view_name view)
+        → result ≡ view }
+{
+    match name {
+        Some(text) => {
+            if text == "error" {
+                View::Error
+            } else {
+                View::Link
+            }
+        }
+        None => View::Link,
+    }
 }
 
 fn command<'a>(alloc: Global) -> Result<Command<'a>, AllocError>
@@ -42,7 +75,8 @@ fn command<'a>(alloc: Global) -> Result<Command<'a>, AllocError>
     let query = Command::new(alloc, "query")
         .about("Writes one view of the report")
         .arg(name)?;
-    Command::new(alloc, "smq")
+    let program = Command::new(alloc, "smq").bin_name("smq")?;
+    program
         .about(
             "Reports what became of messages, from a script of captured SMPP 3.4 sessions on standard input",
         )

@@ -12,13 +12,15 @@ use Rattle.smq_kit.specs.declared.place.Dir.{Dir}
 use Rattle.smq_kit.specs.declared.place.Dir.TheVariants.{FromClient, FromCentre}
 use Rattle.smq_kit.specs.declared.refusal.Refusal.{Refusal}
 use Rattle.smq_frame.specs.Stream.{Octet, handed_in}
-use Rattle.smq_book.specs.declared.edit.Edit.{Edit}
-use Rattle.smq_book.specs.declared.edit.Edit.TheVariants.{Append, SetForm}
-use Rattle.smq_book.specs.declared.session.Session.{Session}
-use Rattle.smq_book.specs.Batch.{BatchValue}
-use Rattle.smq_book.specs.Present.{PresentValue, session_of, direction, octets_in, octets_of, set_forms_of}
-use Rattle.smq_book.specs.Replies.{reply}
-use Rattle.smq_book.specs.Steps.{session_with, session_after, change, step_unless, step, Appends, SetsForm}
+use Rattle.smq_book.specs.declared.present.edit.Edit.{Edit}
+use Rattle.smq_book.specs.declared.present.edit.Edit.TheVariants.{Append, SetForm}
+use Rattle.smq_book.specs.declared.present.forms.Forms.{Forms}
+use Rattle.smq_book.specs.declared.present.session.Session.{Session}
+use Rattle.smq_book.specs.present.Batch.{BatchValue}
+use Rattle.smq_book.specs.present.Present.{PresentValue, session_of, direction, octets_in, octets_of}
+use Rattle.smq_book.specs.present.Settings.{set_forms_of}
+use Rattle.smq_book.specs.present.Replies.{reply}
+use Rattle.smq_book.specs.present.Steps.{session_with, session_after, change, step_unless, step, Appends, SetsForm}
 use Rattle.smq_book.proofs.Answered.{new_session}
 
 -- ---- the session of a batch
@@ -74,14 +76,14 @@ appends-change p b =
       other_direction = λ d ne. ap (octets_in d) here ∙ after-other (session_of p b.session.0) b d ne;
       link = ap (option_map (λ (s : Session). s.link)) here ∙ ap Some (after-link (session_of p b.session.0) b);
       elsewhere = λ q ne. get-elsewhere p.sessions b.session.0 q (session_after (session_of p b.session.0) b) ne;
-      forms = refl;
+      rest = refl;
     }
 
 pub sets-change : (p : PresentValue) (link : LinkId) (response receipt : Form) → SetsForm p (change p (SetForm link response receipt)) link response receipt
 sets-change p link response receipt = record {
-  there = get-here p.forms link.0 (record { response = response; receipt = receipt });
-  elsewhere = λ q ne. get-elsewhere p.forms link.0 q (record { response = response; receipt = receipt }) ne;
-  sessions = refl;
+  there = get-here p.settings.forms link.0 (record { response = response; receipt = receipt });
+  elsewhere = λ q ne. get-elsewhere p.settings.forms link.0 q (record { response = response; receipt = receipt }) ne;
+  rest = refl;
 }
 
 -- ---- no other change
@@ -124,20 +126,20 @@ same_at p q r b one two n =
 pub appends-alone : (p q : PresentValue) (b : BatchValue) → Appends p q b → q ≡ change p (Append b)
 appends-alone p q b one =
     let same : q.sessions ≡ (change p (Append b)).sessions = same_map nat_cmp_total nat_cmp-IsAntisymmetric _ _ (same_at p q (change p (Append b)) b one (appends-change p b)) in
-    λ i. record { sessions = same i; forms = one.forms i }
+    one.rest ∙ ap (λ (m : FinMap nat_cmp Session). record p { sessions = m }) same
 
-same_forms : (p q r : PresentValue) (link : LinkId) (response receipt : Form) → SetsForm p q link response receipt → SetsForm p r link response receipt → (n : ℕ) → set_forms_of q n ≡ set_forms_of r n
+same_forms : (p q r : PresentValue) (link : LinkId) (response receipt : Form) → SetsForm p q link response receipt → SetsForm p r link response receipt → (n : ℕ) → set_forms_of q.settings n ≡ set_forms_of r.settings n
 same_forms p q r link response receipt one two n =
     elim (either_number n link.0 (nat_cmp n link.0) refl) [
-      | inl is ↦ subst (λ (m : ℕ). set_forms_of q m ≡ set_forms_of r m) (sym is) (one.there ∙ sym two.there)
+      | inl is ↦ subst (λ (m : ℕ). set_forms_of q.settings m ≡ set_forms_of r.settings m) (sym is) (one.there ∙ sym two.there)
       | inr ne ↦ one.elsewhere n ne ∙ sym (two.elsewhere n ne)
     ]
 
 pub sets-alone : (p q : PresentValue) (link : LinkId) (response receipt : Form) → SetsForm p q link response receipt → q ≡ change p (SetForm link response receipt)
 sets-alone p q link response receipt one =
     let new = change p (SetForm link response receipt) in
-    let same : q.forms ≡ new.forms = same_map nat_cmp_total nat_cmp-IsAntisymmetric _ _ (same_forms p q new link response receipt one (sets-change p link response receipt)) in
-    λ i. record { sessions = one.sessions i; forms = same i }
+    let same : q.settings.forms ≡ new.settings.forms = same_map nat_cmp_total nat_cmp-IsAntisymmetric _ _ (same_forms p q new link response receipt one (sets-change p link response receipt)) in
+    one.rest ∙ ap (λ (m : FinMap nat_cmp Forms). record p { settings = record p.settings { forms = m } }) same
 
 pub step-made : (p : PresentValue) (e : Edit) → reply p e ≡ None → step p e ≡ change p e
 step-made p e h = ap (λ (o : Option Refusal). step_unless o p e) h

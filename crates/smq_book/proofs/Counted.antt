@@ -6,8 +6,8 @@ use Rattle.std.specs.List.{flat_map, list_any}
 use Rattle.std.specs.declared.cmp.Ordering.{Ordering}
 use Rattle.std.specs.Ordering.{eq_by_cmp}
 use Rattle.std.specs.Cmp.{IsTotalOrder}
-use Rattle.smq_book.specs.Tally.{positive}
-use Rattle.smq_book.proofs.Ordered.{is_equal}
+use Rattle.smq_book.specs.counting.Tables.{positive}
+use Rattle.smq_kit.proofs.Comparisons.{is_equal}
 use Rattle.std.specs.FinMap.{FinMap, IsAntisymmetric, get, insert, from_entries, find, get-from_entries, get-insert, same_map}
 
 abbrev above_zero : ℕ → Bool

@@ -9,13 +9,13 @@ use Rattle.std.proofs.lemmas.Slice.Eq.{slice_eq-Decides}
 use Rattle.smq_kit.specs.declared.names.LinkId.{LinkId}
 use Rattle.smq_kit.specs.declared.refusal.Refusal.{Refusal}
 use Rattle.smq_frame.specs.Tail.{TailValue, tails_equal}
-use Rattle.smq_book.specs.declared.edit.Edit.TheVariants.{Append}
-use Rattle.smq_book.specs.declared.session.Session.{Session}
-use Rattle.smq_book.specs.Answers.{refused_if, first_of}
-use Rattle.smq_book.specs.Batch.{BatchValue}
-use Rattle.smq_book.specs.Present.{PresentValue, session_of, octets_of, tail_in}
-use Rattle.smq_book.specs.Replies.{other_link, out_of_step, backward, reply, GoesAfter}
-use Rattle.smq_book.specs.Stream.{last_moment}
+use Rattle.smq_book.specs.declared.present.edit.Edit.TheVariants.{Append}
+use Rattle.smq_book.specs.declared.present.session.Session.{Session}
+use Rattle.smq_book.specs.present.Refusals.{refused_if, first_of}
+use Rattle.smq_book.specs.present.Batch.{BatchValue}
+use Rattle.smq_book.specs.present.Present.{PresentValue, session_of, octets_of, tail_in}
+use Rattle.smq_book.specs.present.Replies.{other_link, out_of_step, backward, reply, GoesAfter}
+use Rattle.smq_book.specs.present.Stream.{last_moment}
 
 -- ---- the test of tails
 

@@ -7,12 +7,12 @@ use Rattle.smq_frame.specs.Frame.{FrameValue}
 use Rattle.smq_frame.specs.Framing.{is_bad, rest_of}
 use Rattle.smq_frame.specs.Stream.{Octet, values, handed_in, stream_frames, frames_after}
 use Rattle.smq_frame.specs.Tail.{TailValue, tail_from, tail_of, tail_after}
-use Rattle.smq_frame.proofs.Streams.{stream_grows_lem, stamp_there, stream_frames-nil}
+use Rattle.smq_frame.proofs.Streams.{stream_grows, stamp_there, stream_frames-nil}
 use Rattle.smq_pdu.specs.Placed.{PlacedPdu, placed_pdu}
-use Rattle.smq_book.specs.declared.kept.KeptPdu.{KeptPdu}
-use Rattle.smq_book.specs.declared.stream.Piece.{Piece}
-use Rattle.smq_book.specs.Kept.{kept_pdu, kept_pdus}
-use Rattle.smq_book.specs.Stream.{stream_of, last_moment}
+use Rattle.smq_book.specs.declared.present.kept.KeptPdu.{KeptPdu}
+use Rattle.smq_book.specs.declared.present.stream.Piece.{Piece}
+use Rattle.smq_book.specs.present.Kept.{kept_pdu, kept_pdus}
+use Rattle.smq_book.specs.present.Stream.{stream_of, last_moment}
 
 -- what is kept of frames
 abbrev pub kept_frames : List FrameValue → List KeptPdu
@@ -25,10 +25,10 @@ pub stream_of-push : (pieces : List Piece) (p : Piece) → stream_of (pieces ++ 
 stream_of-push pieces p = flat_map-append (λ (q : Piece). handed_in q.moment q.octets) pieces (p ∷ []) ∙ ap (λ (t : List Octet). stream_of pieces ++ t) (append-nil (handed_in p.moment p.octets))
 
 pub tail-grown : (s : List Octet) (m : ℕ) (octets : List ℕ) → tail_of (values (s ++ handed_in m octets)) ≡ tail_after (tail_of (values s)) octets
-tail-grown s m octets = let g = stream_grows_lem s m octets in g.tail
+tail-grown s m octets = let g = stream_grows s m octets in g.tail
 
 pub pdus-grown : (s : List Octet) (m : ℕ) (octets : List ℕ) → kept_pdus (s ++ handed_in m octets) ≡ kept_pdus s ++ kept_frames (frames_after (tail_of (values s)) m octets)
-pdus-grown s m octets = let g = stream_grows_lem s m octets in ap kept_frames g.frames ∙ kept_frames-append (stream_frames s) (frames_after (tail_of (values s)) m octets)
+pdus-grown s m octets = let g = stream_grows s m octets in ap kept_frames g.frames ∙ kept_frames-append (stream_frames s) (frames_after (tail_of (values s)) m octets)
 
 pub kept_pdus-nil : kept_pdus [] ≡ []
 kept_pdus-nil = ap kept_frames stream_frames-nil

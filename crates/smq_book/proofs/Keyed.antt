@@ -4,11 +4,11 @@ use Rattle.std.specs.Prelude.{unwrap_or}
 use Rattle.std.specs.Map.{lookup}
 use Rattle.std.specs.BTreeMap.{BTreeMap, is_at}
 use Rattle.std.specs.FinMap.{get, insert, from_entries}
-use Rattle.smq_book.specs.declared.link_key.LinkKey.{LinkKey}
-use Rattle.smq_book.specs.LinkKeys.{link_key_cmp, kept_key_cmp, by_key}
-use Rattle.smq_book.specs.Matches.{number_kept}
-use Rattle.smq_book.proofs.LinkKeyOrders.{link_key-order, link_keys_total, link_keys_exact}
-use Rattle.smq_book.proofs.Ordered as ordered
+use Rattle.smq_kit.specs.declared.link_key.LinkKey.{LinkKey}
+use Rattle.smq_kit.specs.LinkKeys.{link_key_cmp, kept_key_cmp, by_key}
+use Rattle.smq_book.specs.within.Accepted.{number_kept}
+use Rattle.smq_kit.proofs.LinkKeyOrders.{link_key-order, link_keys_total, link_keys_exact}
+use Rattle.smq_kit.proofs.Ordered as ordered
 
 module _ {X : Type 0} where
   -- what is looked up at a key

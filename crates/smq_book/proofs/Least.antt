@@ -1,106 +1,104 @@
--- The receipt that is found as the least is one, and comes after none.
-use Rattle.std.proofs.Common.{◌≡◌, ℕ, zero, suc, Bool, true, false, ◌||◌, List, [], ◌∷◌, Option, Some, refl, sym, ap, ◌∙◌, subst}
+-- The least of a list, by a total order: it is one of the list, and comes after none of it.
+use Rattle.std.proofs.Common.{◌≡◌, ℕ, zero, suc, Bool, true, false, ◌||◌, List, [], ◌∷◌, Option, Some, refl, ap, ◌∙◌, subst}
 use Rattle.std.specs.Prelude.{slice_get}
-use Rattle.std.specs.List.{fold, list_any}
+use Rattle.std.specs.List.{AllByRecursion, fold, list_any, reduce}
 use Rattle.std.specs.declared.cmp.Ordering.{Ordering}
 use Rattle.std.specs.declared.cmp.Ordering.TheVariants.{Less, Equal, Greater}
-use Rattle.std.specs.Ordering.{nat_cmp, is_gt, min_by_ordering, ordering_reverse}
+use Rattle.std.specs.Ordering.{is_gt, min_by_ordering, ordering_reverse}
 use Rattle.std.specs.Cmp.{IsTotalOrder, tied_itself, upto}
-use Rattle.std.proofs.lemmas.Cmp.{on_total, then_total, nat_cmp_total}
-use Rattle.smq_kit.specs.declared.place.Dir.{Dir}
-use Rattle.smq_kit.specs.declared.place.Dir.TheVariants.{FromClient, FromCentre}
-use Rattle.smq_kit.specs.Orders.{dir_cmp, place_cmp}
-use Rattle.smq_book.specs.Receipts.{ReceivedReceipt, IsLeast, earlier, least_receipt, receipt_cmp}
 
-dir_number : Dir → ℕ
-dir_number FromClient = 0
-dir_number FromCentre = 1
+module _ {X : Type 0} (R : X → X → Ordering) (o : IsTotalOrder R) where
+  abbrev pub lesser : X → X → X
+  lesser a b = min_by_ordering (R a b) a b
 
-dirs_by_number : (a b : Dir) → dir_cmp a b ≡ nat_cmp (dir_number a) (dir_number b)
-unfolding dir_number
-dirs_by_number FromClient FromClient = refl
-dirs_by_number FromClient FromCentre = refl
-dirs_by_number FromCentre FromClient = refl
-dirs_by_number FromCentre FromCentre = refl
+  -- one of a list stands at this place, and comes after none of it
+  pub record IsLeast (xs : List X) (x : X) : Type 0 where
+    pub place : ℕ
+    pub among : slice_get xs place ≡ Some x
+    pub after_none : list_any (λ y. is_gt (R x y)) xs ≡ false
 
-dirs_total : IsTotalOrder dir_cmp
-dirs_total = subst IsTotalOrder (sym (λ i a b. dirs_by_number a b i)) (on_total dir_number nat_cmp_total)
+  -- ---- the lesser of two comes after neither
 
-places_total : IsTotalOrder place_cmp
-places_total = then_total (on_total (λ p. p.session.0) nat_cmp_total) (then_total (on_total (λ p. p.dir) dirs_total) (on_total (λ p. p.offset) nat_cmp_total))
+  itself : (a : X) → is_gt (R a a) ≡ false
+  itself a = ap is_gt (tied_itself o a)
 
-receipts_total : IsTotalOrder receipt_cmp
-receipts_total = then_total (on_total (λ r. r.moment) nat_cmp_total) (on_total (λ r. r.place) places_total)
+  first_by : (a b : X) (r : Ordering) → R a b ≡ r → is_gt (R (min_by_ordering r a b) a) ≡ false
+  first_by a b Less e = itself a
+  first_by a b Equal e = itself a
+  first_by a b Greater e = ap is_gt (o.antisymm b a ∙ ap ordering_reverse e)
 
--- ---- the earlier of two comes after neither
+  second_by : (a b : X) (r : Ordering) → R a b ≡ r → is_gt (R (min_by_ordering r a b) b) ≡ false
+  second_by a b Less e = ap is_gt e
+  second_by a b Equal e = ap is_gt e
+  second_by a b Greater e = itself b
 
-itself : (a : ReceivedReceipt) → is_gt (receipt_cmp a a) ≡ false
-itself a = ap is_gt (tied_itself receipts_total a)
+  -- ---- the least of many
 
-first_by : (a b : ReceivedReceipt) (o : Ordering) → receipt_cmp a b ≡ o → is_gt (receipt_cmp (min_by_ordering o a b) a) ≡ false
-first_by a b Less e = itself a
-first_by a b Equal e = itself a
-first_by a b Greater e = ap is_gt (receipts_total.antisymm b a ∙ ap ordering_reverse e)
+  both : (a b : Bool) → a ≡ false → b ≡ false → (a || b) ≡ false
+  both a b p q = rw (p, q) refl
 
-second_by : (a b : ReceivedReceipt) (o : Ordering) → receipt_cmp a b ≡ o → is_gt (receipt_cmp (min_by_ordering o a b) b) ≡ false
-second_by a b Less e = ap is_gt e
-second_by a b Equal e = ap is_gt e
-second_by a b Greater e = itself b
+  left : (a b : Bool) → (a || b) ≡ false → a ≡ false
+  left true b e = absurd cc
+  left false b e = refl
 
--- ---- the least of many
+  right : (a b : Bool) → (a || b) ≡ false → b ≡ false
+  right true b e = absurd cc
+  right false b e = e
 
-both : (a b : Bool) → a ≡ false → b ≡ false → (a || b) ≡ false
-both a b p q = rw (p, q) refl
+  abbrev after_any : X → List X → Bool
+  after_any d xs = list_any (λ y. is_gt (R d y)) xs
 
-left : (a b : Bool) → (a || b) ≡ false → a ≡ false
-left true b e = absurd cc
-left false b e = refl
+  after_none : (x : X) (xs : List X) → after_any (fold lesser x xs) (x ∷ xs) ≡ false
+  after_none x [] = both (is_gt (R x x)) false (itself x) refl
+  after_none x (y ∷ xs) =
+      let d : X = fold lesser (lesser x y) xs in
+      let so : after_any d (lesser x y ∷ xs) ≡ false = after_none (lesser x y) xs in
+      let before : is_gt (R d (lesser x y)) ≡ false = left (is_gt (R d (lesser x y))) (after_any d xs) so in
+      let not_x : is_gt (R d x) ≡ false = upto o d (lesser x y) x before (first_by x y (R x y) refl) in
+      let not_y : is_gt (R d y) ≡ false = upto o d (lesser x y) y before (second_by x y (R x y) refl) in
+      both (is_gt (R d x)) (after_any d (y ∷ xs)) not_x (both (is_gt (R d y)) (after_any d xs) not_y (right (is_gt (R d (lesser x y))) (after_any d xs) so))
 
-right : (a b : Bool) → (a || b) ≡ false → b ≡ false
-right true b e = absurd cc
-right false b e = e
+  -- where it stands
+  abbrev At : List X → X → Type 0
+  At xs d = (place : ℕ) × (slice_get xs place ≡ Some d)
 
-abbrev least_from : ReceivedReceipt → List ReceivedReceipt → ReceivedReceipt
-least_from x rs = fold earlier x rs
+  behind : (x d : X) (xs : List X) → At xs d → At (x ∷ xs) d
+  behind x d xs at = (suc at.0, at.1)
 
-abbrev after_any : ReceivedReceipt → List ReceivedReceipt → Bool
-after_any d rs = list_any (λ r. is_gt (receipt_cmp d r)) rs
+  skipping : (x y d : X) (xs : List X) (place : ℕ) → slice_get (x ∷ xs) place ≡ Some d → At (x ∷ y ∷ xs) d
+  skipping x y d xs zero e = (zero, e)
+  skipping x y d xs (suc n) e = (suc (suc n), e)
 
-after_none : (x : ReceivedReceipt) (rs : List ReceivedReceipt) → after_any (least_from x rs) (x ∷ rs) ≡ false
-after_none x [] = both (is_gt (receipt_cmp x x)) false (itself x) refl
-after_none x (y ∷ rs) =
-    let d : ReceivedReceipt = least_from (earlier x y) rs in
-    let so : after_any d (earlier x y ∷ rs) ≡ false = after_none (earlier x y) rs in
-    let before : is_gt (receipt_cmp d (earlier x y)) ≡ false = left (is_gt (receipt_cmp d (earlier x y))) (after_any d rs) so in
-    let not_x : is_gt (receipt_cmp d x) ≡ false = upto receipts_total d (earlier x y) x before (first_by x y (receipt_cmp x y) refl) in
-    let not_y : is_gt (receipt_cmp d y) ≡ false = upto receipts_total d (earlier x y) y before (second_by x y (receipt_cmp x y) refl) in
-    both (is_gt (receipt_cmp d x)) (after_any d (y ∷ rs)) not_x (both (is_gt (receipt_cmp d y)) (after_any d rs) not_y (right (is_gt (receipt_cmp d (earlier x y))) (after_any d rs) so))
+  at_by : (x y d : X) (xs : List X) (r : Ordering) → At (min_by_ordering r x y ∷ xs) d → At (x ∷ y ∷ xs) d
+  at_by x y d xs Less at = skipping x y d xs at.0 at.1
+  at_by x y d xs Equal at = skipping x y d xs at.0 at.1
+  at_by x y d xs Greater at = behind x d (y ∷ xs) at
 
--- the place of the least, where it is known behind the first or at it
-abbrev At : List ReceivedReceipt → ReceivedReceipt → Type 0
-At rs d = (place : ℕ) × (slice_get rs place ≡ Some d)
+  least_at : (x : X) (xs : List X) → At (x ∷ xs) (fold lesser x xs)
+  least_at x [] = (zero, refl)
+  least_at x (y ∷ xs) = at_by x y (fold lesser (lesser x y) xs) xs (R x y) (least_at (lesser x y) xs)
 
-behind : (x d : ReceivedReceipt) (rs : List ReceivedReceipt) → At rs d → At (x ∷ rs) d
-behind x d rs at = (suc at.0, at.1)
+  some_is : (x y : X) (m : Option X) → Some x ≡ m → m ≡ Some y → x ≡ y
+  some_is x y m e f = cc
 
-skipping : (x y d : ReceivedReceipt) (rs : List ReceivedReceipt) (place : ℕ) → slice_get (x ∷ rs) place ≡ Some d → At (x ∷ y ∷ rs) d
-skipping x y d rs zero e = (zero, e)
-skipping x y d rs (suc n) e = (suc (suc n), e)
+  pub least-found : (xs : List X) (d : X) → reduce lesser xs ≡ Some d → IsLeast xs d
+  least-found [] d e = absurd cc
+  least-found (x ∷ xs) d e =
+      subst (λ (d : X). IsLeast (x ∷ xs) d) (some_is (fold lesser x xs) d (Some (fold lesser x xs)) refl e)
+      (record { place = (least_at x xs).0; among = (least_at x xs).1; after_none = after_none x xs })
 
-at_by : (x y d : ReceivedReceipt) (rs : List ReceivedReceipt) (o : Ordering) → At (min_by_ordering o x y ∷ rs) d → At (x ∷ y ∷ rs) d
-at_by x y d rs Less at = skipping x y d rs at.0 at.1
-at_by x y d rs Equal at = skipping x y d rs at.0 at.1
-at_by x y d rs Greater at = behind x d (y ∷ rs) at
+  -- ---- what all of a list have, the least has
 
-least_at : (x : ReceivedReceipt) (rs : List ReceivedReceipt) → At (x ∷ rs) (least_from x rs)
-least_at x [] = (zero, refl)
-least_at x (y ∷ rs) = at_by x y (least_from (earlier x y) rs) rs (receipt_cmp x y) (least_at (earlier x y) rs)
+  module _ (P : X → Type 0) where
+    lesser-all : (a b : X) (r : Ordering) → P a → P b → P (min_by_ordering r a b)
+    lesser-all a b Less p q = p
+    lesser-all a b Equal p q = p
+    lesser-all a b Greater p q = q
 
-some_is : (x y : ReceivedReceipt) (o : Option ReceivedReceipt) → Some x ≡ o → o ≡ Some y → x ≡ y
-some_is x y o e f = cc
+    fold-all : (x : X) (xs : List X) → P x → AllByRecursion P xs → P (fold lesser x xs)
+    fold-all x [] p a = p
+    fold-all x (y ∷ xs) p a = fold-all (lesser x y) xs (lesser-all x y (R x y) p a.0) a.1
 
-pub least-found : (receipts : List ReceivedReceipt) (decider : ReceivedReceipt) → least_receipt receipts ≡ Some decider → IsLeast receipts decider
-least-found [] decider e = absurd cc
-least-found (x ∷ rs) decider e =
-    subst (λ (d : ReceivedReceipt). IsLeast (x ∷ rs) d) (some_is (least_from x rs) decider (Some (least_from x rs)) refl e)
-    (record { place = (least_at x rs).0; among = (least_at x rs).1; after_none = after_none x rs })
+    pub reduce-all : (xs : List X) (d : X) → AllByRecursion P xs → reduce lesser xs ≡ Some d → P d
+    reduce-all [] d a e = absurd cc
+    reduce-all (x ∷ xs) d a e = let one : fold lesser x xs ≡ d = cc in subst P one (fold-all x xs a.0 a.1)

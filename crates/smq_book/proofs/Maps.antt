@@ -6,7 +6,7 @@ use Rattle.std.specs.Cmp.{nat_cmp_total}
 use Rattle.std.specs.Map.{keys_of, lookup}
 use Rattle.std.specs.BTreeMap.{is_at}
 use Rattle.std.specs.FinMap.{FinMap, entries, get, insert, from_entries, nat_cmp-IsAntisymmetric}
-use Rattle.smq_book.proofs.Ordered as ordered
+use Rattle.smq_kit.proofs.Ordered as ordered
 
 module _ {X : Type 0} where
   -- the finite map of entries

@@ -2,18 +2,18 @@
 use Rattle.std.proofs.Common.{◌≡◌, ℕ, ◌+◌, ◌<◌, ◌≤◌, true, false, ◌||◌, cond, List, [], ◌∷◌, ◌++◌, length, take, get_or, ◌^◌, Option, Some, None, refl, sym, ap, ◌∙◌, arith}
 use Rattle.std.specs.Prelude.{option_to_list}
 use Rattle.std.specs.List.{list_any}
-use Rattle.smq_book.specs.Tally.{positive}
+use Rattle.smq_book.specs.counting.Tables.{positive}
 use Rattle.std.specs.BTreeMap.{BTreeMap}
 use Rattle.std.specs.FinMap.{FinMap, get, insert}
 use Rattle.std.proofs.lemmas.List.{take_more, length-take}
 use Rattle.std.proofs.lemmas.List.Sums.{sum_by-cons, sum_by-append, count_by-le-length}
-use Rattle.smq_book.specs.declared.link_key.LinkKey.{LinkKey}
-use Rattle.smq_book.specs.LinkKeys.{link_key_cmp, by_key, same_key}
-use Rattle.smq_book.specs.Submits.{SubmittedMessage}
-use Rattle.smq_book.specs.Matches.{HasNumbers, number_kept, number_accepted, accepted_with}
+use Rattle.smq_kit.specs.declared.link_key.LinkKey.{LinkKey}
+use Rattle.smq_kit.specs.LinkKeys.{link_key_cmp, by_key, same_key}
+use Rattle.smq_book.specs.within.Messages.{SubmittedMessage}
+use Rattle.smq_book.specs.within.Accepted.{HasNumbers, number_kept, number_accepted, accepted_with}
 use Rattle.smq_book.proofs.Counted as counted
 use Rattle.smq_book.proofs.Keyed.{get-none}
-use Rattle.smq_book.proofs.LinkKeyOrders.{link_keys_total, link_keys_exact}
+use Rattle.smq_kit.proofs.LinkKeyOrders.{link_keys_total, link_keys_exact}
 
 abbrev keys : SubmittedMessage → List LinkKey
 keys s = option_to_list s.key

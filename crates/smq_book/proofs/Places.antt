@@ -7,9 +7,9 @@ use Rattle.std.specs.Map.{lookup}
 use Rattle.std.proofs.lemmas.Bool.Decides.{nat_tests}
 use Rattle.std.proofs.lemmas.List.Sums.{sum_by-cons}
 use Rattle.smq_pdu.specs.Header.{Header}
-use Rattle.smq_pdu.specs.Pairing.{is_response, answers, nth_place}
-use Rattle.smq_book.specs.declared.responses.Turn.{Turn}
-use Rattle.smq_book.specs.Responses.{HasPlaces, turn_cmp}
+use Rattle.smq_pdu.specs.Pairing.{is_response, is_response_of, nth_place}
+use Rattle.smq_book.specs.declared.pairing.responses.Turn.{Turn}
+use Rattle.smq_book.specs.within.Responses.{HasPlaces, turn_cmp}
 
 -- ---- the element that passes a test and before which so many pass it
 
@@ -77,8 +77,8 @@ pub places-same : (places : BTreeMap Turn ℕ) (headers : List Header) (h : Head
 places-same places headers h other so = record {
   at = λ q r.
       so.at q r
-      ∙ ap (λ b. cond ((b && h.seq == q) && r == count_by (answers q) headers) (Some (length headers)) (nth_place (answers q) headers r)) (sym other)
-      ∙ sym (place-last (answers q) headers h r);
+      ∙ ap (λ b. cond ((b && h.seq == q) && r == count_by (is_response_of q) headers) (Some (length headers)) (nth_place (is_response_of q) headers r)) (sym other)
+      ∙ sym (place-last (is_response_of q) headers h r);
 }
 
 same_turn : (a b c d : ℕ) → is_eq (ordering_then (nat_cmp a b) (nat_cmp c d)) ≡ (a == b && c == d)
@@ -93,13 +93,13 @@ at_turn seq q rank r n true e is =
 at_turn seq q rank r n false e is = refl
 
 -- a response more
-pub places-more : (old new : BTreeMap Turn ℕ) (headers : List Header) (h : Header) (rank place : ℕ) → is_response h ≡ true → rank ≡ count_by (answers h.seq) headers → place ≡ length headers
+pub places-more : (old new : BTreeMap Turn ℕ) (headers : List Header) (h : Header) (rank place : ℕ) → is_response h ≡ true → rank ≡ count_by (is_response_of h.seq) headers → place ≡ length headers
     → ((t : Turn) → get turn_cmp new t ≡ cond (is_at (turn_cmp (record { seq = h.seq; rank = rank })) t) (Some place) (get turn_cmp old t))
     → HasPlaces old headers → HasPlaces new (headers ++ h ∷ [])
 places-more old new headers h rank place response counted last put so = record {
   at = λ q r.
       put (record { seq = q; rank = r })
-      ∙ (λ i. cond ((same_turn h.seq q rank r ∙ at_turn h.seq q rank r (λ s. count_by (answers s) headers) (h.seq == q) refl counted) i) (Some (last i)) (so.at q r i))
-      ∙ ap (λ b. cond ((b && h.seq == q) && r == count_by (answers q) headers) (Some (length headers)) (nth_place (answers q) headers r)) (sym response)
-      ∙ sym (place-last (answers q) headers h r);
+      ∙ (λ i. cond ((same_turn h.seq q rank r ∙ at_turn h.seq q rank r (λ s. count_by (is_response_of s) headers) (h.seq == q) refl counted) i) (Some (last i)) (so.at q r i))
+      ∙ ap (λ b. cond ((b && h.seq == q) && r == count_by (is_response_of q) headers) (Some (length headers)) (nth_place (is_response_of q) headers r)) (sym response)
+      ∙ sym (place-last (is_response_of q) headers h r);
 }

@@ -5,11 +5,11 @@ use Rattle.std.specs.BTreeMap.{BTreeMap}
 use Rattle.std.proofs.lemmas.List.{take_more, length-take, length-map, map-append, take-map}
 use Rattle.std.proofs.lemmas.List.Sums.{sum_by-cons, sum_by-append, count_by-le-length}
 use Rattle.smq_pdu.specs.Header.{Header}
-use Rattle.smq_pdu.specs.Pairing.{asks, is_request, request_rank}
-use Rattle.smq_book.specs.declared.kept.KeptPdu.{KeptPdu}
-use Rattle.smq_book.specs.Kept.{header_of}
-use Rattle.smq_book.specs.Submits.{headers_of}
-use Rattle.smq_book.specs.Ranks.{HasCounts, count_kept}
+use Rattle.smq_pdu.specs.Pairing.{is_request_of, is_request, request_rank}
+use Rattle.smq_book.specs.declared.present.kept.KeptPdu.{KeptPdu}
+use Rattle.smq_book.specs.present.Kept.{header_of}
+use Rattle.smq_book.specs.present.Kept.{headers_of}
+use Rattle.smq_book.specs.within.Ranks.{HasCounts, count_kept}
 
 -- the headers up to a PDU
 pub headers-next : (pdus : List KeptPdu) (i : ℕ) (x : KeptPdu) → i < length pdus → x ≡ get_or pdus i x → headers_of (take (i + 1) pdus) ≡ headers_of (take i pdus) ++ header_of x ∷ []
@@ -56,4 +56,4 @@ room pdus i q counts is_kind h few so =
 
 -- the number that is counted is the rank of the next request
 pub rank-is : (client : List KeptPdu) (i seq rank : ℕ) (counts : BTreeMap ℕ ℕ) → rank ≡ count_kept counts seq → HasCounts counts is_request (headers_of (take i client)) → rank ≡ request_rank (headers_of client) i seq
-rank-is client i seq rank counts is so = is ∙ so.at seq ∙ ap (count_by (asks seq)) (sym (take-map header_of i client))
+rank-is client i seq rank counts is so = is ∙ so.at seq ∙ ap (count_by (is_request_of seq)) (sym (take-map header_of i client))

@@ -1,128 +1,177 @@
--- Tables that are kept as facts come and go are those of the facts.
+-- Tables of a list of facts, one fact more at a time.
 use Rattle.std.proofs.Common.{◌≡◌, ℕ, ◌+◌, ◌<◌, ◌≤◌, Bool, ◌||◌, true, false, cond, List, [], ◌∷◌, ◌++◌, length, take, get_or, ◌^◌, refl, sym, ap, ◌∙◌, arith}
-use Rattle.std.specs.Prelude.{count_by, IsPermutation, unwrap_or, Option, Some, None, option_map}
-use Rattle.std.specs.List.{list_any}
-use Rattle.std.proofs.lemmas.Bool.{false≢true}
+use Rattle.std.specs.Prelude.{◌==◌, count_by, unwrap_or, Option, Some, None, option_map, option_to_list}
+use Rattle.std.specs.List.{AllByRecursion, flat_map, list_any}
+use Rattle.std.specs.declared.cmp.Ordering.{Ordering}
+use Rattle.std.specs.declared.cmp.Ordering.TheVariants.{Less, Equal, Greater}
+use Rattle.std.specs.Ordering.{nat_cmp, ordering_then, is_eq}
+use Rattle.std.proofs.lemmas.Bool.Decides.{nat_tests}
+use Rattle.std.proofs.lemmas.Bool.{eqb-true}
 use Rattle.std.proofs.lemmas.List.Sums.{sum_by-cons, sum_by-append, count_by-le-length}
 use Rattle.std.proofs.lemmas.List.{take_more, length-take}
-use Rattle.std.proofs.lemmas.List.Sorted.{sum_by-IsPermutation}
-use Rattle.std.specs.FinMap.{FinMap, get-insert}
-use Rattle.smq_book.specs.declared.tally.Fact.{Fact}
-use Rattle.smq_book.specs.declared.tally.Outcome.{Outcome}
-use Rattle.smq_book.specs.declared.tally.Row.{Row}
-use Rattle.smq_book.specs.declared.tally.SubmitError.{SubmitError}
-use Rattle.smq_book.specs.declared.tally.Value.{Value}
-use Rattle.smq_book.specs.declared.tally.Value.TheVariants as w
-use Rattle.smq_book.specs.declared.tally.View.{View}
-use Rattle.smq_book.specs.declared.tally.View.TheVariants as v
-use Rattle.smq_book.specs.Tally.{TablesValue, tables_of, row_cmp, same_row, row, row_in, value_in, rows_of_fact, stands_in, number_in}
-use Rattle.smq_book.specs.Counting.{count_of, one_more, plus}
-use Rattle.smq_book.specs.RowOrder.{rows_total}
-use Rattle.smq_book.proofs.RowOrders.{rows_exact}
+use Rattle.std.specs.FinMap.{FinMap, get, get-insert}
+use Rattle.smq_book.specs.declared.counting.tally.Fact.{Fact}
+use Rattle.smq_book.specs.declared.counting.tally.Outcome.{Outcome}
+use Rattle.smq_book.specs.declared.counting.tally.CountKey.{CountKey}
+use Rattle.smq_book.specs.declared.counting.tally.Value.{Value}
+use Rattle.smq_book.specs.declared.counting.tally.View.{View}
+use Rattle.smq_book.specs.counting.Rows.{views, view_place, value_in, count_key, count_cmp, same_count_key, key_in, keys_of_fact, stands_in}
+use Rattle.smq_book.specs.counting.Tables.{TablesValue}
+use Rattle.smq_book.specs.within.Counting.{tables_among, number_among, count_of, one_more, plus}
+use Rattle.smq_book.specs.within.CountOrder.{count_keys_total}
+use Rattle.smq_book.proofs.CountOrders.{count_keys_exact}
 use Rattle.smq_book.proofs.Counted as counted
 
--- the tables have the number of each row, where it isn't 0
-abbrev pub Has : TablesValue → (Row → ℕ) → Type 0
-Has t n = counted.Has rows_total rows_exact rows_of_fact t.counts n
+-- the tables have the number of each key, where it isn't 0
+abbrev pub Has : TablesValue → (CountKey → ℕ) → Type 0
+Has t n = counted.Has count_keys_total count_keys_exact keys_of_fact t.counts n
 
-pub has-tables : (facts : List Fact) → Has (tables_of facts) (λ q. number_in q facts)
-has-tables facts = counted.has-counted rows_total rows_exact rows_of_fact facts
+pub has-tables : (facts : List Fact) → Has (tables_among facts) (λ q. number_among q facts)
+has-tables facts = counted.has-counted count_keys_total count_keys_exact keys_of_fact facts
 
-has-one : (t u : TablesValue) (n : Row → ℕ) → Has t n → Has u n → t ≡ u
-has-one t u n h k = ap (λ (m : FinMap row_cmp ℕ). record { counts = m }) (counted.has-one rows_total rows_exact rows_of_fact t.counts u.counts n h k)
+has-one : (t u : TablesValue) (n : CountKey → ℕ) → Has t n → Has u n → t ≡ u
+has-one t u n h k = ap (λ (m : FinMap count_cmp ℕ). record { counts = m }) (counted.has-one count_keys_total count_keys_exact keys_of_fact t.counts u.counts n h k)
 
-has-same : (t : TablesValue) (n p : Row → ℕ) → Has t n → ((q : Row) → n q ≡ p q) → Has t p
-has-same t n p h e = counted.has-same rows_total rows_exact rows_of_fact t.counts n p h e
+has-same : (t : TablesValue) (n p : CountKey → ℕ) → Has t n → ((q : CountKey) → n q ≡ p q) → Has t p
+has-same t n p h e = counted.has-same count_keys_total count_keys_exact keys_of_fact t.counts n p h e
 
-has-count : (t : TablesValue) (n : Row → ℕ) → Has t n → (q : Row) → count_of t q ≡ n q
-has-count t n h q = counted.has-count rows_total rows_exact rows_of_fact t.counts n h q
+pub count-tables : (facts : List Fact) (q : CountKey) → count_of (tables_among facts) q ≡ number_among q facts
+count-tables facts q = counted.has-count count_keys_total count_keys_exact keys_of_fact (tables_among facts).counts (λ r. number_among r facts) (has-tables facts) q
 
--- ---- facts with the same numbers give the same tables
-
-pub tables-alike : (facts gacts : List Fact) → ((q : Row) → number_in q facts ≡ number_in q gacts) → tables_of facts ≡ tables_of gacts
-tables-alike facts gacts e = has-one _ _ (λ q. number_in q gacts) (has-same (tables_of facts) (λ q. number_in q facts) (λ q. number_in q gacts) (has-tables facts) e) (has-tables gacts)
-
--- whatever order the facts come in
-pub tables-permuted : (facts gacts : List Fact) → IsPermutation facts gacts → tables_of facts ≡ tables_of gacts
-tables-permuted facts gacts p = tables-alike facts gacts (λ q. sym (sum_by-IsPermutation (λ f. cond (stands_in q f) 1 0) facts gacts p))
-
-pub count-tables : (facts : List Fact) (q : Row) → count_of (tables_of facts) q ≡ number_in q facts
-count-tables facts q = has-count (tables_of facts) (λ r. number_in r facts) (has-tables facts) q
-
-pub number-bound : (facts : List Fact) (q : Row) → count_of (tables_of facts) q ≤ length facts
+pub number-bound : (facts : List Fact) (q : CountKey) → count_of (tables_among facts) q ≤ length facts
 number-bound facts q = let e = count-tables facts q in let b = count_by-le-length (stands_in q) facts in rw e b
+
+-- ---- a fact stands at a key once at most
+
+unequal_then : (o r : Ordering) → is_eq o ≡ false → is_eq (ordering_then o r) ≡ false
+unequal_then Less r e = refl
+unequal_then Equal r e = absurd cc
+unequal_then Greater r e = refl
+
+unequal_places : (a b : ℕ) → (a == b) ≡ false → is_eq (nat_cmp a b) ≡ false
+unequal_places a b e = grind (arith, nat_tests, e)
+
+-- a key of another view is another key
+apart : (q : CountKey) (view : View) (value : Value) (outcome : Outcome) → (view_place q.view == view_place view) ≡ false → same_count_key q (count_key view value outcome) ≡ false
+apart q view value outcome e = unequal_then (nat_cmp (view_place q.view) (view_place view)) _ (unequal_places _ _ e)
+
+module _ (p : CountKey → Bool) where
+  count-one : (k : CountKey) → count_by p (k ∷ []) ≡ cond (p k) 1 0
+  count-one k = sum_by-cons (λ y. cond (p y) 1 0) k [] ∙ elim (p k) as (λ b. cond b 1 0 + 0 ≡ cond b 1 0) [ true ↦ refl | false ↦ refl ]
+
+  any-one : (k : CountKey) → list_any p (k ∷ []) ≡ p k
+  any-one k = elim (p k) as (λ b. (b || false) ≡ b) [ true ↦ refl | false ↦ refl ]
+
+  once-one : (o : Option CountKey) → count_by p (option_to_list o) ≡ cond (list_any p (option_to_list o)) 1 0
+  once-one None = refl
+  once-one (Some k) = count-one k ∙ ap (λ b. cond b 1 0) (sym (any-one k))
+
+  any-append : (xs ys : List CountKey) → list_any p (xs ++ ys) ≡ (list_any p xs || list_any p ys)
+  any-append [] ys = refl
+  any-append (x ∷ xs) ys = elim (p x) as (λ b. (b || list_any p (xs ++ ys)) ≡ ((b || list_any p xs) || list_any p ys)) [ true ↦ refl | false ↦ any-append xs ys ]
+
+  count-append : (xs ys : List CountKey) → count_by p (xs ++ ys) ≡ count_by p xs + count_by p ys
+  count-append xs ys = sum_by-append (λ y. cond (p y) 1 0) xs ys
+
+-- the keys of a fact in these views
+abbrev keys_in : Fact → List View → List CountKey
+keys_in f vs = flat_map (λ view. option_to_list (key_in view f)) vs
+
+-- views other than that of a key
+abbrev Others : CountKey → List View → Type 0
+Others q vs = AllByRecursion (λ (view : View). (view_place q.view == view_place view) ≡ false) vs
+
+one-none : (q : CountKey) (view : View) (f : Fact) (value : Option Value) → (view_place q.view == view_place view) ≡ false
+    → count_by (same_count_key q) (option_to_list (option_map (λ x. count_key view x f.outcome) value)) ≡ 0
+one-none q view f None e = refl
+one-none q view f (Some x) e = count-one (same_count_key q) (count_key view x f.outcome) ∙ ap (λ b. cond b 1 0) (apart q view x f.outcome e)
+
+any-none : (q : CountKey) (view : View) (f : Fact) (value : Option Value) → (view_place q.view == view_place view) ≡ false
+    → list_any (same_count_key q) (option_to_list (option_map (λ x. count_key view x f.outcome) value)) ≡ false
+any-none q view f None e = refl
+any-none q view f (Some x) e = any-one (same_count_key q) (count_key view x f.outcome) ∙ apart q view x f.outcome e
+
+others-none : (q : CountKey) (f : Fact) (vs : List View) → Others q vs → (count_by (same_count_key q) (keys_in f vs) ≡ 0) × (list_any (same_count_key q) (keys_in f vs) ≡ false)
+others-none q f [] h = (refl, refl)
+others-none q f (v ∷ vs) h =
+    let rest = others-none q f vs h.1 in (
+      count-append (same_count_key q) (option_to_list (key_in v f)) (keys_in f vs) ∙ (λ i. one-none q v f (value_in v f) h.0 i + rest.0 i),
+      any-append (same_count_key q) (option_to_list (key_in v f)) (keys_in f vs) ∙ (λ i. any-none q v f (value_in v f) h.0 i || rest.1 i),
+    )
+
+-- no two of these views are one
+abbrev AreApart : List View → Type 0
+AreApart [] = Unit {0}
+AreApart (v ∷ vs) = AllByRecursion (λ (w : View). (view_place v == view_place w) ≡ false) vs × AreApart vs
+
+carried : (q : CountKey) (v : View) (vs : List View) → view_place q.view ≡ view_place v → AllByRecursion (λ (w : View). (view_place v == view_place w) ≡ false) vs → Others q vs
+carried q v [] e h = tt
+carried q v (w ∷ vs) e h = (ap (λ n. n == view_place w) e ∙ h.0, carried q v vs e h.1)
+
+or-false : (b : Bool) → (b || false) ≡ b
+or-false true = refl
+or-false false = refl
+
+once_in : (f : Fact) (q : CountKey) (vs : List View) → AreApart vs → count_by (same_count_key q) (keys_in f vs) ≡ cond (list_any (same_count_key q) (keys_in f vs)) 1 0
+once_in f q [] h = refl
+once_in f q (v ∷ vs) h =
+    let here = option_to_list (key_in v f) in
+    count-append (same_count_key q) here (keys_in f vs)
+    ∙ elim (view_place q.view == view_place v) as (λ b. (view_place q.view == view_place v) ≡ b → count_by (same_count_key q) here + count_by (same_count_key q) (keys_in f vs) ≡ cond (list_any (same_count_key q) here || list_any (same_count_key q) (keys_in f vs)) 1 0) [
+      | true ↦ λ e.
+          let rest = others-none q f vs (carried q v vs (eqb-true (view_place q.view) (view_place v) e) h.0) in
+          let none : count_by (same_count_key q) here + count_by (same_count_key q) (keys_in f vs) ≡ count_by (same_count_key q) here = omega (arith, rest.0) in
+          none ∙ once-one (same_count_key q) (key_in v f)
+          ∙ ap (λ b. cond b 1 0) (sym (or-false (list_any (same_count_key q) here)) ∙ ap (λ b. list_any (same_count_key q) here || b) (sym rest.1))
+      | false ↦ λ e.
+          let none : count_by (same_count_key q) here + count_by (same_count_key q) (keys_in f vs) ≡ count_by (same_count_key q) (keys_in f vs) = omega (arith, one-none q v f (value_in v f) e) in
+          none ∙ once_in f q vs h.1
+          ∙ ap (λ b. cond (b || list_any (same_count_key q) (keys_in f vs)) 1 0) (sym (any-none q v f (value_in v f) e))
+    ] refl
+    ∙ ap (λ b. cond b 1 0) (sym (any-append (same_count_key q) here (keys_in f vs)))
+
+once : (f : Fact) (q : CountKey) → count_by (same_count_key q) (keys_of_fact f) ≡ cond (stands_in q f) 1 0
+once f q = once_in f q views ((refl, tt), (tt, tt))
 
 -- ---- one fact more
 
-has-plus : (t : TablesValue) (n : Row → ℕ) (rows : List Row) → Has t n → Has (plus t rows) (λ q. n q + count_by (same_row q) rows)
-has-plus t n [] h = has-same t n (λ q. n q + count_by (same_row q) []) h (λ q. omega arith)
-has-plus t n (row ∷ rows) h =
-    has-same (plus (one_more t row) rows) (λ q. (n q + cond (same_row q row) 1 0) + count_by (same_row q) rows) (λ q. n q + count_by (same_row q) (row ∷ rows))
-    (has-plus (one_more t row) (λ q. n q + cond (same_row q row) 1 0) rows (counted.has-more rows_total rows_exact rows_of_fact t.counts n row h))
-    (λ q. omega (arith, sum_by-cons (λ r. cond (same_row q r) 1 0) row rows))
+has-plus : (t : TablesValue) (n : CountKey → ℕ) (keys : List CountKey) → Has t n → Has (plus t keys) (λ q. n q + count_by (same_count_key q) keys)
+has-plus t n [] h = has-same t n (λ q. n q + count_by (same_count_key q) []) h (λ q. omega arith)
+has-plus t n (key ∷ keys) h =
+    has-same (plus (one_more t key) keys) (λ q. (n q + cond (same_count_key q key) 1 0) + count_by (same_count_key q) keys) (λ q. n q + count_by (same_count_key q) (key ∷ keys))
+    (has-plus (one_more t key) (λ q. n q + cond (same_count_key q key) 1 0) keys (counted.has-more count_keys_total count_keys_exact keys_of_fact t.counts n key h))
+    (λ q. omega (arith, sum_by-cons (λ r. cond (same_count_key q r) 1 0) key keys))
 
--- the row of the fact's link
-abbrev link_row : Fact → Row
-link_row f = row v.Link (w.Link f.link) f.outcome
-
--- the row of an error of the fact
-abbrev error_row : Fact → SubmitError → Row
-error_row f x = row v.Error (w.Error x) f.outcome
-
--- the rows of the fact, where this is its error
-abbrev rows_by : Fact → Option SubmitError → List Row
-rows_by f e = link_row f ∷ (row_in v.Error f (option_map w.Error e) ++ [])
-
--- a row of a link isn't one of an error
-apart : (f : Fact) (x : SubmitError) (view : View) (value : Value) (outcome : Outcome) → same_row (row view value outcome) (link_row f) ≡ true → same_row (row view value outcome) (error_row f x) ≡ false
-apart f x v.Link value outcome h = refl
-apart f x v.Error value outcome h = absurd (false≢true h)
-
-one_of_one : (b : Bool) → 0 + cond b 1 0 ≡ cond (b || false) 1 0
-one_of_one true = refl
-one_of_one false = refl
-
-one_of_two : (b c : Bool) → (b ≡ true → c ≡ false) → (0 + cond b 1 0) + cond c 1 0 ≡ cond (b || (c || false)) 1 0
-one_of_two true true h = absurd (false≢true (sym (h refl)))
-one_of_two true false h = refl
-one_of_two false true h = refl
-one_of_two false false h = refl
-
-once_by : (f : Fact) (e : Option SubmitError) (q : Row) → count_by (same_row q) (rows_by f e) ≡ cond (list_any (same_row q) (rows_by f e)) 1 0
-once_by f None q = one_of_one (same_row q (link_row f))
-once_by f (Some x) q = one_of_two (same_row q (link_row f)) (same_row q (error_row f x)) (apart f x q.view q.value q.outcome)
-
--- a fact stands in a row once at most
-once : (f : Fact) (q : Row) → count_by (same_row q) (rows_of_fact f) ≡ cond (stands_in q f) 1 0
-once f q = once_by f f.error q
-
-pub plus-tables : (facts : List Fact) (f : Fact) → plus (tables_of facts) (rows_of_fact f) ≡ tables_of (facts ++ f ∷ [])
+pub plus-tables : (facts : List Fact) (f : Fact) → plus (tables_among facts) (keys_of_fact f) ≡ tables_among (facts ++ f ∷ [])
 plus-tables facts f =
-    has-one _ _ (λ q. number_in q (facts ++ f ∷ []))
-    (has-same (plus (tables_of facts) (rows_of_fact f)) (λ q. number_in q facts + count_by (same_row q) (rows_of_fact f)) (λ q. number_in q (facts ++ f ∷ []))
-    (has-plus (tables_of facts) (λ q. number_in q facts) (rows_of_fact f) (has-tables facts))
+    has-one _ _ (λ q. number_among q (facts ++ f ∷ []))
+    (has-same (plus (tables_among facts) (keys_of_fact f)) (λ q. number_among q facts + count_by (same_count_key q) (keys_of_fact f)) (λ q. number_among q (facts ++ f ∷ []))
+    (has-plus (tables_among facts) (λ q. number_among q facts) (keys_of_fact f) (has-tables facts))
     (λ q. omega (arith, once f q, sum_by-append (λ g. cond (stands_in q g) 1 0) facts (f ∷ []), sum_by-cons (λ g. cond (stands_in q g) 1 0) f [])))
     (has-tables (facts ++ f ∷ []))
 
 -- ---- facts one at a time
 
-pub facts-step : (facts : List Fact) (i : ℕ) (x : Fact) (t new : TablesValue) → i < length facts → x ≡ get_or facts i x → t ≡ tables_of (take i facts) → new ≡ plus t (rows_of_fact x) → new ≡ tables_of (take (i + 1) facts)
+pub facts-step : (facts : List Fact) (i : ℕ) (x : Fact) (t new : TablesValue) → i < length facts → x ≡ get_or facts i x → t ≡ tables_among (take i facts) → new ≡ plus t (keys_of_fact x) → new ≡ tables_among (take (i + 1) facts)
 facts-step facts i x t new h is so done =
-    done ∙ ap (λ (u : TablesValue). plus u (rows_of_fact x)) so ∙ plus-tables (take i facts) x
-    ∙ ap (λ (y : Fact). tables_of (take i facts ++ y ∷ [])) is ∙ ap tables_of (sym (take_more facts i x h))
+    done ∙ ap (λ (u : TablesValue). plus u (keys_of_fact x)) so ∙ plus-tables (take i facts) x
+    ∙ ap (λ (y : Fact). tables_among (take i facts ++ y ∷ [])) is ∙ ap tables_among (sym (take_more facts i x h))
 
-pub room : (facts : List Fact) (i n : ℕ) (t : TablesValue) (row : Row) → i < n → n < 2 ^ 64 → t ≡ tables_of (take i facts) → count_of t row + 1 < 2 ^ 64
-room facts i n t row h few so =
-    let bound = number-bound (take i facts) row in
+pub room : (facts : List Fact) (i n : ℕ) (t : TablesValue) (key : CountKey) → i < n → n < 2 ^ 64 → t ≡ tables_among (take i facts) → count_of t key + 1 < 2 ^ 64
+room facts i n t key h few so =
+    let bound = number-bound (take i facts) key in
     let short : length (take i facts) ≤ i = let e = length-take i facts in omega (arith, e) in
     rw so (omega (arith, bound, short))
 
--- ---- the row of a link and the counts of errors
+-- ---- a key of one view counts at no key of another
 
-count_stays : (t : TablesValue) (f : Fact) (view : View) (value : Value) (outcome : Outcome) → view ≡ v.Error → count_of (one_more t (link_row f)) (row view value outcome) ≡ count_of t (row view value outcome)
-count_stays t f v.Link value outcome e = absurd (cc)
-count_stays t f v.Error value outcome e = ap (λ (o : Option ℕ). unwrap_or o 0) (get-insert rows_total t.counts (link_row f) (count_of t (link_row f) + 1) (row v.Error value outcome))
+stays_by : (t : TablesValue) (view : View) (f : Fact) (value : Option Value) (q : CountKey) → (view_place q.view == view_place view) ≡ false
+    → count_of (plus t (option_to_list (option_map (λ x. count_key view x f.outcome) value))) q ≡ count_of t q
+stays_by t view f None q e = refl
+stays_by t view f (Some x) q e =
+    ap (λ (o : Option ℕ). unwrap_or o 0)
+    (get-insert count_keys_total t.counts (count_key view x f.outcome) (count_of t (count_key view x f.outcome) + 1) q
+    ∙ ap (λ b. cond b (Some (count_of t (count_key view x f.outcome) + 1)) (get t.counts q)) (apart q view x f.outcome e))
 
--- the row of a link counts in no row of an error
-pub errors-stay : (t : TablesValue) (f : Fact) (q : Row) → q.view ≡ v.Error → count_of (plus t (row_in v.Link f (value_in v.Link f))) q ≡ count_of t q
-errors-stay t f q e = count_stays t f q.view q.value q.outcome e
+pub other-view-stays : (t : TablesValue) (view : View) (f : Fact) (q : CountKey) → (view_place q.view == view_place view) ≡ false → count_of (plus t (option_to_list (key_in view f))) q ≡ count_of t q
+other-view-stays t view f q e = stays_by t view f (value_in view f) q e

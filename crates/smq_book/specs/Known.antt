@@ -1,27 +1,78 @@
--- Known submits and receipts: PDUs that are written out, and what became of them.
-use Rattle.std.specs.Prelude.{◌≡◌, ℕ, Bool, true, false, List, [], ◌∷◌, map, Option, Some, None}
+-- Values that laws pin: what is present, PDUs and octets that are written out, and what the definitions give of them.
+use Rattle.std.specs.Prelude.{◌≡◌, ◌+◌, ℕ, Bool, true, false, List, [], ◌∷◌, ◌++◌, length, map, codes, Option, Some, None}
 use Rattle.std.specs.List.{flat_map}
+use Rattle.std.specs.FinMap as map
 use Rattle.smq_kit.specs.declared.form.Form.{Form}
-use Rattle.smq_kit.specs.declared.form.Form.TheVariants.{Verbatim}
-use Rattle.smq_kit.specs.declared.place.Dir.TheVariants.{FromCentre}
-use Rattle.smq_receipt.specs.declared.error_code.ErrorCode.{ErrorCode}
-use Rattle.smq_receipt.specs.declared.error_code.ErrorCode.TheVariants.{Unstated}
+use Rattle.smq_kit.specs.declared.form.Form.TheVariants.{Verbatim, Decimal, Hexadecimal}
+use Rattle.smq_kit.specs.declared.names.LinkId.{LinkId}
+use Rattle.smq_kit.specs.declared.place.Dir.{Dir}
+use Rattle.smq_kit.specs.declared.place.Dir.TheVariants.{FromClient, FromCentre}
+use Rattle.smq_kit.specs.declared.refusal.Refusal.TheVariants as r
+use Rattle.smq_frame.specs.Stream.{handed_in}
+use Rattle.smq_frame.specs.Tail.{TailValue}
+use Rattle.smq_pdu.specs.Pairing.{is_request, is_response}
+use Rattle.smq_kit.specs.declared.error_code.ErrorCode.{ErrorCode}
+use Rattle.smq_kit.specs.declared.error_code.ErrorCode.TheVariants as e
 use Rattle.smq_receipt.specs.declared.message_state.MessageState.{MessageState}
-use Rattle.smq_receipt.specs.declared.message_state.MessageState.TheVariants.{Delivered, Undeliverable}
+use Rattle.smq_receipt.specs.declared.message_state.MessageState.TheVariants.{Enroute, Delivered, Expired, Undeliverable, Accepted}
 use Rattle.smq_receipt.specs.declared.reading.Reading.TheVariants as v
 use Rattle.smq_receipt.specs.declared.reading.Receipt.{Receipt}
-use Rattle.smq_book.specs.declared.kept.Content.{Content}
-use Rattle.smq_book.specs.declared.kept.Content.TheVariants as c
-use Rattle.smq_book.specs.declared.kept.KeptPdu.{KeptPdu}
-use Rattle.smq_book.specs.declared.source.Source.{Source}
-use Rattle.smq_book.specs.declared.tally.Fact.{Fact}
-use Rattle.smq_book.specs.declared.tally.Outcome.{Outcome}
-use Rattle.smq_book.specs.declared.tally.SubmitError.{SubmitError}
-use Rattle.smq_pdu.specs.Pairing.{is_request, is_response}
-use Rattle.smq_book.specs.Kept.{header_of}
-use Rattle.smq_book.specs.Submits.{submits_among}
-use Rattle.smq_book.specs.Receipts.{ReceivedReceipt, receipts_among}
-use Rattle.smq_book.specs.Outcomes.{facts_among}
+use Rattle.smq_book.specs.declared.counting.tally.Fact.{Fact}
+use Rattle.smq_book.specs.declared.counting.tally.Outcome.{Outcome}
+use Rattle.smq_book.specs.declared.counting.tally.Outcome.TheVariants as o
+use Rattle.smq_book.specs.declared.counting.tally.SubmitError.{SubmitError}
+use Rattle.smq_book.specs.declared.counting.tally.SubmitError.TheVariants as s
+use Rattle.smq_book.specs.declared.counting.tally.Value.{Value}
+use Rattle.smq_book.specs.declared.counting.tally.Value.TheVariants as w
+use Rattle.smq_book.specs.declared.counting.tally.View.TheVariants as view
+use Rattle.smq_book.specs.declared.present.edit.Edit.{Edit}
+use Rattle.smq_book.specs.declared.present.edit.Edit.TheVariants.{Append, SetForm}
+use Rattle.smq_book.specs.declared.present.kept.Content.{Content}
+use Rattle.smq_book.specs.declared.present.kept.Content.TheVariants as c
+use Rattle.smq_book.specs.declared.present.kept.KeptPdu.{KeptPdu}
+use Rattle.smq_book.specs.declared.present.session.Session.{Session}
+use Rattle.smq_book.specs.present.Batch.{batch_of, prepare_refusal}
+use Rattle.smq_book.specs.present.Kept.{header_of}
+use Rattle.smq_book.specs.present.Present.{PresentValue, empty, octets_of}
+use Rattle.smq_book.specs.present.Replies.{reply}
+use Rattle.smq_book.specs.present.Settings.{SettingsValue, opening_settings, opening_forms, forms_of}
+use Rattle.smq_book.specs.present.Steps.{step}
+use Rattle.smq_book.specs.pairing.Traffic.{Origin, TrafficValue, traffic_among, traffic_of, messages_among, receipts_among}
+use Rattle.smq_book.specs.join.Facts.{facts_of}
+use Rattle.smq_book.specs.counting.Tables.{count_at}
+use Rattle.smq_book.specs.whole.Scratch.{scratch}
+
+-- ---- a small book, on which replies are worked out by hand
+
+-- session 10 of link 1, with one octet 0 from the client, handed in at 1000
+abbrev pub one_octet : PresentValue
+one_octet = record {
+  sessions = map.insert map.empty 10 (record { link = record { 0 = 1 }; client = handed_in 1000 (0 ∷ []); centre = [] });
+  settings = opening_settings;
+}
+
+-- a tail of so many octets, the last of which wait for more
+abbrev pub waiting : ℕ → List ℕ → TailValue
+waiting offset rest = record { offset = offset; rest = rest; broken = None }
+
+-- one octet 0 for a session under a link, on a tail, at a moment
+abbrev pub one_more : ℕ → ℕ → Dir → TailValue → ℕ → Edit
+one_more link session dir tail moment =
+    Append (batch_of (record { 0 = link }) (record { 0 = session }) dir tail moment (0 ∷ []))
+
+-- the first book once another octet 0 is put after that one, at 2000
+abbrev pub two_octets : PresentValue
+two_octets = step one_octet (one_more 1 10 FromClient (waiting 1 (0 ∷ [])) 2000)
+
+-- the first book once the forms of link 1 are set
+abbrev pub with_forms : PresentValue
+with_forms = step one_octet (SetForm (record { 0 = 1 }) Hexadecimal Decimal)
+
+-- that book once another octet 0 is put after the first, at 2000
+abbrev pub with_forms_and_octets : PresentValue
+with_forms_and_octets = step with_forms (one_more 1 10 FromClient (waiting 1 (0 ∷ [])) 2000)
+
+-- ---- PDUs
 
 -- a PDU at an offset, with its command_id, command_status, sequence_number and content
 abbrev pub pdu : ℕ → ℕ → ℕ → ℕ → Content → KeptPdu
@@ -36,7 +87,7 @@ pdu offset command status seq content = record {
 
 -- a submit_sm (command_id 0x00000004) with this registered_delivery
 abbrev pub submit : ℕ → ℕ → ℕ → KeptPdu
-submit offset seq registered_delivery = pdu offset 0x0000_0004 0 seq (c.Submit registered_delivery)
+submit offset seq registered_delivery = pdu offset 0x0000_0004 0 seq (c.Submit (record { registered_delivery = registered_delivery }))
 
 -- a submit_sm_resp (0x80000004) with status 0 and the message id `1`
 abbrev pub accepted : ℕ → KeptPdu
@@ -51,8 +102,8 @@ abbrev pub nack : ℕ → ℕ → KeptPdu
 nack status seq = pdu 0 0x8000_0000 status seq c.Other
 
 -- an enquire_link_resp (0x80000015) with this status
-abbrev pub link_answer : ℕ → ℕ → KeptPdu
-link_answer status seq = pdu 0 0x8000_0015 status seq c.Other
+abbrev pub link_response : ℕ → ℕ → KeptPdu
+link_response status seq = pdu 0 0x8000_0015 status seq c.Other
 
 -- ---- receipts
 
@@ -62,8 +113,8 @@ receipt_saying state error interim =
     record { id = 49 ∷ []; state = state; interim = interim; error = error; centre_delay = None }
 
 -- a deliver_sm (0x00000005) at an offset and a moment that is this receipt
-abbrev pub receipt_at : ℕ → ℕ → Receipt → KeptPdu
-receipt_at offset moment receipt = record {
+abbrev pub receipt_pdu : ℕ → ℕ → Receipt → KeptPdu
+receipt_pdu offset moment receipt = record {
   offset = offset;
   moment = moment;
   command = 0x0000_0005;
@@ -74,59 +125,286 @@ receipt_at offset moment receipt = record {
 
 -- such a receipt that says that the message was delivered, and one that it failed without an error
 abbrev pub delivered : ℕ → ℕ → KeptPdu
-delivered offset moment = receipt_at offset moment (receipt_saying Delivered Unstated false)
+delivered offset moment = receipt_pdu offset moment (receipt_saying Delivered e.Unstated false)
 
 abbrev pub failed : ℕ → ℕ → KeptPdu
-failed offset moment = receipt_at offset moment (receipt_saying Undeliverable Unstated false)
-
--- the receipt of a session's centre, at an offset and a moment, that says that a message was delivered
-abbrev pub received : ℕ → ℕ → ℕ → ReceivedReceipt
-received session offset moment = record {
-  place = record { session = record { 0 = session }; dir = FromCentre; offset = offset };
-  moment = moment;
-  receipt = receipt_saying Delivered Unstated false;
-}
+failed offset moment = receipt_pdu offset moment (receipt_saying Undeliverable e.Unstated false)
 
 -- ---- what became of messages
 
--- session 10 of link 1, with these forms
-abbrev pub source_with : Form → Form → Source
-source_with response receipt =
-    record { session = record { 0 = 10 }; link = record { 0 = 1 }; forms = record { response = response; receipt = receipt } }
+-- session 10 of link 1
+abbrev pub known_origin : Origin
+known_origin = record { session = record { 0 = 10 }; link = record { 0 = 1 } }
 
--- what is known of the submitted messages of a session whose PDUs are these, where there is no other session
-abbrev pub facts_of_session : Source → List KeptPdu → List KeptPdu → List Fact
-facts_of_session source client centre = facts_among (submits_among source client centre) (receipts_among source centre)
+-- link 1 has these forms
+abbrev pub settings_with : Form → Form → SettingsValue
+settings_with response receipt =
+    record { forms = map.insert map.empty 1 (record { response = response; receipt = receipt }) }
 
--- what became of the submitted messages of session 10 of link 1, where ids are taken verbatim
-abbrev pub outcomes_among : List KeptPdu → List KeptPdu → List Outcome
+-- what the PDUs of session 10 say, where there is no other session
+abbrev pub known_traffic : List KeptPdu → List KeptPdu → TrafficValue
+known_traffic client centre =
+    traffic_among (messages_among known_origin client centre) (receipts_among known_origin centre)
+
+-- what is known of its messages, in the order of their places
+unfoldable pub known_facts : SettingsValue → List KeptPdu → List KeptPdu → List Fact
+known_facts s client centre = map.values (facts_of s (known_traffic client centre))
+
+-- what became of them, where ids are taken verbatim
+unfoldable pub outcomes_among : List KeptPdu → List KeptPdu → List Outcome
 outcomes_among client centre =
-    map (λ fact. fact.outcome) (facts_of_session (source_with Verbatim Verbatim) client centre)
+    map (λ fact. fact.outcome) (known_facts (settings_with Verbatim Verbatim) client centre)
 
 -- why they failed
-abbrev pub errors_among : List KeptPdu → List KeptPdu → List (Option SubmitError)
+unfoldable pub errors_among : List KeptPdu → List KeptPdu → List (Option SubmitError)
 errors_among client centre =
-    map (λ fact. fact.error) (facts_of_session (source_with Verbatim Verbatim) client centre)
+    map (λ fact. fact.error) (known_facts (settings_with Verbatim Verbatim) client centre)
 
 -- what became of one submit_sm with each registered_delivery, where these are the centre's PDUs
-abbrev pub outcomes_by_delivery : List KeptPdu → List ℕ → List Outcome
+unfoldable pub outcomes_by_delivery : List KeptPdu → List ℕ → List Outcome
 outcomes_by_delivery centre deliveries =
     flat_map (λ registered_delivery. outcomes_among (submit 0 1 registered_delivery ∷ []) centre) deliveries
 
--- what became of a submit_sm whose answer gives one id, where a receipt of another says that it was delivered, under the
--- link's forms of responses and receipts
-abbrev pub outcomes_under : Form → Form → List ℕ → List ℕ → List Outcome
-outcomes_under response receipt answered reported =
+-- the centre's response that gives one id, and its receipt of another that says that the message was delivered
+abbrev pub responded_and_reported : List ℕ → List ℕ → List KeptPdu
+responded_and_reported given reported =
+    pdu 0 0x8000_0004 0 1 (c.SubmitAnswer (Some given))
+    ∷ receipt_pdu 18 5000 (record (receipt_saying Delivered e.Unstated false) { id = reported }) ∷ []
+
+-- what became of a submit_sm with these, under the link's forms of responses and receipts
+unfoldable pub outcomes_under : Form → Form → List ℕ → List ℕ → List Outcome
+outcomes_under response receipt given reported =
     map (λ fact. fact.outcome)
-    (facts_of_session (source_with response receipt) (submit 0 1 1 ∷ [])
-    (pdu 0 0x8000_0004 0 1 (c.SubmitAnswer (Some answered))
-    ∷ receipt_at 18 5000 (record (receipt_saying Delivered Unstated false) { id = reported }) ∷ []))
+    (known_facts (settings_with response receipt) (submit 0 1 1 ∷ []) (responded_and_reported given reported))
 
 -- a request and a later PDU of one sequence number, and two responses of it
-pub record InTurn (one two answer later : KeptPdu) : Type 0 where
+pub record InTurn (one two response later : KeptPdu) : Type 0 where
   pub request : is_request (header_of one) ≡ true
-  pub response : is_response (header_of answer) ≡ true
+  pub first_response : is_response (header_of response) ≡ true
   pub next_response : is_response (header_of later) ≡ true
   pub next_seq : two.seq ≡ one.seq
-  pub response_seq : answer.seq ≡ one.seq
+  pub first_response_seq : response.seq ≡ one.seq
   pub next_response_seq : later.seq ≡ one.seq
+
+-- ---- values, in their order: a link, refusals by a status, failures by an error code
+
+abbrev pub known_values : LinkId → List Value
+known_values link =
+    w.Link link
+    ∷ w.Error (s.Refused 3)
+    ∷ w.Error (s.Refused 11)
+    ∷ w.Error (s.Failed (e.Network 3 8))
+    ∷ w.Error (s.Failed (e.Network 3 9))
+    ∷ w.Error (s.Failed (e.Network 4 0))
+    ∷ w.Error (s.Failed (e.Text (codes "012")))
+    ∷ w.Error (s.Failed (e.Text (codes "1")))
+    ∷ w.Error (s.Failed e.Unstated)
+    ∷ []
+
+-- ---- a whole book, from octets: three sessions of two links, whose numbers are alike modulo 65,536
+
+-- a PDU of a command below 256 (as a response or not), with a status of 0, a sequence_number below 256 and a body
+abbrev pub pdu_octets : ℕ → ℕ → ℕ → List ℕ → List ℕ
+pdu_octets bit command seq body =
+    0 ∷ 0 ∷ 0 ∷ (length body + 16) ∷ bit ∷ 0 ∷ 0 ∷ command ∷ 0 ∷ 0 ∷ 0 ∷ 0 ∷ 0 ∷ 0 ∷ 0 ∷ seq ∷ body
+
+-- a submit_sm that asks for a receipt, without addresses and message
+abbrev pub submit_octets : ℕ → List ℕ
+submit_octets seq =
+    pdu_octets 0 4 seq (0 ∷ 0 ∷ 0 ∷ 0 ∷ 0 ∷ 0 ∷ 0 ∷ 0 ∷ 0 ∷ 0 ∷ 0 ∷ 0 ∷ 1 ∷ 0 ∷ 0 ∷ 0 ∷ 0 ∷ [])
+
+-- a submit_sm_resp with this message id
+abbrev pub response_octets : ℕ → List ℕ → List ℕ
+response_octets seq id = pdu_octets 128 4 seq (id ++ 0 ∷ [])
+
+-- a deliver_sm that is a delivery receipt with this text
+abbrev pub receipt_octets : ℕ → List ℕ → List ℕ
+receipt_octets seq text =
+    pdu_octets 0 5 seq (0 ∷ 0 ∷ 0 ∷ 0 ∷ 0 ∷ 0 ∷ 0 ∷ 4 ∷ 0 ∷ 0 ∷ 0 ∷ 0 ∷ 0 ∷ 0 ∷ 0 ∷ 0 ∷ length text ∷ text)
+
+-- session 10 of link 1: two messages, their responses, and a receipt of the first at 5000
+abbrev pub known_session : Session
+known_session = record {
+  link = record { 0 = 1 };
+  client = handed_in 1000 (submit_octets 1) ++ handed_in 1500 (submit_octets 2);
+  centre = handed_in 1200 (response_octets 1 (codes "07")) ++ handed_in 1700 (response_octets 2 (codes "08"))
+      ++ handed_in 5000 (receipt_octets 90 (codes "id:7 stat:DELIVRD"));
+}
+
+-- session 11 of link 1: another receipt of the first at 5000 too, and one of the second; the client sends one as well,
+-- which is none
+abbrev pub other_session : Session
+other_session = record {
+  link = record { 0 = 1 };
+  client = handed_in 100 (receipt_octets 1 (codes "id:08 stat:DELIVRD"));
+  centre = handed_in 5000 (receipt_octets 91 (codes "id:007 stat:UNDELIV err:012"))
+      ++ handed_in 6000 (receipt_octets 92 (codes "id:008 stat:UNDELIV err:027"));
+}
+
+-- session 65,546 of link 65,537: two messages with one id, and a receipt of it
+abbrev pub far_session : Session
+far_session = record {
+  link = record { 0 = 65537 };
+  client = handed_in 2000 (submit_octets 1 ++ submit_octets 2);
+  centre = handed_in 2100 (response_octets 1 (codes "7") ++ response_octets 2 (codes "7"))
+      ++ handed_in 3000 (receipt_octets 90 (codes "id:7 stat:DELIVRD"));
+}
+
+-- the book of these sessions, where ids of link 1 are decimal
+abbrev pub known_book : PresentValue
+known_book = record {
+  sessions = map.from_entries ((10, known_session) ∷ (11, other_session) ∷ (65546, far_session) ∷ []);
+  settings = settings_with Decimal Decimal;
+}
+
+-- a fact of a message of a session and a link, at an offset
+abbrev pub fact_of : ℕ → ℕ → ℕ → ℕ → Outcome → Option SubmitError → Fact
+fact_of session link offset moment outcome error = record {
+  place = record { session = record { 0 = session }; dir = FromClient; offset = offset };
+  moment = moment;
+  link = record { 0 = link };
+  outcome = outcome;
+  error = error;
+}
+
+-- ---- what the laws state of these
+
+-- Replies on the book of one octet: another link comes before a stale tail, and that before an earlier moment.
+pub record KnownReplies : Type 0 where
+  pub other_link :
+      reply one_octet (one_more 2 10 FromClient (waiting 0 []) 999)
+      ≡ Some (r.OtherLink (record { 0 = 1 }))
+  pub out_of_step : reply one_octet (one_more 1 10 FromClient (waiting 0 []) 999) ≡ Some (r.OutOfStep 1)
+  pub other_rest : reply one_octet (one_more 1 10 FromClient (waiting 1 (1 ∷ [])) 1000) ≡ Some (r.OutOfStep 1)
+  pub backward : reply one_octet (one_more 1 10 FromClient (waiting 1 (0 ∷ [])) 999) ≡ Some (r.Backward 1000)
+  pub in_order : reply one_octet (one_more 1 10 FromClient (waiting 1 (0 ∷ [])) 1000) ≡ None
+  -- The centre's direction has no octets, and so no last moment, nor has an absent session.
+  pub other_direction : reply one_octet (one_more 1 10 FromCentre (waiting 0 []) 0) ≡ None
+  pub other_session : reply one_octet (one_more 2 11 FromClient (waiting 0 []) 0) ≡ None
+  pub other_session_stale : reply one_octet (one_more 2 11 FromClient (waiting 1 (0 ∷ [])) 0) ≡ Some (r.OutOfStep 0)
+
+-- Where pieces are refused on a tail near the limit of 281,474,976,710,656 octets.
+pub record KnownPieces : Type 0 where
+  pub empty : prepare_refusal (waiting 281474976710657 []) [] ≡ Some r.EmptyPiece
+  pub full : prepare_refusal (waiting 281474976710655 []) (0 ∷ 0 ∷ []) ≡ Some r.StreamFull
+  pub last_octet : prepare_refusal (waiting 281474976710655 []) (0 ∷ []) ≡ None
+
+-- What an append leaves of the book of one octet.
+pub record KnownOctets : Type 0 where
+  pub grown : octets_of two_octets 10 FromClient ≡ handed_in 1000 (0 ∷ []) ++ handed_in 2000 (0 ∷ [])
+  pub other_direction : octets_of two_octets 10 FromCentre ≡ []
+  pub stale : step one_octet (one_more 1 10 FromClient (waiting 0 []) 2000) ≡ one_octet
+
+-- The forms of a link, before and after they are set and octets are appended.
+pub record KnownForms : Type 0 where
+  pub opening : opening_forms ≡ record { response = Verbatim; receipt = Verbatim }
+  pub never_set : (link : LinkId) → forms_of empty.settings link ≡ opening_forms
+  pub there : forms_of with_forms.settings (record { 0 = 1 }) ≡ record { response = Hexadecimal; receipt = Decimal }
+  pub other_link :
+      forms_of with_forms.settings (record { 0 = 2 })
+      ≡ record { response = Verbatim; receipt = Verbatim }
+  pub far_link :
+      forms_of with_forms.settings (record { 0 = 65537 })
+      ≡ record { response = Verbatim; receipt = Verbatim }
+  pub octets : octets_of with_forms 10 FromClient ≡ handed_in 1000 (0 ∷ [])
+  pub appended : octets_of with_forms_and_octets 10 FromClient ≡ handed_in 1000 (0 ∷ []) ++ handed_in 2000 (0 ∷ [])
+  pub there_still :
+      forms_of with_forms_and_octets.settings (record { 0 = 1 })
+      ≡ record { response = Hexadecimal; receipt = Decimal }
+
+-- What became of submits that are written out.
+pub record KnownOutcomes : Type 0 where
+  pub unanswered : outcomes_by_delivery [] (0 ∷ 1 ∷ []) ≡ o.Waiting ∷ o.Waiting ∷ []
+  pub of_another_number : outcomes_by_delivery (accepted 2 ∷ []) (0 ∷ 1 ∷ []) ≡ o.Waiting ∷ o.Waiting ∷ []
+  pub other_command : outcomes_by_delivery (link_response 0 1 ∷ []) (0 ∷ 1 ∷ []) ≡ o.Mismatched ∷ o.Mismatched ∷ []
+  pub other_command_with_status :
+      outcomes_by_delivery (link_response 3 1 ∷ []) (0 ∷ 1 ∷ [])
+      ≡ o.Mismatched ∷ o.Mismatched ∷ []
+  pub nack_with_status : outcomes_by_delivery (nack 3 1 ∷ []) (0 ∷ 1 ∷ []) ≡ o.Refused ∷ o.Refused ∷ []
+  pub response_with_status :
+      outcomes_by_delivery (pdu 0 0x8000_0004 8 1 (c.SubmitAnswer (Some (49 ∷ []))) ∷ []) (0 ∷ 1 ∷ [])
+      ≡ o.Refused ∷ o.Refused ∷ []
+  pub nack_without_status : outcomes_by_delivery (nack 0 1 ∷ []) (0 ∷ 1 ∷ []) ≡ o.NoId ∷ o.NoId ∷ []
+  pub no_id : outcomes_by_delivery (without_id 1 ∷ []) (0 ∷ 1 ∷ []) ≡ o.NoId ∷ o.NoId ∷ []
+  pub unasked : outcomes_by_delivery (accepted 1 ∷ []) (0 ∷ 4 ∷ 16 ∷ []) ≡ o.Unasked ∷ o.Unasked ∷ o.Unasked ∷ []
+  pub is_open : outcomes_by_delivery (accepted 1 ∷ []) (1 ∷ 2 ∷ 3 ∷ 5 ∷ []) ≡ o.Open ∷ o.Open ∷ o.Open ∷ o.Open ∷ []
+  pub one_number_twice :
+      outcomes_among (submit 0 7 1 ∷ submit 49 7 1 ∷ []) (accepted 7 ∷ nack 3 7 ∷ [])
+      ≡ o.Open ∷ o.Refused ∷ []
+  -- outbind and alert_notification have no response, so they take none
+  pub after_no_requests :
+      outcomes_among (pdu 0 0x0000_000b 0 7 c.Other ∷ pdu 16 0x0000_0102 0 7 c.Other ∷ submit 32 7 1 ∷ [])
+      (accepted 7 ∷ [])
+      ≡ o.Open ∷ []
+  -- a submit_sm that can't be decoded is no submit, but takes its response
+  pub after_undecodable :
+      outcomes_among (pdu 0 0x0000_0004 0 7 c.Undecodable ∷ submit 16 7 1 ∷ []) (accepted 7 ∷ [])
+      ≡ o.Waiting ∷ []
+  pub of_the_centre : outcomes_among [] (submit 0 7 1 ∷ []) ≡ []
+  pub first_fact :
+      known_facts (settings_with Verbatim Verbatim) (submit 49 7 1 ∷ []) []
+      ≡ record {
+        place = record { session = record { 0 = 10 }; dir = FromClient; offset = 49 };
+        moment = 1000;
+        link = record { 0 = 1 };
+        outcome = o.Waiting;
+        error = None;
+      } ∷ []
+
+-- What receipts that are written out make of submits. Each is of the id `1`, which `accepted` gives, but for those under
+-- forms.
+pub record KnownReceipts : Type 0 where
+  pub was_delivered :
+      outcomes_by_delivery (accepted 1 ∷ delivered 18 5000 ∷ []) (0 ∷ 1 ∷ [])
+      ≡ o.Delivered ∷ o.Delivered ∷ []
+  pub has_failed : outcomes_by_delivery (accepted 1 ∷ failed 18 5000 ∷ []) (0 ∷ 1 ∷ []) ≡ o.Failed ∷ o.Failed ∷ []
+  -- whichever came first in the stream, the earlier moment decides
+  pub earlier :
+      outcomes_among (submit 0 1 1 ∷ []) (accepted 1 ∷ failed 18 5000 ∷ delivered 68 4000 ∷ [])
+      ≡ o.Delivered ∷ []
+  pub before_its_response : outcomes_among (submit 0 1 1 ∷ []) (delivered 0 500 ∷ accepted 1 ∷ []) ≡ o.Delivered ∷ []
+  pub tie : outcomes_among (submit 0 1 1 ∷ []) (accepted 1 ∷ failed 18 5000 ∷ delivered 68 5000 ∷ []) ≡ o.Failed ∷ []
+  pub interim :
+      outcomes_among (submit 0 1 1 ∷ [])
+      (accepted 1 ∷ receipt_pdu 18 5000 (receipt_saying Delivered e.Unstated true) ∷ [])
+      ≡ o.Open ∷ []
+  pub not_final :
+      outcomes_among (submit 0 1 1 ∷ [])
+      (accepted 1 ∷ receipt_pdu 18 5000 (receipt_saying Enroute e.Unstated false)
+      ∷ receipt_pdu 68 5000 (receipt_saying Accepted e.Unstated false) ∷ [])
+      ≡ o.Open ∷ []
+  pub after_an_interim :
+      outcomes_among (submit 0 1 1 ∷ [])
+      (accepted 1 ∷ receipt_pdu 18 4000 (receipt_saying Undeliverable e.Unstated true) ∷ delivered 68 5000 ∷ [])
+      ≡ o.Delivered ∷ []
+  pub of_the_client : outcomes_among (submit 0 1 1 ∷ delivered 49 5000 ∷ []) (accepted 1 ∷ []) ≡ o.Open ∷ []
+  pub refused : outcomes_among (submit 0 1 1 ∷ []) (nack 3 1 ∷ delivered 16 5000 ∷ []) ≡ o.Refused ∷ []
+  pub ambiguous :
+      outcomes_among (submit 0 1 1 ∷ submit 49 2 0 ∷ []) (accepted 1 ∷ accepted 2 ∷ delivered 36 5000 ∷ [])
+      ≡ o.Ambiguous ∷ o.Ambiguous ∷ []
+  pub forms : outcomes_under Hexadecimal Decimal (codes "0000A1B2") (codes "0000041394") ≡ o.Delivered ∷ []
+  pub forms_exchanged : outcomes_under Decimal Hexadecimal (codes "0000A1B2") (codes "0000041394") ≡ o.Open ∷ []
+  pub zeros : outcomes_under Decimal Decimal (codes "07") (codes "007") ≡ o.Delivered ∷ []
+  pub verbatim : outcomes_under Verbatim Verbatim (codes "07") (codes "007") ≡ o.Open ∷ []
+  pub why :
+      errors_among (submit 0 1 1 ∷ submit 49 2 1 ∷ submit 98 3 1 ∷ [])
+      (accepted 1 ∷ nack 3 2 ∷ accepted 4 ∷ receipt_pdu 50 5000 (receipt_saying Expired (e.Network 3 8) false) ∷ [])
+      ≡ Some (s.Failed (e.Network 3 8)) ∷ Some (s.Refused 3) ∷ None ∷ []
+  pub why_not :
+      errors_among (submit 0 1 1 ∷ [])
+      (accepted 1 ∷ receipt_pdu 18 5000 (receipt_saying Delivered (e.Network 3 8) false) ∷ [])
+      ≡ None ∷ []
+
+-- What is known and counted of the known book.
+pub record KnownFigures : Type 0 where
+  pub facts :
+      map.values (facts_of known_book.settings (traffic_of known_book.sessions))
+      ≡ fact_of 10 1 0 1000 o.Delivered None
+      ∷ fact_of 10 1 33 1500 o.Failed (Some (s.Failed (e.Text (codes "027"))))
+      ∷ fact_of 65546 65537 0 2000 o.Ambiguous None ∷ fact_of 65546 65537 33 2000 o.Ambiguous None ∷ []
+  pub delivered : count_at (scratch known_book) view.Link (w.Link (record { 0 = 1 })) o.Delivered ≡ 1
+  pub failed : count_at (scratch known_book) view.Link (w.Link (record { 0 = 1 })) o.Failed ≡ 1
+  pub ambiguous : count_at (scratch known_book) view.Link (w.Link (record { 0 = 65537 })) o.Ambiguous ≡ 2
+  pub not_ambiguous : count_at (scratch known_book) view.Link (w.Link (record { 0 = 1 })) o.Ambiguous ≡ 0
+  pub why : count_at (scratch known_book) view.Error (w.Error (s.Failed (e.Text (codes "027")))) o.Failed ≡ 1
+  pub not_so : count_at (scratch known_book) view.Error (w.Error (s.Failed (e.Text (codes "012")))) o.Failed ≡ 0

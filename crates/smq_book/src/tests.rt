@@ -3,3 +3,4 @@ mod edits;
 mod ids;
 mod receipts;
 mod scripts;
+mod sizes;

@@ -3,4 +3,6 @@ pub mod Steps
 pub mod Tails
 pub mod TailTests
 pub mod Streams
-pub mod KnownOctets
+pub mod KnownFrames
+pub mod Octets
+pub mod Offsets

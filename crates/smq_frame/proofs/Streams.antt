@@ -12,8 +12,8 @@ use Rattle.smq_frame.specs.Frame.{FrameValue}
 use Rattle.smq_frame.proofs.Splits.{split_stands, split_is, frames_of-more, frames_of-bad, is_bad-true, is_bad_from, rest_of-short, ends_no_frame, IsBad-more}
 use Rattle.smq_frame.proofs.Tails.{tail_from-is, frames_after-whole, frames_after-broken, tail_after-whole, tail_after-broken}
 
-pub one_split_lem : (octets : List ℕ) → HasOneSplit octets
-one_split_lem o = (split_stands o, split_is o)
+pub has_one_split : (octets : List ℕ) → HasOneSplit octets
+has_one_split o = (split_stands o, split_is o)
 
 values-handed_in : (m : ℕ) (p : List ℕ) → values (handed_in m p) ≡ p
 values-handed_in m [] = refl
@@ -137,8 +137,8 @@ tail_grows start o p =
 
 -- ---- the laws
 
-pub stream_grows_lem : (stream : List Octet) (moment : ℕ) (piece : List ℕ) → StreamGrows stream moment piece
-stream_grows_lem s m p =
+pub stream_grows : (stream : List Octet) (moment : ℕ) (piece : List ℕ) → StreamGrows stream moment piece
+stream_grows s m p =
     let vs : values (s ++ handed_in m p) ≡ values s ++ p = map-append (λ x. x.value) s (handed_in m p) ∙ ap (λ (t : List ℕ). values s ++ t) (values-handed_in m p) in
     let more = frames_of-more (values s) p in
     let stands = split_stands (values s) in
@@ -152,8 +152,8 @@ stream_grows_lem s m p =
       tail = rw vs (tail_grows 0 (values s) p);
     }
 
-pub pieces_join_lem : (t : TailValue) (moment : ℕ) (first second : List ℕ) → PiecesJoin t moment first second
-pieces_join_lem t m a b =
+pub pieces_join : (t : TailValue) (moment : ℕ) (first second : List ℕ) → PiecesJoin t moment first second
+pieces_join t m a b =
     elim t.broken as (λ v. t.broken ≡ v → PiecesJoin t m a b) [
       | None ↦ λ e.
           let start = t.offset - length t.rest in

@@ -3,6 +3,10 @@ use Rattle.std.specs.Prelude.{◌≡◌, ℕ, zero, suc, ◌<◌, ◌≤◌, ◌
 use Rattle.std.specs.Int.{w32, from_be_bytes}
 use Rattle.std.specs.List.{concat, AllByRecursion}
 
+-- each number is an octet
+abbrev pub AreOctets : List ℕ → Type 0
+AreOctets octets = AllByRecursion (λ octet. octet < 256) octets
+
 -- the length that the first four octets state, the first of them counting most
 unfoldable pub stated_length : List ℕ → ℕ
 stated_length octets = from_be_bytes w32 (take 4 octets)

@@ -25,12 +25,15 @@ abbrev pub broken_between : List ℕ
 broken_between = enquire_link 1 ++ 0 ∷ 0 ∷ 0 ∷ 15 ∷ enquire_link 2
 
 -- what the definitions give for some known octets
-pub record FramesOfKnownOctets : Type 0 where
+pub record KnownFrames : Type 0 where
   -- a header that states 16 is one frame
   pub shortest : frames_of (enquire_link 1) ≡ enquire_link 1 ∷ []
   pub shortest_tail :
       tail_of (enquire_link 1) ≡ (record { offset = 16; rest = []; broken = None })
-  -- a length of 15 is bad at once
+  -- a length of 16 waits, and 15 is bad at once
+  pub shortest_waits :
+      tail_of (0 ∷ 0 ∷ 0 ∷ 16 ∷ [])
+      ≡ (record { offset = 4; rest = 0 ∷ 0 ∷ 0 ∷ 16 ∷ []; broken = None })
   pub too_short :
       tail_of (0 ∷ 0 ∷ 0 ∷ 15 ∷ []) ≡ (record { offset = 4; rest = []; broken = Some 0 })
   -- a length of 131,072 waits, and one more is bad at once

@@ -1,7 +1,7 @@
 -- Frames at their places in a stream of octets and moments.
-use Rattle.std.specs.Prelude.{◌≡◌, ℕ, ◌+◌, ◌-◌, if◌then◌else◌, List, [], ◌∷◌, ◌++◌, length, map, take, drop, slice_index, slice_get, Some, is_some}
+use Rattle.std.specs.Prelude.{◌≡◌, ℕ, ◌+◌, ◌-◌, ◌≤◌, if◌then◌else◌, List, [], ◌∷◌, ◌++◌, length, map, take, drop, slice_index, slice_get, Some, is_some}
 use Rattle.std.specs.List.{AllByRecursion}
-use Rattle.smq_frame.specs.Framing.{frames_of}
+use Rattle.smq_frame.specs.Framing.{AreOctets, frames_of}
 use Rattle.smq_frame.specs.Tail.{TailValue, tail_of, tail_after}
 use Rattle.smq_frame.specs.Frame.{FrameValue}
 
@@ -46,6 +46,14 @@ pub record LiesIn (stream : List Octet) (frame : FrameValue) : Type 0 where
 -- each frame of a stream lies in it
 abbrev pub FramesLie : List Octet → Type 0
 FramesLie stream = AllByRecursion (LiesIn stream) (stream_frames stream)
+
+-- a frame ends where another begins, or before
+abbrev pub EndsBefore : FrameValue → FrameValue → Type 0
+EndsBefore f g = f.offset + length f.octets ≤ g.offset
+
+-- the numbers of each frame of a stream are octets
+abbrev pub FramesAreOctets : List Octet → Type 0
+FramesAreOctets stream = AllByRecursion (λ f. AreOctets f.octets) (stream_frames stream)
 
 -- these frames one after the other from an offset on, all with one moment
 unfoldable pub placed : ℕ → ℕ → List (List ℕ) → List FrameValue

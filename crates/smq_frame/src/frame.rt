@@ -3,7 +3,8 @@ use bytes::Bytes;
 use smq_kit::Moment;
 use std::marker::Model;
 
-/// A whole PDU of 16 to 131,072 octets, whose first four state its own length (SMPP 3.4, section 3).
+/// A whole PDU of 16 to 131,072 octets, whose first four state its own length (SMPP 3.4,
+/// section 3).
 #[derive(Drop)]
 pub struct Frame {
     /// The number of octets before it in its stream.

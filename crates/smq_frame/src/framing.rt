@@ -1,5 +1,5 @@
 //! Whole PDUs cut from the front of a stream's octets.
-ghost use Rattle.std.specs.Prelude.{◌≡◌, ◌⊎◌, ◌+◌, ◌^◌, ◌<◌, ◌≤◌, ◌++◌, [], length, map, true, false, None, All, MatchOption, IfOk, IsSome};
+ghost use Rattle.std.specs.Prelude.{◌≡◌, ◌⊎◌, ◌+◌, ◌^◌, ◌<◌, ◌≤◌, ◌++◌, [], length, map, true, false, None, All, MatchOption, IfOk, IsOk, IsSome};
 ghost use Rattle.smq_frame.specs.Framing.{stated_length, begins_frame, is_bad, frames_of, rest_of, IsWaiting, IsBad, Splits};
 ghost use Rattle.smq_frame.specs.Stream.{placed, frames_after};
 ghost use Rattle.smq_frame.specs.Tail.{tail_with, tail_after};
@@ -35,10 +35,11 @@ pub fn frames(
         Splits (tail.now.rest ++ piece.now) (map (λ frame. frame.octets) r.0.items)
         (rest_of (tail.now.rest ++ piece.now))) }
 
-    // Of a broken stream nothing is framed, and its offset alone grows.
+    // Of a broken stream nothing is framed, its offset alone grows, and no memory is taken.
     ensures none { IfOk result (λ r. IsSome tail.now.broken → r.0.items ≡ []) }
     ensures broken { IfOk result (λ r. IsSome tail.now.broken →
         r.1 ≡ record tail.now { offset = tail.now.offset + length piece.now }) }
+    ensures memory { IsSome tail.now.broken → IsOk result }
 {
     let offset = tail.offset() + piece.len() as u64;
     let rest = tail.rest();

@@ -1,9 +1,11 @@
 //! Laws of the definitions, each the contract of a function with nothing to do.
-ghost use Rattle.std.specs.Prelude.{ℕ, List};
-ghost use Rattle.smq_frame.specs.Framing.{HasOneSplit, Splits};
-ghost use Rattle.smq_frame.specs.Known.{FramesOfKnownOctets};
-ghost use Rattle.smq_frame.specs.Stream.{Octet, FramesLie, PiecesJoin, StreamGrows};
+ghost use Rattle.std.specs.Prelude.{◌≡◌, ◌+◌, ◌≤◌, ◌^◌, ℕ, List, AllPairs};
+ghost use Rattle.smq_frame.specs.Framing.{AreOctets, HasOneSplit, Splits};
+ghost use Rattle.smq_frame.specs.Known.{KnownFrames};
+ghost use Rattle.smq_frame.specs.Stream.{Octet, values, stream_frames, EndsBefore, FramesAreOctets, FramesLie, PiecesJoin, StreamGrows};
 ghost use Rattle.smq_frame.specs.Tail.{TailValue, TailFollows};
+
+use crate::{LONGEST_PDU, LONGEST_STREAM, SHORTEST_PDU};
 
 /// Any octets are one list of frames and one rest, and no others.
 pub fn one_split()
@@ -21,6 +23,19 @@ pub fn frames_lie_in_their_stream()
     ensures { (stream : List Octet) → FramesLie stream }
 {}
 
+/// The offsets of a stream's frames ascend: each frame begins where an earlier one ends, or later,
+/// and so at least 16 octets after that one's first.
+pub fn offsets_ascend()
+    ensures follow { (stream : List Octet) → AllPairs EndsBefore (stream_frames stream) }
+    ensures apart { (stream : List Octet) →
+        AllPairs (λ f g. f.offset + 16 ≤ g.offset) (stream_frames stream) }
+{}
+
+/// Where the numbers of a stream are octets, so are those of its frames.
+pub fn frames_are_octets()
+    ensures { (stream : List Octet) → AreOctets (values stream) → FramesAreOctets stream }
+{}
+
 /// What `frames` adds piece by piece is what the whole stream has.
 pub fn stream_grows()
     ensures { (stream : List Octet) (moment : ℕ) (piece : List ℕ) →
@@ -33,7 +48,15 @@ pub fn pieces_join()
         PiecesJoin tail moment first second }
 {}
 
+/// The limits, in octets: PDUs have 16 to 131,072 (SMPP 3.4, section 3, has no upper one), and a
+/// stream at most 2 to the power 48.
+pub fn known_limits()
+    ensures shortest { SHORTEST_PDU ≡ 16 }
+    ensures longest { LONGEST_PDU ≡ 131072 }
+    ensures stream { LONGEST_STREAM ≡ 2 ^ 48 }
+{}
+
 /// What the definitions give for some known octets.
-pub fn frames_of_known_octets()
-    ensures { FramesOfKnownOctets }
+pub fn known_frames()
+    ensures { KnownFrames }
 {}

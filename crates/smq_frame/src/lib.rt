@@ -11,7 +11,7 @@ mod tests;
 pub use frame::Frame;
 pub use framing::{LONGEST_PDU, SHORTEST_PDU, frames};
 pub use laws::{
-    frames_give_the_tail, frames_lie_in_their_stream, frames_of_known_octets, one_split,
-    pieces_join, stream_grows,
+    frames_are_octets, frames_give_the_tail, frames_lie_in_their_stream, known_frames,
+    known_limits, offsets_ascend, one_split, pieces_join, stream_grows,
 };
 pub use tail::{LONGEST_STREAM, Tail};

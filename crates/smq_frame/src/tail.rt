@@ -26,7 +26,8 @@ impl Model for Tail {
 
     ghost view = { λ t. record { offset = t.offset; rest = t.rest; broken = t.broken } };
 
-    ghost invariant = { λ t. IsTail (record { offset = t.offset; rest = t.rest; broken = t.broken }) };
+    ghost invariant = { λ t.
+        IsTail (record { offset = t.offset; rest = t.rest; broken = t.broken }) };
 }
 
 impl Tail {

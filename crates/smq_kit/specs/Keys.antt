@@ -1,5 +1,5 @@
 -- The key of a message id under the form in which a centre writes ids.
-use Rattle.std.specs.Prelude.{◌≡◌, ℕ, ◌+◌, ◌*◌, ◌-◌, ◌^◌, nat_lt, nat_le, ◌&&◌, Bool, if◌then◌else◌, List, [], ◌∷◌, length, codes, Option, Some, None, is_some, unwrap_or, option_and_then}
+use Rattle.std.specs.Prelude.{ℕ, ◌+◌, ◌*◌, ◌-◌, ◌^◌, nat_lt, nat_le, ◌&&◌, if◌then◌else◌, List, [], ◌∷◌, length, Option, Some, None, is_some, unwrap_or, option_and_then}
 use Rattle.std.specs.List.{list_all}
 use Rattle.smq_kit.specs.declared.form.Form.{Form}
 use Rattle.smq_kit.specs.declared.form.Form.TheVariants.{Verbatim, Decimal, Hexadecimal}
@@ -41,16 +41,3 @@ abbrev pub key_under : Form → List ℕ → Key
 key_under Verbatim id = Text id
 key_under Decimal id = key_by (number_in 10 id) id
 key_under Hexadecimal id = key_by (number_in 16 id) id
-
--- Known ids: leading zeros don't count, digits have either case, 2^128 is no number, and a number is no text.
-pub record KeysOfKnownIds : Type 0 where
-  pub verbatim : key_under Verbatim (codes "007") ≡ Text (codes "007")
-  pub zeros : key_under Decimal (codes "007") ≡ Number 7
-  pub hexadecimal : key_under Hexadecimal (codes "0000A1B2") ≡ Number 41394
-  pub lower_case : key_under Hexadecimal (codes "a1b2") ≡ Number 41394
-  pub decimal : key_under Decimal (codes "0000041394") ≡ Number 41394
-  pub letters : key_under Decimal (codes "A1B2") ≡ Text (codes "A1B2")
-  pub prefixed : key_under Hexadecimal (codes "0xA1B2") ≡ Text (codes "0xA1B2")
-  pub greatest : key_under Decimal (codes "340282366920938463463374607431768211455") ≡ Number (2 ^ 128 - 1)
-  pub above : key_under Decimal (codes "340282366920938463463374607431768211456")
-      ≡ Text (codes "340282366920938463463374607431768211456")

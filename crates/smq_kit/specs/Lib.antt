@@ -1,4 +1,9 @@
 pub mod Refusals
 pub mod Numbers
+pub mod ErrorTexts
 pub mod Keys
 pub mod Orders
+pub mod LinkKeys
+pub mod Maps
+pub mod Clones
+pub mod Known

@@ -1,6 +1,6 @@
 //! How a link's centre writes message ids, and the key of an id under such a form.
 ghost use Rattle.std.specs.Prelude.{◌≡◌, ◌⊎◌, ◌+◌, ◌*◌, ◌^◌};
-ghost use Rattle.smq_kit.specs.Keys.{key_under, number_below, number_in, value_in, KeysOfKnownIds};
+ghost use Rattle.smq_kit.specs.Keys.{key_under, number_below, number_in, value_in};
 ghost use Rattle.smq_kit.specs.Orders.{KeysAreOrdered};
 
 use crate::MessageId;
@@ -15,7 +15,7 @@ pub enum Form {
 }
 
 /// What two writings of one id share. Numbers come before texts, numbers by value and texts by octets.
-#[derive(Debug, PartialEq, Eq, PartialOrd, Ord, Drop)]
+#[derive(Clone, Debug, PartialEq, Eq, PartialOrd, Ord, Drop)]
 pub enum Key {
     Number(u128),
     Text(MessageId),
@@ -73,9 +73,4 @@ fn number_of(octets: &[u8], base: u8) -> Option<u128>
 /// Keys are ordered: numbers first, by value, then texts, by octets. They are equal exactly where they are one.
 pub fn keys_are_ordered()
     ensures { KeysAreOrdered }
-{}
-
-/// The keys of some ids: leading zeros don't count, hexadecimal digits have either case, 2^128 is no number.
-pub fn keys_of_known_ids()
-    ensures { KeysOfKnownIds }
 {}

@@ -1,7 +1,13 @@
-//! What every crate of the monitor speaks of: links, sessions, places, moments, numbers, ids, keys and refusals.
+//! What every crate of the monitor speaks of: links, sessions, places, moments, numbers, ids, keys, errors and
+//! refusals.
 #![tactic(auto)]
 
+mod error_code;
 mod form;
+mod known;
+mod laws;
+mod link_key;
+mod maps;
 mod message_id;
 mod moment;
 mod names;
@@ -11,10 +17,15 @@ mod refusal;
 #[cfg(test)]
 mod tests;
 
-pub use form::{Form, Key, key_of, keys_are_ordered, keys_of_known_ids};
-pub use message_id::{MessageId, message_ids_are_ordered};
-pub use moment::{LAST_MOMENT, Moment};
-pub use names::{LinkId, RouteId, SessionId};
+pub use error_code::{ErrorCode, ErrorText, error_codes_are_ordered};
+pub use form::{Form, Key, key_of, keys_are_ordered};
+pub use known::{known_error_texts, known_keys, known_limits, known_orders, known_refusals};
+pub use laws::clones_are_one;
+pub use link_key::{LinkKey, link_keys_match_where_they_are_one};
+pub use maps::maps_by_place_are_one_by_one;
+pub use message_id::{LONGEST_ID, MessageId, message_ids_are_ordered};
+pub use moment::{LAST_MOMENT, Moment, moments_are_ordered};
+pub use names::{LinkId, RouteId, SessionId, names_are_ordered};
 pub use number::{Digits, Network, digits_are_ordered, networks_are_ordered};
 pub use place::{Dir, Place, places_are_ordered};
-pub use refusal::Refusal;
+pub use refusal::{Refusal, refusals_are_told_apart};

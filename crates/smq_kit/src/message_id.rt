@@ -6,8 +6,11 @@ use crate::Refusal;
 use arrayvec::ArrayVec;
 use std::marker::Model;
 
-/// A message id of 1 to 64 octets. A contract sees the octets. Ids are ordered by their octets.
-#[derive(Debug, PartialEq, Eq, PartialOrd, Ord, Drop)]
+/// How many octets a message id may have: 64, with its closing NUL 65 (SMPP 3.4, 5.2.23).
+pub const LONGEST_ID: usize = 64;
+
+/// A message id of 1 to `LONGEST_ID` octets. A contract sees the octets. Ids are ordered by their octets.
+#[derive(Clone, Debug, PartialEq, Eq, PartialOrd, Ord, Drop)]
 pub struct MessageId {
     octets: ArrayVec<u8, 64>,
 }
@@ -25,9 +28,10 @@ impl Model for MessageId {
 }
 
 impl MessageId {
-    /// Takes the octets of an id. None, or more than 64, are a `BadId`.
+    /// Takes the octets of an id. None, or more than `LONGEST_ID`, are a `BadId`.
     pub fn new(octets: &[u8]) -> Result<MessageId, Refusal>
-        ensures in_range { IsOk result ↔ ((1 ≤ length octets.now) × (length octets.now ≤ 64)) }
+        ensures in_range { IsOk result
+            ↔ ((1 ≤ length octets.now) × (length octets.now ≤ LONGEST_ID)) }
         ensures value { IfOk result (λ id. id ≡ octets.now) }
         ensures refused { IfErr result (λ refusal. refusal ≡ Refusal.BadId) }
     {
@@ -42,7 +46,7 @@ impl MessageId {
     pub fn as_slice(&self) -> &[u8]
         ensures value { result.now ≡ self.now }
         ensures not_empty { 1 ≤ length self.now }
-        ensures in_range { length self.now ≤ 64 }
+        ensures in_range { length self.now ≤ LONGEST_ID }
     {
         self.octets.as_slice()
     }

@@ -1,5 +1,6 @@
 //! A moment in milliseconds since 1970, in UTC.
 ghost use Rattle.std.specs.Prelude.{◌≡◌, ◌≤◌, ◌↔◌, IsOk, IfOk, IfErr};
+ghost use Rattle.smq_kit.specs.Orders.{MomentsAreOrdered};
 
 use crate::Refusal;
 use std::marker::Model;
@@ -53,3 +54,8 @@ impl Moment {
         self.milliseconds
     }
 }
+
+/// Moments are ordered by their ms, and equal exactly where they are one.
+pub fn moments_are_ordered()
+    ensures { MomentsAreOrdered }
+{}

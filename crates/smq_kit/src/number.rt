@@ -11,7 +11,7 @@ use std::marker::Model;
 
 /// A number or a prefix of one: 1 to 15 decimal digits (E.164, section 6). A contract sees their ASCII octets, by
 /// which they are ordered.
-#[derive(Debug, PartialEq, Eq, PartialOrd, Ord, Drop)]
+#[derive(Clone, Debug, PartialEq, Eq, PartialOrd, Ord, Drop)]
 pub struct Digits {
     octets: ArrayVec<u8, 15>,
 }
@@ -53,19 +53,20 @@ impl Digits {
 
     /// Equal digits. It takes no memory.
     pub fn copy(&self) -> Digits
-        ensures { result ≡ self.now }
+        ensures value { result ≡ self.now }
+        ensures digits { IsDigits result }
     {
-        let mut kept = ArrayVec::new();
-        let _ = kept.try_extend_from_slice(self.octets.as_slice());
-        Digits { octets: kept }
+        let mut digits = ArrayVec::new();
+        let _ = digits.try_extend_from_slice(self.as_slice());
+        Digits { octets: digits }
     }
 }
 
 /// A mobile network: a country code of 3 digits and a network code of 2 or 3 (E.212, section 4). A contract sees their
 /// ASCII octets, by which they are ordered.
-#[derive(Debug, PartialEq, Eq, PartialOrd, Ord, Drop)]
+#[derive(Clone, Debug, PartialEq, Eq, PartialOrd, Ord, Drop)]
 pub struct Network {
-    octets: ArrayVec<u8, 6>,
+    digits: ArrayVec<u8, 6>,
 }
 
 impl Model for Network {
@@ -74,11 +75,11 @@ impl Model for Network {
 
     ghost Value = { List ℕ };
 
-    ghost view = { λ network. network.octets.items };
+    ghost view = { λ network. network.digits.items };
 
-    ghost invariant = { λ network. IsNetwork network.octets.items };
+    ghost invariant = { λ network. IsNetwork network.digits.items };
 
-    ghost inverse = { λ octets. record { octets = record { items = octets } } };
+    ghost inverse = { λ octets. record { digits = record { items = octets } } };
 }
 
 impl Network {
@@ -92,7 +93,7 @@ impl Network {
         if text.len() < 5 || !are_digits(text) || kept.try_extend_from_slice(text).is_err() {
             return Err(Refusal::BadNetwork);
         }
-        Ok(Network { octets: kept })
+        Ok(Network { digits: kept })
     }
 
     /// The digits in ASCII.
@@ -100,16 +101,16 @@ impl Network {
         ensures value { result.now ≡ self.now }
         ensures digits { IsNetwork self.now }
     {
-        self.octets.as_slice()
+        self.digits.as_slice()
     }
 
     /// An equal network. It takes no memory.
     pub fn copy(&self) -> Network
         ensures { result ≡ self.now }
     {
-        let mut kept = ArrayVec::new();
-        let _ = kept.try_extend_from_slice(self.octets.as_slice());
-        Network { octets: kept }
+        let mut network = ArrayVec::new();
+        let _ = network.try_extend_from_slice(self.as_slice());
+        Network { digits: network }
     }
 }
 

@@ -1,11 +1,17 @@
 //! Why an edit, a row or a value was refused.
-ghost use Rattle.std.specs.Prelude.{◌≡◌};
+//!
+//! Who adds a refusal writes, each time in the order of the numbers: a variant of `Refusal`, with the next number that
+//! was never given; its row in `row` here and in `row_of` of specs/Refusals.antt; an example of it and its text in
+//! `every_refusal` and `printed_refusals` of specs/Known.antt. The printing, the laws and the proofs stay as they are.
+ghost use Rattle.std.specs.Prelude.{◌≡◌, ◌↔◌, IsTrue};
+ghost use Rattle.smq_kit.specs.Refusals.{number_of, row_of, seen_row, is_same};
 
 use crate::{LinkId, Moment};
 use std::fmt;
 
 /// Why something was refused. Its text is its number, a space, its name and, where it has a field, a space and that
-/// field in decimal, as `5 OutOfStep 49`.
+/// field in decimal, as `5 OutOfStep 49`. No refusal has the number 18: it was never given, and a refusal keeps its
+/// number whatever comes or goes beside it, so that what was printed earlier still reads the same.
 #[derive(Clone, Copy, Debug, PartialEq, Eq)]
 pub enum Refusal {
     /// A piece has no octets.
@@ -20,110 +26,86 @@ pub enum Refusal {
     OutOfStep { offset: u64 },
     /// The session isn't present.
     NoSession,
-    /// A version of the prefix is open or ends after the new one begins; the least beginning of those.
+    /// A version of the prefix is open or ends after the new one begins; the least beginning of those. The table of
+    /// routes will make it.
     Overlap { from: Moment },
-    /// No version has this prefix and beginning.
+    /// No version has this prefix and beginning. The table of routes will make it.
     NoRoute,
-    /// The version has an end.
+    /// The version has an end. The table of routes will make it.
     Ended { until: Moment },
-    /// An end isn't after the beginning.
+    /// An end isn't after the beginning. The table of routes will make it.
     BadEnd,
-    /// The new clock is below the present one.
+    /// The new clock is below the present one. The clock will make it.
     ClockBack { clock: Moment },
-    /// The history has as many entries as its limit.
+    /// The history has as many entries as its limit. The desk will make it.
     HistoryFull,
     /// A growth was refused.
     Memory,
     /// The direction would pass its limit of octets.
     StreamFull,
-    /// The system refused to start a thread.
+    /// The system refused to start a thread. What starts threads will make it.
     NoThread,
-    /// All seats were given out.
+    /// All seats were given out. The desk will make it.
     NoSeat,
-    /// The board gave no place for a reader.
+    /// The board gave no place for a reader. The desk will make it.
     NoWatcher,
-    /// A call of a seat isn't the history's entry of that number; the least such.
+    /// A call of a seat isn't the history's entry of that number; the least such. The desk will make it.
     TornSeat { number: u64 },
     /// A prefix is empty, over 15 octets, or not all digits.
     BadPrefix,
     /// A network isn't 5 or 6 digits.
     BadNetwork,
-    /// An id is empty or over 64 octets.
+    /// An id is empty or over `LONGEST_ID` octets.
     BadId,
 }
 
-impl Refusal {
-    ghost use Rattle.smq_kit.specs.Refusals.{number_of, name_of, field_of};
+/// What is said of a refusal: its number, its name and the field that it tells.
+#[derive(Clone, Copy)]
+struct Row {
+    number: u32,
+    name: &'static str,
+    field: Option<u64>,
+}
 
-    /// The number of the refusal. 18 is left for a later one.
+impl Refusal {
+    /// The number of the refusal, 1 to 17 or 19 to 22.
     pub fn number(self) -> u32
         ensures { result ≡ number_of self }
     {
-        match self {
-            Refusal::EmptyPiece => 1,
-            Refusal::BadMoment => 2,
-            Refusal::Backward { .. } => 3,
-            Refusal::OtherLink { .. } => 4,
-            Refusal::OutOfStep { .. } => 5,
-            Refusal::NoSession => 6,
-            Refusal::Overlap { .. } => 7,
-            Refusal::NoRoute => 8,
-            Refusal::Ended { .. } => 9,
-            Refusal::BadEnd => 10,
-            Refusal::ClockBack { .. } => 11,
-            Refusal::HistoryFull => 12,
-            Refusal::Memory => 13,
-            Refusal::StreamFull => 14,
-            Refusal::NoThread => 15,
-            Refusal::NoSeat => 16,
-            Refusal::NoWatcher => 17,
-            Refusal::TornSeat { .. } => 19,
-            Refusal::BadPrefix => 20,
-            Refusal::BadNetwork => 21,
-            Refusal::BadId => 22,
-        }
+        self.row().number
     }
 
-    fn name(self) -> &'static str
-        ensures { result.now ≡ name_of self }
+    /// The table of refusals.
+    fn row(self) -> Row
+        ensures { seen_row result ≡ row_of self }
     {
-        match self {
-            Refusal::EmptyPiece => "EmptyPiece",
-            Refusal::BadMoment => "BadMoment",
-            Refusal::Backward { .. } => "Backward",
-            Refusal::OtherLink { .. } => "OtherLink",
-            Refusal::OutOfStep { .. } => "OutOfStep",
-            Refusal::NoSession => "NoSession",
-            Refusal::Overlap { .. } => "Overlap",
-            Refusal::NoRoute => "NoRoute",
-            Refusal::Ended { .. } => "Ended",
-            Refusal::BadEnd => "BadEnd",
-            Refusal::ClockBack { .. } => "ClockBack",
-            Refusal::HistoryFull => "HistoryFull",
-            Refusal::Memory => "Memory",
-            Refusal::StreamFull => "StreamFull",
-            Refusal::NoThread => "NoThread",
-            Refusal::NoSeat => "NoSeat",
-            Refusal::NoWatcher => "NoWatcher",
-            Refusal::TornSeat { .. } => "TornSeat",
-            Refusal::BadPrefix => "BadPrefix",
-            Refusal::BadNetwork => "BadNetwork",
-            Refusal::BadId => "BadId",
-        }
-    }
-
-    fn field(self) -> Option<u64>
-        ensures { result ≡ field_of self }
-    {
-        match self {
-            Refusal::Backward { last } => Some(last.milliseconds()),
-            Refusal::OtherLink { link } => Some(u64::from(link.0)),
-            Refusal::OutOfStep { offset } => Some(offset),
-            Refusal::Overlap { from } => Some(from.milliseconds()),
-            Refusal::Ended { until } => Some(until.milliseconds()),
-            Refusal::ClockBack { clock } => Some(clock.milliseconds()),
-            Refusal::TornSeat { number } => Some(number),
-            _ => None,
+        let (number, name, field): (u32, &'static str, Option<u64>) = match self {
+            Refusal::EmptyPiece => (1, "EmptyPiece", None),
+            Refusal::BadMoment => (2, "BadMoment", None),
+            Refusal::Backward { last } => (3, "Backward", Some(last.milliseconds())),
+            Refusal::OtherLink { link } => (4, "OtherLink", Some(u64::from(link.0))),
+            Refusal::OutOfStep { offset } => (5, "OutOfStep", Some(offset)),
+            Refusal::NoSession => (6, "NoSession", None),
+            Refusal::Overlap { from } => (7, "Overlap", Some(from.milliseconds())),
+            Refusal::NoRoute => (8, "NoRoute", None),
+            Refusal::Ended { until } => (9, "Ended", Some(until.milliseconds())),
+            Refusal::BadEnd => (10, "BadEnd", None),
+            Refusal::ClockBack { clock } => (11, "ClockBack", Some(clock.milliseconds())),
+            Refusal::HistoryFull => (12, "HistoryFull", None),
+            Refusal::Memory => (13, "Memory", None),
+            Refusal::StreamFull => (14, "StreamFull", None),
+            Refusal::NoThread => (15, "NoThread", None),
+            Refusal::NoSeat => (16, "NoSeat", None),
+            Refusal::NoWatcher => (17, "NoWatcher", None),
+            Refusal::TornSeat { number } => (19, "TornSeat", Some(number)),
+            Refusal::BadPrefix => (20, "BadPrefix", None),
+            Refusal::BadNetwork => (21, "BadNetwork", None),
+            Refusal::BadId => (22, "BadId", None),
+        };
+        Row {
+            number,
+            name,
+            field,
         }
     }
 }
@@ -135,11 +117,17 @@ impl fmt::Display for Refusal {
     ghost output = { λ refusal. Some (text_of refusal) };
 
     fn fmt<W: fmt::Write>(&self, f: &mut fmt::Formatter<W>) -> fmt::Result {
-        let number = self.number();
-        let name = self.name();
-        match self.field() {
+        let row = self.row();
+        let number = row.number;
+        let name = row.name;
+        match row.field {
             Some(field) => write!(f, "{number} {name} {field}"),
             None => write!(f, "{number} {name}"),
         }
     }
 }
+
+/// Two refusals are equal exactly where they are one, with the same field.
+pub fn refusals_are_told_apart()
+    ensures { (a b : Refusal) → IsTrue (is_same a b) ↔ (a ≡ b) }
+{}

@@ -4,14 +4,16 @@ use Rattle.std.specs.Prelude.{◌==◌}
 use Rattle.std.specs.List.{flat_map}
 use Rattle.std.proofs.lemmas.Bool.{cases_Bool, eqb-true, eqb-false, ne_eqb}
 use Rattle.smq_pdu.specs.Commands.{submit_sm, submit_sm_resp, deliver_sm}
-use Rattle.smq_pdu.specs.Fields.{Mandatory, AreOctets, spelling}
+use Rattle.smq_pdu.specs.Fields.{Mandatory, spelling}
 use Rattle.smq_pdu.specs.Parameters.{Tlv, tlv_spelling}
-use Rattle.smq_pdu.specs.Bodies.{SubmitValue, DeliverValue, SubmitBody, AnswerBody, DeliverBody, OtherBody, UndecodableBody, IsBody, IsMessageId, submit_said, deliver_said}
+use Rattle.smq_pdu.specs.Bodies.{SubmitValue, DeliverValue, SubmitBody, SubmitAnswerBody, DeliverBody, OtherBody, UndecodableBody, IsBody, IsMessageId, submit_said, deliver_said}
 use Rattle.smq_pdu.specs.Readers.{mandatory_at, tlvs_of, rest_of}
 use Rattle.smq_pdu.specs.Pdu.{id_of, before_zero, submit_of, deliver_of, body_of}
-use Rattle.smq_pdu.specs.Laws.{command_at, body_at, said, IsSubmit, IsDeliver, IsUndecodable, IsAnswer, IsAnswerWithoutId, IsOther}
+use Rattle.smq_pdu.specs.Laws.{command_at, body_at, said, IsSubmit, IsDeliver, IsUndecodable, IsSubmitResponse, IsSubmitResponseWithoutId, IsOther}
 use Rattle.smq_pdu.proofs.Mandatory.{some_is, pair_is, mandatory_found, mandatory_again}
-use Rattle.smq_pdu.proofs.Parameters.{octets_parts, octets_right, parameters_stand, parameters_again}
+use Rattle.smq_frame.specs.Framing.{AreOctets}
+use Rattle.smq_frame.proofs.Octets.{octets_parts, octets_right}
+use Rattle.smq_pdu.proofs.Parameters.{parameters_stand, parameters_again}
 use Rattle.smq_pdu.proofs.MessageIds.{id_again, id_cases}
 
 -- ---- a body by its relation
@@ -43,7 +45,7 @@ body_unique b m n ts us r s h k =
 
 data Kind (c : ℕ) : Type 0 where
   submits : c ≡ submit_sm → Kind c
-  answers : c ≡ submit_sm_resp → Kind c
+  responds : c ≡ submit_sm_resp → Kind c
   delivers : c ≡ deliver_sm → Kind c
   others : c ≢ submit_sm → c ≢ submit_sm_resp → c ≢ deliver_sm → Kind c
 
@@ -52,7 +54,7 @@ kind_of c =
     elim (cases_Bool (c == submit_sm)) [
       | inl a ↦ submits (eqb-true c submit_sm a)
       | inr a ↦ elim (cases_Bool (c == submit_sm_resp)) [
-        | inl b ↦ answers (eqb-true c submit_sm_resp b)
+        | inl b ↦ responds (eqb-true c submit_sm_resp b)
         | inr b ↦ elim (cases_Bool (c == deliver_sm)) [
           | inl d ↦ delivers (eqb-true c deliver_sm d)
           | inr d ↦ others (eqb-false c submit_sm a) (eqb-false c submit_sm_resp b) (eqb-false c deliver_sm d)
@@ -64,9 +66,9 @@ of_submit : (c : ℕ) (b : List ℕ) → c ≡ submit_sm → body_of c b ≡ sub
 unfolding body_of
 of_submit c b e = rw e refl
 
-of_answer : (c : ℕ) (b : List ℕ) → c ≡ submit_sm_resp → body_of c b ≡ AnswerBody (id_of b)
+of_response : (c : ℕ) (b : List ℕ) → c ≡ submit_sm_resp → body_of c b ≡ SubmitAnswerBody (id_of b)
 unfolding body_of
-of_answer c b e = rw e refl
+of_response c b e = rw e refl
 
 of_deliver : (c : ℕ) (b : List ℕ) → c ≡ deliver_sm → body_of c b ≡ deliver_of b
 unfolding body_of
@@ -101,7 +103,7 @@ data Read (o : List ℕ) : Type 0 where
   a_submit : command_at o ≡ submit_sm → (m : Mandatory) (r : List ℕ) → mandatory_at (body_at o) ≡ Some (m, r) → said o ≡ SubmitBody (submit_said m) → Read o
   a_deliver : command_at o ≡ deliver_sm → (m : Mandatory) (r : List ℕ) → mandatory_at (body_at o) ≡ Some (m, r) → said o ≡ DeliverBody (deliver_said m (tlvs_of r)) → Read o
   undecodable : (command_at o ≡ submit_sm) ⊎ (command_at o ≡ deliver_sm) → mandatory_at (body_at o) ≡ None → said o ≡ UndecodableBody → Read o
-  an_answer : command_at o ≡ submit_sm_resp → said o ≡ AnswerBody (id_of (body_at o)) → Read o
+  a_response : command_at o ≡ submit_sm_resp → said o ≡ SubmitAnswerBody (id_of (body_at o)) → Read o
   another : command_at o ≢ submit_sm → command_at o ≢ submit_sm_resp → command_at o ≢ deliver_sm → said o ≡ OtherBody → Read o
 
 read_of : (o : List ℕ) → Read o
@@ -113,7 +115,7 @@ read_of o =
         | inl none ↦ undecodable (inl e) none (of_submit c b e ∙ submit_none b none)
         | inr some ↦ a_submit e some.0.0 some.0.1 some.1 (of_submit c b e ∙ submit_some b some.0.1 some.0.0 some.1)
       ]
-      | answers e ↦ an_answer e (of_answer c b e)
+      | responds e ↦ a_response e (of_response c b e)
       | delivers e ↦ elim (fields_cases (mandatory_at b)) [
         | inl none ↦ undecodable (inr e) none (of_deliver c b e ∙ deliver_none b none)
         | inr some ↦ a_deliver e some.0.0 some.0.1 some.1 (of_deliver c b e ∙ deliver_some b some.0.1 some.0.0 some.1)
@@ -142,7 +144,7 @@ says_submit o v h s =
       }
       | a_deliver e m r found is ↦ absurd (let differ = sym s ∙ is in cc)
       | undecodable e none is ↦ absurd (let differ = sym s ∙ is in cc)
-      | an_answer e is ↦ absurd (let differ = sym s ∙ is in cc)
+      | a_response e is ↦ absurd (let differ = sym s ∙ is in cc)
       | another x y z is ↦ absurd (let differ = sym s ∙ is in cc)
     ]
 
@@ -164,7 +166,7 @@ says_deliver o v h s =
         value = let same = sym s ∙ is in cc;
       }
       | undecodable e none is ↦ absurd (let differ = sym s ∙ is in cc)
-      | an_answer e is ↦ absurd (let differ = sym s ∙ is in cc)
+      | a_response e is ↦ absurd (let differ = sym s ∙ is in cc)
       | another x y z is ↦ absurd (let differ = sym s ∙ is in cc)
     ]
 
@@ -180,7 +182,7 @@ says_undecodable o s =
       | a_submit e m r found is ↦ absurd (let differ = sym s ∙ is in cc)
       | a_deliver e m r found is ↦ absurd (let differ = sym s ∙ is in cc)
       | undecodable e none is ↦ record { command = e; none = no_body (body_at o) none }
-      | an_answer e is ↦ absurd (let differ = sym s ∙ is in cc)
+      | a_response e is ↦ absurd (let differ = sym s ∙ is in cc)
       | another x y z is ↦ absurd (let differ = sym s ∙ is in cc)
     ]
 
@@ -190,7 +192,7 @@ undecodable_says o h u =
       | a_submit e m r found is ↦ absurd (u.none m (tlvs_of r) (rest_of r) (body_stands (body_at o) r m (body_octets o h) found))
       | a_deliver e m r found is ↦ absurd (u.none m (tlvs_of r) (rest_of r) (body_stands (body_at o) r m (body_octets o h) found))
       | undecodable e none is ↦ is
-      | an_answer e is ↦ elim u.command [ inl c ↦ absurd (let differ = sym e ∙ c in omega arith) | inr c ↦ absurd (let differ = sym e ∙ c in omega arith) ]
+      | a_response e is ↦ elim u.command [ inl c ↦ absurd (let differ = sym e ∙ c in omega arith) | inr c ↦ absurd (let differ = sym e ∙ c in omega arith) ]
       | another x y z is ↦ elim u.command [ inl c ↦ absurd (x c) | inr c ↦ absurd (z c) ]
     ]
 
@@ -200,26 +202,26 @@ says_other o s =
       | a_submit e m r found is ↦ absurd (let differ = sym s ∙ is in cc)
       | a_deliver e m r found is ↦ absurd (let differ = sym s ∙ is in cc)
       | undecodable e none is ↦ absurd (let differ = sym s ∙ is in cc)
-      | an_answer e is ↦ absurd (let differ = sym s ∙ is in cc)
-      | another x y z is ↦ record { no_submit = x; no_answer = y; no_deliver = z }
+      | a_response e is ↦ absurd (let differ = sym s ∙ is in cc)
+      | another x y z is ↦ record { no_submit = x; no_submit_resp = y; no_deliver = z }
     ]
 
 pub other_says : (o : List ℕ) → IsOther o → said o ≡ OtherBody
-other_says o h = of_other (command_at o) (body_at o) h.no_submit h.no_answer h.no_deliver
+other_says o h = of_other (command_at o) (body_at o) h.no_submit h.no_submit_resp h.no_deliver
 
-answer_command : (o : List ℕ) (id : Option (List ℕ)) → said o ≡ AnswerBody id → (command_at o ≡ submit_sm_resp) × (id_of (body_at o) ≡ id)
-answer_command o id s =
+response_command : (o : List ℕ) (id : Option (List ℕ)) → said o ≡ SubmitAnswerBody id → (command_at o ≡ submit_sm_resp) × (id_of (body_at o) ≡ id)
+response_command o id s =
     elim (read_of o) [
       | a_submit e m r found is ↦ absurd (let differ = sym s ∙ is in cc)
       | a_deliver e m r found is ↦ absurd (let differ = sym s ∙ is in cc)
       | undecodable e none is ↦ absurd (let differ = sym s ∙ is in cc)
-      | an_answer e is ↦ (e, let same = sym s ∙ is in cc)
+      | a_response e is ↦ (e, let same = sym s ∙ is in cc)
       | another x y z is ↦ absurd (let differ = sym s ∙ is in cc)
     ]
 
-pub says_answer : (o id : List ℕ) → said o ≡ AnswerBody (Some id) → IsAnswer o id
-says_answer o id s =
-    let is = answer_command o (Some id) s in
+pub says_response : (o id : List ℕ) → said o ≡ SubmitAnswerBody (Some id) → IsSubmitResponse o id
+says_response o id s =
+    let is = response_command o (Some id) s in
     elim (id_cases (body_at o)) [
       | inl found ↦
           let same : before_zero (body_at o) ≡ id = some_is (before_zero (body_at o)) id (sym found.0 ∙ is.1) in
@@ -227,17 +229,17 @@ says_answer o id s =
       | inr none ↦ absurd (let differ = sym none ∙ is.1 in cc)
     ]
 
-pub answer_says : (o id : List ℕ) → IsAnswer o id → said o ≡ AnswerBody (Some id)
-answer_says o id h = of_answer (command_at o) (body_at o) h.command ∙ ap AnswerBody (id_again (body_at o) id h.of_body)
+pub response_says : (o id : List ℕ) → IsSubmitResponse o id → said o ≡ SubmitAnswerBody (Some id)
+response_says o id h = of_response (command_at o) (body_at o) h.command ∙ ap SubmitAnswerBody (id_again (body_at o) id h.of_body)
 
-pub says_no_id : (o : List ℕ) → said o ≡ AnswerBody None → IsAnswerWithoutId o
+pub says_no_id : (o : List ℕ) → said o ≡ SubmitAnswerBody None → IsSubmitResponseWithoutId o
 says_no_id o s =
-    let is = answer_command o None s in
+    let is = response_command o None s in
     record { command = is.0; none = λ id h. let differ = sym is.1 ∙ id_again (body_at o) id h in cc }
 
-pub no_id_says : (o : List ℕ) → IsAnswerWithoutId o → said o ≡ AnswerBody None
+pub no_id_says : (o : List ℕ) → IsSubmitResponseWithoutId o → said o ≡ SubmitAnswerBody None
 no_id_says o h =
     elim (id_cases (body_at o)) [
       | inl found ↦ absurd (h.none (before_zero (body_at o)) found.1)
-      | inr none ↦ of_answer (command_at o) (body_at o) h.command ∙ ap AnswerBody none
+      | inr none ↦ of_response (command_at o) (body_at o) h.command ∙ ap SubmitAnswerBody none
     ]

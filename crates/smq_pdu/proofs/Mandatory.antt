@@ -4,7 +4,8 @@ use Rattle.std.specs.Prelude.{option_map, ◌==◌}
 use Rattle.std.proofs.lemmas.Bool.{ltb-false, le-ltb, eqb-true, eqb-false, ne_eqb}
 use Rattle.std.proofs.lemmas.List.{take_at, drop_at, take-append-drop, length-append, length-take-le}
 use Rattle.smq_pdu.specs.Fields.{Address, Mandatory, c_octet, address, spelling, IsText, BeginsWith}
-use Rattle.smq_pdu.specs.Readers.{Front, Middle, Back, ◌>>=◌, octet_at, c_octet_at, octets_at, address_at, front_at, middle_at, back_at, mandatory_of, mandatory_at}
+use Rattle.smq_pdu.specs.Readers.{◌>>=◌, octet_at, c_octet_at, octets_at, address_at, mandatory_at}
+use Rattle.smq_pdu.specs.within.Parts.{Front, Middle, Back, front_at, middle_at, back_at, mandatory_of, mandatory_by_parts}
 
 -- the value of a step that found something
 pub bind_some : {A B : Type 0} (r : Option A) (f : A → Option B) (y : B) → (r >>= f) ≡ Some y → (x : A) × (r ≡ Some x) × (f x ≡ Some y)
@@ -182,9 +183,24 @@ back_again b r = rw (octets_again b.short_message r) refl
 
 -- ---- all of them
 
-pub mandatory_found : (o r : List ℕ) (m : Mandatory) → mandatory_at o ≡ Some (m, r) → BeginsWith o m r
-unfolding mandatory_at
-mandatory_found o r m e =
+-- steps within a step are steps one after the other
+bind_through : {A B C : Type 0} (r : Option A) (f : A → Option B) (g : B → Option C) (h : A → Option C) → ((x : A) → (f x >>= g) ≡ h x) → ((r >>= f) >>= g) ≡ (r >>= h)
+bind_through None f g h e = refl
+bind_through (Some x) f g h e = e x
+
+-- read part by part, the fields are the same
+pub by_parts-is : (o : List ℕ) → mandatory_by_parts o ≡ mandatory_at o
+unfolding mandatory_by_parts mandatory_at front_at middle_at back_at
+by_parts-is o =
+    bind_through (c_octet_at o) _ _ _ (λ service. bind_through (address_at service.1) _ _ _ (λ source. bind_through (address_at source.1) _ _ _ (λ destination.
+    bind_through (octet_at destination.1) _ _ _ (λ esm. bind_through (octet_at esm.1) _ _ _ (λ protocol. bind_through (octet_at protocol.1) _ _ _ (λ priority.
+    bind_through (c_octet_at priority.1) _ _ _ (λ schedule. bind_through (c_octet_at schedule.1) _ _ _ (λ validity.
+    bind_through (octet_at validity.1) _ _ _ (λ registered. bind_through (octet_at registered.1) _ _ _ (λ replace. bind_through (octet_at replace.1) _ _ _ (λ coding.
+    bind_through (octet_at coding.1) _ _ _ (λ default. bind_through (octet_at default.1) _ _ _ (λ len. bind_through (octets_at len.0 len.1) _ _ _ (λ message. refl))))))))))))))
+
+parts_found : (o r : List ℕ) (m : Mandatory) → mandatory_by_parts o ≡ Some (m, r) → BeginsWith o m r
+unfolding mandatory_by_parts
+parts_found o r m e =
     let front = bind_some (front_at o) _ (m, r) e in
     let middle = bind_some (middle_at front.0.1) _ (m, r) front.2 in
     let back = bind_some (back_at middle.0.1) _ (m, r) middle.2 in
@@ -196,9 +212,9 @@ mandatory_found o r m e =
     subst (λ (p : Mandatory × List ℕ). BeginsWith o p.0 p.1) (some_is (read, back.0.1) (m, r) back.2)
     (record { parts = parts; texts = record { service_type = a.1.service_type; source = a.1.source; destination = a.1.destination; schedule_delivery_time = b.1.schedule_delivery_time; validity_period = b.1.validity_period } })
 
-pub mandatory_again : (o r : List ℕ) (m : Mandatory) → BeginsWith o m r → mandatory_at o ≡ Some (m, r)
-unfolding mandatory_at
-mandatory_again o r m h =
+parts_again : (o r : List ℕ) (m : Mandatory) → BeginsWith o m r → mandatory_by_parts o ≡ Some (m, r)
+unfolding mandatory_by_parts
+parts_again o r m h =
     let t = h.texts in
     let front : Front = record { service_type = m.service_type; source = m.source; destination = m.destination } in
     let middle : Middle = record { esm_class = m.esm_class; protocol_id = m.protocol_id; priority_flag = m.priority_flag; schedule_delivery_time = m.schedule_delivery_time; validity_period = m.validity_period } in
@@ -207,3 +223,9 @@ mandatory_again o r m h =
     let second : List ℕ = m.esm_class ∷ m.protocol_id ∷ m.priority_flag ∷ (c_octet m.schedule_delivery_time ++ (c_octet m.validity_period ++ last)) in
     let parts : o ≡ c_octet m.service_type ++ (address m.source ++ (address m.destination ++ second)) = h.parts ∙ simp append_assoc in
     rw (parts, front_again front second (record { service_type = t.service_type; source = t.source; destination = t.destination }), middle_again middle last (record { schedule_delivery_time = t.schedule_delivery_time; validity_period = t.validity_period }), back_again back r) refl
+
+pub mandatory_found : (o r : List ℕ) (m : Mandatory) → mandatory_at o ≡ Some (m, r) → BeginsWith o m r
+mandatory_found o r m e = parts_found o r m (by_parts-is o ∙ e)
+
+pub mandatory_again : (o r : List ℕ) (m : Mandatory) → BeginsWith o m r → mandatory_at o ≡ Some (m, r)
+mandatory_again o r m h = sym (by_parts-is o) ∙ parts_again o r m h

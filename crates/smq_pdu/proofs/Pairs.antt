@@ -1,10 +1,10 @@
 -- The element that passes a test and before which so many pass it.
 use Rattle.std.proofs.Common.{◌≡◌, ℕ, zero, suc, ◌+◌, Bool, true, false, cond, List, [], ◌∷◌, take, Option, Some, None, refl, sym, ap, subst, ◌∙◌, arith}
-use Rattle.std.specs.Prelude.{slice_get, count_by, option_map, ◌==◌, ◌&&◌}
+use Rattle.std.specs.Prelude.{slice_get, count_by, filter, map, option_map, option_and_then, ◌==◌, ◌&&◌}
 use Rattle.std.proofs.lemmas.Bool.Decides.{nat_tests}
 use Rattle.std.proofs.lemmas.List.Sums.{sum_by-cons}
 use Rattle.smq_pdu.specs.Header.{Header}
-use Rattle.smq_pdu.specs.Pairing.{IsPair, asks, answers, is_response, nth_place, response_place, request_rank, response_rank, FindsPairs, FindsEachPair, AnswersOneRequest}
+use Rattle.smq_pdu.specs.Pairing.{IsPair, is_request_of, is_response_of, is_response, nth_place, response_place, request_rank, response_rank, FindsPairs, FindsEachPair, HasOneRequest, FindsInTurn}
 use Rattle.smq_pdu.proofs.Mandatory.{some_is}
 
 shifted_is : (f : Option ℕ) (j : ℕ) → option_map suc f ≡ Some j → (i : ℕ) × (f ≡ Some i) × (suc i ≡ j)
@@ -84,6 +84,30 @@ module _ {X : Type 0} (p : X → Bool) where
   found (y ∷ xs) zero x h t = first y xs (ap p (some_is y x h) ∙ t)
   found (y ∷ xs) (suc j) x h t = found_at y xs j (p y) refl (found xs j x h t)
 
+  -- ---- in turn
+
+  moved : {Y : Type 0} (y : Y) (ys : List Y) (f : Option ℕ) → option_and_then (slice_get (y ∷ ys)) (option_map suc f) ≡ option_and_then (slice_get ys) f
+  moved y ys None = refl
+  moved y ys (Some i) = refl
+
+  pub in_turn : (xs : List X) (k : ℕ) → slice_get (filter p xs) k ≡ option_and_then (slice_get xs) (nth_place p xs k)
+  unfolding nth_place
+  in_turn [] k = refl
+  in_turn (x ∷ xs) k = turn_at x xs k (p x) refl (in_turn xs)
+    where
+      turn_at : (x : X) (xs : List X) (k : ℕ) (b : Bool) → p x ≡ b → ((n : ℕ) → slice_get (filter p xs) n ≡ option_and_then (slice_get xs) (nth_place p xs n))
+          → slice_get (filter p (x ∷ xs)) k ≡ option_and_then (slice_get (x ∷ xs)) (nth_place p (x ∷ xs) k)
+      turn_at x xs k false e ih = rw (skipped x xs k e, e) (ih k ∙ sym (moved x xs (nth_place p xs k)))
+      turn_at x xs zero true e ih = rw (first x xs e, e) refl
+      turn_at x xs (suc k) true e ih = rw (taken x xs k e, e) (ih k ∙ sym (moved x xs (nth_place p xs k)))
+
+-- a test of what stands beside each item finds the same places
+pub nth_place-map : {A X : Type 0} (p : X → Bool) (of : A → X) (items : List A) (k : ℕ) → nth_place p (map of items) k ≡ nth_place (λ a. p (of a)) items k
+unfolding nth_place
+nth_place-map p of [] k = refl
+nth_place-map p of (a ∷ items) zero = ap (λ (f : Option ℕ). cond (p (of a)) (Some 0) (option_map suc f)) (nth_place-map p of items zero)
+nth_place-map p of (a ∷ items) (suc k) = ap (option_map suc) (nth_place-map p of items (cond (p (of a)) k (suc k)))
+
 -- ---- pairs
 
 both : (a b : Bool) → a && b ≡ true → (a ≡ true) × (b ≡ true)
@@ -96,15 +120,15 @@ and_of a b h k = rw (h, k) refl
 
 pub finds_pairs : FindsPairs
 finds_pairs mine other i j request at request_is e =
-    let s = stands (answers request.seq) other (request_rank mine i request.seq) j e in
+    let s = stands (is_response_of request.seq) other (request_rank mine i request.seq) j e in
     let parts : (is_response s.element ≡ true) × (s.element.seq == request.seq ≡ true) = both _ _ s.passes in
     let same : request.seq ≡ s.element.seq = grind (arith, nat_tests, parts.1) in (
       s.element,
       record {
         request_at = at;
         response_at = s.there;
-        asks = request_is;
-        answers = parts.0;
+        is_request = request_is;
+        is_response = parts.0;
         seq = same;
         rank = sym s.before ∙ ap (λ n. response_rank other j n) same;
       },
@@ -113,20 +137,29 @@ finds_pairs mine other i j request at request_is e =
 pub finds_each : FindsEachPair
 finds_each mine other i j request response pair =
     let same : response.seq == request.seq ≡ true = grind (arith, nat_tests, pair.seq) in
-    let passes : answers request.seq response ≡ true = and_of _ _ pair.answers same in
+    let passes : is_response_of request.seq response ≡ true = and_of _ _ pair.is_response same in
     let rank : request_rank mine i request.seq ≡ response_rank other j request.seq = pair.rank ∙ ap (λ n. response_rank other j n) (sym pair.seq) in
-    ap (λ n. response_place other request.seq n) rank ∙ found (answers request.seq) other j response pair.response_at passes
+    ap (λ n. response_place other request.seq n) rank ∙ found (is_response_of request.seq) other j response pair.response_at passes
 
 -- the place of a request is found by the rank of its response
 request_found : (mine other : List Header) (i j : ℕ) (request response : Header) → IsPair mine other i j request response
-    → nth_place (asks response.seq) mine (response_rank other j response.seq) ≡ Some i
+    → nth_place (is_request_of response.seq) mine (response_rank other j response.seq) ≡ Some i
 request_found mine other i j request response pair =
     let same : request.seq == request.seq ≡ true = grind (arith, nat_tests) in
-    let passes : asks request.seq request ≡ true = and_of _ _ pair.asks same in
-    let here : nth_place (asks request.seq) mine (request_rank mine i request.seq) ≡ Some i = found (asks request.seq) mine i request pair.request_at passes in
-    let by_response : nth_place (asks request.seq) mine (response_rank other j response.seq) ≡ Some i = ap (λ n. nth_place (asks request.seq) mine n) (sym pair.rank) ∙ here in
-    ap (λ n. nth_place (asks n) mine (response_rank other j response.seq)) (sym pair.seq) ∙ by_response
+    let passes : is_request_of request.seq request ≡ true = and_of _ _ pair.is_request same in
+    let here : nth_place (is_request_of request.seq) mine (request_rank mine i request.seq) ≡ Some i = found (is_request_of request.seq) mine i request pair.request_at passes in
+    let by_response : nth_place (is_request_of request.seq) mine (response_rank other j response.seq) ≡ Some i = ap (λ n. nth_place (is_request_of request.seq) mine n) (sym pair.rank) ∙ here in
+    ap (λ n. nth_place (is_request_of n) mine (response_rank other j response.seq)) (sym pair.seq) ∙ by_response
 
-pub answers_one : AnswersOneRequest
-answers_one mine other i k j one two response first second =
+pub has_one_request : HasOneRequest
+has_one_request mine other i k j one two response first second =
     some_is i k (sym (request_found mine other i j one response first) ∙ request_found mine other k j two response second)
+
+pub finds_in_turn : FindsInTurn
+finds_in_turn other seq rank = in_turn (is_response_of seq) other rank
+
+-- the same of items that each have a header
+pub response-in-turn : {A : Type 0} (header_of : A → Header) (items : List A) (seq rank : ℕ)
+    → slice_get (filter (λ x. is_response_of seq (header_of x)) items) rank ≡ option_and_then (slice_get items) (response_place (map header_of items) seq rank)
+response-in-turn header_of items seq rank =
+    in_turn (λ x. is_response_of seq (header_of x)) items rank ∙ ap (option_and_then (slice_get items)) (sym (nth_place-map (is_response_of seq) header_of items rank))

@@ -6,30 +6,11 @@ use Rattle.std.specs.List.{flat_map}
 use Rattle.std.proofs.lemmas.Bool.{ltb-false, le-ltb, eq-eqb, ne_eqb, cases_lt}
 use Rattle.std.proofs.lemmas.List.{take-append-drop, length-append, length-drop, length-take-le}
 use Rattle.std.proofs.lemmas.Nat.{be_bytes_2, from_be_bytes-to_be_bytes_2}
-use Rattle.smq_pdu.specs.Fields.{AreOctets}
+use Rattle.smq_frame.specs.Framing.{AreOctets}
+use Rattle.smq_frame.proofs.Octets.{octets_right, octet_at_place, octets_parts}
 use Rattle.smq_pdu.specs.Parameters.{Tlv, IsTlv, tlv_spelling, stated_length, BeginsWithNoTlv, AreParameters, first_value}
 use Rattle.smq_pdu.specs.Readers.{octets_at, number_at, tlv_at, tlvs_within, rest_within, tlvs_of, rest_of}
 use Rattle.smq_pdu.proofs.Mandatory.{bind_some, pair_is, some_is, octets_found, octets_again}
-
--- ---- octets
-
-pub octets_left : (a b : List ℕ) → AreOctets (a ++ b) → AreOctets a
-octets_left [] b h = tt
-octets_left (x ∷ a) b h = (h.0, octets_left a b h.1)
-
-pub octets_right : (a b : List ℕ) → AreOctets (a ++ b) → AreOctets b
-octets_right [] b h = h
-octets_right (x ∷ a) b h = octets_right a b h.1
-
-octet_at_place : (a : List ℕ) → AreOctets a → (i : ℕ) → get_or a i 0 < 256
-octet_at_place [] h i = omega arith
-octet_at_place (x ∷ a) h zero = h.0
-octet_at_place (x ∷ a) h (suc i) = octet_at_place a h.1 i
-
-pub octets_parts : (n : ℕ) (o : List ℕ) → AreOctets o → AreOctets (take n o) × AreOctets (drop n o)
-octets_parts n o h =
-    let both : AreOctets (take n o ++ drop n o) = rw (take-append-drop n o) h in
-    (octets_left (take n o) (drop n o) both, octets_right (take n o) (drop n o) both)
 
 -- ---- a number of two octets
 

@@ -21,7 +21,7 @@ pub record DeliverValue : Type 0 where
 pub data BodyValue : Type 0 where
   SubmitBody : (submit : SubmitValue) → BodyValue
   -- a submit_sm_resp, with its message id where it has one
-  AnswerBody : (id : Option (List ℕ)) → BodyValue
+  SubmitAnswerBody : (id : Option (List ℕ)) → BodyValue
   DeliverBody : (deliver : DeliverValue) → BodyValue
   -- every other command
   OtherBody : BodyValue

@@ -9,7 +9,7 @@ generic_nack = 0x8000_0000
 abbrev pub submit_sm : ℕ
 submit_sm = 0x0000_0004
 
--- the centre answers that, with the message id
+-- the response to that, with the message id
 abbrev pub submit_sm_resp : ℕ
 submit_sm_resp = 0x8000_0004
 

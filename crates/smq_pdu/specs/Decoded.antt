@@ -2,7 +2,7 @@
 use Rattle.std.specs.Prelude.{Option, ℕ, List}
 use Rattle.std.specs.Option.{option_map}
 use denote.Bor.{Bor}
-use Rattle.smq_pdu.specs.Bodies.{BodyValue, DeliverValue, SubmitBody, AnswerBody, DeliverBody, OtherBody, UndecodableBody}
+use Rattle.smq_pdu.specs.Bodies.{BodyValue, DeliverValue, SubmitBody, SubmitAnswerBody, DeliverBody, OtherBody, UndecodableBody}
 use Rattle.smq_pdu.specs.Pdu.{PduValue}
 use Rattle.smq_pdu.specs.declared.pdu.Pdu.{Pdu}
 use Rattle.smq_pdu.specs.declared.body.Body.{Body}
@@ -27,7 +27,7 @@ deliver_view d = record {
 -- what a body says
 abbrev pub body_view : Body → BodyValue
 body_view (v.Submit s) = SubmitBody (record { registered_delivery = s.registered_delivery })
-body_view (v.SubmitAnswer a) = AnswerBody a.message_id
+body_view (v.SubmitAnswer a) = SubmitAnswerBody a.message_id
 body_view (v.Deliver d) = DeliverBody (deliver_view d)
 body_view v.Other = OtherBody
 body_view v.Undecodable = UndecodableBody

@@ -1,5 +1,5 @@
 -- The mandatory fields of submit_sm and deliver_sm (SMPP 3.4, sections 4.4.1 and 4.6.1).
-use Rattle.std.specs.Prelude.{◌≡◌, ◌≢◌, ◌<◌, ℕ, List, [], ◌∷◌, ◌++◌, length}
+use Rattle.std.specs.Prelude.{◌≡◌, ◌≢◌, ℕ, List, [], ◌∷◌, ◌++◌, length}
 use Rattle.std.specs.List.{AllByRecursion}
 
 -- a type of number, a numbering plan and an address
@@ -42,10 +42,6 @@ spelling m =
     ∷ (c_octet m.schedule_delivery_time ++ (c_octet m.validity_period
     ++ (m.registered_delivery ∷ m.replace_if_present_flag ∷ m.data_coding ∷ m.sm_default_msg_id
     ∷ length m.short_message ∷ m.short_message))))))
-
--- each number is an octet
-abbrev pub AreOctets : List ℕ → Type 0
-AreOctets octets = AllByRecursion (λ octet. octet < 256) octets
 
 -- no zero octet stands in the text
 abbrev pub IsText : List ℕ → Type 0

@@ -44,17 +44,17 @@ pub record IsUndecodable (octets : List ℕ) : Type 0 where
       → IsBody (body_at octets) fields tlvs rest → ⊥
 
 -- The PDU is a submit_sm_resp with this id.
-pub record IsAnswer (octets id : List ℕ) : Type 0 where
+pub record IsSubmitResponse (octets id : List ℕ) : Type 0 where
   pub command : command_at octets ≡ submit_sm_resp
   pub of_body : IsMessageId (body_at octets) id
 
 -- The PDU is a submit_sm_resp with no id.
-pub record IsAnswerWithoutId (octets : List ℕ) : Type 0 where
+pub record IsSubmitResponseWithoutId (octets : List ℕ) : Type 0 where
   pub command : command_at octets ≡ submit_sm_resp
   pub none : (id : List ℕ) → IsMessageId (body_at octets) id → ⊥
 
 -- The PDU is none of submit_sm, submit_sm_resp and deliver_sm.
 pub record IsOther (octets : List ℕ) : Type 0 where
   pub no_submit : command_at octets ≢ submit_sm
-  pub no_answer : command_at octets ≢ submit_sm_resp
+  pub no_submit_resp : command_at octets ≢ submit_sm_resp
   pub no_deliver : command_at octets ≢ deliver_sm

@@ -7,7 +7,7 @@ pub mod Bodies
 pub mod Readers
 pub mod Pdu
 pub mod Placed
-pub mod Views
 pub mod Decoded
 pub mod Laws
-pub mod Vectors
+pub mod Known
+pub mod within

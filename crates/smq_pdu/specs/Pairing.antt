@@ -1,5 +1,5 @@
--- Which response answers which request (SMPP 3.4, sections 3.2 and 5.1; that it goes by rank is this project's).
-use Rattle.std.specs.Prelude.{◌≡◌, ℕ, zero, suc, ◌+◌, ◌==◌, ◌&&◌, ◌||◌, not, nat_le, if◌then◌else◌, Bool, true, List, [], ◌∷◌, take, count_by, slice_get, Option, Some, None, option_map}
+-- Which response belongs to which request (SMPP 3.4, sections 3.2 and 5.1; that it goes by rank is this project's).
+use Rattle.std.specs.Prelude.{◌≡◌, ℕ, zero, suc, ◌+◌, ◌==◌, ◌&&◌, ◌||◌, not, nat_le, if◌then◌else◌, Bool, true, List, [], ◌∷◌, take, filter, count_by, slice_get, Option, Some, None, option_map, option_and_then}
 use Rattle.smq_pdu.specs.Header.{Header}
 use Rattle.smq_pdu.specs.Commands.{generic_nack, outbind, alert_notification, response_bit}
 
@@ -12,28 +12,28 @@ abbrev pub is_request : Header → Bool
 is_request h = not (is_response h) && not (h.command == outbind) && not (h.command == alert_notification)
 
 -- a request of this sequence number
-abbrev pub asks : ℕ → Header → Bool
-asks seq h = is_request h && h.seq == seq
+abbrev pub is_request_of : ℕ → Header → Bool
+is_request_of seq h = is_request h && h.seq == seq
 
 -- a response of this sequence number
-abbrev pub answers : ℕ → Header → Bool
-answers seq h = is_response h && h.seq == seq
+abbrev pub is_response_of : ℕ → Header → Bool
+is_response_of seq h = is_response h && h.seq == seq
 
 -- the rank of a request: how many earlier requests of its direction have its sequence number
 abbrev pub request_rank : List Header → ℕ → ℕ → ℕ
-request_rank headers i seq = count_by (asks seq) (take i headers)
+request_rank headers i seq = count_by (is_request_of seq) (take i headers)
 
 -- the rank of a response: how many earlier responses of its direction have its sequence number
 abbrev pub response_rank : List Header → ℕ → ℕ → ℕ
-response_rank headers j seq = count_by (answers seq) (take j headers)
+response_rank headers j seq = count_by (is_response_of seq) (take j headers)
 
 -- The i-th PDU of one direction is a request, and the j-th of the other is its response: they are equal in sequence
 -- number and in rank.
 pub record IsPair (mine other : List Header) (i j : ℕ) (request response : Header) : Type 0 where
   pub request_at : slice_get mine i ≡ Some request
   pub response_at : slice_get other j ≡ Some response
-  pub asks : is_request request ≡ true
-  pub answers : is_response response ≡ true
+  pub is_request : is_request request ≡ true
+  pub is_response : is_response response ≡ true
   pub seq : request.seq ≡ response.seq
   pub rank : request_rank mine i request.seq ≡ response_rank other j response.seq
 
@@ -51,7 +51,7 @@ nth_place passes (x ∷ xs) (suc rank) = option_map suc (nth_place passes xs (if
 
 -- the place of the response to a request of this sequence number and rank
 abbrev pub response_place : List Header → ℕ → ℕ → Option ℕ
-response_place other seq rank = nth_place (answers seq) other rank
+response_place other seq rank = nth_place (is_response_of seq) other rank
 
 -- what is computed at a request's rank is the response of a pair
 abbrev pub FindsPairs : Type 0
@@ -65,7 +65,13 @@ FindsEachPair = (mine other : List Header) (i j : ℕ) (request response : Heade
     → IsPair mine other i j request response
     → response_place other request.seq (request_rank mine i request.seq) ≡ Some j
 
--- a response answers one request at most
-abbrev pub AnswersOneRequest : Type 0
-AnswersOneRequest = (mine other : List Header) (i k j : ℕ) (one two response : Header)
+-- a response has one request at most
+abbrev pub HasOneRequest : Type 0
+HasOneRequest = (mine other : List Header) (i k j : ℕ) (one two response : Header)
     → IsPair mine other i j one response → IsPair mine other k j two response → i ≡ k
+
+-- the response of a request is the one of its rank among the responses of its sequence number
+abbrev pub FindsInTurn : Type 0
+FindsInTurn = (other : List Header) (seq rank : ℕ)
+    → slice_get (filter (is_response_of seq) other) rank
+    ≡ option_and_then (slice_get other) (response_place other seq rank)

@@ -2,7 +2,7 @@
 use Rattle.std.specs.Prelude.{ℕ, ◌==◌, nat_le, ◌&&◌, if◌then◌else◌, List, length, drop, Option, Some, None, take_while, not}
 use Rattle.smq_pdu.specs.Commands.{submit_sm, submit_sm_resp, deliver_sm}
 use Rattle.smq_pdu.specs.Header.{Header, header_at}
-use Rattle.smq_pdu.specs.Bodies.{BodyValue, SubmitBody, AnswerBody, DeliverBody, OtherBody, UndecodableBody, submit_said, deliver_said}
+use Rattle.smq_pdu.specs.Bodies.{BodyValue, SubmitBody, SubmitAnswerBody, DeliverBody, OtherBody, UndecodableBody, submit_said, deliver_said}
 use Rattle.smq_pdu.specs.Readers.{mandatory_at, tlvs_of}
 
 -- a PDU: its header and what its body says
@@ -34,7 +34,7 @@ deliver_of octets =
 unfoldable pub body_of : ℕ → List ℕ → BodyValue
 body_of command octets =
     if command == submit_sm then submit_of octets
-    else (if command == submit_sm_resp then AnswerBody (id_of octets)
+    else (if command == submit_sm_resp then SubmitAnswerBody (id_of octets)
     else (if command == deliver_sm then deliver_of octets
     else OtherBody))
 

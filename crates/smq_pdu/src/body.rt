@@ -45,8 +45,11 @@ pub struct Deliver<'a> {
 /// What the body of a PDU says, by its command.
 #[derive(Debug, PartialEq, Eq, Drop)]
 pub enum Body<'a> {
+    /// A submit_sm.
     Submit(Submit),
+    /// A submit_sm_resp.
     SubmitAnswer(SubmitAnswer),
+    /// A deliver_sm.
     Deliver(Deliver<'a>),
     /// The body of any other command.
     Other,
@@ -54,23 +57,19 @@ pub enum Body<'a> {
     Undecodable,
 }
 
-/// The octets up to the first zero, or all.
-#[tactic(auto, using(crate::proofs::Texts::before_zero_facts))]
-fn first_text(octets: &[u8]) -> &[u8]
-    ensures { result.now ≡ before_zero octets.now }
+/// The body of a command.
+#[tactic(auto, unfolding(crate::specs::Pdu::body_of))]
+pub(crate) fn read_body(command: u32, octets: &[u8]) -> Body<'_>
+    ensures { body_view result ≡ body_of command octets.now }
 {
-    match zero_place(octets) {
-        None => octets,
-        Some(len) => &octets[..len],
+    match command {
+        SUBMIT_SM => read_submit(octets),
+        SUBMIT_SM_RESP => Body::SubmitAnswer(SubmitAnswer {
+            message_id: read_id(octets),
+        }),
+        DELIVER_SM => read_deliver(octets),
+        _ => Body::Other,
     }
-}
-
-/// The message id of a submit_sm_resp.
-#[tactic(auto, unfolding(crate::specs::Pdu::id_of))]
-fn read_id(octets: &[u8]) -> Option<MessageId>
-    ensures { result ≡ id_of octets.now }
-{
-    MessageId::new(first_text(octets)).ok()
 }
 
 /// The body of a submit_sm.
@@ -104,17 +103,21 @@ fn read_deliver(octets: &[u8]) -> Body<'_>
     }
 }
 
-/// The body of a command.
-#[tactic(auto, unfolding(crate::specs::Pdu::body_of))]
-pub(crate) fn read_body(command: u32, octets: &[u8]) -> Body<'_>
-    ensures { body_view result ≡ body_of command octets.now }
+/// The message id of a submit_sm_resp.
+#[tactic(auto, unfolding(crate::specs::Pdu::id_of))]
+fn read_id(octets: &[u8]) -> Option<MessageId>
+    ensures { result ≡ id_of octets.now }
 {
-    match command {
-        SUBMIT_SM => read_submit(octets),
-        SUBMIT_SM_RESP => Body::SubmitAnswer(SubmitAnswer {
-            message_id: read_id(octets),
-        }),
-        DELIVER_SM => read_deliver(octets),
-        _ => Body::Other,
+    MessageId::new(first_text(octets)).ok()
+}
+
+/// The octets up to the first zero, or all.
+#[tactic(auto, using(crate::proofs::Texts::before_zero_facts))]
+fn first_text(octets: &[u8]) -> &[u8]
+    ensures { result.now ≡ before_zero octets.now }
+{
+    match zero_place(octets) {
+        None => octets,
+        Some(len) => &octets[..len],
     }
 }

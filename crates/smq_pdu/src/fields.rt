@@ -1,7 +1,9 @@
-//! The mandatory fields of submit_sm and deliver_sm (SMPP 3.4, 4.4.1 and 4.6.1), read from left to right.
-ghost use Rattle.std.specs.Prelude.{◌≡◌, ◌<◌, ◌≤◌, List, ℕ, length, option_map, position, ◌==◌};
-ghost use Rattle.smq_pdu.specs.Readers.{octet_at, c_octet_at, octets_at, address_at, front_at, middle_at, back_at, mandatory_at};
-ghost use Rattle.smq_pdu.specs.Views.{seen_number, seen_octets, seen_address, seen_front, seen_middle, seen_back, seen_mandatory};
+//! The mandatory fields of submit_sm and deliver_sm (SMPP 3.4, 4.4.1 and 4.6.1), read from left to
+//! right.
+ghost use Rattle.std.specs.Prelude.{◌≡◌, ◌<◌, option_map, position, ◌==◌};
+ghost use Rattle.smq_pdu.specs.Readers.{octet_at, c_octet_at, octets_at, address_at, mandatory_at};
+ghost use Rattle.smq_pdu.specs.within.Parts.{front_at, middle_at, back_at};
+ghost use Rattle.smq_pdu.specs.within.Views.{seen_number, seen_octets, seen_address, seen_front, seen_middle, seen_back, seen_mandatory};
 
 /// A type of number, a numbering plan and an address.
 #[derive(Clone, Copy)]
@@ -47,54 +49,23 @@ pub struct Mandatory<'a> {
     pub back: Back<'a>,
 }
 
-/// The first octet, and what follows.
-fn read_octet(octets: &[u8]) -> Option<(u8, &[u8])>
-    ensures { option_map seen_number result ≡ octet_at octets.now }
+/// The mandatory fields at the front of a body, and what follows them.
+pub fn read_mandatory(octets: &[u8]) -> Option<(Mandatory<'_>, &[u8])>
+    ensures { option_map seen_mandatory result ≡ mandatory_at octets.now }
 {
-    let (first, rest) = octets.split_first()?;
-    Some((*first, rest))
-}
-
-/// The place of the first zero octet.
-pub(crate) fn zero_place(octets: &[u8]) -> Option<usize>
-    ensures { result ≡ position (λ x. x == 0) octets.now }
-{
-    octets.iter().position(|x| *x == 0)
-}
-
-/// A text up to the first zero octet, and what follows that.
-#[tactic(auto, using(crate::proofs::Texts::c_octet_facts))]
-fn read_text(octets: &[u8]) -> Option<(&[u8], &[u8])>
-    ensures { option_map seen_octets result ≡ c_octet_at octets.now }
-{
-    let len = zero_place(octets)?;
-    Some((&octets[..len], &octets[len + 1..]))
-}
-
-/// So many octets, and what follows.
-#[tactic(auto, unfolding(crate::specs::Readers::octets_at))]
-pub(crate) fn read_octets(len: usize, octets: &[u8]) -> Option<(&[u8], &[u8])>
-    ensures { option_map seen_octets result ≡ octets_at len octets.now }
-{
-    if octets.len() < len {
-        return None;
-    }
-    Some(octets.split_at(len))
-}
-
-/// An address, and what follows.
-#[tactic(auto, unfolding(crate::specs::Readers::address_at))]
-fn read_address(octets: &[u8]) -> Option<(Address<'_>, &[u8])>
-    ensures { option_map seen_address result ≡ address_at octets.now }
-{
-    let (ton, rest) = read_octet(octets)?;
-    let (npi, rest) = read_octet(rest)?;
-    let (text, rest) = read_text(rest)?;
-    Some((Address { ton, npi, text }, rest))
+    let (front, rest) = read_front(octets)?;
+    let (middle, rest) = read_middle(rest)?;
+    let (back, rest) = read_back(rest)?;
+    let fields = Mandatory {
+        front,
+        middle,
+        back,
+    };
+    Some((fields, rest))
 }
 
 /// The fields up to the addresses, and what follows.
-#[tactic(auto, unfolding(crate::specs::Readers::front_at))]
+#[tactic(auto, unfolding(crate::specs::within::Parts::front_at))]
 fn read_front(octets: &[u8]) -> Option<(Front<'_>, &[u8])>
     ensures { option_map seen_front result ≡ front_at octets.now }
 {
@@ -110,7 +81,7 @@ fn read_front(octets: &[u8]) -> Option<(Front<'_>, &[u8])>
 }
 
 /// The fields from esm_class to the times, and what follows.
-#[tactic(auto, unfolding(crate::specs::Readers::middle_at))]
+#[tactic(auto, unfolding(crate::specs::within::Parts::middle_at))]
 fn read_middle(octets: &[u8]) -> Option<(Middle<'_>, &[u8])>
     ensures { option_map seen_middle result ≡ middle_at octets.now }
 {
@@ -130,7 +101,7 @@ fn read_middle(octets: &[u8]) -> Option<(Middle<'_>, &[u8])>
 }
 
 /// The fields from registered_delivery to the message, and what follows.
-#[tactic(auto, unfolding(crate::specs::Readers::back_at))]
+#[tactic(auto, unfolding(crate::specs::within::Parts::back_at))]
 fn read_back(octets: &[u8]) -> Option<(Back<'_>, &[u8])>
     ensures { option_map seen_back result ≡ back_at octets.now }
 {
@@ -150,18 +121,48 @@ fn read_back(octets: &[u8]) -> Option<(Back<'_>, &[u8])>
     Some((back, rest))
 }
 
-/// The mandatory fields at the front of a body, and what follows them.
-#[tactic(auto, unfolding(crate::specs::Readers::mandatory_at))]
-pub fn read_mandatory(octets: &[u8]) -> Option<(Mandatory<'_>, &[u8])>
-    ensures { option_map seen_mandatory result ≡ mandatory_at octets.now }
+/// An address, and what follows.
+#[tactic(auto, unfolding(crate::specs::Readers::address_at))]
+fn read_address(octets: &[u8]) -> Option<(Address<'_>, &[u8])>
+    ensures { option_map seen_address result ≡ address_at octets.now }
 {
-    let (front, rest) = read_front(octets)?;
-    let (middle, rest) = read_middle(rest)?;
-    let (back, rest) = read_back(rest)?;
-    let fields = Mandatory {
-        front,
-        middle,
-        back,
-    };
-    Some((fields, rest))
+    let (ton, rest) = read_octet(octets)?;
+    let (npi, rest) = read_octet(rest)?;
+    let (text, rest) = read_text(rest)?;
+    Some((Address { ton, npi, text }, rest))
+}
+
+/// A text up to the first zero octet, and what follows that.
+#[tactic(auto, using(crate::proofs::Texts::c_octet_facts))]
+fn read_text(octets: &[u8]) -> Option<(&[u8], &[u8])>
+    ensures { option_map seen_octets result ≡ c_octet_at octets.now }
+{
+    let len = zero_place(octets)?;
+    Some((&octets[..len], &octets[len + 1..]))
+}
+
+/// The place of the first zero octet.
+pub(crate) fn zero_place(octets: &[u8]) -> Option<usize>
+    ensures { result ≡ position (λ x. x == 0) octets.now }
+{
+    octets.iter().position(|x| *x == 0)
+}
+
+/// So many octets, and what follows.
+#[tactic(auto, unfolding(crate::specs::Readers::octets_at))]
+pub(crate) fn read_octets(len: usize, octets: &[u8]) -> Option<(&[u8], &[u8])>
+    ensures { option_map seen_octets result ≡ octets_at len octets.now }
+{
+    if octets.len() < len {
+        return None;
+    }
+    Some(octets.split_at(len))
+}
+
+/// The first octet, and what follows.
+fn read_octet(octets: &[u8]) -> Option<(u8, &[u8])>
+    ensures { option_map seen_number result ≡ octet_at octets.now }
+{
+    let (first, rest) = octets.split_first()?;
+    Some((*first, rest))
 }

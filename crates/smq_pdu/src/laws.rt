@@ -1,14 +1,14 @@
 //! Laws of the definitions that the contracts cite. No code calls these functions.
-ghost use Rattle.std.specs.Prelude.{◌≡◌, ◌↔◌, ◌++◌, ◌∷◌, [], List, ℕ, Some, None, true, false};
-ghost use Rattle.smq_pdu.specs.Fields.{Mandatory, AreOctets, BeginsWith};
-ghost use Rattle.smq_pdu.specs.Parameters.{Tlv, AreParameters, BeginsWithNoTlv, IsTlv, tlv_spelling, first_value};
-ghost use Rattle.smq_pdu.specs.Bodies.{SubmitValue, DeliverValue, SubmitBody, AnswerBody, DeliverBody, OtherBody, UndecodableBody, IsBody, IsFirstText};
+ghost use Rattle.std.specs.Prelude.{◌≡◌, ◌≢◌, ◌↔◌, ◌⊎◌, ◌+◌, ◌^◌, ◌<◌, ◌≤◌, ◌++◌, ◌∷◌, [], List, ℕ, Some, None, true, false, IsTrue};
+ghost use Rattle.smq_pdu.specs.Fields.{Mandatory, BeginsWith};
+ghost use Rattle.smq_pdu.specs.Parameters.{Tlv, AreParameters, BeginsWithNoTlv, IsTlv, tlv_spelling, first_value, receipted_message_id_tag, network_error_code_tag, message_payload_tag, message_state_tag};
+ghost use Rattle.smq_pdu.specs.Bodies.{SubmitValue, DeliverValue, SubmitBody, SubmitAnswerBody, DeliverBody, OtherBody, UndecodableBody, IsBody, IsFirstText};
 ghost use Rattle.smq_pdu.specs.Readers.{mandatory_at, tlvs_of, rest_of};
 ghost use Rattle.smq_pdu.specs.Pdu.{before_zero, pdu_of};
-ghost use Rattle.smq_pdu.specs.Laws.{said, IsSubmit, IsDeliver, IsUndecodable, IsAnswer, IsAnswerWithoutId, IsOther};
-ghost use Rattle.smq_pdu.specs.Pairing.{FindsPairs, FindsEachPair, AnswersOneRequest, agrees, request_rank, response_rank, response_place};
-ghost use Rattle.smq_pdu.specs.Header.{header_with};
-ghost use Rattle.smq_pdu.specs.Vectors.{submit_octets, submit_pdu, answer_octets, answer_pdu, receipt_octets, receipt_pdu, cut_octets, cut_pdu, nack_octets, nack_pdu, parameter_octets, parameter_tlvs, parameter_rest, IsRequestCommand, IsResponseCommand, IsNeitherCommand, short_requests, short_responses};
+ghost use Rattle.smq_pdu.specs.Laws.{said, IsSubmit, IsDeliver, IsUndecodable, IsSubmitResponse, IsSubmitResponseWithoutId, IsOther};
+ghost use Rattle.smq_pdu.specs.Pairing.{FindsPairs, FindsEachPair, HasOneRequest, FindsInTurn, agrees, is_request, is_response, request_rank, response_rank, response_place};
+ghost use Rattle.smq_pdu.specs.Header.{Header, header_with};
+ghost use Rattle.smq_pdu.specs.Known.{submit_octets, submit_pdu, response_octets, response_pdu, receipt_octets, receipt_pdu, all_parameters_octets, all_parameters_pdu, cut_octets, cut_pdu, nack_octets, nack_pdu, parameter_octets, parameter_tlvs, parameter_rest, IsRequestCommand, IsResponseCommand, IsNeitherCommand, short_requests, short_responses};
 
 /// The fields that are read at the front of a body are the ones that it begins with, and no others.
 pub fn fields_are_read()
@@ -19,26 +19,24 @@ pub fn fields_are_read()
 {}
 
 /// Any octets are one list of parameters and one rest, those that are read.
-pub fn parameters_are_read()
-    ensures found { (octets : List ℕ) → AreOctets octets
-        → AreParameters octets (tlvs_of octets) (rest_of octets) }
-    ensures unique { (octets rest : List ℕ) (tlvs : List Tlv) → AreParameters octets tlvs rest
-        → (tlvs ≡ tlvs_of octets) × (rest ≡ rest_of octets) }
+pub fn parameters_are_read(octets: &[u8])
+    ensures found { AreParameters octets.now (tlvs_of octets.now) (rest_of octets.now) }
+    ensures unique { (all rest : List ℕ) (tlvs : List Tlv) → AreParameters all tlvs rest
+        → (tlvs ≡ tlvs_of all) × (rest ≡ rest_of all) }
 
     // Octets begin with no whole parameter where they are not one and what follows it.
-    ensures none { (octets : List ℕ) → AreOctets octets → BeginsWithNoTlv octets
-        ↔ ((tlv : Tlv) (rest : List ℕ) → IsTlv tlv → octets ≡ tlv_spelling tlv ++ rest → ⊥) }
+    ensures none { BeginsWithNoTlv octets.now
+        ↔ ((tlv : Tlv) (rest : List ℕ) → IsTlv tlv → octets.now ≡ tlv_spelling tlv ++ rest → ⊥) }
 {}
 
-/// A PDU says what the relation of its body says, and nothing else.
-pub fn bodies_are_read()
-    ensures submit { (octets : List ℕ) (submit : SubmitValue) → AreOctets octets
-        → (said octets ≡ SubmitBody submit) ↔ IsSubmit octets submit }
-    ensures deliver { (octets : List ℕ) (deliver : DeliverValue) → AreOctets octets
-        → (said octets ≡ DeliverBody deliver) ↔ IsDeliver octets deliver }
-    ensures undecodable { (octets : List ℕ) → AreOctets octets
-        → (said octets ≡ UndecodableBody) ↔ IsUndecodable octets }
-    ensures other { (octets : List ℕ) → (said octets ≡ OtherBody) ↔ IsOther octets }
+/// A PDU of these octets says what the relation of its body says, and nothing else.
+pub fn bodies_are_read(octets: &[u8])
+    ensures submit { (submit : SubmitValue)
+        → (said octets.now ≡ SubmitBody submit) ↔ IsSubmit octets.now submit }
+    ensures deliver { (deliver : DeliverValue)
+        → (said octets.now ≡ DeliverBody deliver) ↔ IsDeliver octets.now deliver }
+    ensures undecodable { (said octets.now ≡ UndecodableBody) ↔ IsUndecodable octets.now }
+    ensures other { (all : List ℕ) → (said all ≡ OtherBody) ↔ IsOther all }
 
     // A body is one list of fields, parameters and rest at most.
     ensures unique { (body : List ℕ) (fields others : Mandatory) (tlvs more : List Tlv)
@@ -47,10 +45,11 @@ pub fn bodies_are_read()
 {}
 
 /// A submit_sm_resp has the id that its body begins with, where that has 1 to 64 octets, or none.
-pub fn answers_are_read()
-    ensures id { (octets id : List ℕ) → (said octets ≡ AnswerBody (Some id)) ↔ IsAnswer octets id }
+pub fn responses_are_read()
+    ensures id { (octets id : List ℕ)
+        → (said octets ≡ SubmitAnswerBody (Some id)) ↔ IsSubmitResponse octets id }
     ensures no_id { (octets : List ℕ)
-        → (said octets ≡ AnswerBody None) ↔ IsAnswerWithoutId octets }
+        → (said octets ≡ SubmitAnswerBody None) ↔ IsSubmitResponseWithoutId octets }
 
     // Any octets have one first text.
     ensures text { (octets : List ℕ) → IsFirstText octets (before_zero octets) }
@@ -61,14 +60,28 @@ pub fn answers_are_read()
 pub fn pairs_are_found()
     ensures found { FindsPairs }
     ensures each { FindsEachPair }
-    ensures one { AnswersOneRequest }
+    ensures one { HasOneRequest }
+    ensures in_turn { FindsInTurn }
+{}
+
+/// What the command_id of any header says (SMPP 3.4, 5.1.2.1): requests are below 2 to the power
+/// 31, without outbind (11) and alert_notification (258), and responses are from there on. The
+/// response that agrees with a request has its command_id with bit 31 set, or is generic_nack.
+pub fn commands_are_told_apart()
+    ensures request { (header : Header) → IsTrue (is_request header)
+        ↔ ((header.command < 2 ^ 31) × (header.command ≢ 11) × (header.command ≢ 258)) }
+    ensures response { (header : Header) → IsTrue (is_response header)
+        ↔ (2 ^ 31 ≤ header.command) }
+    ensures agrees { (request response : Header) → IsTrue (agrees request response)
+        ↔ ((response.command ≡ request.command + 2 ^ 31) ⊎ (response.command ≡ 2 ^ 31)) }
 {}
 
 /// What some PDUs say.
 pub fn known_pdus()
     ensures submit { pdu_of submit_octets ≡ submit_pdu }
-    ensures answer { pdu_of answer_octets ≡ answer_pdu }
+    ensures response { pdu_of response_octets ≡ response_pdu }
     ensures receipt { pdu_of receipt_octets ≡ receipt_pdu }
+    ensures parameters { pdu_of all_parameters_octets ≡ all_parameters_pdu }
     ensures cut { pdu_of cut_octets ≡ cut_pdu }
     ensures nack { pdu_of nack_octets ≡ nack_pdu }
 {}
@@ -80,6 +93,14 @@ pub fn known_parameters()
     ensures first { first_value 0x0427 parameter_tlvs ≡ Some (2 ∷ []) }
     ensures other { first_value 0x0423 parameter_tlvs ≡ Some (3 ∷ 0 ∷ 27 ∷ []) }
     ensures none { first_value 0x0424 parameter_tlvs ≡ None }
+{}
+
+/// The tags of the parameters that are read (SMPP 3.4, 5.3.2).
+pub fn known_tags()
+    ensures receipted_message_id { receipted_message_id_tag ≡ 0x001e }
+    ensures network_error_code { network_error_code_tag ≡ 0x0423 }
+    ensures message_payload { message_payload_tag ≡ 0x0424 }
+    ensures message_state { message_state_tag ≡ 0x0427 }
 {}
 
 /// Which commands are requests and which are responses.

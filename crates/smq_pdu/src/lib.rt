@@ -1,4 +1,4 @@
-//! What the octets of a PDU say, and which response answers which request (SMPP 3.4).
+//! What the octets of a PDU say, and which response belongs to which request (SMPP 3.4).
 #![tactic(auto)]
 
 mod body;
@@ -13,7 +13,8 @@ mod tlv;
 pub use body::{Body, Deliver, Submit, SubmitAnswer};
 pub use command::{agrees, is_request, is_response};
 pub use laws::{
-    answers_are_read, bodies_are_read, fields_are_read, known_commands, known_pairs,
-    known_parameters, known_pdus, pairs_are_found, parameters_are_read,
+    bodies_are_read, commands_are_told_apart, fields_are_read, known_commands, known_pairs,
+    known_parameters, known_pdus, known_tags, pairs_are_found, parameters_are_read,
+    responses_are_read,
 };
 pub use pdu::{Pdu, decode};

@@ -16,21 +16,8 @@ pub struct Pdu<'a> {
     pub command: u32,
     /// command_status, 0 for success
     pub status: u32,
+    /// What its body says.
     pub body: Body<'a>,
-}
-
-/// The 32-bit word at a place.
-#[tactic(auto, unfolding(crate::specs::Header::word_at))]
-fn word(octets: &[u8], place: usize) -> u32
-    requires { place + 4 ≤ length octets.now }
-    ensures { result ≡ word_at place octets.now }
-{
-    u32::from_be_bytes([
-        octets[place],
-        octets[place + 1],
-        octets[place + 2],
-        octets[place + 3],
-    ])
 }
 
 /// What a frame says. Every frame says something, and nothing but a message id is copied.
@@ -45,4 +32,18 @@ pub fn decode(frame: &Frame) -> Pdu<'_>
         status: word(octets, 8),
         body: read_body(command, &octets[16..]),
     }
+}
+
+/// The 32-bit word at a place.
+#[tactic(auto, unfolding(crate::specs::Header::word_at))]
+fn word(octets: &[u8], place: usize) -> u32
+    requires { place + 4 ≤ length octets.now }
+    ensures { result ≡ word_at place octets.now }
+{
+    u32::from_be_bytes([
+        octets[place],
+        octets[place + 1],
+        octets[place + 2],
+        octets[place + 3],
+    ])
 }

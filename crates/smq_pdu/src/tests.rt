@@ -32,8 +32,8 @@ fn frame_with(
     frame_of(rt, octets.as_slice())
 }
 
-/// An answer with this id, or with none.
-fn answer(id: &[u8]) -> Body<'static> {
+/// A response with this id, or with none.
+fn response(id: &[u8]) -> Body<'static> {
     Body::SubmitAnswer(SubmitAnswer {
         message_id: MessageId::new(id).ok(),
     })
@@ -87,7 +87,7 @@ fn whole_pdus_are_decoded(rt: HostRuntime) -> Result<(), Fail> {
                 seq: 1,
                 command: 0x8000_0004,
                 status: 0,
-                body: answer(b"0000A1B2"),
+                body: response(b"0000A1B2"),
             },
         },
         Vector {
@@ -105,6 +105,26 @@ fn whole_pdus_are_decoded(rt: HostRuntime) -> Result<(), Fail> {
                     receipted_message_id: None,
                     network_error_code: None,
                     message_payload: None,
+                    message_state: Some(b"\x02"),
+                }),
+            },
+        },
+        Vector {
+            message: "a delivery receipt with all four parameters",
+            octets: b"\x00\x00\x00\x3a\x00\x00\x00\x05\x00\x00\x00\x00\x00\x00\x00\x02\
+                \x00\x00\x00\x00\x00\x00\x00\x04\x00\x00\x00\x00\x00\x00\x00\x00\x00\
+                \x00\x1e\x00\x03A1\x00\x04\x23\x00\x03\x03\x00\x1b\
+                \x04\x24\x00\x02hi\x04\x27\x00\x01\x02",
+            pdu: Pdu {
+                seq: 2,
+                command: 0x0000_0005,
+                status: 0,
+                body: Body::Deliver(Deliver {
+                    esm_class: 4,
+                    short_message: b"",
+                    receipted_message_id: Some(b"A1\0"),
+                    network_error_code: Some(b"\x03\0\x1b"),
+                    message_payload: Some(b"hi"),
                     message_state: Some(b"\x02"),
                 }),
             },
@@ -156,13 +176,18 @@ fn submit_row(message: &'static str, octets: &'static [u8], body: Body<'static>)
     }
 }
 
-fn answer_row(message: &'static str, status: u32, octets: &'static [u8], id: &'static [u8]) -> Row {
+fn response_row(
+    message: &'static str,
+    status: u32,
+    octets: &'static [u8],
+    id: &'static [u8],
+) -> Row {
     Row {
         message,
         command: 0x8000_0004,
         status,
         octets,
-        body: answer(id),
+        body: response(id),
     }
 }
 
@@ -184,7 +209,7 @@ fn check_rows(rt: &(impl Abort + AllocGlobal), rows: &[Row]) -> Result<(), Fail>
 }
 
 #[test]
-fn bodies_of_deliver_sm(rt: HostRuntime) -> Result<(), Fail> {
+fn bodies_of_pdus(rt: HostRuntime) -> Result<(), Fail> {
     check_rows(
         &rt,
         &[
@@ -233,15 +258,6 @@ fn bodies_of_deliver_sm(rt: HostRuntime) -> Result<(), Fail> {
                 b"\0\0\0\0\0\0\0\x04\0\0\0\0\0\0\0\0",
                 Body::Undecodable,
             ),
-        ],
-    )
-}
-
-#[test]
-fn bodies_of_submit_sm(rt: HostRuntime) -> Result<(), Fail> {
-    check_rows(
-        &rt,
-        &[
             submit_row(
                 "an end before dest_addr_ton",
                 b"\0\0\0\0",
@@ -260,26 +276,17 @@ fn bodies_of_submit_sm(rt: HostRuntime) -> Result<(), Fail> {
                     registered_delivery: 2,
                 }),
             ),
-        ],
-    )
-}
-
-#[test]
-fn bodies_of_submit_sm_resp(rt: HostRuntime) -> Result<(), Fail> {
-    check_rows(
-        &rt,
-        &[
-            answer_row("an id without a zero octet", 0, b"abc", b"abc"),
-            answer_row("octets after the id", 0, b"abc\0\x04\x27\0\x01\x02", b"abc"),
-            answer_row("an empty id", 0, b"\0abc", b""),
-            answer_row("a nonzero status and no body", 0x58, b"", b""),
-            answer_row(
+            response_row("an id without a zero octet", 0, b"abc", b"abc"),
+            response_row("octets after the id", 0, b"abc\0\x04\x27\0\x01\x02", b"abc"),
+            response_row("an empty id", 0, b"\0abc", b""),
+            response_row("a nonzero status and no body", 0x58, b"", b""),
+            response_row(
                 "an id of 64 octets",
                 0,
                 b"0123456789abcdef0123456789abcdef0123456789abcdef0123456789abcdef\0",
                 b"0123456789abcdef0123456789abcdef0123456789abcdef0123456789abcdef",
             ),
-            answer_row(
+            response_row(
                 "an id of 65 octets",
                 0,
                 b"0123456789abcdef0123456789abcdef0123456789abcdef0123456789abcdefg\0",
@@ -296,6 +303,7 @@ fn commands_are_told_apart(rt: HostRuntime) {
         ("bind_transceiver", 0x0000_0009, true, false),
         ("outbind", 0x0000_000b, false, false),
         ("alert_notification", 0x0000_0102, false, false),
+        ("enquire_link", 0x0000_0015, true, false),
         ("data_sm", 0x0000_0103, true, false),
         ("an unknown request", 0x0000_7777, true, false),
         ("generic_nack", 0x8000_0000, false, true),
@@ -306,13 +314,14 @@ fn commands_are_told_apart(rt: HostRuntime) {
         assert!(rt; is_request(command) == request, "{message} as a request");
         assert!(rt; is_response(command) == response, "{message} as a response");
     }
-    let answers = [
+    let responses = [
         ("its own response", 0x8000_0004, true),
         ("generic_nack", 0x8000_0000, true),
         ("the response of another command", 0x8000_0005, false),
+        ("data_sm_resp", 0x8000_0103, false),
         ("a request", 0x0000_0004, false),
     ];
-    for (message, response, expected) in answers {
+    for (message, response, expected) in responses {
         assert!(rt; agrees(0x0000_0004, response) == expected, "{message}");
     }
 }

@@ -1,8 +1,8 @@
 //! The optional parameters after the mandatory fields (SMPP 3.4, 5.3).
 ghost use Rattle.std.specs.Prelude.{◌≡◌, option_map};
-ghost use Rattle.smq_pdu.specs.Parameters.{first_value as first_value_of};
+ghost use Rattle.smq_pdu.specs.Parameters as defined;
 ghost use Rattle.smq_pdu.specs.Readers.{number_at, tlv_at, tlvs_of};
-ghost use Rattle.smq_pdu.specs.Views.{seen_number, seen_tlv};
+ghost use Rattle.smq_pdu.specs.within.Views.{seen_number, seen_tlv};
 ghost use Rattle.smq_pdu.specs.Decoded.{seen};
 
 use crate::fields::read_octets;
@@ -22,13 +22,18 @@ pub struct Tlv<'a> {
     pub value: &'a [u8],
 }
 
-/// A number of two octets, and what follows.
-#[tactic(auto, unfolding(crate::specs::Readers::number_at))]
-fn read_number(octets: &[u8]) -> Option<(u16, &[u8])>
-    ensures { option_map seen_number result ≡ number_at octets.now }
+/// The value of the first parameter with this tag among those that the octets begin with.
+pub(crate) fn first_value(tag: u16, octets: &[u8]) -> Option<&[u8]>
+    ensures { seen result ≡ defined.first_value tag (tlvs_of octets.now) }
 {
-    let (number, rest) = octets.split_first_chunk::<2>()?;
-    Some((u16::from_be_bytes(*number), rest))
+    let mut rest = octets;
+    while let Some((tlv, after)) = read_tlv(rest) {
+        if tlv.tag == tag {
+            return Some(tlv.value);
+        }
+        rest = after;
+    }
+    None
 }
 
 /// A whole parameter, and what follows.
@@ -42,16 +47,11 @@ fn read_tlv(octets: &[u8]) -> Option<(Tlv<'_>, &[u8])>
     Some((Tlv { tag, value }, rest))
 }
 
-/// The value of the first parameter with this tag among those that the octets begin with.
-pub(crate) fn first_value(tag: u16, octets: &[u8]) -> Option<&[u8]>
-    ensures { seen result ≡ first_value_of tag (tlvs_of octets.now) }
+/// A number of two octets, and what follows.
+#[tactic(auto, unfolding(crate::specs::Readers::number_at))]
+fn read_number(octets: &[u8]) -> Option<(u16, &[u8])>
+    ensures { option_map seen_number result ≡ number_at octets.now }
 {
-    let mut rest = octets;
-    while let Some((tlv, after)) = read_tlv(rest) {
-        if tlv.tag == tag {
-            return Some(tlv.value);
-        }
-        rest = after;
-    }
-    None
+    let (number, rest) = octets.split_first_chunk::<2>()?;
+    Some((u16::from_be_bytes(*number), rest))
 }

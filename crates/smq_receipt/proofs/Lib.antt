@@ -4,3 +4,4 @@ pub mod Calendar
 pub mod KnownReceipts
 pub mod StateTable
 pub mod Standing
+pub mod Equalities

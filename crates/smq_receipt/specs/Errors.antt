@@ -1,8 +1,8 @@
 -- Error codes of receipts (SMPP 3.4, 5.3.2.31 and appendix B).
 use Rattle.std.specs.Prelude.{ℕ, ◌+◌, ◌*◌, if◌then◌else◌, List, [], ◌∷◌, Option, Some, None}
-use Rattle.smq_receipt.specs.ErrorTexts.{is_error_text}
-use Rattle.smq_receipt.specs.declared.error_code.ErrorCode.{ErrorCode}
-use Rattle.smq_receipt.specs.declared.error_code.ErrorCode.TheVariants.{Network, Text}
+use Rattle.smq_kit.specs.ErrorTexts.{is_error_text}
+use Rattle.smq_kit.specs.declared.error_code.ErrorCode.{ErrorCode}
+use Rattle.smq_kit.specs.declared.error_code.ErrorCode.TheVariants.{Network, Text}
 
 -- the code in the octets of network_error_code: exactly a network type and a code of two octets
 unfoldable pub network_code_in : List ℕ → Option ErrorCode

@@ -2,9 +2,9 @@ pub mod Places
 pub mod Texts
 pub mod States
 pub mod StateRows
-pub mod ErrorTexts
 pub mod Errors
 pub mod Orders
 pub mod Dates
 pub mod Readings
 pub mod Known
+pub mod Equalities

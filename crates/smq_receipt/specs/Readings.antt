@@ -8,8 +8,8 @@ use Rattle.smq_receipt.specs.States.{state_of_number, state_of_word}
 use Rattle.smq_receipt.specs.Errors.{network_code_in, text_code_in}
 use Rattle.smq_receipt.specs.Dates.{centre_delay_of}
 use Rattle.smq_receipt.specs.declared.message_state.MessageState.{MessageState}
-use Rattle.smq_receipt.specs.declared.error_code.ErrorCode.{ErrorCode}
-use Rattle.smq_receipt.specs.declared.error_code.ErrorCode.TheVariants.{Unstated}
+use Rattle.smq_kit.specs.declared.error_code.ErrorCode.{ErrorCode}
+use Rattle.smq_kit.specs.declared.error_code.ErrorCode.TheVariants.{Unstated}
 use Rattle.smq_receipt.specs.declared.reading.Reading.{Reading}
 use Rattle.smq_receipt.specs.declared.reading.Reading.TheVariants as v
 

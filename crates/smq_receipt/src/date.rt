@@ -1,4 +1,5 @@
-//! Dates in the text of a receipt (SMPP 3.4, appendix B).
+//! Dates in the text of a receipt (SMPP 3.4, appendix B): YYMMDDhhmm or YYMMDDhhmmss of the centre's clock, in the
+//! years 2000 to 2099. Where a part is no date of the calendar or no time of a clock, the whole is none.
 ghost use Rattle.std.specs.Prelude.{◌≡◌, ◌↔◌, ◌+◌, ◌<◌, ◌≤◌, pos, IsTrue, IsSome, IfSome, length};
 ghost use Rattle.std.specs.List.{list_all};
 ghost use Rattle.std.specs.Char.{is_ascii_digit};
@@ -10,28 +11,57 @@ ghost use Rattle.smq_receipt.specs.Texts.{value_of};
 use crate::text::value_of;
 use jiff::civil::Date;
 
-fn are_digits(value: &[u8]) -> bool
-    ensures { result ≡ list_all is_ascii_digit value.now }
+/// Done date minus submit date, in ms, where both are dates.
+#[tactic(auto, unfolding(crate::specs::Dates::centre_delay_of))]
+pub(crate) fn centre_delay(header: &[u8]) -> Option<i64>
+    ensures { result ≡ centre_delay_of header.now }
 {
-    value.iter().all(|octet| octet.is_ascii_digit())
+    let submit = moment_after(b"submit date:", header)?;
+    let done = moment_after(b"done date:", header)?;
+    Some(done - submit)
 }
 
-/// Whether a value is 10 or 12 decimal digits.
-fn is_date_text(value: &[u8]) -> bool
-    ensures { result ≡ is_date_text value.now }
+/// The moment that the value of a label tells.
+fn moment_after(label: &[u8], header: &[u8]) -> Option<i64>
+    ensures value { result ≡ option_and_then moment_of (value_of label.now header.now) }
+    ensures bound { IfSome result (IsWithin 1_000_000_000_000_000) }
 {
-    are_digits(value) && (value.len() == 10 || value.len() == 12)
+    moment(value_of(label, header)?)
 }
 
-/// The number that the two digits at a place write.
-#[tactic(auto, unfolding(crate::specs::Dates::two_digits_at))]
-fn two_digits(value: &[u8], place: usize) -> u8
-    requires within { place + 1 < length value.now }
-    requires digits { IsTrue (is_date_text value.now) }
-    ensures value { result ≡ two_digits_at value.now place }
-    ensures bound { result ≤ 99 }
+/// The moment of the centre's clock that a date tells, in ms since 1970-01-01, where it is one.
+#[tactic(auto, unfolding(crate::specs::Dates::moment_of))]
+fn moment(value: &[u8]) -> Option<i64>
+    ensures value { result ≡ moment_of value.now }
+    ensures bound { IfSome result (IsWithin 1_000_000_000_000_000) }
 {
-    10 * (value[place] - b'0') + (value[place + 1] - b'0')
+    if !is_date_text(value) {
+        return None;
+    }
+    let day = day_number(
+        two_digits(value, 0),
+        two_digits(value, 2),
+        two_digits(value, 4),
+    )?;
+    let second = second_of_day(
+        two_digits(value, 6),
+        two_digits(value, 8),
+        seconds_in(value),
+    )?;
+    Some(milliseconds(day, second))
+}
+
+/// The day number of a date of the year 20YY, from 1970-01-01, where the calendar has it.
+#[tactic(auto, unfolding(crate::specs::Dates::day_number_of))]
+fn day_number(year: u8, month: u8, day: u8) -> Option<i32>
+    requires year_in { year ≤ 99 }
+    requires month_in { month ≤ 99 }
+    requires day_in { day ≤ 99 }
+    ensures value { result ≡ day_number_of year month day }
+    ensures bound { IfSome result IsEpochDay }
+{
+    let date = date_of(year, month, day)?;
+    Some(date.to_plain().to_unix_epoch_day())
 }
 
 /// The date of the year 20YY with these parts, where the calendar has it.
@@ -43,19 +73,6 @@ fn date_of(year: u8, month: u8, day: u8) -> Option<Date>
     ensures value { IfSome result (IsYmd (pos (2000 + year)) (pos month) (pos day)) }
 {
     Date::new(2000 + year as i16, month as i8, day as i8).ok()
-}
-
-/// Its day number, from 1970-01-01.
-#[tactic(auto, unfolding(crate::specs::Dates::day_number_of))]
-fn day_number(year: u8, month: u8, day: u8) -> Option<i32>
-    requires year_in { year ≤ 99 }
-    requires month_in { month ≤ 99 }
-    requires day_in { day ≤ 99 }
-    ensures value { result ≡ day_number_of year month day }
-    ensures bound { IfSome result IsEpochDay }
-{
-    let date = date_of(year, month, day)?;
-    Some(date.to_plain().to_unix_epoch_day())
 }
 
 /// The seconds since midnight, where a clock shows this time.
@@ -82,6 +99,17 @@ fn seconds_in(value: &[u8]) -> u8
     }
 }
 
+/// The number that the two digits at a place write.
+#[tactic(auto, unfolding(crate::specs::Dates::two_digits_at))]
+fn two_digits(value: &[u8], place: usize) -> u8
+    requires within { place + 1 < length value.now }
+    requires digits { IsTrue (is_date_text value.now) }
+    ensures value { result ≡ two_digits_at value.now place }
+    ensures bound { result ≤ 99 }
+{
+    10 * (value[place] - b'0') + (value[place + 1] - b'0')
+}
+
 /// A day and a second of that day, in ms since 1970-01-01.
 fn milliseconds(day: i32, second: u32) -> i64
     requires day_in { IsEpochDay day }
@@ -92,42 +120,16 @@ fn milliseconds(day: i32, second: u32) -> i64
     (day as i64 * 86_400 + second as i64) * 1_000
 }
 
-/// The moment of the centre's clock that a date tells, in ms since 1970-01-01, where it is one.
-#[tactic(auto, unfolding(crate::specs::Dates::moment_of))]
-fn moment(value: &[u8]) -> Option<i64>
-    ensures value { result ≡ moment_of value.now }
-    ensures bound { IfSome result (IsWithin 1_000_000_000_000_000) }
+/// Whether a value is 10 or 12 decimal digits.
+fn is_date_text(value: &[u8]) -> bool
+    ensures { result ≡ is_date_text value.now }
 {
-    if !is_date_text(value) {
-        return None;
-    }
-    let day = day_number(
-        two_digits(value, 0),
-        two_digits(value, 2),
-        two_digits(value, 4),
-    )?;
-    let second = second_of_day(
-        two_digits(value, 6),
-        two_digits(value, 8),
-        seconds_in(value),
-    )?;
-    Some(milliseconds(day, second))
+    are_digits(value) && (value.len() == 10 || value.len() == 12)
 }
 
-/// The moment that the value of a label tells.
-fn moment_after(label: &[u8], header: &[u8]) -> Option<i64>
-    ensures value { result ≡ option_and_then moment_of (value_of label.now header.now) }
-    ensures bound { IfSome result (IsWithin 1_000_000_000_000_000) }
+/// Whether all octets are decimal digits.
+fn are_digits(value: &[u8]) -> bool
+    ensures { result ≡ list_all is_ascii_digit value.now }
 {
-    moment(value_of(label, header)?)
-}
-
-/// Done date minus submit date, in ms, where both are dates.
-#[tactic(auto, unfolding(crate::specs::Dates::centre_delay_of))]
-pub(crate) fn centre_delay(header: &[u8]) -> Option<i64>
-    ensures { result ≡ centre_delay_of header.now }
-{
-    let submit = moment_after(b"submit date:", header)?;
-    let done = moment_after(b"done date:", header)?;
-    Some(done - submit)
+    value.iter().all(|octet| octet.is_ascii_digit())
 }

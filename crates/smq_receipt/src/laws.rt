@@ -1,9 +1,13 @@
 //! What holds of the definitions that the contracts cite.
+ghost use Rattle.std.specs.Prelude.{◌≡◌, ◌↔◌, IsTrue};
 ghost use Rattle.smq_receipt.specs.Places.{FindsTheLeast};
 ghost use Rattle.smq_receipt.specs.Texts.{FindsPatterns};
 ghost use Rattle.smq_receipt.specs.States.{StatesAreTheTable};
 ghost use Rattle.smq_receipt.specs.Dates.{DatesAreOfTheCalendar};
-ghost use Rattle.smq_receipt.specs.Known.{ReadingsOfKnownReceipts};
+ghost use Rattle.smq_receipt.specs.Equalities.{is_same_receipt, is_same_reading};
+ghost use Rattle.smq_receipt.specs.Known.{KnownLimits, ReadingsOfKnownReceipts};
+
+use crate::{Reading, Receipt};
 
 /// A pattern is found at a place exactly where the text has its octets there, in any ASCII letter case.
 pub fn patterns_are_found()
@@ -28,4 +32,15 @@ pub fn dates_are_of_the_calendar()
 /// What some receipts say.
 pub fn readings_of_known_receipts()
     ensures { ReadingsOfKnownReceipts }
+{}
+
+/// What is a receipt, an id, a state, a network's code and a date, at each limit and just past it.
+pub fn known_limits()
+    ensures { KnownLimits }
+{}
+
+/// Two receipts, or two readings, are equal by `==` exactly where they are one.
+pub fn readings_are_told_apart()
+    ensures receipts { (a b : Receipt) → IsTrue (is_same_receipt a b) ↔ (a ≡ b) }
+    ensures readings { (a b : Reading) → IsTrue (is_same_reading a b) ↔ (a ≡ b) }
 {}

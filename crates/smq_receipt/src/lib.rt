@@ -2,7 +2,7 @@
 #![tactic(auto)]
 
 mod date;
-mod error_code;
+mod error_codes;
 mod laws;
 mod message_state;
 mod reading;
@@ -10,10 +10,10 @@ mod reading;
 mod tests;
 mod text;
 
-pub use error_code::{ErrorCode, ErrorText, error_codes_are_ordered};
 pub use laws::{
-    dates_are_of_the_calendar, least_places_are_found, patterns_are_found,
-    readings_of_known_receipts, states_are_the_table,
+    dates_are_of_the_calendar, known_limits, least_places_are_found, patterns_are_found,
+    readings_are_told_apart, readings_of_known_receipts, states_are_the_table,
 };
 pub use message_state::{MessageState, message_states_are_ordered};
 pub use reading::{Reading, Receipt, read};
+pub use smq_kit::{ErrorCode, ErrorText};

@@ -1,9 +1,22 @@
-//! States of a message (SMPP 3.4, 5.2.28 and appendix B).
+//! States of a message (SMPP 3.4, 5.2.28 and appendix B). One table has each state's number, word and finality; a
+//! state is found by what stands there.
 ghost use Rattle.std.specs.Prelude.{◌≡◌};
 ghost use Rattle.smq_receipt.specs.Orders.{MessageStatesAreOrdered};
 ghost use Rattle.smq_receipt.specs.States.{row_of, state_of_number, state_of_word};
 
 use crate::text::same_letters;
+
+/// All states, in the order of their numbers.
+const STATES: [MessageState; 8] = [
+    MessageState::Enroute,
+    MessageState::Delivered,
+    MessageState::Expired,
+    MessageState::Deleted,
+    MessageState::Undeliverable,
+    MessageState::Accepted,
+    MessageState::Unknown,
+    MessageState::Rejected,
+];
 
 /// A state, in the order of its numbers 1 to 8 in message_state (SMPP 3.4, 5.2.28).
 #[derive(Clone, Copy, Debug, PartialEq, Eq, PartialOrd, Ord)]
@@ -18,17 +31,7 @@ pub enum MessageState {
     Rejected,
 }
 
-const STATES: [MessageState; 8] = [
-    MessageState::Enroute,
-    MessageState::Delivered,
-    MessageState::Expired,
-    MessageState::Deleted,
-    MessageState::Undeliverable,
-    MessageState::Accepted,
-    MessageState::Unknown,
-    MessageState::Rejected,
-];
-
+/// What is said of a state: its number in message_state, its word in a text, and whether no other state follows it.
 #[derive(Clone, Copy)]
 struct Row {
     number: u8,
@@ -38,27 +41,6 @@ struct Row {
 
 impl MessageState {
     ghost use Rattle.smq_receipt.specs.StateRows.{seen_row};
-
-    /// The table of states.
-    fn row(self) -> Row
-        ensures { seen_row result ≡ row_of self }
-    {
-        let (number, word, is_final): (u8, &'static [u8], bool) = match self {
-            MessageState::Enroute => (1, b"ENROUTE", false),
-            MessageState::Delivered => (2, b"DELIVRD", true),
-            MessageState::Expired => (3, b"EXPIRED", true),
-            MessageState::Deleted => (4, b"DELETED", true),
-            MessageState::Undeliverable => (5, b"UNDELIV", true),
-            MessageState::Accepted => (6, b"ACCEPTD", false),
-            MessageState::Unknown => (7, b"UNKNOWN", true),
-            MessageState::Rejected => (8, b"REJECTD", true),
-        };
-        Row {
-            number,
-            word,
-            is_final,
-        }
-    }
 
     /// The state of a number in message_state, where it has one.
     #[tactic(auto, unfolding(crate::specs::States::state_of_number))]
@@ -87,6 +69,27 @@ impl MessageState {
         ensures { result ≡ (row_of self).final }
     {
         self.row().is_final
+    }
+
+    /// The table of states.
+    fn row(self) -> Row
+        ensures { seen_row result ≡ row_of self }
+    {
+        let (number, word, is_final): (u8, &'static [u8], bool) = match self {
+            MessageState::Enroute => (1, b"ENROUTE", false),
+            MessageState::Delivered => (2, b"DELIVRD", true),
+            MessageState::Expired => (3, b"EXPIRED", true),
+            MessageState::Deleted => (4, b"DELETED", true),
+            MessageState::Undeliverable => (5, b"UNDELIV", true),
+            MessageState::Accepted => (6, b"ACCEPTD", false),
+            MessageState::Unknown => (7, b"UNKNOWN", true),
+            MessageState::Rejected => (8, b"REJECTD", true),
+        };
+        Row {
+            number,
+            word,
+            is_final,
+        }
     }
 }
 

@@ -1,20 +1,24 @@
-//! What a deliver_sm says as a delivery receipt (SMPP 3.4, appendix B).
-ghost use Rattle.std.specs.Prelude.{◌≡◌, ◌==◌, ◌∷◌, bit_and};
-ghost use Rattle.std.specs.Option.{option_copied};
+//! What a deliver_sm says as a delivery receipt (SMPP 3.4, appendix B). Id, state and error are each read of their
+//! own parameter where that is usable, and else of their name in the text; a receipt without an id is told before one
+//! without a state.
+ghost use Rattle.std.specs.Prelude.{◌≡◌, ◌==◌};
 ghost use Rattle.smq_pdu.specs.Decoded.{deliver_view};
 ghost use Rattle.smq_receipt.specs.Readings.{is_interim, is_receipt, text_of, usable_id, receipted_id, state_in, id_of, state_of, error_of, receipt_of, reading_of};
 
+use crate::MessageState;
 use crate::date::centre_delay;
+use crate::error_codes::{network_code, text_code};
 use crate::text::{header_part, up_to, value_of};
-use crate::{ErrorCode, MessageState};
-use smq_kit::MessageId;
+use smq_kit::{ErrorCode, MessageId};
 use smq_pdu::Deliver;
 
 /// Bits 5 to 2 of esm_class, which tell what a message is (SMPP 3.4, 5.2.12).
 const MESSAGE_TYPE: u8 = 0x3C;
 
+/// Their value in a delivery receipt.
 const DELIVERY_RECEIPT: u8 = 0x04;
 
+/// Their value in an intermediate notification.
 const INTERMEDIATE_NOTIFICATION: u8 = 0x20;
 
 /// What a receipt says of the message that it is about.
@@ -69,12 +73,14 @@ pub fn read(deliver: &Deliver<'_>) -> Reading
     read_receipt(deliver, header_part(text_of(deliver)))
 }
 
+/// Whether esm_class marks an intermediate notification (SMPP 3.4, 5.2.12).
 fn is_interim(deliver: &Deliver<'_>) -> bool
     ensures { result ≡ is_interim (deliver_view deliver.now) }
 {
     deliver.esm_class & MESSAGE_TYPE == INTERMEDIATE_NOTIFICATION
 }
 
+/// Whether esm_class marks a receipt of either kind, or receipted_message_id is there.
 fn is_receipt(deliver: &Deliver<'_>) -> bool
     ensures { result ≡ is_receipt (deliver_view deliver.now) }
 {
@@ -83,6 +89,7 @@ fn is_receipt(deliver: &Deliver<'_>) -> bool
         || deliver.receipted_message_id.is_some()
 }
 
+/// The text: short_message, or message_payload where that has no octets.
 #[tactic(auto, unfolding(crate::specs::Readings::text_of))]
 fn text_of<'a>(deliver: &Deliver<'a>) -> &'a [u8]
     ensures { result.now ≡ text_of (deliver_view deliver.now) }
@@ -96,6 +103,7 @@ fn text_of<'a>(deliver: &Deliver<'a>) -> &'a [u8]
     }
 }
 
+/// What a receipt says, by its header part.
 #[tactic(auto, unfolding(crate::specs::Readings::receipt_of))]
 fn read_receipt(deliver: &Deliver<'_>, header: &[u8]) -> Reading
     ensures { result ≡ receipt_of (deliver_view deliver.now) header.now }
@@ -142,6 +150,7 @@ fn state_in(octets: &[u8]) -> Option<MessageState>
     }
 }
 
+/// The id: of receipted_message_id where usable, and else of `id`.
 #[tactic(auto, unfolding(crate::specs::Readings::id_of))]
 fn read_id(deliver: &Deliver<'_>, header: &[u8]) -> Option<MessageId>
     ensures { result ≡ id_of (deliver_view deliver.now) header.now }
@@ -154,6 +163,7 @@ fn read_id(deliver: &Deliver<'_>, header: &[u8]) -> Option<MessageId>
     usable_id(value_of(b"id:", header)?)
 }
 
+/// The state: of message_state where usable, and else of `stat`.
 #[tactic(auto, unfolding(crate::specs::Readings::state_of))]
 fn read_state(deliver: &Deliver<'_>, header: &[u8]) -> Option<MessageState>
     ensures { result ≡ state_of (deliver_view deliver.now) header.now }
@@ -166,17 +176,18 @@ fn read_state(deliver: &Deliver<'_>, header: &[u8]) -> Option<MessageState>
     MessageState::from_word(value_of(b"stat:", header)?)
 }
 
+/// The error: of network_error_code where usable, else of `err`, else unstated.
 #[tactic(auto, unfolding(crate::specs::Readings::error_of))]
 fn read_error(deliver: &Deliver<'_>, header: &[u8]) -> ErrorCode
     ensures { result ≡ error_of (deliver_view deliver.now) header.now }
 {
     if let Some(octets) = deliver.network_error_code {
-        if let Some(code) = ErrorCode::of_network(octets) {
+        if let Some(code) = network_code(octets) {
             return code;
         }
     }
     if let Some(value) = value_of(b"err:", header) {
-        if let Some(code) = ErrorCode::of_text(value) {
+        if let Some(code) = text_code(value) {
             return code;
         }
     }

@@ -7,11 +7,21 @@ const ID_OF_64: &str = "01234567890123456789012345678901234567890123456789012345
 
 const ID_OF_65: &str = "01234567890123456789012345678901234567890123456789012345678901234";
 
+/// What is expected of a receipt: an id with DELIVERED or another state, or what can't be read of it.
+#[derive(Clone, Copy)]
+enum Expected {
+    Delivered(&'static str),
+    Says(&'static str, MessageState),
+    NoId,
+    NoState,
+    NotReceipt,
+}
+
 /// A delivery receipt with this text and no optional parameter.
-fn saying(text: &[u8]) -> Deliver<'_> {
+fn saying(text: &str) -> Deliver<'_> {
     Deliver {
         esm_class: 0x04,
-        short_message: text,
+        short_message: text.as_bytes(),
         receipted_message_id: None,
         network_error_code: None,
         message_payload: None,
@@ -19,9 +29,9 @@ fn saying(text: &[u8]) -> Deliver<'_> {
     }
 }
 
-fn receipt(rt: &impl Abort, id: &[u8], state: MessageState) -> Receipt {
+fn receipt(rt: &impl Abort, id: &str, state: MessageState) -> Receipt {
     Receipt {
-        id: MessageId::new(id).expect(rt, "an id"),
+        id: MessageId::new(id.as_bytes()).expect(rt, "an id"),
         state,
         interim: false,
         error: ErrorCode::Unstated,
@@ -29,391 +39,547 @@ fn receipt(rt: &impl Abort, id: &[u8], state: MessageState) -> Receipt {
     }
 }
 
-/// What is read of a receipt that says DELIVERED of this id, and no more.
-fn delivered(rt: &impl Abort, id: &[u8]) -> Reading {
-    Reading::Receipt(receipt(rt, id, MessageState::Delivered))
-}
-
-fn error_text(rt: &impl Abort, text: &[u8]) -> ErrorCode {
-    ErrorCode::Text(ErrorText::new(text).expect(rt, "an error text"))
-}
-
-#[test]
-fn names_stand_at_the_start_or_after_a_space(rt: HostRuntime) {
-    for (text, reading) in [
-        ("id:1 stat:DELIVRD", delivered(&rt, b"1")),
-        ("ID:1 STAT:DELIVRD", delivered(&rt, b"1")),
-        ("Id:1 sTaT:delivrd", delivered(&rt, b"1")),
-        ("stat:DELIVRD id:1", delivered(&rt, b"1")),
-        ("hello id:1  stat:DELIVRD", delivered(&rt, b"1")),
-        ("xid:2 id:1 stat:DELIVRD", delivered(&rt, b"1")),
-        ("xid:1 stat:DELIVRD", Reading::NoId),
-        ("id:1 substat:DELIVRD", Reading::NoState),
-        ("id:1\tstat:DELIVRD", Reading::NoState),
-        ("id :1 stat:DELIVRD", Reading::NoId),
-        ("id: 1 stat:DELIVRD", Reading::NoId),
-        ("", Reading::NoId),
-    ] {
-        assert_eq!(rt; read(&saying(text.as_bytes())), reading, "{text}");
+/// The reading that is expected, without an error and dates.
+fn reading(rt: &impl Abort, expected: Expected, interim: bool) -> Reading {
+    match expected {
+        Expected::Delivered(id) => Reading::Receipt(Receipt {
+            interim,
+            ..receipt(rt, id, MessageState::Delivered)
+        }),
+        Expected::Says(id, state) => Reading::Receipt(Receipt {
+            interim,
+            ..receipt(rt, id, state)
+        }),
+        Expected::NoId => Reading::NoId,
+        Expected::NoState => Reading::NoState,
+        Expected::NotReceipt => Reading::NotReceipt,
     }
 }
 
+/// What texts say without any optional parameter.
+const TEXTS: [(&str, Expected); 51] = [
+    // names stand at the start or after a space, in any letter case
+    ("id:1 stat:DELIVRD", Expected::Delivered("1")),
+    ("ID:1 STAT:DELIVRD", Expected::Delivered("1")),
+    ("Id:1 sTaT:delivrd", Expected::Delivered("1")),
+    ("stat:DELIVRD id:1", Expected::Delivered("1")),
+    ("hello id:1  stat:DELIVRD", Expected::Delivered("1")),
+    ("xid:2 id:1 stat:DELIVRD", Expected::Delivered("1")),
+    ("xid:1 stat:DELIVRD", Expected::NoId),
+    ("id:1 substat:DELIVRD", Expected::NoState),
+    ("id:1\tstat:DELIVRD", Expected::NoState),
+    ("id :1 stat:DELIVRD", Expected::NoId),
+    ("id: 1 stat:DELIVRD", Expected::NoId),
+    ("", Expected::NoId),
+    // the first place of a name counts
+    (
+        "id:1 stat:DELIVRD id:2 stat:UNDELIV",
+        Expected::Delivered("1"),
+    ),
+    ("id: id:1 stat:DELIVRD", Expected::NoId),
+    ("id:1 stat:WHAT stat:DELIVRD", Expected::NoState),
+    // the message's own text is not read
+    (
+        "id:1 stat:DELIVRD text:err:1 err:2",
+        Expected::Delivered("1"),
+    ),
+    ("id:1 stat:DELIVRD TEXT: err:027", Expected::Delivered("1")),
+    ("id:1 Text: stat:DELIVRD", Expected::NoState),
+    (" text: id:1 stat:DELIVRD", Expected::NoId),
+    ("text: id:1 stat:DELIVRD", Expected::Delivered("1")),
+    ("id:1 subtext: stat:DELIVRD", Expected::Delivered("1")),
+    // a value goes up to the next space
+    ("id:1\0 stat:DELIVRD", Expected::Delivered("1\0")),
+    ("id:1, stat:DELIVRD", Expected::Delivered("1,")),
+    ("stat:DELIVRD id:1\r\n", Expected::Delivered("1\r\n")),
+    ("id:0x1F stat:DELIVRD", Expected::Delivered("0x1F")),
+    ("id:1 stat:DELIVRD\0", Expected::NoState),
+    ("id:1 stat:DELIVRD\r\n", Expected::NoState),
+    ("id:1 stat:DELIVRD\t", Expected::NoState),
+    ("id:1 stat:DELIVRD, err:000", Expected::NoState),
+    ("id:1 err:027\0 stat:DELIVRD", Expected::Delivered("1")),
+    ("id:1 err:027, stat:DELIVRD", Expected::Delivered("1")),
+    // an id has 1 to 64 octets
+    (
+        "id:0123456789012345678901234567890123456789012345678901234567890123 stat:DELIVRD",
+        Expected::Delivered(ID_OF_64),
+    ),
+    (
+        "id:01234567890123456789012345678901234567890123456789012345678901234 stat:DELIVRD",
+        Expected::NoId,
+    ),
+    ("id: stat:DELIVRD", Expected::NoId),
+    // the words of states
+    (
+        "id:1 stat:ENROUTE",
+        Expected::Says("1", MessageState::Enroute),
+    ),
+    (
+        "id:1 stat:EXPIRED",
+        Expected::Says("1", MessageState::Expired),
+    ),
+    (
+        "id:1 stat:DELETED",
+        Expected::Says("1", MessageState::Deleted),
+    ),
+    (
+        "id:1 stat:UNDELIV",
+        Expected::Says("1", MessageState::Undeliverable),
+    ),
+    (
+        "id:1 stat:ACCEPTD",
+        Expected::Says("1", MessageState::Accepted),
+    ),
+    (
+        "id:1 stat:UNKNOWN",
+        Expected::Says("1", MessageState::Unknown),
+    ),
+    (
+        "id:1 stat:Rejectd",
+        Expected::Says("1", MessageState::Rejected),
+    ),
+    ("id:1 stat:ACKED", Expected::NoState),
+    ("id:1 stat:BUFFRED", Expected::NoState),
+    ("id:1 stat:FAILED", Expected::NoState),
+    ("id:1 stat:SKIPPED", Expected::NoState),
+    ("id:1 stat:DELIVERED", Expected::NoState),
+    ("id:1 stat:UNDELIVERABLE", Expected::NoState),
+    ("id:1 stat:", Expected::NoState),
+    ("id:1", Expected::NoState),
+    // a user data header before the text
+    ("\x05\0\x03\x01\x02\x01id:1 stat:DELIVRD", Expected::NoId),
+    (
+        "\x05\0\x03\x01\x02\x01 id:1 stat:DELIVRD",
+        Expected::Delivered("1"),
+    ),
+];
+
 #[test]
-fn the_first_place_of_a_name_counts(rt: HostRuntime) {
-    for (text, reading) in [
-        ("id:1 stat:DELIVRD id:2 stat:UNDELIV", delivered(&rt, b"1")),
-        ("id: id:1 stat:DELIVRD", Reading::NoId),
-        ("id:1 stat:WHAT stat:DELIVRD", Reading::NoState),
-    ] {
-        assert_eq!(rt; read(&saying(text.as_bytes())), reading, "{text}");
+fn texts_say_ids_and_states(rt: HostRuntime) {
+    for (text, expected) in TEXTS {
+        let found = read(&saying(text));
+        assert_eq!(rt; found, reading(&rt, expected, false), "{text:?}");
     }
 }
 
-#[test]
-fn the_message_text_is_not_read(rt: HostRuntime) {
-    for (text, reading) in [
-        ("id:1 stat:DELIVRD text:err:1 err:2", delivered(&rt, b"1")),
-        ("id:1 stat:DELIVRD TEXT: err:027", delivered(&rt, b"1")),
-        ("id:1 Text: stat:DELIVRD", Reading::NoState),
-        (" text: id:1 stat:DELIVRD", Reading::NoId),
-        ("text: id:1 stat:DELIVRD", delivered(&rt, b"1")),
-        ("id:1 subtext: stat:DELIVRD", delivered(&rt, b"1")),
-    ] {
-        assert_eq!(rt; read(&saying(text.as_bytes())), reading, "{text}");
-    }
-}
+/// A text, receipted_message_id, message_state and what they say together.
+const PARAMETERS: [(&str, Option<&str>, Option<&str>, Expected); 23] = [
+    (
+        "id:1 stat:DELIVRD",
+        Some(ID_OF_64),
+        None,
+        Expected::Delivered(ID_OF_64),
+    ),
+    (
+        "id:1 stat:DELIVRD",
+        Some("7\0"),
+        None,
+        Expected::Delivered("7"),
+    ),
+    (
+        "id:1 stat:DELIVRD",
+        Some("7\08"),
+        None,
+        Expected::Delivered("7"),
+    ),
+    (
+        "id:1 stat:DELIVRD",
+        Some("7"),
+        None,
+        Expected::Delivered("7"),
+    ),
+    (
+        "id:1 stat:DELIVRD",
+        Some(""),
+        None,
+        Expected::Delivered("1"),
+    ),
+    (
+        "id:1 stat:DELIVRD",
+        Some("\07"),
+        None,
+        Expected::Delivered("1"),
+    ),
+    (
+        "id:1 stat:DELIVRD",
+        Some(ID_OF_65),
+        None,
+        Expected::Delivered("1"),
+    ),
+    ("", Some("7"), None, Expected::NoState),
+    (
+        "id:1 stat:EXPIRED",
+        None,
+        Some("\x01"),
+        Expected::Says("1", MessageState::Enroute),
+    ),
+    (
+        "id:1 stat:EXPIRED",
+        None,
+        Some("\x02"),
+        Expected::Says("1", MessageState::Delivered),
+    ),
+    (
+        "id:1 stat:EXPIRED",
+        None,
+        Some("\x03"),
+        Expected::Says("1", MessageState::Expired),
+    ),
+    (
+        "id:1 stat:EXPIRED",
+        None,
+        Some("\x04"),
+        Expected::Says("1", MessageState::Deleted),
+    ),
+    (
+        "id:1 stat:EXPIRED",
+        None,
+        Some("\x05"),
+        Expected::Says("1", MessageState::Undeliverable),
+    ),
+    (
+        "id:1 stat:EXPIRED",
+        None,
+        Some("\x06"),
+        Expected::Says("1", MessageState::Accepted),
+    ),
+    (
+        "id:1 stat:EXPIRED",
+        None,
+        Some("\x07"),
+        Expected::Says("1", MessageState::Unknown),
+    ),
+    (
+        "id:1 stat:EXPIRED",
+        None,
+        Some("\x08"),
+        Expected::Says("1", MessageState::Rejected),
+    ),
+    (
+        "id:1 stat:EXPIRED",
+        None,
+        Some("\0"),
+        Expected::Says("1", MessageState::Expired),
+    ),
+    (
+        "id:1 stat:EXPIRED",
+        None,
+        Some("\x09"),
+        Expected::Says("1", MessageState::Expired),
+    ),
+    (
+        "id:1 stat:EXPIRED",
+        None,
+        Some("\x02\x02"),
+        Expected::Says("1", MessageState::Expired),
+    ),
+    (
+        "id:1 stat:EXPIRED",
+        None,
+        Some(""),
+        Expected::Says("1", MessageState::Expired),
+    ),
+    (
+        "id:1 stat:ACKED",
+        None,
+        Some("\x05"),
+        Expected::Says("1", MessageState::Undeliverable),
+    ),
+    (
+        "id:1 stat:",
+        None,
+        Some("\x05"),
+        Expected::Says("1", MessageState::Undeliverable),
+    ),
+    (
+        "id:1",
+        None,
+        Some("\x05"),
+        Expected::Says("1", MessageState::Undeliverable),
+    ),
+];
 
 #[test]
-fn a_value_goes_up_to_the_next_space(rt: HostRuntime) {
-    for (text, reading) in [
-        ("id:1\0 stat:DELIVRD", delivered(&rt, b"1\0")),
-        ("id:1, stat:DELIVRD", delivered(&rt, b"1,")),
-        ("stat:DELIVRD id:1\r\n", delivered(&rt, b"1\r\n")),
-        ("id:0x1F stat:DELIVRD", delivered(&rt, b"0x1F")),
-        ("id:1 stat:DELIVRD\0", Reading::NoState),
-        ("id:1 stat:DELIVRD\r\n", Reading::NoState),
-        ("id:1 stat:DELIVRD\t", Reading::NoState),
-        ("id:1 stat:DELIVRD, err:000", Reading::NoState),
-        ("id:1 err:027\0 stat:DELIVRD", delivered(&rt, b"1")),
-        ("id:1 err:027, stat:DELIVRD", delivered(&rt, b"1")),
-    ] {
-        assert_eq!(rt; read(&saying(text.as_bytes())), reading, "{text:?}");
-    }
-}
-
-#[test]
-fn ids_have_1_to_64_octets(rt: HostRuntime) {
-    for (parameter, id) in [
-        (ID_OF_64, ID_OF_64),
-        ("7\0", "7"),
-        ("7\08", "7"),
-        ("7", "7"),
-        ("", "1"),
-        ("\07", "1"),
-        (ID_OF_65, "1"),
-    ] {
+fn parameters_come_before_the_text(rt: HostRuntime) {
+    for (text, id, state, expected) in PARAMETERS {
         let deliver = Deliver {
-            receipted_message_id: Some(parameter.as_bytes()),
-            ..saying(b"id:1 stat:DELIVRD")
+            receipted_message_id: id.map(str::as_bytes),
+            message_state: state.map(str::as_bytes),
+            ..saying(text)
         };
+        let found = read(&deliver);
         assert_eq!(rt;
-            read(&deliver),
-            delivered(&rt, id.as_bytes()),
-            "{parameter:?}"
+            found,
+            reading(&rt, expected, false),
+            "{text} {id:?} {state:?}"
         );
     }
-}
-
-#[test]
-fn ids_in_texts_have_1_to_64_octets(rt: HostRuntime) {
-    for (text, reading) in [
-        (
-            "id:0123456789012345678901234567890123456789012345678901234567890123 stat:DELIVRD",
-            delivered(&rt, ID_OF_64.as_bytes()),
-        ),
-        (
-            "id:01234567890123456789012345678901234567890123456789012345678901234 stat:DELIVRD",
-            Reading::NoId,
-        ),
-        ("id: stat:DELIVRD", Reading::NoId),
+    for (number, state, is_final) in [
+        (1, MessageState::Enroute, false),
+        (2, MessageState::Delivered, true),
+        (6, MessageState::Accepted, false),
+        (7, MessageState::Unknown, true),
     ] {
-        assert_eq!(rt; read(&saying(text.as_bytes())), reading, "{text}");
-    }
-}
-
-#[test]
-fn words_are_states(rt: HostRuntime) {
-    for (text, state) in [
-        ("id:1 stat:ENROUTE", MessageState::Enroute),
-        ("id:1 stat:DELIVRD", MessageState::Delivered),
-        ("id:1 stat:EXPIRED", MessageState::Expired),
-        ("id:1 stat:DELETED", MessageState::Deleted),
-        ("id:1 stat:UNDELIV", MessageState::Undeliverable),
-        ("id:1 stat:ACCEPTD", MessageState::Accepted),
-        ("id:1 stat:UNKNOWN", MessageState::Unknown),
-        ("id:1 stat:Rejectd", MessageState::Rejected),
-    ] {
-        let reading = Reading::Receipt(receipt(&rt, b"1", state));
-        assert_eq!(rt; read(&saying(text.as_bytes())), reading, "{text}");
-    }
-    for text in [
-        "id:1 stat:ACKED",
-        "id:1 stat:BUFFRED",
-        "id:1 stat:FAILED",
-        "id:1 stat:SKIPPED",
-        "id:1 stat:DELIVERED",
-        "id:1 stat:UNDELIVERABLE",
-        "id:1 stat:",
-        "id:1",
-    ] {
-        assert_eq!(rt; read(&saying(text.as_bytes())), Reading::NoState, "{text}");
-        let deliver = Deliver {
-            message_state: Some(b"\x05"),
-            ..saying(text.as_bytes())
-        };
-        let reading = Reading::Receipt(receipt(&rt, b"1", MessageState::Undeliverable));
-        assert_eq!(rt; read(&deliver), reading, "{text} with message_state");
-    }
-}
-
-#[test]
-fn message_state_has_one_octet_of_1_to_8(rt: HostRuntime) {
-    for (parameter, state) in [
-        (b"\x01".as_slice(), MessageState::Enroute),
-        (b"\x02".as_slice(), MessageState::Delivered),
-        (b"\x06".as_slice(), MessageState::Accepted),
-        (b"\x08".as_slice(), MessageState::Rejected),
-        (b"\x00".as_slice(), MessageState::Expired),
-        (b"\x09".as_slice(), MessageState::Expired),
-        (b"\x02\x02".as_slice(), MessageState::Expired),
-        (b"".as_slice(), MessageState::Expired),
-    ] {
-        let deliver = Deliver {
-            message_state: Some(parameter),
-            ..saying(b"id:1 stat:EXPIRED")
-        };
-        let reading = Reading::Receipt(receipt(&rt, b"1", state));
-        assert_eq!(rt; read(&deliver), reading, "{parameter:?}");
-    }
-    for (state, is_final) in [
-        (MessageState::Enroute, false),
-        (MessageState::Delivered, true),
-        (MessageState::Accepted, false),
-        (MessageState::Unknown, true),
-    ] {
+        assert_eq!(rt; MessageState::from_number(number), Some(state));
         assert_eq!(rt; state.is_final(), is_final, "{state:?}");
     }
 }
 
+/// An error that is expected.
+#[derive(Clone, Copy)]
+enum Error {
+    Network(u8, u16),
+    Text(&'static str),
+    Unstated,
+}
+
+fn error_code(rt: &impl Abort, error: Error) -> ErrorCode {
+    match error {
+        Error::Network(kind, code) => ErrorCode::Network { kind, code },
+        Error::Text(text) => {
+            ErrorCode::Text(ErrorText::new(text.as_bytes()).expect(rt, "an error text"))
+        }
+        Error::Unstated => ErrorCode::Unstated,
+    }
+}
+
+/// A text, network_error_code and the error that they say together.
+const ERRORS: [(&str, Option<&str>, Error); 12] = [
+    ("err:027", None, Error::Text("027")),
+    ("ERR:a-Z_9.", None, Error::Text("a-Z_9.")),
+    (
+        "err:1234567890123456",
+        None,
+        Error::Text("1234567890123456"),
+    ),
+    ("err:12345678901234567", None, Error::Unstated),
+    ("err:", None, Error::Unstated),
+    ("err:0x1/2", None, Error::Unstated),
+    ("", None, Error::Unstated),
+    ("err:027", Some("\x03\0\x08"), Error::Network(3, 8)),
+    ("", Some("\x03\x01\x02"), Error::Network(3, 258)),
+    ("err:1", Some("027"), Error::Network(48, 12_855)),
+    ("err:027", Some("\0\x08"), Error::Text("027")),
+    ("err:027", Some("0027"), Error::Text("027")),
+];
+
 #[test]
 fn errors_are_of_the_network_or_the_text(rt: HostRuntime) {
-    for (parameter, text, error) in [
-        (None, "err:027", error_text(&rt, b"027")),
-        (None, "ERR:a-Z_9.", error_text(&rt, b"a-Z_9.")),
-        (
-            None,
-            "err:1234567890123456",
-            error_text(&rt, b"1234567890123456"),
-        ),
-        (None, "err:12345678901234567", ErrorCode::Unstated),
-        (None, "err:", ErrorCode::Unstated),
-        (None, "err:0x1/2", ErrorCode::Unstated),
-        (None, "", ErrorCode::Unstated),
-        (
-            Some(b"\x03\x00\x08".as_slice()),
-            "err:027",
-            ErrorCode::Network { kind: 3, code: 8 },
-        ),
-        (
-            Some(b"\x03\x01\x02".as_slice()),
-            "",
-            ErrorCode::Network { kind: 3, code: 258 },
-        ),
-        (
-            Some(b"027".as_slice()),
-            "err:1",
-            ErrorCode::Network {
-                kind: 48,
-                code: 12_855,
-            },
-        ),
-        (
-            Some(b"\x00\x08".as_slice()),
-            "err:027",
-            error_text(&rt, b"027"),
-        ),
-        (Some(b"0027".as_slice()), "err:027", error_text(&rt, b"027")),
-    ] {
+    for (text, parameter, error) in ERRORS {
         let deliver = Deliver {
-            network_error_code: parameter,
+            network_error_code: parameter.map(str::as_bytes),
             message_payload: Some(text.as_bytes()),
             message_state: Some(b"\x05"),
             receipted_message_id: Some(b"1"),
-            ..saying(b"")
+            ..saying("")
         };
-        let reading = Reading::Receipt(Receipt {
-            error,
-            ..receipt(&rt, b"1", MessageState::Undeliverable)
-        });
-        assert_eq!(rt; read(&deliver), reading, "{parameter:?} {text}");
+        let expected = Receipt {
+            error: error_code(&rt, error),
+            ..receipt(&rt, "1", MessageState::Undeliverable)
+        };
+        assert_eq!(rt;
+            read(&deliver),
+            Reading::Receipt(expected),
+            "{text} {parameter:?}"
+        );
     }
 }
+
+/// Dates in a text, and done date minus submit date in ms.
+const DATES: [(&str, Option<i64>); 22] = [
+    (
+        "submit date:2502280000 done date:2503010000",
+        Some(86_400_000),
+    ),
+    (
+        "Done Date:2503010000 SUBMIT DATE:2502280000",
+        Some(86_400_000),
+    ),
+    (
+        "submit date:2402290000 done date:2403010000",
+        Some(86_400_000),
+    ),
+    ("submit date:2412312359 done date:2501010000", Some(60_000)),
+    (
+        "submit date:250228000001 done date:2502280001",
+        Some(59_000),
+    ),
+    (
+        "submit date:250228000001 done date:250228000000",
+        Some(-1_000),
+    ),
+    (
+        "submit date:0001010000 done date:9912312359",
+        Some(3_155_759_940_000),
+    ),
+    ("submit date:2502280000 done date:25022800000000", None),
+    ("submit date:250228000 done date:2502280000", None),
+    ("submit date:2513010000 done date:2513010000", None),
+    ("submit date:2500010000 done date:2500010000", None),
+    ("submit date:2502300000 done date:2503010000", None),
+    ("submit date:2502290000 done date:2503010000", None),
+    ("submit date:2502000000 done date:2503010000", None),
+    ("submit date:2502282400 done date:2503010000", None),
+    ("submit date:2502280060 done date:2503010000", None),
+    ("submit date:250228000060 done date:2503010000", None),
+    ("submit date:25O2280000 done date:2503010000", None),
+    ("submit date:2502280000\0 done date:2503010000", None),
+    ("submit date:2502280000", None),
+    ("done date:2502280000", None),
+    ("date:2502280000 done date:2502280000", None),
+];
 
 #[test]
 fn dates_are_of_the_calendar(rt: HostRuntime) {
-    for (dates, centre_delay) in [
-        (
-            "submit date:2502280000 done date:2503010000",
-            Some(86_400_000),
-        ),
-        (
-            "Done Date:2503010000 SUBMIT DATE:2502280000",
-            Some(86_400_000),
-        ),
-        (
-            "submit date:2402290000 done date:2403010000",
-            Some(86_400_000),
-        ),
-        ("submit date:2412312359 done date:2501010000", Some(60_000)),
-        (
-            "submit date:250228000001 done date:2502280001",
-            Some(59_000),
-        ),
-        (
-            "submit date:250228000001 done date:250228000000",
-            Some(-1_000),
-        ),
-        (
-            "submit date:0001010000 done date:9912312359",
-            Some(3_155_759_940_000),
-        ),
-        ("submit date:2502280000 done date:25022800000000", None),
-        ("submit date:250228000 done date:2502280000", None),
-        ("submit date:2513010000 done date:2513010000", None),
-        ("submit date:2500010000 done date:2500010000", None),
-        ("submit date:2502300000 done date:2503010000", None),
-        ("submit date:2502290000 done date:2503010000", None),
-        ("submit date:2502000000 done date:2503010000", None),
-        ("submit date:2502282400 done date:2503010000", None),
-        ("submit date:2502280060 done date:2503010000", None),
-        ("submit date:250228000060 done date:2503010000", None),
-        ("submit date:25O2280000 done date:2503010000", None),
-        ("submit date:2502280000\0 done date:2503010000", None),
-        ("submit date:2502280000", None),
-        ("done date:2502280000", None),
-        ("date:2502280000 done date:2502280000", None),
-    ] {
+    for (dates, centre_delay) in DATES {
         let deliver = Deliver {
             message_state: Some(b"\x02"),
             receipted_message_id: Some(b"1"),
-            ..saying(dates.as_bytes())
+            ..saying(dates)
         };
-        let reading = Reading::Receipt(Receipt {
+        let expected = Receipt {
             centre_delay,
-            ..receipt(&rt, b"1", MessageState::Delivered)
-        });
-        assert_eq!(rt; read(&deliver), reading, "{dates}");
+            ..receipt(&rt, "1", MessageState::Delivered)
+        };
+        assert_eq!(rt;
+            read(&deliver),
+            Reading::Receipt(expected.copy()),
+            "{dates}"
+        );
     }
 }
+
+/// esm_class, receipted_message_id, short_message, message_payload, what they say together, and whether it is interim.
+const DELIVERIES: [(u8, Option<&str>, &str, Option<&str>, Expected, bool); 15] = [
+    (
+        0x00,
+        None,
+        "id:1 stat:DELIVRD",
+        None,
+        Expected::NotReceipt,
+        false,
+    ),
+    (
+        0x00,
+        Some("1"),
+        "id:1 stat:DELIVRD",
+        None,
+        Expected::Delivered("1"),
+        false,
+    ),
+    (
+        0x00,
+        Some(""),
+        "id:1 stat:DELIVRD",
+        None,
+        Expected::Delivered("1"),
+        false,
+    ),
+    (
+        0x04,
+        None,
+        "id:1 stat:DELIVRD",
+        None,
+        Expected::Delivered("1"),
+        false,
+    ),
+    (
+        0xC7,
+        None,
+        "id:1 stat:DELIVRD",
+        None,
+        Expected::Delivered("1"),
+        false,
+    ),
+    (
+        0x08,
+        None,
+        "id:1 stat:DELIVRD",
+        None,
+        Expected::NotReceipt,
+        false,
+    ),
+    (
+        0x08,
+        Some("1"),
+        "id:1 stat:DELIVRD",
+        None,
+        Expected::Delivered("1"),
+        false,
+    ),
+    (
+        0x20,
+        None,
+        "id:1 stat:DELIVRD",
+        None,
+        Expected::Delivered("1"),
+        true,
+    ),
+    (
+        0x20,
+        Some("1"),
+        "id:1 stat:DELIVRD",
+        None,
+        Expected::Delivered("1"),
+        true,
+    ),
+    (
+        0x24,
+        None,
+        "id:1 stat:DELIVRD",
+        None,
+        Expected::NotReceipt,
+        false,
+    ),
+    (
+        0x24,
+        Some("1"),
+        "id:1 stat:DELIVRD",
+        None,
+        Expected::Delivered("1"),
+        false,
+    ),
+    (
+        0x04,
+        None,
+        "",
+        Some("id:1 stat:DELIVRD"),
+        Expected::Delivered("1"),
+        false,
+    ),
+    (
+        0x04,
+        None,
+        "id:1 stat:DELIVRD",
+        Some("id:2"),
+        Expected::Delivered("1"),
+        false,
+    ),
+    (
+        0x04,
+        None,
+        " ",
+        Some("id:1 stat:DELIVRD"),
+        Expected::NoId,
+        false,
+    ),
+    (0x04, None, "", None, Expected::NoId, false),
+];
 
 #[test]
 fn a_mark_or_an_id_makes_a_receipt(rt: HostRuntime) {
-    for (esm_class, parameter, is_receipt, interim) in [
-        (0x00, None, false, false),
-        (0x00, Some(b"1".as_slice()), true, false),
-        (0x00, Some(b"".as_slice()), true, false),
-        (0x04, None, true, false),
-        (0xC7, None, true, false),
-        (0x08, None, false, false),
-        (0x08, Some(b"1".as_slice()), true, false),
-        (0x20, None, true, true),
-        (0x20, Some(b"1".as_slice()), true, true),
-        (0x24, None, false, false),
-        (0x24, Some(b"1".as_slice()), true, false),
-    ] {
+    for (esm_class, id, text, payload, expected, interim) in DELIVERIES {
         let deliver = Deliver {
             esm_class,
-            receipted_message_id: parameter,
-            ..saying(b"id:1 stat:DELIVRD")
+            receipted_message_id: id.map(str::as_bytes),
+            message_payload: payload.map(str::as_bytes),
+            ..saying(text)
         };
-        let reading = if is_receipt {
-            Reading::Receipt(Receipt {
-                interim,
-                ..receipt(&rt, b"1", MessageState::Delivered)
-            })
-        } else {
-            Reading::NotReceipt
-        };
-        assert_eq!(rt; read(&deliver), reading, "{esm_class} {parameter:?}");
+        let found = read(&deliver);
+        assert_eq!(rt;
+            found,
+            reading(&rt, expected, interim),
+            "{esm_class} {id:?} {text} {payload:?}"
+        );
     }
-}
-
-#[test]
-fn the_payload_counts_without_a_short_message(rt: HostRuntime) {
-    for (short_message, payload, reading) in [
-        (
-            b"".as_slice(),
-            Some(b"id:1 stat:DELIVRD".as_slice()),
-            delivered(&rt, b"1"),
-        ),
-        (
-            b"id:1 stat:DELIVRD".as_slice(),
-            Some(b"id:2".as_slice()),
-            delivered(&rt, b"1"),
-        ),
-        (
-            b" ".as_slice(),
-            Some(b"id:1 stat:DELIVRD".as_slice()),
-            Reading::NoId,
-        ),
-        (b"".as_slice(), None, Reading::NoId),
-        // A user data header stands before the text, so no name stands at its start.
-        (
-            b"\x05\x00\x03\x01\x02\x01id:1 stat:DELIVRD".as_slice(),
-            None,
-            Reading::NoId,
-        ),
-        (
-            b"\x05\x00\x03\x01\x02\x01 id:1 stat:DELIVRD".as_slice(),
-            None,
-            delivered(&rt, b"1"),
-        ),
-    ] {
-        let deliver = Deliver {
-            message_payload: payload,
-            ..saying(short_message)
-        };
-        assert_eq!(rt; read(&deliver), reading, "{short_message:?} {payload:?}");
-    }
-}
-
-#[test]
-fn typical_receipts_are_read(rt: HostRuntime) {
-    let undelivered = "id:1 Submit Date:2502300000 done date:2503010000 stat:UNDELIV err:027";
-    assert_eq!(rt;
-        read(&saying(undelivered.as_bytes())),
-        Reading::Receipt(Receipt {
-            error: error_text(&rt, b"027"),
-            ..receipt(&rt, b"1", MessageState::Undeliverable)
-        })
-    );
-    let corrected = Deliver {
-        message_state: Some(b"\x02"),
-        ..saying(b"id:1 stat:UNDELIV err:027")
-    };
-    let reading = Receipt {
-        error: error_text(&rt, b"027"),
-        ..receipt(&rt, b"1", MessageState::Delivered)
-    };
-    assert_eq!(rt; read(&corrected), Reading::Receipt(reading.copy()));
-    let whole =
-        "id:0000041394 sub:001 dlvrd:001 submit date:2502280000 done date:2503010000 stat:DELIVRD err:000 text:x";
-    assert_eq!(rt;
-        read(&saying(whole.as_bytes())),
-        Reading::Receipt(Receipt {
-            error: error_text(&rt, b"000"),
-            centre_delay: Some(86_400_000),
-            ..receipt(&rt, b"0000041394", MessageState::Delivered)
-        })
-    );
 }

@@ -1,8 +1,7 @@
 //! How values are printed.
 use crate::report::push_value;
 use smq_book::{SubmitError, Value};
-use smq_kit::LinkId;
-use smq_receipt::{ErrorCode, ErrorText};
+use smq_kit::{ErrorCode, ErrorText, LinkId};
 use std::test::Fail;
 
 #[test]

@@ -1,326 +1,303 @@
-//! Outcomes and tables on PDUs that are written out.
-use crate::deciders::Deciders;
-use crate::facts::facts_among;
-use crate::source::Source;
-use crate::submits::push_submits;
-use crate::{Content, Fact, Forms, KeptPdu, Outcome, SubmitError, Tables, Value, View};
-use smq_kit::{Dir, LinkId, MessageId, Moment, Place, SessionId};
-use smq_receipt::{ErrorCode, ErrorText};
-use std::alloc::{AllocError, Global};
+//! Facts and tables of PDUs, and the names in which they are printed.
+use crate::tests::receipts::{BY_MOMENT, BY_SESSION};
+use crate::tests::scripts::Sent::*;
+use crate::tests::scripts::Step::*;
+use crate::tests::scripts::Wanted::*;
+use crate::tests::scripts::*;
+use crate::{Outcome, View};
+use smq_kit::Form;
 use std::test::Fail;
 
-const SUBMIT_SM: u32 = 0x0000_0004;
+/// An enquire_link of 49 octets before the submits.
+const BEFORE: Step = Client(
+    10,
+    0,
+    Pdu(0x0000_0015, 0, 9, b"000000000000000000000000000000000"),
+);
 
-const SUBMIT_SM_RESP: u32 = 0x8000_0004;
+/// A submit_sm of sequence number 1 that asks for a receipt.
+const ASKING: Step = Client(10, 0, Asking(1, 1));
 
-const GENERIC_NACK: u32 = 0x8000_0000;
+/// The same that asks for none.
+const NOT_ASKING: Step = Client(10, 0, Asking(1, 0));
 
-const ENQUIRE_LINK_RESP: u32 = 0x8000_0015;
+/// What the response of its sequence number and rank makes of a submit.
+pub(crate) const FACTS: Table = &[
+    (
+        "its own response with an id",
+        &[
+            BEFORE,
+            ASKING,
+            Centre(10, 0, Response(1, 0, b"1")),
+            Facts(&[(49, Outcome::Open, None)]),
+        ],
+    ),
+    (
+        "no receipt is asked",
+        &[
+            BEFORE,
+            NOT_ASKING,
+            Centre(10, 0, Response(1, 0, b"1")),
+            Facts(&[(49, Outcome::Unasked, None)]),
+        ],
+    ),
+    (
+        "only bits 1 and 0 ask",
+        &[
+            BEFORE,
+            Client(10, 0, Asking(1, 16)),
+            Centre(10, 0, Response(1, 0, b"1")),
+            Facts(&[(49, Outcome::Unasked, None)]),
+        ],
+    ),
+    (
+        "an empty id",
+        &[
+            BEFORE,
+            ASKING,
+            Centre(10, 0, Response(1, 0, b"")),
+            Facts(&[(49, Outcome::NoId, None)]),
+        ],
+    ),
+    (
+        "a status",
+        &[
+            BEFORE,
+            ASKING,
+            Centre(10, 0, Response(1, 8, b"1")),
+            Facts(&[(49, Outcome::Refused, Some(8))]),
+        ],
+    ),
+    (
+        "a status and no id",
+        &[
+            BEFORE,
+            NOT_ASKING,
+            Centre(10, 0, Response(1, 8, b"")),
+            Facts(&[(49, Outcome::Refused, Some(8))]),
+        ],
+    ),
+    (
+        "a generic_nack",
+        &[
+            BEFORE,
+            ASKING,
+            Centre(10, 0, Pdu(0x8000_0000, 3, 1, b"")),
+            Facts(&[(49, Outcome::Refused, Some(3))]),
+        ],
+    ),
+    (
+        "an enquire_link_resp",
+        &[
+            BEFORE,
+            ASKING,
+            Centre(10, 0, Pdu(0x8000_0015, 0, 1, b"")),
+            Facts(&[(49, Outcome::Mismatched, None)]),
+        ],
+    ),
+    (
+        "another number",
+        &[
+            BEFORE,
+            ASKING,
+            Centre(10, 0, Response(2, 0, b"1")),
+            Facts(&[(49, Outcome::Waiting, None)]),
+        ],
+    ),
+    (
+        "no response",
+        &[
+            BEFORE,
+            ASKING,
+            Centre(10, 0, Asking(1, 1)),
+            Facts(&[(49, Outcome::Waiting, None)]),
+        ],
+    ),
+    (
+        "two requests of one number have its responses in turn",
+        &[
+            Client(10, 0, Asking(7, 1)),
+            Client(10, 0, Asking(7, 1)),
+            Centre(10, 0, Response(7, 0, b"1")),
+            Centre(10, 0, Pdu(0x8000_0000, 3, 7, b"")),
+            Facts(&[(0, Outcome::Open, None), (49, Outcome::Refused, Some(3))]),
+        ],
+    ),
+    (
+        "what is no submit gives no fact: a submit_sm without fields, an enquire_link, a response, a submit of the centre",
+        &[
+            Client(10, 0, Pdu(0x0000_0004, 0, 1, b"")),
+            Client(10, 0, Pdu(0x0000_0015, 0, 2, b"")),
+            Client(10, 0, Response(3, 0, b"1")),
+            Centre(10, 0, Asking(1, 1)),
+            Facts(&[]),
+        ],
+    ),
+];
 
-fn pdu(offset: u64, command: u32, status: u32, seq: u32, content: Content) -> KeptPdu {
-    KeptPdu {
-        offset,
-        moment: Moment::epoch(),
-        command,
-        status,
-        seq,
-        content,
-    }
-}
+/// Rows, and what is counted where none stands.
+pub(crate) const ROWS: Table = &[
+    (
+        "links stand in order, then outcomes",
+        &[
+            Client(20, 0, Asking(1, 1)),
+            Centre(20, 0, Response(1, 8, b"")),
+            Client(10, 0, Asking(1, 1)),
+            Client(10, 0, Asking(2, 1)),
+            Client(10, 0, Asking(3, 1)),
+            Centre(10, 0, Response(1, 0, b"1")),
+            Centre(10, 0, Response(3, 0, b"3")),
+            Rows(&[
+                Link(1, Outcome::Waiting, 1),
+                Link(1, Outcome::Open, 2),
+                Link(2, Outcome::Refused, 1),
+                Refused(8, 1),
+            ]),
+            Counts(&[
+                (View::Link, Link(2, Outcome::Open, 0)),
+                (View::Error, Refused(11, 0)),
+            ]),
+        ],
+    ),
+    (
+        "errors stand in order: refusals by status, codes of networks, texts, unstated ones",
+        &[
+            Client(10, 0, Asking(1, 1)),
+            Centre(10, 0, Response(1, 0, b"1")),
+            Centre(11, 0, Receipt(1, b"id:1 stat:UNDELIV")),
+            Client(10, 0, Asking(2, 1)),
+            Centre(10, 0, Response(2, 0, b"2")),
+            Centre(11, 0, Receipt(2, b"id:2 stat:UNDELIV err:1")),
+            Client(10, 0, Asking(3, 1)),
+            Centre(10, 0, Response(3, 0, b"3")),
+            Centre(
+                11,
+                0,
+                ReceiptWith(3, b"id:3 stat:UNDELIV", b"\x04\x23\0\x03\x04\0\0"),
+            ),
+            Client(10, 0, Asking(4, 1)),
+            Centre(10, 0, Response(4, 11, b"")),
+            Client(10, 0, Asking(5, 1)),
+            Centre(10, 0, Response(5, 0, b"5")),
+            Centre(11, 0, Receipt(5, b"id:5 stat:DELIVRD")),
+            Client(10, 0, Asking(6, 1)),
+            Centre(10, 0, Response(6, 0, b"6")),
+            Centre(11, 0, Receipt(6, b"id:6 stat:UNDELIV err:012")),
+            Client(10, 0, Asking(7, 1)),
+            Centre(10, 0, Response(7, 0, b"7")),
+            Centre(
+                11,
+                0,
+                ReceiptWith(7, b"id:7 stat:UNDELIV", b"\x04\x23\0\x03\x03\0\x09"),
+            ),
+            Client(10, 0, Asking(8, 1)),
+            Centre(10, 0, Response(8, 3, b"")),
+            Client(10, 0, Asking(9, 1)),
+            Centre(10, 0, Response(9, 0, b"9")),
+            Centre(
+                11,
+                0,
+                ReceiptWith(9, b"id:9 stat:UNDELIV", b"\x04\x23\0\x03\x03\0\x08"),
+            ),
+            Client(10, 0, Asking(10, 1)),
+            Centre(10, 0, Response(10, 11, b"")),
+            Rows(&[
+                Link(1, Outcome::Refused, 3),
+                Link(1, Outcome::Delivered, 1),
+                Link(1, Outcome::Failed, 6),
+                Refused(3, 1),
+                Refused(11, 2),
+                Network(3, 8, 1),
+                Network(3, 9, 1),
+                Network(4, 0, 1),
+                Text(b"012", 1),
+                Text(b"1", 1),
+                Unstated(1),
+            ]),
+        ],
+    ),
+];
 
-fn submit(offset: u64, seq: u32, registered_delivery: u8) -> KeptPdu {
-    let content = Content::Submit {
-        registered_delivery,
-    };
-    pdu(offset, SUBMIT_SM, 0, seq, content)
-}
+const OPEN_THEN_REFUSED: &[Step] = &[
+    Client(10, 0, Asking(1, 1)),
+    Centre(10, 0, Response(1, 0, b"1")),
+    Client(10, 0, Asking(2, 1)),
+    Centre(10, 0, Response(2, 8, b"")),
+];
 
-fn answer(status: u32, seq: u32, id: &[u8]) -> KeptPdu {
-    let content = Content::SubmitAnswer {
-        message_id: MessageId::new(id).ok(),
-    };
-    pdu(0, SUBMIT_SM_RESP, status, seq, content)
-}
+const REFUSED_THEN_OPEN: &[Step] = &[
+    Client(10, 0, Asking(1, 1)),
+    Centre(10, 0, Response(1, 8, b"")),
+    Client(10, 0, Asking(2, 1)),
+    Centre(10, 0, Response(2, 0, b"2")),
+];
 
-fn facts_of(
-    alloc: Global,
-    client: &[KeptPdu],
-    centre: &[KeptPdu],
-) -> Result<Vec<Fact>, AllocError> {
-    let source = Source {
-        session: SessionId(10),
-        link: LinkId(1),
-        forms: Forms::opening(),
-    };
-    let mut submits = Vec::new(alloc);
-    push_submits(&mut submits, source, client, centre)?;
-    let mut deciders = Deciders::new(alloc);
-    deciders.add_session(source, centre)?;
-    facts_among(alloc, submits.as_slice(), &deciders)
-}
+const REFUSED_TWICE: &[Step] = &[
+    Client(10, 0, Asking(1, 1)),
+    Centre(10, 0, Response(1, 0, b"1")),
+    Client(10, 0, Asking(2, 1)),
+    Centre(10, 0, Response(2, 8, b"")),
+    Client(10, 0, Asking(3, 1)),
+    Centre(10, 0, Response(3, 8, b"")),
+];
 
-fn fact(offset: u64, link: u32, outcome: Outcome) -> Fact {
-    Fact {
-        place: Place {
-            session: SessionId(10),
-            dir: Dir::FromClient,
-            offset,
-        },
-        moment: Moment::epoch(),
-        link: LinkId(link),
-        outcome,
-        error: None,
-    }
-}
+const OF_ANOTHER_LINK: &[Step] = &[
+    Client(20, 0, Asking(1, 1)),
+    Centre(20, 0, Response(1, 0, b"1")),
+    Client(10, 0, Asking(2, 1)),
+    Centre(10, 0, Response(2, 8, b"")),
+];
 
-fn refused(offset: u64, status: u32) -> Fact {
-    let mut fact = fact(offset, 1, Outcome::Refused);
-    fact.error = Some(SubmitError::Refused { status });
-    fact
-}
+/// Two scripts, and whether their tables are equal.
+const EQUAL: &[(&str, &[Step], &[Step], bool)] = &[
+    (
+        "the order of messages is open",
+        OPEN_THEN_REFUSED,
+        REFUSED_THEN_OPEN,
+        true,
+    ),
+    (
+        "the order in which receipts arrive is open",
+        BY_SESSION,
+        BY_MOMENT,
+        true,
+    ),
+    (
+        "forms without messages are open",
+        &[],
+        &[Forms(Form::Decimal, Form::Decimal)],
+        true,
+    ),
+    ("a count differs", OPEN_THEN_REFUSED, REFUSED_TWICE, false),
+    ("a link differs", OPEN_THEN_REFUSED, OF_ANOTHER_LINK, false),
+    ("rows differ", OPEN_THEN_REFUSED, &[], false),
+];
 
-#[test]
-fn an_answer_decides_the_outcome(rt: HostRuntime) -> Result<(), Fail> {
-    let rows = [
-        (
-            "its own response with an id",
-            answer(0, 1, b"1"),
-            1,
-            fact(49, 1, Outcome::Open),
-        ),
-        (
-            "no receipt is asked",
-            answer(0, 1, b"1"),
-            0,
-            fact(49, 1, Outcome::Unasked),
-        ),
-        (
-            "only bits 1 and 0 ask",
-            answer(0, 1, b"1"),
-            16,
-            fact(49, 1, Outcome::Unasked),
-        ),
-        (
-            "an empty id",
-            answer(0, 1, b""),
-            1,
-            fact(49, 1, Outcome::NoId),
-        ),
-        ("a status", answer(8, 1, b"1"), 1, refused(49, 8)),
-        ("a status and no id", answer(8, 1, b""), 0, refused(49, 8)),
-        (
-            "a generic_nack",
-            pdu(0, GENERIC_NACK, 3, 1, Content::Other),
-            1,
-            refused(49, 3),
-        ),
-        (
-            "an enquire_link_resp",
-            pdu(0, ENQUIRE_LINK_RESP, 0, 1, Content::Other),
-            1,
-            fact(49, 1, Outcome::Mismatched),
-        ),
-        (
-            "another number",
-            answer(0, 2, b"1"),
-            1,
-            fact(49, 1, Outcome::Waiting),
-        ),
-        (
-            "no response",
-            submit(0, 1, 1),
-            1,
-            fact(49, 1, Outcome::Waiting),
-        ),
-    ];
-    for (what, response, registered_delivery, wanted) in rows {
-        let facts = facts_of(
-            rt.alloc(),
-            &[submit(49, 1, registered_delivery)],
-            &[response],
-        )?;
-        assert_eq!(rt; facts.as_slice(), [wanted].as_slice(), "{what}");
-    }
-    Ok(())
-}
-
-#[test]
-fn requests_of_one_number_are_answered_in_turn(rt: HostRuntime) -> Result<(), Fail> {
-    let client = [submit(0, 7, 1), submit(49, 7, 1)];
-    let centre = [
-        answer(0, 7, b"1"),
-        pdu(17, GENERIC_NACK, 3, 7, Content::Other),
-    ];
-    let facts = facts_of(rt.alloc(), &client, &centre)?;
-    let wanted = [fact(0, 1, Outcome::Open), refused(49, 3)];
-    assert_eq!(rt; facts.as_slice(), wanted.as_slice());
-    Ok(())
-}
-
-#[test]
-fn what_is_no_submit_gives_no_fact(rt: HostRuntime) -> Result<(), Fail> {
-    let client = [
-        pdu(0, SUBMIT_SM, 0, 1, Content::Undecodable),
-        pdu(16, 0x0000_0015, 0, 2, Content::Other),
-        answer(0, 3, b"1"),
-    ];
-    let facts = facts_of(rt.alloc(), &client, &[submit(0, 1, 1)])?;
-    assert!(rt; facts.is_empty());
-    Ok(())
-}
-
-#[test]
-fn rows_stand_in_order_with_their_counts(rt: HostRuntime) -> Result<(), Fail> {
-    let facts = [
-        fact(0, 2, Outcome::Refused),
-        fact(49, 1, Outcome::Open),
-        fact(98, 1, Outcome::Waiting),
-        fact(147, 1, Outcome::Open),
-    ];
-    let tables = Tables::of_facts(rt.alloc(), &facts)?;
-    let wanted = [
-        (Value::Link(LinkId(1)), Outcome::Waiting, 1),
-        (Value::Link(LinkId(1)), Outcome::Open, 2),
-        (Value::Link(LinkId(2)), Outcome::Refused, 1),
-    ];
-    let mut rows = tables.rows(View::Link);
-    for (value, outcome, count) in wanted {
-        assert_eq!(rt; rows.next(), Some((&value, outcome, count)), "{outcome:?}");
-        assert_eq!(rt;
-            tables.count(View::Link, &value, outcome),
-            count,
-            "{outcome:?}"
-        );
-    }
-    assert_eq!(rt; rows.next(), None);
-    let absent = Value::Link(LinkId(2));
-    assert_eq!(rt;
-        tables.count(View::Link, &absent, Outcome::Open),
-        0,
-        "an absent row"
-    );
-    Ok(())
-}
-
-fn failed(error: ErrorCode) -> Fact {
-    let mut fact = fact(0, 1, Outcome::Failed);
-    fact.error = Some(SubmitError::Failed(error));
-    fact
-}
-
-fn network(kind: u8, code: u16) -> ErrorCode {
-    ErrorCode::Network { kind, code }
-}
-
-/// The error code of a text, which has to be one.
-fn text(octets: &[u8]) -> ErrorCode {
-    match ErrorText::new(octets) {
-        Some(text) => ErrorCode::Text(text),
-        None => ErrorCode::Unstated,
-    }
-}
-
-#[test]
-fn rows_of_errors_stand_in_order_with_their_counts(rt: HostRuntime) -> Result<(), Fail> {
-    let facts = [
-        failed(ErrorCode::Unstated),
-        failed(text(b"1")),
-        failed(network(4, 0)),
-        refused(0, 11),
-        fact(0, 1, Outcome::Delivered),
-        failed(text(b"012")),
-        failed(network(3, 9)),
-        refused(0, 3),
-        failed(network(3, 8)),
-        refused(0, 11),
-    ];
-    let tables = Tables::of_facts(rt.alloc(), &facts)?;
-    let wanted = [
-        (SubmitError::Refused { status: 3 }, Outcome::Refused, 1),
-        (SubmitError::Refused { status: 11 }, Outcome::Refused, 2),
-        (SubmitError::Failed(network(3, 8)), Outcome::Failed, 1),
-        (SubmitError::Failed(network(3, 9)), Outcome::Failed, 1),
-        (SubmitError::Failed(network(4, 0)), Outcome::Failed, 1),
-        (SubmitError::Failed(text(b"012")), Outcome::Failed, 1),
-        (SubmitError::Failed(text(b"1")), Outcome::Failed, 1),
-        (SubmitError::Failed(ErrorCode::Unstated), Outcome::Failed, 1),
-    ];
-    let mut rows = tables.rows(View::Error);
-    for (error, outcome, count) in wanted {
-        let value = Value::Error(error);
-        assert_eq!(rt; rows.next(), Some((&value, outcome, count)), "{value:?}");
-        assert_eq!(rt;
-            tables.count(View::Error, &value, outcome),
-            count,
-            "{value:?}"
-        );
-        assert_eq!(rt;
-            tables.count(View::Link, &value, outcome),
-            0,
-            "{value:?} by link"
-        );
-    }
-    assert_eq!(rt; rows.next(), None);
-    let link = Value::Link(LinkId(1));
-    for (outcome, count) in [
-        (Outcome::Refused, 3),
-        (Outcome::Delivered, 1),
-        (Outcome::Failed, 6),
-    ] {
-        assert_eq!(rt;
-            tables.count(View::Link, &link, outcome),
-            count,
-            "{outcome:?}"
-        );
-        assert_eq!(rt;
-            tables.count(View::Error, &link, outcome),
-            0,
-            "{outcome:?} by error"
-        );
-    }
-    Ok(())
-}
-
-/// The tables of a submit with each of these outcomes.
-fn tables_of(alloc: Global, outcomes: &[Outcome]) -> Result<Tables, AllocError> {
-    let mut facts = Vec::new(alloc);
-    for outcome in outcomes {
-        facts.push(fact(0, 1, *outcome))?;
-    }
-    Tables::of_facts(alloc, facts.as_slice())
-}
+/// The outcomes by their names.
+const OUTCOMES: &[(Outcome, &str)] = &[
+    (Outcome::Waiting, "waiting"),
+    (Outcome::Mismatched, "mismatched"),
+    (Outcome::Refused, "refused"),
+    (Outcome::NoId, "noid"),
+    (Outcome::Ambiguous, "ambiguous"),
+    (Outcome::Delivered, "delivered"),
+    (Outcome::Failed, "failed"),
+    (Outcome::Unasked, "unasked"),
+    (Outcome::Open, "open"),
+];
 
 #[test]
-fn tables_are_equal_where_rows_and_counts_are(rt: HostRuntime) -> Result<(), Fail> {
-    let tables = tables_of(rt.alloc(), &[Outcome::Open, Outcome::Refused])?;
-    let turned = tables_of(rt.alloc(), &[Outcome::Refused, Outcome::Open])?;
-    let twice = tables_of(
-        rt.alloc(),
-        &[Outcome::Open, Outcome::Refused, Outcome::Refused],
-    )?;
-    let none = tables_of(rt.alloc(), &[])?;
-    assert!(rt; tables == turned, "the order of facts is open");
-    assert!(rt; tables != twice, "a count differs");
-    assert!(rt; tables != none, "rows differ");
-    Ok(())
-}
-
-#[test]
-fn names_are_printed(rt: HostRuntime) {
-    let rows = [
-        (Outcome::Waiting, "waiting"),
-        (Outcome::Mismatched, "mismatched"),
-        (Outcome::Refused, "refused"),
-        (Outcome::NoId, "noid"),
-        (Outcome::Ambiguous, "ambiguous"),
-        (Outcome::Delivered, "delivered"),
-        (Outcome::Failed, "failed"),
-        (Outcome::Unasked, "unasked"),
-        (Outcome::Open, "open"),
-    ];
-    for (outcome, name) in rows {
-        assert_eq!(rt; outcome.name(), name, "{outcome:?}");
+fn tables_are_equal_where_rows_and_counts_are_and_names_are_printed(
+    rt: HostRuntime,
+) -> Result<(), Fail> {
+    for (what, one, other, wanted) in EQUAL {
+        let equal = have_equal_tables(&rt, rt.alloc(), one, other)?;
+        assert_eq!(rt; equal, *wanted, "{what}");
+    }
+    for (outcome, name) in OUTCOMES {
+        assert_eq!(rt; outcome.name(), *name, "{outcome:?}");
     }
     assert_eq!(rt; View::Link.name(), "link");
     assert_eq!(rt; View::Error.name(), "error");
+    Ok(())
 }

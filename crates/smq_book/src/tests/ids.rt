@@ -5,10 +5,9 @@ use crate::tests::scripts::Step::*;
 use crate::tests::scripts::Wanted::*;
 use crate::tests::scripts::*;
 use smq_kit::Form;
-use std::test::Fail;
 
-/// Messages and what answers them.
-const ANSWERS: Table = &[
+/// Messages and their responses.
+pub(crate) const RESPONSES: Table = &[
     (
         "a submit in two pieces is delivered by its receipt",
         &[
@@ -22,7 +21,7 @@ const ANSWERS: Table = &[
                 9000,
                 Octets(b"000\0\x01\x01447700900123\0\0\0\0\0\0\x01\0\0\0\0"),
             ),
-            Centre(10, 9500, Answer(1, 0, b"1")),
+            Centre(10, 9500, Response(1, 0, b"1")),
             Centre(10, 12000, Receipt(1, b"id:1 stat:DELIVRD")),
             Rows(DELIVERED),
         ],
@@ -30,8 +29,8 @@ const ANSWERS: Table = &[
     (
         "an unasked message is delivered by a final receipt alone",
         &[
-            Client(10, 1000, Unasked(1)),
-            ANSWER,
+            Client(10, 1000, Asking(1, 0)),
+            RESPONSE,
             Rows(&[Link(1, Outcome::Unasked, 1)]),
             Centre(10, 1900, Receipt(1, b"id:1 stat:ENROUTE")),
             Rows(&[Link(1, Outcome::Unasked, 1)]),
@@ -40,12 +39,12 @@ const ANSWERS: Table = &[
         ],
     ),
     (
-        "a receipt before the answer decides once the answer is there",
+        "a receipt before the response decides once the response is there",
         &[
             Centre(10, 500, Receipt(1, b"id:1 stat:DELIVRD")),
             SUBMIT,
             Rows(&[Link(1, Outcome::Waiting, 1)]),
-            ANSWER,
+            RESPONSE,
             Rows(DELIVERED),
         ],
     ),
@@ -64,20 +63,20 @@ const ANSWERS: Table = &[
         ],
     ),
     (
-        "an answer with an empty id accepts nothing",
+        "a response with an empty id accepts nothing",
         &[
             SUBMIT,
-            Centre(10, 1200, Answer(1, 0, b"")),
+            Centre(10, 1200, Response(1, 0, b"")),
             Rows(&[Link(1, Outcome::NoId, 1)]),
             Centre(10, 2000, Receipt(1, b"id:1 stat:DELIVRD")),
             Rows(&[Link(1, Outcome::NoId, 1)]),
         ],
     ),
     (
-        "an answer of another number accepts nothing",
+        "a response of another number accepts nothing",
         &[
             SUBMIT,
-            Centre(10, 1200, Answer(2, 0, b"1")),
+            Centre(10, 1200, Response(2, 0, b"1")),
             Rows(&[Link(1, Outcome::Waiting, 1)]),
             Centre(10, 2000, Receipt(1, b"id:1 stat:DELIVRD")),
             Rows(&[Link(1, Outcome::Waiting, 1)]),
@@ -87,7 +86,7 @@ const ANSWERS: Table = &[
         "a refused message stays refused for all its receipts",
         &[
             SUBMIT,
-            Centre(10, 1200, Answer(1, 8, b"1")),
+            Centre(10, 1200, Response(1, 8, b"1")),
             Centre(10, 2000, Receipt(1, b"id:1 stat:DELIVRD")),
             Rows(&[Link(1, Outcome::Refused, 1), Refused(8, 1)]),
         ],
@@ -97,7 +96,7 @@ const ANSWERS: Table = &[
         &[
             Client(10, 1000, Submit(7, NUMBER)),
             Client(10, 1000, Submit(7, b"447700900456")),
-            Centre(10, 1200, Answer(7, 0, b"1")),
+            Centre(10, 1200, Response(7, 0, b"1")),
             Centre(
                 10,
                 1300,
@@ -112,19 +111,14 @@ const ANSWERS: Table = &[
     ),
 ];
 
-#[test]
-fn receipts_decide_only_messages_that_an_answer_accepts(rt: HostRuntime) -> Result<(), Fail> {
-    play_table(&rt, rt.alloc(), ANSWERS)
-}
-
 /// Ids under forms.
-const FORMS: Table = &[
+pub(crate) const FORMS: Table = &[
     (
         "a receipt matches under the forms that were set last",
         &[
             Forms(Form::Hexadecimal, Form::Decimal),
             SUBMIT,
-            Centre(10, 1200, Answer(1, 0, b"0000A1B2")),
+            Centre(10, 1200, Response(1, 0, b"0000A1B2")),
             Centre(10, 2000, Receipt(1, b"id:0000041394 stat:DELIVRD")),
             Rows(DELIVERED),
             Forms(Form::Verbatim, Form::Verbatim),
@@ -140,10 +134,10 @@ const FORMS: Table = &[
         &[
             Forms(Form::Decimal, Form::Decimal),
             SUBMIT,
-            Centre(10, 1200, Answer(1, 0, b"07")),
+            Centre(10, 1200, Response(1, 0, b"07")),
             Centre(10, 2000, Receipt(1, b"id:7 stat:DELIVRD")),
             Client(20, 1000, Submit(1, NUMBER)),
-            Centre(20, 1200, Answer(1, 0, b"07")),
+            Centre(20, 1200, Response(1, 0, b"07")),
             Centre(20, 2000, Receipt(1, b"id:7 stat:DELIVRD")),
             Rows(&[Link(1, Outcome::Delivered, 1), Link(2, Outcome::Open, 1)]),
         ],
@@ -153,7 +147,7 @@ const FORMS: Table = &[
         &[
             Forms(Form::Hexadecimal, Form::Decimal),
             SUBMIT,
-            Centre(10, 1200, Answer(1, 0, b"a1b2")),
+            Centre(10, 1200, Response(1, 0, b"a1b2")),
             Centre(10, 2000, Receipt(1, b"id:41394 stat:DELIVRD")),
             Rows(DELIVERED),
         ],
@@ -163,7 +157,7 @@ const FORMS: Table = &[
         &[
             Forms(Form::Hexadecimal, Form::Decimal),
             SUBMIT,
-            Centre(10, 1200, Answer(1, 0, b"0xa1b2")),
+            Centre(10, 1200, Response(1, 0, b"0xa1b2")),
             Centre(10, 2000, Receipt(1, b"id:41394 stat:DELIVRD")),
             Rows(OPEN),
         ],
@@ -173,7 +167,7 @@ const FORMS: Table = &[
         &[
             Forms(Form::Hexadecimal, Form::Decimal),
             SUBMIT,
-            Centre(10, 1200, Answer(1, 0, b"0xa1b2")),
+            Centre(10, 1200, Response(1, 0, b"0xa1b2")),
             Centre(10, 2000, Receipt(1, b"id:0xa1b2 stat:DELIVRD")),
             Rows(DELIVERED),
         ],
@@ -183,7 +177,7 @@ const FORMS: Table = &[
         &[
             Forms(Form::Hexadecimal, Form::Decimal),
             SUBMIT,
-            Centre(10, 1200, Answer(1, 0, b"a1b2")),
+            Centre(10, 1200, Response(1, 0, b"a1b2")),
             Centre(10, 2000, Receipt(1, b"id:a1b2 stat:DELIVRD")),
             Rows(OPEN),
         ],
@@ -193,7 +187,7 @@ const FORMS: Table = &[
         &[
             Forms(Form::Decimal, Form::Decimal),
             SUBMIT,
-            Centre(10, 1200, Answer(1, 0, b"a-1")),
+            Centre(10, 1200, Response(1, 0, b"a-1")),
             Centre(10, 2000, Receipt(1, b"id:a-1 stat:DELIVRD")),
             Rows(DELIVERED),
         ],
@@ -203,29 +197,22 @@ const FORMS: Table = &[
         &[
             Forms(Form::Decimal, Form::Decimal),
             SUBMIT,
-            Centre(10, 1200, Answer(1, 0, b"0a-1")),
+            Centre(10, 1200, Response(1, 0, b"0a-1")),
             Centre(10, 2000, Receipt(1, b"id:a-1 stat:DELIVRD")),
             Rows(OPEN),
         ],
     ),
 ];
 
-#[test]
-fn ids_match_by_number_under_the_forms_of_their_link_and_else_by_text(
-    rt: HostRuntime,
-) -> Result<(), Fail> {
-    play_table(&rt, rt.alloc(), FORMS)
-}
-
 /// Messages of one key.
-const KEYS: Table = &[
+pub(crate) const KEYS: Table = &[
     (
         "two ids of one number are ambiguous until a form parts them",
         &[
             SUBMIT,
-            Centre(10, 1200, Answer(1, 0, b"07")),
+            Centre(10, 1200, Response(1, 0, b"07")),
             Client(11, 1000, Submit(1, NUMBER)),
-            Centre(11, 1200, Answer(1, 0, b"7")),
+            Centre(11, 1200, Response(1, 0, b"7")),
             Forms(Form::Decimal, Form::Decimal),
             Rows(&[Link(1, Outcome::Ambiguous, 2)]),
             Centre(11, 2000, Receipt(1, b"id:007 stat:DELIVRD")),
@@ -239,8 +226,8 @@ const KEYS: Table = &[
         &[
             SUBMIT,
             Client(10, 1000, Submit(2, NUMBER)),
-            Centre(10, 1200, Answer(1, 8, b"1")),
-            Centre(10, 1200, Answer(2, 0, b"1")),
+            Centre(10, 1200, Response(1, 8, b"1")),
+            Centre(10, 1200, Response(2, 0, b"1")),
             Centre(10, 2000, Receipt(1, b"id:1 stat:DELIVRD")),
             Rows(&[
                 Link(1, Outcome::Refused, 1),
@@ -253,10 +240,10 @@ const KEYS: Table = &[
         "two messages of one key are ambiguous even where one is unasked",
         &[
             SUBMIT,
-            Client(10, 1000, Unasked(2)),
-            ANSWER,
+            Client(10, 1000, Asking(2, 0)),
+            RESPONSE,
             Rows(&[Link(1, Outcome::Waiting, 1), Link(1, Outcome::Open, 1)]),
-            Centre(10, 1200, Answer(2, 0, b"1")),
+            Centre(10, 1200, Response(2, 0, b"1")),
             Rows(&[Link(1, Outcome::Ambiguous, 2)]),
             Centre(10, 2000, Receipt(1, b"id:1 stat:DELIVRD")),
             Rows(&[Link(1, Outcome::Ambiguous, 2)]),
@@ -266,9 +253,9 @@ const KEYS: Table = &[
         "one key on two links is single on each",
         &[
             SUBMIT,
-            ANSWER,
+            RESPONSE,
             Client(20, 1000, Submit(1, NUMBER)),
-            Centre(20, 1200, Answer(1, 0, b"1")),
+            Centre(20, 1200, Response(1, 0, b"1")),
             Centre(20, 2000, Receipt(1, b"id:1 stat:UNDELIV err:9")),
             Rows(&[
                 Link(1, Outcome::Open, 1),
@@ -284,8 +271,3 @@ const KEYS: Table = &[
         ],
     ),
 ];
-
-#[test]
-fn accepted_messages_of_one_key_are_ambiguous_on_their_link(rt: HostRuntime) -> Result<(), Fail> {
-    play_table(&rt, rt.alloc(), KEYS)
-}

@@ -4,10 +4,9 @@ use crate::tests::scripts::Sent::*;
 use crate::tests::scripts::Step::*;
 use crate::tests::scripts::Wanted::*;
 use crate::tests::scripts::*;
-use std::test::Fail;
 
 /// Final receipts, and the rows that they give.
-const FINAL: Answered = &[
+pub(crate) const FINAL: Received = &[
     (
         "a state in message_state goes before that in the text",
         ReceiptWith(1, b"id:1 stat:UNDELIV err:027", b"\x04\x27\0\x01\x02"),
@@ -75,17 +74,12 @@ const FINAL: Answered = &[
     ),
 ];
 
-#[test]
-fn a_final_receipt_delivers_or_fails_its_message(rt: HostRuntime) -> Result<(), Fail> {
-    play_answered(&rt, rt.alloc(), FINAL)
-}
-
 /// A deliver_sm whose short_message is shorter than its sm_length.
 const UNDECODABLE: &[u8] = b"\0\0\0\x32\0\0\0\x05\0\0\0\0\0\0\0\x01\
     \0\0\0\0\0\0\0\x04\0\0\0\0\0\0\0\0\xffid:1 stat:DELIVRD";
 
 /// What is no final receipt of the id.
-const NOT_FINAL: Answered = &[
+pub(crate) const NOT_FINAL: Received = &[
     (
         "an undecodable deliver_sm is no receipt",
         Octets(UNDECODABLE),
@@ -129,12 +123,12 @@ const NOT_FINAL: Answered = &[
 ];
 
 /// Receipts that are of no message of theirs.
-const STRAY: Table = &[
+pub(crate) const STRAY: Table = &[
     (
         "a receipt is of the client",
         &[
             SUBMIT,
-            ANSWER,
+            RESPONSE,
             Client(10, 2000, Receipt(2, b"id:1 stat:DELIVRD")),
             Rows(OPEN),
         ],
@@ -143,7 +137,7 @@ const STRAY: Table = &[
         "a receipt is of the client of another session",
         &[
             SUBMIT,
-            ANSWER,
+            RESPONSE,
             Client(11, 2000, Receipt(2, b"id:1 stat:DELIVRD")),
             Rows(OPEN),
         ],
@@ -152,7 +146,7 @@ const STRAY: Table = &[
         "a receipt is of another link",
         &[
             SUBMIT,
-            ANSWER,
+            RESPONSE,
             Centre(20, 2000, Receipt(2, b"id:1 stat:DELIVRD")),
             Rows(OPEN),
         ],
@@ -177,22 +171,16 @@ const STRAY: Table = &[
     ),
 ];
 
-#[test]
-fn what_is_no_final_receipt_of_a_message_decides_nothing(rt: HostRuntime) -> Result<(), Fail> {
-    play_answered(&rt, rt.alloc(), NOT_FINAL)?;
-    play_table(&rt, rt.alloc(), STRAY)
-}
-
 /// The one message failed with the error `9`.
 const FAILED: Step = Rows(&[Link(1, Outcome::Failed, 1), Text(b"9", 1)]);
 
 /// Several receipts of one message.
-const SEVERAL: Table = &[
+pub(crate) const SEVERAL: Table = &[
     (
         "a receipt that arrives late decides by its earlier moment",
         &[
             Client(10, 0, Submit(1, NUMBER)),
-            Centre(10, 100, Answer(1, 0, b"1")),
+            Centre(10, 100, Response(1, 0, b"1")),
             Centre(11, 5000, Receipt(1, b"id:1 stat:UNDELIV err:012")),
             Rows(&[Link(1, Outcome::Failed, 1), Text(b"012", 1)]),
             Centre(12, 4000, Receipt(1, b"id:1 stat:DELIVRD err:000")),
@@ -203,7 +191,7 @@ const SEVERAL: Table = &[
         "of one moment, the lower session decides, which arrives first",
         &[
             SUBMIT,
-            ANSWER,
+            RESPONSE,
             Centre(10, 2000, Receipt(1, b"id:1 stat:EXPIRED err:9")),
             Centre(11, 2000, Receipt(2, b"id:1 stat:DELIVRD")),
             FAILED,
@@ -213,7 +201,7 @@ const SEVERAL: Table = &[
         "of one moment, the lower session decides, which arrives last",
         &[
             SUBMIT,
-            ANSWER,
+            RESPONSE,
             Centre(11, 2000, Receipt(2, b"id:1 stat:DELIVRD")),
             Centre(10, 2000, Receipt(1, b"id:1 stat:EXPIRED err:9")),
             FAILED,
@@ -223,7 +211,7 @@ const SEVERAL: Table = &[
         "of one moment and session, the lower offset decides",
         &[
             SUBMIT,
-            ANSWER,
+            RESPONSE,
             Centre(12, 2000, Receipt(1, b"id:1 stat:EXPIRED err:9")),
             Centre(12, 2000, Receipt(2, b"id:1 stat:DELIVRD")),
             FAILED,
@@ -233,7 +221,7 @@ const SEVERAL: Table = &[
         "of two that failed, the lower offset decides",
         &[
             SUBMIT,
-            ANSWER,
+            RESPONSE,
             Centre(12, 2000, Receipt(1, b"id:1 stat:EXPIRED err:9")),
             Centre(12, 2000, Receipt(3, b"id:1 stat:REJECTD err:8")),
             FAILED,
@@ -243,7 +231,7 @@ const SEVERAL: Table = &[
         "an intermediate notification never decides, even when earliest",
         &[
             SUBMIT,
-            ANSWER,
+            RESPONSE,
             Centre(10, 2000, Interim(1, b"id:1 stat:DELIVRD")),
             Centre(10, 3000, Receipt(2, b"id:1 stat:EXPIRED err:9")),
             FAILED,
@@ -253,7 +241,7 @@ const SEVERAL: Table = &[
         "ENROUTE never decides, even when earliest",
         &[
             SUBMIT,
-            ANSWER,
+            RESPONSE,
             Centre(10, 2000, Receipt(1, b"id:1 stat:ENROUTE")),
             Centre(10, 3000, Receipt(2, b"id:1 stat:EXPIRED err:9")),
             FAILED,
@@ -263,7 +251,7 @@ const SEVERAL: Table = &[
         "ACCEPTD never decides, even when earliest",
         &[
             SUBMIT,
-            ANSWER,
+            RESPONSE,
             Centre(10, 2000, Receipt(1, b"id:1 stat:ACCEPTD")),
             Centre(10, 3000, Receipt(2, b"id:1 stat:EXPIRED err:9")),
             FAILED,
@@ -271,63 +259,54 @@ const SEVERAL: Table = &[
     ),
 ];
 
-#[test]
-fn of_several_final_receipts_the_least_by_moment_and_place_decides(
-    rt: HostRuntime,
-) -> Result<(), Fail> {
-    play_table(&rt, rt.alloc(), SEVERAL)
-}
-
 const LATE: Step = Centre(11, 4000, Receipt(1, b"id:1 stat:DELIVRD"));
 
 const EARLY: Step = Centre(12, 3000, Receipt(1, b"id:1 stat:EXPIRED err:9"));
 
-#[test]
-fn receipts_in_either_order_of_arrival_give_the_same_tables(rt: HostRuntime) -> Result<(), Fail> {
-    let by_session = &[SUBMIT, ANSWER, LATE, EARLY, FAILED];
-    let by_moment = &[EARLY, LATE, SUBMIT, ANSWER, FAILED];
-    assert!(rt; have_equal_tables(&rt, rt.alloc(), by_session, by_moment)?);
-    Ok(())
-}
+/// A message and two receipts of it, in the order of sessions.
+pub(crate) const BY_SESSION: &[Step] = &[SUBMIT, RESPONSE, LATE, EARLY, FAILED];
+
+/// The same in the order of moments.
+pub(crate) const BY_MOMENT: &[Step] = &[EARLY, LATE, SUBMIT, RESPONSE, FAILED];
 
 /// Messages of many errors.
-const ERRORS: Table = &[(
+pub(crate) const ERRORS: Table = &[(
     "errors are counted in order",
     &[
         Client(10, 1000, Submit(1, NUMBER)),
-        Centre(10, 1200, Answer(1, 0, b"1")),
+        Centre(10, 1200, Response(1, 0, b"1")),
         Centre(11, 2000, Receipt(1, b"id:1 stat:UNDELIV")),
         Client(10, 1000, Submit(2, NUMBER)),
-        Centre(10, 1200, Answer(2, 0, b"2")),
+        Centre(10, 1200, Response(2, 0, b"2")),
         Centre(11, 2000, Receipt(2, b"id:2 stat:EXPIRED err:1")),
         Client(10, 1000, Submit(3, NUMBER)),
-        Centre(10, 1200, Answer(3, 0, b"3")),
+        Centre(10, 1200, Response(3, 0, b"3")),
         Centre(11, 2000, Receipt(3, b"id:3 stat:DELETED err:012")),
         Client(10, 1000, Submit(4, NUMBER)),
-        Centre(10, 1200, Answer(4, 0, b"4")),
+        Centre(10, 1200, Response(4, 0, b"4")),
         Centre(
             11,
             2000,
             ReceiptWith(4, b"id:4 stat:REJECTD", b"\x04\x23\0\x03\x04\0\0"),
         ),
         Client(10, 1000, Submit(5, NUMBER)),
-        Centre(10, 1200, Answer(5, 0, b"5")),
+        Centre(10, 1200, Response(5, 0, b"5")),
         Centre(
             11,
             2000,
             ReceiptWith(5, b"id:5 stat:UNKNOWN err:1", b"\x04\x23\0\x03\x03\x01\x02"),
         ),
         Client(10, 1000, Submit(6, NUMBER)),
-        Centre(10, 1200, Answer(6, 0, b"6")),
+        Centre(10, 1200, Response(6, 0, b"6")),
         Centre(11, 2000, Receipt(6, b"id:6 stat:UNDELIV err:012")),
         Client(10, 1000, Submit(7, NUMBER)),
-        Centre(10, 1200, Answer(7, 11, b"")),
+        Centre(10, 1200, Response(7, 11, b"")),
         Centre(11, 2000, Receipt(7, b"id:7 stat:UNDELIV err:012")),
         Client(10, 1000, Submit(8, NUMBER)),
-        Centre(10, 1200, Answer(8, 3, b"8")),
+        Centre(10, 1200, Response(8, 3, b"8")),
         Centre(11, 2000, Receipt(8, b"id:8 stat:UNDELIV err:012")),
         Client(10, 1000, Submit(9, NUMBER)),
-        Centre(10, 1200, Answer(9, 11, b"9")),
+        Centre(10, 1200, Response(9, 11, b"9")),
         Centre(11, 2000, Receipt(9, b"id:9 stat:UNDELIV err:012")),
         Rows(&[
             Link(1, Outcome::Refused, 3),
@@ -342,8 +321,3 @@ const ERRORS: Table = &[(
         ]),
     ],
 )];
-
-#[test]
-fn errors_are_counted_in_order_and_equal_ones_together(rt: HostRuntime) -> Result<(), Fail> {
-    play_table(&rt, rt.alloc(), ERRORS)
-}

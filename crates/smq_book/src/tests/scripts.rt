@@ -1,7 +1,9 @@
-//! Scripts that are played on a book, and the rows that they give.
+//! Scripts that are played on a book, and the facts and rows that they give.
+use crate::join::facts::facts_of;
+use crate::tests::{counts, ids, receipts};
 use crate::*;
 use bytes::Bytes;
-use smq_kit::{Dir, Form, LinkId, Moment, SessionId};
+use smq_kit::{Dir, Form, LinkId, Moment, Place, SessionId};
 use smq_receipt::{ErrorCode, ErrorText};
 use std::alloc::{AllocError, Global};
 use std::process::Abort;
@@ -16,10 +18,12 @@ pub(crate) enum Sent {
     /// A submit_sm from 1000 without a text, which asks for a receipt (SMPP 3.4, 4.4.1): its sequence number, its
     /// destination.
     Submit(u32, &'static [u8]),
-    /// A submit_sm that asks for none: its sequence number.
-    Unasked(u32),
+    /// A submit_sm with this registered_delivery: its sequence number, then that.
+    Asking(u32, u8),
     /// A submit_sm_resp (SMPP 3.4, 4.4.2): its sequence number, its command_status, the message id.
-    Answer(u32, u32, &'static [u8]),
+    Response(u32, u32, &'static [u8]),
+    /// A PDU of a command_id, a command_status and a sequence number, with a body.
+    Pdu(u32, u32, u32, &'static [u8]),
     /// A deliver_sm without addresses (SMPP 3.4, 4.6.1), which is no receipt: its sequence number, its text.
     Message(u32, &'static [u8]),
     /// A delivery receipt: its sequence number, its text.
@@ -87,11 +91,17 @@ fn deliver_of(
     pdu_of(alloc, 0x0000_0005, 0, seq, parts)
 }
 
-fn octets_of(alloc: Global, sent: Sent) -> Result<Vec<u8>, AllocError> {
+pub(crate) fn octets_of(alloc: Global, sent: Sent) -> Result<Vec<u8>, AllocError> {
     match sent {
         Sent::Submit(seq, destination) => submit_of(alloc, seq, destination, 1),
-        Sent::Unasked(seq) => submit_of(alloc, seq, NUMBER, 0),
-        Sent::Answer(seq, status, id) => pdu_of(alloc, 0x8000_0004, status, seq, &[id, b"\0"]),
+        Sent::Asking(seq, registered_delivery) => submit_of(
+            alloc,
+            seq,
+            NUMBER,
+            registered_delivery,
+        ),
+        Sent::Response(seq, status, id) => pdu_of(alloc, 0x8000_0004, status, seq, &[id, b"\0"]),
+        Sent::Pdu(command, status, seq, body) => pdu_of(alloc, command, status, seq, &[body]),
         Sent::Message(seq, text) => deliver_of(alloc, seq, 0, text, b""),
         Sent::Receipt(seq, text) => deliver_of(alloc, seq, 0x04, text, b""),
         Sent::ReceiptWith(seq, text, parameters) => deliver_of(alloc, seq, 0x04, text, parameters),
@@ -110,11 +120,11 @@ fn what_is_sent_has_the_octets_of_known_pdus(rt: HostRuntime) -> Result<(), Fail
                 .as_slice(),
         ),
         (
-            Sent::Answer(1, 0, b"1"),
+            Sent::Response(1, 0, b"1"),
             b"\0\0\0\x12\x80\0\0\x04\0\0\0\0\0\0\0\x011\0".as_slice(),
         ),
         (
-            Sent::Answer(1, 0, b"0000A1B2"),
+            Sent::Response(1, 0, b"0000A1B2"),
             b"\0\0\0\x19\x80\0\0\x04\0\0\0\0\0\0\0\x010000A1B2\0".as_slice(),
         ),
         (
@@ -159,15 +169,22 @@ pub(crate) enum Step {
     Centre(u32, u64, Sent),
     /// The forms of link 1: in responses and in receipts.
     Forms(Form, Form),
+    /// The facts of the messages.
+    Facts(&'static [WantedFact]),
     /// The rows of the link view, then those of the error view.
     Rows(&'static [Wanted]),
+    /// What is counted in a view, whether or not a row stands there.
+    Counts(&'static [(View, Wanted)]),
 }
+
+/// A fact of a message of session 10 at moment 0: its offset, its outcome, and the command_status that refused it.
+pub(crate) type WantedFact = (u64, Outcome, Option<u32>);
 
 /// A submit_sm at 1000.
 pub(crate) const SUBMIT: Step = Step::Client(10, 1000, Sent::Submit(1, NUMBER));
 
-/// Its answer at 1200, with the id `1`.
-pub(crate) const ANSWER: Step = Step::Centre(10, 1200, Sent::Answer(1, 0, b"1"));
+/// Its response at 1200, with the id `1`.
+pub(crate) const RESPONSE: Step = Step::Centre(10, 1200, Sent::Response(1, 0, b"1"));
 
 /// The one message of link 1 is open.
 pub(crate) const OPEN: &[Wanted] = &[Wanted::Link(1, Outcome::Open, 1)];
@@ -178,11 +195,29 @@ pub(crate) const DELIVERED: &[Wanted] = &[Wanted::Link(1, Outcome::Delivered, 1)
 /// Scripts, each with the fact that its rows show.
 pub(crate) type Table = &'static [(&'static str, &'static [Step])];
 
-/// What the centre sends at 2000 after a submit and its answer, and the rows then, each with the fact that they show.
-pub(crate) type Answered = &'static [(&'static str, Sent, &'static [Wanted])];
+/// What the centre sends at 2000 after a submit and its response, and the rows then, each with the fact that they show.
+pub(crate) type Received = &'static [(&'static str, Sent, &'static [Wanted])];
+
+/// Puts octets after one direction of a session of a link.
+pub(crate) fn append(
+    alloc: Global,
+    book: &mut Book,
+    link: u32,
+    session: u64,
+    dir: Dir,
+    moment: u64,
+    octets: &[u8],
+) -> Result<(), Fail> {
+    let session = SessionId(session);
+    let tail = book.tail(session, dir);
+    let octets = Bytes::copy_from_slice(alloc, octets)?;
+    let moment = Moment::new(moment)?;
+    let batch = prepare(alloc, LinkId(link), session, dir, tail, moment, octets)?;
+    Ok(book.apply(Edit::Append { batch })?)
+}
 
 /// Appends what one end of a session sends.
-fn append(
+fn send(
     alloc: Global,
     book: &mut Book,
     session: u32,
@@ -190,26 +225,26 @@ fn append(
     moment: u64,
     sent: Sent,
 ) -> Result<(), Fail> {
-    let link = LinkId(session / 10);
-    let session = SessionId(session as u64);
-    let tail = book.tail(session, dir);
     let octets = octets_of(alloc, sent)?;
-    let octets = Bytes::copy_from_slice(alloc, octets.as_slice())?;
-    let moment = Moment::new(moment)?;
-    let batch = prepare(alloc, link, session, dir, tail, moment, octets)?;
-    Ok(book.apply(alloc, Edit::Append { batch })?)
+    let link = session / 10;
+    append(
+        alloc,
+        book,
+        link,
+        session as u64,
+        dir,
+        moment,
+        octets.as_slice(),
+    )
 }
 
-fn set_forms(alloc: Global, book: &mut Book, response: Form, receipt: Form) -> Result<(), Fail> {
+fn set_forms(book: &mut Book, response: Form, receipt: Form) -> Result<(), Fail> {
     let link = LinkId(1);
-    Ok(book.apply(
-        alloc,
-        Edit::SetForm {
-            link,
-            response,
-            receipt,
-        },
-    )?)
+    Ok(book.apply(Edit::SetForm {
+        link,
+        response,
+        receipt,
+    })?)
 }
 
 /// Plays a script on a book, and asserts the rows at each of its points.
@@ -223,13 +258,15 @@ fn play(
     for step in script {
         match *step {
             Step::Client(session, moment, sent) => {
-                append(alloc, book, session, Dir::FromClient, moment, sent)?
+                send(alloc, book, session, Dir::FromClient, moment, sent)?
             },
             Step::Centre(session, moment, sent) => {
-                append(alloc, book, session, Dir::FromCentre, moment, sent)?
+                send(alloc, book, session, Dir::FromCentre, moment, sent)?
             },
-            Step::Forms(response, receipt) => set_forms(alloc, book, response, receipt)?,
+            Step::Forms(response, receipt) => set_forms(book, response, receipt)?,
+            Step::Facts(wanted) => assert_facts(rt, alloc, book, what, wanted)?,
             Step::Rows(wanted) => assert_rows(rt, alloc, book, what, wanted)?,
+            Step::Counts(wanted) => assert_counts(rt, book, what, wanted)?,
         }
     }
     Ok(())
@@ -242,22 +279,22 @@ fn plays(rt: &impl Abort, alloc: Global, what: &str, script: &[Step]) -> Result<
 }
 
 /// Plays each script of a table on a new book.
-pub(crate) fn play_table(rt: &impl Abort, alloc: Global, table: Table) -> Result<(), Fail> {
+fn play_table(rt: &impl Abort, alloc: Global, table: Table) -> Result<(), Fail> {
     for (what, script) in table {
         plays(rt, alloc, what, script)?;
     }
     Ok(())
 }
 
-/// Plays each row of a table on a new book of an answered submit.
-pub(crate) fn play_answered(rt: &impl Abort, alloc: Global, table: Answered) -> Result<(), Fail> {
+/// Plays each row of a table on a new book of a submit and its response.
+fn play_received(rt: &impl Abort, alloc: Global, table: Received) -> Result<(), Fail> {
     for (what, sent, rows) in table {
         let receipt = Step::Centre(10, 2000, *sent);
         plays(
             rt,
             alloc,
             what,
-            &[SUBMIT, ANSWER, receipt, Step::Rows(rows)],
+            &[SUBMIT, RESPONSE, receipt, Step::Rows(rows)],
         )?;
     }
     Ok(())
@@ -274,23 +311,57 @@ pub(crate) fn have_equal_tables(
     play(rt, alloc, &mut first, "one", one)?;
     let mut second = Book::new(alloc);
     play(rt, alloc, &mut second, "the other", other)?;
-    let tables = first.tables(alloc)?;
-    Ok(tables == second.tables(alloc)?)
+    let tables = first.tables()?;
+    Ok(tables == second.tables()?)
 }
 
-/// Asserts that the rows of the link view, then those of the error view, are these, and that each has its count.
-fn assert_rows(
+/// Asserts that the facts of the messages are these, in order.
+fn assert_facts(
+    rt: &impl Abort,
+    alloc: Global,
+    book: &Book,
+    what: &str,
+    wanted: &[WantedFact],
+) -> Result<(), Fail> {
+    let mut wanted_facts = Vec::new(alloc);
+    for fact in wanted {
+        wanted_facts.push(fact_of(*fact))?;
+    }
+    let facts = facts_of(alloc, book.present())?;
+    assert_eq!(rt; facts.as_slice(), wanted_facts.as_slice(), "{what}");
+    Ok(())
+}
+
+fn fact_of(wanted: WantedFact) -> Fact {
+    let (offset, outcome, status) = wanted;
+    Fact {
+        place: Place {
+            session: SessionId(10),
+            dir: Dir::FromClient,
+            offset,
+        },
+        moment: Moment::epoch(),
+        link: LinkId(1),
+        outcome,
+        error: status.map(|status| SubmitError::Refused { status }),
+    }
+}
+
+/// Asserts that the rows of the link view, then those of the error view, are these, that each has its count, and that its
+/// value has none in the other view.
+pub(crate) fn assert_rows(
     rt: &impl Abort,
     alloc: Global,
     book: &Book,
     what: &str,
     wanted: &[Wanted],
 ) -> Result<(), Fail> {
-    let tables = book.tables(alloc)?;
+    let tables = book.tables()?;
     let mut rows = Vec::new(alloc);
-    for view in [View::Link, View::Error] {
+    for (view, other) in [(View::Link, View::Error), (View::Error, View::Link)] {
         for (value, outcome, count) in tables.rows(view) {
             assert_eq!(rt; tables.count(view, value, outcome), count, "{what}");
+            assert_eq!(rt; tables.count(other, value, outcome), 0, "{what}");
             rows.push((value.copy(), outcome, count))?;
         }
     }
@@ -299,6 +370,21 @@ fn assert_rows(
         wanted_rows.push(row_of(rt, *row))?;
     }
     assert_eq!(rt; rows.as_slice(), wanted_rows.as_slice(), "{what}");
+    Ok(())
+}
+
+/// Asserts what is counted in a view.
+fn assert_counts(
+    rt: &impl Abort,
+    book: &Book,
+    what: &str,
+    wanted: &[(View, Wanted)],
+) -> Result<(), Fail> {
+    let tables = book.tables()?;
+    for (view, row) in wanted {
+        let (value, outcome, count) = row_of(rt, *row);
+        assert_eq!(rt; tables.count(*view, &value, outcome), count, "{what}");
+    }
     Ok(())
 }
 
@@ -325,4 +411,19 @@ fn failed(error: ErrorCode, count: u64) -> (Value, Outcome, u64) {
         Outcome::Failed,
         count,
     )
+}
+
+#[test]
+fn each_script_gives_its_facts_and_rows(rt: HostRuntime) -> Result<(), Fail> {
+    let alloc = rt.alloc();
+    play_table(&rt, alloc, ids::RESPONSES)?;
+    play_table(&rt, alloc, ids::FORMS)?;
+    play_table(&rt, alloc, ids::KEYS)?;
+    play_received(&rt, alloc, receipts::FINAL)?;
+    play_received(&rt, alloc, receipts::NOT_FINAL)?;
+    play_table(&rt, alloc, receipts::STRAY)?;
+    play_table(&rt, alloc, receipts::SEVERAL)?;
+    play_table(&rt, alloc, receipts::ERRORS)?;
+    play_table(&rt, alloc, counts::FACTS)?;
+    play_table(&rt, alloc, counts::ROWS)
 }

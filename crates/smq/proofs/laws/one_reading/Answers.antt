@@ -2,13 +2,16 @@ use Rattle.std.proofs.Common.{◌+◌, length, arith, refl, sym, ap, ◌∙◌, 
 use Rattle.csv.specs.Reading.{strip_bom}
 use Rattle.csv.specs.declared.parser.State.TheVariants as st
 use Rattle.smq.specs.Row.{row_of}
-use Rattle.smq.proofs.LawLemmas.{IsBadAfter, first-unique, rows-unique, script_and_bad}
+use Rattle.smq.proofs.OneReadingLemmas.{IsBadAfter, first-unique, rows-unique, rows_or_bad, script_and_bad}
 use Rattle.smq.proofs.ScriptLemmas.{AreRecords-exist, AreRecords-unique}
 use Rattle.smq.proofs.laws.one_reading.Goals as goal
 
 pub returns : goal.returns
 returns c = record {
   some_records = λ text. AreRecords-exist (length (strip_bom text)) st.StartRecord (strip_bom text) (omega arith) refl;
+  rows_or_bad = λ text.
+      let (records, all) = AreRecords-exist (length (strip_bom text)) st.StartRecord (strip_bom text) (omega arith) refl in
+      rows_or_bad text records all;
   one_records = λ text a b h k. AreRecords-unique st.StartRecord (strip_bom text) a b h k;
   one_rows = λ text a b h k.
       let same = AreRecords-unique st.StartRecord (strip_bom text) h.records k.records h.are_records k.are_records in

@@ -1,12 +1,13 @@
 -- The rows so far are played, and what is left goes on from there to what all rows come to.
 use Rattle.std.proofs.Common.{◌≡◌, ◌+◌, ◌++◌, length, suc}
 use Rattle.std.specs.Vec.Iter.{into_iter_items}
-use Rattle.smq.specs.Play.{present_after, refused_from, played, refused_rows}
+use Rattle.smq_book.specs.present.Steps.{steps}
+use Rattle.smq.specs.Play.{edits_from, refused_from, played, refused_rows}
 use Rattle.smq.proofs.play.play.Given as goal
 
 abbrev pub invariant-loop-row : goal.invariant-loop-row
 invariant-loop-row l = record {
-  present : present_after l.book (into_iter_items l.row-iterator) ≡ played l.fn.rows.items;
-  refused : l.refused.items ++ refused_from (suc l.number) l.book (into_iter_items l.row-iterator) ≡ refused_rows l.fn.rows.items;
+  present : steps l.book.present (edits_from l.book.present (into_iter_items l.row-iterator)) ≡ played l.fn.rows.items;
+  refused : l.refused.items ++ refused_from (suc l.number) l.book.present (into_iter_items l.row-iterator) ≡ refused_rows l.fn.rows.items;
   numbered : l.number + length (into_iter_items l.row-iterator) ≡ length l.fn.rows.items;
 }

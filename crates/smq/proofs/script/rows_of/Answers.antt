@@ -1,7 +1,7 @@
 use Rattle.std.proofs.Common.{Bor, List, ℕ, ◌≡◌, ◌∙◌, sym, refl, inr, Some, [], rules, arith}
 use Rattle.csv.specs.Reading.{Reached, strip_bom}
 use Rattle.csv.specs.Records.{fields_of}
-use Rattle.smq.proofs.StepLemmas.{HasRead-more, Tells-next, first_bad-next, passed_on}
+use Rattle.smq.proofs.NextRecordLemmas.{HasRead-more, Tells-next, first_bad-next, passed_on}
 use Rattle.smq.specs.Script.{Tells}
 use Rattle.smq.proofs.script.rows_of.Goals as goal
 

@@ -1,5 +1,5 @@
 use Rattle.std.proofs.Common.{Some}
-use Rattle.smq.proofs.StepLemmas.{HasRead}
+use Rattle.smq.proofs.NextRecordLemmas.{HasRead}
 use Rattle.smq.proofs.script.rows_of.Given as goal
 
 abbrev pub invariant-loop : goal.invariant-loop

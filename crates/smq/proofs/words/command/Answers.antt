@@ -20,6 +20,6 @@ returns c =
     ap app_of_fields c.subcommand_required.ensures
     ∙ ap (λ (f : Command-F Command). app_of_fields (record f { subcommand_required = true })) c.no_binary_name.ensures
     ∙ ap (λ (f : Command-F Command). app_of_fields (record f { no_binary_name = true; subcommand_required = true })) c.about-2.ensures
-    ∙ ap (on_top (λ shape. record shape { no_binary_name = true; subcommand_required = true })) c.new-3.ensures.app in
+    ∙ ap (on_top (λ shape. record shape { no_binary_name = true; subcommand_required = true })) (ap app_of_fields c.in_ok-program.ensures.0 ∙ c.new-3.ensures.app) in
     IfOk-weaker c.subcommand.result _ _
     (λ m h. (parser, takes, h.shape (search rules) ∙ ap₂ with_subcommand top_is (ap (λ (a : App). a.top) query_is))) c.subcommand.ensures

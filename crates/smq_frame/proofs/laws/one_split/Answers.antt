@@ -1,5 +1,5 @@
-use Rattle.smq_frame.proofs.Streams.{one_split_lem}
+use Rattle.smq_frame.proofs.Streams.{has_one_split}
 use Rattle.smq_frame.proofs.laws.one_split.Goals as goal
 
 pub returns : goal.returns
-returns c = one_split_lem
+returns c = has_one_split

@@ -1,5 +1,5 @@
-use Rattle.smq_frame.proofs.Streams.{pieces_join_lem}
+use Rattle.smq_frame.proofs.Streams.{pieces_join}
 use Rattle.smq_frame.proofs.laws.pieces_join.Goals as goal
 
 pub returns : goal.returns
-returns c = pieces_join_lem
+returns c = pieces_join

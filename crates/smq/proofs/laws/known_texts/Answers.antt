@@ -1,0 +1,15 @@
+use Rattle.std.proofs.Common.{refl}
+use Rattle.std.specs.Fmt.{digits}
+use Rattle.smq.proofs.laws.known_texts.Goals as goal
+
+pub returns : goal.returns
+unfolding digits
+returns c = record {
+  link_row = refl;
+  error_row = refl;
+  link = refl;
+  status = refl;
+  network = refl;
+  text = refl;
+  unstated = refl;
+}

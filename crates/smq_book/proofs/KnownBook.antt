@@ -1,0 +1,156 @@
+-- The book whose octets are written out: its PDUs, its messages and receipts as lists, its facts.
+use Rattle.std.proofs.Common.{◌≡◌, ℕ, false, List, [], ◌∷◌, ◌++◌, Some, None, refl, ap, ◌∙◌}
+use Rattle.std.specs.Prelude.{codes, unwrap_or}
+use Rattle.std.specs.List.{flat_map}
+use Rattle.std.specs.Cmp.{nat_cmp_total}
+use Rattle.std.specs.Ordering.{nat_cmp}
+use Rattle.std.specs.FinMap.{entries, values, get-insert, get-empty, empty, nat_cmp-IsAntisymmetric}
+use Rattle.smq_kit.specs.declared.form.Form.TheVariants.{Decimal}
+use Rattle.smq_kit.proofs.MapLemmas.{entries-from_entries}
+use Rattle.smq_frame.specs.Framing.{stated_length, frames_of, frames_within}
+use Rattle.smq_frame.specs.Stream.{stamped}
+use Rattle.smq_pdu.specs.Header.{word_at}
+use Rattle.smq_pdu.specs.Pairing.{nth_place}
+use Rattle.smq_pdu.specs.Pdu.{body_of, submit_of, deliver_of, id_of}
+use Rattle.smq_pdu.specs.Readers.{mandatory_at, address_at, c_octet_at, octets_at, number_at, tlv_at, tlvs_within, tlvs_of}
+use Rattle.smq_receipt.specs.Places.{least_below}
+use Rattle.smq_receipt.specs.Texts.{same_letters, stands_at, labels_at, header_of, value_at, value_of}
+use Rattle.smq_receipt.specs.States.{state_of_number, state_of_word}
+use Rattle.smq_receipt.specs.Errors.{network_code_in, text_code_in}
+use Rattle.smq_receipt.specs.Dates.{two_digits_at, is_date, day_number_of, second_of_day_of, moment_of, centre_delay_of}
+use Rattle.smq_receipt.specs.Readings as readings
+use Rattle.smq_receipt.specs.Readings.{text_of, usable_id, receipted_id, state_in, state_of, error_of, receipt_of, reading_of}
+use Rattle.smq_kit.specs.declared.error_code.ErrorCode.{ErrorCode}
+use Rattle.smq_kit.specs.declared.error_code.ErrorCode.TheVariants as e
+use Rattle.smq_receipt.specs.declared.message_state.MessageState.{MessageState}
+use Rattle.smq_receipt.specs.declared.message_state.MessageState.TheVariants as state
+use Rattle.smq_receipt.specs.declared.reading.Reading.TheVariants as v
+use Rattle.smq_book.specs.declared.counting.tally.Fact.{Fact}
+use Rattle.smq_book.specs.declared.counting.tally.Outcome.TheVariants as o
+use Rattle.smq_book.specs.declared.counting.tally.SubmitError.TheVariants as s
+use Rattle.smq_book.specs.declared.join.source.Source.{Source}
+use Rattle.smq_book.specs.declared.present.forms.Forms.{Forms}
+use Rattle.smq_book.specs.declared.present.kept.Content.{Content}
+use Rattle.smq_book.specs.declared.present.kept.Content.TheVariants as c
+use Rattle.smq_book.specs.declared.present.kept.KeptPdu.{KeptPdu}
+use Rattle.smq_book.specs.Known.{known_session, other_session, far_session, known_book, settings_with, fact_of}
+use Rattle.smq_book.specs.present.Kept.{kept_pdus}
+use Rattle.smq_book.specs.present.Settings.{opening_forms, forms_of}
+use Rattle.smq_book.specs.pairing.Traffic.{traffic_of}
+use Rattle.smq_book.specs.join.Facts.{facts_of}
+use Rattle.smq_book.specs.within.Lists.{session_submits, session_receipts, submits_of, receipts_of}
+use Rattle.smq_book.specs.within.Messages.{SubmittedMessage, submits_among}
+use Rattle.smq_book.specs.within.Outcomes.{facts_among}
+use Rattle.smq_book.specs.within.Receipts.{KeyedReceipt, receipts_among}
+use Rattle.smq_book.proofs.AgreePresent.{facts-are}
+use Rattle.smq_book.proofs.KnownFacts.{forms-set}
+
+-- ---- the PDUs of each direction
+
+abbrev pdu : ℕ → ℕ → ℕ → ℕ → Content → KeptPdu
+pdu offset moment command seq content =
+    record { offset = offset; moment = moment; command = command; status = 0; seq = seq; content = content }
+
+abbrev submit : ℕ → ℕ → ℕ → KeptPdu
+submit offset moment seq = pdu offset moment 4 seq (c.Submit (record { registered_delivery = 1 }))
+
+abbrev response : ℕ → ℕ → ℕ → List ℕ → KeptPdu
+response offset moment seq id = pdu offset moment 0x8000_0004 seq (c.SubmitAnswer (Some id))
+
+abbrev receipt : ℕ → ℕ → ℕ → List ℕ → MessageState → ErrorCode → KeptPdu
+receipt offset moment seq id state error =
+    pdu offset moment 5 seq (c.Deliver (v.Receipt (record { id = id; state = state; interim = false; error = error; centre_delay = None })))
+
+abbrev known_client : List KeptPdu
+known_client = submit 0 1000 1 ∷ submit 33 1500 2 ∷ []
+
+abbrev known_centre : List KeptPdu
+known_centre = response 0 1200 1 (codes "07") ∷ response 19 1700 2 (codes "08") ∷ receipt 38 5000 90 (codes "7") state.Delivered e.Unstated ∷ []
+
+abbrev other_client : List KeptPdu
+other_client = receipt 0 100 1 (codes "08") state.Delivered e.Unstated ∷ []
+
+abbrev other_centre : List KeptPdu
+other_centre = receipt 0 5000 91 (codes "007") state.Undeliverable (e.Text (codes "012")) ∷ receipt 60 6000 92 (codes "008") state.Undeliverable (e.Text (codes "027")) ∷ []
+
+abbrev far_client : List KeptPdu
+far_client = submit 0 2000 1 ∷ submit 33 2000 2 ∷ []
+
+abbrev far_centre : List KeptPdu
+far_centre = response 0 2100 1 (codes "7") ∷ response 18 2100 2 (codes "7") ∷ receipt 36 3000 90 (codes "7") state.Delivered e.Unstated ∷ []
+
+known-client : kept_pdus known_session.client ≡ known_client
+unfolding stated_length frames_of frames_within stamped word_at body_of submit_of deliver_of id_of mandatory_at address_at c_octet_at octets_at number_at tlv_at tlvs_within tlvs_of least_below same_letters stands_at labels_at header_of value_at value_of state_of_number state_of_word network_code_in text_code_in two_digits_at is_date day_number_of second_of_day_of moment_of centre_delay_of text_of usable_id receipted_id state_in readings.id_of state_of error_of receipt_of reading_of
+known-client = refl
+
+known-centre : kept_pdus known_session.centre ≡ known_centre
+unfolding stated_length frames_of frames_within stamped word_at body_of submit_of deliver_of id_of mandatory_at address_at c_octet_at octets_at number_at tlv_at tlvs_within tlvs_of least_below same_letters stands_at labels_at header_of value_at value_of state_of_number state_of_word network_code_in text_code_in two_digits_at is_date day_number_of second_of_day_of moment_of centre_delay_of text_of usable_id receipted_id state_in readings.id_of state_of error_of receipt_of reading_of
+known-centre = refl
+
+other-client : kept_pdus other_session.client ≡ other_client
+unfolding stated_length frames_of frames_within stamped word_at body_of submit_of deliver_of id_of mandatory_at address_at c_octet_at octets_at number_at tlv_at tlvs_within tlvs_of least_below same_letters stands_at labels_at header_of value_at value_of state_of_number state_of_word network_code_in text_code_in two_digits_at is_date day_number_of second_of_day_of moment_of centre_delay_of text_of usable_id receipted_id state_in readings.id_of state_of error_of receipt_of reading_of
+other-client = refl
+
+other-centre : kept_pdus other_session.centre ≡ other_centre
+unfolding stated_length frames_of frames_within stamped word_at body_of submit_of deliver_of id_of mandatory_at address_at c_octet_at octets_at number_at tlv_at tlvs_within tlvs_of least_below same_letters stands_at labels_at header_of value_at value_of state_of_number state_of_word network_code_in text_code_in two_digits_at is_date day_number_of second_of_day_of moment_of centre_delay_of text_of usable_id receipted_id state_in readings.id_of state_of error_of receipt_of reading_of
+other-centre = refl
+
+far-client : kept_pdus far_session.client ≡ far_client
+unfolding stated_length frames_of frames_within stamped word_at body_of submit_of deliver_of id_of mandatory_at address_at c_octet_at octets_at number_at tlv_at tlvs_within tlvs_of least_below same_letters stands_at labels_at header_of value_at value_of state_of_number state_of_word network_code_in text_code_in two_digits_at is_date day_number_of second_of_day_of moment_of centre_delay_of text_of usable_id receipted_id state_in readings.id_of state_of error_of receipt_of reading_of
+far-client = refl
+
+far-centre : kept_pdus far_session.centre ≡ far_centre
+unfolding stated_length frames_of frames_within stamped word_at body_of submit_of deliver_of id_of mandatory_at address_at c_octet_at octets_at number_at tlv_at tlvs_within tlvs_of least_below same_letters stands_at labels_at header_of value_at value_of state_of_number state_of_word network_code_in text_code_in two_digits_at is_date day_number_of second_of_day_of moment_of centre_delay_of text_of usable_id receipted_id state_in readings.id_of state_of error_of receipt_of reading_of
+far-centre = refl
+
+-- ---- messages and receipts
+
+abbrev source : ℕ → ℕ → Forms → Source
+source session link forms = record { session = record { 0 = session }; link = record { 0 = link }; forms = forms }
+
+decimal : Forms
+decimal = record { response = Decimal; receipt = Decimal }
+
+far-forms : forms_of (settings_with Decimal Decimal) (record { 0 = 65537 }) ≡ opening_forms
+unfolding decimal
+far-forms = ap (λ f. unwrap_or f opening_forms) (get-insert nat_cmp_total empty 1 decimal 65537 ∙ get-empty nat_cmp 65537)
+
+sessions-are : entries known_book.sessions ≡ (10, known_session) ∷ (11, other_session) ∷ (65546, far_session) ∷ []
+sessions-are = entries-from_entries nat_cmp_total nat_cmp-IsAntisymmetric ((10, known_session) ∷ (11, other_session) ∷ (65546, far_session) ∷ []) tt
+
+abbrev submits : Forms → Forms → List SubmittedMessage
+submits near far =
+    submits_among (source 10 1 near) known_client known_centre ++ (submits_among (source 11 1 near) other_client other_centre
+    ++ (submits_among (source 65546 65537 far) far_client far_centre ++ []))
+
+abbrev receipts : Forms → Forms → List KeyedReceipt
+receipts near far =
+    receipts_among (source 10 1 near) known_centre ++ (receipts_among (source 11 1 near) other_centre ++ (receipts_among (source 65546 65537 far) far_centre ++ []))
+
+submits-are : submits_of known_book ≡ submits decimal opening_forms
+unfolding decimal
+submits-are =
+    ap (flat_map (session_submits known_book.settings)) sessions-are
+    ∙ (λ i. submits_among (source 10 1 (forms-set Decimal Decimal i)) (known-client i) (known-centre i) ++ (submits_among (source 11 1 (forms-set Decimal Decimal i)) (other-client i) (other-centre i)
+    ++ (submits_among (source 65546 65537 (far-forms i)) (far-client i) (far-centre i) ++ [])))
+
+receipts-are : receipts_of known_book ≡ receipts decimal opening_forms
+unfolding decimal
+receipts-are =
+    ap (flat_map (session_receipts known_book.settings)) sessions-are
+    ∙ (λ i. receipts_among (source 10 1 (forms-set Decimal Decimal i)) (known-centre i) ++ (receipts_among (source 11 1 (forms-set Decimal Decimal i)) (other-centre i)
+    ++ (receipts_among (source 65546 65537 (far-forms i)) (far-centre i) ++ [])))
+
+abbrev facts : List Fact
+facts =
+    fact_of 10 1 0 1000 o.Delivered None
+    ∷ fact_of 10 1 33 1500 o.Failed (Some (s.Failed (e.Text (codes "027"))))
+    ∷ fact_of 65546 65537 0 2000 o.Ambiguous None
+    ∷ fact_of 65546 65537 33 2000 o.Ambiguous None ∷ []
+
+facts-computed : facts_among (submits decimal opening_forms) (receipts decimal opening_forms) ≡ facts
+unfolding nth_place decimal
+facts-computed = refl
+
+pub facts-of-book : values (facts_of known_book.settings (traffic_of known_book.sessions)) ≡ facts
+facts-of-book = facts-are known_book ∙ (λ i. facts_among (submits-are i) (receipts-are i)) ∙ facts-computed

@@ -1,8 +1,0 @@
-use Rattle.std.proofs.Common.{sym, ap, ◌∙◌}
-use Rattle.std.specs.FinMap.{entries}
-use Rattle.smq_book.specs.Present.{PresentValue}
-use Rattle.smq_book.proofs.Maps.{entries-seen}
-use Rattle.smq_book.proofs.present.Present.forms.Goals as goal
-
-pub returns-clause-entries : goal.returns-clause-entries
-returns-clause-entries c = c.iter.ensures.rest ∙ sym (entries-seen c.self.inside.forms.entries c.iter.ensures.ordered) ∙ ap (λ (p : PresentValue). entries p.forms) c.self.view_is

@@ -1,0 +1,23 @@
+-- The names of views and outcomes in commands and reports.
+use Rattle.std.specs.Prelude.{ℕ, List, codes}
+use Rattle.smq_book.specs.declared.counting.tally.View.{View}
+use Rattle.smq_book.specs.declared.counting.tally.View.TheVariants as v
+use Rattle.smq_book.specs.declared.counting.tally.Outcome.{Outcome}
+use Rattle.smq_book.specs.declared.counting.tally.Outcome.TheVariants as o
+
+-- the name of a view
+abbrev pub view_name : View → List ℕ
+view_name v.Link = codes "link"
+view_name v.Error = codes "error"
+
+-- the name of an outcome
+abbrev pub outcome_name : Outcome → List ℕ
+outcome_name o.Waiting = codes "waiting"
+outcome_name o.Mismatched = codes "mismatched"
+outcome_name o.Refused = codes "refused"
+outcome_name o.NoId = codes "noid"
+outcome_name o.Ambiguous = codes "ambiguous"
+outcome_name o.Delivered = codes "delivered"
+outcome_name o.Failed = codes "failed"
+outcome_name o.Unasked = codes "unasked"
+outcome_name o.Open = codes "open"

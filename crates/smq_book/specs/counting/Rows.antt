@@ -1,0 +1,91 @@
+-- Where messages are counted: by a view, a value and an outcome; and the order of these.
+use Rattle.std.specs.Prelude.{ℕ, Bool, List, [], ◌∷◌, Option, Some, option_map, option_to_list}
+use Rattle.std.specs.Cmp.Lexicographic.{slice_cmp}
+use Rattle.std.specs.List.{flat_map, list_any}
+use Rattle.std.specs.declared.cmp.Ordering.{Ordering}
+use Rattle.std.specs.Ordering.{nat_cmp, ordering_then, eq_by_cmp}
+use Rattle.smq_kit.specs.Orders.{error_numbers}
+use Rattle.smq_book.specs.declared.counting.tally.View.{View}
+use Rattle.smq_book.specs.declared.counting.tally.View.TheVariants as v
+use Rattle.smq_book.specs.declared.counting.tally.SubmitError.{SubmitError}
+use Rattle.smq_book.specs.declared.counting.tally.SubmitError.TheVariants as s
+use Rattle.smq_book.specs.declared.counting.tally.Value.{Value}
+use Rattle.smq_book.specs.declared.counting.tally.Value.TheVariants as w
+use Rattle.smq_book.specs.declared.counting.tally.Outcome.{Outcome}
+use Rattle.smq_book.specs.declared.counting.tally.Outcome.TheVariants as o
+use Rattle.smq_book.specs.declared.counting.tally.Fact.{Fact}
+use Rattle.smq_book.specs.declared.counting.tally.CountKey.{CountKey}
+
+-- ---- views
+
+-- the views, in their order
+abbrev pub views : List View
+views = v.Link ∷ v.Error ∷ []
+
+-- the place of a view among the views
+abbrev pub view_place : View → ℕ
+view_place v.Link = 0
+view_place v.Error = 1
+
+-- what a message is counted by in a view, if it has a value there
+abbrev pub value_in : View → Fact → Option Value
+value_in v.Link f = Some (w.Link f.link)
+value_in v.Error f = option_map w.Error f.error
+
+-- ---- the order of values: by kind, then by what they say
+
+-- the numbers by which it is ordered why a message failed: refused ones by status, then failed ones by error code
+abbrev pub submit_error_numbers : SubmitError → List ℕ
+submit_error_numbers (s.Refused status) = 0 ∷ status ∷ []
+submit_error_numbers (s.Failed code) = 1 ∷ error_numbers code
+
+-- the same of a value
+abbrev pub value_numbers : Value → List ℕ
+value_numbers (w.Link link) = 0 ∷ link.0 ∷ []
+value_numbers (w.Error error) = 1 ∷ submit_error_numbers error
+
+-- the order of values: by these numbers, the first that differ deciding
+abbrev pub value_cmp : Value → Value → Ordering
+value_cmp a b = slice_cmp nat_cmp (value_numbers a) (value_numbers b)
+
+-- ---- the order of outcomes
+
+-- the place of an outcome in the table of outcomes
+abbrev pub outcome_place : Outcome → ℕ
+outcome_place o.Waiting = 0
+outcome_place o.Mismatched = 1
+outcome_place o.Refused = 2
+outcome_place o.NoId = 3
+outcome_place o.Ambiguous = 4
+outcome_place o.Delivered = 5
+outcome_place o.Failed = 6
+outcome_place o.Unasked = 7
+outcome_place o.Open = 8
+
+-- ---- where a count stands
+
+-- the key of a count: a view, a value and an outcome
+abbrev pub count_key : View → Value → Outcome → CountKey
+count_key view value outcome = record { view = view; value = value; outcome = outcome }
+
+-- the order of keys: by view, then by value, then by outcome
+abbrev pub count_cmp : CountKey → CountKey → Ordering
+count_cmp a b =
+    ordering_then (nat_cmp (view_place a.view) (view_place b.view))
+    (ordering_then (value_cmp a.value b.value) (nat_cmp (outcome_place a.outcome) (outcome_place b.outcome)))
+
+-- whether two are one
+abbrev pub same_count_key : CountKey → CountKey → Bool
+same_count_key a b = eq_by_cmp count_cmp a b
+
+-- where a message is counted in a view, if it has a value there
+abbrev pub key_in : View → Fact → Option CountKey
+key_in view f = option_map (λ value. count_key view value f.outcome) (value_in view f)
+
+-- where a message is counted: once in each view in which it has a value
+abbrev pub keys_of_fact : Fact → List CountKey
+keys_of_fact f = flat_map (λ view. option_to_list (key_in view f)) views
+
+-- whether a message is counted there
+abbrev pub stands_in : CountKey → Fact → Bool
+stands_in key f = list_any (same_count_key key) (keys_of_fact f)

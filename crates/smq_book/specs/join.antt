@@ -1,0 +1,7 @@
+-- What became of each message, under what is set.
+pub mod Matching
+pub mod Keyed
+pub mod Circumstances
+pub mod Outcomes
+pub mod Facts
+pub mod Moves

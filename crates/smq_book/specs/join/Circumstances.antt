@@ -1,0 +1,27 @@
+-- The circumstances of a message: all that decides what became of it, beside what it says itself.
+use Rattle.std.specs.Prelude.{Option, option_map, option_and_then}
+use Rattle.std.specs.FinMap as map
+use Rattle.smq_book.specs.present.Settings.{SettingsValue}
+use Rattle.smq_book.specs.pairing.Traffic.{Message, ReceivedReceipt, TrafficValue}
+use Rattle.smq_book.specs.join.Matching.{Grouping, Standing, submit_standing, decided_by}
+use Rattle.smq_book.specs.join.Keyed.{accepted_key, grouping_of}
+
+-- how it stands where it is accepted, and the receipt that decides it where there is one
+pub record Circumstances : Type 0 where
+  pub standing : Option Standing
+  pub decider : Option ReceivedReceipt
+
+-- how a message stands: not at all where it isn't accepted
+abbrev pub standing_in : Grouping → SettingsValue → Message → Option Standing
+standing_in g s m = option_map (submit_standing g) (accepted_key s m)
+
+-- the receipt at the place that decides
+abbrev pub decider_in : TrafficValue → Option Standing → Option ReceivedReceipt
+decider_in t standing = option_and_then (λ place. map.get t.receipts place) (option_and_then decided_by standing)
+
+-- the circumstances of a message
+abbrev pub circumstances : SettingsValue → TrafficValue → Message → Circumstances
+circumstances s t m = record {
+  standing = standing_in (grouping_of s t) s m;
+  decider = decider_in t (standing_in (grouping_of s t) s m);
+}

@@ -1,0 +1,3 @@
+-- What the PDUs that are present say, whatever is set.
+pub mod Traffic
+pub mod Pushes

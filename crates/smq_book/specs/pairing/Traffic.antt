@@ -1,0 +1,137 @@
+-- What the PDUs that are present say, whatever is set: messages with their responses, and delivery receipts, by place.
+use Rattle.std.specs.Prelude.{◌==◌, not, ℕ, ◌%◌, Bool, List, [], ◌∷◌, ◌++◌, count_by, filter, slice_get, Option, option_map, option_to_list}
+use Rattle.std.specs.List.{flat_map}
+use Rattle.std.specs.FinMap as map
+use Rattle.std.specs.Ordering.{nat_cmp}
+use Rattle.smq_kit.specs.declared.names.LinkId.{LinkId}
+use Rattle.smq_kit.specs.declared.names.SessionId.{SessionId}
+use Rattle.smq_kit.specs.declared.place.Dir.{Dir}
+use Rattle.smq_kit.specs.declared.place.Dir.TheVariants.{FromClient, FromCentre}
+use Rattle.smq_kit.specs.declared.place.Place.{Place}
+use Rattle.smq_kit.specs.Orders.{place_cmp}
+use Rattle.smq_pdu.specs.Header.{Header}
+use Rattle.smq_pdu.specs.Pairing.{agrees, is_response_of, is_request_of}
+use Rattle.smq_pdu.specs.declared.body.Submit.{Submit}
+use Rattle.smq_receipt.specs.declared.reading.Receipt.{Receipt}
+use Rattle.smq_book.specs.declared.present.kept.KeptPdu.{KeptPdu}
+use Rattle.smq_book.specs.declared.present.session.Session.{Session}
+use Rattle.smq_book.specs.present.Kept.{header_of, headers_of, kept_pdus, submit_in, id_in, receipt_in}
+
+-- what a response says to its request: whether its command agrees, its command_status, and the message id that it gives
+pub record Response : Type 0 where
+  pub agrees : Bool
+  pub status : ℕ
+  pub id : Option (List ℕ)
+
+-- a message: a decodable submit_sm of the client (SMPP 3.4, 4.4.1), with its response where it has one
+pub record Message : Type 0 where
+  pub link : LinkId
+  pub moment : ℕ
+  pub asks_receipt : Bool
+  pub response : Option Response
+
+-- a delivery receipt: a deliver_sm of the centre (4.6.1) that says which message it is of and what became of it
+pub record ReceivedReceipt : Type 0 where
+  pub link : LinkId
+  pub moment : ℕ
+  pub receipt : Receipt
+
+-- what the PDUs of sessions say, at their places
+pub record TrafficValue : Type 0 where
+  pub messages : map.FinMap place_cmp Message
+  pub receipts : map.FinMap place_cmp ReceivedReceipt
+
+-- ---- the response to a request: that of its sequence number and rank
+
+-- each PDU of a direction with those before it
+abbrev pub with_earlier : List KeptPdu → List KeptPdu → List (List KeptPdu × KeptPdu)
+with_earlier earlier [] = []
+with_earlier earlier (p ∷ later) = (earlier, p) ∷ with_earlier (earlier ++ p ∷ []) later
+
+-- the rank of a request: how many requests of its sequence number come before it
+abbrev pub rank_after : List KeptPdu → ℕ → ℕ
+rank_after earlier seq = count_by (is_request_of seq) (headers_of earlier)
+
+-- the responses of a sequence number, in order
+abbrev pub responses_of : List KeptPdu → ℕ → List KeptPdu
+responses_of centre seq = filter (λ r. is_response_of seq (header_of r)) centre
+
+-- the response to a request of the client, after these: of the responses of its sequence number the one of its rank
+abbrev pub response_to : List KeptPdu → List KeptPdu → KeptPdu → Option KeptPdu
+response_to centre earlier p = slice_get (responses_of centre p.seq) (rank_after earlier p.seq)
+
+-- what a response says to a request
+abbrev pub response_in : Header → KeptPdu → Response
+response_in request p =
+    record { agrees = agrees request (header_of p); status = p.status; id = id_in p.content }
+
+-- ---- messages and receipts of a session
+
+-- where PDUs come from: a session and its link
+pub record Origin : Type 0 where
+  pub session : SessionId
+  pub link : LinkId
+
+-- the place of a PDU
+abbrev pub place_of : Origin → Dir → KeptPdu → Place
+place_of origin dir p = record { session = origin.session; dir = dir; offset = p.offset }
+
+-- a delivery receipt is asked where bits 1 and 0 of registered_delivery aren't both 0 (SMPP 3.4, 5.2.17)
+abbrev pub asks_receipt : ℕ → Bool
+asks_receipt registered_delivery = not (registered_delivery % 4 == 0)
+
+-- the message that a submit_sm and its response are
+abbrev pub message_of : Origin → KeptPdu → Submit → Option KeptPdu → Message
+message_of origin p submit response = record {
+  link = origin.link;
+  moment = p.moment;
+  asks_receipt = asks_receipt submit.registered_delivery;
+  response = option_map (response_in (header_of p)) response;
+}
+
+-- the message that a PDU of the client is, at its place, where it is a decodable submit_sm
+abbrev pub message_at : Origin → List KeptPdu → List KeptPdu → KeptPdu → Option (Place × Message)
+message_at origin centre earlier p =
+    option_map (λ submit. (place_of origin FromClient p, message_of origin p submit (response_to centre earlier p)))
+    (submit_in p.content)
+
+-- the messages of a session whose PDUs are these
+abbrev pub messages_among : Origin → List KeptPdu → List KeptPdu → List (Place × Message)
+messages_among origin client centre =
+    flat_map (λ e. option_to_list (message_at origin centre e.0 e.1)) (with_earlier [] client)
+
+-- a delivery receipt that comes in a PDU
+abbrev pub received : Origin → KeptPdu → Receipt → ReceivedReceipt
+received origin p receipt = record { link = origin.link; moment = p.moment; receipt = receipt }
+
+-- the delivery receipt that a PDU of the centre is, at its place, where it is one
+abbrev pub receipt_at : Origin → KeptPdu → Option (Place × ReceivedReceipt)
+receipt_at origin p = option_map (λ receipt. (place_of origin FromCentre p, received origin p receipt)) (receipt_in p.content)
+
+-- the delivery receipts of a session whose PDUs of the centre are these
+abbrev pub receipts_among : Origin → List KeptPdu → List (Place × ReceivedReceipt)
+receipts_among origin centre = flat_map (λ p. option_to_list (receipt_at origin p)) centre
+
+-- ---- of all sessions
+
+-- a session by its number, and its link
+abbrev pub origin_of : ℕ × Session → Origin
+origin_of e = record { session = record { 0 = e.0 }; link = e.1.link }
+
+-- the messages of a session
+abbrev pub session_messages : ℕ × Session → List (Place × Message)
+session_messages e = messages_among (origin_of e) (kept_pdus e.1.client) (kept_pdus e.1.centre)
+
+-- its delivery receipts
+abbrev pub session_receipts : ℕ × Session → List (Place × ReceivedReceipt)
+session_receipts e = receipts_among (origin_of e) (kept_pdus e.1.centre)
+
+-- the traffic of these messages and receipts
+abbrev pub traffic_among : List (Place × Message) → List (Place × ReceivedReceipt) → TrafficValue
+traffic_among messages receipts =
+    record { messages = map.from_entries messages; receipts = map.from_entries receipts }
+
+-- the messages and receipts of all sessions
+abbrev pub traffic_of : map.FinMap nat_cmp Session → TrafficValue
+traffic_of sessions =
+    traffic_among (flat_map session_messages (map.entries sessions)) (flat_map session_receipts (map.entries sessions))

@@ -1,0 +1,10 @@
+-- What is present, and what an edit leaves present.
+pub mod Kept
+pub mod Stream
+pub mod Refusals
+pub mod Batch
+pub mod Settings
+pub mod Present
+pub mod Book
+pub mod Replies
+pub mod Steps

@@ -1,0 +1,35 @@
+-- What is set: the forms in which the centres of links write message ids.
+use Rattle.std.specs.Prelude.{ℕ, Option, unwrap_or, refl}
+use Rattle.std.specs.Coded.{Coded, code_by, coded_ℕ}
+use Rattle.std.specs.FinMap as map
+use Rattle.std.specs.Ordering.{nat_cmp}
+use Rattle.smq_kit.specs.declared.form.Form.TheVariants.{Verbatim}
+use Rattle.smq_kit.specs.declared.names.LinkId.{LinkId}
+use Rattle.smq_book.specs.contracts.present.forms.Forms as forms_block
+use Rattle.smq_book.specs.declared.present.forms.Forms.{Forms}
+
+-- the forms that were set, by the numbers of their links
+pub record SettingsValue : Type 0 where
+  pub forms : map.FinMap nat_cmp Forms
+
+-- what is set is stored as these forms
+abbrev pub settings_code : Coded SettingsValue
+settings_code =
+    code_by (map.FinMap nat_cmp Forms) (map.code coded_ℕ (forms_block.the_row).coded) (λ s. s.forms)
+    (λ forms. record { forms = forms }) (λ _. refl)
+
+-- nothing is set
+abbrev pub opening_settings : SettingsValue
+opening_settings = record { forms = map.empty }
+
+-- the forms of a link whose forms were never set: both verbatim
+abbrev pub opening_forms : Forms
+opening_forms = record { response = Verbatim; receipt = Verbatim }
+
+-- the forms that were set of the link of a number
+abbrev pub set_forms_of : SettingsValue → ℕ → Option Forms
+set_forms_of s number = map.get s.forms number
+
+-- the forms of a link's message ids
+abbrev pub forms_of : SettingsValue → LinkId → Forms
+forms_of s link = unwrap_or (set_forms_of s link.0) opening_forms

@@ -1,0 +1,70 @@
+-- What an edit leaves present.
+use Rattle.std.specs.Prelude.{◌≡◌, ◌≢◌, ℕ, List, [], ◌++◌, fold, Option, Some, None, unwrap_or}
+use Rattle.std.specs.FinMap as map
+use Rattle.smq_kit.specs.declared.form.Form.{Form}
+use Rattle.smq_kit.specs.declared.names.LinkId.{LinkId}
+use Rattle.smq_kit.specs.declared.place.Dir.{Dir}
+use Rattle.smq_kit.specs.declared.place.Dir.TheVariants.{FromClient, FromCentre}
+use Rattle.smq_kit.specs.declared.refusal.Refusal.{Refusal}
+use Rattle.smq_frame.specs.Stream.{Octet, handed_in}
+use Rattle.smq_book.specs.declared.present.edit.Edit.{Edit}
+use Rattle.smq_book.specs.declared.present.edit.Edit.TheVariants.{Append, SetForm}
+use Rattle.smq_book.specs.declared.present.session.Session.{Session}
+use Rattle.smq_book.specs.present.Batch.{BatchValue}
+use Rattle.smq_book.specs.declared.present.forms.Forms.{Forms}
+use Rattle.smq_book.specs.present.Present.{PresentValue, session_of, link_of, octets_of}
+use Rattle.smq_book.specs.present.Settings.{SettingsValue, set_forms_of}
+use Rattle.smq_book.specs.present.Replies.{reply}
+
+-- a session with octets put after one direction
+abbrev pub session_with : Dir → List Octet → Session → Session
+session_with FromClient octets session = record session { client = session.client ++ octets }
+session_with FromCentre octets session = record session { centre = session.centre ++ octets }
+
+-- the batch's session once its octets are put after their direction; a new one gets the batch's link
+abbrev pub session_after : Option Session → BatchValue → Session
+session_after None batch =
+    session_with batch.dir (handed_in batch.moment batch.octets) (record { link = batch.link; client = []; centre = [] })
+session_after (Some session) batch =
+    session_with batch.dir (handed_in batch.moment batch.octets) session
+
+-- settings with these forms of a link
+abbrev pub with_forms : SettingsValue → LinkId → Forms → SettingsValue
+with_forms s link forms = record s { forms = map.insert s.forms link.0 forms }
+
+-- the plain change that an edit is
+abbrev pub change : PresentValue → Edit → PresentValue
+change p (Append batch) =
+    record p { sessions = map.insert p.sessions batch.session.0 (session_after (session_of p batch.session.0) batch) }
+change p (SetForm link response receipt) =
+    record p { settings = with_forms p.settings link (record { response = response; receipt = receipt }) }
+
+-- the plain change, or none where there is a refusal
+abbrev pub step_unless : Option Refusal → PresentValue → Edit → PresentValue
+step_unless None p edit = change p edit
+step_unless (Some refusal) p edit = p
+
+-- what is present after an edit that wasn't refused for want of memory
+abbrev pub step : PresentValue → Edit → PresentValue
+step p edit = step_unless (reply p edit) p edit
+
+-- what is present after a list of such edits
+abbrev pub steps : PresentValue → List Edit → PresentValue
+steps p edits = fold step p edits
+
+-- The batch's octets, each with its moment, are put after their direction. Nothing else changes, but that a new session
+-- gets the batch's link.
+pub record Appends (old new : PresentValue) (batch : BatchValue) : Type 0 where
+  pub grown : octets_of new batch.session.0 batch.dir
+      ≡ octets_of old batch.session.0 batch.dir ++ handed_in batch.moment batch.octets
+  pub other_direction : (dir : Dir) → dir ≢ batch.dir
+      → octets_of new batch.session.0 dir ≡ octets_of old batch.session.0 dir
+  pub link : link_of new batch.session.0 ≡ Some (unwrap_or (link_of old batch.session.0) batch.link)
+  pub elsewhere : (number : ℕ) → number ≢ batch.session.0 → session_of new number ≡ session_of old number
+  pub rest : new ≡ record old { sessions = new.sessions }
+
+-- The link has these forms. Nothing else changes.
+pub record SetsForm (old new : PresentValue) (link : LinkId) (response receipt : Form) : Type 0 where
+  pub there : set_forms_of new.settings link.0 ≡ Some (record { response = response; receipt = receipt })
+  pub elsewhere : (number : ℕ) → number ≢ link.0 → set_forms_of new.settings number ≡ set_forms_of old.settings number
+  pub rest : new ≡ record old { settings = record old.settings { forms = new.settings.forms } }

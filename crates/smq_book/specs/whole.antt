@@ -1,0 +1,2 @@
+-- The tables of what is present, from nothing.
+pub mod Scratch

@@ -1,0 +1,9 @@
+-- The tables of what is present, from nothing.
+use Rattle.smq_book.specs.present.Present.{PresentValue}
+use Rattle.smq_book.specs.pairing.Traffic.{traffic_of}
+use Rattle.smq_book.specs.join.Facts.{facts_of}
+use Rattle.smq_book.specs.counting.Tables.{TablesValue, tables_of}
+
+-- decode and pair what is present, join it under what is set, and count
+abbrev pub scratch : PresentValue → TablesValue
+scratch p = tables_of (facts_of p.settings (traffic_of p.sessions))

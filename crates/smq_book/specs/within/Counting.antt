@@ -1,0 +1,31 @@
+-- Tables of a list of facts, and tables after one fact more.
+use Rattle.std.specs.Prelude.{ℕ, ◌+◌, List, [], ◌∷◌, map, count_by, unwrap_or}
+use Rattle.std.specs.List.{flat_map}
+use Rattle.std.specs.FinMap as fin
+use Rattle.smq_book.specs.declared.counting.tally.CountKey.{CountKey}
+use Rattle.smq_book.specs.declared.counting.tally.Fact.{Fact}
+use Rattle.smq_book.specs.counting.Rows.{keys_of_fact, stands_in}
+use Rattle.smq_book.specs.counting.Tables.{TablesValue}
+
+-- how many of the facts stand at a key
+abbrev pub number_among : CountKey → List Fact → ℕ
+number_among key facts = count_by (stands_in key) facts
+
+-- the tables of a list of facts
+abbrev pub tables_among : List Fact → TablesValue
+tables_among facts = record {
+  counts = fin.from_entries (map (λ key. (key, number_among key facts)) (flat_map keys_of_fact facts));
+}
+
+-- the count at a key, which is 0 where none stands
+abbrev pub count_of : TablesValue → CountKey → ℕ
+count_of t key = unwrap_or (fin.get t.counts key) 0
+
+-- the tables where one more stands at a key
+abbrev pub one_more : TablesValue → CountKey → TablesValue
+one_more t key = record { counts = fin.insert t.counts key (count_of t key + 1) }
+
+-- the tables where one more stands at each of these keys
+abbrev pub plus : TablesValue → List CountKey → TablesValue
+plus t [] = t
+plus t (key ∷ keys) = plus (one_more t key) keys

@@ -1,0 +1,30 @@
+-- Whether tables and forms are equal.
+use Rattle.std.specs.Prelude.{ℕ, Bool, ◌&&◌, nat_eq}
+use Rattle.std.specs.Cmp.{IsEquivalence}
+use Rattle.std.specs.Cmp.Lexicographic.{pointwise}
+use Rattle.std.proofs.lemmas.Cmp.{on_equiv, and_equiv, lists_equiv, eq_by_cmp_equiv, nat_eq_equiv}
+use Rattle.std.specs.FinMap as fin
+use Rattle.smq_book.specs.declared.counting.tally.CountKey.{CountKey}
+use Rattle.smq_book.specs.declared.present.forms.Forms.{Forms}
+use Rattle.smq_book.specs.contracts.present.forms.FormsPartialEq.TheImpl as forms_block
+use Rattle.smq_book.specs.counting.Rows.{same_count_key}
+use Rattle.smq_book.specs.counting.Tables.{TablesValue}
+use Rattle.smq_book.specs.within.CountOrder.{count_keys_total}
+
+-- whether two entries are the same key with the same count
+abbrev pub same_entry : CountKey × ℕ → CountKey × ℕ → Bool
+same_entry p q = same_count_key p.0 q.0 && nat_eq p.1 q.1
+
+-- whether two tables have the same keys with the same counts
+abbrev pub tables_eq : TablesValue → TablesValue → Bool
+tables_eq t u = pointwise same_entry (fin.entries t.counts) (fin.entries u.counts)
+
+-- that is an equivalence
+pub tables_eq_laws : IsEquivalence tables_eq
+tables_eq_laws =
+    on_equiv (λ t. fin.entries t.counts)
+    (lists_equiv (and_equiv (on_equiv (λ p. p.0) (eq_by_cmp_equiv count_keys_total)) (on_equiv (λ p. p.1) nat_eq_equiv)))
+
+-- `==` of forms
+abbrev pub forms_eq : Forms → Forms → Bool
+forms_eq = (forms_block.ghosts).eq

@@ -1,0 +1,44 @@
+-- What is known of the messages that are present, as lists over all sessions: stated apart from the definitions by place,
+-- and the same.
+use Rattle.std.specs.Prelude.{ℕ, List}
+use Rattle.std.specs.List.{flat_map}
+use Rattle.std.specs.FinMap as map
+use Rattle.smq_book.specs.declared.counting.tally.Fact.{Fact}
+use Rattle.smq_book.specs.declared.join.source.Source.{Source}
+use Rattle.smq_book.specs.declared.present.session.Session.{Session}
+use Rattle.smq_book.specs.present.Kept.{kept_pdus}
+use Rattle.smq_book.specs.present.Present.{PresentValue}
+use Rattle.smq_book.specs.present.Settings.{SettingsValue, forms_of}
+use Rattle.smq_book.specs.counting.Tables.{TablesValue}
+use Rattle.smq_book.specs.within.Counting.{tables_among}
+use Rattle.smq_book.specs.within.Messages.{SubmittedMessage, submits_among}
+use Rattle.smq_book.specs.within.Receipts.{KeyedReceipt, receipts_among}
+use Rattle.smq_book.specs.within.Outcomes.{facts_among}
+
+-- a session with its link and that link's forms
+abbrev pub source_of : SettingsValue → ℕ × Session → Source
+source_of s e = record { session = record { 0 = e.0 }; link = e.1.link; forms = forms_of s e.1.link }
+
+-- the submitted messages of a session
+abbrev pub session_submits : SettingsValue → ℕ × Session → List SubmittedMessage
+session_submits s e = submits_among (source_of s e) (kept_pdus e.1.client) (kept_pdus e.1.centre)
+
+-- the delivery receipts of a session
+abbrev pub session_receipts : SettingsValue → ℕ × Session → List KeyedReceipt
+session_receipts s e = receipts_among (source_of s e) (kept_pdus e.1.centre)
+
+-- the submitted messages that are present
+abbrev pub submits_of : PresentValue → List SubmittedMessage
+submits_of p = flat_map (session_submits p.settings) (map.entries p.sessions)
+
+-- the delivery receipts that are present
+abbrev pub receipts_of : PresentValue → List KeyedReceipt
+receipts_of p = flat_map (session_receipts p.settings) (map.entries p.sessions)
+
+-- a fact of each submitted message that is present
+abbrev pub facts_listed : PresentValue → List Fact
+facts_listed p = facts_among (submits_of p) (receipts_of p)
+
+-- the tables of these facts
+abbrev pub tables_listed : PresentValue → TablesValue
+tables_listed p = tables_among (facts_listed p)

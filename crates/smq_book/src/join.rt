@@ -1,0 +1,7 @@
+//! Messages joined with the delivery receipts that decide them.
+pub mod accepted;
+pub mod deciders;
+pub mod facts;
+pub mod receipts;
+pub mod source;
+pub mod submits;

@@ -1,0 +1,149 @@
+//! What is known of the submitted messages.
+ghost use Rattle.std.specs.Prelude.{◌≡◌, List, IfOk};
+ghost use Rattle.std.specs.Option.{option_copied};
+ghost use Rattle.std.specs.FinMap as map;
+ghost use Rattle.smq_book.specs.join.Facts as by_place;
+ghost use Rattle.smq_book.specs.join.Outcomes as outcomes;
+ghost use Rattle.smq_book.specs.pairing.Traffic.{traffic_of};
+ghost use Rattle.smq_book.specs.within.Accepted.{HasNumbers, HasDeciders};
+ghost use Rattle.smq_book.specs.within.Lists.{facts_listed};
+ghost use Rattle.smq_book.specs.within.Messages.{SubmittedMessage as Submit};
+ghost use Rattle.smq_book.specs.within.Outcomes as listed;
+ghost use Rattle.smq_book.specs.within.Receipts.{KeyedReceipt};
+
+use crate::join::accepted::Accepted;
+use crate::join::deciders::Deciders;
+use crate::join::receipts::PlacedReceipt;
+use crate::join::submits::{SubmittedMessage, submits_present};
+use crate::{Fact, KeptPdu, Outcome, Present, SubmitError};
+use smq_pdu::agrees;
+use smq_receipt::MessageState;
+use std::alloc::{AllocError, Global};
+
+/// A fact of each submitted message that is present, in the order of places.
+pub(crate) fn facts_of(alloc: Global, present: &Present) -> Result<Vec<Fact>, AllocError>
+    ensures { IfOk result (λ made. made.items
+        ≡ map.values (by_place.facts_of present.now.settings (traffic_of present.now.sessions))) }
+{
+    joined(alloc, present)
+}
+
+/// The submitted messages joined with the receipts that decide them.
+fn joined(alloc: Global, present: &Present) -> Result<Vec<Fact>, AllocError>
+    ensures { IfOk result (λ facts. facts.items ≡ facts_listed present.now) }
+{
+    let submits = submits_present(alloc, present)?;
+    let deciders = Deciders::of_present(alloc, present)?;
+    facts_among(alloc, submits.as_slice(), &deciders)
+}
+
+/// What is known of each of these messages, in their order.
+fn facts_among(
+    alloc: Global,
+    submits: &[SubmittedMessage<'_>],
+    deciders: &Deciders<'_>,
+) -> Result<Vec<Fact>, AllocError>
+    ensures { (receipts : List KeyedReceipt) → HasDeciders deciders.now.receipts receipts
+        → IfOk result (λ facts. facts.items ≡ listed.facts_among submits.now receipts) }
+{
+    let accepted = Accepted::of_submits(alloc, submits)?;
+    let mut facts = Vec::with_capacity(alloc, submits.len())?;
+    for submit in submits {
+        facts.push(fact_of(submit, &accepted, deciders))?;
+    }
+    Ok(facts)
+}
+
+/// What is known of a message, among all that were submitted and all receipts.
+fn fact_of(submit: &SubmittedMessage<'_>, accepted: &Accepted, deciders: &Deciders<'_>) -> Fact
+    ensures { (submits : List Submit) (receipts : List KeyedReceipt)
+        → HasNumbers accepted.now.numbers submits → HasDeciders deciders.now.receipts receipts
+        → result ≡ listed.fact_of submits receipts submit.now }
+{
+    let Some(key) = submit.key() else {
+        return fact_by(submit, false, None);
+    };
+    if accepted.is_single(&key) {
+        fact_by(submit, false, deciders.receipt(&key))
+    } else {
+        fact_by(submit, true, None)
+    }
+}
+
+/// What is known of a message, by whether it is ambiguous and by its deciding receipt.
+fn fact_by(
+    submit: &SubmittedMessage<'_>,
+    ambiguous: bool,
+    decider: Option<&PlacedReceipt<'_>>,
+) -> Fact
+    ensures { result ≡ listed.fact_by submit.now ambiguous (option_copied decider.entry) }
+{
+    let outcome = outcome(submit, ambiguous, decider);
+    Fact {
+        place: submit.place(),
+        moment: submit.request.moment,
+        link: submit.source.link,
+        outcome,
+        error: error(outcome, submit.response, decider),
+    }
+}
+
+/// The outcome of the first condition that holds, in the order of the table of outcomes.
+fn outcome(
+    submit: &SubmittedMessage<'_>,
+    ambiguous: bool,
+    decider: Option<&PlacedReceipt<'_>>,
+) -> Outcome
+    ensures { result ≡ listed.outcome_by submit.now ambiguous (option_copied decider.entry) }
+{
+    let Some(response) = submit.response else {
+        return Outcome::Waiting;
+    };
+    if !agrees(submit.request.command, response.command) {
+        return Outcome::Mismatched;
+    }
+    if response.status != 0 {
+        return Outcome::Refused;
+    }
+    if response.content.message_id().is_none() {
+        return Outcome::NoId;
+    }
+    if ambiguous {
+        return Outcome::Ambiguous;
+    }
+    if let Some(receipt) = decider {
+        return if is_delivered(receipt.receipt.state) {
+            Outcome::Delivered
+        } else {
+            Outcome::Failed
+        };
+    }
+    if !submit.asks_receipt() {
+        return Outcome::Unasked;
+    }
+    Outcome::Open
+}
+
+/// Why a message with this outcome failed.
+fn error(
+    outcome: Outcome,
+    response: Option<&KeptPdu>,
+    decider: Option<&PlacedReceipt<'_>>,
+) -> Option<SubmitError>
+    ensures { result ≡ listed.error_by outcome (option_copied response.entry)
+        (option_copied decider.entry) }
+{
+    match outcome {
+        Outcome::Refused => Some(SubmitError::Refused {
+            status: response?.status,
+        }),
+        Outcome::Failed => Some(SubmitError::Failed(decider?.receipt.error.copy())),
+        _ => None,
+    }
+}
+
+fn is_delivered(state: MessageState) -> bool
+    ensures { result ≡ outcomes.is_delivered state }
+{
+    matches!(state, MessageState::Delivered)
+}

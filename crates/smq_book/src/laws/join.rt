@@ -1,0 +1,99 @@
+//! Laws of what became of messages: which key is single, which receipt decides, what a fact rests on and what a change
+//! leaves, and known outcomes.
+ghost use Rattle.std.specs.Prelude.{◌≡◌, ◌≢◌, ℕ, ◌==◌, ◌↔◌, ◌++◌, ◌∷◌, [], List, Some, None, IsTrue, map, option_map};
+ghost use Rattle.std.specs.FinMap as fin;
+ghost use Rattle.smq_kit.specs.Maps.{SameOutside, patched};
+ghost use Rattle.smq_kit.specs.declared.link_key.LinkKey.{LinkKey};
+ghost use Rattle.smq_book.specs.Known.{KnownOutcomes, KnownReceipts};
+ghost use Rattle.smq_book.specs.counting.Rows.{outcome_place};
+ghost use Rattle.smq_book.specs.present.Settings.{SettingsValue, forms_of};
+ghost use Rattle.smq_book.specs.pairing.Traffic.{Message, ReceivedReceipt, TrafficValue};
+ghost use Rattle.smq_book.specs.join.Circumstances.{Circumstances, circumstances};
+ghost use Rattle.smq_book.specs.join.Facts.{fact_by, facts_of};
+ghost use Rattle.smq_book.specs.join.Keyed.{grouping_of};
+ghost use Rattle.smq_book.specs.join.Matching.{Grouping, CanDecide, IsAlone, IsEarliest, decider, matches};
+ghost use Rattle.smq_book.specs.join.Moves.{IsMove, changes_of, standings_of, put_message, take_message, put_receipt, take_receipt};
+ghost use Rattle.smq_book.specs.join.Outcomes.{outcome_table, last_outcome};
+
+use crate::Fact;
+use smq_kit::{LinkId, Place};
+
+/// Of a message that is accepted with a key, the key is single exactly where no other message is accepted with it.
+pub fn single_keys_have_no_other()
+    ensures { (g : Grouping) (key : LinkKey) (place : Place) → fin.get g.submits place ≡ Some key
+        → IsTrue (matches g key == 1) ↔ IsAlone g key place }
+{}
+
+/// The receipt that decides has the key, can decide, and comes after none of those that have it and can: by moment, and
+/// by place where moments are one. Where none decides, none of the key can.
+pub fn deciding_receipts_are_earliest()
+    ensures found { (g : Grouping) (key : LinkKey) (place : Place)
+        → decider g key ≡ Some place → IsEarliest g key place }
+    ensures none { (g : Grouping) (key : LinkKey) → decider g key ≡ None
+        → (moment : ℕ) (place : Place) → ¬ CanDecide g key moment place }
+{}
+
+/// There is a fact of each message and of nothing else, and it stands at its message's place.
+pub fn each_message_has_its_fact()
+    ensures each { (s : SettingsValue) (t : TrafficValue) (place : Place)
+        → fin.get (facts_of s t) place
+        ≡ option_map (λ m. fact_by place m (circumstances s t m)) (fin.get t.messages place) }
+    ensures place { (s : SettingsValue) (t : TrafficValue) (place : Place) (fact : Fact)
+        → fin.get (facts_of s t) place ≡ Some fact → fact.place ≡ place }
+{}
+
+/// The same message in the same circumstances gives the same fact, whatever else is set or present.
+pub fn facts_rest_on_circumstances()
+    ensures { (s z : SettingsValue) (t u : TrafficValue) (place : Place)
+        → fin.get t.messages place ≡ fin.get u.messages place
+        → ((m : Message) → fin.get t.messages place ≡ Some m
+        → circumstances s t m ≡ circumstances z u m)
+        → fin.get (facts_of s t) place ≡ fin.get (facts_of z u) place }
+{}
+
+/// Where one message or one receipt is put in or taken out, the facts of all other places stay but those of messages
+/// whose standing it changes.
+pub fn moves_leave_other_facts()
+    ensures moves { (s : SettingsValue) (q : Place) (t u : TrafficValue) (places : List Place)
+        → IsMove q t u
+        → SameOutside places (standings_of (grouping_of s t)) (standings_of (grouping_of s u))
+        → patched (facts_of s t) (fin.get (facts_of s u)) (q ∷ places) ≡ facts_of s u }
+    ensures changes { (g h : Grouping)
+        → SameOutside (changes_of g h) (standings_of g) (standings_of h) }
+    ensures put_message { (q : Place) (m : Message) (t : TrafficValue)
+        → fin.get t.receipts q ≡ None → IsMove q t (put_message q m t) }
+    ensures take_message { (q : Place) (t : TrafficValue)
+        → fin.get t.receipts q ≡ None → IsMove q t (take_message q t) }
+    ensures put_receipt { (q : Place) (r : ReceivedReceipt) (t : TrafficValue)
+        → fin.get t.receipts q ≡ None → IsMove q t (put_receipt q r t) }
+    ensures take_receipt { (q : Place) (t : TrafficValue) → IsMove q t (take_receipt q t) }
+{}
+
+/// The forms of a link change no fact where none of its messages and receipts is present.
+pub fn forms_of_other_links_are_idle()
+    ensures { (s z : SettingsValue) (t : TrafficValue) (link : LinkId)
+        → ((other : LinkId) → other ≢ link → forms_of s other ≡ forms_of z other)
+        → ((q : Place) (m : Message) → fin.get t.messages q ≡ Some m → m.link ≢ link)
+        → ((q : Place) (r : ReceivedReceipt) → fin.get t.receipts q ≡ Some r → r.link ≢ link)
+        → facts_of s t ≡ facts_of z t }
+{}
+
+/// The outcomes stand in the order of their table, in which reports print them.
+pub fn outcomes_are_in_order()
+    ensures { (m : Message) (c : Circumstances)
+        → map (λ row. outcome_place row.1) (outcome_table m c) ++ outcome_place last_outcome ∷ []
+        ≡ 0 ∷ 1 ∷ 2 ∷ 3 ∷ 4 ∷ 5 ∷ 6 ∷ 7 ∷ 8 ∷ [] }
+{}
+
+/// What became of submits that are written out.
+#[tactic(auto, unfolding(smq_pdu::specs::Pairing::nth_place), using(crate::proofs::KnownFacts::known))]
+pub fn outcomes_of_known_submits()
+    ensures { KnownOutcomes }
+{}
+
+/// What receipts that are written out make of submits. Each receipt is of the id `1`, which `accepted` gives, but for those
+/// under forms.
+#[tactic(auto, unfolding(smq_pdu::specs::Pairing::nth_place), using(crate::proofs::KnownFacts::known))]
+pub fn receipts_decide_known_submits()
+    ensures { KnownReceipts }
+{}

@@ -1,0 +1,61 @@
+//! Laws of messages and delivery receipts by place: what each PDU says, and what one more changes.
+ghost use Rattle.std.specs.Prelude.{◌≡◌, ◌++◌, ◌∷◌, [], ℕ, true, List, Some, length, slice_get, option_to_list};
+ghost use Rattle.std.specs.List.{flat_map};
+ghost use Rattle.std.specs.FinMap as map;
+ghost use Rattle.std.specs.Ordering.{nat_cmp};
+ghost use Rattle.smq_kit.specs.Maps.{SameOutside};
+ghost use Rattle.smq_kit.specs.Orders.{place_cmp};
+ghost use Rattle.smq_pdu.specs.Header.{Header};
+ghost use Rattle.smq_pdu.specs.Pairing.{IsPair, is_request};
+ghost use Rattle.smq_book.specs.declared.present.session.Session.{Session as SessionValue};
+ghost use Rattle.smq_book.specs.Known.{InTurn};
+ghost use Rattle.smq_book.specs.present.Kept.{header_of, headers_of};
+ghost use Rattle.smq_book.specs.pairing.Pushes.{answered_by};
+ghost use Rattle.smq_book.specs.pairing.Traffic.{Origin, response_to, message_at, messages_among, session_messages, session_receipts, traffic_of};
+
+use crate::KeptPdu;
+
+/// The response to a PDU of the client is that of its pair, by sequence number and rank, and that of each pair is found.
+pub fn responses_are_those_of_pairs()
+    ensures each { (before after centre : List KeptPdu) (p : KeptPdu) (j : ℕ) (response : Header)
+        → IsPair (headers_of (before ++ p ∷ after)) (headers_of centre) (length before) j
+        (header_of p) response
+        → response_to centre before p ≡ slice_get centre j }
+    ensures found { (before after centre : List KeptPdu) (p r : KeptPdu)
+        → is_request (header_of p) ≡ true → response_to centre before p ≡ Some r
+        → (j : ℕ) × (slice_get centre j ≡ Some r)
+        × IsPair (headers_of (before ++ p ∷ after)) (headers_of centre) (length before) j
+        (header_of p) (header_of r) }
+{}
+
+/// Two requests of one sequence number are answered by the two responses of it in turn, whatever
+/// their commands.
+pub fn responses_come_in_turn()
+    ensures first { (one two response later : KeptPdu) → InTurn one two response later
+        → response_to (response ∷ later ∷ []) [] one ≡ Some response }
+    ensures second { (one two response later : KeptPdu) → InTurn one two response later
+        → response_to (response ∷ later ∷ []) (one ∷ []) two ≡ Some later }
+{}
+
+/// No message and no receipt shares its place with another, so none of a session is lost.
+pub fn each_message_has_its_place()
+    ensures messages { (sessions : map.FinMap nat_cmp SessionValue)
+        → map.entries (traffic_of sessions).messages
+        ≡ flat_map session_messages (map.entries sessions) }
+    ensures receipts { (sessions : map.FinMap nat_cmp SessionValue)
+        → map.entries (traffic_of sessions).receipts
+        ≡ flat_map session_receipts (map.entries sessions) }
+{}
+
+/// One PDU more of the client is one message more at most, and leaves the others. One more of the
+/// centre changes the messages to which it is the response, and no other.
+pub fn pushes_change_few_messages()
+    ensures client { (origin : Origin) (client centre : List KeptPdu) (next : KeptPdu)
+        → messages_among origin (client ++ next ∷ []) centre
+        ≡ messages_among origin client centre
+        ++ option_to_list (message_at origin centre client next) }
+    ensures centre { (origin : Origin) (client centre : List KeptPdu) (next : KeptPdu)
+        → SameOutside {R = place_cmp} (answered_by origin client centre next)
+        (map.from_entries (messages_among origin client centre))
+        (map.from_entries (messages_among origin client (centre ++ next ∷ []))) }
+{}

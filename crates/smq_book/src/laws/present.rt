@@ -1,0 +1,92 @@
+//! Laws of replies and steps: what refuses an edit, and what it leaves.
+ghost use Rattle.std.specs.Prelude.{◌≡◌, ◌<◌, ◌↔◌, ◌++◌, [], ℕ, List, length, Some, None, IsTrue};
+ghost use Rattle.smq_kit.specs.declared.form.Form.{Form};
+ghost use Rattle.smq_kit.specs.declared.names.LinkId.{LinkId};
+ghost use Rattle.smq_kit.specs.declared.refusal.Refusal.{Refusal};
+ghost use Rattle.smq_kit.specs.declared.place.Dir.{Dir};
+ghost use Rattle.smq_book.specs.declared.present.edit.Edit.{Edit};
+ghost use Rattle.smq_book.specs.declared.present.edit.Edit.TheVariants.{Append, SetForm};
+ghost use Rattle.smq_book.specs.present.Batch.{BatchValue, with_octets, continued};
+ghost use Rattle.smq_book.specs.Known.{KnownForms, KnownOctets, KnownPieces, KnownReplies, waiting};
+ghost use Rattle.smq_book.specs.present.Present.{PresentValue, session_of, tail_in};
+ghost use Rattle.smq_book.specs.present.Replies.{GoesAfter, reply};
+ghost use Rattle.smq_book.specs.present.Steps.{Appends, SetsForm, change, step};
+ghost use Rattle.smq_book.specs.declared.present.forms.Forms.{Forms};
+ghost use Rattle.smq_book.specs.within.Equal.{forms_eq};
+
+/// An append changes what `Appends` says, and setting forms what `SetsForm` says: nothing else. A refused edit is no
+/// step.
+pub fn steps_are_plain_changes()
+    ensures appends { (p : PresentValue) (batch : BatchValue) →
+        Appends p (change p (Append batch)) batch }
+    ensures alone { (p q : PresentValue) (batch : BatchValue) →
+        Appends p q batch → q ≡ change p (Append batch) }
+    ensures sets_form { (p : PresentValue) (link : LinkId) (response receipt : Form) →
+        SetsForm p (change p (SetForm link response receipt)) link response receipt }
+    ensures alone_form { (p q : PresentValue) (link : LinkId) (response receipt : Form) →
+        SetsForm p q link response receipt → q ≡ change p (SetForm link response receipt) }
+    ensures made { (p : PresentValue) (edit : Edit) →
+        reply p edit ≡ None → step p edit ≡ change p edit }
+    ensures refused { (p : PresentValue) (edit : Edit) (refusal : Refusal) →
+        reply p edit ≡ Some refusal → step p edit ≡ p }
+{}
+
+/// A batch that goes after its direction has no refusal, and every other has one.
+pub fn batches_that_fit_are_not_refused()
+    ensures { (p : PresentValue) (batch : BatchValue) →
+        (reply p (Append batch) ≡ None) ↔ GoesAfter p batch }
+{}
+
+/// A session that is absent has the tail of no octets in both directions.
+pub fn absent_sessions_have_no_octets()
+    ensures { (p : PresentValue) (number : ℕ) (dir : Dir) →
+        session_of p number ≡ None → tail_in p number dir ≡ waiting 0 [] }
+{}
+
+/// How octets are cut into pieces doesn't matter: two batches of one moment, the second on the tail that the first leaves,
+/// are refused or made as their joined batch is, and leave what it leaves. Where their moments differ they leave its tail.
+pub fn cutting_changes_nothing()
+    ensures refused { (p : PresentValue) (batch : BatchValue) (first second : List ℕ) →
+        reply p (Append (with_octets batch first))
+        ≡ reply p (Append (with_octets batch (first ++ second))) }
+    ensures made { (p : PresentValue) (batch : BatchValue) (first second : List ℕ) →
+        0 < length first → reply p (Append (with_octets batch first)) ≡ None →
+        reply (step p (Append (with_octets batch first)))
+        (Append (continued batch first batch.moment second)) ≡ None }
+    ensures left { (p : PresentValue) (batch : BatchValue) (first second : List ℕ) →
+        0 < length first → reply p (Append (with_octets batch first)) ≡ None →
+        step (step p (Append (with_octets batch first)))
+        (Append (continued batch first batch.moment second))
+        ≡ step p (Append (with_octets batch (first ++ second))) }
+    ensures tail { (p : PresentValue) (batch : BatchValue) (first second : List ℕ) (moment : ℕ) →
+        batch.tail ≡ tail_in p batch.session.0 batch.dir →
+        tail_in (change (change p (Append (with_octets batch first)))
+        (Append (continued batch first moment second))) batch.session.0 batch.dir
+        ≡ tail_in (change p (Append (with_octets batch (first ++ second)))) batch.session.0 batch.dir }
+{}
+
+/// Replies on a book of one octet: another link comes before a stale tail, and that before an earlier moment.
+pub fn replies_stand_in_order()
+    ensures { KnownReplies }
+{}
+
+/// Where pieces are refused on a tail near the limit of 281,474,976,710,656 octets.
+pub fn pieces_are_refused_in_order()
+    ensures { KnownPieces }
+{}
+
+/// What an append leaves of the book of one octet.
+pub fn octets_are_put_after_their_direction()
+    ensures { KnownOctets }
+{}
+
+/// The forms of a link are both verbatim until they are set. This leaves other links and octets, and an append leaves
+/// forms.
+pub fn forms_are_verbatim_until_set()
+    ensures { KnownForms }
+{}
+
+/// `==` of forms answers whether they are one.
+pub fn forms_are_told_apart()
+    ensures { (a b : Forms) → IsTrue (forms_eq a b) ↔ (a ≡ b) }
+{}

@@ -1,0 +1,150 @@
+//! A piece of octets that is prepared for a direction.
+ghost use Rattle.std.specs.Prelude.{◌≡◌, ◌<◌, ◌+◌, ◌^◌, ◌≤◌, length, IfOk, IfErr, MatchOption, Err};
+ghost use Rattle.smq_book.specs.present.Batch.{batch_of, batch_pdus, next_tail, prepare_refusal};
+
+use crate::KeptPdu;
+use crate::present::kept::pdus_of;
+use bytes::Bytes;
+use smq_frame::{Tail, frames};
+use smq_kit::{Dir, LinkId, Moment, Refusal, SessionId};
+use std::alloc::{AllocError, Global};
+use std::marker::Model;
+
+/// A piece of octets that is decoded on a tail, to be put after a direction that has this tail.
+#[derive(Drop)]
+pub struct Batch {
+    pub(crate) link: LinkId,
+    pub(crate) session: SessionId,
+    pub(crate) dir: Dir,
+    pub(crate) tail: Tail,
+    pub(crate) moment: Moment,
+    pub(crate) octets: Bytes,
+    pub(crate) pdus: Vec<KeptPdu>,
+    pub(crate) next: Tail,
+}
+
+impl Model for Batch {
+    ghost use Rattle.std.specs.Prelude.{◌≡◌, ◌<◌, length};
+    ghost use Rattle.smq_book.specs.present.Batch.{BatchValue, batch_of, batch_pdus, next_tail};
+
+    ghost Value = { BatchValue };
+
+    ghost view = { λ b. batch_of b.link b.session b.dir b.tail b.moment b.octets };
+
+    ghost invariant = { λ b. let value = batch_of b.link b.session b.dir b.tail b.moment b.octets in
+        (b.pdus.items ≡ batch_pdus value) × (b.next ≡ next_tail value) × (0 < length b.octets) };
+}
+
+impl Batch {
+    /// The link that a new session gets, and that one which is present must have.
+    pub fn link(&self) -> LinkId
+        ensures { result ≡ self.now.link }
+    {
+        self.link
+    }
+
+    /// The session that the octets are for.
+    pub fn session(&self) -> SessionId
+        ensures { result ≡ self.now.session }
+    {
+        self.session
+    }
+
+    /// The direction of the session.
+    pub fn dir(&self) -> Dir
+        ensures { result ≡ self.now.dir }
+    {
+        self.dir
+    }
+
+    /// The tail on which the octets were decoded.
+    pub fn tail(&self) -> &Tail
+        ensures { result.now ≡ self.now.tail }
+    {
+        &self.tail
+    }
+
+    /// The moment of all the octets.
+    pub fn moment(&self) -> Moment
+        ensures { result ≡ self.now.moment }
+    {
+        self.moment
+    }
+
+    /// The octets, of which there is one at least.
+    pub fn octets(&self) -> &Bytes
+        ensures value { result.now ≡ self.now.octets }
+        ensures not_empty { 0 < length self.now.octets }
+    {
+        &self.octets
+    }
+
+    /// What is kept of the PDUs that the octets complete, in order.
+    pub fn pdus(&self) -> &[KeptPdu]
+        ensures { result.now ≡ batch_pdus self.now }
+    {
+        self.pdus.as_slice()
+    }
+
+    /// The tail after the octets.
+    pub fn next(&self) -> &Tail
+        ensures { result.now ≡ next_tail self.now }
+    {
+        &self.next
+    }
+}
+
+/// Decodes octets on a tail.
+fn decoded(
+    alloc: Global,
+    link: LinkId,
+    session: SessionId,
+    dir: Dir,
+    tail: &Tail,
+    moment: Moment,
+    octets: Bytes,
+) -> Result<Batch, AllocError>
+    requires room { tail.now.offset + length octets ≤ 2 ^ 48 }
+    requires some { 0 < length octets }
+    ensures { IfOk result (λ batch. batch ≡ batch_of link session dir tail.now moment octets) }
+{
+    let (found, next) = frames(alloc, tail, moment, &octets)?;
+    let pdus = pdus_of(alloc, found.as_slice())?;
+    let tail = tail.copy()?;
+    Ok(Batch {
+        link,
+        session,
+        dir,
+        tail,
+        moment,
+        octets,
+        pdus,
+        next,
+    })
+}
+
+/// Decodes octets on a tail, for one direction of a session. Refused are, in order: no octets (`EmptyPiece`); octets
+/// with which the direction would pass 2 to the power 48 (`StreamFull`); and want of memory (`Memory`).
+pub fn prepare(
+    alloc: Global,
+    link: LinkId,
+    session: SessionId,
+    dir: Dir,
+    tail: &Tail,
+    moment: Moment,
+    octets: Bytes,
+) -> Result<Batch, Refusal>
+    ensures value { IfOk result (λ batch.
+        batch ≡ batch_of link session dir tail.now moment octets) }
+    ensures refused { MatchOption (prepare_refusal tail.now octets)
+        (IfErr result (λ refusal. refusal ≡ Refusal.Memory))
+        (λ refusal. result ≡ Err refusal) }
+{
+    if octets.is_empty() {
+        return Err(Refusal::EmptyPiece);
+    }
+    if !tail.has_room(octets.len()) {
+        return Err(Refusal::StreamFull);
+    }
+    decoded(alloc, link, session, dir, tail, moment, octets).map_err(|_| Refusal::Memory)
+}

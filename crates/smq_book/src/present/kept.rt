@@ -1,0 +1,131 @@
+//! What is kept of each PDU, and the only readers that know the cases of its content.
+ghost use Rattle.std.specs.Prelude.{◌≡◌, IfOk, map, option_copied};
+ghost use Rattle.smq_pdu.specs.Decoded.{body_view};
+ghost use Rattle.smq_pdu.specs.Placed.{placed_pdu};
+ghost use Rattle.smq_book.specs.present.Kept.{content_of_body, kept_pdu, submit_in, id_in, reading_in, receipt_in};
+
+use smq_frame::Frame;
+use smq_kit::{MessageId, Moment};
+use smq_pdu::{Body, Pdu, Submit, decode};
+use smq_receipt::{Reading, Receipt, read};
+use std::alloc::{AllocError, Global};
+
+/// What is kept of a PDU's body.
+#[derive(Drop)]
+pub enum Content {
+    /// A submit_sm, as it was decoded (SMPP 3.4, 4.4.1).
+    Submit(Submit),
+    /// A submit_sm_resp, with its message_id, where that has 1 to 64 octets.
+    SubmitAnswer { message_id: Option<MessageId> },
+    /// A deliver_sm, as what it says as a delivery receipt.
+    Deliver { reading: Reading },
+    /// Every other command.
+    Other,
+    /// A submit_sm or deliver_sm whose mandatory fields don't fit.
+    Undecodable,
+}
+
+/// What is kept of a PDU: its place in its direction, its moment, its header and what its body says.
+#[derive(Drop)]
+pub struct KeptPdu {
+    /// In octets from the direction's first.
+    pub offset: u64,
+    /// That of its last octet.
+    pub moment: Moment,
+    pub command: u32,
+    pub status: u32,
+    pub seq: u32,
+    pub content: Content,
+}
+
+impl Content {
+    /// The submit_sm that it is, where it can be decoded.
+    pub fn submit(&self) -> Option<&Submit>
+        ensures { option_copied result ≡ submit_in self.now }
+    {
+        match self {
+            Content::Submit(submit) => Some(submit),
+            _ => None,
+        }
+    }
+
+    /// The message id that a submit_sm_resp gives, where it gives one.
+    pub fn message_id(&self) -> Option<&MessageId>
+        ensures { option_copied result ≡ id_in self.now }
+    {
+        match self {
+            Content::SubmitAnswer {
+                message_id: Some(id),
+            } => Some(id),
+            _ => None,
+        }
+    }
+
+    /// What a deliver_sm says as a delivery receipt.
+    pub fn reading(&self) -> Option<&Reading>
+        ensures { option_copied result ≡ reading_in self.now }
+    {
+        match self {
+            Content::Deliver { reading } => Some(reading),
+            _ => None,
+        }
+    }
+
+    /// The delivery receipt that it is, where it has an id and a state.
+    pub fn receipt(&self) -> Option<&Receipt>
+        ensures { option_copied result ≡ receipt_in self.now }
+    {
+        match self.reading()? {
+            Reading::Receipt(receipt) => Some(receipt),
+            _ => None,
+        }
+    }
+}
+
+/// What is kept of a body.
+fn content_of(body: Body<'_>) -> Content
+    ensures { result ≡ content_of_body (body_view body.entry) }
+{
+    match body {
+        Body::Submit(submit) => Content::Submit(submit),
+        Body::SubmitAnswer(answer) => Content::SubmitAnswer {
+            message_id: answer.message_id,
+        },
+        Body::Deliver(deliver) => Content::Deliver {
+            reading: read(&deliver),
+        },
+        Body::Other => Content::Other,
+        Body::Undecodable => Content::Undecodable,
+    }
+}
+
+/// What is kept of the PDU that a frame is.
+fn kept_of(frame: &Frame) -> KeptPdu
+    ensures { result ≡ kept_pdu (placed_pdu frame.now) }
+{
+    let Pdu {
+        seq,
+        command,
+        status,
+        body,
+    } = decode(frame);
+    KeptPdu {
+        offset: frame.offset,
+        moment: frame.moment,
+        command,
+        status,
+        seq,
+        content: content_of(body),
+    }
+}
+
+/// What is kept of the PDUs that frames are, in order.
+pub(crate) fn pdus_of(alloc: Global, frames: &[Frame]) -> Result<Vec<KeptPdu>, AllocError>
+    ensures { IfOk result (λ pdus. pdus.items ≡ map kept_pdu (map placed_pdu frames.now)) }
+{
+    let mut pdus = Vec::with_capacity(alloc, frames.len())?;
+    for frame in frames {
+        pdus.push(kept_of(frame))?;
+    }
+    Ok(pdus)
+}

@@ -1,0 +1,61 @@
+//! One captured session.
+ghost use Rattle.std.specs.Prelude.{◌≡◌, None, Some, MatchResult, MatchOption, Err};
+ghost use Rattle.smq_book.specs.present.Present.{direction};
+ghost use Rattle.smq_book.specs.present.Refusals.{IsReply, first_of};
+ghost use Rattle.smq_book.specs.present.Replies.{append_refusals};
+ghost use Rattle.smq_book.specs.present.Steps.{session_after};
+
+use crate::{Batch, Direction};
+use smq_kit::{Dir, LinkId, Refusal};
+use std::alloc::Global;
+
+/// A captured session: its link, and the octets of the client (ESME) and of the centre (SMSC).
+#[derive(Drop)]
+pub struct Session {
+    pub link: LinkId,
+    pub client: Direction,
+    pub centre: Direction,
+}
+
+impl Session {
+    /// One direction of the session.
+    pub fn direction(&self, dir: Dir) -> &Direction
+        ensures { result.now ≡ direction dir self.now }
+    {
+        match dir {
+            Dir::FromClient => &self.client,
+            Dir::FromCentre => &self.centre,
+        }
+    }
+
+    /// The session that a first batch makes.
+    pub(crate) fn from_batch(alloc: Global, batch: Batch) -> Result<Session, Refusal>
+        ensures { MatchOption (first_of (append_refusals None batch))
+            (MatchResult result (λ s. s ≡ session_after None batch) (λ e. e ≡ Refusal.Memory))
+            (λ refusal. result ≡ Err refusal) }
+    {
+        let mut session = Session {
+            link: batch.link,
+            client: Direction::new(alloc),
+            centre: Direction::new(alloc),
+        };
+        match session.append(batch) {
+            Ok(()) => Ok(session),
+            Err(refusal) => Err(refusal),
+        }
+    }
+
+    /// Puts a batch after its direction. A refusal changes nothing.
+    pub(crate) fn append(&mut self, batch: Batch) -> Result<(), Refusal>
+        ensures { IsReply (first_of (append_refusals (Some self.old) batch)) result
+            (self.new ≡ session_after (Some self.old) batch) (self.new ≡ self.old) }
+    {
+        if self.link.0 != batch.link.0 {
+            return Err(Refusal::OtherLink { link: self.link });
+        }
+        match batch.dir {
+            Dir::FromClient => self.client.append(batch),
+            Dir::FromCentre => self.centre.append(batch),
+        }
+    }
+}

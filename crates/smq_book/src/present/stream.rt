@@ -1,0 +1,138 @@
+//! One direction of a session.
+ghost use Rattle.std.specs.Prelude.{◌≡◌, ◌<◌, ◌++◌, [], length, map, OnOk, OnErr};
+ghost use Rattle.smq_frame.specs.Stream.{handed_in, values, frames_after};
+ghost use Rattle.smq_frame.specs.Tail.{tail_of, tail_after};
+ghost use Rattle.smq_pdu.specs.Placed.{placed_pdu};
+ghost use Rattle.smq_book.specs.present.Kept.{kept_pdu, kept_pdus};
+ghost use Rattle.smq_book.specs.present.Stream.{stream_of, last_moment};
+ghost use Rattle.smq_book.specs.present.Refusals.{IsReply, first_of};
+ghost use Rattle.smq_book.specs.present.Replies.{stream_refusals};
+
+use crate::{Batch, KeptPdu};
+use bytes::Bytes;
+use smq_frame::Tail;
+use smq_kit::{Moment, Refusal};
+use std::alloc::{AllocError, Global};
+use std::marker::Model;
+
+/// Octets that were handed in at one moment.
+#[derive(Drop)]
+pub struct Piece {
+    pub moment: Moment,
+    pub octets: Bytes,
+}
+
+/// One direction of a session. A contract sees its octets with their moments.
+#[derive(Drop)]
+pub struct Direction {
+    pieces: Vec<Piece>,
+    tail: Tail,
+    pdus: Vec<KeptPdu>,
+    last: Moment,
+}
+
+impl Model for Direction {
+    ghost use Rattle.std.specs.Prelude.{List};
+    ghost use Rattle.smq_frame.specs.Stream.{Octet};
+    ghost use Rattle.smq_book.specs.present.Stream.{stream_of, Keeps};
+
+    ghost Value = { List Octet };
+
+    ghost view = { λ d. stream_of d.pieces.items };
+
+    ghost invariant = { λ d. Keeps (stream_of d.pieces.items) d.tail d.pdus.items d.last };
+}
+
+impl Direction {
+    /// A direction with no octets.
+    pub(crate) fn new(alloc: Global) -> Direction
+        ensures { result ≡ [] }
+    {
+        Direction {
+            pieces: Vec::new(alloc),
+            tail: Tail::at(0),
+            pdus: Vec::new(alloc),
+            last: Moment::epoch(),
+        }
+    }
+
+    /// What is kept of the octets between pieces: their number, those that aren't framed yet, and the offset of a bad
+    /// length.
+    pub fn tail(&self) -> &Tail
+        ensures { result.now ≡ tail_of (values self.now) }
+    {
+        &self.tail
+    }
+
+    /// What is kept of the PDUs, in order.
+    pub fn pdus(&self) -> &[KeptPdu]
+        ensures { result.now ≡ kept_pdus self.now }
+    {
+        self.pdus.as_slice()
+    }
+
+    /// The moment of the last octet, and the opening moment where there is none.
+    pub fn last(&self) -> Moment
+        ensures { result ≡ last_moment self.now }
+    {
+        self.last
+    }
+
+    /// The octets as the pieces in which they were handed in, in order.
+    pub fn pieces(&self) -> &[Piece]
+        ensures { stream_of result.now ≡ self.now }
+    {
+        self.pieces.as_slice()
+    }
+
+    /// Puts a piece after the octets. Its PDUs and the tail after it are given. An error changes nothing.
+    fn grow(
+        &mut self,
+        moment: Moment,
+        octets: Bytes,
+        mut pdus: Vec<KeptPdu>,
+        tail: Tail,
+    ) -> Result<(), AllocError>
+        requires pdus { let tail = tail_of (values self.old) in
+            pdus.items ≡ map kept_pdu (map placed_pdu (frames_after tail moment octets)) }
+        requires tail { tail ≡ tail_after (tail_of (values self.old)) octets }
+        requires some { 0 < length octets }
+        ensures ok { OnOk result (self.new ≡ self.old ++ handed_in moment octets) }
+        ensures err { OnErr result (self.new ≡ self.old) }
+    {
+        self.pieces.reserve(1)?;
+        self.pdus.append(&mut pdus)?;
+        self.pieces.push_reserved(Piece { moment, octets });
+        self.tail = tail;
+        self.last = moment;
+        Ok(())
+    }
+
+    /// Puts a batch after the octets. A refusal changes nothing.
+    #[tactic(auto, using(crate::proofs::Growth::offset_facts))]
+    pub(crate) fn append(&mut self, batch: Batch) -> Result<(), Refusal>
+        ensures { IsReply (first_of (stream_refusals self.old batch)) result
+            (self.new ≡ self.old ++ handed_in batch.moment batch.octets) (self.new ≡ self.old) }
+    {
+        if !batch.tail.is_same(&self.tail) {
+            return Err(Refusal::OutOfStep {
+                offset: self.tail.offset(),
+            });
+        }
+        if batch.moment < self.last {
+            return Err(Refusal::Backward { last: self.last });
+        }
+        let Batch {
+            link: _,
+            session: _,
+            dir: _,
+            tail: _,
+            moment,
+            octets,
+            pdus,
+            next,
+        } = batch;
+        self.grow(moment, octets, pdus, next)
+            .map_err(|_| Refusal::Memory)
+    }
+}

@@ -1,0 +1,93 @@
+//! The book.
+ghost use Rattle.std.specs.Prelude.{◌≡◌, IfOk};
+ghost use Rattle.smq_book.specs.present.Present.{empty, tail_in};
+ghost use Rattle.smq_book.specs.present.Refusals.{IsReply};
+ghost use Rattle.smq_book.specs.present.Replies.{reply};
+ghost use Rattle.smq_book.specs.whole.Scratch.{scratch};
+ghost use Rattle.smq_book.specs.present.Steps.{step};
+
+use crate::join::facts::facts_of;
+use crate::{Edit, Forms, Present, Tables};
+use smq_frame::Tail;
+use smq_kit::{Dir, Refusal, SessionId};
+use std::alloc::{AllocError, Global};
+use std::marker::Model;
+
+/// One book of captured sessions. A contract sees what is present.
+#[derive(Drop)]
+pub struct Book {
+    alloc: Global,
+    present: Present,
+    nothing: Tail,
+}
+
+impl Model for Book {
+    ghost use Rattle.std.specs.Prelude.{◌≡◌, []};
+    ghost use Rattle.smq_frame.specs.Tail.{tail_of};
+    ghost use Rattle.smq_book.specs.present.Book.{BookValue, book_code};
+
+    ghost Value = { BookValue };
+
+    ghost coded = { book_code };
+
+    ghost view = { λ b. record { present = b.present } };
+
+    ghost invariant = { λ b. b.nothing ≡ tail_of [] };
+}
+
+impl Book {
+    /// A book in which nothing is present.
+    pub fn new(alloc: Global) -> Book
+        ensures { result.present ≡ empty }
+    {
+        Book {
+            alloc,
+            present: Present::new(alloc),
+            nothing: Tail::at(0),
+        }
+    }
+
+    /// What is present.
+    pub fn present(&self) -> &Present
+        ensures { result.now ≡ self.now.present }
+    {
+        &self.present
+    }
+
+    /// The tail of one direction of a session, on which its next octets are prepared. A session that is absent has no
+    /// octets.
+    pub fn tail(&self, session: SessionId, dir: Dir) -> &Tail
+        ensures { result.now ≡ tail_in self.now.present session.0 dir }
+    {
+        match self.present.session(session) {
+            None => &self.nothing,
+            Some(found) => found.direction(dir).tail(),
+        }
+    }
+
+    /// Makes an edit, or refuses it and changes nothing. An `Append` is refused, in order: where its session is present
+    /// under another link (`OtherLink`); where its tail isn't that of its direction (`OutOfStep`); where its moment is
+    /// below the direction's last (`Backward`); and for want of memory (`Memory`). A `SetForm` is refused for want of
+    /// memory alone.
+    pub fn apply(&mut self, edit: Edit) -> Result<(), Refusal>
+        ensures { IsReply (reply self.old.present edit) result
+            (self.new.present ≡ step self.old.present edit) (self.new.present ≡ self.old.present) }
+    {
+        match edit {
+            Edit::Append { batch } => self.present.append(self.alloc, batch),
+            Edit::SetForm {
+                link,
+                response,
+                receipt,
+            } => self.present.set_forms(link, Forms { response, receipt }),
+        }
+    }
+
+    /// The tables of what is present, counted from nothing.
+    pub fn tables(&self) -> Result<Tables, AllocError>
+        ensures { IfOk result (λ tables. tables ≡ scratch self.now.present) }
+    {
+        let facts = facts_of(self.alloc, &self.present)?;
+        Tables::of_facts(self.alloc, facts.as_slice())
+    }
+}
