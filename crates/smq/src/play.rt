@@ -1,4 +1,4 @@
-//! A script is played on a book, and a view is written.
+//! A script is played on a book, row by row, and a view is written: nothing before all rows were read and played.
 ghost use Rattle.std.specs.Prelude.{◌≡◌, ◌≢◌, ◌++◌, IfOk, IfErr, IfSome, OnOk, Some, string_bytes};
 ghost use Rattle.std.specs.Io.KnownBytes.{Keeps};
 ghost use Rattle.smq_book.specs.present.Replies.{reply};

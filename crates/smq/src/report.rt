@@ -1,4 +1,4 @@
-//! The text of a report.
+//! The text of a report: a line for each row of a view.
 ghost use Rattle.std.specs.Prelude.{◌≡◌, ◌++◌, IfOk, OnOk, string_bytes};
 ghost use Rattle.smq.specs.Report.{code_text, error_text, report_of, row_text, value_text};
 

@@ -1,4 +1,5 @@
-//! A record of a script, and the row that it says.
+//! A record of a script, and the row that it says. A record says a row where each of its fields can be read, and none
+//! in part. Who adds a kind of row tells it by the first field, here and in specs/Row.antt.
 ghost use Rattle.std.specs.Prelude.{◌≡◌, IfOk, option_map};
 ghost use Rattle.csv.specs.Records.{fields_of};
 ghost use Rattle.smq.specs.Row.{dir_of, link_of, moment_of, octets_of, names_piece, row_from, row_of, session_of};

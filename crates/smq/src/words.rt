@@ -1,4 +1,4 @@
-//! The words of the program.
+//! The words of the program, which `clap` takes by the rules that `command` makes.
 ghost use Rattle.std.specs.Prelude.{◌≡◌, IfOk, map};
 ghost use Rattle.std.specs.Prelude.{Some, option_map};
 ghost use Rattle.smq_book.specs.counting.Names.{view_name};

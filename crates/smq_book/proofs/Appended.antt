@@ -17,7 +17,7 @@ use Rattle.smq_book.specs.present.Settings.{SettingsValue}
 use Rattle.smq_book.specs.present.Refusals.{IsReply, first_of}
 use Rattle.smq_book.specs.present.Replies.{append_refusals, reply}
 use Rattle.smq_book.specs.present.Steps.{session_after, with_forms, change}
-use Rattle.smq_book.proofs.Answered.{IsReply-weaker}
+use Rattle.smq_book.proofs.BatchReplies.{IsReply-weaker}
 use Rattle.smq_book.proofs.Maps.{seen, get-seen, insert-seen, insert-same}
 
 -- what becomes of sessions where a batch goes to the session of a number

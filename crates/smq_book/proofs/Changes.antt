@@ -21,7 +21,7 @@ use Rattle.smq_book.specs.present.Present.{PresentValue, session_of, direction, 
 use Rattle.smq_book.specs.present.Settings.{set_forms_of}
 use Rattle.smq_book.specs.present.Replies.{reply}
 use Rattle.smq_book.specs.present.Steps.{session_with, session_after, change, step_unless, step, Appends, SetsForm}
-use Rattle.smq_book.proofs.Answered.{new_session}
+use Rattle.smq_book.proofs.BatchReplies.{new_session}
 
 -- ---- the session of a batch
 

@@ -1,5 +1,5 @@
+pub mod BatchReplies
 pub mod Growth
-pub mod Answered
 pub mod Maps
 pub mod Appended
 pub mod Changes

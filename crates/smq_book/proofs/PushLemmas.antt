@@ -23,7 +23,7 @@ use Rattle.smq_pdu.specs.declared.body.Submit.{Submit}
 use Rattle.smq_book.specs.declared.present.kept.KeptPdu.{KeptPdu}
 use Rattle.smq_book.specs.present.Kept.{header_of, headers_of, submit_in}
 use Rattle.smq_book.specs.pairing.Traffic.{Message, Origin, place_of, message_of, message_at, messages_among, rank_after, response_to, with_earlier}
-use Rattle.smq_book.specs.pairing.Pushes.{is_next_response, answered_by}
+use Rattle.smq_book.specs.pairing.Pushes.{is_next_response, requests_of}
 
 -- ---- a PDU more of the client
 
@@ -126,7 +126,7 @@ module _ (origin : Origin) (client centre : List KeptPdu) (next : KeptPdu) where
       ] refl h
 
   -- a PDU more of the centre changes the messages to which it is the response, and no other
-  pub centre-push : SameOutside (answered_by origin client centre next) (from_entries {R = place_cmp} (messages_among origin client centre)) (from_entries (messages_among origin client (centre ++ next ∷ [])))
+  pub centre-push : SameOutside (requests_of origin client centre next) (from_entries {R = place_cmp} (messages_among origin client centre)) (from_entries (messages_among origin client (centre ++ next ∷ [])))
   unfolding answered say said
   centre-push = record {
     at = λ q out.

@@ -1,4 +1,4 @@
-//! One book of captured sessions: what is present, its edits and their answers, and the tables of it.
+//! One book of captured sessions: what is present, its edits and their replies, and the tables of it.
 #![tactic(auto)]
 
 mod counting;

@@ -1,3 +1,3 @@
-//! Which response answers which request, by sequence number and rank.
+//! Which response belongs to which request, by sequence number and rank.
 pub mod ranks;
 pub mod responses;

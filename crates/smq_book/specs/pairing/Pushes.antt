@@ -14,7 +14,7 @@ is_next_response centre next earlier p =
     is_response_of p.seq (header_of next) && rank_after earlier p.seq == count_by (is_response_of p.seq) (headers_of centre)
 
 -- the places of the PDUs of the client to which it is the response
-abbrev pub answered_by : Origin → List KeptPdu → List KeptPdu → KeptPdu → List Place
-answered_by origin client centre next =
+abbrev pub requests_of : Origin → List KeptPdu → List KeptPdu → KeptPdu → List Place
+requests_of origin client centre next =
     flat_map (λ e. if is_next_response centre next e.0 e.1 then place_of origin FromClient e.1 ∷ [] else [])
     (with_earlier [] client)

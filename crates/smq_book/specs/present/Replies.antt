@@ -1,4 +1,5 @@
--- What refuses an edit.
+-- What refuses an edit: its refusals in the order in which they are tested, of which the first that holds is told. Who
+-- adds one puts it at the place at which the code tests it; what a piece alone decides stands in Batch.
 use Rattle.std.specs.Prelude.{◌≡◌, ◌≤◌, ◌==◌, not, nat_lt, List, [], ◌∷◌, length, Option, Some, None}
 use Rattle.smq_kit.specs.declared.names.LinkId.{LinkId}
 use Rattle.smq_kit.specs.declared.refusal.Refusal.{Refusal}

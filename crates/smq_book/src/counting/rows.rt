@@ -1,4 +1,5 @@
-//! The rows of a view.
+//! The rows of a view, in the order of values and then of outcomes: the counts of the map that are of the view, as they
+//! stand there.
 ghost use Rattle.std.specs.Iterator.{YieldsFirstBy, item_count};
 
 use crate::{CountKey, Outcome, Value, View};

@@ -1,4 +1,4 @@
-//! The counts of submits.
+//! Counts of facts in one ordered map, in which no count is 0: a fact adds one at each of its keys.
 ghost use Rattle.std.specs.Prelude.{◌≡◌, ◌<◌, ◌+◌, ◌^◌, [], IfOk, OnOk, OnErr, option_to_list};
 ghost use Rattle.smq_book.specs.counting.Rows.{keys_of_fact, key_in, value_in};
 ghost use Rattle.smq_book.specs.counting.Tables.{count_at, rows_of};

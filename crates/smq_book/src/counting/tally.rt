@@ -1,4 +1,5 @@
-//! What is counted of submits.
+//! What is counted of submits. Views and outcomes are declared in the order in which reports print them. Who adds one
+//! gives it its place in specs/counting/Rows.antt and its name in Names.antt; the laws of order say whether they agree.
 ghost use Rattle.std.specs.Prelude.{◌≡◌};
 
 use smq_kit::{ErrorCode, LinkId, Moment, Place};

@@ -1,4 +1,4 @@
-//! How many messages are accepted with each key.
+//! How many messages are accepted with each key of each link, in one map.
 ghost use Rattle.std.specs.Prelude.{◌≡◌, ◌<◌, ◌+◌, ◌^◌, List, IfOk, OnOk};
 ghost use Rattle.std.specs.FinMap as map;
 ghost use Rattle.smq_kit.specs.LinkKeys.{by_key};

@@ -1,4 +1,4 @@
-//! The deciding receipts.
+//! Of each key of each link the earliest receipt that can decide, in one map.
 ghost use Rattle.std.specs.Prelude.{◌≡◌, ◌++◌, [], List, IfOk, OnOk};
 ghost use Rattle.std.specs.Option.{option_copied};
 ghost use Rattle.std.specs.FinMap as map;

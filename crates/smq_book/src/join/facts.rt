@@ -1,4 +1,5 @@
-//! What is known of the submitted messages.
+//! What is known of the submitted messages. Outcomes are tested in the order of their table; who adds one tests it at
+//! the place that it has there, in specs/join/Outcomes.antt and in specs/within/Outcomes.antt.
 ghost use Rattle.std.specs.Prelude.{◌≡◌, List, IfOk};
 ghost use Rattle.std.specs.Option.{option_copied};
 ghost use Rattle.std.specs.FinMap as map;

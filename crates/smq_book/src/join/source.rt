@@ -1,4 +1,4 @@
-//! Where PDUs come from.
+//! A session, its link and its link's forms, which go with each of its PDUs.
 ghost use Rattle.std.specs.Prelude.{◌≡◌};
 ghost use Rattle.smq_book.specs.within.Lists.{source_of};
 

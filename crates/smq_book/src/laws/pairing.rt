@@ -10,7 +10,7 @@ ghost use Rattle.smq_pdu.specs.Pairing.{IsPair, is_request};
 ghost use Rattle.smq_book.specs.declared.present.session.Session.{Session as SessionValue};
 ghost use Rattle.smq_book.specs.Known.{InTurn};
 ghost use Rattle.smq_book.specs.present.Kept.{header_of, headers_of};
-ghost use Rattle.smq_book.specs.pairing.Pushes.{answered_by};
+ghost use Rattle.smq_book.specs.pairing.Pushes.{requests_of};
 ghost use Rattle.smq_book.specs.pairing.Traffic.{Origin, response_to, message_at, messages_among, session_messages, session_receipts, traffic_of};
 
 use crate::KeptPdu;
@@ -28,8 +28,7 @@ pub fn responses_are_those_of_pairs()
         (header_of p) (header_of r) }
 {}
 
-/// Two requests of one sequence number are answered by the two responses of it in turn, whatever
-/// their commands.
+/// Two requests of one sequence number have the two responses of it in turn, whatever their commands.
 pub fn responses_come_in_turn()
     ensures first { (one two response later : KeptPdu) → InTurn one two response later
         → response_to (response ∷ later ∷ []) [] one ≡ Some response }
@@ -55,7 +54,7 @@ pub fn pushes_change_few_messages()
         ≡ messages_among origin client centre
         ++ option_to_list (message_at origin centre client next) }
     ensures centre { (origin : Origin) (client centre : List KeptPdu) (next : KeptPdu)
-        → SameOutside {R = place_cmp} (answered_by origin client centre next)
+        → SameOutside {R = place_cmp} (requests_of origin client centre next)
         (map.from_entries (messages_among origin client centre))
         (map.from_entries (messages_among origin client (centre ++ next ∷ []))) }
 {}

@@ -1,4 +1,4 @@
-//! Ranks among the PDUs of a direction.
+//! How many PDUs of each sequence number came so far in a direction, which is the next one's rank.
 ghost use Rattle.std.specs.Prelude.{◌≡◌, ◌<◌, ◌+◌, ◌^◌, ◌==◌, ℕ, OnOk, if◌then◌else◌};
 ghost use Rattle.smq_book.specs.within.Ranks.{count_kept};
 

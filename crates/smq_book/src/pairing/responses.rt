@@ -1,4 +1,4 @@
-//! The responses of a session by sequence number and rank.
+//! Where the response of each sequence number and rank stands among the centre's PDUs, in one map.
 ghost use Rattle.std.specs.Prelude.{◌≡◌, IfOk};
 ghost use Rattle.smq_book.specs.present.Kept.{headers_of};
 ghost use Rattle.smq_book.specs.within.Responses.{HasPlaces, place_kept};

@@ -1,4 +1,5 @@
-//! A piece of octets that is prepared for a direction.
+//! A piece of octets that is framed and decoded on a tail, before any book is looked at. It keeps the tail on which it
+//! was made, by which a book tells whether it still fits.
 ghost use Rattle.std.specs.Prelude.{◌≡◌, ◌<◌, ◌+◌, ◌^◌, ◌≤◌, length, IfOk, IfErr, MatchOption, Err};
 ghost use Rattle.smq_book.specs.present.Batch.{batch_of, batch_pdus, next_tail, prepare_refusal};
 

@@ -1,4 +1,4 @@
-//! The edits of a book.
+//! The edits of a book. Who adds one gives it a reply and a step in specs/present, and makes it in `Book::apply`.
 use crate::Batch;
 use smq_kit::{Form, LinkId};
 

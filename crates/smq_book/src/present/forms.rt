@@ -1,4 +1,4 @@
-//! The forms of a link's message ids.
+//! How a link's centre writes message ids: in one form in responses, in another in receipts.
 ghost use Rattle.std.specs.Prelude.{◌≡◌};
 ghost use Rattle.smq_book.specs.present.Settings.{opening_forms};
 

@@ -1,4 +1,7 @@
-//! What is present.
+//! The sessions by their numbers, and what is set.
+//!
+//! Who changes what an edit does tests all that refuses it first, in the order of specs/present/Replies.antt, and takes
+//! all memory before the first change: so a refused edit changes nothing.
 ghost use Rattle.std.specs.Prelude.{◌≡◌, ℕ, None, MatchResult, option_copied};
 ghost use Rattle.std.specs.FinMap as map;
 ghost use Rattle.std.specs.Map.Iter.{ShowsInOrder, deref_pair};

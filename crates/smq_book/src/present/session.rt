@@ -1,4 +1,4 @@
-//! One captured session.
+//! One captured session: its link, which it keeps, and the octets of both directions.
 ghost use Rattle.std.specs.Prelude.{◌≡◌, None, Some, MatchResult, MatchOption, Err};
 ghost use Rattle.smq_book.specs.present.Present.{direction};
 ghost use Rattle.smq_book.specs.present.Refusals.{IsReply, first_of};

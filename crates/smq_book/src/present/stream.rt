@@ -1,4 +1,7 @@
-//! One direction of a session.
+//! One direction of a session: its octets as they were handed in, and beside them the tail, the PDUs and the last
+//! moment, which are always those of the octets.
+//!
+//! Who changes `grow` takes all memory before the first change: what comes after that can't fail.
 ghost use Rattle.std.specs.Prelude.{◌≡◌, ◌<◌, ◌++◌, [], length, map, OnOk, OnErr};
 ghost use Rattle.smq_frame.specs.Stream.{handed_in, values, frames_after};
 ghost use Rattle.smq_frame.specs.Tail.{tail_of, tail_after};

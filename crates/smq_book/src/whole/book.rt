@@ -1,4 +1,4 @@
-//! The book.
+//! The book: it makes an edit or refuses it, and counts what is present from nothing.
 ghost use Rattle.std.specs.Prelude.{◌≡◌, IfOk};
 ghost use Rattle.smq_book.specs.present.Present.{empty, tail_in};
 ghost use Rattle.smq_book.specs.present.Refusals.{IsReply};

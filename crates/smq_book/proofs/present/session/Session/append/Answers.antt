@@ -1,6 +1,6 @@
 use Rattle.std.proofs.Common.{sym, ap, ◌∙◌, eq-eqb}
 use Rattle.smq_book.specs.present.Batch.{BatchValue}
-use Rattle.smq_book.proofs.Answered.{known-client, known-centre}
+use Rattle.smq_book.proofs.BatchReplies.{known-client, known-centre}
 use Rattle.smq_book.proofs.present.session.Session.append.Goals as goal
 
 pub returns-in-FromClient : goal.returns-in-FromClient

@@ -1,6 +1,6 @@
 use Rattle.std.proofs.Common.{◌≡◌}
 use Rattle.smq_book.specs.declared.present.session.Session.{Session}
-use Rattle.smq_book.proofs.Answered.{new_session, not_made}
+use Rattle.smq_book.proofs.BatchReplies.{new_session, not_made}
 use Rattle.smq_book.proofs.present.session.Session.from_batch.Goals as goal
 
 pub returns-in-Err : goal.returns-in-Err

@@ -1,4 +1,4 @@
--- IsReply to a batch.
+-- The reply to a batch, for a new session and for one that is present.
 use Rattle.std.proofs.Common.{◌≡◌, true, List, [], ◌++◌, Option, Some, None, Result, Ok, Err, refl, ap, ◌∙◌, eq-eqb}
 use Rattle.std.specs.Prelude.{◌==◌, MatchOption}
 use Rattle.smq_kit.specs.declared.names.LinkId.{LinkId}
