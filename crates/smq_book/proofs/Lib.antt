@@ -14,6 +14,7 @@ pub mod Tallies
 pub mod Shown
 pub mod Stored
 pub mod Equals
+pub mod FactEquals
 pub mod Keyed
 pub mod Numbers
 pub mod Deciding

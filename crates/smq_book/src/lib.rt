@@ -14,8 +14,9 @@ pub use counting::rows::Rows;
 pub use counting::tables::Tables;
 pub use counting::tally::{CountKey, Fact, Outcome, SubmitError, Value, View};
 pub use laws::counting::{
-    counts_are_numbers, equal_tables_are_one, messages_are_counted_once_in_a_view,
-    one_fact_moves_its_counts, rows_are_in_order, values_are_in_order,
+    counts_are_numbers, equal_tables_are_one, facts_are_told_apart,
+    messages_are_counted_once_in_a_view, one_fact_moves_its_counts, rows_are_in_order,
+    values_are_in_order,
 };
 pub use laws::join::{
     deciding_receipts_are_earliest, each_message_has_its_fact, facts_rest_on_circumstances,

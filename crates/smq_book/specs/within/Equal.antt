@@ -1,10 +1,12 @@
--- Whether tables and forms are equal.
+-- Whether tables, facts and forms are equal.
 use Rattle.std.specs.Prelude.{ℕ, Bool, ◌&&◌, nat_eq}
 use Rattle.std.specs.Cmp.{IsEquivalence}
 use Rattle.std.specs.Cmp.Lexicographic.{pointwise}
 use Rattle.std.proofs.lemmas.Cmp.{on_equiv, and_equiv, lists_equiv, eq_by_cmp_equiv, nat_eq_equiv}
 use Rattle.std.specs.FinMap as fin
 use Rattle.smq_book.specs.declared.counting.tally.CountKey.{CountKey}
+use Rattle.smq_book.specs.declared.counting.tally.Fact.{Fact}
+use Rattle.smq_book.specs.contracts.counting.tally.FactPartialEq.TheImpl as fact_block
 use Rattle.smq_book.specs.declared.present.forms.Forms.{Forms}
 use Rattle.smq_book.specs.contracts.present.forms.FormsPartialEq.TheImpl as forms_block
 use Rattle.smq_book.specs.counting.Rows.{same_count_key}
@@ -24,6 +26,10 @@ pub tables_eq_laws : IsEquivalence tables_eq
 tables_eq_laws =
     on_equiv (λ t. fin.entries t.counts)
     (lists_equiv (and_equiv (on_equiv (λ p. p.0) (eq_by_cmp_equiv count_keys_total)) (on_equiv (λ p. p.1) nat_eq_equiv)))
+
+-- `==` of facts
+abbrev pub fact_eq : Fact → Fact → Bool
+fact_eq = (fact_block.ghosts).eq
 
 -- `==` of forms
 abbrev pub forms_eq : Forms → Forms → Bool

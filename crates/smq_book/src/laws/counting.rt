@@ -8,7 +8,7 @@ ghost use Rattle.smq_book.specs.Known.{known_values};
 ghost use Rattle.smq_book.specs.counting.Rows.{views, view_place, value_cmp, count_key, count_cmp, keys_of_fact, stands_in};
 ghost use Rattle.smq_book.specs.counting.Tables.{TablesValue, tables_of, number_at, count_at, positive, shown_cmp, rows_of};
 ghost use Rattle.smq_book.specs.within.CountOrder.{kept_cmp, kept_value_cmp, kept_value_eq};
-ghost use Rattle.smq_book.specs.within.Equal.{tables_eq};
+ghost use Rattle.smq_book.specs.within.Equal.{fact_eq, tables_eq};
 
 use crate::{CountKey, Fact, Outcome, SubmitError, Value, View};
 use smq_kit::{LinkId, Place};
@@ -54,6 +54,11 @@ pub fn one_fact_moves_its_counts()
 pub fn equal_tables_are_one()
     ensures { (tables others : TablesValue)
         → IsTrue (tables_eq tables others) ↔ (tables ≡ others) }
+{}
+
+/// `==` of facts answers whether they are one.
+pub fn facts_are_told_apart()
+    ensures { (a b : Fact) → IsTrue (fact_eq a b) ↔ (a ≡ b) }
 {}
 
 /// Values are ordered: links first, by number; then refused submits, by status; then failed ones, by
