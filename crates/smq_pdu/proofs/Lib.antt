@@ -4,3 +4,4 @@ pub mod Parameters
 pub mod MessageIds
 pub mod BodyLaws
 pub mod Pairs
+pub mod PduEquals

@@ -8,6 +8,7 @@ pub mod Readers
 pub mod Pdu
 pub mod Placed
 pub mod Decoded
+pub mod Equalities
 pub mod Laws
 pub mod Known
 pub mod within

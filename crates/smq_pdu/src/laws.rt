@@ -9,6 +9,10 @@ ghost use Rattle.smq_pdu.specs.Laws.{said, IsSubmit, IsDeliver, IsUndecodable, I
 ghost use Rattle.smq_pdu.specs.Pairing.{FindsPairs, FindsEachPair, HasOneRequest, FindsInTurn, agrees, is_request, is_response, request_rank, response_rank, response_place};
 ghost use Rattle.smq_pdu.specs.Header.{Header, header_with};
 ghost use Rattle.smq_pdu.specs.Known.{submit_octets, submit_pdu, response_octets, response_pdu, receipt_octets, receipt_pdu, all_parameters_octets, all_parameters_pdu, cut_octets, cut_pdu, nack_octets, nack_pdu, parameter_octets, parameter_tlvs, parameter_rest, IsRequestCommand, IsResponseCommand, IsNeitherCommand, short_requests, short_responses};
+ghost use Rattle.smq_pdu.specs.Decoded.{deliver_view, pdu_view};
+ghost use Rattle.smq_pdu.specs.Equalities.{is_same_deliver, is_same_pdu};
+ghost use Rattle.smq_pdu.specs.declared.body.Deliver.{Deliver};
+ghost use Rattle.smq_pdu.specs.declared.pdu.Pdu.{Pdu};
 
 /// The fields that are read at the front of a body are the ones that it begins with, and no others.
 pub fn fields_are_read()
@@ -62,6 +66,13 @@ pub fn pairs_are_found()
     ensures each { FindsEachPair }
     ensures one { HasOneRequest }
     ensures in_turn { FindsInTurn }
+{}
+
+/// Two PDUs, or two deliver_sm, are equal by `==` exactly where they say the same.
+pub fn pdus_are_told_apart()
+    ensures delivers { (a b : Deliver) →
+        IsTrue (is_same_deliver a b) ↔ (deliver_view a ≡ deliver_view b) }
+    ensures pdus { (a b : Pdu) → IsTrue (is_same_pdu a b) ↔ (pdu_view a ≡ pdu_view b) }
 {}
 
 /// What the command_id of any header says (SMPP 3.4, 5.1.2.1): requests are below 2 to the power

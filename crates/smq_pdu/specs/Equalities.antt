@@ -1,0 +1,20 @@
+-- What `==` says of PDUs and of what a deliver_sm says.
+use Rattle.std.specs.Prelude.{Bool}
+use Rattle.smq_pdu.specs.declared.body.Deliver.{Deliver}
+use Rattle.smq_pdu.specs.declared.body.Body.{Body}
+use Rattle.smq_pdu.specs.declared.pdu.Pdu.{Pdu}
+use Rattle.smq_pdu.specs.contracts.body.DeliverPartialEq.TheImpl as deliver_eq
+use Rattle.smq_pdu.specs.contracts.body.BodyPartialEq.TheImpl as body_eq
+use Rattle.smq_pdu.specs.contracts.pdu.PduPartialEq.TheImpl as pdu_eq
+
+-- whether two deliver_sm say the same by `==`
+abbrev pub is_same_deliver : Deliver → Deliver → Bool
+is_same_deliver a b = deliver_eq.ghosts.eq a b
+
+-- whether two bodies are equal by `==`
+abbrev pub is_same_body : Body → Body → Bool
+is_same_body a b = body_eq.ghosts.eq a b
+
+-- whether two PDUs are equal by `==`
+abbrev pub is_same_pdu : Pdu → Pdu → Bool
+is_same_pdu a b = pdu_eq.ghosts.eq a b
