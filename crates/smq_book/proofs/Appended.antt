@@ -1,13 +1,13 @@
 -- A batch among the sessions that are present.
-use Rattle.std.proofs.Common.{◌≡◌, ℕ, cond, List, Option, Some, None, Result, Ok, Err, subst, sym, ap, ◌∙◌}
+use Rattle.std.proofs.Common.{◌≡◌, ℕ, cond, List, Option, Some, None, Result, Ok, Err, subst, refl, sym, ap, ◌∙◌}
 use Rattle.std.specs.Prelude.{MatchResult}
 use Rattle.std.specs.BTreeMap.{is_at}
-use Rattle.std.specs.FinMap.{FinMap, get, insert}
+use Rattle.std.specs.FinMap.{FinMap, get, insert, remove}
 use Rattle.std.specs.Map.{lookup}
 use Rattle.std.specs.Ordering.{nat_cmp}
 use Rattle.smq_kit.specs.declared.names.LinkId.{LinkId}
 use Rattle.smq_kit.specs.declared.refusal.Refusal.{Refusal}
-use Rattle.smq_kit.specs.declared.refusal.Refusal.TheVariants.{Memory}
+use Rattle.smq_kit.specs.declared.refusal.Refusal.TheVariants.{Memory, NoSession}
 use Rattle.smq_book.specs.declared.present.edit.Edit.TheVariants.{Append, SetForm}
 use Rattle.smq_book.specs.declared.present.forms.Forms.{Forms}
 use Rattle.smq_book.specs.declared.present.session.Session.{Session}
@@ -15,10 +15,10 @@ use Rattle.smq_book.specs.present.Batch.{BatchValue}
 use Rattle.smq_book.specs.present.Present.{PresentValue}
 use Rattle.smq_book.specs.present.Settings.{SettingsValue}
 use Rattle.smq_book.specs.present.Refusals.{IsReply, first_of}
-use Rattle.smq_book.specs.present.Replies.{append_refusals, reply}
+use Rattle.smq_book.specs.present.Replies.{append_refusals, no_session, reply}
 use Rattle.smq_book.specs.present.Steps.{session_after, with_forms, change}
 use Rattle.smq_book.proofs.BatchReplies.{IsReply-weaker}
-use Rattle.smq_book.proofs.Maps.{seen, get-seen, insert-seen, insert-same}
+use Rattle.smq_book.proofs.Maps.{seen, get-seen, insert-seen, insert-same, remove-seen}
 
 -- what becomes of sessions where a batch goes to the session of a number
 abbrev pub Becomes : {T : Type 0} → FinMap nat_cmp Session → FinMap nat_cmp Session → ℕ → BatchValue → Result T Refusal → Type 0
@@ -62,3 +62,17 @@ settings_become p sessions old new link forms (Ok x) is a =
     ap (λ (s : SettingsValue). record { sessions = sessions; settings = s }) a ∙ ap (λ (q : PresentValue). change q (SetForm link forms.response forms.receipt)) is
 settings_become p sessions old new link forms (Err e) is a =
     (a.0, ap (λ (s : SettingsValue). record { sessions = sessions; settings = s }) a.1 ∙ is)
+
+-- the session is taken out, or isn't there
+pub removed : {T : Type 0} (es fs : List (ℕ × Session)) (k : ℕ) (s : Session) (x : T) → Some s ≡ lookup (is_at (nat_cmp k)) es
+    → ((q : ℕ) → lookup (is_at (nat_cmp q)) fs ≡ cond (is_at (nat_cmp k) q) None (lookup (is_at (nat_cmp q)) es))
+    → IsReply (no_session (get (seen es) k)) (Ok x) (seen fs ≡ remove (seen es) k) (seen fs ≡ seen es)
+removed es fs k s x there h =
+    let found : get (seen es) k ≡ Some s = get-seen es k ∙ sym there in
+    subst (λ (o : Option Session). IsReply (no_session o) (Ok x) (seen fs ≡ remove (seen es) k) (seen fs ≡ seen es)) (sym found) (remove-seen es fs k h)
+
+pub absent : (T : Type 0) (es fs : List (ℕ × Session)) (k : ℕ) → None ≡ lookup (is_at (nat_cmp k)) es → fs ≡ es
+    → IsReply {T = T} (no_session (get (seen es) k)) (Err NoSession) (seen fs ≡ remove (seen es) k) (seen fs ≡ seen es)
+absent T es fs k missing same =
+    let none : get (seen es) k ≡ None = get-seen es k ∙ sym missing in
+    subst (λ (o : Option Session). IsReply {T = T} (no_session o) (Err NoSession) (seen fs ≡ remove (seen es) k) (seen fs ≡ seen es)) (sym none) (refl, ap (λ (gs : List (ℕ × Session)). seen gs) same)

@@ -1,27 +1,34 @@
 -- What an edit changes, and when it is refused.
-use Rattle.std.proofs.Common.{◌≡◌, ◌≢◌, ◌⊎◌, ℕ, cond, List, [], ◌++◌, Option, Some, None, refl, sym, ap, ◌∙◌, subst, inl, inr}
-use Rattle.std.specs.Prelude.{option_map, unwrap_or}
+use Rattle.std.proofs.Common.{◌≡◌, ◌≢◌, ◌⊎◌, ℕ, Bool, true, false, cond, List, [], ◌∷◌, ◌++◌, Option, Some, None, refl, sym, ap, ◌∙◌, subst, inl, inr, arith}
+use Rattle.std.specs.Prelude.{◌==◌, ◌&&◌, option_map, unwrap_or}
+use Rattle.std.specs.List.{list_all}
+use Rattle.std.proofs.lemmas.Bool.{false≢true}
+use Rattle.std.proofs.lemmas.Bool.Decides.{nat_tests}
 use Rattle.std.specs.Cmp.{nat_cmp_total, tied_itself}
-use Rattle.std.specs.FinMap.{FinMap, get, insert, get-insert, same_map, nat_cmp-IsAntisymmetric}
+use Rattle.std.specs.FinMap.{FinMap, get, insert, remove, get-insert, get-remove, same_map, nat_cmp-IsAntisymmetric}
 use Rattle.std.specs.Ordering.{nat_cmp, is_eq}
 use Rattle.std.specs.declared.cmp.Ordering.{Ordering}
 use Rattle.std.specs.declared.cmp.Ordering.TheVariants.{Less, Equal, Greater}
 use Rattle.smq_kit.specs.declared.form.Form.{Form}
 use Rattle.smq_kit.specs.declared.names.LinkId.{LinkId}
+use Rattle.smq_kit.specs.declared.names.SessionId.{SessionId}
 use Rattle.smq_kit.specs.declared.place.Dir.{Dir}
 use Rattle.smq_kit.specs.declared.place.Dir.TheVariants.{FromClient, FromCentre}
 use Rattle.smq_kit.specs.declared.refusal.Refusal.{Refusal}
+use Rattle.smq_kit.specs.declared.refusal.Refusal.TheVariants.{NoSession}
 use Rattle.smq_frame.specs.Stream.{Octet, handed_in}
 use Rattle.smq_book.specs.declared.present.edit.Edit.{Edit}
-use Rattle.smq_book.specs.declared.present.edit.Edit.TheVariants.{Append, SetForm}
+use Rattle.smq_book.specs.declared.present.edit.Edit.TheVariants.{Append, Withdraw, SetForm}
 use Rattle.smq_book.specs.declared.present.forms.Forms.{Forms}
 use Rattle.smq_book.specs.declared.present.session.Session.{Session}
 use Rattle.smq_book.specs.present.Batch.{BatchValue}
 use Rattle.smq_book.specs.present.Present.{PresentValue, session_of, direction, octets_in, octets_of}
 use Rattle.smq_book.specs.present.Settings.{set_forms_of}
-use Rattle.smq_book.specs.present.Replies.{reply}
-use Rattle.smq_book.specs.present.Steps.{session_with, session_after, change, step_unless, step, Appends, SetsForm}
+use Rattle.smq_book.specs.present.Refusals.{first_of}
+use Rattle.smq_book.specs.present.Replies.{no_session, append_refusals, reply}
+use Rattle.smq_book.specs.present.Steps.{session_with, session_after, change, step_unless, step, steps, Appends, Withdraws, SetsForm, is_append_to, LeavesNoTrace, AreAppendedAgain, AppendsCommute}
 use Rattle.smq_book.proofs.BatchReplies.{new_session}
+use Rattle.smq_book.proofs.Maps.{remove-none}
 
 -- ---- the session of a batch
 
@@ -68,6 +75,12 @@ unless k q v w Greater e ne = refl
 get-elsewhere : {X : Type 0} (m : FinMap nat_cmp X) (k q : ℕ) (v : X) → q ≢ k → get (insert m k v) q ≡ get m q
 get-elsewhere m k q v ne = get-insert nat_cmp_total m k v q ∙ unless k q (Some v) (get m q) (nat_cmp q k) refl ne
 
+get-removed : {X : Type 0} (m : FinMap nat_cmp X) (k : ℕ) → get (remove m k) k ≡ None
+get-removed m k = get-remove nat_cmp_total m k k ∙ (λ i. cond (is_eq (tied_itself nat_cmp_total k i)) None (get m k))
+
+get-left : {X : Type 0} (m : FinMap nat_cmp X) (k q : ℕ) → q ≢ k → get (remove m k) q ≡ get m q
+get-left m k q ne = get-remove nat_cmp_total m k q ∙ unless k q None (get m q) (nat_cmp q k) refl ne
+
 pub appends-change : (p : PresentValue) (b : BatchValue) → Appends p (change p (Append b)) b
 appends-change p b =
     let here : session_of (change p (Append b)) b.session.0 ≡ Some (session_after (session_of p b.session.0) b) = get-here p.sessions b.session.0 (session_after (session_of p b.session.0) b) in
@@ -78,6 +91,13 @@ appends-change p b =
       elsewhere = λ q ne. get-elsewhere p.sessions b.session.0 q (session_after (session_of p b.session.0) b) ne;
       rest = refl;
     }
+
+pub withdraws-change : (p : PresentValue) (s : SessionId) → Withdraws p (change p (Withdraw s)) s
+withdraws-change p s = record {
+  absent = get-removed p.sessions s.0;
+  elsewhere = λ q ne. get-left p.sessions s.0 q ne;
+  rest = refl;
+}
 
 pub sets-change : (p : PresentValue) (link : LinkId) (response receipt : Form) → SetsForm p (change p (SetForm link response receipt)) link response receipt
 sets-change p link response receipt = record {
@@ -128,6 +148,19 @@ appends-alone p q b one =
     let same : q.sessions ≡ (change p (Append b)).sessions = same_map nat_cmp_total nat_cmp-IsAntisymmetric _ _ (same_at p q (change p (Append b)) b one (appends-change p b)) in
     one.rest ∙ ap (λ (m : FinMap nat_cmp Session). record p { sessions = m }) same
 
+withdrawn_at : (p q r : PresentValue) (s : SessionId) → Withdraws p q s → Withdraws p r s → (n : ℕ) → session_of q n ≡ session_of r n
+withdrawn_at p q r s one two n =
+    elim (either_number n s.0 (nat_cmp n s.0) refl) [
+      | inl is ↦ subst (λ (m : ℕ). session_of q m ≡ session_of r m) (sym is) (one.absent ∙ sym two.absent)
+      | inr ne ↦ one.elsewhere n ne ∙ sym (two.elsewhere n ne)
+    ]
+
+pub withdraws-alone : (p q : PresentValue) (s : SessionId) → Withdraws p q s → q ≡ change p (Withdraw s)
+withdraws-alone p q s one =
+    let new = change p (Withdraw s) in
+    let same : q.sessions ≡ new.sessions = same_map nat_cmp_total nat_cmp-IsAntisymmetric _ _ (withdrawn_at p q new s one (withdraws-change p s)) in
+    one.rest ∙ ap (λ (m : FinMap nat_cmp Session). record p { sessions = m }) same
+
 same_forms : (p q r : PresentValue) (link : LinkId) (response receipt : Form) → SetsForm p q link response receipt → SetsForm p r link response receipt → (n : ℕ) → set_forms_of q.settings n ≡ set_forms_of r.settings n
 same_forms p q r link response receipt one two n =
     elim (either_number n link.0 (nat_cmp n link.0) refl) [
@@ -146,3 +179,95 @@ step-made p e h = ap (λ (o : Option Refusal). step_unless o p e) h
 
 pub step-refused : (p : PresentValue) (e : Edit) (r : Refusal) → reply p e ≡ Some r → step p e ≡ p
 step-refused p e r h = ap (λ (o : Option Refusal). step_unless o p e) h
+
+-- ---- withdrawals
+
+-- withdrawing a session that is absent is refused, and there is nothing to take out
+step-withdrawn : (p : PresentValue) (s : SessionId) (o : Option Session) → session_of p s.0 ≡ o → step_unless (no_session o) p (Withdraw s) ≡ change p (Withdraw s)
+step-withdrawn p s None e = ap (λ (m : FinMap nat_cmp Session). record p { sessions = m }) (sym (remove-none p.sessions s.0 e))
+step-withdrawn p s (Some there) e = refl
+
+step-withdraw : (p : PresentValue) (s : SessionId) → step p (Withdraw s) ≡ change p (Withdraw s)
+step-withdraw p s = step-withdrawn p s (session_of p s.0) refl
+
+remove-insert : {X : Type 0} (m : FinMap nat_cmp X) (k n : ℕ) (v : X) → n ≡ k → remove (insert m n v) k ≡ remove m k
+remove-insert m k n v is = same_map nat_cmp_total nat_cmp-IsAntisymmetric _ _ (λ q.
+    elim (either_number q k (nat_cmp q k) refl) [
+      | inl at ↦ subst (λ (j : ℕ). get (remove (insert m n v) k) j ≡ get (remove m k) j) (sym at) (get-removed (insert m n v) k ∙ sym (get-removed m k))
+      | inr ne ↦ get-left (insert m n v) k q ne ∙ get-elsewhere m n q v (λ at. ne (at ∙ is)) ∙ sym (get-left m k q ne)
+    ])
+
+same_number : (a b : ℕ) → a == b ≡ true → a ≡ b
+same_number a b h = grind (arith, nat_tests, h)
+
+hidden : (p : PresentValue) (s : SessionId) (e : Edit) (o : Option Refusal) → is_append_to s e ≡ true → change (step_unless o p e) (Withdraw s) ≡ change p (Withdraw s)
+hidden p s e (Some r) h = refl
+hidden p s (Append b) None h = ap (λ (m : FinMap nat_cmp Session). record p { sessions = m }) (remove-insert p.sessions s.0 b.session.0 (session_after (session_of p b.session.0) b) (same_number b.session.0 s.0 h))
+hidden p s (Withdraw t) None h = absurd (false≢true h)
+hidden p s (SetForm link response receipt) None h = absurd (false≢true h)
+
+and_parts : (a b : Bool) → a && b ≡ true → (a ≡ true) × (b ≡ true)
+and_parts true true h = (refl, refl)
+and_parts true false h = absurd (false≢true h)
+and_parts false b h = absurd (false≢true h)
+
+no_trace : (p : PresentValue) (s : SessionId) (edits : List Edit) → list_all (is_append_to s) edits ≡ true → change (steps p edits) (Withdraw s) ≡ change p (Withdraw s)
+no_trace p s [] h = refl
+no_trace p s (e ∷ edits) h =
+    let parts = and_parts (is_append_to s e) (list_all (is_append_to s) edits) h in
+    no_trace (step p e) s edits parts.1 ∙ hidden p s e (reply p e) parts.0
+
+pub leaves_no_trace : LeavesNoTrace
+leaves_no_trace p s edits h = step-withdraw (steps p edits) s ∙ no_trace p s edits h ∙ sym (step-withdraw p s)
+
+pub appended_again : AreAppendedAgain
+appended_again p s edits missing h =
+    let gone : step (steps p edits) (Withdraw s) ≡ p = leaves_no_trace p s edits h ∙ step-refused p (Withdraw s) NoSession (ap no_session missing) in
+    ap (λ (q : PresentValue). steps q edits) gone
+
+-- ---- batches of different sessions
+
+left_alone : (p : PresentValue) (one two : BatchValue) → two.session.0 ≢ one.session.0 → (o : Option Refusal) → session_of (step_unless o p (Append one)) two.session.0 ≡ session_of p two.session.0
+left_alone p one two ne None = get-elsewhere p.sessions one.session.0 two.session.0 (session_after (session_of p one.session.0) one) ne
+left_alone p one two ne (Some r) = refl
+
+same_reply : (p : PresentValue) (one two : BatchValue) → two.session.0 ≢ one.session.0 → reply (step p (Append one)) (Append two) ≡ reply p (Append two)
+same_reply p one two ne = ap (λ (o : Option Session). first_of (append_refusals o two)) (left_alone p one two ne (reply p (Append one)))
+
+insert-insert : {X : Type 0} (m : FinMap nat_cmp X) (j k : ℕ) (v w : X) → k ≢ j → insert (insert m j v) k w ≡ insert (insert m k w) j v
+insert-insert m j k v w ne = same_map nat_cmp_total nat_cmp-IsAntisymmetric _ _ (λ q.
+    elim (either_number q k (nat_cmp q k) refl) [
+      | inl at ↦ subst (λ (n : ℕ). get (insert (insert m j v) k w) n ≡ get (insert (insert m k w) j v) n) (sym at) (get-here (insert m j v) k w ∙ sym (get-elsewhere (insert m k w) j k v ne ∙ get-here m k w))
+      | inr apart ↦ get-elsewhere (insert m j v) k q w apart ∙ elim (either_number q j (nat_cmp q j) refl) [
+        | inl at ↦ subst (λ (n : ℕ). get (insert m j v) n ≡ get (insert (insert m k w) j v) n) (sym at) (get-here m j v ∙ sym (get-here (insert m k w) j v))
+        | inr far ↦ get-elsewhere m j q v far ∙ sym (get-elsewhere (insert m k w) j q v far ∙ get-elsewhere m k q w apart)
+      ]
+    ])
+
+both_made : (p : PresentValue) (one two : BatchValue) → two.session.0 ≢ one.session.0 → change (change p (Append one)) (Append two) ≡ change (change p (Append two)) (Append one)
+both_made p one two ne =
+    let first : session_of (change p (Append one)) two.session.0 ≡ session_of p two.session.0 = left_alone p one two ne None in
+    let second : session_of (change p (Append two)) one.session.0 ≡ session_of p one.session.0 = left_alone p two one (λ e. ne (sym e)) None in
+    let with : FinMap nat_cmp Session → PresentValue = λ m. record p { sessions = m } in
+    ap (λ (o : Option Session). with (insert (change p (Append one)).sessions two.session.0 (session_after o two))) first
+    ∙ ap with (insert-insert p.sessions one.session.0 two.session.0 (session_after (session_of p one.session.0) one) (session_after (session_of p two.session.0) two) ne)
+    ∙ sym (ap (λ (o : Option Session). with (insert (change p (Append two)).sessions one.session.0 (session_after o one))) second)
+
+in_either_order : (p : PresentValue) (one two : BatchValue) → two.session.0 ≢ one.session.0 → (a b : Option Refusal)
+    → step_unless b (step_unless a p (Append one)) (Append two) ≡ step_unless a (step_unless b p (Append two)) (Append one)
+in_either_order p one two ne None None = both_made p one two ne
+in_either_order p one two ne None (Some r) = refl
+in_either_order p one two ne (Some q) None = refl
+in_either_order p one two ne (Some q) (Some r) = refl
+
+pub appends_commute : (p : PresentValue) (one two : BatchValue) → one.session ≢ two.session → AppendsCommute p one two
+appends_commute p one two apart =
+    let ne : two.session.0 ≢ one.session.0 = λ e. apart (λ i. record { 0 = sym e i }) in
+    let replies : reply (step p (Append one)) (Append two) ≡ reply p (Append two) = same_reply p one two ne in
+    let replies_back : reply (step p (Append two)) (Append one) ≡ reply p (Append one) = same_reply p two one (λ e. ne (sym e)) in
+    record {
+      replies = replies;
+      left = ap (λ (o : Option Refusal). step_unless o (step p (Append one)) (Append two)) replies
+          ∙ in_either_order p one two ne (reply p (Append one)) (reply p (Append two))
+          ∙ sym (ap (λ (o : Option Refusal). step_unless o (step p (Append two)) (Append one)) replies_back);
+    }

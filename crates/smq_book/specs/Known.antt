@@ -26,14 +26,14 @@ use Rattle.smq_book.specs.declared.counting.tally.Value.{Value}
 use Rattle.smq_book.specs.declared.counting.tally.Value.TheVariants as w
 use Rattle.smq_book.specs.declared.counting.tally.View.TheVariants as view
 use Rattle.smq_book.specs.declared.present.edit.Edit.{Edit}
-use Rattle.smq_book.specs.declared.present.edit.Edit.TheVariants.{Append, SetForm}
+use Rattle.smq_book.specs.declared.present.edit.Edit.TheVariants.{Append, Withdraw, SetForm}
 use Rattle.smq_book.specs.declared.present.kept.Content.{Content}
 use Rattle.smq_book.specs.declared.present.kept.Content.TheVariants as c
 use Rattle.smq_book.specs.declared.present.kept.KeptPdu.{KeptPdu}
 use Rattle.smq_book.specs.declared.present.session.Session.{Session}
 use Rattle.smq_book.specs.present.Batch.{batch_of, prepare_refusal}
 use Rattle.smq_book.specs.present.Kept.{header_of}
-use Rattle.smq_book.specs.present.Present.{PresentValue, empty, octets_of}
+use Rattle.smq_book.specs.present.Present.{PresentValue, empty, link_of, octets_of}
 use Rattle.smq_book.specs.present.Replies.{reply}
 use Rattle.smq_book.specs.present.Settings.{SettingsValue, opening_settings, opening_forms, forms_of}
 use Rattle.smq_book.specs.present.Steps.{step}
@@ -71,6 +71,22 @@ with_forms = step one_octet (SetForm (record { 0 = 1 }) Hexadecimal Decimal)
 -- that book once another octet 0 is put after the first, at 2000
 abbrev pub with_forms_and_octets : PresentValue
 with_forms_and_octets = step with_forms (one_more 1 10 FromClient (waiting 1 (0 ∷ [])) 2000)
+
+-- session 10 of link 1, with one octet 0 in each direction, under the forms of that book
+abbrev pub two_directions : PresentValue
+two_directions = record {
+  sessions = map.insert map.empty 10
+      (record { link = record { 0 = 1 }; client = handed_in 1000 (0 ∷ []); centre = handed_in 1000 (0 ∷ []) });
+  settings = with_forms.settings;
+}
+
+-- that book once session 10 is withdrawn
+abbrev pub withdrawn : PresentValue
+withdrawn = step two_directions (Withdraw (record { 0 = 10 }))
+
+-- the first octet 0 of a new session 10, of link 2, from its centre, handed in at 500
+abbrev pub anew : Edit
+anew = one_more 2 10 FromCentre (waiting 0 []) 500
 
 -- ---- PDUs
 
@@ -294,6 +310,20 @@ pub record KnownOctets : Type 0 where
   pub grown : octets_of two_octets 10 FromClient ≡ handed_in 1000 (0 ∷ []) ++ handed_in 2000 (0 ∷ [])
   pub other_direction : octets_of two_octets 10 FromCentre ≡ []
   pub stale : step one_octet (one_more 1 10 FromClient (waiting 0 []) 2000) ≡ one_octet
+
+-- What refuses a withdrawal, and what it leaves: no octet in either direction, the forms of the link, and the number of
+-- the session, which serves anew.
+pub record KnownWithdrawals : Type 0 where
+  pub of_another_number : reply two_directions (Withdraw (record { 0 = 9 })) ≡ Some r.NoSession
+  pub of_no_session : reply empty (Withdraw (record { 0 = 9 })) ≡ Some r.NoSession
+  pub made : reply two_directions (Withdraw (record { 0 = 10 })) ≡ None
+  pub client : octets_of withdrawn 10 FromClient ≡ []
+  pub centre : octets_of withdrawn 10 FromCentre ≡ []
+  pub forms : forms_of withdrawn.settings (record { 0 = 1 }) ≡ record { response = Hexadecimal; receipt = Decimal }
+  pub anew_made : reply withdrawn anew ≡ None
+  pub anew_link : link_of (step withdrawn anew) 10 ≡ Some (record { 0 = 2 })
+  pub anew_client : octets_of (step withdrawn anew) 10 FromClient ≡ []
+  pub anew_centre : octets_of (step withdrawn anew) 10 FromCentre ≡ handed_in 500 (0 ∷ [])
 
 -- The forms of a link, before and after they are set and octets are appended.
 pub record KnownForms : Type 0 where

@@ -28,9 +28,10 @@ pub use laws::pairing::{
     responses_come_in_turn,
 };
 pub use laws::present::{
-    absent_sessions_have_no_octets, batches_that_fit_are_not_refused, cutting_changes_nothing,
-    forms_are_told_apart, forms_are_verbatim_until_set, octets_are_put_after_their_direction,
-    pieces_are_refused_in_order, replies_stand_in_order, steps_are_plain_changes,
+    absent_sessions_have_no_octets, appends_of_sessions_commute, batches_that_fit_are_not_refused,
+    cutting_changes_nothing, forms_are_told_apart, forms_are_verbatim_until_set,
+    octets_are_put_after_their_direction, pieces_are_refused_in_order, replies_stand_in_order,
+    steps_are_plain_changes, withdrawals_leave_no_trace, withdrawals_of_a_known_book,
 };
 pub use laws::whole::{figures_of_a_known_book, lists_say_the_same};
 pub use present::batch::{Batch, prepare};

@@ -4,3 +4,4 @@ mod ids;
 mod receipts;
 mod scripts;
 mod sizes;
+mod withdrawals;

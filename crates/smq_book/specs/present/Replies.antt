@@ -1,13 +1,13 @@
 -- What refuses an edit: its refusals in the order in which they are tested, of which the first that holds is told. Who
 -- adds one puts it at the place at which the code tests it; what a piece alone decides stands in Batch.
-use Rattle.std.specs.Prelude.{◌≡◌, ◌≤◌, ◌==◌, not, nat_lt, List, [], ◌∷◌, length, Option, Some, None}
+use Rattle.std.specs.Prelude.{◌≡◌, ◌≤◌, ◌==◌, not, nat_lt, is_none, List, [], ◌∷◌, length, Option, Some, None}
 use Rattle.smq_kit.specs.declared.names.LinkId.{LinkId}
 use Rattle.smq_kit.specs.declared.refusal.Refusal.{Refusal}
-use Rattle.smq_kit.specs.declared.refusal.Refusal.TheVariants.{OtherLink, OutOfStep, Backward}
+use Rattle.smq_kit.specs.declared.refusal.Refusal.TheVariants.{OtherLink, OutOfStep, Backward, NoSession}
 use Rattle.smq_frame.specs.Stream.{Octet, values}
 use Rattle.smq_frame.specs.Tail.{tails_equal, tail_of}
 use Rattle.smq_book.specs.declared.present.edit.Edit.{Edit}
-use Rattle.smq_book.specs.declared.present.edit.Edit.TheVariants.{Append, SetForm}
+use Rattle.smq_book.specs.declared.present.edit.Edit.TheVariants.{Append, Withdraw, SetForm}
 use Rattle.smq_book.specs.declared.present.session.Session.{Session}
 use Rattle.smq_book.specs.present.Refusals.{first_of, refused_if}
 use Rattle.smq_book.specs.present.Batch.{BatchValue}
@@ -38,9 +38,14 @@ abbrev pub append_refusals : Option Session → BatchValue → List (Option Refu
 append_refusals session batch =
     other_link session batch ∷ stream_refusals (octets_in batch.dir session) batch
 
+-- the session that is to be withdrawn isn't present
+abbrev pub no_session : Option Session → Option Refusal
+no_session session = refused_if (is_none session) NoSession
+
 -- the first refusal of an edit that holds, want of memory aside
 abbrev pub reply : PresentValue → Edit → Option Refusal
 reply p (Append batch) = first_of (append_refusals (session_of p batch.session.0) batch)
+reply p (Withdraw session) = no_session (session_of p session.0)
 reply p (SetForm link response receipt) = None
 
 -- A batch goes after its direction: its session is present under no other link, its tail is the direction's, and its

@@ -1,14 +1,16 @@
 -- What an edit leaves present.
-use Rattle.std.specs.Prelude.{◌≡◌, ◌≢◌, ℕ, List, [], ◌++◌, fold, Option, Some, None, unwrap_or}
+use Rattle.std.specs.Prelude.{◌≡◌, ◌≢◌, ◌==◌, ℕ, Bool, true, false, List, [], ◌++◌, fold, Option, Some, None, unwrap_or}
 use Rattle.std.specs.FinMap as map
+use Rattle.std.specs.List.{list_all}
 use Rattle.smq_kit.specs.declared.form.Form.{Form}
 use Rattle.smq_kit.specs.declared.names.LinkId.{LinkId}
+use Rattle.smq_kit.specs.declared.names.SessionId.{SessionId}
 use Rattle.smq_kit.specs.declared.place.Dir.{Dir}
 use Rattle.smq_kit.specs.declared.place.Dir.TheVariants.{FromClient, FromCentre}
 use Rattle.smq_kit.specs.declared.refusal.Refusal.{Refusal}
 use Rattle.smq_frame.specs.Stream.{Octet, handed_in}
 use Rattle.smq_book.specs.declared.present.edit.Edit.{Edit}
-use Rattle.smq_book.specs.declared.present.edit.Edit.TheVariants.{Append, SetForm}
+use Rattle.smq_book.specs.declared.present.edit.Edit.TheVariants.{Append, Withdraw, SetForm}
 use Rattle.smq_book.specs.declared.present.session.Session.{Session}
 use Rattle.smq_book.specs.present.Batch.{BatchValue}
 use Rattle.smq_book.specs.declared.present.forms.Forms.{Forms}
@@ -36,6 +38,7 @@ with_forms s link forms = record s { forms = map.insert s.forms link.0 forms }
 abbrev pub change : PresentValue → Edit → PresentValue
 change p (Append batch) =
     record p { sessions = map.insert p.sessions batch.session.0 (session_after (session_of p batch.session.0) batch) }
+change p (Withdraw session) = record p { sessions = map.remove p.sessions session.0 }
 change p (SetForm link response receipt) =
     record p { settings = with_forms p.settings link (record { response = response; receipt = receipt }) }
 
@@ -63,8 +66,40 @@ pub record Appends (old new : PresentValue) (batch : BatchValue) : Type 0 where
   pub elsewhere : (number : ℕ) → number ≢ batch.session.0 → session_of new number ≡ session_of old number
   pub rest : new ≡ record old { sessions = new.sessions }
 
+-- The session is absent, with both its directions. Nothing else changes: no other session, and nothing that is set.
+pub record Withdraws (old new : PresentValue) (session : SessionId) : Type 0 where
+  pub absent : session_of new session.0 ≡ None
+  pub elsewhere : (number : ℕ) → number ≢ session.0 → session_of new number ≡ session_of old number
+  pub rest : new ≡ record old { sessions = new.sessions }
+
 -- The link has these forms. Nothing else changes.
 pub record SetsForm (old new : PresentValue) (link : LinkId) (response receipt : Form) : Type 0 where
   pub there : set_forms_of new.settings link.0 ≡ Some (record { response = response; receipt = receipt })
   pub elsewhere : (number : ℕ) → number ≢ link.0 → set_forms_of new.settings number ≡ set_forms_of old.settings number
   pub rest : new ≡ record old { settings = record old.settings { forms = new.settings.forms } }
+
+-- ---- edits of one session, and of two
+
+-- whether an edit puts octets into a session
+abbrev pub is_append_to : SessionId → Edit → Bool
+is_append_to session (Append batch) = batch.session.0 == session.0
+is_append_to session (Withdraw other) = false
+is_append_to session (SetForm link response receipt) = false
+
+-- What was appended to a session before it is withdrawn leaves nothing: what is present is then what withdrawing it at
+-- first leaves.
+abbrev pub LeavesNoTrace : Type 0
+LeavesNoTrace = (p : PresentValue) (session : SessionId) (edits : List Edit)
+    → list_all (is_append_to session) edits ≡ true
+    → step (steps p edits) (Withdraw session) ≡ step p (Withdraw session)
+
+-- Octets that are appended to an absent session, withdrawn and appended again leave what they left.
+abbrev pub AreAppendedAgain : Type 0
+AreAppendedAgain = (p : PresentValue) (session : SessionId) (edits : List Edit)
+    → session_of p session.0 ≡ None → list_all (is_append_to session) edits ≡ true
+    → steps (step (steps p edits) (Withdraw session)) edits ≡ steps p edits
+
+-- Batches of different sessions are answered and leave what they do, whichever of them is made first.
+pub record AppendsCommute (p : PresentValue) (one two : BatchValue) : Type 0 where
+  pub replies : reply (step p (Append one)) (Append two) ≡ reply p (Append two)
+  pub left : step (step p (Append one)) (Append two) ≡ step (step p (Append two)) (Append one)

@@ -1,26 +1,31 @@
 //! Laws of replies and steps: what refuses an edit, and what it leaves.
-ghost use Rattle.std.specs.Prelude.{◌≡◌, ◌<◌, ◌↔◌, ◌++◌, [], ℕ, List, length, Some, None, IsTrue};
+ghost use Rattle.std.specs.Prelude.{◌≡◌, ◌≢◌, ◌<◌, ◌↔◌, ◌++◌, [], ℕ, List, length, Some, None, IsTrue};
 ghost use Rattle.smq_kit.specs.declared.form.Form.{Form};
 ghost use Rattle.smq_kit.specs.declared.names.LinkId.{LinkId};
+ghost use Rattle.smq_kit.specs.declared.names.SessionId.{SessionId};
 ghost use Rattle.smq_kit.specs.declared.refusal.Refusal.{Refusal};
 ghost use Rattle.smq_kit.specs.declared.place.Dir.{Dir};
 ghost use Rattle.smq_book.specs.declared.present.edit.Edit.{Edit};
-ghost use Rattle.smq_book.specs.declared.present.edit.Edit.TheVariants.{Append, SetForm};
+ghost use Rattle.smq_book.specs.declared.present.edit.Edit.TheVariants.{Append, Withdraw, SetForm};
 ghost use Rattle.smq_book.specs.present.Batch.{BatchValue, with_octets, continued};
-ghost use Rattle.smq_book.specs.Known.{KnownForms, KnownOctets, KnownPieces, KnownReplies, waiting};
+ghost use Rattle.smq_book.specs.Known.{KnownForms, KnownOctets, KnownPieces, KnownReplies, KnownWithdrawals, waiting};
 ghost use Rattle.smq_book.specs.present.Present.{PresentValue, session_of, tail_in};
 ghost use Rattle.smq_book.specs.present.Replies.{GoesAfter, reply};
-ghost use Rattle.smq_book.specs.present.Steps.{Appends, SetsForm, change, step};
+ghost use Rattle.smq_book.specs.present.Steps.{Appends, AppendsCommute, AreAppendedAgain, LeavesNoTrace, SetsForm, Withdraws, change, step};
 ghost use Rattle.smq_book.specs.declared.present.forms.Forms.{Forms};
 ghost use Rattle.smq_book.specs.within.Equal.{forms_eq};
 
-/// An append changes what `Appends` says, and setting forms what `SetsForm` says: nothing else. A refused edit is no
-/// step.
+/// An append changes what `Appends` says, a withdrawal what `Withdraws` says, and setting forms what `SetsForm` says:
+/// nothing else. A refused edit is no step.
 pub fn steps_are_plain_changes()
     ensures appends { (p : PresentValue) (batch : BatchValue) →
         Appends p (change p (Append batch)) batch }
     ensures alone { (p q : PresentValue) (batch : BatchValue) →
         Appends p q batch → q ≡ change p (Append batch) }
+    ensures withdraws { (p : PresentValue) (session : SessionId) →
+        Withdraws p (change p (Withdraw session)) session }
+    ensures alone_withdrawn { (p q : PresentValue) (session : SessionId) →
+        Withdraws p q session → q ≡ change p (Withdraw session) }
     ensures sets_form { (p : PresentValue) (link : LinkId) (response receipt : Form) →
         SetsForm p (change p (SetForm link response receipt)) link response receipt }
     ensures alone_form { (p q : PresentValue) (link : LinkId) (response receipt : Form) →
@@ -65,6 +70,19 @@ pub fn cutting_changes_nothing()
         ≡ tail_in (change p (Append (with_octets batch (first ++ second)))) batch.session.0 batch.dir }
 {}
 
+/// A withdrawn session leaves no trace: whatever was appended to it, what is present then is what withdrawing it at first
+/// leaves, so its octets can be appended again and leave what they left.
+pub fn withdrawals_leave_no_trace()
+    ensures trace { LeavesNoTrace }
+    ensures again { AreAppendedAgain }
+{}
+
+/// Batches of different sessions are answered and leave the same, whichever is made first.
+pub fn appends_of_sessions_commute()
+    ensures { (p : PresentValue) (one two : BatchValue) →
+        one.session ≢ two.session → AppendsCommute p one two }
+{}
+
 /// Replies on a book of one octet: another link comes before a stale tail, and that before an earlier moment.
 pub fn replies_stand_in_order()
     ensures { KnownReplies }
@@ -78,6 +96,11 @@ pub fn pieces_are_refused_in_order()
 /// What an append leaves of the book of one octet.
 pub fn octets_are_put_after_their_direction()
     ensures { KnownOctets }
+{}
+
+/// What a withdrawal leaves of a book of one session with an octet in each direction.
+pub fn withdrawals_of_a_known_book()
+    ensures { KnownWithdrawals }
 {}
 
 /// The forms of a link are both verbatim until they are set. This leaves other links and octets, and an append leaves

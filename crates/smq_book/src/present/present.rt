@@ -8,7 +8,7 @@ ghost use Rattle.std.specs.Map.Iter.{ShowsInOrder, deref_pair};
 ghost use Rattle.smq_book.specs.within.InOrder.{sessions_in};
 ghost use Rattle.smq_book.specs.present.Present.{empty, session_of};
 ghost use Rattle.smq_book.specs.present.Refusals.{IsReply, first_of};
-ghost use Rattle.smq_book.specs.present.Replies.{append_refusals, reply};
+ghost use Rattle.smq_book.specs.present.Replies.{append_refusals, no_session, reply};
 ghost use Rattle.smq_book.specs.present.Steps.{session_after, change};
 
 use crate::present::settings::Settings;
@@ -86,6 +86,14 @@ impl Present {
         append_in(alloc, &mut self.sessions, batch)
     }
 
+    /// Takes a session back, with both its directions. A refusal changes nothing.
+    pub(crate) fn withdraw(&mut self, session: SessionId) -> Result<(), Refusal>
+        ensures { IsReply (reply self.old (Edit.Withdraw session)) result
+            (self.new ≡ change self.old (Edit.Withdraw session)) (self.new ≡ self.old) }
+    {
+        remove_session(&mut self.sessions, session.0)
+    }
+
     /// Sets the forms of a link's message ids. A refusal changes nothing.
     pub(crate) fn set_forms(&mut self, link: LinkId, forms: Forms) -> Result<(), Refusal>
         ensures { let edit = Edit.SetForm link forms.response forms.receipt in
@@ -146,5 +154,17 @@ fn insert_session(
     match sessions.insert(number, session) {
         Ok(_) => Ok(()),
         Err(_) => Err(Refusal::Memory),
+    }
+}
+
+/// Takes a session out. A refusal changes nothing.
+fn remove_session(sessions: &mut BTreeMap<u64, Session>, number: u64) -> Result<(), Refusal>
+    ensures { IsReply (no_session (map.get (sessions_in sessions.old) number)) result
+        (sessions_in sessions.new ≡ map.remove (sessions_in sessions.old) number)
+        (sessions_in sessions.new ≡ sessions_in sessions.old) }
+{
+    match sessions.remove(&number) {
+        Some(_) => Ok(()),
+        None => Err(Refusal::NoSession),
     }
 }

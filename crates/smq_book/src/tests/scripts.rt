@@ -1,9 +1,9 @@
 //! Scripts that are played on a book, and the facts and rows that they give.
 use crate::join::facts::facts_of;
-use crate::tests::{counts, ids, receipts};
+use crate::tests::{counts, ids, receipts, withdrawals};
 use crate::*;
 use bytes::Bytes;
-use smq_kit::{Dir, Form, LinkId, Moment, Place, SessionId};
+use smq_kit::{Dir, Form, LinkId, Moment, Place, Refusal, SessionId};
 use smq_receipt::{ErrorCode, ErrorText};
 use std::alloc::{AllocError, Global};
 use std::process::Abort;
@@ -167,6 +167,12 @@ pub(crate) enum Step {
     Client(u32, u64, Sent),
     /// What the centre sends: the session, the moment.
     Centre(u32, u64, Sent),
+    /// What the client of a session sends under a link: the link, the session, the moment.
+    Under(u32, u32, u64, Sent),
+    /// A session is withdrawn.
+    Withdraw(u32),
+    /// A session isn't present, so its withdrawal is refused.
+    Absent(u32),
     /// The forms of link 1: in responses and in receipts.
     Forms(Form, Form),
     /// The facts of the messages.
@@ -220,13 +226,13 @@ pub(crate) fn append(
 fn send(
     alloc: Global,
     book: &mut Book,
+    link: u32,
     session: u32,
     dir: Dir,
     moment: u64,
     sent: Sent,
 ) -> Result<(), Fail> {
     let octets = octets_of(alloc, sent)?;
-    let link = session / 10;
     append(
         alloc,
         book,
@@ -236,6 +242,11 @@ fn send(
         moment,
         octets.as_slice(),
     )
+}
+
+fn withdraw(book: &mut Book, session: u32) -> Result<(), Refusal> {
+    let session = SessionId(session as u64);
+    book.apply(Edit::Withdraw { session })
 }
 
 fn set_forms(book: &mut Book, response: Form, receipt: Form) -> Result<(), Fail> {
@@ -258,10 +269,33 @@ fn play(
     for step in script {
         match *step {
             Step::Client(session, moment, sent) => {
-                send(alloc, book, session, Dir::FromClient, moment, sent)?
+                send(
+                    alloc,
+                    book,
+                    session / 10,
+                    session,
+                    Dir::FromClient,
+                    moment,
+                    sent,
+                )?
             },
             Step::Centre(session, moment, sent) => {
-                send(alloc, book, session, Dir::FromCentre, moment, sent)?
+                send(
+                    alloc,
+                    book,
+                    session / 10,
+                    session,
+                    Dir::FromCentre,
+                    moment,
+                    sent,
+                )?
+            },
+            Step::Under(link, session, moment, sent) => {
+                send(alloc, book, link, session, Dir::FromClient, moment, sent)?
+            },
+            Step::Withdraw(session) => withdraw(book, session)?,
+            Step::Absent(session) => {
+                assert_eq!(rt; withdraw(book, session), Err(Refusal::NoSession), "{what}")
             },
             Step::Forms(response, receipt) => set_forms(book, response, receipt)?,
             Step::Facts(wanted) => assert_facts(rt, alloc, book, what, wanted)?,
@@ -425,5 +459,6 @@ fn each_script_gives_its_facts_and_rows(rt: HostRuntime) -> Result<(), Fail> {
     play_table(&rt, alloc, receipts::SEVERAL)?;
     play_table(&rt, alloc, receipts::ERRORS)?;
     play_table(&rt, alloc, counts::FACTS)?;
-    play_table(&rt, alloc, counts::ROWS)
+    play_table(&rt, alloc, counts::ROWS)?;
+    play_table(&rt, alloc, withdrawals::WITHDRAWALS)
 }

@@ -67,14 +67,15 @@ impl Book {
 
     /// Makes an edit, or refuses it and changes nothing. An `Append` is refused, in order: where its session is present
     /// under another link (`OtherLink`); where its tail isn't that of its direction (`OutOfStep`); where its moment is
-    /// below the direction's last (`Backward`); and for want of memory (`Memory`). A `SetForm` is refused for want of
-    /// memory alone.
+    /// below the direction's last (`Backward`); and for want of memory (`Memory`). A `Withdraw` is refused where its
+    /// session isn't present (`NoSession`), and a `SetForm` for want of memory alone.
     pub fn apply(&mut self, edit: Edit) -> Result<(), Refusal>
         ensures { IsReply (reply self.old.present edit) result
             (self.new.present ≡ step self.old.present edit) (self.new.present ≡ self.old.present) }
     {
         match edit {
             Edit::Append { batch } => self.present.append(self.alloc, batch),
+            Edit::Withdraw { session } => self.present.withdraw(session),
             Edit::SetForm {
                 link,
                 response,

@@ -1,5 +1,14 @@
-use Rattle.smq_book.proofs.Changes.{appends-change, appends-alone, sets-change, sets-alone, step-made, step-refused}
+use Rattle.smq_book.proofs.Changes.{appends-change, appends-alone, withdraws-change, withdraws-alone, sets-change, sets-alone, step-made, step-refused}
 use Rattle.smq_book.proofs.laws.present.steps_are_plain_changes.Goals as goal
 
 pub returns : goal.returns
-returns c = record { appends = appends-change; alone = appends-alone; sets_form = sets-change; alone_form = sets-alone; made = step-made; refused = step-refused }
+returns c = record {
+  appends = appends-change;
+  alone = appends-alone;
+  withdraws = withdraws-change;
+  alone_withdrawn = withdraws-alone;
+  sets_form = sets-change;
+  alone_form = sets-alone;
+  made = step-made;
+  refused = step-refused;
+}

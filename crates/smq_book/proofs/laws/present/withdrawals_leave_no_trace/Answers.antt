@@ -1,0 +1,8 @@
+use Rattle.smq_book.proofs.Changes.{leaves_no_trace, appended_again}
+use Rattle.smq_book.proofs.laws.present.withdrawals_leave_no_trace.Goals as goal
+
+pub returns-clause-trace : goal.returns-clause-trace
+returns-clause-trace c = leaves_no_trace
+
+pub returns-clause-again : goal.returns-clause-again
+returns-clause-again c = appended_again
