@@ -1,0 +1,10 @@
+pub mod Keys
+pub mod Lists
+pub mod Turned
+pub mod Standing
+pub mod Order
+pub mod Steps
+pub mod Searched
+pub mod Ranked
+pub mod Grown
+pub mod Nexts

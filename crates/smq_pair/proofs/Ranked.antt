@@ -1,0 +1,157 @@
+-- The pairs that are found are those by rank, each at both of its places.
+use Rattle.std.proofs.Common.{◌≡◌, ℕ, inl, inr, Bool, true, false, cond, List, take, Option, Some, None, refl, sym, ap, ◌∙◌, subst, arith}
+use Rattle.std.specs.Prelude.{◌==◌, option_map, option_and_then, slice_get}
+use Rattle.std.proofs.lemmas.Bool.Decides.{nat_tests}
+use Rattle.std.proofs.lemmas.Option.{slice_get-map}
+use Rattle.smq_kit.specs.declared.place.Dir.{Dir}
+use Rattle.smq_kit.specs.declared.place.Place.{Place}
+use Rattle.smq_pdu.specs.Header.{Header}
+use Rattle.smq_pdu.specs.Pairing.{IsPair, is_request, is_response, is_request_of, nth_place, request_rank, response_rank, response_place}
+use Rattle.smq_pdu.proofs.Pairs.{stands, found, finds_pairs, finds_each}
+use Rattle.smq_pair.specs.declared.pairing.Pair.{Pair}
+use Rattle.smq_pair.specs.declared.entry.Side.TheVariants.{Request, Response}
+use Rattle.smq_pair.specs.Pairing.{PlacedHeader, PairingValue, pdus_from, opposite, headers, pair_of, pair_at}
+use Rattle.smq_pair.specs.Growth.{AreInOrder}
+use Rattle.smq_pair.specs.Laws.{IsPairByRank, IsFoundByRank, FindsPairs, FindsEachPair, HasTwoPlaces}
+use Rattle.smq_pair.specs.within.Turns.{headers_from, index_at, partner, partner_of, turn_after}
+use Rattle.smq_pair.proofs.Lists.{some-is, never, one_of}
+use Rattle.smq_pair.proofs.Turned.{opposite-back, side-request, side-response, not-request, and_first, and_second, and_both, equal_is}
+use Rattle.smq_pair.proofs.Standing.{there-or-not, pair_with, pair_either, pair-here, pair-nowhere}
+
+-- ---- partners by rank
+
+pub header-at : (ps : List PlacedHeader) (i : ℕ) (p : PlacedHeader) → slice_get ps i ≡ Some p → slice_get (headers ps) i ≡ Some p.header
+header-at ps i p at = slice_get-map (λ (p : PlacedHeader). p.header) ps i ∙ ap (option_map (λ (p : PlacedHeader). p.header)) at
+
+-- the index of a request's partner is that of its response
+pub partner-request : (v : PairingValue) (d : Dir) (i : ℕ) (h : Header) → is_request h ≡ true
+    → partner_of v d i h ≡ response_place (headers_from (opposite d) v) h.seq (request_rank (headers_from d v) i h.seq)
+partner-request v d i h e =
+    ap (λ s. option_and_then (λ t. index_at v (partner t)) (option_map (turn_after (take i (headers_from d v))) (option_map (λ side. record { dir = d; side = side; seq = h.seq }) s))) (side-request h e)
+
+-- and the index of a response's is that of its request
+pub partner-response : (v : PairingValue) (d : Dir) (i : ℕ) (h : Header) → is_response h ≡ true
+    → partner_of v d i h ≡ nth_place (is_request_of h.seq) (headers_from (opposite d) v) (response_rank (headers_from d v) i h.seq)
+partner-response v d i h e =
+    ap (λ s. option_and_then (λ t. index_at v (partner t)) (option_map (turn_after (take i (headers_from d v))) (option_map (λ side. record { dir = d; side = side; seq = h.seq }) s))) (side-response h e)
+
+-- what is neither has none
+partner-neither : (v : PairingValue) (d : Dir) (i : ℕ) (h : Header) → is_request h ≡ false → is_response h ≡ false → partner_of v d i h ≡ None
+partner-neither v d i h e f =
+    (λ x. option_and_then (λ t. index_at v (partner t)) (option_map (turn_after (take i (headers_from d v))) (option_map (λ side. record { dir = d; side = side; seq = h.seq }) (cond (e x) (Some Request) (cond (f x) (Some Response) None)))))
+
+-- ---- each pair by rank is found
+
+module _ (v : PairingValue) (d : Dir) (i j : ℕ) (request response : PlacedHeader) (o : AreInOrder v) (by : IsPairByRank v d i j request response) where
+  at-request : pair_at v request.place ≡ Some (pair_of request response)
+  at-request =
+      pair-here v d i request o by.request_at
+      ∙ ap (pair_with v d request) (partner-request v d i request.header by.by_rank.is_request ∙ finds_each (headers_from d v) (headers_from (opposite d) v) i j request.header response.header by.by_rank)
+      ∙ ap (option_map (pair_either request)) by.response_at
+      ∙ ap (λ b. Some (cond b (pair_of request response) (pair_of response request))) by.by_rank.is_request
+
+  request_found : nth_place (is_request_of response.header.seq) (headers_from d v) (response_rank (headers_from (opposite d) v) j response.header.seq) ≡ Some i
+  request_found =
+      let same : request.header.seq ≡ response.header.seq = by.by_rank.seq in
+      let itself : (request.header.seq == request.header.seq) ≡ true = grind (arith, nat_tests) in
+      ap (λ n. nth_place (is_request_of response.header.seq) (headers_from d v) n) (sym by.by_rank.rank)
+      ∙ ap (λ n. nth_place (is_request_of n) (headers_from d v) (request_rank (headers_from d v) i request.header.seq)) (sym same)
+      ∙ found (is_request_of request.header.seq) (headers_from d v) i request.header by.by_rank.request_at (and_both _ _ by.by_rank.is_request itself)
+
+  at-response : pair_at v response.place ≡ Some (pair_of request response)
+  at-response =
+      pair-here v (opposite d) j response o by.response_at
+      ∙ ap (pair_with v (opposite d) response) (
+      partner-response v (opposite d) j response.header by.by_rank.is_response
+      ∙ ap (λ (d' : Dir). nth_place (is_request_of response.header.seq) (headers_from d' v) (response_rank (headers_from (opposite d) v) j response.header.seq)) (opposite-back d)
+      ∙ request_found)
+      ∙ ap (λ (d' : Dir). option_map (pair_either response) (slice_get (pdus_from d' v) i)) (opposite-back d)
+      ∙ ap (option_map (pair_either response)) by.request_at
+      ∙ ap (λ b. Some (cond b (pair_of response request) (pair_of request response))) (not-request response.header by.by_rank.is_response)
+
+pub finds-each-pair : FindsEachPair
+finds-each-pair v d i j request response o by = (at-request v d i j request response o by, at-response v d i j request response o by)
+
+-- ---- what is found is a pair by rank
+
+module _ (v : PairingValue) (d : Dir) (i : ℕ) (p : PlacedHeader) (at : slice_get (pdus_from d v) i ≡ Some p) where
+  -- the PDU is the request
+  of-request : (j : ℕ) (r : PlacedHeader) → is_request p.header ≡ true → partner_of v d i p.header ≡ Some j → slice_get (pdus_from (opposite d) v) j ≡ Some r → IsPairByRank v d i j p r
+  of-request j r e is there =
+      let pair = finds_pairs (headers_from d v) (headers_from (opposite d) v) i j p.header (header-at (pdus_from d v) i p at) e (sym (partner-request v d i p.header e) ∙ is) in
+      let same : pair.0 ≡ r.header = one_of (slice_get (headers_from (opposite d) v) j) pair.0 r.header (pair.1).response_at (header-at (pdus_from (opposite d) v) j r there) in
+      record { request_at = at; response_at = there; by_rank = subst (λ (h : Header). IsPair (headers_from d v) (headers_from (opposite d) v) i j p.header h) same pair.1 }
+
+  -- the PDU is the response
+  of-response : (j : ℕ) (r : PlacedHeader) → is_response p.header ≡ true → partner_of v d i p.header ≡ Some j → slice_get (pdus_from (opposite d) v) j ≡ Some r → IsPairByRank v (opposite d) j i r p
+  of-response j r e is there =
+      let s = stands (is_request_of p.header.seq) (headers_from (opposite d) v) (response_rank (headers_from d v) i p.header.seq) j (sym (partner-response v d i p.header e) ∙ is) in
+      let same : s.element ≡ r.header = one_of (slice_get (headers_from (opposite d) v) j) s.element r.header s.there (header-at (pdus_from (opposite d) v) j r there) in
+      let passes : is_request_of p.header.seq r.header ≡ true = ap (is_request_of p.header.seq) (sym same) ∙ s.passes in
+      let seq : r.header.seq ≡ p.header.seq = equal_is r.header.seq p.header.seq (and_second (is_request r.header) _ passes) in
+      let back : slice_get (pdus_from (opposite (opposite d)) v) i ≡ Some p = ap (λ (d' : Dir). slice_get (pdus_from d' v) i) (opposite-back d) ∙ at in
+      record {
+        request_at = there;
+        response_at = back;
+        by_rank = record {
+          request_at = header-at (pdus_from (opposite d) v) j r there;
+          response_at = header-at (pdus_from (opposite (opposite d)) v) i p back;
+          is_request = and_first _ _ passes;
+          is_response = e;
+          seq = seq;
+          rank =
+              ap (λ n. request_rank (headers_from (opposite d) v) j n) seq ∙ s.before
+              ∙ ap (λ (d' : Dir). response_rank (headers_from d' v) i p.header.seq) (sym (opposite-back d));
+        };
+      }
+
+  by_partner : (pair : Pair) (a b : Bool) → is_request p.header ≡ a → is_response p.header ≡ b → (q : Option ℕ) → partner_of v d i p.header ≡ q → pair_with v d p q ≡ Some pair → IsFoundByRank v p.place pair
+  by_partner pair a b e f None is h = absurd cc
+  by_partner pair a b e f (Some j) is h = by_other (slice_get (pdus_from (opposite d) v) j) refl a b e f h
+    where
+      by_other : (x : Option PlacedHeader) → slice_get (pdus_from (opposite d) v) j ≡ x → (a b : Bool) → is_request p.header ≡ a → is_response p.header ≡ b
+          → option_map (pair_either p) x ≡ Some pair → IsFoundByRank v p.place pair
+      by_other None there a b e f h = absurd cc
+      by_other (Some r) there true b e f h = record {
+        dir = d;
+        i = i;
+        j = j;
+        request = p;
+        response = r;
+        by_rank = of-request j r e is there;
+        is = sym (some-is (pair_either p r) pair h) ∙ ap (λ b. cond b (pair_of p r) (pair_of r p)) e;
+        place = inl refl;
+      }
+      by_other (Some r) there false true e f h = record {
+        dir = opposite d;
+        i = j;
+        j = i;
+        request = r;
+        response = p;
+        by_rank = of-response j r f is there;
+        is = sym (some-is (pair_either p r) pair h) ∙ ap (λ b. cond b (pair_of p r) (pair_of r p)) e;
+        place = inr refl;
+      }
+      by_other (Some r) there false false e f h = never (partner_of v d i p.header) j (partner-neither v d i p.header e f) is
+
+  pub found-by-rank : (pair : Pair) → AreInOrder v → pair_at v p.place ≡ Some pair → IsFoundByRank v p.place pair
+  found-by-rank pair o e =
+      by_partner pair (is_request p.header) (is_response p.header) refl refl (partner_of v d i p.header) refl (sym (pair-here v d i p o at) ∙ e)
+
+pub finds-pairs : FindsPairs
+finds-pairs v q pair o e = elim (there-or-not (pdus_from q.dir v) q) [
+  | inl t ↦ subst (λ (q : Place). IsFoundByRank v q pair) t.is (found-by-rank v q.dir t.index t.pdu t.at pair o (ap (pair_at v) t.is ∙ e))
+  | inr none ↦ never (pair_at v q) pair (pair-nowhere v q none) e
+]
+
+-- ---- and stands at two places
+
+pub has-two-places : HasTwoPlaces
+has-two-places v q pair o e =
+    let f = finds-pairs v q pair o e in
+    let each = finds-each-pair v f.dir f.i f.j f.request f.response o f.by_rank in
+    record {
+      at_request = ap (λ (x : Pair). pair_at v x.request) f.is ∙ each.0 ∙ ap Some (sym f.is);
+      at_response = ap (λ (x : Pair). pair_at v x.response) f.is ∙ each.1 ∙ ap Some (sym f.is);
+      own = elim f.place [ inl h ↦ inl (h ∙ ap (λ (x : Pair). x.request) (sym f.is)) | inr h ↦ inr (h ∙ ap (λ (x : Pair). x.response) (sym f.is)) ];
+    }

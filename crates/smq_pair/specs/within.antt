@@ -1,0 +1,4 @@
+-- What the code keeps, which no public contract names.
+pub mod Turns
+pub mod Kept
+pub mod Maps

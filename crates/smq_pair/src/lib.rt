@@ -1,0 +1,18 @@
+//! Which response answers which request, as the PDUs of a session come in, whichever of its directions is read first.
+#![tactic(auto)]
+
+mod entry;
+mod laws;
+mod pairing;
+mod places;
+mod streams;
+#[cfg(test)]
+mod tests;
+mod turns;
+
+pub use laws::{
+    known_pairings, order_of_directions_is_idle, pairs_are_by_rank, pairs_grow_by_one,
+    pairs_have_two_places,
+};
+pub use pairing::{Pair, Pairing};
+pub use places::Places;

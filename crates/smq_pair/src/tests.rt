@@ -1,0 +1,306 @@
+//! Sessions as real traffic has them, whose pairs are known by hand, and want of memory.
+use crate::{Pair, Pairing, Places};
+use smq_kit::{Dir, Place, SessionId};
+use std::alloc::{AllocError, Global};
+use std::process::Abort;
+use std::test::Fail;
+
+const CLIENT: Dir = Dir::FromClient;
+
+const CENTRE: Dir = Dir::FromCentre;
+
+const SUBMIT_SM: u32 = 0x0000_0004;
+
+const UNBIND: u32 = 0x0000_0006;
+
+const BIND_TRANSCEIVER: u32 = 0x0000_0009;
+
+const OUTBIND: u32 = 0x0000_000b;
+
+const ENQUIRE_LINK: u32 = 0x0000_0015;
+
+const ALERT_NOTIFICATION: u32 = 0x0000_0102;
+
+const GENERIC_NACK: u32 = 0x8000_0000;
+
+const SUBMIT_SM_RESP: u32 = 0x8000_0004;
+
+const UNBIND_RESP: u32 = 0x8000_0006;
+
+const BIND_TRANSCEIVER_RESP: u32 = 0x8000_0009;
+
+const ENQUIRE_LINK_RESP: u32 = 0x8000_0015;
+
+/// A PDU: its direction, command_id, sequence_number and command_status.
+type Pdu = (Dir, u32, u32, u32);
+
+struct Session {
+    fact: &'static str,
+    /// The n-th stands at the offset 16 n of its direction.
+    pdus: &'static [Pdu],
+    /// A request's number, its response's, and whether that agrees.
+    pairs: &'static [(usize, usize, bool)],
+    waiting: &'static [usize],
+    strays: &'static [usize],
+}
+
+static SESSIONS: [Session; 8] = [
+    Session {
+        fact: "a window of ten requests is answered out of order",
+        pdus: &[
+            (CLIENT, SUBMIT_SM, 1, 0),
+            (CLIENT, SUBMIT_SM, 2, 0),
+            (CLIENT, SUBMIT_SM, 3, 0),
+            (CLIENT, SUBMIT_SM, 4, 0),
+            (CLIENT, SUBMIT_SM, 5, 0),
+            (CLIENT, SUBMIT_SM, 6, 0),
+            (CLIENT, SUBMIT_SM, 7, 0),
+            (CLIENT, SUBMIT_SM, 8, 0),
+            (CLIENT, SUBMIT_SM, 9, 0),
+            (CLIENT, SUBMIT_SM, 10, 0),
+            (CENTRE, SUBMIT_SM_RESP, 3, 0),
+            (CENTRE, SUBMIT_SM_RESP, 1, 0),
+            (CENTRE, SUBMIT_SM_RESP, 2, 0x58),
+            (CENTRE, SUBMIT_SM_RESP, 10, 0),
+            (CENTRE, SUBMIT_SM_RESP, 9, 0),
+            (CENTRE, SUBMIT_SM_RESP, 4, 0),
+            (CENTRE, SUBMIT_SM_RESP, 5, 0),
+            (CENTRE, SUBMIT_SM_RESP, 8, 0x14),
+            (CENTRE, SUBMIT_SM_RESP, 6, 0),
+            (CENTRE, SUBMIT_SM_RESP, 7, 0),
+        ],
+        pairs: &[
+            (0, 11, true),
+            (1, 12, true),
+            (2, 10, true),
+            (3, 15, true),
+            (4, 16, true),
+            (5, 18, true),
+            (6, 19, true),
+            (7, 17, true),
+            (8, 14, true),
+            (9, 13, true),
+        ],
+        waiting: &[],
+        strays: &[],
+    },
+    Session {
+        fact: "generic_nack answers the request of its number",
+        pdus: &[
+            (CLIENT, SUBMIT_SM, 1, 0),
+            (CLIENT, 0x0000_00ff, 2, 0),
+            (CENTRE, SUBMIT_SM_RESP, 1, 0),
+            (CENTRE, GENERIC_NACK, 2, 3),
+        ],
+        pairs: &[(0, 2, true), (1, 3, true)],
+        waiting: &[],
+        strays: &[],
+    },
+    Session {
+        fact: "a session that is unbound leaves a submit_sm unanswered",
+        pdus: &[
+            (CLIENT, BIND_TRANSCEIVER, 1, 0),
+            (CENTRE, BIND_TRANSCEIVER_RESP, 1, 0),
+            (CLIENT, SUBMIT_SM, 2, 0),
+            (CLIENT, UNBIND, 3, 0),
+            (CENTRE, UNBIND_RESP, 3, 0),
+        ],
+        pairs: &[(0, 1, true), (3, 4, true)],
+        waiting: &[2],
+        strays: &[],
+    },
+    Session {
+        fact: "both sides ask enquire_link with the same numbers",
+        pdus: &[
+            (CLIENT, ENQUIRE_LINK, 1, 0),
+            (CENTRE, ENQUIRE_LINK, 1, 0),
+            (CLIENT, ENQUIRE_LINK_RESP, 1, 0),
+            (CENTRE, ENQUIRE_LINK_RESP, 1, 0),
+            (CENTRE, ENQUIRE_LINK, 2, 0),
+            (CLIENT, ENQUIRE_LINK_RESP, 2, 0),
+            (CENTRE, ENQUIRE_LINK, 3, 0),
+            (CLIENT, ENQUIRE_LINK, 3, 0),
+        ],
+        pairs: &[(0, 3, true), (1, 2, true), (4, 5, true)],
+        waiting: &[7, 6],
+        strays: &[],
+    },
+    Session {
+        fact: "numbers begin anew after 2^31 - 1",
+        pdus: &[
+            (CLIENT, SUBMIT_SM, 0x7fff_ffff, 0),
+            (CENTRE, SUBMIT_SM_RESP, 0x7fff_ffff, 0),
+            (CLIENT, SUBMIT_SM, 1, 0),
+            (CENTRE, SUBMIT_SM_RESP, 1, 8),
+            (CLIENT, SUBMIT_SM, 0x7fff_ffff, 0),
+            (CENTRE, SUBMIT_SM_RESP, 0x7fff_ffff, 0x45),
+            (CLIENT, SUBMIT_SM, 1, 0),
+        ],
+        pairs: &[(0, 1, true), (2, 3, true), (4, 5, true)],
+        waiting: &[6],
+        strays: &[],
+    },
+    Session {
+        fact: "outbind and alert_notification want no response",
+        pdus: &[
+            (CENTRE, OUTBIND, 1, 0),
+            (CLIENT, BIND_TRANSCEIVER, 1, 0),
+            (CENTRE, BIND_TRANSCEIVER_RESP, 1, 0),
+            (CENTRE, ALERT_NOTIFICATION, 2, 0),
+        ],
+        pairs: &[(1, 2, true)],
+        waiting: &[],
+        strays: &[],
+    },
+    Session {
+        fact: "a response to another command disagrees, and one of another number is a stray",
+        pdus: &[
+            (CLIENT, SUBMIT_SM, 1, 0),
+            (CENTRE, ENQUIRE_LINK_RESP, 1, 0),
+            (CENTRE, SUBMIT_SM_RESP, 5, 0),
+        ],
+        pairs: &[(0, 1, false)],
+        waiting: &[],
+        strays: &[2],
+    },
+    Session {
+        fact: "the second response to a request is that of the next request of its number",
+        pdus: &[
+            (CLIENT, SUBMIT_SM, 7, 0),
+            (CENTRE, SUBMIT_SM_RESP, 7, 0),
+            (CENTRE, SUBMIT_SM_RESP, 7, 0x58),
+            (CENTRE, SUBMIT_SM_RESP, 7, 0),
+            (CLIENT, SUBMIT_SM, 7, 0),
+        ],
+        pairs: &[(0, 1, true), (4, 2, true)],
+        waiting: &[],
+        strays: &[3],
+    },
+];
+
+/// The place of the PDU of a number, of session 1.
+fn place(dir: Dir, number: usize) -> Place {
+    Place {
+        session: SessionId(1),
+        dir,
+        offset: (number as u64).saturating_mul(16),
+    }
+}
+
+/// Adds a PDU, twice where memory was refused, which left all as it was.
+fn add(
+    rt: &impl Abort,
+    pairing: &mut Pairing,
+    at: Place,
+    pdu: Pdu,
+) -> Result<Option<Pair>, AllocError> {
+    let (_, command, seq, status) = pdu;
+    let waiting = pairing.waiting().next();
+    let stray = pairing.strays().next();
+    assert!(rt; pairing.is_next(at));
+    if let Ok(made) = pairing.add(at, seq, command, status) {
+        return Ok(made);
+    }
+    assert!(rt; pairing.pair_of(at).is_none());
+    assert_eq!(rt; pairing.waiting().next(), waiting);
+    assert_eq!(rt; pairing.strays().next(), stray);
+    assert!(rt; pairing.is_next(at));
+    pairing.add(at, seq, command, status)
+}
+
+impl Session {
+    fn place(&self, number: usize) -> Option<Place> {
+        Some(place(self.pdus.get(number)?.0, number))
+    }
+
+    /// The pair in which the PDU of a number stands.
+    fn pair(&self, number: usize) -> Option<Pair> {
+        for (request, response, agrees) in self.pairs {
+            if *request == number || *response == number {
+                return Some(Pair {
+                    request: self.place(*request)?,
+                    response: self.place(*response)?,
+                    agrees: *agrees,
+                    status: self.pdus.get(*response)?.3,
+                });
+            }
+        }
+        None
+    }
+
+    /// Adds the PDUs of these directions in turn, or at `None` those of both as they come.
+    fn pairing(
+        &self,
+        rt: &impl Abort,
+        alloc: Global,
+        turns: &[Option<Dir>],
+    ) -> Result<Pairing, AllocError> {
+        let mut pairing = Pairing::new(alloc);
+        for turn in turns {
+            for (number, pdu) in self.pdus.iter().enumerate() {
+                if turn.is_none() || *turn == Some(pdu.0) {
+                    let at = place(pdu.0, number);
+                    let made = add(rt, &mut pairing, at, *pdu)?;
+                    assert_eq!(rt; pairing.pair_of(at), made, "{}", self.fact);
+                }
+            }
+        }
+        Ok(pairing)
+    }
+
+    fn expect_places(&self, rt: &impl Abort, mut found: Places<'_>, wanted: &[usize]) {
+        for number in wanted {
+            assert_eq!(rt; found.next(), self.place(*number), "{}", self.fact);
+        }
+        assert!(rt; found.next().is_none(), "{}", self.fact);
+    }
+}
+
+#[test]
+fn sessions_are_paired_in_any_order_of_directions(rt: HostRuntime) -> Result<(), Fail> {
+    let turns: [&[Option<Dir>]; 3] = [
+        &[None],
+        &[Some(CLIENT), Some(CENTRE)],
+        &[Some(CENTRE), Some(CLIENT)],
+    ];
+    for session in &SESSIONS {
+        for turn in &turns {
+            let mut pairing = session.pairing(&rt, rt.alloc(), turn)?;
+            for (number, pdu) in session.pdus.iter().enumerate() {
+                let found = pairing.pair_of(place(pdu.0, number));
+                assert_eq!(&rt; found, session.pair(number), "{}", session.fact);
+            }
+            session.expect_places(&rt, pairing.waiting(), session.waiting);
+            session.expect_places(&rt, pairing.strays(), session.strays);
+        }
+    }
+    Ok(())
+}
+
+/// The n-th response is that of the n-th request, however many there are of one number. With each allocation refused in
+/// turn (`rt try --test --fail-alloc`) the same pairs are made.
+#[test]
+fn many_of_one_number_are_paired_in_turn(rt: HostRuntime) -> Result<(), Fail> {
+    let mut pairing = Pairing::new(rt.alloc());
+    for number in 0..2000 {
+        let submit = (CLIENT, SUBMIT_SM, 7, 0);
+        let made = add(&rt, &mut pairing, place(CLIENT, number), submit)?;
+        assert!(rt; made.is_none());
+    }
+    for number in 0..2000 {
+        let pair = Pair {
+            request: place(CLIENT, number),
+            response: place(CENTRE, number),
+            agrees: true,
+            status: 0,
+        };
+        let response = (CENTRE, SUBMIT_SM_RESP, 7, 0);
+        let made = add(&rt, &mut pairing, place(CENTRE, number), response)?;
+        assert_eq!(rt; made, Some(pair));
+        assert_eq!(rt; pairing.pair_of(pair.request), Some(pair));
+    }
+    assert!(rt; !pairing.is_next(place(CLIENT, 1999)));
+    assert!(rt; pairing.waiting().next().is_none());
+    assert!(rt; pairing.strays().next().is_none());
+    Ok(())
+}
