@@ -17,6 +17,7 @@ use Rattle.smq_book.specs.declared.counting.tally.Outcome.TheVariants as o
 use Rattle.smq_kit.specs.declared.link_key.LinkKey.{LinkKey}
 use Rattle.smq_book.specs.declared.present.kept.KeptPdu.{KeptPdu}
 use Rattle.smq_book.specs.present.Settings.{SettingsValue}
+use Rattle.smq_book.specs.declared.counting.lists.Listed.{Listed}
 use Rattle.smq_book.specs.pairing.Traffic.{ReceivedReceipt, TrafficValue, response_in, traffic_among}
 use Rattle.smq_kit.specs.LinkKeys.{same_key}
 use Rattle.smq_book.specs.join.Matching.{Grouping, Standing, Single, Shared, candidates, decider, earlier, matches, submit_standing}
@@ -111,10 +112,10 @@ candidate-found key (x ∷ xs) r i sorted e =
 
 -- ---- the facts agree
 
-module _ (s : SettingsValue) (xs : List SubmittedMessage) (rs : List KeyedReceipt) (keyed : Keyed s xs) (receipts_keyed : KeyedReceipts s rs)
+module _ (s : SettingsValue) (xs : List SubmittedMessage) (rs : List KeyedReceipt) (notes : List Listed) (keyed : Keyed s xs) (receipts_keyed : KeyedReceipts s rs)
     (messages_sorted : T (is_sorted place_cmp (map message_entry xs))) (receipts_sorted : T (is_sorted place_cmp (map receipt_entry rs))) where
   abbrev traffic : TrafficValue
-  traffic = traffic_among (map message_entry xs) (map receipt_entry rs)
+  traffic = traffic_among (map message_entry xs) (map receipt_entry rs) notes
 
   matches-agree : (key : LinkKey) → matches (grouping_of s traffic) key ≡ number_accepted key xs
   matches-agree key =

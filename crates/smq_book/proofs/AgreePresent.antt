@@ -6,6 +6,7 @@ use Rattle.std.proofs.lemmas.List.{map-append}
 use Rattle.std.specs.FinMap.{entries, entries_sorted, is_sorted, values}
 use Rattle.smq_kit.specs.declared.place.Place.{Place}
 use Rattle.smq_kit.specs.Orders.{place_cmp}
+use Rattle.smq_book.specs.declared.counting.tally.Fact.{Fact}
 use Rattle.smq_book.specs.declared.present.session.Session.{Session}
 use Rattle.smq_book.specs.present.Kept.{kept_pdus}
 use Rattle.smq_book.specs.present.Present.{PresentValue}
@@ -14,7 +15,7 @@ use Rattle.smq_book.specs.pairing.Traffic as traffic
 use Rattle.smq_book.specs.join.Facts.{facts_of}
 use Rattle.smq_book.specs.whole.Scratch.{scratch}
 use Rattle.smq_book.specs.within.Counting.{tables_among}
-use Rattle.smq_book.specs.within.Lists.{source_of, session_submits, session_receipts, submits_of, receipts_of, facts_listed, tables_listed}
+use Rattle.smq_book.specs.within.Lists.{source_of, session_submits, session_receipts, submits_of, receipts_of, notes_of, facts_listed, tables_listed}
 use Rattle.smq_book.proofs.AgreeLists.{message_entry, receipt_entry, Keyed, KeyedReceipts, keyed-append, keyed-among, receipts-append, receipts-keyed, messages-map, receipts-map}
 use Rattle.smq_book.proofs.AgreeFacts.{facts-agree}
 use Rattle.smq_book.proofs.PlacesRise.{messages-sorted, receipts-sorted}
@@ -51,15 +52,15 @@ module _ (p : PresentValue) where
   receipts-rise : T (is_sorted place_cmp (map receipt_entry (receipts_of p)))
   receipts-rise = subst (λ (es : List (Place × ReceivedReceipt)). T (is_sorted place_cmp es)) (receipts-are (entries p.sessions)) (receipts-sorted (entries p.sessions) (entries_sorted p.sessions))
 
-  traffic-is : traffic_of p.sessions ≡ traffic_among (map message_entry (submits_of p)) (map receipt_entry (receipts_of p))
-  traffic-is = λ i. traffic_among (messages-of (entries p.sessions) i) (receipts-are (entries p.sessions) i)
+  traffic-is : traffic_of p.sessions ≡ traffic_among (map message_entry (submits_of p)) (map receipt_entry (receipts_of p)) (notes_of p)
+  traffic-is = λ i. traffic_among (messages-of (entries p.sessions) i) (receipts-are (entries p.sessions) i) (notes_of p)
 
   -- the facts by place, in order, are those of the lists
   pub facts-are : values (facts_of p.settings (traffic_of p.sessions)) ≡ facts_listed p
   facts-are =
       ap (λ t. values (facts_of p.settings t)) traffic-is
-      ∙ facts-agree p.settings (submits_of p) (receipts_of p) (keyed-of (entries p.sessions)) (receipts-keyed-of (entries p.sessions)) messages-rise receipts-rise
+      ∙ facts-agree p.settings (submits_of p) (receipts_of p) (notes_of p) (keyed-of (entries p.sessions)) (receipts-keyed-of (entries p.sessions)) messages-rise receipts-rise
 
   -- the tables are those of the lists
   pub tables-are : scratch p ≡ tables_listed p
-  tables-are = ap tables_among facts-are
+  tables-are = ap (λ (facts : List Fact). tables_among facts (notes_of p)) facts-are

@@ -1,7 +1,8 @@
 -- Counts of facts by place, after a fact is set at a place; and forms of a link that nothing is of.
-use Rattle.std.proofs.Common.{◌≡◌, ◌≢◌, ◌+◌, Option, Some, ap, arith}
+use Rattle.std.proofs.Common.{◌≡◌, ◌≢◌, ◌+◌, [], Option, Some, ap, arith}
 use Rattle.std.specs.Prelude.{option_map}
 use Rattle.std.specs.FinMap.{FinMap, get, values}
+use Rattle.std.specs.FinSet.{FinSet}
 use Rattle.smq_kit.specs.declared.names.LinkId.{LinkId}
 use Rattle.smq_kit.specs.declared.place.Place.{Place}
 use Rattle.smq_kit.specs.Maps.{set_at, share}
@@ -11,6 +12,7 @@ use Rattle.smq_kit.proofs.MapLemmas as maps
 use Rattle.smq_book.specs.declared.counting.tally.CountKey.{CountKey}
 use Rattle.smq_book.specs.declared.counting.tally.Fact.{Fact}
 use Rattle.smq_book.specs.declared.present.forms.Forms.{Forms}
+use Rattle.smq_book.specs.counting.Lists.{listed_cmp}
 use Rattle.smq_book.specs.counting.Rows.{stands_in}
 use Rattle.smq_book.specs.counting.Tables.{tables_of, number_at}
 use Rattle.smq_book.specs.present.Settings.{SettingsValue, forms_of}
@@ -24,11 +26,11 @@ use Rattle.smq_book.specs.within.Counting.{count_of}
 use Rattle.smq_book.proofs.Tallies.{count-tables}
 
 -- a fact that is set at a place counts at its keys, and the one that was there does no more
-pub counts-move : (facts : FinMap place_cmp Fact) (q : Place) (fact : Option Fact) (key : CountKey)
-    → count_of (tables_of (set_at facts q fact)) key + share (stands_in key) (get facts q) ≡ count_of (tables_of facts) key + share (stands_in key) fact
-counts-move facts q fact key =
-    let after : count_of (tables_of (set_at facts q fact)) key ≡ number_at key (set_at facts q fact) = count-tables (values (set_at facts q fact)) key in
-    let before : count_of (tables_of facts) key ≡ number_at key facts = count-tables (values facts) key in
+pub counts-move : (facts : FinMap place_cmp Fact) (notes : FinSet listed_cmp) (q : Place) (fact : Option Fact) (key : CountKey)
+    → count_of (tables_of (set_at facts q fact) notes) key + share (stands_in key) (get facts q) ≡ count_of (tables_of facts notes) key + share (stands_in key) fact
+counts-move facts notes q fact key =
+    let after : count_of (tables_of (set_at facts q fact) notes) key ≡ number_at key (set_at facts q fact) = count-tables (values (set_at facts q fact)) [] key in
+    let before : count_of (tables_of facts notes) key ≡ number_at key facts = count-tables (values facts) [] key in
     omega (arith, after, before, maps.count-set places_total places_exact (stands_in key) facts q fact)
 
 -- ---- forms of a link that nothing is of

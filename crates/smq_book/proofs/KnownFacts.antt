@@ -14,7 +14,7 @@ use Rattle.smq_book.specs.declared.join.source.Source.{Source}
 use Rattle.smq_book.specs.declared.present.kept.KeptPdu.{KeptPdu}
 use Rattle.smq_book.specs.Known.{known_origin, settings_with, known_facts, outcomes_among, errors_among, outcomes_under, outcomes_by_delivery, responded_and_reported, submit}
 use Rattle.smq_book.specs.present.Settings.{opening_forms, forms_of}
-use Rattle.smq_book.specs.pairing.Traffic.{Message, ReceivedReceipt, messages_among, receipts_among, traffic_among}
+use Rattle.smq_book.specs.pairing.Traffic.{Message, ReceivedReceipt, messages_among, receipts_among, notes_among, pairing_among, traffic_among}
 use Rattle.smq_book.specs.join.Facts.{facts_of}
 use Rattle.smq_book.specs.within.Messages.{submits_among}
 use Rattle.smq_book.specs.within.Outcomes.{facts_among}
@@ -48,8 +48,9 @@ facts-are-listed response receipt client centre rise receipts_rise =
     let source : Source = source_with response receipt in
     let messages : messages_among known_origin client centre ≡ map message_entry (submits_among source client centre) = messages-map source client centre [] client 0 refl refl in
     let received : receipts_among known_origin centre ≡ map receipt_entry (receipts.receipts_among source centre) = receipts-map source centre in
-    (λ i. values (facts_of s (traffic_among (messages i) (received i))))
-    ∙ facts-agree s (submits_among source client centre) (receipts.receipts_among source centre)
+    let notes = notes_among (pairing_among known_origin client centre) in
+    (λ i. values (facts_of s (traffic_among (messages i) (received i) notes)))
+    ∙ facts-agree s (submits_among source client centre) (receipts.receipts_among source centre) notes
     (keyed-among s source client centre (enumerate_from 0 client) (forms-set response receipt))
     (receipts-keyed s source centre (forms-set response receipt))
     (subst (λ (es : List (Place × Message)). T (is_sorted place_cmp es)) messages rise)

@@ -5,10 +5,10 @@ pub mod Appended
 pub mod Changes
 pub mod Fits
 pub mod Cutting
-pub mod Ranked
-pub mod Places
 pub mod Submitted
 pub mod CountOrders
+pub mod ListOrders
+pub mod Listings
 pub mod Counted
 pub mod Tallies
 pub mod Shown
@@ -22,6 +22,10 @@ pub mod Least
 pub mod AgreeLists
 pub mod AgreeFacts
 pub mod PlacesRise
+pub mod Requests
+pub mod Searched
+pub mod Paired
+pub mod Noted
 pub mod AgreePresent
 pub mod MatchingLemmas
 pub mod MoveLemmas

@@ -1,15 +1,23 @@
 -- The response of a message is that of its pair, and responses come in turn.
 use Rattle.std.proofs.Common.{◌≡◌, ℕ, zero, suc, Bool, true, List, [], ◌∷◌, ◌++◌, length, Option, Some, None, refl, sym, ap, ◌∙◌, subst}
-use Rattle.std.specs.Prelude.{◌&&◌, ◌==◌, slice_get, option_and_then}
+use Rattle.std.specs.Prelude.{◌&&◌, ◌==◌, slice_get, option_and_then, option_map}
 use Rattle.std.proofs.lemmas.Bool.{eq-eqb}
+use Rattle.smq_kit.specs.declared.place.Dir.TheVariants.{FromClient, FromCentre}
+use Rattle.smq_frame.specs.Stream.{Octet}
 use Rattle.smq_pdu.specs.Header.{Header}
+use Rattle.smq_pdu.specs.declared.body.Submit.{Submit}
+use Rattle.smq_pair.specs.Pairing.{pair_at, pair_of}
 use Rattle.smq_pdu.specs.Pairing.{IsPair, is_response_of, is_request_of, is_request, is_response, request_rank, response_place}
 use Rattle.smq_pdu.proofs.Pairs.{finds_pairs, finds_each}
 use Rattle.smq_book.specs.declared.present.kept.KeptPdu.{KeptPdu}
 use Rattle.smq_book.specs.Known.{InTurn}
-use Rattle.smq_book.specs.present.Kept.{header_of, headers_of}
-use Rattle.smq_book.specs.pairing.Traffic.{response_to}
+use Rattle.smq_book.specs.present.Kept.{header_of, headers_of, kept_pdus, submit_in}
+use Rattle.smq_book.specs.pairing.Traffic.{Origin, place_of, placed, pairing_among, response_to}
+use Rattle.smq_book.specs.within.Pairs.{Rises}
 use Rattle.smq_book.proofs.AgreeLists.{response-same}
+use Rattle.smq_book.proofs.Paired.{request-pair}
+use Rattle.smq_book.proofs.PlacesRise.{kept-rise}
+use Rattle.smq_book.proofs.Requests.{kept-ask}
 
 -- ---- pairs
 
@@ -50,6 +58,19 @@ pub pair-found : (before after centre : List KeptPdu) (p r : KeptPdu) → is_req
     → (j : ℕ) × (slice_get centre j ≡ Some r) × IsPair (headers_of (before ++ p ∷ after)) (headers_of centre) (length before) j (header_of p) (header_of r)
 pair-found before after centre p r request e =
     by_place before after centre p r (response_place (headers_of centre) p.seq (rank before after p)) request refl (sym (found_at before after centre p) ∙ e)
+
+-- ---- the pairs of a session
+
+nth-after : (before after : List KeptPdu) (p : KeptPdu) → slice_get (before ++ p ∷ after) (length before) ≡ Some p
+nth-after [] after p = refl
+nth-after (b ∷ before) after p = nth-after before after p
+
+pub pair-stands : (origin : Origin) (client centre : List Octet) (before after : List KeptPdu) (p : KeptPdu) (submit : Submit) → kept_pdus client ≡ before ++ p ∷ after → submit_in p.content ≡ Some submit
+    → pair_at (pairing_among origin (kept_pdus client) (kept_pdus centre)) (place_of origin FromClient p) ≡ option_map (λ r. pair_of (placed origin FromClient p) (placed origin FromCentre r)) (response_to (kept_pdus centre) before p)
+pair-stands origin client centre before after p submit all said =
+    ap (λ ps. pair_at (pairing_among origin ps (kept_pdus centre)) (place_of origin FromClient p)) all
+    ∙ request-pair origin before after (kept_pdus centre) p (subst (λ ps. Rises 0 ps) all (kept-rise client))
+    ((kept-ask client).each (length before) p submit (ap (λ ps. slice_get ps (length before)) all ∙ nth-after before after p) said)
 
 -- ---- two requests of one number, and two responses of it
 

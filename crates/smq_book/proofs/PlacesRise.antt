@@ -14,7 +14,7 @@ use Rattle.smq_kit.specs.declared.place.Place.{Place}
 use Rattle.smq_kit.specs.Orders.{dir_cmp, place_cmp}
 use Rattle.smq_kit.proofs.Comparisons.{both_tests, first_test, second_test, is_less}
 use Rattle.smq_frame.specs.Stream.{Octet, stream_frames}
-use Rattle.smq_frame.proofs.Offsets.{Ascends, ascends-map, stream_frames-ascend}
+use Rattle.smq_frame.proofs.Offsets.{ascends-map, stream_frames-ascend}
 use Rattle.smq_pdu.specs.Placed.{placed_pdu, stream_pdus}
 use Rattle.smq_pdu.specs.declared.body.Submit.{Submit}
 use Rattle.smq_receipt.specs.declared.reading.Receipt.{Receipt}
@@ -22,11 +22,9 @@ use Rattle.smq_book.specs.declared.present.kept.KeptPdu.{KeptPdu}
 use Rattle.smq_book.specs.declared.present.session.Session.{Session}
 use Rattle.smq_book.specs.present.Kept.{kept_pdu, kept_pdus, submit_in, receipt_in}
 use Rattle.smq_book.specs.pairing.Traffic.{Message, ReceivedReceipt, Origin, origin_of, place_of, message_of, received, response_to, with_earlier, message_at, receipts_among, session_messages, session_receipts}
+use Rattle.smq_book.specs.within.Pairs.{Rises}
 
 -- ---- the offsets of a stream's PDUs ascend
-
-abbrev pub Rises : ℕ → List KeptPdu → Type 0
-Rises low ps = Ascends (λ p. p.offset) low ps
 
 pub kept-rise : (stream : List Octet) → Rises 0 (kept_pdus stream)
 kept-rise stream =

@@ -1,4 +1,4 @@
--- Tables of a list of facts, one fact more at a time.
+-- Tables of a list of facts and a list of notes, one more at a time.
 use Rattle.std.proofs.Common.{◌≡◌, ℕ, ◌+◌, ◌<◌, ◌≤◌, Bool, ◌||◌, true, false, cond, List, [], ◌∷◌, ◌++◌, length, take, get_or, ◌^◌, refl, sym, ap, ◌∙◌, arith}
 use Rattle.std.specs.Prelude.{◌==◌, count_by, unwrap_or, Option, Some, None, option_map, option_to_list}
 use Rattle.std.specs.List.{AllByRecursion, flat_map, list_any}
@@ -9,37 +9,43 @@ use Rattle.std.proofs.lemmas.Bool.Decides.{nat_tests}
 use Rattle.std.proofs.lemmas.Bool.{eqb-true}
 use Rattle.std.proofs.lemmas.List.Sums.{sum_by-cons, sum_by-append, count_by-le-length}
 use Rattle.std.proofs.lemmas.List.{take_more, length-take}
-use Rattle.std.specs.FinMap.{FinMap, get, get-insert}
+use Rattle.std.specs.FinMap.{get, get-insert}
+use Rattle.std.specs.FinSet.{FinSet}
+use Rattle.smq_book.specs.declared.counting.lists.Listed.{Listed}
 use Rattle.smq_book.specs.declared.counting.tally.Fact.{Fact}
 use Rattle.smq_book.specs.declared.counting.tally.Outcome.{Outcome}
 use Rattle.smq_book.specs.declared.counting.tally.CountKey.{CountKey}
 use Rattle.smq_book.specs.declared.counting.tally.Value.{Value}
 use Rattle.smq_book.specs.declared.counting.tally.View.{View}
-use Rattle.smq_book.specs.counting.Rows.{views, view_place, value_in, count_key, count_cmp, same_count_key, key_in, keys_of_fact, stands_in}
+use Rattle.smq_book.specs.counting.Lists.{listed_cmp}
+use Rattle.smq_book.specs.counting.Rows.{views, view_place, value_in, count_key, same_count_key, key_in, keys_of_fact, stands_in}
 use Rattle.smq_book.specs.counting.Tables.{TablesValue}
-use Rattle.smq_book.specs.within.Counting.{tables_among, number_among, count_of, one_more, plus}
+use Rattle.smq_book.specs.within.Counting.{tables_among, number_among, count_of, one_more, plus, one_listed}
 use Rattle.smq_book.specs.within.CountOrder.{count_keys_total}
 use Rattle.smq_book.proofs.CountOrders.{count_keys_exact}
 use Rattle.smq_book.proofs.Counted as counted
+use Rattle.smq_book.proofs.Listings.{set-push}
 
 -- the tables have the number of each key, where it isn't 0
 abbrev pub Has : TablesValue → (CountKey → ℕ) → Type 0
 Has t n = counted.Has count_keys_total count_keys_exact keys_of_fact t.counts n
 
-pub has-tables : (facts : List Fact) → Has (tables_among facts) (λ q. number_among q facts)
-has-tables facts = counted.has-counted count_keys_total count_keys_exact keys_of_fact facts
+pub has-tables : (facts : List Fact) (notes : List Listed) → Has (tables_among facts notes) (λ q. number_among q facts)
+has-tables facts notes = counted.has-counted count_keys_total count_keys_exact keys_of_fact facts
 
-has-one : (t u : TablesValue) (n : CountKey → ℕ) → Has t n → Has u n → t ≡ u
-has-one t u n h k = ap (λ (m : FinMap count_cmp ℕ). record { counts = m }) (counted.has-one count_keys_total count_keys_exact keys_of_fact t.counts u.counts n h k)
+has-one : (t u : TablesValue) (n : CountKey → ℕ) → Has t n → Has u n → t.places ≡ u.places → t ≡ u
+has-one t u n h k same =
+    let counts : t.counts ≡ u.counts = counted.has-one count_keys_total count_keys_exact keys_of_fact t.counts u.counts n h k in
+    λ i. record { counts = counts i; places = same i }
 
 has-same : (t : TablesValue) (n p : CountKey → ℕ) → Has t n → ((q : CountKey) → n q ≡ p q) → Has t p
 has-same t n p h e = counted.has-same count_keys_total count_keys_exact keys_of_fact t.counts n p h e
 
-pub count-tables : (facts : List Fact) (q : CountKey) → count_of (tables_among facts) q ≡ number_among q facts
-count-tables facts q = counted.has-count count_keys_total count_keys_exact keys_of_fact (tables_among facts).counts (λ r. number_among r facts) (has-tables facts) q
+pub count-tables : (facts : List Fact) (notes : List Listed) (q : CountKey) → count_of (tables_among facts notes) q ≡ number_among q facts
+count-tables facts notes q = counted.has-count count_keys_total count_keys_exact keys_of_fact (tables_among facts notes).counts (λ r. number_among r facts) (has-tables facts notes) q
 
-pub number-bound : (facts : List Fact) (q : CountKey) → count_of (tables_among facts) q ≤ length facts
-number-bound facts q = let e = count-tables facts q in let b = count_by-le-length (stands_in q) facts in rw e b
+pub number-bound : (facts : List Fact) (notes : List Listed) (q : CountKey) → count_of (tables_among facts notes) q ≤ length facts
+number-bound facts notes q = let e = count-tables facts notes q in let b = count_by-le-length (stands_in q) facts in rw e b
 
 -- ---- a fact stands at a key once at most
 
@@ -142,26 +148,39 @@ has-plus t n (key ∷ keys) h =
     (has-plus (one_more t key) (λ q. n q + cond (same_count_key q key) 1 0) keys (counted.has-more count_keys_total count_keys_exact keys_of_fact t.counts n key h))
     (λ q. omega (arith, sum_by-cons (λ r. cond (same_count_key q r) 1 0) key keys))
 
-pub plus-tables : (facts : List Fact) (f : Fact) → plus (tables_among facts) (keys_of_fact f) ≡ tables_among (facts ++ f ∷ [])
-plus-tables facts f =
+plus-places : (t : TablesValue) (keys : List CountKey) → (plus t keys).places ≡ t.places
+plus-places t [] = refl
+plus-places t (key ∷ keys) = plus-places (one_more t key) keys
+
+pub plus-tables : (facts : List Fact) (notes : List Listed) (f : Fact) → plus (tables_among facts notes) (keys_of_fact f) ≡ tables_among (facts ++ f ∷ []) notes
+plus-tables facts notes f =
     has-one _ _ (λ q. number_among q (facts ++ f ∷ []))
-    (has-same (plus (tables_among facts) (keys_of_fact f)) (λ q. number_among q facts + count_by (same_count_key q) (keys_of_fact f)) (λ q. number_among q (facts ++ f ∷ []))
-    (has-plus (tables_among facts) (λ q. number_among q facts) (keys_of_fact f) (has-tables facts))
+    (has-same (plus (tables_among facts notes) (keys_of_fact f)) (λ q. number_among q facts + count_by (same_count_key q) (keys_of_fact f)) (λ q. number_among q (facts ++ f ∷ []))
+    (has-plus (tables_among facts notes) (λ q. number_among q facts) (keys_of_fact f) (has-tables facts notes))
     (λ q. omega (arith, once f q, sum_by-append (λ g. cond (stands_in q g) 1 0) facts (f ∷ []), sum_by-cons (λ g. cond (stands_in q g) 1 0) f [])))
-    (has-tables (facts ++ f ∷ []))
+    (has-tables (facts ++ f ∷ []) notes)
+    (plus-places (tables_among facts notes) (keys_of_fact f))
 
--- ---- facts one at a time
+-- ---- facts one at a time, then notes
 
-pub facts-step : (facts : List Fact) (i : ℕ) (x : Fact) (t new : TablesValue) → i < length facts → x ≡ get_or facts i x → t ≡ tables_among (take i facts) → new ≡ plus t (keys_of_fact x) → new ≡ tables_among (take (i + 1) facts)
+pub facts-step : (facts : List Fact) (i : ℕ) (x : Fact) (t new : TablesValue) → i < length facts → x ≡ get_or facts i x → t ≡ tables_among (take i facts) [] → new ≡ plus t (keys_of_fact x) → new ≡ tables_among (take (i + 1) facts) []
 facts-step facts i x t new h is so done =
-    done ∙ ap (λ (u : TablesValue). plus u (keys_of_fact x)) so ∙ plus-tables (take i facts) x
-    ∙ ap (λ (y : Fact). tables_among (take i facts ++ y ∷ [])) is ∙ ap tables_among (sym (take_more facts i x h))
+    done ∙ ap (λ (u : TablesValue). plus u (keys_of_fact x)) so ∙ plus-tables (take i facts) [] x
+    ∙ ap (λ (y : Fact). tables_among (take i facts ++ y ∷ []) []) is ∙ ap (λ (fs : List Fact). tables_among fs []) (sym (take_more facts i x h))
 
-pub room : (facts : List Fact) (i n : ℕ) (t : TablesValue) (key : CountKey) → i < n → n < 2 ^ 64 → t ≡ tables_among (take i facts) → count_of t key + 1 < 2 ^ 64
+pub room : (facts : List Fact) (i n : ℕ) (t : TablesValue) (key : CountKey) → i < n → n < 2 ^ 64 → t ≡ tables_among (take i facts) [] → count_of t key + 1 < 2 ^ 64
 room facts i n t key h few so =
-    let bound = number-bound (take i facts) key in
+    let bound = number-bound (take i facts) [] key in
     let short : length (take i facts) ≤ i = let e = length-take i facts in omega (arith, e) in
     rw so (omega (arith, bound, short))
+
+listed-tables : (facts : List Fact) (notes : List Listed) (note : Listed) → one_listed (tables_among facts notes) note ≡ tables_among facts (notes ++ note ∷ [])
+listed-tables facts notes note = ap (λ (s : FinSet listed_cmp). record (tables_among facts notes) { places = s }) (sym (set-push notes note))
+
+pub notes-step : (facts : List Fact) (notes : List Listed) (i : ℕ) (d : Listed) (t new : TablesValue) → i < length notes → t ≡ tables_among facts (take i notes) → new ≡ one_listed t (get_or notes i d) → new ≡ tables_among facts (take (i + 1) notes)
+notes-step facts notes i d t new h so done =
+    done ∙ ap (λ (u : TablesValue). one_listed u (get_or notes i d)) so ∙ listed-tables facts (take i notes) (get_or notes i d)
+    ∙ ap (λ (ns : List Listed). tables_among facts ns) (sym (take_more notes i d h))
 
 -- ---- a key of one view counts at no key of another
 

@@ -1,12 +1,14 @@
 -- Values that laws pin: what is present, PDUs and octets that are written out, and what the definitions give of them.
 use Rattle.std.specs.Prelude.{◌≡◌, ◌+◌, ℕ, Bool, true, false, List, [], ◌∷◌, ◌++◌, length, map, codes, Option, Some, None}
 use Rattle.std.specs.List.{flat_map}
+use Rattle.std.specs.List.Sorted.{IsStrictlySortedBy}
 use Rattle.std.specs.FinMap as map
 use Rattle.smq_kit.specs.declared.form.Form.{Form}
 use Rattle.smq_kit.specs.declared.form.Form.TheVariants.{Verbatim, Decimal, Hexadecimal}
 use Rattle.smq_kit.specs.declared.names.LinkId.{LinkId}
 use Rattle.smq_kit.specs.declared.place.Dir.{Dir}
 use Rattle.smq_kit.specs.declared.place.Dir.TheVariants.{FromClient, FromCentre}
+use Rattle.smq_kit.specs.declared.place.Place.{Place}
 use Rattle.smq_kit.specs.declared.refusal.Refusal.TheVariants as r
 use Rattle.smq_frame.specs.Stream.{handed_in}
 use Rattle.smq_frame.specs.Tail.{TailValue}
@@ -17,6 +19,8 @@ use Rattle.smq_receipt.specs.declared.message_state.MessageState.{MessageState}
 use Rattle.smq_receipt.specs.declared.message_state.MessageState.TheVariants.{Enroute, Delivered, Expired, Undeliverable, Accepted}
 use Rattle.smq_receipt.specs.declared.reading.Reading.TheVariants as v
 use Rattle.smq_receipt.specs.declared.reading.Receipt.{Receipt}
+use Rattle.smq_book.specs.declared.counting.lists.List.TheVariants as l
+use Rattle.smq_book.specs.declared.counting.lists.Listed.{Listed}
 use Rattle.smq_book.specs.declared.counting.tally.Fact.{Fact}
 use Rattle.smq_book.specs.declared.counting.tally.Outcome.{Outcome}
 use Rattle.smq_book.specs.declared.counting.tally.Outcome.TheVariants as o
@@ -37,9 +41,11 @@ use Rattle.smq_book.specs.present.Present.{PresentValue, empty, link_of, octets_
 use Rattle.smq_book.specs.present.Replies.{reply}
 use Rattle.smq_book.specs.present.Settings.{SettingsValue, opening_settings, opening_forms, forms_of}
 use Rattle.smq_book.specs.present.Steps.{step}
-use Rattle.smq_book.specs.pairing.Traffic.{Origin, TrafficValue, traffic_among, traffic_of, messages_among, receipts_among}
+use Rattle.smq_book.specs.pairing.Traffic.{Origin, TrafficValue, traffic_among, traffic_of, messages_among, receipts_among, notes_among, pairing_among}
 use Rattle.smq_book.specs.join.Facts.{facts_of}
-use Rattle.smq_book.specs.counting.Tables.{count_at}
+use Rattle.smq_book.specs.counting.Lists.{listed, listed_cmp, listed_set}
+use Rattle.smq_book.specs.counting.Names.{list_name}
+use Rattle.smq_book.specs.counting.Tables.{TablesValue, tables_of, count_at, listed_in}
 use Rattle.smq_book.specs.whole.Scratch.{scratch}
 
 -- ---- a small book, on which replies are worked out by hand
@@ -161,6 +167,7 @@ settings_with response receipt =
 abbrev pub known_traffic : List KeptPdu → List KeptPdu → TrafficValue
 known_traffic client centre =
     traffic_among (messages_among known_origin client centre) (receipts_among known_origin centre)
+    (notes_among (pairing_among known_origin client centre))
 
 -- what is known of its messages, in the order of their places
 unfoldable pub known_facts : SettingsValue → List KeptPdu → List KeptPdu → List Fact
@@ -216,6 +223,36 @@ known_values link =
     ∷ w.Error (s.Failed (e.Text (codes "1")))
     ∷ w.Error (s.Failed e.Unstated)
     ∷ []
+
+-- the notes of a session: its client asks with the numbers 7, 8 and 9; its centre answers 7 as it should, 8 as another
+-- command, and 6, which nobody asked
+abbrev pub known_notes : List Listed
+known_notes =
+    notes_among (pairing_among known_origin (submit 0 7 1 ∷ submit 49 8 1 ∷ submit 98 9 1 ∷ [])
+    (pdu 0 0x8000_0004 0 7 (c.SubmitAnswer None) ∷ pdu 16 0x8000_0015 0 8 c.Other ∷ pdu 32 0x8000_0004 0 6 (c.SubmitAnswer None) ∷ []))
+
+-- ---- listed places, in their order: by list, then session, then direction, the client's first, then offset
+
+-- a place: a session, a direction and an offset
+abbrev pub place_at : ℕ → Dir → ℕ → Place
+place_at session dir offset = record { session = record { 0 = session }; dir = dir; offset = offset }
+
+abbrev pub known_listed : List Listed
+known_listed =
+    listed l.Waiting (place_at 9 FromClient 49)
+    ∷ listed l.Waiting (place_at 9 FromCentre 0)
+    ∷ listed l.Waiting (place_at 10 FromClient 0)
+    ∷ listed l.Waiting (place_at 10 FromClient 65536)
+    ∷ listed l.Waiting (place_at 10 FromClient 65537)
+    ∷ listed l.StrayAnswers (place_at 9 FromClient 0)
+    ∷ listed l.StrayAnswers (place_at 65536 FromCentre 0)
+    ∷ listed l.StrayAnswers (place_at 65537 FromClient 0)
+    ∷ listed l.Mismatched (place_at 1 FromCentre 16)
+    ∷ []
+
+-- tables without facts in which these are listed
+abbrev pub known_tables : TablesValue
+known_tables = tables_of map.empty (listed_set known_listed)
 
 -- ---- a whole book, from octets: three sessions of two links, whose numbers are alike modulo 65,536
 
@@ -424,6 +461,25 @@ pub record KnownReceipts : Type 0 where
       errors_among (submit 0 1 1 ∷ [])
       (accepted 1 ∷ receipt_pdu 18 5000 (receipt_saying Delivered (e.Network 3 8) false) ∷ [])
       ≡ None ∷ []
+
+-- Names of lists, and places that are written out by their lists, in order.
+pub record KnownLists : Type 0 where
+  pub waiting : list_name l.Waiting ≡ codes "waiting"
+  pub stray : list_name l.StrayAnswers ≡ codes "stray-answers"
+  pub mismatched : list_name l.Mismatched ≡ codes "mismatched"
+  pub order : IsStrictlySortedBy listed_cmp known_listed
+  pub in_waiting :
+      listed_in known_tables l.Waiting
+      ≡ place_at 9 FromClient 49 ∷ place_at 9 FromCentre 0 ∷ place_at 10 FromClient 0 ∷ place_at 10 FromClient 65536
+      ∷ place_at 10 FromClient 65537 ∷ []
+  pub in_stray :
+      listed_in known_tables l.StrayAnswers
+      ≡ place_at 9 FromClient 0 ∷ place_at 65536 FromCentre 0 ∷ place_at 65537 FromClient 0 ∷ []
+  pub in_mismatched : listed_in known_tables l.Mismatched ≡ place_at 1 FromCentre 16 ∷ []
+  pub notes :
+      known_notes
+      ≡ listed l.Waiting (place_at 10 FromClient 98) ∷ listed l.StrayAnswers (place_at 10 FromCentre 32)
+      ∷ listed l.Mismatched (place_at 10 FromClient 49) ∷ []
 
 -- What is known and counted of the known book.
 pub record KnownFigures : Type 0 where

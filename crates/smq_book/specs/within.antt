@@ -1,13 +1,13 @@
 -- What only private clauses and the law of agreement cite: maps and lists as the code keeps them. A reader of the
 -- promises needs none of it.
 pub mod InOrder
-pub mod Ranks
-pub mod Responses
+pub mod Pairs
 pub mod Messages
 pub mod Receipts
 pub mod Accepted
 pub mod Outcomes
 pub mod Counting
+pub mod ListOrder
 pub mod Equal
 pub mod CountOrder
 pub mod Lists

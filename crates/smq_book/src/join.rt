@@ -5,3 +5,4 @@ pub mod facts;
 pub mod receipts;
 pub mod source;
 pub mod submits;
+pub mod traffic;

@@ -10,13 +10,15 @@ mod present;
 mod tests;
 mod whole;
 
+pub use counting::lists::{List, Listed};
+pub use counting::places::Places;
 pub use counting::rows::Rows;
 pub use counting::tables::Tables;
 pub use counting::tally::{CountKey, Fact, Outcome, SubmitError, Value, View};
 pub use laws::counting::{
-    counts_are_numbers, equal_tables_are_one, facts_are_told_apart,
-    messages_are_counted_once_in_a_view, one_fact_moves_its_counts, rows_are_in_order,
-    values_are_in_order,
+    counts_are_numbers, equal_tables_are_one, facts_are_told_apart, known_lists,
+    lists_are_in_order, messages_are_counted_once_in_a_view, one_fact_moves_its_counts,
+    rows_are_in_order, values_are_in_order,
 };
 pub use laws::join::{
     deciding_receipts_are_earliest, each_message_has_its_fact, facts_rest_on_circumstances,
@@ -25,7 +27,7 @@ pub use laws::join::{
 };
 pub use laws::pairing::{
     each_message_has_its_place, pushes_change_few_messages, responses_are_those_of_pairs,
-    responses_come_in_turn,
+    responses_come_in_turn, responses_stand_in_pairs,
 };
 pub use laws::present::{
     absent_sessions_have_no_octets, appends_of_sessions_commute, batches_that_fit_are_not_refused,

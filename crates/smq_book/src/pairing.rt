@@ -1,3 +1,3 @@
-//! Which response belongs to which request, by sequence number and rank.
-pub mod ranks;
-pub mod responses;
+//! Which response belongs to which request, and which places want looking at.
+pub mod notes;
+pub mod pairs;

@@ -1,6 +1,7 @@
 mod counts;
 mod edits;
 mod ids;
+mod lists;
 mod receipts;
 mod scripts;
 mod sizes;

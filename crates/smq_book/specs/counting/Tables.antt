@@ -1,38 +1,47 @@
--- Tables: how many messages are counted at each key.
+-- Tables: how many messages are counted at each key, and which places are in each list.
 use Rattle.std.specs.Prelude.{ℕ, zero, suc, ◌==◌, Bool, List, map, filter, Option, Some, None, unwrap_or, refl}
 use Rattle.std.specs.List.{flat_map}
 use Rattle.std.specs.declared.cmp.Ordering.{Ordering}
 use Rattle.std.specs.Ordering.{nat_cmp, ordering_then}
 use Rattle.std.specs.FinMap as fin
-use Rattle.std.specs.Coded.{Coded, code_by, coded_ℕ}
+use Rattle.std.specs.FinSet as set
+use Rattle.std.specs.Coded.{Coded, code_by, coded×, coded_ℕ}
 use Rattle.smq_kit.specs.Maps.{number_of}
+use Rattle.smq_kit.specs.declared.place.Place.{Place}
 use Rattle.smq_kit.specs.Orders.{place_cmp}
 use Rattle.smq_book.specs.contracts.counting.tally.CountKey as block
+use Rattle.smq_book.specs.contracts.counting.lists.Listed as listed_block
+use Rattle.smq_book.specs.declared.counting.lists.List as l
 use Rattle.smq_book.specs.declared.counting.tally.View.{View}
 use Rattle.smq_book.specs.declared.counting.tally.Value.{Value}
 use Rattle.smq_book.specs.declared.counting.tally.Outcome.{Outcome}
 use Rattle.smq_book.specs.declared.counting.tally.Fact.{Fact}
 use Rattle.smq_book.specs.declared.counting.tally.CountKey.{CountKey}
+use Rattle.smq_book.specs.counting.Lists.{listed_cmp, in_list}
 use Rattle.smq_book.specs.counting.Rows.{view_place, outcome_place, value_cmp, count_key, count_cmp, keys_of_fact, stands_in}
 
--- tables: the counts at keys
+-- tables: the counts at keys, and the places in lists
 pub record TablesValue : Type 0 where
   pub counts : fin.FinMap count_cmp ℕ
+  pub places : set.FinSet listed_cmp
 
--- tables are stored as their counts
+-- tables are stored as these two
 abbrev pub tables_code : Coded TablesValue
 tables_code =
-    code_by (fin.FinMap count_cmp ℕ) (fin.code (block.the_row).coded coded_ℕ) (λ t. t.counts)
-    (λ counts. record { counts = counts }) (λ _. refl)
+    code_by (fin.FinMap count_cmp ℕ × set.FinSet listed_cmp)
+    (coded× (fin.code (block.the_row).coded coded_ℕ) (set.code (listed_block.the_row).coded))
+    (λ t. (t.counts, t.places)) (λ m. record { counts = m.0; places = m.1 }) (λ _. refl)
 
 -- how many of the facts at places stand at a key
 abbrev pub number_at : CountKey → fin.FinMap place_cmp Fact → ℕ
 number_at key facts = number_of (stands_in key) facts
 
--- the tables of facts: at each key where a fact stands, the number of facts that stand there
-abbrev pub tables_of : fin.FinMap place_cmp Fact → TablesValue
-tables_of facts = record {
+-- the tables of facts and notes: at each key where a fact stands, the number of facts that stand there; the notes are
+-- the listed places
+abbrev pub tables_of : fin.FinMap place_cmp Fact → set.FinSet listed_cmp → TablesValue
+tables_of facts notes = record {
   counts = fin.from_entries (map (λ key. (key, number_at key facts)) (flat_map keys_of_fact (fin.values facts)));
+  places = notes;
 }
 
 -- the count at a view, a value and an outcome, which is 0 where none stands
@@ -65,3 +74,9 @@ shown_cmp a b = ordering_then (value_cmp a.0 b.0) (nat_cmp (outcome_place a.1) (
 -- the rows of a view, in order
 abbrev pub rows_of : TablesValue → View → List ShownRow
 rows_of t view = map shown_row (filter (in_view view) (fin.entries t.counts))
+
+-- ---- the places of a list
+
+-- the places in a list, in order
+abbrev pub listed_in : TablesValue → l.List → List Place
+listed_in t list = map (λ e. e.place) (filter (in_list list) (fin.keys t.places))

@@ -1,7 +1,9 @@
--- What the PDUs that are present say, whatever is set: messages with their responses, and delivery receipts, by place.
-use Rattle.std.specs.Prelude.{◌==◌, not, ℕ, ◌%◌, Bool, List, [], ◌∷◌, ◌++◌, count_by, filter, slice_get, Option, option_map, option_to_list}
+-- What the PDUs that are present say, whatever is set: messages with their responses, and delivery receipts, by place;
+-- and the places that want looking at.
+use Rattle.std.specs.Prelude.{◌==◌, not, ℕ, ◌%◌, Bool, false, List, [], ◌∷◌, ◌++◌, map, count_by, filter, slice_get, Option, Some, None, option_map, option_to_list}
 use Rattle.std.specs.List.{flat_map}
 use Rattle.std.specs.FinMap as map
+use Rattle.std.specs.FinSet.{FinSet}
 use Rattle.std.specs.Ordering.{nat_cmp}
 use Rattle.smq_kit.specs.declared.names.LinkId.{LinkId}
 use Rattle.smq_kit.specs.declared.names.SessionId.{SessionId}
@@ -10,11 +12,16 @@ use Rattle.smq_kit.specs.declared.place.Dir.TheVariants.{FromClient, FromCentre}
 use Rattle.smq_kit.specs.declared.place.Place.{Place}
 use Rattle.smq_kit.specs.Orders.{place_cmp}
 use Rattle.smq_pdu.specs.Header.{Header}
-use Rattle.smq_pdu.specs.Pairing.{agrees, is_response_of, is_request_of}
+use Rattle.smq_pdu.specs.Pairing.{agrees, is_request, is_response_of, is_request_of}
 use Rattle.smq_pdu.specs.declared.body.Submit.{Submit}
 use Rattle.smq_receipt.specs.declared.reading.Receipt.{Receipt}
+use Rattle.smq_pair.specs.Pairing.{PlacedHeader, PairingValue, pair_at, places_of, waiting, strays}
+use Rattle.smq_pair.specs.declared.pairing.Pair.{Pair}
+use Rattle.smq_book.specs.declared.counting.lists.List.TheVariants as list
+use Rattle.smq_book.specs.declared.counting.lists.Listed.{Listed}
 use Rattle.smq_book.specs.declared.present.kept.KeptPdu.{KeptPdu}
 use Rattle.smq_book.specs.declared.present.session.Session.{Session}
+use Rattle.smq_book.specs.counting.Lists.{listed, listed_cmp, listed_set}
 use Rattle.smq_book.specs.present.Kept.{header_of, headers_of, kept_pdus, submit_in, id_in, receipt_in}
 
 -- what a response says to its request: whether its command agrees, its command_status, and the message id that it gives
@@ -36,10 +43,11 @@ pub record ReceivedReceipt : Type 0 where
   pub moment : ℕ
   pub receipt : Receipt
 
--- what the PDUs of sessions say, at their places
+-- what the PDUs of sessions say, at their places, and the places that want looking at
 pub record TrafficValue : Type 0 where
   pub messages : map.FinMap place_cmp Message
   pub receipts : map.FinMap place_cmp ReceivedReceipt
+  pub notes : FinSet listed_cmp
 
 -- ---- the response to a request: that of its sequence number and rank
 
@@ -112,6 +120,32 @@ receipt_at origin p = option_map (λ receipt. (place_of origin FromCentre p, rec
 abbrev pub receipts_among : Origin → List KeptPdu → List (Place × ReceivedReceipt)
 receipts_among origin centre = flat_map (λ p. option_to_list (receipt_at origin p)) centre
 
+-- ---- notes of a session: the places that want looking at, in their lists
+
+-- a PDU at its place, as its header says
+abbrev pub placed : Origin → Dir → KeptPdu → PlacedHeader
+placed origin dir p = record { place = place_of origin dir p; header = header_of p }
+
+-- the PDUs of a session whose PDUs are these, as pairs are made of them
+abbrev pub pairing_among : Origin → List KeptPdu → List KeptPdu → PairingValue
+pairing_among origin client centre =
+    record { client = map (placed origin FromClient) client; centre = map (placed origin FromCentre) centre }
+
+-- whether a response doesn't agree with its request
+abbrev pub disagrees : Option Pair → Bool
+disagrees None = false
+disagrees (Some pair) = not pair.agrees
+
+-- the places of the requests of both directions whose response doesn't agree, in order: the client's first
+abbrev pub mismatched : PairingValue → List Place
+mismatched v = filter (λ q. disagrees (pair_at v q)) (places_of is_request v)
+
+-- the notes of a session: the requests that wait, the responses that are strays, and the requests that are mismatched
+abbrev pub notes_among : PairingValue → List Listed
+notes_among v =
+    map (listed list.Waiting) (waiting v) ++ map (listed list.StrayAnswers) (strays v)
+    ++ map (listed list.Mismatched) (mismatched v)
+
 -- ---- of all sessions
 
 -- a session by its number, and its link
@@ -126,12 +160,24 @@ session_messages e = messages_among (origin_of e) (kept_pdus e.1.client) (kept_p
 abbrev pub session_receipts : ℕ × Session → List (Place × ReceivedReceipt)
 session_receipts e = receipts_among (origin_of e) (kept_pdus e.1.centre)
 
--- the traffic of these messages and receipts
-abbrev pub traffic_among : List (Place × Message) → List (Place × ReceivedReceipt) → TrafficValue
-traffic_among messages receipts =
-    record { messages = map.from_entries messages; receipts = map.from_entries receipts }
+-- the PDUs of a session, as pairs are made of them
+abbrev pub session_pairing : ℕ × Session → PairingValue
+session_pairing e = pairing_among (origin_of e) (kept_pdus e.1.client) (kept_pdus e.1.centre)
 
--- the messages and receipts of all sessions
+-- its notes
+abbrev pub session_notes : ℕ × Session → List Listed
+session_notes e = notes_among (session_pairing e)
+
+-- the traffic of these messages, receipts and notes
+abbrev pub traffic_among : List (Place × Message) → List (Place × ReceivedReceipt) → List Listed → TrafficValue
+traffic_among messages receipts notes = record {
+  messages = map.from_entries messages;
+  receipts = map.from_entries receipts;
+  notes = listed_set notes;
+}
+
+-- the messages, receipts and notes of all sessions
 abbrev pub traffic_of : map.FinMap nat_cmp Session → TrafficValue
 traffic_of sessions =
     traffic_among (flat_map session_messages (map.entries sessions)) (flat_map session_receipts (map.entries sessions))
+    (flat_map session_notes (map.entries sessions))

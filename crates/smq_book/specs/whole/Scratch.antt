@@ -4,6 +4,6 @@ use Rattle.smq_book.specs.pairing.Traffic.{traffic_of}
 use Rattle.smq_book.specs.join.Facts.{facts_of}
 use Rattle.smq_book.specs.counting.Tables.{TablesValue, tables_of}
 
--- decode and pair what is present, join it under what is set, and count
+-- decode and pair what is present, join it under what is set, and count; the notes are listed
 abbrev pub scratch : PresentValue → TablesValue
-scratch p = tables_of (facts_of p.settings (traffic_of p.sessions))
+scratch p = tables_of (facts_of p.settings (traffic_of p.sessions)) ((traffic_of p.sessions).notes)

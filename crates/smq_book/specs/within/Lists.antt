@@ -3,6 +3,7 @@
 use Rattle.std.specs.Prelude.{ℕ, List}
 use Rattle.std.specs.List.{flat_map}
 use Rattle.std.specs.FinMap as map
+use Rattle.smq_book.specs.declared.counting.lists.Listed.{Listed}
 use Rattle.smq_book.specs.declared.counting.tally.Fact.{Fact}
 use Rattle.smq_book.specs.declared.join.source.Source.{Source}
 use Rattle.smq_book.specs.declared.present.session.Session.{Session}
@@ -10,6 +11,7 @@ use Rattle.smq_book.specs.present.Kept.{kept_pdus}
 use Rattle.smq_book.specs.present.Present.{PresentValue}
 use Rattle.smq_book.specs.present.Settings.{SettingsValue, forms_of}
 use Rattle.smq_book.specs.counting.Tables.{TablesValue}
+use Rattle.smq_book.specs.pairing.Traffic.{session_notes}
 use Rattle.smq_book.specs.within.Counting.{tables_among}
 use Rattle.smq_book.specs.within.Messages.{SubmittedMessage, submits_among}
 use Rattle.smq_book.specs.within.Receipts.{KeyedReceipt, receipts_among}
@@ -35,10 +37,14 @@ submits_of p = flat_map (session_submits p.settings) (map.entries p.sessions)
 abbrev pub receipts_of : PresentValue → List KeyedReceipt
 receipts_of p = flat_map (session_receipts p.settings) (map.entries p.sessions)
 
+-- the notes of the sessions that are present
+abbrev pub notes_of : PresentValue → List Listed
+notes_of p = flat_map session_notes (map.entries p.sessions)
+
 -- a fact of each submitted message that is present
 abbrev pub facts_listed : PresentValue → List Fact
 facts_listed p = facts_among (submits_of p) (receipts_of p)
 
--- the tables of these facts
+-- the tables of these facts and of the notes
 abbrev pub tables_listed : PresentValue → TablesValue
-tables_listed p = tables_among (facts_listed p)
+tables_listed p = tables_among (facts_listed p) (notes_of p)

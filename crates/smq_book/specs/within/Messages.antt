@@ -54,10 +54,14 @@ message_of source p submit response = record {
   key = accepted_key source (header_of p) response;
 }
 
+-- a PDU of the client with this response, where it is this decodable submit_sm
+abbrev pub submit_with : Option Submit → Source → KeptPdu → Option KeptPdu → List SubmittedMessage
+submit_with (Some submit) source p response = message_of source p submit response ∷ []
+submit_with None source p response = []
+
 -- the i-th PDU of the client, where it is this decodable submit_sm
 abbrev pub submit_by : Option Submit → Source → List KeptPdu → List KeptPdu → ℕ → KeptPdu → List SubmittedMessage
-submit_by (Some submit) source client centre i p = message_of source p submit (response_of client centre i p) ∷ []
-submit_by None source client centre i p = []
+submit_by submit source client centre i p = submit_with submit source p (response_of client centre i p)
 
 -- the submitted messages of a session whose PDUs are these
 abbrev pub submits_among : Source → List KeptPdu → List KeptPdu → List SubmittedMessage

@@ -1,18 +1,22 @@
-//! Counts of facts in one ordered map, in which no count is 0: a fact adds one at each of its keys.
+//! Counts of facts in one ordered map, in which no count is 0: a fact adds one at each of its keys. Listed places in one
+//! ordered set, where those of a list stand beside each other.
 ghost use Rattle.std.specs.Prelude.{◌≡◌, ◌<◌, ◌+◌, ◌^◌, [], IfOk, OnOk, OnErr, option_to_list};
 ghost use Rattle.smq_book.specs.counting.Rows.{keys_of_fact, key_in, value_in};
-ghost use Rattle.smq_book.specs.counting.Tables.{count_at, rows_of};
-ghost use Rattle.smq_book.specs.within.Counting.{tables_among, count_of, one_more, plus};
+ghost use Rattle.std.specs.List.Sorted.{IsStrictlySortedBy};
+ghost use Rattle.smq_kit.specs.Orders.{place_cmp};
+ghost use Rattle.smq_book.specs.counting.Tables.{count_at, rows_of, listed_in};
+ghost use Rattle.smq_book.specs.within.Counting.{tables_among, count_of, one_more, plus, one_listed};
 
-use crate::{CountKey, Fact, Outcome, Rows, Value, View};
+use crate::{CountKey, Fact, List, Listed, Outcome, Places, Rows, Value, View};
 use std::alloc::{AllocError, Global};
-use std::collections::BTreeMap;
+use std::collections::{BTreeMap, BTreeSet};
 use std::marker::Model;
 
-/// How many submits have each value and outcome.
+/// How many submits have each value and outcome, and the places in each list.
 #[derive(Drop)]
 pub struct Tables {
     counts: BTreeMap<CountKey, u64>,
+    places: BTreeSet<Listed>,
 }
 
 impl Model for Tables {
@@ -23,12 +27,19 @@ impl Model for Tables {
 
     ghost coded = { tables_code };
 
-    ghost view = { λ t. record { counts = fin.from_entries t.counts.entries } };
+    ghost use Rattle.smq_book.specs.counting.Lists.{listed_set};
 
-    ghost use Rattle.std.specs.BTreeMap.{IsOrdered};
+    ghost view = { λ t. record {
+      counts = fin.from_entries t.counts.entries;
+      places = listed_set t.places.keys;
+    } };
+
+    ghost use Rattle.std.specs.BTreeMap as map;
+    ghost use Rattle.std.specs.BTreeSet as set;
     ghost use Rattle.smq_book.specs.within.CountOrder.{kept_cmp};
+    ghost use Rattle.smq_book.specs.within.ListOrder.{kept_listed_cmp};
 
-    ghost invariant = { λ t. IsOrdered kept_cmp t.counts };
+    ghost invariant = { λ t. map.IsOrdered kept_cmp t.counts × set.IsOrdered kept_listed_cmp t.places };
 }
 
 impl PartialEq for Tables {
@@ -40,7 +51,7 @@ impl PartialEq for Tables {
     ghost laws = { partial_equiv_from_equiv tables_eq_laws };
 
     fn eq(&self, other: &Tables) -> bool {
-        self.counts == other.counts
+        self.counts == other.counts && self.places == other.places
     }
 }
 
@@ -51,22 +62,26 @@ impl Eq for Tables {
 }
 
 impl Tables {
-    /// The tables of no facts.
+    /// The tables of no facts and no notes.
     pub(crate) fn new(alloc: Global) -> Tables
-        ensures { result ≡ tables_among [] }
+        ensures { result ≡ tables_among [] [] }
     {
         Tables {
             counts: BTreeMap::new(alloc),
+            places: BTreeSet::new(alloc),
         }
     }
 
-    /// The tables of these facts.
-    pub(crate) fn of_facts(alloc: Global, facts: &[Fact]) -> Result<Tables, AllocError>
-        ensures { IfOk result (λ t. t ≡ tables_among facts.now) }
+    /// The tables of these facts, where these notes are the listed places.
+    pub(crate) fn of(alloc: Global, facts: &[Fact], notes: &[Listed]) -> Result<Tables, AllocError>
+        ensures { IfOk result (λ t. t ≡ tables_among facts.now notes.now) }
     {
         let mut tables = Tables::new(alloc);
         for fact in facts {
             tables.add_fact(fact)?;
+        }
+        for note in notes {
+            tables.add_note(*note)?;
         }
         Ok(tables)
     }
@@ -90,6 +105,22 @@ impl Tables {
         Rows {
             view,
             left: self.counts.iter(),
+        }
+    }
+
+    /// The places of a list, in order. It looks at no other list's places.
+    pub fn list(&self, list: List) -> Places<'_>
+        ensures places { result ≡ listed_in self.now list }
+        ensures in_order { IsStrictlySortedBy place_cmp result }
+    {
+        let first = Listed::first_in(list);
+        match list.next() {
+            Some(next) => Places {
+                left: self.places.range(first..Listed::first_in(next)),
+            },
+            None => Places {
+                left: self.places.range(first..),
+            },
         }
     }
 
@@ -129,6 +160,15 @@ impl Tables {
     {
         let count = self.count_in(&key);
         self.counts.insert(key, count + 1)?;
+        Ok(())
+    }
+
+    /// Lists one place more, if it isn't listed there.
+    fn add_note(&mut self, note: Listed) -> Result<(), AllocError>
+        ensures ok { OnOk result (self.new ≡ one_listed self.old note) }
+        ensures err { OnErr result (self.new ≡ self.old) }
+    {
+        self.places.insert(note)?;
         Ok(())
     }
 }

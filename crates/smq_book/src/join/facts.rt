@@ -7,7 +7,7 @@ ghost use Rattle.smq_book.specs.join.Facts as by_place;
 ghost use Rattle.smq_book.specs.join.Outcomes as outcomes;
 ghost use Rattle.smq_book.specs.pairing.Traffic.{traffic_of};
 ghost use Rattle.smq_book.specs.within.Accepted.{HasNumbers, HasDeciders};
-ghost use Rattle.smq_book.specs.within.Lists.{facts_listed};
+ghost use Rattle.smq_book.specs.within.Lists.{facts_listed, submits_of};
 ghost use Rattle.smq_book.specs.within.Messages.{SubmittedMessage as Submit};
 ghost use Rattle.smq_book.specs.within.Outcomes as listed;
 ghost use Rattle.smq_book.specs.within.Receipts.{KeyedReceipt};
@@ -15,7 +15,8 @@ ghost use Rattle.smq_book.specs.within.Receipts.{KeyedReceipt};
 use crate::join::accepted::Accepted;
 use crate::join::deciders::Deciders;
 use crate::join::receipts::PlacedReceipt;
-use crate::join::submits::{SubmittedMessage, submits_present};
+use crate::join::submits::SubmittedMessage;
+use crate::join::traffic::read_sessions;
 use crate::{Fact, KeptPdu, Outcome, Present, SubmitError};
 use smq_pdu::agrees;
 use smq_receipt::MessageState;
@@ -26,16 +27,34 @@ pub(crate) fn facts_of(alloc: Global, present: &Present) -> Result<Vec<Fact>, Al
     ensures { IfOk result (λ made. made.items
         ≡ map.values (by_place.facts_of present.now.settings (traffic_of present.now.sessions))) }
 {
-    joined(alloc, present)
+    let traffic = read_sessions(alloc, present)?;
+    facts_with(alloc, present, traffic.submits.as_slice())
+}
+
+/// The same facts, where these are the submitted messages.
+pub(crate) fn facts_with(
+    alloc: Global,
+    present: &Present,
+    submits: &[SubmittedMessage<'_>],
+) -> Result<Vec<Fact>, AllocError>
+    requires { submits.now ≡ submits_of present.now }
+    ensures { IfOk result (λ made. made.items
+        ≡ map.values (by_place.facts_of present.now.settings (traffic_of present.now.sessions))) }
+{
+    joined(alloc, present, submits)
 }
 
 /// The submitted messages joined with the receipts that decide them.
-fn joined(alloc: Global, present: &Present) -> Result<Vec<Fact>, AllocError>
+fn joined(
+    alloc: Global,
+    present: &Present,
+    submits: &[SubmittedMessage<'_>],
+) -> Result<Vec<Fact>, AllocError>
+    requires { submits.now ≡ submits_of present.now }
     ensures { IfOk result (λ facts. facts.items ≡ facts_listed present.now) }
 {
-    let submits = submits_present(alloc, present)?;
     let deciders = Deciders::of_present(alloc, present)?;
-    facts_among(alloc, submits.as_slice(), &deciders)
+    facts_among(alloc, submits, &deciders)
 }
 
 /// What is known of each of these messages, in their order.

@@ -1,21 +1,21 @@
 //! The submitted messages, each with its response and the key of its id.
-ghost use Rattle.std.specs.Prelude.{◌≡◌, ◌++◌, ℕ, List, IfOk, OnOk};
+ghost use Rattle.std.specs.Prelude.{◌≡◌, ◌++◌, OnOk};
 ghost use Rattle.std.specs.Option.{option_to_list, option_copied};
-ghost use Rattle.smq_pdu.specs.Pairing.{request_rank};
-ghost use Rattle.smq_book.specs.present.Kept.{header_of, headers_of, submit_in};
+ghost use Rattle.smq_kit.specs.declared.place.Dir.TheVariants.{FromClient};
+ghost use Rattle.smq_book.specs.present.Kept.{header_of, submit_in};
 ghost use Rattle.smq_book.specs.pairing.Traffic as traffic;
-ghost use Rattle.smq_book.specs.within.Lists.{submits_of};
+ghost use Rattle.smq_book.specs.pairing.Traffic.{pairing_among};
 ghost use Rattle.smq_book.specs.within.Messages as messages;
-ghost use Rattle.smq_book.specs.within.Messages.{submit_by, submits_among};
-ghost use Rattle.smq_book.specs.within.Responses.{HasPlaces, response_by};
+ghost use Rattle.smq_book.specs.within.Messages.{submit_with, submits_among};
+ghost use Rattle.smq_book.specs.within.Pairs.{Rises, SubmitsAreRequests, from_session, response_at};
 
+use crate::KeptPdu;
 use crate::join::source::Source;
-use crate::pairing::ranks::Ranks;
-use crate::pairing::responses::Responses;
-use crate::{KeptPdu, Present};
+use crate::pairing::pairs::{pdu_at, place_of};
 use smq_kit::{Dir, LinkKey, MessageId, Place};
-use smq_pdu::{agrees, is_request};
-use std::alloc::{AllocError, Global};
+use smq_pair::Pairing;
+use smq_pdu::agrees;
+use std::alloc::AllocError;
 use std::marker::Model;
 
 /// A submitted message: a decodable submit_sm of the client, with its response where it has one.
@@ -65,88 +65,70 @@ impl<'a> SubmittedMessage<'a> {
     }
 }
 
-/// The submitted messages that are present.
-pub(crate) fn submits_present(
-    alloc: Global,
-    present: &Present,
-) -> Result<Vec<SubmittedMessage<'_>>, AllocError>
-    ensures { IfOk result (λ submits. submits.items ≡ submits_of present.now) }
-{
-    let mut submits = Vec::new(alloc);
-    for (number, session) in present.sessions() {
-        let source = Source::of_session(present.settings(), *number, session);
-        push_submits(
-            &mut submits,
-            source,
-            session.client.pdus(),
-            session.centre.pdus(),
-        )?;
-    }
-    Ok(submits)
-}
-
 /// Puts the submitted messages of a session, in their order, after what is there.
-fn push_submits<'a>(
+pub(crate) fn push_submits<'a>(
     submits: &mut Vec<SubmittedMessage<'a>>,
     source: Source,
+    pairing: &mut Pairing,
     client: &'a [KeptPdu],
     centre: &'a [KeptPdu],
 ) -> Result<(), AllocError>
-    ensures { OnOk result
+    requires pairs { pairing.old ≡ pairing_among (from_session source.session) client.now centre.now }
+    requires client { Rises 0 client.now }
+    requires centre { Rises 0 centre.now }
+    requires requests { SubmitsAreRequests client.now }
+    ensures submits { OnOk result
         (submits.new.items ≡ submits.old.items ++ submits_among source client.now centre.now) }
+    ensures stays { pairing.new ≡ pairing.old }
 {
-    let alloc = *submits.allocator();
-    let responses = Responses::of_centre(alloc, centre)?;
-    let mut ranks = Ranks::new(alloc);
     for pdu in client {
-        let rank = ranks.rank(pdu.seq);
-        if let Some(submit) = submit_at(source, &responses, centre, rank, pdu) {
+        if let Some(submit) = submit_at(source, pairing, centre, pdu) {
             submits.push(submit)?;
-        }
-        if is_request(pdu.command) {
-            ranks.add(pdu.seq)?;
         }
     }
     Ok(())
 }
 
-/// The message that a PDU of the client is, where it is a decodable submit_sm, by its rank.
+/// The message that a PDU of the client is, where it is a decodable submit_sm.
 fn submit_at<'a>(
     source: Source,
-    responses: &Responses,
+    pairing: &mut Pairing,
     centre: &'a [KeptPdu],
-    rank: usize,
     pdu: &'a KeptPdu,
 ) -> Option<SubmittedMessage<'a>>
-    requires { HasPlaces responses.now.places (headers_of centre.now) }
-    ensures { (client : List KeptPdu) (i : ℕ)
-        → rank ≡ request_rank (headers_of client) i pdu.now.seq
-        → option_to_list result
-        ≡ submit_by (submit_in pdu.now.content) source client centre.now i pdu.now }
+    requires { Rises 0 centre.now }
+    ensures submit { let place = traffic.place_of (from_session source.session) FromClient pdu.now in
+        option_to_list result
+        ≡ submit_with (submit_in pdu.now.content) source pdu.now (response_at pairing.old centre.now place) }
+    ensures stays { pairing.new ≡ pairing.old }
 {
     match pdu.content.submit() {
         Some(submit) => Some(SubmittedMessage {
             source,
             request: pdu,
             registered_delivery: submit.registered_delivery,
-            response: response_of(responses, centre, pdu.seq, rank),
+            response: response_of(
+                pairing,
+                place_of(source.session, Dir::FromClient, pdu),
+                centre,
+            ),
         }),
         None => None,
     }
 }
 
-/// The response of a sequence number and rank.
+/// The response in the pair at a place, which is one of these PDUs of the centre.
 fn response_of<'a>(
-    responses: &Responses,
+    pairing: &mut Pairing,
+    place: Place,
     centre: &'a [KeptPdu],
-    seq: u32,
-    rank: usize,
 ) -> Option<&'a KeptPdu>
-    requires { HasPlaces responses.now.places (headers_of centre.now) }
-    ensures { option_copied result ≡ response_by centre.now seq rank }
+    requires { Rises 0 centre.now }
+    ensures response { option_copied result ≡ response_at pairing.old centre.now place }
+    ensures stays { pairing.new ≡ pairing.old }
 {
-    let place = responses.place(seq, rank)?;
-    centre.get(place)
+    let pair = pairing.pair_of(place)?;
+    pdu_at(centre, pair.response.offset)
 }
 
 /// The id that a response gives, where it accepts the request.

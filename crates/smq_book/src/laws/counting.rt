@@ -1,16 +1,21 @@
-//! Laws of counts: what a count is, what one fact more changes, and the orders in which rows stand.
+//! Laws of counts and lists: what a count is, what one fact more changes, which places a list shows, and the orders in
+//! which rows and places stand.
 ghost use Rattle.std.specs.Prelude.{◌≡◌, ◌≤◌, ◌+◌, ◌∷◌, ◌↔◌, [], ℕ, Option, Some, None, Contains, length, map, IsTrue};
 ghost use Rattle.std.specs.List.Sorted.{IsStrictlySortedBy};
 ghost use Rattle.std.specs.FinMap as fin;
+ghost use Rattle.std.specs.FinSet.{FinSet};
 ghost use Rattle.smq_kit.specs.Maps.{set_at, share};
 ghost use Rattle.smq_kit.specs.Orders.{place_cmp};
-ghost use Rattle.smq_book.specs.Known.{known_values};
+ghost use Rattle.smq_book.specs.Known.{known_values, KnownLists};
+ghost use Rattle.smq_book.specs.counting.Lists.{lists, list_place, listed, listed_cmp};
 ghost use Rattle.smq_book.specs.counting.Rows.{views, view_place, value_cmp, count_key, count_cmp, keys_of_fact, stands_in};
 ghost use Rattle.smq_book.specs.counting.Tables.{TablesValue, tables_of, number_at, count_at, positive, shown_cmp, rows_of};
+ghost use Rattle.smq_book.specs.counting.Tables.{listed_in};
 ghost use Rattle.smq_book.specs.within.CountOrder.{kept_cmp, kept_value_cmp, kept_value_eq};
 ghost use Rattle.smq_book.specs.within.Equal.{fact_eq, tables_eq};
+ghost use Rattle.smq_book.specs.within.ListOrder.{kept_listed_cmp};
 
-use crate::{CountKey, Fact, Outcome, SubmitError, Value, View};
+use crate::{CountKey, Fact, List, Listed, Outcome, SubmitError, Value, View};
 use smq_kit::{LinkId, Place};
 use std::cmp::Ordering;
 
@@ -26,27 +31,32 @@ pub fn messages_are_counted_once_in_a_view()
 /// A count is the number of the facts with this value in the view, and this outcome. A row stands where it isn't 0: the
 /// rows that are shown of a view are its counts that aren't 0, and no others.
 pub fn counts_are_numbers()
-    ensures number { (facts : fin.FinMap place_cmp Fact) (view : View) (value : Value) (outcome : Outcome)
-        → count_at (tables_of facts) view value outcome
+    ensures number { (facts : fin.FinMap place_cmp Fact) (notes : FinSet listed_cmp)
+        (view : View) (value : Value) (outcome : Outcome)
+        → count_at (tables_of facts notes) view value outcome
         ≡ number_at (count_key view value outcome) facts }
-    ensures stands { (facts : fin.FinMap place_cmp Fact) (view : View) (value : Value) (outcome : Outcome)
-        → fin.get (tables_of facts).counts (count_key view value outcome)
+    ensures stands { (facts : fin.FinMap place_cmp Fact) (notes : FinSet listed_cmp)
+        (view : View) (value : Value) (outcome : Outcome)
+        → fin.get (tables_of facts notes).counts (count_key view value outcome)
         ≡ positive (number_at (count_key view value outcome) facts) }
-    ensures shown { (facts : fin.FinMap place_cmp Fact) (view : View) (value : Value) (outcome : Outcome) (n : ℕ)
-        → Contains (rows_of (tables_of facts) view) (value, outcome, n)
+    ensures shown { (facts : fin.FinMap place_cmp Fact) (notes : FinSet listed_cmp)
+        (view : View) (value : Value) (outcome : Outcome) (n : ℕ)
+        → Contains (rows_of (tables_of facts notes) view) (value, outcome, n)
         ↔ (positive (number_at (count_key view value outcome) facts) ≡ Some n) }
-    ensures bound { (facts : fin.FinMap place_cmp Fact) (view : View) (value : Value) (outcome : Outcome)
-        → count_at (tables_of facts) view value outcome ≤ length (fin.values facts) }
+    ensures bound { (facts : fin.FinMap place_cmp Fact) (notes : FinSet listed_cmp)
+        (view : View) (value : Value) (outcome : Outcome)
+        → count_at (tables_of facts notes) view value outcome ≤ length (fin.values facts) }
 {}
 
 /// Where the fact at a place is put in, changed or taken out, each count after it and what the old fact counted is the
 /// count before it and what the new fact counts.
 pub fn one_fact_moves_its_counts()
-    ensures { (facts : fin.FinMap place_cmp Fact) (place : Place) (fact : Option Fact)
+    ensures { (facts : fin.FinMap place_cmp Fact) (notes : FinSet listed_cmp)
+        (place : Place) (fact : Option Fact)
         (view : View) (value : Value) (outcome : Outcome)
-        → count_at (tables_of (set_at facts place fact)) view value outcome
+        → count_at (tables_of (set_at facts place fact) notes) view value outcome
         + share (stands_in (count_key view value outcome)) (fin.get facts place)
-        ≡ count_at (tables_of facts) view value outcome
+        ≡ count_at (tables_of facts notes) view value outcome
         + share (stands_in (count_key view value outcome)) fact }
 {}
 
@@ -77,4 +87,22 @@ pub fn rows_are_in_order()
     ensures order { (a b : CountKey) → kept_cmp a b ≡ count_cmp a b }
     ensures exact { (a b : CountKey) → count_cmp a b ≡ Ordering.Equal → a ≡ b }
     ensures views { map view_place views ≡ 0 ∷ 1 ∷ [] }
+{}
+
+/// A list shows exactly the places that are listed there, strictly in order. Lists are in the order of their table, and
+/// listed places are compared by list, then by place; they are equal exactly where they are one.
+pub fn lists_are_in_order()
+    ensures order { (a b : Listed) → kept_listed_cmp a b ≡ listed_cmp a b }
+    ensures exact { (a b : Listed) → listed_cmp a b ≡ Ordering.Equal → a ≡ b }
+    ensures lists { map list_place lists ≡ 0 ∷ 1 ∷ 2 ∷ [] }
+    ensures sorted { (tables : TablesValue) (list : List)
+        → IsStrictlySortedBy place_cmp (listed_in tables list) }
+    ensures members { (tables : TablesValue) (list : List) (place : Place)
+        → Contains (listed_in tables list) place
+        ↔ IsTrue (fin.contains_key tables.places (listed list place)) }
+{}
+
+/// The names of the lists, and listed places that are written out, in their order and by their lists.
+pub fn known_lists()
+    ensures { KnownLists }
 {}

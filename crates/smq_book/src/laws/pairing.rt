@@ -1,17 +1,21 @@
 //! Laws of messages and delivery receipts by place: what each PDU says, and what one more changes.
-ghost use Rattle.std.specs.Prelude.{◌≡◌, ◌++◌, ◌∷◌, [], ℕ, true, List, Some, length, slice_get, option_to_list};
+ghost use Rattle.std.specs.Prelude.{◌≡◌, ◌++◌, ◌∷◌, [], ℕ, true, List, Some, length, slice_get, option_map, option_to_list};
 ghost use Rattle.std.specs.List.{flat_map};
 ghost use Rattle.std.specs.FinMap as map;
 ghost use Rattle.std.specs.Ordering.{nat_cmp};
 ghost use Rattle.smq_kit.specs.Maps.{SameOutside};
+ghost use Rattle.smq_kit.specs.declared.place.Dir.TheVariants.{FromClient, FromCentre};
 ghost use Rattle.smq_kit.specs.Orders.{place_cmp};
+ghost use Rattle.smq_frame.specs.Stream.{Octet};
+ghost use Rattle.smq_pair.specs.Pairing.{pair_at, pair_of};
 ghost use Rattle.smq_pdu.specs.Header.{Header};
 ghost use Rattle.smq_pdu.specs.Pairing.{IsPair, is_request};
+ghost use Rattle.smq_pdu.specs.declared.body.Submit.{Submit};
 ghost use Rattle.smq_book.specs.declared.present.session.Session.{Session as SessionValue};
 ghost use Rattle.smq_book.specs.Known.{InTurn};
-ghost use Rattle.smq_book.specs.present.Kept.{header_of, headers_of};
+ghost use Rattle.smq_book.specs.present.Kept.{header_of, headers_of, kept_pdus, submit_in};
 ghost use Rattle.smq_book.specs.pairing.Pushes.{requests_of};
-ghost use Rattle.smq_book.specs.pairing.Traffic.{Origin, response_to, message_at, messages_among, session_messages, session_receipts, traffic_of};
+ghost use Rattle.smq_book.specs.pairing.Traffic.{Origin, place_of, placed, pairing_among, response_to, message_at, messages_among, session_messages, session_receipts, traffic_of};
 
 use crate::KeptPdu;
 
@@ -26,6 +30,18 @@ pub fn responses_are_those_of_pairs()
         → (j : ℕ) × (slice_get centre j ≡ Some r)
         × IsPair (headers_of (before ++ p ∷ after)) (headers_of centre) (length before) j
         (header_of p) (header_of r) }
+{}
+
+/// At the place of each submit_sm of a client the pairs of its session have the one with the response of its message, and
+/// none where that has none.
+pub fn responses_stand_in_pairs()
+    ensures { (origin : Origin) (client centre : List Octet) (before after : List KeptPdu)
+        (p : KeptPdu) (submit : Submit)
+        → kept_pdus client ≡ before ++ p ∷ after → submit_in p.content ≡ Some submit
+        → pair_at (pairing_among origin (kept_pdus client) (kept_pdus centre))
+        (place_of origin FromClient p)
+        ≡ option_map (λ r. pair_of (placed origin FromClient p) (placed origin FromCentre r))
+        (response_to (kept_pdus centre) before p) }
 {}
 
 /// Two requests of one sequence number have the two responses of it in turn, whatever their commands.

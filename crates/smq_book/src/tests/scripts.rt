@@ -1,6 +1,6 @@
 //! Scripts that are played on a book, and the facts and rows that they give.
 use crate::join::facts::facts_of;
-use crate::tests::{counts, ids, receipts, withdrawals};
+use crate::tests::{counts, ids, lists, receipts, withdrawals};
 use crate::*;
 use bytes::Bytes;
 use smq_kit::{Dir, Form, LinkId, Moment, Place, Refusal, SessionId};
@@ -179,12 +179,17 @@ pub(crate) enum Step {
     Facts(&'static [WantedFact]),
     /// The rows of the link view, then those of the error view.
     Rows(&'static [Wanted]),
+    /// The places in the lists, in their order.
+    Lists(&'static [WantedPlace]),
     /// What is counted in a view, whether or not a row stands there.
     Counts(&'static [(View, Wanted)]),
 }
 
 /// A fact of a message of session 10 at moment 0: its offset, its outcome, and the command_status that refused it.
 pub(crate) type WantedFact = (u64, Outcome, Option<u32>);
+
+/// A place in a list: its session, its direction and its offset.
+pub(crate) type WantedPlace = (List, u64, Dir, u64);
 
 /// A submit_sm at 1000.
 pub(crate) const SUBMIT: Step = Step::Client(10, 1000, Sent::Submit(1, NUMBER));
@@ -300,6 +305,7 @@ fn play(
             Step::Forms(response, receipt) => set_forms(book, response, receipt)?,
             Step::Facts(wanted) => assert_facts(rt, alloc, book, what, wanted)?,
             Step::Rows(wanted) => assert_rows(rt, alloc, book, what, wanted)?,
+            Step::Lists(wanted) => assert_lists(rt, alloc, book, what, wanted)?,
             Step::Counts(wanted) => assert_counts(rt, book, what, wanted)?,
         }
     }
@@ -407,6 +413,25 @@ pub(crate) fn assert_rows(
     Ok(())
 }
 
+/// Asserts that the places in the lists are these, list by list in their order.
+fn assert_lists(
+    rt: &impl Abort,
+    alloc: Global,
+    book: &Book,
+    what: &str,
+    wanted: &[WantedPlace],
+) -> Result<(), Fail> {
+    let tables = book.tables()?;
+    let mut places = Vec::new(alloc);
+    for list in [List::Waiting, List::StrayAnswers, List::Mismatched] {
+        for place in tables.list(list) {
+            places.push((list, place.session.0, place.dir, place.offset))?;
+        }
+    }
+    assert_eq!(rt; places.as_slice(), wanted, "{what}");
+    Ok(())
+}
+
 /// Asserts what is counted in a view.
 fn assert_counts(
     rt: &impl Abort,
@@ -460,5 +485,6 @@ fn each_script_gives_its_facts_and_rows(rt: HostRuntime) -> Result<(), Fail> {
     play_table(&rt, alloc, receipts::ERRORS)?;
     play_table(&rt, alloc, counts::FACTS)?;
     play_table(&rt, alloc, counts::ROWS)?;
-    play_table(&rt, alloc, withdrawals::WITHDRAWALS)
+    play_table(&rt, alloc, withdrawals::WITHDRAWALS)?;
+    play_table(&rt, alloc, lists::LISTS)
 }

@@ -1,9 +1,10 @@
 //! What withdrawals leave.
-use crate::Outcome;
 use crate::tests::scripts::Sent::*;
 use crate::tests::scripts::Step::*;
 use crate::tests::scripts::Wanted::*;
 use crate::tests::scripts::*;
+use crate::{List, Outcome};
+use smq_kit::Dir::FromCentre;
 use smq_kit::Form;
 
 /// Sessions that are withdrawn.
@@ -55,8 +56,10 @@ pub(crate) const WITHDRAWALS: Table = &[
             Rows(&[Link(1, Outcome::Ambiguous, 2)]),
             Centre(11, 2000, Receipt(1, b"id:007 stat:DELIVRD")),
             Rows(&[Link(1, Outcome::Ambiguous, 2)]),
+            Lists(&[(List::Waiting, 11, FromCentre, 18)]),
             Withdraw(10),
             Rows(DELIVERED),
+            Lists(&[(List::Waiting, 11, FromCentre, 18)]),
         ],
     ),
     (
@@ -67,8 +70,13 @@ pub(crate) const WITHDRAWALS: Table = &[
             Centre(11, 5000, Receipt(1, b"id:1 stat:UNDELIV err:012")),
             Centre(12, 4000, Receipt(1, b"id:1 stat:DELIVRD err:000")),
             Rows(DELIVERED),
+            Lists(&[
+                (List::Waiting, 11, FromCentre, 0),
+                (List::Waiting, 12, FromCentre, 0),
+            ]),
             Withdraw(12),
             Rows(&[Link(1, Outcome::Failed, 1), Text(b"012", 1)]),
+            Lists(&[(List::Waiting, 11, FromCentre, 0)]),
         ],
     ),
     (

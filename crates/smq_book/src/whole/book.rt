@@ -6,7 +6,8 @@ ghost use Rattle.smq_book.specs.present.Replies.{reply};
 ghost use Rattle.smq_book.specs.whole.Scratch.{scratch};
 ghost use Rattle.smq_book.specs.present.Steps.{step};
 
-use crate::join::facts::facts_of;
+use crate::join::facts::facts_with;
+use crate::join::traffic::read_sessions;
 use crate::{Edit, Forms, Present, Tables};
 use smq_frame::Tail;
 use smq_kit::{Dir, Refusal, SessionId};
@@ -88,7 +89,8 @@ impl Book {
     pub fn tables(&self) -> Result<Tables, AllocError>
         ensures { IfOk result (λ tables. tables ≡ scratch self.now.present) }
     {
-        let facts = facts_of(self.alloc, &self.present)?;
-        Tables::of_facts(self.alloc, facts.as_slice())
+        let traffic = read_sessions(self.alloc, &self.present)?;
+        let facts = facts_with(self.alloc, &self.present, traffic.submits.as_slice())?;
+        Tables::of(self.alloc, facts.as_slice(), traffic.notes.as_slice())
     }
 }

@@ -3,4 +3,4 @@ use Rattle.smq_book.proofs.CountMoves.{counts-move}
 use Rattle.smq_book.proofs.laws.counting.one_fact_moves_its_counts.Goals as goal
 
 pub returns : goal.returns
-returns c = λ facts place fact view value outcome. counts-move facts place fact (count_key view value outcome)
+returns c = λ facts notes place fact view value outcome. counts-move facts notes place fact (count_key view value outcome)

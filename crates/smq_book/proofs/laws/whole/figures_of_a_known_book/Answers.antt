@@ -1,4 +1,4 @@
-use Rattle.std.proofs.Common.{List, ap, ◌∙◌}
+use Rattle.std.proofs.Common.{List, [], ap, ◌∙◌}
 use Rattle.std.specs.Prelude.{codes}
 use Rattle.std.specs.FinMap.{values}
 use Rattle.smq_kit.specs.declared.error_code.ErrorCode.TheVariants.{Text}
@@ -22,10 +22,10 @@ known = values (facts_of known_book.settings (traffic_of known_book.sessions))
 pub returns : goal.returns
 returns c = record {
   facts = facts-of-book;
-  delivered = count-tables known (count_key v.Link (Link (record { 0 = 1 })) o.Delivered) ∙ ap (number_among (count_key v.Link (Link (record { 0 = 1 })) o.Delivered)) facts-of-book;
-  failed = count-tables known (count_key v.Link (Link (record { 0 = 1 })) o.Failed) ∙ ap (number_among (count_key v.Link (Link (record { 0 = 1 })) o.Failed)) facts-of-book;
-  ambiguous = count-tables known (count_key v.Link (Link (record { 0 = 65537 })) o.Ambiguous) ∙ ap (number_among (count_key v.Link (Link (record { 0 = 65537 })) o.Ambiguous)) facts-of-book;
-  not_ambiguous = count-tables known (count_key v.Link (Link (record { 0 = 1 })) o.Ambiguous) ∙ ap (number_among (count_key v.Link (Link (record { 0 = 1 })) o.Ambiguous)) facts-of-book;
-  why = count-tables known (count_key v.Error (Error (Failed (Text (codes "027")))) o.Failed) ∙ ap (number_among (count_key v.Error (Error (Failed (Text (codes "027")))) o.Failed)) facts-of-book;
-  not_so = count-tables known (count_key v.Error (Error (Failed (Text (codes "012")))) o.Failed) ∙ ap (number_among (count_key v.Error (Error (Failed (Text (codes "012")))) o.Failed)) facts-of-book;
+  delivered = count-tables known [] (count_key v.Link (Link (record { 0 = 1 })) o.Delivered) ∙ ap (number_among (count_key v.Link (Link (record { 0 = 1 })) o.Delivered)) facts-of-book;
+  failed = count-tables known [] (count_key v.Link (Link (record { 0 = 1 })) o.Failed) ∙ ap (number_among (count_key v.Link (Link (record { 0 = 1 })) o.Failed)) facts-of-book;
+  ambiguous = count-tables known [] (count_key v.Link (Link (record { 0 = 65537 })) o.Ambiguous) ∙ ap (number_among (count_key v.Link (Link (record { 0 = 65537 })) o.Ambiguous)) facts-of-book;
+  not_ambiguous = count-tables known [] (count_key v.Link (Link (record { 0 = 1 })) o.Ambiguous) ∙ ap (number_among (count_key v.Link (Link (record { 0 = 1 })) o.Ambiguous)) facts-of-book;
+  why = count-tables known [] (count_key v.Error (Error (Failed (Text (codes "027")))) o.Failed) ∙ ap (number_among (count_key v.Error (Error (Failed (Text (codes "027")))) o.Failed)) facts-of-book;
+  not_so = count-tables known [] (count_key v.Error (Error (Failed (Text (codes "012")))) o.Failed) ∙ ap (number_among (count_key v.Error (Error (Failed (Text (codes "012")))) o.Failed)) facts-of-book;
 }

@@ -1,6 +1,0 @@
-use Rattle.std.proofs.Common.{◌≡◌, take}
-use Rattle.smq_book.specs.within.Counting.{tables_among}
-use Rattle.smq_book.proofs.counting.tables.Tables.of_facts.Given as goal
-
-abbrev pub invariant-loop-fact : goal.invariant-loop-fact
-invariant-loop-fact l = l.tables ≡ tables_among (take l.fact-index l.facts)
