@@ -224,12 +224,17 @@ known_values link =
     ∷ w.Error (s.Failed e.Unstated)
     ∷ []
 
--- the notes of a session: its client asks with the numbers 7, 8 and 9; its centre answers 7 as it should, 8 as another
--- command, and 6, which nobody asked
-abbrev pub known_notes : List Listed
-known_notes =
-    notes_among (pairing_among known_origin (submit 0 7 1 ∷ submit 49 8 1 ∷ submit 98 9 1 ∷ [])
-    (pdu 0 0x8000_0004 0 7 (c.SubmitAnswer None) ∷ pdu 16 0x8000_0015 0 8 c.Other ∷ pdu 32 0x8000_0004 0 6 (c.SubmitAnswer None) ∷ []))
+-- a session: its client asks with the numbers 7, 8 and 9, responds to 5 as another command, and responds to 4, which
+-- nobody asked
+abbrev pub notes_client : List KeptPdu
+notes_client =
+    submit 0 7 1 ∷ submit 49 8 1 ∷ submit 98 9 1 ∷ pdu 147 0x8000_0015 0 5 c.Other ∷ pdu 163 0x8000_0005 0 4 c.Other ∷ []
+
+-- its centre responds to 7 as it should, to 8 as another command, and to 6, which nobody asked, and asks with 5 and 3
+abbrev pub notes_centre : List KeptPdu
+notes_centre =
+    pdu 0 0x8000_0004 0 7 (c.SubmitAnswer None) ∷ pdu 16 0x8000_0015 0 8 c.Other
+    ∷ pdu 32 0x8000_0004 0 6 (c.SubmitAnswer None) ∷ pdu 48 0x0000_0005 0 5 c.Other ∷ pdu 64 0x0000_0015 0 3 c.Other ∷ []
 
 -- ---- listed places, in their order: by list, then session, then direction, the client's first, then offset
 
@@ -477,9 +482,10 @@ pub record KnownLists : Type 0 where
       ≡ place_at 9 FromClient 0 ∷ place_at 65536 FromCentre 0 ∷ place_at 65537 FromClient 0 ∷ []
   pub in_mismatched : listed_in known_tables l.Mismatched ≡ place_at 1 FromCentre 16 ∷ []
   pub notes :
-      known_notes
-      ≡ listed l.Waiting (place_at 10 FromClient 98) ∷ listed l.StrayAnswers (place_at 10 FromCentre 32)
-      ∷ listed l.Mismatched (place_at 10 FromClient 49) ∷ []
+      notes_among (pairing_among known_origin notes_client notes_centre)
+      ≡ listed l.Waiting (place_at 10 FromClient 98) ∷ listed l.Waiting (place_at 10 FromCentre 64)
+      ∷ listed l.StrayAnswers (place_at 10 FromClient 163) ∷ listed l.StrayAnswers (place_at 10 FromCentre 32)
+      ∷ listed l.Mismatched (place_at 10 FromClient 49) ∷ listed l.Mismatched (place_at 10 FromCentre 48) ∷ []
 
 -- What is known and counted of the known book.
 pub record KnownFigures : Type 0 where
