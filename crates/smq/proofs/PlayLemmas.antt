@@ -5,7 +5,7 @@ use Rattle.std.specs.Prelude.{◌≢◌, IfOk}
 use Rattle.smq_kit.specs.declared.refusal.Refusal.{Refusal}
 use Rattle.smq_kit.specs.declared.refusal.Refusal.TheVariants.{Memory}
 use Rattle.smq_book.specs.declared.present.edit.Edit.{Edit}
-use Rattle.smq_book.specs.present.Refusals.{IsReply}
+use Rattle.smq_kit.specs.Replies.{IsReply}
 use Rattle.smq_book.specs.present.Present.{PresentValue}
 use Rattle.smq_book.specs.present.Replies.{reply}
 use Rattle.smq_book.specs.present.Steps.{step, step_unless, steps}

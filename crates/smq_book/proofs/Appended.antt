@@ -14,7 +14,7 @@ use Rattle.smq_book.specs.declared.present.session.Session.{Session}
 use Rattle.smq_book.specs.present.Batch.{BatchValue}
 use Rattle.smq_book.specs.present.Present.{PresentValue}
 use Rattle.smq_book.specs.present.Settings.{SettingsValue}
-use Rattle.smq_book.specs.present.Refusals.{IsReply, first_of}
+use Rattle.smq_kit.specs.Replies.{IsReply, first_of}
 use Rattle.smq_book.specs.present.Replies.{append_refusals, no_session, reply}
 use Rattle.smq_book.specs.present.Steps.{session_after, with_forms, change}
 use Rattle.smq_book.proofs.BatchReplies.{IsReply-weaker}

@@ -10,7 +10,7 @@ use Rattle.smq_frame.specs.Stream.{Octet, handed_in}
 use Rattle.smq_book.specs.declared.present.session.Session.{Session}
 use Rattle.smq_book.specs.present.Batch.{BatchValue}
 use Rattle.smq_book.specs.present.Present.{direction}
-use Rattle.smq_book.specs.present.Refusals.{IsReply, first_of}
+use Rattle.smq_kit.specs.Replies.{IsReply, first_of}
 use Rattle.smq_book.specs.present.Replies.{stream_refusals, append_refusals}
 use Rattle.smq_book.specs.present.Steps.{session_after}
 

@@ -24,7 +24,7 @@ use Rattle.smq_book.specs.declared.present.session.Session.{Session}
 use Rattle.smq_book.specs.present.Batch.{BatchValue}
 use Rattle.smq_book.specs.present.Present.{PresentValue, session_of, direction, octets_in, octets_of}
 use Rattle.smq_book.specs.present.Settings.{set_forms_of}
-use Rattle.smq_book.specs.present.Refusals.{first_of}
+use Rattle.smq_kit.specs.Replies.{first_of}
 use Rattle.smq_book.specs.present.Replies.{no_session, append_refusals, reply}
 use Rattle.smq_book.specs.present.Steps.{session_with, session_after, change, step_unless, step, steps, Appends, Withdraws, SetsForm, is_append_to, LeavesNoTrace, AreAppendedAgain, AppendsCommute}
 use Rattle.smq_book.proofs.BatchReplies.{new_session}

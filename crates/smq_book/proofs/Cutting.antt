@@ -10,7 +10,7 @@ use Rattle.smq_book.specs.declared.present.edit.Edit.TheVariants.{Append}
 use Rattle.smq_book.specs.present.Batch.{BatchValue, with_octets, continued}
 use Rattle.smq_book.specs.present.Present.{PresentValue, session_of, link_of, octets_of, tail_in}
 use Rattle.smq_book.specs.declared.present.session.Session.{Session}
-use Rattle.smq_book.specs.present.Refusals.{first_of}
+use Rattle.smq_kit.specs.Replies.{first_of}
 use Rattle.smq_book.specs.present.Replies.{GoesAfter, append_refusals, reply}
 use Rattle.smq_book.specs.present.Steps.{Appends, change, step}
 use Rattle.smq_book.specs.present.Stream.{last_moment}

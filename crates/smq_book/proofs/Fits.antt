@@ -11,7 +11,7 @@ use Rattle.smq_kit.specs.declared.refusal.Refusal.{Refusal}
 use Rattle.smq_frame.specs.Tail.{TailValue, tails_equal}
 use Rattle.smq_book.specs.declared.present.edit.Edit.TheVariants.{Append}
 use Rattle.smq_book.specs.declared.present.session.Session.{Session}
-use Rattle.smq_book.specs.present.Refusals.{refused_if, first_of}
+use Rattle.smq_kit.specs.Replies.{refused_if, first_of}
 use Rattle.smq_book.specs.present.Batch.{BatchValue}
 use Rattle.smq_book.specs.present.Present.{PresentValue, session_of, octets_of, tail_in}
 use Rattle.smq_book.specs.present.Replies.{other_link, out_of_step, backward, reply, GoesAfter}

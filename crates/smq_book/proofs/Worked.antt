@@ -11,7 +11,7 @@ use Rattle.smq_book.specs.declared.present.session.Session.{Session}
 use Rattle.smq_book.specs.present.Batch.{BatchValue, batch_of}
 use Rattle.smq_book.specs.Known.{one_octet, one_more}
 use Rattle.smq_book.specs.present.Present.{session_of}
-use Rattle.smq_book.specs.present.Refusals.{first_of}
+use Rattle.smq_kit.specs.Replies.{first_of}
 use Rattle.smq_book.specs.present.Replies.{append_refusals, reply}
 
 abbrev pub ten : Session

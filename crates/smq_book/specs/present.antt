@@ -1,7 +1,6 @@
 -- What is present, and what an edit leaves present.
 pub mod Kept
 pub mod Stream
-pub mod Refusals
 pub mod Batch
 pub mod Settings
 pub mod Present

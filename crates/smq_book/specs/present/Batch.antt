@@ -10,7 +10,7 @@ use Rattle.smq_frame.specs.Tail.{TailValue, tail_after}
 use Rattle.smq_pdu.specs.Placed.{placed_pdu}
 use Rattle.smq_book.specs.declared.present.kept.KeptPdu.{KeptPdu}
 use Rattle.smq_book.specs.present.Kept.{kept_pdu}
-use Rattle.smq_book.specs.present.Refusals.{first_of, refused_if}
+use Rattle.smq_kit.specs.Replies.{first_of, refused_if}
 
 -- octets with their moment, the direction that they are for, and the tail on which they were decoded
 pub record BatchValue : Type 0 where

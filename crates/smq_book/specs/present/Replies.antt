@@ -9,7 +9,7 @@ use Rattle.smq_frame.specs.Tail.{tails_equal, tail_of}
 use Rattle.smq_book.specs.declared.present.edit.Edit.{Edit}
 use Rattle.smq_book.specs.declared.present.edit.Edit.TheVariants.{Append, Withdraw, SetForm}
 use Rattle.smq_book.specs.declared.present.session.Session.{Session}
-use Rattle.smq_book.specs.present.Refusals.{first_of, refused_if}
+use Rattle.smq_kit.specs.Replies.{first_of, refused_if}
 use Rattle.smq_book.specs.present.Batch.{BatchValue}
 use Rattle.smq_book.specs.present.Present.{PresentValue, session_of, link_of, octets_in, octets_of, tail_in}
 use Rattle.smq_book.specs.present.Stream.{last_moment}

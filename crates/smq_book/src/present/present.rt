@@ -7,7 +7,7 @@ ghost use Rattle.std.specs.FinMap as map;
 ghost use Rattle.std.specs.Map.Iter.{ShowsInOrder, deref_pair};
 ghost use Rattle.smq_book.specs.within.InOrder.{sessions_in};
 ghost use Rattle.smq_book.specs.present.Present.{empty, session_of};
-ghost use Rattle.smq_book.specs.present.Refusals.{IsReply, first_of};
+ghost use Rattle.smq_kit.specs.Replies.{IsReply, first_of};
 ghost use Rattle.smq_book.specs.present.Replies.{append_refusals, no_session, reply};
 ghost use Rattle.smq_book.specs.present.Steps.{session_after, change};
 

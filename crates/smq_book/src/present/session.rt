@@ -1,7 +1,7 @@
 //! One captured session: its link, which it keeps, and the octets of both directions.
 ghost use Rattle.std.specs.Prelude.{◌≡◌, None, Some, MatchResult, MatchOption, Err};
 ghost use Rattle.smq_book.specs.present.Present.{direction};
-ghost use Rattle.smq_book.specs.present.Refusals.{IsReply, first_of};
+ghost use Rattle.smq_kit.specs.Replies.{IsReply, first_of};
 ghost use Rattle.smq_book.specs.present.Replies.{append_refusals};
 ghost use Rattle.smq_book.specs.present.Steps.{session_after};
 

@@ -8,7 +8,7 @@ ghost use Rattle.smq_frame.specs.Tail.{tail_of, tail_after};
 ghost use Rattle.smq_pdu.specs.Placed.{placed_pdu};
 ghost use Rattle.smq_book.specs.present.Kept.{kept_pdu, kept_pdus};
 ghost use Rattle.smq_book.specs.present.Stream.{stream_of, last_moment};
-ghost use Rattle.smq_book.specs.present.Refusals.{IsReply, first_of};
+ghost use Rattle.smq_kit.specs.Replies.{IsReply, first_of};
 ghost use Rattle.smq_book.specs.present.Replies.{stream_refusals};
 
 use crate::{Batch, KeptPdu};

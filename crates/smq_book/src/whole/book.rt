@@ -1,7 +1,7 @@
 //! The book: it makes an edit or refuses it, and counts what is present from nothing.
 ghost use Rattle.std.specs.Prelude.{◌≡◌, IfOk};
 ghost use Rattle.smq_book.specs.present.Present.{empty, tail_in};
-ghost use Rattle.smq_book.specs.present.Refusals.{IsReply};
+ghost use Rattle.smq_kit.specs.Replies.{IsReply};
 ghost use Rattle.smq_book.specs.present.Replies.{reply};
 ghost use Rattle.smq_book.specs.whole.Scratch.{scratch};
 ghost use Rattle.smq_book.specs.present.Steps.{step};

@@ -1,7 +1,7 @@
 use Rattle.std.proofs.Common.{◌≡◌, Result, subst, sym}
 use Rattle.std.specs.FinMap.{get, remove}
 use Rattle.smq_kit.specs.declared.refusal.Refusal.{Refusal}
-use Rattle.smq_book.specs.present.Refusals.{IsReply}
+use Rattle.smq_kit.specs.Replies.{IsReply}
 use Rattle.smq_book.specs.present.Replies.{no_session}
 use Rattle.smq_book.specs.within.InOrder.{sessions_in}
 use Rattle.smq_book.proofs.Appended.{removed, absent}

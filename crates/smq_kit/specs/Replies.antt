@@ -19,3 +19,10 @@ IsReply None (Ok x) Made Unchanged = Made
 IsReply None (Err e) Made Unchanged = (e ≡ Memory) × Unchanged
 IsReply (Some refusal) (Ok x) Made Unchanged = ⊥
 IsReply (Some refusal) (Err e) Made Unchanged = (e ≡ refusal) × Unchanged
+
+-- The same of a call that takes no memory: anything else is made.
+abbrev pub IsReplyInPlace : {T : Type 0} → Option Refusal → Result T Refusal → Type 0 → Type 0 → Type 0
+IsReplyInPlace None (Ok x) Made Unchanged = Made
+IsReplyInPlace None (Err e) Made Unchanged = ⊥
+IsReplyInPlace (Some refusal) (Ok x) Made Unchanged = ⊥
+IsReplyInPlace (Some refusal) (Err e) Made Unchanged = (e ≡ refusal) × Unchanged
