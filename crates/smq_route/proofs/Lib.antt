@@ -1,0 +1,10 @@
+pub mod VersionOrders
+pub mod Lookups
+pub mod Least
+pub mod Apart
+pub mod Edited
+pub mod Found
+pub mod Within
+pub mod Elsewhere
+pub mod EditLaws
+pub mod KnownVersions

@@ -1,0 +1,5 @@
+use Rattle.smq_route.proofs.EditLaws.{adds-apart, ends-apart, corrects-apart}
+use Rattle.smq_route.proofs.laws.edits_keep_versions_apart.Goals as goal
+
+pub returns : goal.returns
+returns c = record { adds = adds-apart; ends = ends-apart; corrects = corrects-apart }

@@ -1,0 +1,12 @@
+use Rattle.std.proofs.Common.{sym, ap, subst, ◌∙◌}
+use Rattle.std.specs.FinMap.{entries}
+use Rattle.smq_route.specs.Routes.{RoutesValue}
+use Rattle.smq_route.specs.Versions.{AreApart}
+use Rattle.smq_route.proofs.Lookups.{entries-seen}
+use Rattle.smq_route.proofs.routes.Routes.versions.Goals as goal
+
+pub returns-clause-entries : goal.returns-clause-entries
+returns-clause-entries c = c.iter.ensures.rest ∙ sym (entries-seen c.self.inside.versions.entries c.iter.ensures.ordered) ∙ ap (λ (r : RoutesValue). entries r.versions) c.self.view_is
+
+pub returns-clause-apart : goal.returns-clause-apart
+returns-clause-apart c = subst AreApart (ap (λ (r : RoutesValue). r.versions) c.self.view_is) c.self.invariant.0
