@@ -87,13 +87,23 @@ pub record KnowsNumbers : Type 0 where
   pub moment : moment_of (codes "4102444800000") ≡ Some 4102444800000
   pub past_moments : moment_of (codes "4102444800001") ≡ None
 
--- a row of the view of links and one of the view of errors, and a value of each form
+-- a row of each view, and a value of each form
 pub record KnowsTexts : Type 0 where
   pub link_row : row_text view.Link (value.Link (record { 0 = 4294967295 }), outcome.Open, 1234567)
       ≡ codes "view,link,4294967295,open,1234567" ++ 10 ∷ []
+  pub route_row : row_text view.Route (value.Route (record { 0 = 4294967295 }), outcome.Waiting, 2)
+      ≡ codes "view,route,4294967295,waiting,2" ++ 10 ∷ []
+  pub no_route_row : row_text view.Route (value.NoRoute, outcome.Open, 1)
+      ≡ codes "view,route,none,open,1" ++ 10 ∷ []
+  pub network_row : row_text view.Network (value.Network (codes "23410"), outcome.Delivered, 3)
+      ≡ codes "view,network,23410,delivered,3" ++ 10 ∷ []
+  pub no_network_row : row_text view.Network (value.NoNetwork, outcome.Unasked, 1)
+      ≡ codes "view,network,none,unasked,1" ++ 10 ∷ []
   pub error_row : row_text view.Error (value.Error (error.Refused 88), outcome.Refused, 1)
       ≡ codes "view,error,status:88,refused,1" ++ 10 ∷ []
   pub link : value_text (value.Link (record { 0 = 0 })) ≡ codes "0"
+  pub route : value_text (value.Route (record { 0 = 10 })) ≡ codes "10"
+  pub network_code : value_text (value.Network (codes "310026")) ≡ codes "310026"
   pub status : value_text (value.Error (error.Refused 4294967295)) ≡ codes "status:4294967295"
   pub network : value_text (value.Error (error.Failed (code.Network 3 264))) ≡ codes "net:3:264"
   pub text : value_text (value.Error (error.Failed (code.Text (codes "0x-27_A.b"))))

@@ -23,9 +23,14 @@ abbrev pub error_text : SubmitError → List ℕ
 error_text (e.Refused status) = codes "status:" ++ decimal status
 error_text (e.Failed code) = code_text code
 
--- a value as it is printed: a link in decimal, or an error
+-- a value as it is printed: a link or a route in decimal, a network by the digits of its code, a word where there is
+-- none, or an error
 abbrev pub value_text : Value → List ℕ
 value_text (v.Link link) = decimal link.0
+value_text (v.Route route) = decimal route.0
+value_text v.NoRoute = codes "none"
+value_text (v.Network network) = network
+value_text v.NoNetwork = codes "none"
 value_text (v.Error error) = error_text error
 
 -- a row of a view as it is printed: `view,VIEW,VALUE,OUTCOME,COUNT` and a line feed

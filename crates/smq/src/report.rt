@@ -3,7 +3,7 @@ ghost use Rattle.std.specs.Prelude.{◌≡◌, ◌++◌, IfOk, OnOk, string_byte
 ghost use Rattle.smq.specs.Report.{code_text, error_text, report_of, row_text, value_text};
 
 use smq_book::{Outcome, SubmitError, Tables, Value, View};
-use smq_kit::{ErrorCode, ErrorText};
+use smq_kit::{ErrorCode, ErrorText, Network};
 use std::alloc::{AllocError, Global};
 use std::str;
 
@@ -45,6 +45,12 @@ pub fn push_value(text: &mut String, value: &Value) -> Result<(), AllocError>
             let number = link.0;
             write!(text, "{number}")
         }
+        Value::Route(route) => {
+            let number = route.0;
+            write!(text, "{number}")
+        }
+        Value::Network(network) => text.push_str(digits_of(network)),
+        Value::NoRoute | Value::NoNetwork => text.push_str("none"),
         Value::Error(error) => push_error(text, error),
     }
 }
@@ -71,6 +77,13 @@ fn push_code(text: &mut String, code: &ErrorCode) -> Result<(), AllocError>
         }
         ErrorCode::Unstated => text.push_str("unstated"),
     }
+}
+
+/// The digits of a network's code as text, which they always are.
+fn digits_of(network: &Network) -> &str
+    ensures { result.now ≡ network.now }
+{
+    str::from_utf8(network.as_slice()).unwrap()
 }
 
 /// The octets of an error text as text, which they always are.

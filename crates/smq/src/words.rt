@@ -55,6 +55,10 @@ fn named_view(name: Option<&str>) -> View
         Some(text) => {
             if text == "error" {
                 View::Error
+            } else if text == "route" {
+                View::Route
+            } else if text == "network" {
+                View::Network
             } else {
                 View::Link
             }

@@ -5,6 +5,7 @@ use Rattle.std.specs.List.{flat_map, reduce}
 use Rattle.std.specs.Cmp.{IsTotalOrder}
 use Rattle.std.specs.FinMap.{get, values, find, is_sorted, get-from_entries}
 use Rattle.std.proofs.lemmas.Cmp.{on_total, then_total, nat_cmp_total}
+use Rattle.smq_kit.specs.declared.names.RouteId.{RouteId}
 use Rattle.smq_kit.specs.declared.place.Place.{Place}
 use Rattle.smq_kit.specs.Maps.{kept_of}
 use Rattle.smq_kit.specs.Orders.{place_cmp}
@@ -48,15 +49,15 @@ said_listed d = option_map (λ r. r.receipt) d
 abbrev listed_outcome : Header → Bool → Option KeptPdu → Bool → Option PlacedReceipt → Outcome
 listed_outcome header asks response ambiguous d = first_that_holds (listed.outcome_table header asks response ambiguous d) last_outcome
 
-outcome-alike : (s : SubmittedMessage) (response : Option KeptPdu) (standing : Option Standing) (h : Option ReceivedReceipt) (d : Option PlacedReceipt) → said h ≡ said_listed d
-    → outcome_by (record (message_from s) { response = option_map (response_in s.header) response }) (record { standing = standing; decider = h }) ≡ listed_outcome s.header s.asks_receipt response (is_shared standing) d
-outcome-alike s None standing h d e = refl
-outcome-alike s (Some a) standing None None e = refl
-outcome-alike s (Some a) standing None (Some r) e = absurd cc
-outcome-alike s (Some a) standing (Some h) None e = absurd cc
-outcome-alike s (Some a) standing (Some h) (Some r) e =
+outcome-alike : (s : SubmittedMessage) (response : Option KeptPdu) (route : Option (RouteId × List ℕ)) (standing : Option Standing) (h : Option ReceivedReceipt) (d : Option PlacedReceipt) → said h ≡ said_listed d
+    → outcome_by (record (message_from s) { response = option_map (response_in s.header) response }) (record { standing = standing; decider = h; route = route }) ≡ listed_outcome s.header s.asks_receipt response (is_shared standing) d
+outcome-alike s None route standing h d e = refl
+outcome-alike s (Some a) route standing None None e = refl
+outcome-alike s (Some a) route standing None (Some r) e = absurd cc
+outcome-alike s (Some a) route standing (Some h) None e = absurd cc
+outcome-alike s (Some a) route standing (Some h) (Some r) e =
     let one : h.receipt ≡ r.receipt = cc in
-    (λ i. outcome_by (record (message_from s) { response = Some (response_in s.header a) }) (record { standing = standing; decider = Some (record h { receipt = one i }) }))
+    (λ i. outcome_by (record (message_from s) { response = Some (response_in s.header a) }) (record { standing = standing; decider = Some (record h { receipt = one i }); route = route }))
 
 error-alike : (s : SubmittedMessage) (outcome : Outcome) (response : Option KeptPdu) (h : Option ReceivedReceipt) (d : Option PlacedReceipt) → said h ≡ said_listed d
     → error_by outcome (option_map (response_in s.header) response) h ≡ listed.error_by outcome response d
@@ -70,14 +71,16 @@ error-alike s o.Failed response (Some h) (Some r) e =
     (λ i. error_by o.Failed (option_map (response_in s.header) response) (Some (record h { receipt = one i })))
 error-alike s _ response h d e = refl
 
-fact-alike : (s : SubmittedMessage) (standing : Option Standing) (h : Option ReceivedReceipt) (d : Option PlacedReceipt) → said h ≡ said_listed d
-    → fact_by s.place (message_from s) (record { standing = standing; decider = h }) ≡ listed.fact_by s (is_shared standing) d
-fact-alike s standing h d e =
-    let outcome : outcome_by (message_from s) (record { standing = standing; decider = h }) ≡ listed.outcome_by s (is_shared standing) d = outcome-alike s s.response standing h d e in
+fact-alike : (s : SubmittedMessage) (route : Option (RouteId × List ℕ)) (standing : Option Standing) (h : Option ReceivedReceipt) (d : Option PlacedReceipt) → said h ≡ said_listed d
+    → fact_by s.place (message_from s) (record { standing = standing; decider = h; route = route }) ≡ listed.fact_by s route (is_shared standing) d
+fact-alike s route standing h d e =
+    let outcome : outcome_by (message_from s) (record { standing = standing; decider = h; route = route }) ≡ listed.outcome_by s (is_shared standing) d = outcome-alike s s.response route standing h d e in
     λ i. record {
       place = s.place;
       moment = s.moment;
       link = s.link;
+      route = option_map (λ r. r.0) route;
+      network = option_map (λ r. r.1) route;
       outcome = outcome i;
       error = (ap (λ x. error_by x (option_map (response_in s.header) s.response) h) outcome ∙ error-alike s (listed.outcome_by s (is_shared standing) d) s.response h d e) i;
     }
@@ -156,31 +159,31 @@ module _ (s : SettingsValue) (xs : List SubmittedMessage) (rs : List KeyedReceip
   abbrev standing_by : LinkKey → Bool → Standing
   standing_by key single = cond single (Single (decider groups key)) Shared
 
-  abbrev by_standing : Option Standing → Circumstances
-  by_standing standing = record { standing = standing; decider = decider_in traffic standing }
+  abbrev by_standing : SubmittedMessage → Option Standing → Circumstances
+  by_standing x standing = record { standing = standing; decider = decider_in traffic standing; route = listed.route_of s.versions x }
 
   single-agrees : (x : SubmittedMessage) (key : LinkKey) (single : Bool)
-      → fact_by x.place (message_from x) (by_standing (Some (standing_by key single))) ≡ listed.fact_by x (not single) (cond single (least_receipt (receipts.candidates key rs)) None)
-  single-agrees x key true = fact-alike x (Some (Single (decider groups key))) (receipt_where (decider groups key)) (least_receipt (receipts.candidates key rs)) (said-agree key)
-  single-agrees x key false = fact-alike x (Some Shared) None None refl
+      → fact_by x.place (message_from x) (by_standing x (Some (standing_by key single))) ≡ listed.fact_by x (listed.route_of s.versions x) (not single) (cond single (least_receipt (receipts.candidates key rs)) None)
+  single-agrees x key true = fact-alike x (listed.route_of s.versions x) (Some (Single (decider groups key))) (receipt_where (decider groups key)) (least_receipt (receipts.candidates key rs)) (said-agree key)
+  single-agrees x key false = fact-alike x (listed.route_of s.versions x) (Some Shared) None None refl
 
   key-agrees : (x : SubmittedMessage) (key : Option LinkKey)
-      → fact_by x.place (message_from x) (by_standing (option_map (submit_standing groups) key)) ≡ listed.fact_by x (is_ambiguous xs key) (decider_of xs rs key)
-  key-agrees x None = fact-alike x None None None refl
+      → fact_by x.place (message_from x) (by_standing x (option_map (submit_standing groups) key)) ≡ listed.fact_by x (listed.route_of s.versions x) (is_ambiguous xs key) (decider_of xs rs key)
+  key-agrees x None = fact-alike x (listed.route_of s.versions x) None None None refl
   key-agrees x (Some key) =
-      ap (λ n. fact_by x.place (message_from x) (by_standing (Some (standing_by key (n == 1))))) (matches-agree key)
+      ap (λ n. fact_by x.place (message_from x) (by_standing x (Some (standing_by key (n == 1))))) (matches-agree key)
       ∙ single-agrees x key (number_accepted key xs == 1)
 
-  fact-agrees : (x : SubmittedMessage) → accepted_key s (message_from x) ≡ x.key → fact_by x.place (message_from x) (circumstances s traffic (message_from x)) ≡ listed.fact_of xs rs x
-  fact-agrees x e = ap (λ key. fact_by x.place (message_from x) (by_standing (option_map (submit_standing groups) key))) e ∙ key-agrees x x.key
+  fact-agrees : (x : SubmittedMessage) → accepted_key s (message_from x) ≡ x.key → fact_by x.place (message_from x) (circumstances s traffic (message_from x)) ≡ listed.fact_of s.versions xs rs x
+  fact-agrees x e = ap (λ key. fact_by x.place (message_from x) (by_standing x (option_map (submit_standing groups) key))) e ∙ key-agrees x x.key
 
   facts-map : (ys : List SubmittedMessage) → Keyed s ys
-      → map (λ e. e.1) (flat_map (kept_of (λ place m. Some (fact_by place m (circumstances s traffic m)))) (map message_entry ys)) ≡ map (listed.fact_of xs rs) ys
+      → map (λ e. e.1) (flat_map (kept_of (λ place m. Some (fact_by place m (circumstances s traffic m)))) (map message_entry ys)) ≡ map (listed.fact_of s.versions xs rs) ys
   facts-map [] h = refl
   facts-map (y ∷ ys) h = λ i. fact-agrees y h.0 i ∷ facts-map ys h.1 i
 
   -- the facts by place, in order, are those of the lists
-  pub facts-agree : values (facts_of s traffic) ≡ listed.facts_among xs rs
+  pub facts-agree : values (facts_of s traffic) ≡ listed.facts_among s.versions xs rs
   facts-agree =
       ap (λ es. map (λ e. e.1) es)
       (maps.entries-chosen places_total places_exact (λ place m. Some (fact_by place m (circumstances s traffic m))) traffic.messages

@@ -48,7 +48,7 @@ response-same client centre before after i p all many =
 -- ---- entries of what is read as lists
 
 abbrev pub message_from : SubmittedMessage → Message
-message_from s = record { link = s.link; moment = s.moment; asks_receipt = s.asks_receipt; response = option_map (response_in s.header) s.response }
+message_from s = record { link = s.link; moment = s.moment; number = s.number; asks_receipt = s.asks_receipt; response = option_map (response_in s.header) s.response }
 
 abbrev pub message_entry : SubmittedMessage → Place × Message
 message_entry s = (s.place, message_from s)

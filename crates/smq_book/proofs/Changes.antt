@@ -11,24 +11,28 @@ use Rattle.std.specs.declared.cmp.Ordering.{Ordering}
 use Rattle.std.specs.declared.cmp.Ordering.TheVariants.{Less, Equal, Greater}
 use Rattle.smq_kit.specs.declared.form.Form.{Form}
 use Rattle.smq_kit.specs.declared.names.LinkId.{LinkId}
+use Rattle.smq_kit.specs.declared.names.RouteId.{RouteId}
 use Rattle.smq_kit.specs.declared.names.SessionId.{SessionId}
 use Rattle.smq_kit.specs.declared.place.Dir.{Dir}
 use Rattle.smq_kit.specs.declared.place.Dir.TheVariants.{FromClient, FromCentre}
 use Rattle.smq_kit.specs.declared.refusal.Refusal.{Refusal}
 use Rattle.smq_kit.specs.declared.refusal.Refusal.TheVariants.{NoSession}
 use Rattle.smq_frame.specs.Stream.{Octet, handed_in}
+use Rattle.smq_route.specs.Edits.{ending, corrected}
+use Rattle.smq_route.specs.Versions.{Versions, key_at}
 use Rattle.smq_book.specs.declared.present.edit.Edit.{Edit}
-use Rattle.smq_book.specs.declared.present.edit.Edit.TheVariants.{Append, Withdraw, SetForm}
+use Rattle.smq_book.specs.declared.present.edit.Edit.TheVariants.{Append, Withdraw, SetForm, AddRoute, EndRoute, CorrectRoute}
 use Rattle.smq_book.specs.declared.present.forms.Forms.{Forms}
 use Rattle.smq_book.specs.declared.present.session.Session.{Session}
 use Rattle.smq_book.specs.present.Batch.{BatchValue}
 use Rattle.smq_book.specs.present.Present.{PresentValue, session_of, direction, octets_in, octets_of}
-use Rattle.smq_book.specs.present.Settings.{set_forms_of}
+use Rattle.smq_book.specs.present.Settings.{set_forms_of, with_versions}
 use Rattle.smq_kit.specs.Replies.{first_of}
 use Rattle.smq_book.specs.present.Replies.{no_session, append_refusals, reply}
-use Rattle.smq_book.specs.present.Steps.{session_with, session_after, change, step_unless, step, steps, Appends, Withdraws, SetsForm, is_append_to, LeavesNoTrace, AreAppendedAgain, AppendsCommute}
+use Rattle.smq_book.specs.present.Steps.{session_with, session_after, change, step_unless, step, steps, Appends, Withdraws, SetsForm, AddsRoute, EndsRoute, CorrectsRoute, is_append_to, LeavesNoTrace, AreAppendedAgain, AppendsCommute}
 use Rattle.smq_book.proofs.BatchReplies.{new_session}
 use Rattle.smq_book.proofs.Maps.{remove-none}
+use Rattle.smq_book.proofs.VersionLemmas.{put-there, put-elsewhere, changed-there, changed-elsewhere, same_versions}
 
 -- ---- the session of a batch
 
@@ -106,6 +110,27 @@ sets-change p link response receipt = record {
   rest = refl;
 }
 
+pub adds-change : (p : PresentValue) (prefix : List ℕ) (from : ℕ) (route : RouteId) (network : List ℕ) → AddsRoute p (change p (AddRoute prefix from route network)) prefix from route network
+adds-change p prefix from route network = record {
+  there = put-there p.settings.versions (key_at prefix from) (record { until = None; route = route; network = network });
+  elsewhere = λ key ne. put-elsewhere p.settings.versions (key_at prefix from) (record { until = None; route = route; network = network }) key ne;
+  rest = refl;
+}
+
+pub ends-change : (p : PresentValue) (prefix : List ℕ) (from until : ℕ) → EndsRoute p (change p (EndRoute prefix from until)) prefix from until
+ends-change p prefix from until = record {
+  there = changed-there p.settings.versions prefix from (ending until);
+  elsewhere = λ key ne. changed-elsewhere p.settings.versions prefix from (ending until) key ne;
+  rest = refl;
+}
+
+pub corrects-change : (p : PresentValue) (prefix : List ℕ) (from : ℕ) (route : RouteId) (network : List ℕ) → CorrectsRoute p (change p (CorrectRoute prefix from route network)) prefix from route network
+corrects-change p prefix from route network = record {
+  there = changed-there p.settings.versions prefix from (corrected route network);
+  elsewhere = λ key ne. changed-elsewhere p.settings.versions prefix from (corrected route network) key ne;
+  rest = refl;
+}
+
 -- ---- no other change
 
 same_link : (a b : LinkId) (o : Option LinkId) → Some a ≡ o → Some b ≡ o → a ≡ b
@@ -174,6 +199,21 @@ sets-alone p q link response receipt one =
     let same : q.settings.forms ≡ new.settings.forms = same_map nat_cmp_total nat_cmp-IsAntisymmetric _ _ (same_forms p q new link response receipt one (sets-change p link response receipt)) in
     one.rest ∙ ap (λ (m : FinMap nat_cmp Forms). record p { settings = record p.settings { forms = m } }) same
 
+pub adds-alone : (p q : PresentValue) (prefix : List ℕ) (from : ℕ) (route : RouteId) (network : List ℕ) → AddsRoute p q prefix from route network → q ≡ change p (AddRoute prefix from route network)
+adds-alone p q prefix from route network one =
+    let two = adds-change p prefix from route network in
+    one.rest ∙ ap (λ (m : Versions). record p { settings = with_versions p.settings m }) (same_versions p.settings.versions q.settings.versions _ (key_at prefix from) (one.there ∙ sym two.there) one.elsewhere two.elsewhere)
+
+pub ends-alone : (p q : PresentValue) (prefix : List ℕ) (from until : ℕ) → EndsRoute p q prefix from until → q ≡ change p (EndRoute prefix from until)
+ends-alone p q prefix from until one =
+    let two = ends-change p prefix from until in
+    one.rest ∙ ap (λ (m : Versions). record p { settings = with_versions p.settings m }) (same_versions p.settings.versions q.settings.versions _ (key_at prefix from) (one.there ∙ sym two.there) one.elsewhere two.elsewhere)
+
+pub corrects-alone : (p q : PresentValue) (prefix : List ℕ) (from : ℕ) (route : RouteId) (network : List ℕ) → CorrectsRoute p q prefix from route network → q ≡ change p (CorrectRoute prefix from route network)
+corrects-alone p q prefix from route network one =
+    let two = corrects-change p prefix from route network in
+    one.rest ∙ ap (λ (m : Versions). record p { settings = with_versions p.settings m }) (same_versions p.settings.versions q.settings.versions _ (key_at prefix from) (one.there ∙ sym two.there) one.elsewhere two.elsewhere)
+
 pub step-made : (p : PresentValue) (e : Edit) → reply p e ≡ None → step p e ≡ change p e
 step-made p e h = ap (λ (o : Option Refusal). step_unless o p e) h
 
@@ -205,6 +245,9 @@ hidden p s e (Some r) h = refl
 hidden p s (Append b) None h = ap (λ (m : FinMap nat_cmp Session). record p { sessions = m }) (remove-insert p.sessions s.0 b.session.0 (session_after (session_of p b.session.0) b) (same_number b.session.0 s.0 h))
 hidden p s (Withdraw t) None h = absurd (false≢true h)
 hidden p s (SetForm link response receipt) None h = absurd (false≢true h)
+hidden p s (AddRoute prefix from route network) None h = absurd (false≢true h)
+hidden p s (EndRoute prefix from until) None h = absurd (false≢true h)
+hidden p s (CorrectRoute prefix from route network) None h = absurd (false≢true h)
 
 and_parts : (a b : Bool) → a && b ≡ true → (a ≡ true) × (b ≡ true)
 and_parts true true h = (refl, refl)

@@ -20,7 +20,7 @@ use Rattle.smq_book.specs.pairing.Traffic.{TrafficValue, Message, ReceivedReceip
 use Rattle.smq_kit.specs.LinkKeys.{link_key}
 use Rattle.smq_book.specs.join.Matching.{submit_standing}
 use Rattle.smq_book.specs.join.Keyed.{accepted_id, accepted_key, keyed_receipt, can_decide, grouping_of}
-use Rattle.smq_book.specs.join.Circumstances.{circumstances, decider_in}
+use Rattle.smq_book.specs.join.Circumstances.{circumstances, decider_in, route_in}
 use Rattle.smq_book.specs.join.Facts.{fact_by, facts_of}
 use Rattle.smq_book.specs.within.Counting.{count_of}
 use Rattle.smq_book.proofs.Tallies.{count-tables}
@@ -35,7 +35,7 @@ counts-move facts notes q fact key =
 
 -- ---- forms of a link that nothing is of
 
-module _ (s z : SettingsValue) (t : TrafficValue) (link : LinkId) (others : (l : LinkId) → l ≢ link → forms_of s l ≡ forms_of z l)
+module _ (s z : SettingsValue) (t : TrafficValue) (link : LinkId) (versions : s.versions ≡ z.versions) (others : (l : LinkId) → l ≢ link → forms_of s l ≡ forms_of z l)
     (no_message : (q : Place) (m : Message) → get t.messages q ≡ Some m → m.link ≢ link) (no_receipt : (q : Place) (r : ReceivedReceipt) → get t.receipts q ≡ Some r → r.link ≢ link) where
   same-key : (m : Message) → m.link ≢ link → accepted_key s m ≡ accepted_key z m
   same-key m h = ap (λ (forms : Forms). option_map (link_key m.link forms.response) (accepted_id m.response)) (others m.link h)
@@ -56,4 +56,5 @@ module _ (s z : SettingsValue) (t : TrafficValue) (link : LinkId) (others : (l :
       Some (fact_by q m (record {
         standing = option_map (submit_standing (grouping-ignores i)) (same-key m (no_message q m e) i);
         decider = decider_in t (option_map (submit_standing (grouping-ignores i)) (same-key m (no_message q m e) i));
+        route = route_in (versions i) m;
       })))

@@ -61,11 +61,20 @@ outcome-order o.Failed = each_outcome (OutcomesAlike o.Failed) refl refl refl re
 outcome-order o.Unasked = each_outcome (OutcomesAlike o.Unasked) refl refl refl refl refl refl refl refl refl
 outcome-order o.Open = each_outcome (OutcomesAlike o.Open) refl refl refl refl refl refl refl refl refl
 
-view-order : (a b : View) → (view_ord.ghosts).cmp a b ≡ nat_cmp (view_place a) (view_place b)
-view-order v.Link v.Link = refl
-view-order v.Link v.Error = refl
-view-order v.Error v.Link = refl
-view-order v.Error v.Error = refl
+each_view : (P : View → Type 0) → P v.Link → P v.Route → P v.Network → P v.Error → (a : View) → P a
+each_view P p0 p1 p2 p3 v.Link = p0
+each_view P p0 p1 p2 p3 v.Route = p1
+each_view P p0 p1 p2 p3 v.Network = p2
+each_view P p0 p1 p2 p3 v.Error = p3
+
+abbrev ViewsAlike : View → View → Type 0
+ViewsAlike a b = (view_ord.ghosts).cmp a b ≡ nat_cmp (view_place a) (view_place b)
+
+view-order : (a b : View) → ViewsAlike a b
+view-order v.Link = each_view (ViewsAlike v.Link) refl refl refl refl
+view-order v.Route = each_view (ViewsAlike v.Route) refl refl refl refl
+view-order v.Network = each_view (ViewsAlike v.Network) refl refl refl refl
+view-order v.Error = each_view (ViewsAlike v.Error) refl refl refl refl
 
 -- ---- values by their numbers
 
@@ -77,8 +86,40 @@ error-order (s.Failed x) (s.Failed y) = code-order x y
 
 pub value-order : (a b : Value) → kept_value_cmp a b ≡ value_cmp a b
 value-order (w.Link a) (w.Link b) = sym (then_equal (nat_cmp a.0 b.0))
+value-order (w.Link a) (w.Route b) = refl
+value-order (w.Link a) w.NoRoute = refl
+value-order (w.Link a) (w.Network b) = refl
+value-order (w.Link a) w.NoNetwork = refl
 value-order (w.Link a) (w.Error y) = refl
+value-order (w.Route a) (w.Link b) = refl
+value-order (w.Route a) (w.Route b) = sym (then_equal (nat_cmp a.0 b.0))
+value-order (w.Route a) w.NoRoute = refl
+value-order (w.Route a) (w.Network b) = refl
+value-order (w.Route a) w.NoNetwork = refl
+value-order (w.Route a) (w.Error y) = refl
+value-order w.NoRoute (w.Link b) = refl
+value-order w.NoRoute (w.Route b) = refl
+value-order w.NoRoute w.NoRoute = refl
+value-order w.NoRoute (w.Network b) = refl
+value-order w.NoRoute w.NoNetwork = refl
+value-order w.NoRoute (w.Error y) = refl
+value-order (w.Network a) (w.Link b) = refl
+value-order (w.Network a) (w.Route b) = refl
+value-order (w.Network a) w.NoRoute = refl
+value-order (w.Network a) (w.Network b) = refl
+value-order (w.Network a) w.NoNetwork = refl
+value-order (w.Network a) (w.Error y) = refl
+value-order w.NoNetwork (w.Link b) = refl
+value-order w.NoNetwork (w.Route b) = refl
+value-order w.NoNetwork w.NoRoute = refl
+value-order w.NoNetwork (w.Network b) = refl
+value-order w.NoNetwork w.NoNetwork = refl
+value-order w.NoNetwork (w.Error y) = refl
 value-order (w.Error x) (w.Link b) = refl
+value-order (w.Error x) (w.Route b) = refl
+value-order (w.Error x) w.NoRoute = refl
+value-order (w.Error x) (w.Network b) = refl
+value-order (w.Error x) w.NoNetwork = refl
 value-order (w.Error x) (w.Error y) = error-order x y
 
 pub count_key-order : kept_cmp ≡ count_cmp
@@ -104,11 +145,18 @@ outcome_again o.Open = refl
 same_outcome : (a b : Outcome) → nat_cmp (outcome_place a) (outcome_place b) ≡ Equal → a ≡ b
 same_outcome a b e = sym (outcome_again a) ∙ ap outcome_at (nat_cmp-IsAntisymmetric _ _ e) ∙ outcome_again b
 
+-- the view of a place
+abbrev view_at : ℕ → View
+view_at n = get_or (v.Link ∷ v.Route ∷ v.Network ∷ v.Error ∷ []) n v.Link
+
+view_again : (a : View) → view_at (view_place a) ≡ a
+view_again v.Link = refl
+view_again v.Route = refl
+view_again v.Network = refl
+view_again v.Error = refl
+
 pub same_view : (a b : View) → nat_cmp (view_place a) (view_place b) ≡ Equal → a ≡ b
-same_view v.Link v.Link e = refl
-same_view v.Link v.Error e = absurd (cc)
-same_view v.Error v.Link e = absurd (cc)
-same_view v.Error v.Error e = refl
+same_view a b e = sym (view_again a) ∙ ap view_at (nat_cmp-IsAntisymmetric _ _ e) ∙ view_again b
 
 -- the error code of its numbers
 error_from : List ℕ → ErrorCode
@@ -136,12 +184,20 @@ submit_error_again (s.Failed x) = ap s.Failed (error_again x)
 -- the value of its numbers
 value_from : List ℕ → Value
 value_from (zero ∷ link ∷ []) = w.Link (record { 0 = link })
-value_from (suc zero ∷ numbers) = w.Error (submit_error_from numbers)
-value_from _ = w.Link (record { 0 = 0 })
+value_from (suc zero ∷ route ∷ []) = w.Route (record { 0 = route })
+value_from (suc (suc zero) ∷ []) = w.NoRoute
+value_from (suc (suc (suc zero)) ∷ network) = w.Network network
+value_from (suc (suc (suc (suc zero))) ∷ []) = w.NoNetwork
+value_from (suc (suc (suc (suc (suc zero)))) ∷ numbers) = w.Error (submit_error_from numbers)
+value_from _ = w.NoRoute
 
 value_again : (a : Value) → value_from (value_numbers a) ≡ a
 unfolding value_from
 value_again (w.Link a) = refl
+value_again (w.Route a) = refl
+value_again w.NoRoute = refl
+value_again (w.Network a) = refl
+value_again w.NoNetwork = refl
 value_again (w.Error x) = ap w.Error (submit_error_again x)
 
 -- two values that compare equal are one

@@ -1,15 +1,21 @@
 -- The book whose octets are written out: its PDUs, its messages and receipts as lists, its facts.
-use Rattle.std.proofs.Common.{◌≡◌, ℕ, false, List, [], ◌∷◌, ◌++◌, Some, None, refl, ap, ◌∙◌}
-use Rattle.std.specs.Prelude.{codes, unwrap_or}
+use Rattle.std.proofs.Common.{◌≡◌, ℕ, false, List, [], ◌∷◌, ◌++◌, Option, Some, None, refl, ap, ◌∙◌}
+use Rattle.std.specs.Prelude.{codes, filter, map, option_and_then, option_map, unwrap_or}
 use Rattle.std.specs.List.{flat_map}
 use Rattle.std.specs.Cmp.{nat_cmp_total}
 use Rattle.std.specs.Ordering.{nat_cmp}
 use Rattle.std.specs.FinMap.{entries, values, get-insert, get-empty, empty, nat_cmp-IsAntisymmetric}
 use Rattle.smq_kit.specs.declared.form.Form.TheVariants.{Decimal}
+use Rattle.smq_kit.specs.declared.names.RouteId.{RouteId}
 use Rattle.smq_kit.proofs.MapLemmas.{entries-from_entries}
+use Rattle.smq_route.specs.Versions.{serves, longest}
+use Rattle.smq_route.specs.declared.version.Version.{Version}
+use Rattle.smq_route.specs.declared.version.VersionKey.{VersionKey}
+use Rattle.smq_route.proofs.VersionOrders.{versions_total, versions_exact}
 use Rattle.smq_frame.specs.Framing.{stated_length, frames_of, frames_within}
 use Rattle.smq_frame.specs.Stream.{stamped}
 use Rattle.smq_pdu.specs.Header.{word_at}
+use Rattle.smq_pdu.specs.Numbers.{number_of, digits_of}
 use Rattle.smq_pdu.specs.Pairing.{nth_place}
 use Rattle.smq_pdu.specs.Pdu.{body_of, submit_of, deliver_of, id_of}
 use Rattle.smq_pdu.specs.Readers.{mandatory_at, address_at, c_octet_at, octets_at, number_at, tlv_at, tlvs_within, tlvs_of}
@@ -33,14 +39,15 @@ use Rattle.smq_book.specs.declared.present.forms.Forms.{Forms}
 use Rattle.smq_book.specs.declared.present.kept.Content.{Content}
 use Rattle.smq_book.specs.declared.present.kept.Content.TheVariants as c
 use Rattle.smq_book.specs.declared.present.kept.KeptPdu.{KeptPdu}
-use Rattle.smq_book.specs.Known.{known_session, other_session, far_session, known_book, settings_with, fact_of}
+use Rattle.smq_book.specs.Known.{known_session, other_session, far_session, known_book, nested_versions, settings_with, fact_of}
 use Rattle.smq_book.specs.present.Kept.{kept_pdus}
 use Rattle.smq_book.specs.present.Settings.{opening_forms, forms_of}
 use Rattle.smq_book.specs.pairing.Traffic.{traffic_of}
 use Rattle.smq_book.specs.join.Facts.{facts_of}
 use Rattle.smq_book.specs.within.Lists.{session_submits, session_receipts, submits_of, receipts_of}
 use Rattle.smq_book.specs.within.Messages.{SubmittedMessage, submits_among}
-use Rattle.smq_book.specs.within.Outcomes.{facts_among}
+use Rattle.smq_book.specs.within.Accepted.{is_ambiguous, decider_of}
+use Rattle.smq_book.specs.within.Outcomes.{fact_by}
 use Rattle.smq_book.specs.within.Receipts.{KeyedReceipt, receipts_among}
 use Rattle.smq_book.proofs.AgreePresent.{facts-are}
 use Rattle.smq_book.proofs.KnownFacts.{forms-set}
@@ -51,8 +58,8 @@ abbrev pdu : ℕ → ℕ → ℕ → ℕ → Content → KeptPdu
 pdu offset moment command seq content =
     record { offset = offset; moment = moment; command = command; status = 0; seq = seq; content = content }
 
-abbrev submit : ℕ → ℕ → ℕ → KeptPdu
-submit offset moment seq = pdu offset moment 4 seq (c.Submit (record { registered_delivery = 1 }))
+abbrev submit : ℕ → ℕ → ℕ → Option (List ℕ) → KeptPdu
+submit offset moment seq number = pdu offset moment 4 seq (c.Submit (record { registered_delivery = 1; number = number }))
 
 abbrev response : ℕ → ℕ → ℕ → List ℕ → KeptPdu
 response offset moment seq id = pdu offset moment 0x8000_0004 seq (c.SubmitAnswer (Some id))
@@ -62,7 +69,7 @@ receipt offset moment seq id state error =
     pdu offset moment 5 seq (c.Deliver (v.Receipt (record { id = id; state = state; interim = false; error = error; centre_delay = None })))
 
 abbrev known_client : List KeptPdu
-known_client = submit 0 1000 1 ∷ submit 33 1500 2 ∷ []
+known_client = submit 0 1000 1 (Some (codes "447700900123")) ∷ submit 45 1500 2 (Some (codes "447700900123")) ∷ []
 
 abbrev known_centre : List KeptPdu
 known_centre = response 0 1200 1 (codes "07") ∷ response 19 1700 2 (codes "08") ∷ receipt 38 5000 90 (codes "7") state.Delivered e.Unstated ∷ []
@@ -74,33 +81,33 @@ abbrev other_centre : List KeptPdu
 other_centre = receipt 0 5000 91 (codes "007") state.Undeliverable (e.Text (codes "012")) ∷ receipt 60 6000 92 (codes "008") state.Undeliverable (e.Text (codes "027")) ∷ []
 
 abbrev far_client : List KeptPdu
-far_client = submit 0 2000 1 ∷ submit 33 2000 2 ∷ []
+far_client = submit 0 2000 1 None ∷ submit 33 2000 2 None ∷ []
 
 abbrev far_centre : List KeptPdu
 far_centre = response 0 2100 1 (codes "7") ∷ response 18 2100 2 (codes "7") ∷ receipt 36 3000 90 (codes "7") state.Delivered e.Unstated ∷ []
 
 known-client : kept_pdus known_session.client ≡ known_client
-unfolding stated_length frames_of frames_within stamped word_at body_of submit_of deliver_of id_of mandatory_at address_at c_octet_at octets_at number_at tlv_at tlvs_within tlvs_of least_below same_letters stands_at labels_at header_of value_at value_of state_of_number state_of_word network_code_in text_code_in two_digits_at is_date day_number_of second_of_day_of moment_of centre_delay_of text_of usable_id receipted_id state_in readings.id_of state_of error_of receipt_of reading_of
+unfolding stated_length frames_of frames_within stamped word_at body_of submit_of number_of digits_of deliver_of id_of mandatory_at address_at c_octet_at octets_at number_at tlv_at tlvs_within tlvs_of least_below same_letters stands_at labels_at header_of value_at value_of state_of_number state_of_word network_code_in text_code_in two_digits_at is_date day_number_of second_of_day_of moment_of centre_delay_of text_of usable_id receipted_id state_in readings.id_of state_of error_of receipt_of reading_of
 known-client = refl
 
 known-centre : kept_pdus known_session.centre ≡ known_centre
-unfolding stated_length frames_of frames_within stamped word_at body_of submit_of deliver_of id_of mandatory_at address_at c_octet_at octets_at number_at tlv_at tlvs_within tlvs_of least_below same_letters stands_at labels_at header_of value_at value_of state_of_number state_of_word network_code_in text_code_in two_digits_at is_date day_number_of second_of_day_of moment_of centre_delay_of text_of usable_id receipted_id state_in readings.id_of state_of error_of receipt_of reading_of
+unfolding stated_length frames_of frames_within stamped word_at body_of submit_of number_of digits_of deliver_of id_of mandatory_at address_at c_octet_at octets_at number_at tlv_at tlvs_within tlvs_of least_below same_letters stands_at labels_at header_of value_at value_of state_of_number state_of_word network_code_in text_code_in two_digits_at is_date day_number_of second_of_day_of moment_of centre_delay_of text_of usable_id receipted_id state_in readings.id_of state_of error_of receipt_of reading_of
 known-centre = refl
 
 other-client : kept_pdus other_session.client ≡ other_client
-unfolding stated_length frames_of frames_within stamped word_at body_of submit_of deliver_of id_of mandatory_at address_at c_octet_at octets_at number_at tlv_at tlvs_within tlvs_of least_below same_letters stands_at labels_at header_of value_at value_of state_of_number state_of_word network_code_in text_code_in two_digits_at is_date day_number_of second_of_day_of moment_of centre_delay_of text_of usable_id receipted_id state_in readings.id_of state_of error_of receipt_of reading_of
+unfolding stated_length frames_of frames_within stamped word_at body_of submit_of number_of digits_of deliver_of id_of mandatory_at address_at c_octet_at octets_at number_at tlv_at tlvs_within tlvs_of least_below same_letters stands_at labels_at header_of value_at value_of state_of_number state_of_word network_code_in text_code_in two_digits_at is_date day_number_of second_of_day_of moment_of centre_delay_of text_of usable_id receipted_id state_in readings.id_of state_of error_of receipt_of reading_of
 other-client = refl
 
 other-centre : kept_pdus other_session.centre ≡ other_centre
-unfolding stated_length frames_of frames_within stamped word_at body_of submit_of deliver_of id_of mandatory_at address_at c_octet_at octets_at number_at tlv_at tlvs_within tlvs_of least_below same_letters stands_at labels_at header_of value_at value_of state_of_number state_of_word network_code_in text_code_in two_digits_at is_date day_number_of second_of_day_of moment_of centre_delay_of text_of usable_id receipted_id state_in readings.id_of state_of error_of receipt_of reading_of
+unfolding stated_length frames_of frames_within stamped word_at body_of submit_of number_of digits_of deliver_of id_of mandatory_at address_at c_octet_at octets_at number_at tlv_at tlvs_within tlvs_of least_below same_letters stands_at labels_at header_of value_at value_of state_of_number state_of_word network_code_in text_code_in two_digits_at is_date day_number_of second_of_day_of moment_of centre_delay_of text_of usable_id receipted_id state_in readings.id_of state_of error_of receipt_of reading_of
 other-centre = refl
 
 far-client : kept_pdus far_session.client ≡ far_client
-unfolding stated_length frames_of frames_within stamped word_at body_of submit_of deliver_of id_of mandatory_at address_at c_octet_at octets_at number_at tlv_at tlvs_within tlvs_of least_below same_letters stands_at labels_at header_of value_at value_of state_of_number state_of_word network_code_in text_code_in two_digits_at is_date day_number_of second_of_day_of moment_of centre_delay_of text_of usable_id receipted_id state_in readings.id_of state_of error_of receipt_of reading_of
+unfolding stated_length frames_of frames_within stamped word_at body_of submit_of number_of digits_of deliver_of id_of mandatory_at address_at c_octet_at octets_at number_at tlv_at tlvs_within tlvs_of least_below same_letters stands_at labels_at header_of value_at value_of state_of_number state_of_word network_code_in text_code_in two_digits_at is_date day_number_of second_of_day_of moment_of centre_delay_of text_of usable_id receipted_id state_in readings.id_of state_of error_of receipt_of reading_of
 far-client = refl
 
 far-centre : kept_pdus far_session.centre ≡ far_centre
-unfolding stated_length frames_of frames_within stamped word_at body_of submit_of deliver_of id_of mandatory_at address_at c_octet_at octets_at number_at tlv_at tlvs_within tlvs_of least_below same_letters stands_at labels_at header_of value_at value_of state_of_number state_of_word network_code_in text_code_in two_digits_at is_date day_number_of second_of_day_of moment_of centre_delay_of text_of usable_id receipted_id state_in readings.id_of state_of error_of receipt_of reading_of
+unfolding stated_length frames_of frames_within stamped word_at body_of submit_of number_of digits_of deliver_of id_of mandatory_at address_at c_octet_at octets_at number_at tlv_at tlvs_within tlvs_of least_below same_letters stands_at labels_at header_of value_at value_of state_of_number state_of_word network_code_in text_code_in two_digits_at is_date day_number_of second_of_day_of moment_of centre_delay_of text_of usable_id receipted_id state_in readings.id_of state_of error_of receipt_of reading_of
 far-centre = refl
 
 -- ---- messages and receipts
@@ -143,14 +150,25 @@ receipts-are =
 
 abbrev facts : List Fact
 facts =
-    fact_of 10 1 0 1000 o.Delivered None
-    ∷ fact_of 10 1 33 1500 o.Failed (Some (s.Failed (e.Text (codes "027"))))
+    record (fact_of 10 1 0 1000 o.Delivered None) { route = Some (record { 0 = 3 }); network = Some (codes "23410") }
+    ∷ fact_of 10 1 45 1500 o.Failed (Some (s.Failed (e.Text (codes "027"))))
     ∷ fact_of 65546 65537 0 2000 o.Ambiguous None
     ∷ fact_of 65546 65537 33 2000 o.Ambiguous None ∷ []
 
-facts-computed : facts_among (submits decimal opening_forms) (receipts decimal opening_forms) ≡ facts
+-- the route of a message, where these are the versions
+abbrev route_from : List (VersionKey × Version) → SubmittedMessage → Option (RouteId × List ℕ)
+route_from versions s = option_and_then (λ number. option_map (λ e. (e.1.route, e.1.network)) (longest (filter (serves number s.moment) versions))) s.number
+
+-- the facts of messages, where these are the versions
+abbrev facts_from : List (VersionKey × Version) → List SubmittedMessage → List KeyedReceipt → List Fact
+facts_from versions submits receipts = map (λ s. fact_by s (route_from versions s) (is_ambiguous submits s.key) (decider_of submits receipts s.key)) submits
+
+versions-are : entries known_book.settings.versions ≡ nested_versions
+versions-are = entries-from_entries versions_total versions_exact nested_versions tt
+
+facts-computed : facts_from nested_versions (submits decimal opening_forms) (receipts decimal opening_forms) ≡ facts
 unfolding nth_place decimal
 facts-computed = refl
 
 pub facts-of-book : values (facts_of known_book.settings (traffic_of known_book.sessions)) ≡ facts
-facts-of-book = facts-are known_book ∙ (λ i. facts_among (submits-are i) (receipts-are i)) ∙ facts-computed
+facts-of-book = facts-are known_book ∙ (λ i. facts_from (versions-are i) (submits-are i) (receipts-are i)) ∙ facts-computed

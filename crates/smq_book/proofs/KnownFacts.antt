@@ -3,6 +3,7 @@ use Rattle.std.proofs.Common.{◌≡◌, ℕ, List, [], ◌∷◌, ◌++◌, ref
 use Rattle.std.specs.Prelude.{T, map, unwrap_or}
 use Rattle.std.specs.List.{enumerate_from, flat_map}
 use Rattle.std.specs.Cmp.{nat_cmp_total}
+use Rattle.std.specs.FinMap as map
 use Rattle.std.specs.FinMap.{is_sorted, values, get-insert, empty}
 use Rattle.smq_kit.specs.declared.form.Form.{Form}
 use Rattle.smq_kit.specs.declared.form.Form.TheVariants.{Verbatim}
@@ -30,7 +31,7 @@ source_with response receipt =
 -- what lists say of it
 abbrev pub listed : Form → Form → List KeptPdu → List KeptPdu → List Fact
 listed response receipt client centre =
-    facts_among (submits_among (source_with response receipt) client centre) (receipts.receipts_among (source_with response receipt) centre)
+    facts_among map.empty (submits_among (source_with response receipt) client centre) (receipts.receipts_among (source_with response receipt) centre)
 
 abbrev pub listed_outcomes : List KeptPdu → List KeptPdu → List Outcome
 listed_outcomes client centre = map (λ fact. fact.outcome) (listed Verbatim Verbatim client centre)

@@ -1,6 +1,7 @@
 pub mod BatchReplies
 pub mod Growth
 pub mod Maps
+pub mod VersionLemmas
 pub mod Appended
 pub mod Changes
 pub mod Fits
@@ -30,6 +31,7 @@ pub mod AgreePresent
 pub mod MatchingLemmas
 pub mod MoveLemmas
 pub mod CountMoves
+pub mod Routed
 pub mod PairLemmas
 pub mod PushLemmas
 pub mod Worked

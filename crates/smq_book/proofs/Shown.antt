@@ -48,6 +48,8 @@ rows-stand m view (e ∷ es) a =
 -- a count that stands first is shown
 first-shown : (view : View) (value : Value) (outcome : Outcome) (n : ℕ) (es : List (CountKey × ℕ)) → Contains (rows_among view ((count_key view value outcome, n) ∷ es)) (value, outcome, n)
 first-shown v.Link value outcome n es = (0, omega arith, refl)
+first-shown v.Route value outcome n es = (0, omega arith, refl)
+first-shown v.Network value outcome n es = (0, omega arith, refl)
 first-shown v.Error value outcome n es = (0, omega arith, refl)
 
 -- each count that stands in the view is shown

@@ -137,7 +137,7 @@ once_in f q (v ∷ vs) h =
     ∙ ap (λ b. cond b 1 0) (sym (any-append (same_count_key q) here (keys_in f vs)))
 
 once : (f : Fact) (q : CountKey) → count_by (same_count_key q) (keys_of_fact f) ≡ cond (stands_in q f) 1 0
-once f q = once_in f q views ((refl, tt), (tt, tt))
+once f q = once_in f q views ((refl, (refl, (refl, tt))), ((refl, (refl, tt)), ((refl, tt), (tt, tt))))
 
 -- ---- one fact more
 

@@ -15,6 +15,9 @@ use Rattle.smq_frame.specs.Tail.{TailValue}
 use Rattle.smq_pdu.specs.Pairing.{is_request, is_response}
 use Rattle.smq_kit.specs.declared.error_code.ErrorCode.{ErrorCode}
 use Rattle.smq_kit.specs.declared.error_code.ErrorCode.TheVariants as e
+use Rattle.smq_route.specs.declared.version.Version.{Version}
+use Rattle.smq_route.specs.declared.version.VersionKey.{VersionKey}
+use Rattle.smq_route.specs.Versions.{key_at}
 use Rattle.smq_receipt.specs.declared.message_state.MessageState.{MessageState}
 use Rattle.smq_receipt.specs.declared.message_state.MessageState.TheVariants.{Enroute, Delivered, Expired, Undeliverable, Accepted}
 use Rattle.smq_receipt.specs.declared.reading.Reading.TheVariants as v
@@ -30,7 +33,7 @@ use Rattle.smq_book.specs.declared.counting.tally.Value.{Value}
 use Rattle.smq_book.specs.declared.counting.tally.Value.TheVariants as w
 use Rattle.smq_book.specs.declared.counting.tally.View.TheVariants as view
 use Rattle.smq_book.specs.declared.present.edit.Edit.{Edit}
-use Rattle.smq_book.specs.declared.present.edit.Edit.TheVariants.{Append, Withdraw, SetForm}
+use Rattle.smq_book.specs.declared.present.edit.Edit.TheVariants.{Append, Withdraw, SetForm, AddRoute, EndRoute, CorrectRoute}
 use Rattle.smq_book.specs.declared.present.kept.Content.{Content}
 use Rattle.smq_book.specs.declared.present.kept.Content.TheVariants as c
 use Rattle.smq_book.specs.declared.present.kept.KeptPdu.{KeptPdu}
@@ -94,6 +97,38 @@ withdrawn = step two_directions (Withdraw (record { 0 = 10 }))
 abbrev pub anew : Edit
 anew = one_more 2 10 FromCentre (waiting 0 []) 500
 
+-- ---- dated routes, on which replies are worked out by hand
+
+-- a version by its prefix and beginning, with its end, its route and its network
+abbrev pub version : List ℕ → ℕ → Option ℕ → ℕ → List ℕ → VersionKey × Version
+version prefix from until route network =
+    (key_at prefix from, record { until = until; route = record { 0 = route }; network = network })
+
+-- prefix 44 has an open version, and prefix 447 has one that ends at 10,000, where the next begins, and an open one
+abbrev pub known_versions : List (VersionKey × Version)
+known_versions =
+    version (codes "44") 0 None 1 (codes "23410")
+    ∷ version (codes "447") 0 (Some 10000) 2 (codes "23415")
+    ∷ version (codes "447") 10000 (Some 20000) 3 (codes "23420")
+    ∷ version (codes "447") 30000 None 4 (codes "23430") ∷ []
+
+-- the book of two directions with these versions
+abbrev pub routed : PresentValue
+routed = record two_directions {
+  settings = record two_directions.settings { versions = map.from_entries known_versions };
+}
+
+-- the edits of a prefix and a beginning: a version of route 5 of network 234330, and a correction to these
+abbrev pub adding : List ℕ → ℕ → Edit
+adding prefix from = AddRoute prefix from (record { 0 = 5 }) (codes "234330")
+
+abbrev pub correcting : List ℕ → ℕ → Edit
+correcting prefix from = CorrectRoute prefix from (record { 0 = 5 }) (codes "234330")
+
+-- the versions of routes of a book, in their order
+abbrev pub versions_of : PresentValue → List (VersionKey × Version)
+versions_of p = map.entries p.settings.versions
+
 -- ---- PDUs
 
 -- a PDU at an offset, with its command_id, command_status, sequence_number and content
@@ -109,7 +144,8 @@ pdu offset command status seq content = record {
 
 -- a submit_sm (command_id 0x00000004) with this registered_delivery
 abbrev pub submit : ℕ → ℕ → ℕ → KeptPdu
-submit offset seq registered_delivery = pdu offset 0x0000_0004 0 seq (c.Submit (record { registered_delivery = registered_delivery }))
+submit offset seq registered_delivery = pdu offset 0x0000_0004 0 seq
+    (c.Submit (record { registered_delivery = registered_delivery; number = None }))
 
 -- a submit_sm_resp (0x80000004) with status 0 and the message id `1`
 abbrev pub accepted : ℕ → KeptPdu
@@ -161,7 +197,7 @@ known_origin = record { session = record { 0 = 10 }; link = record { 0 = 1 } }
 -- link 1 has these forms
 abbrev pub settings_with : Form → Form → SettingsValue
 settings_with response receipt =
-    record { forms = map.insert map.empty 1 (record { response = response; receipt = receipt }) }
+    record opening_settings { forms = map.insert map.empty 1 (record { response = response; receipt = receipt }) }
 
 -- what the PDUs of session 10 say, where there is no other session
 abbrev pub known_traffic : List KeptPdu → List KeptPdu → TrafficValue
@@ -209,11 +245,21 @@ pub record InTurn (one two response later : KeptPdu) : Type 0 where
   pub first_response_seq : response.seq ≡ one.seq
   pub next_response_seq : later.seq ≡ one.seq
 
--- ---- values, in their order: a link, refusals by a status, failures by an error code
+-- ---- values, in their order: a link, routes and networks, none last, refusals by a status, failures by an error code
 
 abbrev pub known_values : LinkId → List Value
 known_values link =
     w.Link link
+    ∷ w.Route (record { 0 = 2 })
+    ∷ w.Route (record { 0 = 10 })
+    ∷ w.Route (record { 0 = 65538 })
+    ∷ w.NoRoute
+    ∷ w.Network (codes "20801")
+    ∷ w.Network (codes "23410")
+    ∷ w.Network (codes "234100")
+    ∷ w.Network (codes "23415")
+    ∷ w.Network (codes "90101")
+    ∷ w.NoNetwork
     ∷ w.Error (s.Refused 3)
     ∷ w.Error (s.Refused 11)
     ∷ w.Error (s.Failed (e.Network 3 8))
@@ -266,10 +312,12 @@ abbrev pub pdu_octets : ℕ → ℕ → ℕ → List ℕ → List ℕ
 pdu_octets bit command seq body =
     0 ∷ 0 ∷ 0 ∷ (length body + 16) ∷ bit ∷ 0 ∷ 0 ∷ command ∷ 0 ∷ 0 ∷ 0 ∷ 0 ∷ 0 ∷ 0 ∷ 0 ∷ seq ∷ body
 
--- a submit_sm that asks for a receipt, without addresses and message
-abbrev pub submit_octets : ℕ → List ℕ
-submit_octets seq =
-    pdu_octets 0 4 seq (0 ∷ 0 ∷ 0 ∷ 0 ∷ 0 ∷ 0 ∷ 0 ∷ 0 ∷ 0 ∷ 0 ∷ 0 ∷ 0 ∷ 1 ∷ 0 ∷ 0 ∷ 0 ∷ 0 ∷ [])
+-- a submit_sm to a destination of international type (SMPP 3.4, 5.2.5) that asks for a receipt, without source address
+-- and message
+abbrev pub submit_octets : ℕ → List ℕ → List ℕ
+submit_octets seq destination =
+    pdu_octets 0 4 seq
+    (0 ∷ 0 ∷ 0 ∷ 0 ∷ 1 ∷ 1 ∷ destination ++ 0 ∷ 0 ∷ 0 ∷ 0 ∷ 0 ∷ 0 ∷ 1 ∷ 0 ∷ 0 ∷ 0 ∷ 0 ∷ [])
 
 -- a submit_sm_resp with this message id
 abbrev pub response_octets : ℕ → List ℕ → List ℕ
@@ -280,11 +328,11 @@ abbrev pub receipt_octets : ℕ → List ℕ → List ℕ
 receipt_octets seq text =
     pdu_octets 0 5 seq (0 ∷ 0 ∷ 0 ∷ 0 ∷ 0 ∷ 0 ∷ 0 ∷ 4 ∷ 0 ∷ 0 ∷ 0 ∷ 0 ∷ 0 ∷ 0 ∷ 0 ∷ 0 ∷ length text ∷ text)
 
--- session 10 of link 1: two messages, their responses, and a receipt of the first at 5000
+-- session 10 of link 1: two messages to one number, their responses, and a receipt of the first at 5000
 abbrev pub known_session : Session
 known_session = record {
   link = record { 0 = 1 };
-  client = handed_in 1000 (submit_octets 1) ++ handed_in 1500 (submit_octets 2);
+  client = handed_in 1000 (submit_octets 1 (codes "447700900123")) ++ handed_in 1500 (submit_octets 2 (codes "447700900123"));
   centre = handed_in 1200 (response_octets 1 (codes "07")) ++ handed_in 1700 (response_octets 2 (codes "08"))
       ++ handed_in 5000 (receipt_octets 90 (codes "id:7 stat:DELIVRD"));
 }
@@ -299,28 +347,37 @@ other_session = record {
       ++ handed_in 6000 (receipt_octets 92 (codes "id:008 stat:UNDELIV err:027"));
 }
 
--- session 65,546 of link 65,537: two messages with one id, and a receipt of it
+-- session 65,546 of link 65,537: two messages to no number with one id, and a receipt of it
 abbrev pub far_session : Session
 far_session = record {
   link = record { 0 = 65537 };
-  client = handed_in 2000 (submit_octets 1 ++ submit_octets 2);
+  client = handed_in 2000 (submit_octets 1 [] ++ submit_octets 2 []);
   centre = handed_in 2100 (response_octets 1 (codes "7") ++ response_octets 2 (codes "7"))
       ++ handed_in 3000 (receipt_octets 90 (codes "id:7 stat:DELIVRD"));
 }
 
--- the book of these sessions, where ids of link 1 are decimal
+-- versions of nested prefixes, of which the second alone holds at 1000 and none at 1500
+abbrev pub nested_versions : List (VersionKey × Version)
+nested_versions =
+    version (codes "4") 0 (Some 1000) 1 (codes "20801")
+    ∷ version (codes "44") 1000 (Some 1500) 3 (codes "23410")
+    ∷ version (codes "447") 1600 None 2 (codes "23415") ∷ []
+
+-- the book of these sessions and versions, where ids of link 1 are decimal
 abbrev pub known_book : PresentValue
 known_book = record {
   sessions = map.from_entries ((10, known_session) ∷ (11, other_session) ∷ (65546, far_session) ∷ []);
-  settings = settings_with Decimal Decimal;
+  settings = record (settings_with Decimal Decimal) { versions = map.from_entries nested_versions };
 }
 
--- a fact of a message of a session and a link, at an offset
+-- a fact of a message of a session and a link, at an offset, that has no route
 abbrev pub fact_of : ℕ → ℕ → ℕ → ℕ → Outcome → Option SubmitError → Fact
 fact_of session link offset moment outcome error = record {
   place = record { session = record { 0 = session }; dir = FromClient; offset = offset };
   moment = moment;
   link = record { 0 = link };
+  route = None;
+  network = None;
   outcome = outcome;
   error = error;
 }
@@ -384,6 +441,57 @@ pub record KnownForms : Type 0 where
       forms_of with_forms_and_octets.settings (record { 0 = 1 })
       ≡ record { response = Hexadecimal; receipt = Decimal }
 
+-- What refuses edits of routes, in order: a version that lasts beyond the beginning of a new one, of which the least
+-- beginning is told; of an end, that there is no such version, then that it has an end, then that the end isn't after
+-- the beginning; of a correction, that there is no such version.
+pub record KnownRouteReplies : Type 0 where
+  pub before_all : reply routed (adding (codes "447") 5000) ≡ Some (r.Overlap 0)
+  pub within_one : reply routed (adding (codes "447") 15000) ≡ Some (r.Overlap 10000)
+  pub at_an_end : reply routed (adding (codes "447") 20000) ≡ Some (r.Overlap 30000)
+  pub at_its_beginning : reply routed (adding (codes "447") 30000) ≡ Some (r.Overlap 30000)
+  pub after_all : reply routed (adding (codes "447") 40000) ≡ Some (r.Overlap 30000)
+  pub shorter_prefix : reply routed (adding (codes "44") 40000) ≡ Some (r.Overlap 0)
+  pub other_prefix : reply routed (adding (codes "4477") 15000) ≡ None
+  pub first_digit : reply routed (adding (codes "4") 0) ≡ None
+  pub on_no_routes : reply two_directions (adding (codes "447") 0) ≡ None
+  pub no_route : reply routed (EndRoute (codes "44") 1 1) ≡ Some r.NoRoute
+  pub no_route_of_the_prefix : reply routed (EndRoute (codes "4477") 0 0) ≡ Some r.NoRoute
+  pub ended : reply routed (EndRoute (codes "447") 10000 10000) ≡ Some (r.Ended 20000)
+  pub ends_at_its_beginning : reply routed (EndRoute (codes "447") 30000 30000) ≡ Some r.BadEnd
+  pub ends_before_it : reply routed (EndRoute (codes "447") 30000 29999) ≡ Some r.BadEnd
+  pub ends : reply routed (EndRoute (codes "447") 30000 30001) ≡ None
+  pub no_version : reply routed (correcting (codes "44") 1) ≡ Some r.NoRoute
+  pub corrects_an_ended_one : reply routed (correcting (codes "447") 0) ≡ None
+
+-- What edits of routes leave: the versions by the octets of their prefixes, then by their beginnings, with one put in or
+-- changed; and octets, forms and versions where the others are edited. A new book has no versions.
+pub record KnownRoutes : Type 0 where
+  pub opening : versions_of empty ≡ []
+  pub there : versions_of routed ≡ known_versions
+  pub added : versions_of (step routed (adding (codes "446") 70000))
+      ≡ version (codes "44") 0 None 1 (codes "23410")
+      ∷ version (codes "446") 70000 None 5 (codes "234330")
+      ∷ version (codes "447") 0 (Some 10000) 2 (codes "23415")
+      ∷ version (codes "447") 10000 (Some 20000) 3 (codes "23420")
+      ∷ version (codes "447") 30000 None 4 (codes "23430") ∷ []
+  pub ended : versions_of (step routed (EndRoute (codes "447") 30000 30001))
+      ≡ version (codes "44") 0 None 1 (codes "23410")
+      ∷ version (codes "447") 0 (Some 10000) 2 (codes "23415")
+      ∷ version (codes "447") 10000 (Some 20000) 3 (codes "23420")
+      ∷ version (codes "447") 30000 (Some 30001) 4 (codes "23430") ∷ []
+  pub corrected : versions_of (step routed (correcting (codes "447") 10000))
+      ≡ version (codes "44") 0 None 1 (codes "23410")
+      ∷ version (codes "447") 0 (Some 10000) 2 (codes "23415")
+      ∷ version (codes "447") 10000 (Some 20000) 5 (codes "234330")
+      ∷ version (codes "447") 30000 None 4 (codes "23430") ∷ []
+  pub refused : step routed (EndRoute (codes "447") 30000 30000) ≡ routed
+  pub octets : octets_of (step routed (adding (codes "446") 70000)) 10 FromCentre ≡ handed_in 1000 (0 ∷ [])
+  pub forms :
+      forms_of (step routed (adding (codes "446") 70000)).settings (record { 0 = 1 })
+      ≡ record { response = Hexadecimal; receipt = Decimal }
+  pub withdrawn : versions_of (step routed (Withdraw (record { 0 = 10 }))) ≡ known_versions
+  pub forms_set : versions_of (step routed (SetForm (record { 0 = 1 }) Verbatim Verbatim)) ≡ known_versions
+
 -- What became of submits that are written out.
 pub record KnownOutcomes : Type 0 where
   pub unanswered : outcomes_by_delivery [] (0 ∷ 1 ∷ []) ≡ o.Waiting ∷ o.Waiting ∷ []
@@ -419,6 +527,8 @@ pub record KnownOutcomes : Type 0 where
         place = record { session = record { 0 = 10 }; dir = FromClient; offset = 49 };
         moment = 1000;
         link = record { 0 = 1 };
+        route = None;
+        network = None;
         outcome = o.Waiting;
         error = None;
       } ∷ []
@@ -491,12 +601,19 @@ pub record KnownLists : Type 0 where
 pub record KnownFigures : Type 0 where
   pub facts :
       map.values (facts_of known_book.settings (traffic_of known_book.sessions))
-      ≡ fact_of 10 1 0 1000 o.Delivered None
-      ∷ fact_of 10 1 33 1500 o.Failed (Some (s.Failed (e.Text (codes "027"))))
+      ≡ record (fact_of 10 1 0 1000 o.Delivered None) { route = Some (record { 0 = 3 }); network = Some (codes "23410") }
+      ∷ fact_of 10 1 45 1500 o.Failed (Some (s.Failed (e.Text (codes "027"))))
       ∷ fact_of 65546 65537 0 2000 o.Ambiguous None ∷ fact_of 65546 65537 33 2000 o.Ambiguous None ∷ []
   pub delivered : count_at (scratch known_book) view.Link (w.Link (record { 0 = 1 })) o.Delivered ≡ 1
   pub failed : count_at (scratch known_book) view.Link (w.Link (record { 0 = 1 })) o.Failed ≡ 1
   pub ambiguous : count_at (scratch known_book) view.Link (w.Link (record { 0 = 65537 })) o.Ambiguous ≡ 2
+  pub route : count_at (scratch known_book) view.Route (w.Route (record { 0 = 3 })) o.Delivered ≡ 1
+  pub no_route : count_at (scratch known_book) view.Route w.NoRoute o.Failed ≡ 1
+  pub no_number : count_at (scratch known_book) view.Route w.NoRoute o.Ambiguous ≡ 2
+  pub not_routed : count_at (scratch known_book) view.Route w.NoRoute o.Delivered ≡ 0
+  pub network : count_at (scratch known_book) view.Network (w.Network (codes "23410")) o.Delivered ≡ 1
+  pub no_network : count_at (scratch known_book) view.Network w.NoNetwork o.Failed ≡ 1
+  pub no_number_of_a_network : count_at (scratch known_book) view.Network w.NoNetwork o.Ambiguous ≡ 2
   pub not_ambiguous : count_at (scratch known_book) view.Link (w.Link (record { 0 = 1 })) o.Ambiguous ≡ 0
   pub why : count_at (scratch known_book) view.Error (w.Error (s.Failed (e.Text (codes "027")))) o.Failed ≡ 1
   pub not_so : count_at (scratch known_book) view.Error (w.Error (s.Failed (e.Text (codes "012")))) o.Failed ≡ 0

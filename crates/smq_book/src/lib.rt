@@ -23,7 +23,8 @@ pub use laws::counting::{
 pub use laws::join::{
     deciding_receipts_are_earliest, each_message_has_its_fact, facts_rest_on_circumstances,
     forms_of_other_links_are_idle, moves_leave_other_facts, outcomes_are_in_order,
-    outcomes_of_known_submits, receipts_decide_known_submits, single_keys_have_no_other,
+    outcomes_of_known_submits, receipts_decide_known_submits, routes_are_of_the_moment,
+    single_keys_have_no_other, versions_change_routes_alone,
 };
 pub use laws::pairing::{
     each_message_has_its_place, pushes_change_few_messages, responses_are_those_of_pairs,
@@ -31,9 +32,10 @@ pub use laws::pairing::{
 };
 pub use laws::present::{
     absent_sessions_have_no_octets, appends_of_sessions_commute, batches_that_fit_are_not_refused,
-    cutting_changes_nothing, forms_are_told_apart, forms_are_verbatim_until_set,
-    octets_are_put_after_their_direction, pieces_are_refused_in_order, replies_stand_in_order,
-    steps_are_plain_changes, withdrawals_leave_no_trace, withdrawals_of_a_known_book,
+    cutting_changes_nothing, edits_of_known_routes, forms_are_told_apart,
+    forms_are_verbatim_until_set, octets_are_put_after_their_direction,
+    pieces_are_refused_in_order, replies_stand_in_order, steps_are_plain_changes,
+    withdrawals_leave_no_trace, withdrawals_of_a_known_book,
 };
 pub use laws::whole::{figures_of_a_known_book, lists_say_the_same};
 pub use present::batch::{Batch, prepare};

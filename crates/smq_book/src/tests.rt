@@ -3,6 +3,8 @@ mod edits;
 mod ids;
 mod lists;
 mod receipts;
+mod routes;
 mod scripts;
 mod sizes;
+mod versions;
 mod withdrawals;

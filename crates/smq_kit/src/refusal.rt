@@ -26,14 +26,13 @@ pub enum Refusal {
     OutOfStep { offset: u64 },
     /// The session isn't present.
     NoSession,
-    /// A version of the prefix is open or ends after the new one begins; the least beginning of those. The table of
-    /// routes will make it.
+    /// A version of the prefix is open or ends after the new one begins; the least beginning of those.
     Overlap { from: Moment },
-    /// No version has this prefix and beginning. The table of routes will make it.
+    /// No version has this prefix and beginning.
     NoRoute,
-    /// The version has an end. The table of routes will make it.
+    /// The version has an end.
     Ended { until: Moment },
-    /// An end isn't after the beginning. The table of routes will make it.
+    /// An end isn't after the beginning.
     BadEnd,
     /// The new clock is below the present one. The clock will make it.
     ClockBack { clock: Moment },

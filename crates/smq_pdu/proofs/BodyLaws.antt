@@ -5,6 +5,7 @@ use Rattle.std.specs.List.{flat_map}
 use Rattle.std.proofs.lemmas.Bool.{cases_Bool, eqb-true, eqb-false, ne_eqb}
 use Rattle.smq_pdu.specs.Commands.{submit_sm, submit_sm_resp, deliver_sm}
 use Rattle.smq_pdu.specs.Fields.{Mandatory, spelling}
+use Rattle.smq_pdu.specs.Numbers.{number_of}
 use Rattle.smq_pdu.specs.Parameters.{Tlv, tlv_spelling}
 use Rattle.smq_pdu.specs.Bodies.{SubmitValue, DeliverValue, SubmitBody, SubmitAnswerBody, DeliverBody, OtherBody, UndecodableBody, IsBody, IsMessageId, submit_said, deliver_said}
 use Rattle.smq_pdu.specs.Readers.{mandatory_at, tlvs_of, rest_of}
@@ -15,6 +16,7 @@ use Rattle.smq_frame.specs.Framing.{AreOctets}
 use Rattle.smq_frame.proofs.Octets.{octets_parts, octets_right}
 use Rattle.smq_pdu.proofs.Parameters.{parameters_stand, parameters_again}
 use Rattle.smq_pdu.proofs.MessageIds.{id_again, id_cases}
+use Rattle.smq_pdu.proofs.Numbers.{has_again, has_found}
 
 -- ---- a body by its relation
 
@@ -131,6 +133,12 @@ body_octets o h = (octets_parts 16 o h).1
 no_body : (b : List ℕ) → mandatory_at b ≡ None → (m : Mandatory) (tlvs : List Tlv) (rest : List ℕ) → IsBody b m tlvs rest → ⊥
 no_body b e m tlvs rest h = let differ = sym e ∙ body_reads b rest m tlvs h in cc
 
+submit_is : (v w : SubmitValue) → SubmitBody v ≡ SubmitBody w → v ≡ w
+submit_is v w e = cc
+
+both : (v : SubmitValue) (m : Mandatory) → v.registered_delivery ≡ m.registered_delivery → number_of m.destination ≡ v.number → submit_said m ≡ v
+both v m e k = λ i. record { registered_delivery = sym e i; number = k i }
+
 pub says_submit : (o : List ℕ) (v : SubmitValue) → AreOctets o → said o ≡ SubmitBody v → IsSubmit o v
 says_submit o v h s =
     elim (read_of o) [
@@ -140,7 +148,8 @@ says_submit o v h s =
         tlvs = tlvs_of r;
         rest = rest_of r;
         body = body_stands (body_at o) r m (body_octets o h) found;
-        value = let same = sym s ∙ is in cc;
+        registered_delivery = ap (λ (x : SubmitValue). x.registered_delivery) (submit_is v (submit_said m) (sym s ∙ is));
+        number = has_found m.destination v.number (sym (ap (λ (x : SubmitValue). x.number) (submit_is v (submit_said m) (sym s ∙ is))));
       }
       | a_deliver e m r found is ↦ absurd (let differ = sym s ∙ is in cc)
       | undecodable e none is ↦ absurd (let differ = sym s ∙ is in cc)
@@ -151,7 +160,7 @@ says_submit o v h s =
 pub submit_says : (o : List ℕ) (v : SubmitValue) → IsSubmit o v → said o ≡ SubmitBody v
 submit_says o v h =
     of_submit (command_at o) (body_at o) h.command ∙ submit_some (body_at o) (after h.tlvs h.rest) h.fields (body_reads (body_at o) h.rest h.fields h.tlvs h.body)
-    ∙ ap SubmitBody (sym h.value)
+    ∙ ap SubmitBody (both v h.fields h.registered_delivery (has_again h.fields.destination v.number h.number))
 
 pub says_deliver : (o : List ℕ) (v : DeliverValue) → AreOctets o → said o ≡ DeliverBody v → IsDeliver o v
 says_deliver o v h s =

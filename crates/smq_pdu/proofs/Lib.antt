@@ -1,5 +1,6 @@
 pub mod Texts
 pub mod Mandatory
+pub mod Numbers
 pub mod Parameters
 pub mod MessageIds
 pub mod BodyLaws

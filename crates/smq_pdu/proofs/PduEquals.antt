@@ -10,11 +10,14 @@ use Rattle.std.proofs.lemmas.Slice.Eq.{slice_eq-Decides}
 use denote.Bor.{Bor}
 use Rattle.smq_kit.specs.contracts.message_id.MessageIdPartialEq.TheImpl as id_eq
 use Rattle.smq_kit.specs.declared.message_id.MessageId.{MessageId}
+use Rattle.smq_kit.specs.contracts.number.DigitsPartialEq.TheImpl as digits_eq
+use Rattle.smq_kit.specs.declared.number.Digits.{Digits}
 use Rattle.smq_pdu.specs.Bodies.{SubmitValue, DeliverValue, DeliverBody, SubmitBody, SubmitAnswerBody}
-use Rattle.smq_pdu.specs.Decoded.{seen, deliver_view, body_view, pdu_view}
-use Rattle.smq_pdu.specs.Equalities.{is_same_deliver, is_same_body, is_same_pdu}
+use Rattle.smq_pdu.specs.Decoded.{seen, submit_view, deliver_view, body_view, pdu_view}
+use Rattle.smq_pdu.specs.Equalities.{is_same_submit, is_same_deliver, is_same_body, is_same_pdu}
 use Rattle.smq_pdu.specs.declared.body.Body.{Body}
 use Rattle.smq_pdu.specs.declared.body.Body.TheVariants as v
+use Rattle.smq_pdu.specs.declared.body.Submit.{Submit}
 use Rattle.smq_pdu.specs.declared.body.Deliver.{Deliver}
 use Rattle.smq_pdu.specs.declared.pdu.Pdu.{Pdu}
 use Rattle.smq_pdu.specs.Pdu.{PduValue}
@@ -75,6 +78,36 @@ pub delivers_decide : (a b : Deliver) → Decides (is_same_deliver a b) (deliver
 delivers_decide a b =
     Decides-like (is_same_deliver a b) (one (deliver_view a) (deliver_view b)) (parts (deliver_view a) (deliver_view b)) (parts_decide a b)
 
+-- ---- what a submit_sm says
+
+numbers : (a b : Digits) → Decides (digits_eq.ghosts.eq a b) (a ≡ b)
+numbers a b = search rules
+
+number_given : (a b : Option Digits) → Decides (option_eq digits_eq.ghosts.eq a b) (a ≡ b)
+number_given None None = (λ h. refl, λ e. refl)
+number_given None (Some y) = (λ h. absurd cc, λ e. absurd cc)
+number_given (Some x) None = (λ h. absurd cc, λ e. absurd cc)
+number_given (Some x) (Some y) =
+    Decides-like (digits_eq.ghosts.eq x y) (λ h. ap (λ (z : Digits). Some z) h) (λ e. let same : x ≡ y = cc in same) (numbers x y)
+
+-- both parts of what two submit_sm say are one
+abbrev SubmitParts : SubmitValue → SubmitValue → Type 0
+SubmitParts a b = (a.registered_delivery ≡ b.registered_delivery) × (a.number ≡ b.number)
+
+submit_parts_decide : (a b : Submit) → Decides (is_same_submit a b) (SubmitParts (submit_view a) (submit_view b))
+submit_parts_decide a b =
+    Decides-and _ _ (unsigned_Decides a.registered_delivery b.registered_delivery) (number_given a.number b.number)
+
+one_submit : (a b : SubmitValue) → SubmitParts a b → a ≡ b
+one_submit a b p = λ i. record { registered_delivery = p.0 i; number = p.1 i }
+
+submit_parts : (a b : SubmitValue) → a ≡ b → SubmitParts a b
+submit_parts a b e = (ap (λ d. d.registered_delivery) e, ap (λ d. d.number) e)
+
+pub submits_decide : (a b : Submit) → Decides (is_same_submit a b) (submit_view a ≡ submit_view b)
+submits_decide a b =
+    Decides-like (is_same_submit a b) (one_submit (submit_view a) (submit_view b)) (submit_parts (submit_view a) (submit_view b)) (submit_parts_decide a b)
+
 -- ---- bodies, command by command
 
 ids : (a b : MessageId) → Decides (id_eq.ghosts.eq a b) (a ≡ b)
@@ -87,14 +120,9 @@ given (Some x) None = (λ h. absurd cc, λ e. absurd cc)
 given (Some x) (Some y) =
     Decides-like (id_eq.ghosts.eq x y) (λ h. ap (λ (z : MessageId). Some z) h) (λ e. let same : x ≡ y = cc in same) (ids x y)
 
--- a submit_sm that says this
-abbrev said_by : ℕ → SubmitValue
-said_by n = record { registered_delivery = n }
-
 bodies_decide : (a b : Body) → Decides (is_same_body a b) (body_view a ≡ body_view b)
 bodies_decide (v.Submit s) (v.Submit t) =
-    Decides-like (nat_eq s.registered_delivery t.registered_delivery) (λ h. ap (λ (n : ℕ). SubmitBody (record { registered_delivery = n })) h)
-    (λ e. let same : said_by s.registered_delivery ≡ said_by t.registered_delivery = cc in ap (λ (x : SubmitValue). x.registered_delivery) same) (unsigned_Decides s.registered_delivery t.registered_delivery)
+    Decides-like (is_same_submit s t) (λ h. ap SubmitBody h) (λ e. let same : submit_view s ≡ submit_view t = cc in same) (submits_decide s t)
 bodies_decide (v.Submit s) (v.SubmitAnswer t) = (λ h. absurd cc, λ e. absurd cc)
 bodies_decide (v.Submit s) (v.Deliver t) = (λ h. absurd cc, λ e. absurd cc)
 bodies_decide (v.Submit s) v.Other = (λ h. absurd cc, λ e. absurd cc)

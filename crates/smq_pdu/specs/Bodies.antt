@@ -2,11 +2,14 @@
 use Rattle.std.specs.Prelude.{◌≡◌, ◌≤◌, ◌⊎◌, ℕ, List, ◌∷◌, ◌++◌, length, Option}
 use Rattle.std.specs.List.{AllByRecursion, flat_map}
 use Rattle.smq_pdu.specs.Fields.{Mandatory, spelling, IsText, AreTexts}
+use Rattle.smq_pdu.specs.Numbers.{number_of}
 use Rattle.smq_pdu.specs.Parameters.{Tlv, tlv_spelling, IsTlv, BeginsWithNoTlv, first_value, receipted_message_id_tag, network_error_code_tag, message_payload_tag, message_state_tag}
 
 -- what is read of a submit_sm
 pub record SubmitValue : Type 0 where
   pub registered_delivery : ℕ
+  -- the number of destination_addr, where it is one
+  pub number : Option (List ℕ)
 
 -- what is read of a deliver_sm: of each optional parameter the first value, usable or not
 pub record DeliverValue : Type 0 where
@@ -39,7 +42,10 @@ pub record IsBody (body : List ℕ) (fields : Mandatory) (tlvs : List Tlv) (rest
 
 -- what is read of a submit_sm with these fields
 abbrev pub submit_said : Mandatory → SubmitValue
-submit_said fields = record { registered_delivery = fields.registered_delivery }
+submit_said fields = record {
+  registered_delivery = fields.registered_delivery;
+  number = number_of fields.destination;
+}
 
 -- what is read of a deliver_sm with these fields and parameters
 abbrev pub deliver_said : Mandatory → List Tlv → DeliverValue

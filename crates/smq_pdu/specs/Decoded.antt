@@ -2,16 +2,21 @@
 use Rattle.std.specs.Prelude.{Option, ℕ, List}
 use Rattle.std.specs.Option.{option_map}
 use denote.Bor.{Bor}
-use Rattle.smq_pdu.specs.Bodies.{BodyValue, DeliverValue, SubmitBody, SubmitAnswerBody, DeliverBody, OtherBody, UndecodableBody}
+use Rattle.smq_pdu.specs.Bodies.{BodyValue, SubmitValue, DeliverValue, SubmitBody, SubmitAnswerBody, DeliverBody, OtherBody, UndecodableBody}
 use Rattle.smq_pdu.specs.Pdu.{PduValue}
 use Rattle.smq_pdu.specs.declared.pdu.Pdu.{Pdu}
 use Rattle.smq_pdu.specs.declared.body.Body.{Body}
+use Rattle.smq_pdu.specs.declared.body.Submit.{Submit}
 use Rattle.smq_pdu.specs.declared.body.Deliver.{Deliver}
 use Rattle.smq_pdu.specs.declared.body.Body.TheVariants as v
 
 -- the octets of a value, where there is one
 abbrev pub seen : Option (Bor (List ℕ)) → Option (List ℕ)
 seen value = option_map (λ v. v.now) value
+
+-- what a submit_sm says
+abbrev pub submit_view : Submit → SubmitValue
+submit_view s = record { registered_delivery = s.registered_delivery; number = s.number }
 
 -- what a deliver_sm says
 abbrev pub deliver_view : Deliver → DeliverValue
@@ -26,7 +31,7 @@ deliver_view d = record {
 
 -- what a body says
 abbrev pub body_view : Body → BodyValue
-body_view (v.Submit s) = SubmitBody (record { registered_delivery = s.registered_delivery })
+body_view (v.Submit s) = SubmitBody (submit_view s)
 body_view (v.SubmitAnswer a) = SubmitAnswerBody a.message_id
 body_view (v.Deliver d) = DeliverBody (deliver_view d)
 body_view v.Other = OtherBody

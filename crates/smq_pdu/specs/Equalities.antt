@@ -1,11 +1,17 @@
--- What `==` says of PDUs and of what a deliver_sm says.
+-- What `==` says of PDUs and of what a submit_sm and a deliver_sm say.
 use Rattle.std.specs.Prelude.{Bool}
+use Rattle.smq_pdu.specs.declared.body.Submit.{Submit}
 use Rattle.smq_pdu.specs.declared.body.Deliver.{Deliver}
 use Rattle.smq_pdu.specs.declared.body.Body.{Body}
 use Rattle.smq_pdu.specs.declared.pdu.Pdu.{Pdu}
+use Rattle.smq_pdu.specs.contracts.body.SubmitPartialEq.TheImpl as submit_eq
 use Rattle.smq_pdu.specs.contracts.body.DeliverPartialEq.TheImpl as deliver_eq
 use Rattle.smq_pdu.specs.contracts.body.BodyPartialEq.TheImpl as body_eq
 use Rattle.smq_pdu.specs.contracts.pdu.PduPartialEq.TheImpl as pdu_eq
+
+-- whether two submit_sm say the same by `==`
+abbrev pub is_same_submit : Submit → Submit → Bool
+is_same_submit a b = submit_eq.ghosts.eq a b
 
 -- whether two deliver_sm say the same by `==`
 abbrev pub is_same_deliver : Deliver → Deliver → Bool

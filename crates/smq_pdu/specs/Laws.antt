@@ -3,8 +3,9 @@ use Rattle.std.specs.Prelude.{◌≡◌, ◌≢◌, ◌⊎◌, ℕ, List, drop}
 use Rattle.smq_pdu.specs.Commands.{submit_sm, submit_sm_resp, deliver_sm}
 use Rattle.smq_pdu.specs.Header.{header_at}
 use Rattle.smq_pdu.specs.Fields.{Mandatory}
+use Rattle.smq_pdu.specs.Numbers.{HasNumber}
 use Rattle.smq_pdu.specs.Parameters.{Tlv}
-use Rattle.smq_pdu.specs.Bodies.{SubmitValue, DeliverValue, BodyValue, IsBody, IsMessageId, submit_said, deliver_said}
+use Rattle.smq_pdu.specs.Bodies.{SubmitValue, DeliverValue, BodyValue, IsBody, IsMessageId, deliver_said}
 use Rattle.smq_pdu.specs.Pdu.{pdu_of}
 
 -- the command_id of a PDU
@@ -26,7 +27,8 @@ pub record IsSubmit (octets : List ℕ) (submit : SubmitValue) : Type 0 where
   pub tlvs : List Tlv
   pub rest : List ℕ
   pub body : IsBody (body_at octets) fields tlvs rest
-  pub value : submit ≡ submit_said fields
+  pub registered_delivery : submit.registered_delivery ≡ fields.registered_delivery
+  pub number : HasNumber fields.destination submit.number
 
 -- The PDU is a deliver_sm whose body is some fields, parameters and a rest, and they say this.
 pub record IsDeliver (octets : List ℕ) (deliver : DeliverValue) : Type 0 where

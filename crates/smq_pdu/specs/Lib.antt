@@ -2,6 +2,7 @@ pub mod Commands
 pub mod Header
 pub mod Pairing
 pub mod Fields
+pub mod Numbers
 pub mod Parameters
 pub mod Bodies
 pub mod Readers

@@ -2,19 +2,43 @@
 ghost use Rattle.std.specs.Prelude.{◌≡◌};
 ghost use Rattle.smq_pdu.specs.Pdu.{before_zero, id_of, submit_of, deliver_of, body_of};
 ghost use Rattle.smq_pdu.specs.Decoded.{body_view};
+ghost use Rattle.smq_pdu.specs.Numbers.{without_plus, number_of};
+ghost use Rattle.smq_pdu.specs.within.Views.{address_view};
 
 use crate::command::{DELIVER_SM, SUBMIT_SM, SUBMIT_SM_RESP};
-use crate::fields::{read_mandatory, zero_place};
+use crate::fields::{Address, read_mandatory, zero_place};
 use crate::tlv::{
     MESSAGE_PAYLOAD, MESSAGE_STATE, NETWORK_ERROR_CODE, RECEIPTED_MESSAGE_ID, first_value,
 };
-use smq_kit::MessageId;
+use smq_kit::{Digits, MessageId};
+
+/// The type of an international number; the unknown type is 0 (SMPP 3.4, 5.2.5).
+const INTERNATIONAL: u8 = 1;
 
 /// What is read of a submit_sm (SMPP 3.4, 4.4.1).
-#[derive(Clone, Copy, Debug, PartialEq, Eq)]
+#[derive(Debug, PartialEq, Eq, Drop)]
 pub struct Submit {
     /// Bits 1 and 0 ask for a delivery receipt (SMPP 3.4, 5.2.17).
     pub registered_delivery: u8,
+    /// The number that it is sent to: destination_addr without one leading `+` (SMPP 3.4, 5.2.9).
+    /// None where dest_addr_ton is neither unknown nor international (SMPP 3.4, 5.2.5), or where
+    /// anything but 1 to 15 decimal digits remains (E.164, section 6).
+    pub number: Option<Digits>,
+}
+
+impl Submit {
+    /// An equal value. It takes no memory.
+    pub fn copy(&self) -> Submit
+        ensures { result ≡ self.now }
+    {
+        Submit {
+            registered_delivery: self.registered_delivery,
+            number: match &self.number {
+                None => None,
+                Some(number) => Some(number.copy()),
+            },
+        }
+    }
 }
 
 /// What is read of a submit_sm_resp (SMPP 3.4, 4.4.2).
@@ -81,7 +105,29 @@ fn read_submit(octets: &[u8]) -> Body<'_>
         None => Body::Undecodable,
         Some((fields, _)) => Body::Submit(Submit {
             registered_delivery: fields.back.registered_delivery,
+            number: read_digits(&fields.front.destination),
         }),
+    }
+}
+
+/// The number that an address names.
+#[tactic(auto, unfolding(crate::specs::Numbers::number_of), using(crate::proofs::Numbers::digits_facts))]
+fn read_digits(address: &Address<'_>) -> Option<Digits>
+    ensures { result ≡ number_of (address_view address.now) }
+{
+    if address.ton > INTERNATIONAL {
+        return None;
+    }
+    Digits::parse(after_plus(address.text)).ok()
+}
+
+/// The octets without one leading `+`.
+fn after_plus(text: &[u8]) -> &[u8]
+    ensures { result.now ≡ without_plus text.now }
+{
+    match text {
+        [b'+', rest @ ..] => rest,
+        _ => text,
     }
 }
 

@@ -1,6 +1,7 @@
 //! Laws of the definitions that the contracts cite. No code calls these functions.
-ghost use Rattle.std.specs.Prelude.{◌≡◌, ◌≢◌, ◌↔◌, ◌⊎◌, ◌+◌, ◌^◌, ◌<◌, ◌≤◌, ◌++◌, ◌∷◌, [], List, ℕ, Some, None, true, false, IsTrue};
-ghost use Rattle.smq_pdu.specs.Fields.{Mandatory, BeginsWith};
+ghost use Rattle.std.specs.Prelude.{◌≡◌, ◌≢◌, ◌↔◌, ◌⊎◌, ◌+◌, ◌^◌, ◌<◌, ◌≤◌, ◌++◌, ◌∷◌, [], List, ℕ, codes, Some, None, true, false, IsTrue};
+ghost use Rattle.smq_pdu.specs.Fields.{Address, Mandatory, BeginsWith};
+ghost use Rattle.smq_pdu.specs.Numbers.{IsNumberOf, number_of};
 ghost use Rattle.smq_pdu.specs.Parameters.{Tlv, AreParameters, BeginsWithNoTlv, IsTlv, tlv_spelling, first_value, receipted_message_id_tag, network_error_code_tag, message_payload_tag, message_state_tag};
 ghost use Rattle.smq_pdu.specs.Bodies.{SubmitValue, DeliverValue, SubmitBody, SubmitAnswerBody, DeliverBody, OtherBody, UndecodableBody, IsBody, IsFirstText};
 ghost use Rattle.smq_pdu.specs.Readers.{mandatory_at, tlvs_of, rest_of};
@@ -8,9 +9,10 @@ ghost use Rattle.smq_pdu.specs.Pdu.{before_zero, pdu_of};
 ghost use Rattle.smq_pdu.specs.Laws.{said, IsSubmit, IsDeliver, IsUndecodable, IsSubmitResponse, IsSubmitResponseWithoutId, IsOther};
 ghost use Rattle.smq_pdu.specs.Pairing.{FindsPairs, FindsEachPair, HasOneRequest, FindsInTurn, agrees, is_request, is_response, request_rank, response_rank, response_place};
 ghost use Rattle.smq_pdu.specs.Header.{Header, header_with};
-ghost use Rattle.smq_pdu.specs.Known.{submit_octets, submit_pdu, response_octets, response_pdu, receipt_octets, receipt_pdu, all_parameters_octets, all_parameters_pdu, cut_octets, cut_pdu, nack_octets, nack_pdu, parameter_octets, parameter_tlvs, parameter_rest, IsRequestCommand, IsResponseCommand, IsNeitherCommand, short_requests, short_responses};
-ghost use Rattle.smq_pdu.specs.Decoded.{deliver_view, pdu_view};
-ghost use Rattle.smq_pdu.specs.Equalities.{is_same_deliver, is_same_pdu};
+ghost use Rattle.smq_pdu.specs.Known.{submit_octets, submit_pdu, plus_octets, plus_pdu, national_octets, national_pdu, too_long_octets, too_long_pdu, other_octets, address_with, response_octets, response_pdu, receipt_octets, receipt_pdu, all_parameters_octets, all_parameters_pdu, cut_octets, cut_pdu, nack_octets, nack_pdu, parameter_octets, parameter_tlvs, parameter_rest, IsRequestCommand, IsResponseCommand, IsNeitherCommand, short_requests, short_responses};
+ghost use Rattle.smq_pdu.specs.Decoded.{submit_view, deliver_view, pdu_view};
+ghost use Rattle.smq_pdu.specs.Equalities.{is_same_submit, is_same_deliver, is_same_pdu};
+ghost use Rattle.smq_pdu.specs.declared.body.Submit.{Submit};
 ghost use Rattle.smq_pdu.specs.declared.body.Deliver.{Deliver};
 ghost use Rattle.smq_pdu.specs.declared.pdu.Pdu.{Pdu};
 
@@ -31,6 +33,17 @@ pub fn parameters_are_read(octets: &[u8])
     // Octets begin with no whole parameter where they are not one and what follows it.
     ensures none { BeginsWithNoTlv octets.now
         ↔ ((tlv : Tlv) (rest : List ℕ) → IsTlv tlv → octets.now ≡ tlv_spelling tlv ++ rest → ⊥) }
+{}
+
+/// An address has the number that its text is, with or without a `+` before it, where its type
+/// says so, or none; and one at most.
+pub fn numbers_are_read()
+    ensures number { (address : Address) (number : List ℕ)
+        → (number_of address ≡ Some number) ↔ IsNumberOf address number }
+    ensures none { (address : Address)
+        → (number_of address ≡ None) ↔ ((number : List ℕ) → IsNumberOf address number → ⊥) }
+    ensures unique { (address : Address) (number other : List ℕ)
+        → IsNumberOf address number → IsNumberOf address other → number ≡ other }
 {}
 
 /// A PDU of these octets says what the relation of its body says, and nothing else.
@@ -68,8 +81,10 @@ pub fn pairs_are_found()
     ensures in_turn { FindsInTurn }
 {}
 
-/// Two PDUs, or two deliver_sm, are equal by `==` exactly where they say the same.
+/// Two PDUs, two submit_sm or two deliver_sm are equal by `==` exactly where they say the same.
 pub fn pdus_are_told_apart()
+    ensures submits { (a b : Submit) →
+        IsTrue (is_same_submit a b) ↔ (submit_view a ≡ submit_view b) }
     ensures delivers { (a b : Deliver) →
         IsTrue (is_same_deliver a b) ↔ (deliver_view a ≡ deliver_view b) }
     ensures pdus { (a b : Pdu) → IsTrue (is_same_pdu a b) ↔ (pdu_view a ≡ pdu_view b) }
@@ -90,11 +105,47 @@ pub fn commands_are_told_apart()
 /// What some PDUs say.
 pub fn known_pdus()
     ensures submit { pdu_of submit_octets ≡ submit_pdu }
+    ensures plus { pdu_of plus_octets ≡ plus_pdu }
+    ensures national { pdu_of national_octets ≡ national_pdu }
+    ensures too_long { pdu_of too_long_octets ≡ too_long_pdu }
+
+    // These two differ in the last digit of destination_addr alone.
+    ensures apart { pdu_of submit_octets ≢ pdu_of other_octets }
     ensures response { pdu_of response_octets ≡ response_pdu }
     ensures receipt { pdu_of receipt_octets ≡ receipt_pdu }
     ensures parameters { pdu_of all_parameters_octets ≡ all_parameters_pdu }
     ensures cut { pdu_of cut_octets ≡ cut_pdu }
     ensures nack { pdu_of nack_octets ≡ nack_pdu }
+{}
+
+/// The numbers of some addresses, by their type of number and their text.
+pub fn known_numbers()
+    ensures unknown { number_of (address_with 0 (codes "447700900123"))
+        ≡ Some (codes "447700900123") }
+    ensures unknown_with_plus { number_of (address_with 0 (codes "+447700900123"))
+        ≡ Some (codes "447700900123") }
+    ensures international { number_of (address_with 1 (codes "447700900123"))
+        ≡ Some (codes "447700900123") }
+    ensures international_with_plus { number_of (address_with 1 (codes "+447700900123"))
+        ≡ Some (codes "447700900123") }
+
+    // National, network specific, subscriber number, alphanumeric, abbreviated.
+    ensures national { number_of (address_with 2 (codes "447700900123")) ≡ None }
+    ensures network_specific { number_of (address_with 3 (codes "447700900123")) ≡ None }
+    ensures subscriber { number_of (address_with 4 (codes "447700900123")) ≡ None }
+    ensures alphanumeric { number_of (address_with 5 (codes "447700900123")) ≡ None }
+    ensures abbreviated { number_of (address_with 6 (codes "447700900123")) ≡ None }
+    ensures empty { number_of (address_with 1 []) ≡ None }
+    ensures plus_alone { number_of (address_with 1 (codes "+")) ≡ None }
+    ensures two_plus { number_of (address_with 1 (codes "++447700900123")) ≡ None }
+    ensures plus_within { number_of (address_with 1 (codes "44+7700900123")) ≡ None }
+    ensures before_the_digits { number_of (address_with 1 (codes "/")) ≡ None }
+    ensures first_digit { number_of (address_with 1 (codes "0")) ≡ Some (codes "0") }
+    ensures last_digit { number_of (address_with 1 (codes "9")) ≡ Some (codes "9") }
+    ensures after_the_digits { number_of (address_with 1 (codes ":")) ≡ None }
+    ensures longest { number_of (address_with 1 (codes "+123456789012345"))
+        ≡ Some (codes "123456789012345") }
+    ensures too_long { number_of (address_with 1 (codes "1234567890123456")) ≡ None }
 {}
 
 /// The parameters of octets with one tag twice and an end that cuts a parameter off.

@@ -2,7 +2,7 @@
 use crate::{Body, Deliver, Pdu, Submit, SubmitAnswer, agrees, decode, is_request, is_response};
 use bytes::Bytes;
 use smq_frame::{Frame, Tail, frames};
-use smq_kit::{MessageId, Moment};
+use smq_kit::{Digits, MessageId, Moment};
 use std::process::Abort;
 use std::test::Fail;
 
@@ -30,6 +30,14 @@ fn frame_with(
     octets.extend_from_slice(&7u32.to_be_bytes())?;
     octets.extend_from_slice(body)?;
     frame_of(rt, octets.as_slice())
+}
+
+/// A submit_sm to this number, or to none, that asks for a receipt.
+fn submit(number: &[u8]) -> Body<'static> {
+    Body::Submit(Submit {
+        registered_delivery: 1,
+        number: Digits::parse(number).ok(),
+    })
 }
 
 /// A response with this id, or with none.
@@ -74,9 +82,7 @@ fn whole_pdus_are_decoded(rt: HostRuntime) -> Result<(), Fail> {
                 seq: 1,
                 command: 0x0000_0004,
                 status: 0,
-                body: Body::Submit(Submit {
-                    registered_delivery: 1,
-                }),
+                body: submit(b"447700900123"),
             },
         },
         Vector {
@@ -204,9 +210,128 @@ fn check_rows(rt: &(impl Abort + AllocGlobal), rows: &[Row]) -> Result<(), Fail>
         );
         assert!(rt; pdu.status == row.status, "the status of {}", row.message);
         assert!(rt; pdu.body == row.body, "{}", row.message);
+        if let Body::Submit(submit) = &pdu.body {
+            assert!(rt; submit.copy() == *submit, "a copy of {}", row.message);
+        }
     }
     Ok(())
 }
+
+/// What a destination is; the body of a submit_sm from no address to it; the digits of its number,
+/// or none.
+const DESTINATIONS: [(&str, &[u8], &[u8]); 23] = [
+    (
+        "unknown type",
+        b"\0\0\0\0\x00\x01447700900123\0\0\0\0\0\0\x01\0\0\0\0",
+        b"447700900123",
+    ),
+    (
+        "unknown type with a plus",
+        b"\0\0\0\0\x00\x01+447700900123\0\0\0\0\0\0\x01\0\0\0\0",
+        b"447700900123",
+    ),
+    (
+        "international type",
+        b"\0\0\0\0\x01\x01447700900123\0\0\0\0\0\0\x01\0\0\0\0",
+        b"447700900123",
+    ),
+    (
+        "international type with a plus",
+        b"\0\0\0\0\x01\x01+447700900123\0\0\0\0\0\0\x01\0\0\0\0",
+        b"447700900123",
+    ),
+    (
+        "national type",
+        b"\0\0\0\0\x02\x01447700900123\0\0\0\0\0\0\x01\0\0\0\0",
+        b"",
+    ),
+    (
+        "network specific type",
+        b"\0\0\0\0\x03\x01447700900123\0\0\0\0\0\0\x01\0\0\0\0",
+        b"",
+    ),
+    (
+        "subscriber number type",
+        b"\0\0\0\0\x04\x01447700900123\0\0\0\0\0\0\x01\0\0\0\0",
+        b"",
+    ),
+    (
+        "alphanumeric type",
+        b"\0\0\0\0\x05\x01447700900123\0\0\0\0\0\0\x01\0\0\0\0",
+        b"",
+    ),
+    (
+        "abbreviated type",
+        b"\0\0\0\0\x06\x01447700900123\0\0\0\0\0\0\x01\0\0\0\0",
+        b"",
+    ),
+    (
+        "a plus alone",
+        b"\0\0\0\0\x01\x01+\0\0\0\0\0\0\x01\0\0\0\0",
+        b"",
+    ),
+    ("no text", b"\0\0\0\0\x01\x01\0\0\0\0\0\0\x01\0\0\0\0", b""),
+    (
+        "letters",
+        b"\0\0\0\0\x01\x01ACME\0\0\0\0\0\0\x01\0\0\0\0",
+        b"",
+    ),
+    (
+        "letters after digits",
+        b"\0\0\0\0\x01\x014477o0900123\0\0\0\0\0\0\x01\0\0\0\0",
+        b"",
+    ),
+    (
+        "one digit",
+        b"\0\0\0\0\x01\x017\0\0\0\0\0\0\x01\0\0\0\0",
+        b"7",
+    ),
+    (
+        "15 digits",
+        b"\0\0\0\0\x01\x01447700900123456\0\0\0\0\0\0\x01\0\0\0\0",
+        b"447700900123456",
+    ),
+    (
+        "16 digits",
+        b"\0\0\0\0\x01\x014477009001234567\0\0\0\0\0\0\x01\0\0\0\0",
+        b"",
+    ),
+    (
+        "a plus and 15 digits",
+        b"\0\0\0\0\x01\x01+447700900123456\0\0\0\0\0\0\x01\0\0\0\0",
+        b"447700900123456",
+    ),
+    (
+        "a plus and 16 digits",
+        b"\0\0\0\0\x01\x01+4477009001234567\0\0\0\0\0\0\x01\0\0\0\0",
+        b"",
+    ),
+    (
+        "two plus",
+        b"\0\0\0\0\x01\x01++447700900123\0\0\0\0\0\0\x01\0\0\0\0",
+        b"",
+    ),
+    (
+        "a plus in the middle",
+        b"\0\0\0\0\x01\x0144+7700900123\0\0\0\0\0\0\x01\0\0\0\0",
+        b"",
+    ),
+    (
+        "a plus at the end",
+        b"\0\0\0\0\x01\x01447700900123+\0\0\0\0\0\0\x01\0\0\0\0",
+        b"",
+    ),
+    (
+        "a space",
+        b"\0\0\0\0\x01\x0144 7700900123\0\0\0\0\0\0\x01\0\0\0\0",
+        b"",
+    ),
+    (
+        "a space before the digits",
+        b"\0\0\0\0\x01\x01 447700900123\0\0\0\0\0\0\x01\0\0\0\0",
+        b"",
+    ),
+];
 
 #[test]
 fn bodies_of_pdus(rt: HostRuntime) -> Result<(), Fail> {
@@ -274,7 +399,13 @@ fn bodies_of_pdus(rt: HostRuntime) -> Result<(), Fail> {
                 b"abcdefghijklmnop\0\0\0\0\0\0\0\0\0\0\0\0\x02\x01\0\0\0",
                 Body::Submit(Submit {
                     registered_delivery: 2,
+                    number: None,
                 }),
+            ),
+            submit_row(
+                "a destination without its zero octet",
+                b"\0\0\0\0\x01\x01447700900123",
+                Body::Undecodable,
             ),
             response_row("an id without a zero octet", 0, b"abc", b"abc"),
             response_row("octets after the id", 0, b"abc\0\x04\x27\0\x01\x02", b"abc"),
@@ -293,7 +424,11 @@ fn bodies_of_pdus(rt: HostRuntime) -> Result<(), Fail> {
                 b"",
             ),
         ],
-    )
+    )?;
+    for (message, octets, number) in DESTINATIONS {
+        check_rows(&rt, &[submit_row(message, octets, submit(number))])?;
+    }
+    Ok(())
 }
 
 #[test]

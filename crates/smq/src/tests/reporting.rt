@@ -1,14 +1,19 @@
 //! How values are printed.
 use crate::report::push_value;
 use smq_book::{SubmitError, Value};
-use smq_kit::{ErrorCode, ErrorText, LinkId};
+use smq_kit::{ErrorCode, ErrorText, LinkId, Network, RouteId};
 use std::test::Fail;
 
 #[test]
 fn values_are_printed_by_their_form(rt: HostRuntime) -> Result<(), Fail> {
     let text = ErrorText::new(b"0x-27_A.b".as_slice()).expect(&rt, "an error text");
+    let network = Network::parse(b"310026".as_slice())?;
     for (value, printed) in [
         (Value::Link(LinkId(4294967295)), "4294967295"),
+        (Value::Route(RouteId(4294967295)), "4294967295"),
+        (Value::NoRoute, "none"),
+        (Value::Network(network), "310026"),
+        (Value::NoNetwork, "none"),
         (
             Value::Error(SubmitError::Refused { status: 88 }),
             "status:88",

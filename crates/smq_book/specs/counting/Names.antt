@@ -10,6 +10,8 @@ use Rattle.smq_book.specs.declared.counting.tally.Outcome.TheVariants as o
 -- the name of a view
 abbrev pub view_name : View → List ℕ
 view_name v.Link = codes "link"
+view_name v.Route = codes "route"
+view_name v.Network = codes "network"
 view_name v.Error = codes "error"
 
 -- the name of a list

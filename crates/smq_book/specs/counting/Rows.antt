@@ -1,10 +1,11 @@
 -- Where messages are counted: by a view, a value and an outcome; and the order of these.
-use Rattle.std.specs.Prelude.{ℕ, Bool, List, [], ◌∷◌, Option, Some, option_map, option_to_list}
+use Rattle.std.specs.Prelude.{ℕ, Bool, List, [], ◌∷◌, Option, Some, None, option_map, option_to_list}
 use Rattle.std.specs.Cmp.Lexicographic.{slice_cmp}
 use Rattle.std.specs.List.{flat_map, list_any}
 use Rattle.std.specs.declared.cmp.Ordering.{Ordering}
 use Rattle.std.specs.Ordering.{nat_cmp, ordering_then, eq_by_cmp}
 use Rattle.smq_kit.specs.Orders.{error_numbers}
+use Rattle.smq_kit.specs.declared.names.RouteId.{RouteId}
 use Rattle.smq_book.specs.declared.counting.tally.View.{View}
 use Rattle.smq_book.specs.declared.counting.tally.View.TheVariants as v
 use Rattle.smq_book.specs.declared.counting.tally.SubmitError.{SubmitError}
@@ -20,16 +21,30 @@ use Rattle.smq_book.specs.declared.counting.tally.CountKey.{CountKey}
 
 -- the views, in their order
 abbrev pub views : List View
-views = v.Link ∷ v.Error ∷ []
+views = v.Link ∷ v.Route ∷ v.Network ∷ v.Error ∷ []
 
 -- the place of a view among the views
 abbrev pub view_place : View → ℕ
 view_place v.Link = 0
-view_place v.Error = 1
+view_place v.Route = 1
+view_place v.Network = 2
+view_place v.Error = 3
+
+-- what a message is counted by whose number has this route, or none
+abbrev pub route_value : Option RouteId → Value
+route_value None = w.NoRoute
+route_value (Some route) = w.Route route
+
+-- the same of its network, by the octets of its code
+abbrev pub network_value : Option (List ℕ) → Value
+network_value None = w.NoNetwork
+network_value (Some network) = w.Network network
 
 -- what a message is counted by in a view, if it has a value there
 abbrev pub value_in : View → Fact → Option Value
 value_in v.Link f = Some (w.Link f.link)
+value_in v.Route f = Some (route_value f.route)
+value_in v.Network f = Some (network_value f.network)
 value_in v.Error f = option_map w.Error f.error
 
 -- ---- the order of values: by kind, then by what they say
@@ -39,10 +54,14 @@ abbrev pub submit_error_numbers : SubmitError → List ℕ
 submit_error_numbers (s.Refused status) = 0 ∷ status ∷ []
 submit_error_numbers (s.Failed code) = 1 ∷ error_numbers code
 
--- the same of a value
+-- the same of a value: routes by number, then none; networks by octets, then none
 abbrev pub value_numbers : Value → List ℕ
 value_numbers (w.Link link) = 0 ∷ link.0 ∷ []
-value_numbers (w.Error error) = 1 ∷ submit_error_numbers error
+value_numbers (w.Route route) = 1 ∷ route.0 ∷ []
+value_numbers w.NoRoute = 2 ∷ []
+value_numbers (w.Network network) = 3 ∷ network
+value_numbers w.NoNetwork = 4 ∷ []
+value_numbers (w.Error error) = 5 ∷ submit_error_numbers error
 
 -- the order of values: by these numbers, the first that differ deciding
 abbrev pub value_cmp : Value → Value → Ordering

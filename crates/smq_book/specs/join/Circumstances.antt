@@ -1,15 +1,19 @@
 -- The circumstances of a message: all that decides what became of it, beside what it says itself.
-use Rattle.std.specs.Prelude.{Option, option_map, option_and_then}
+use Rattle.std.specs.Prelude.{ℕ, List, Option, option_map, option_and_then}
 use Rattle.std.specs.FinMap as map
+use Rattle.smq_kit.specs.declared.names.RouteId.{RouteId}
+use Rattle.smq_route.specs.Versions.{Versions, route_at}
 use Rattle.smq_book.specs.present.Settings.{SettingsValue}
 use Rattle.smq_book.specs.pairing.Traffic.{Message, ReceivedReceipt, TrafficValue}
 use Rattle.smq_book.specs.join.Matching.{Grouping, Standing, submit_standing, decided_by}
 use Rattle.smq_book.specs.join.Keyed.{accepted_key, grouping_of}
 
--- how it stands where it is accepted, and the receipt that decides it where there is one
+-- how it stands where it is accepted, the receipt that decides it where there is one, and the route and network of its
+-- number where it has them
 pub record Circumstances : Type 0 where
   pub standing : Option Standing
   pub decider : Option ReceivedReceipt
+  pub route : Option (RouteId × List ℕ)
 
 -- how a message stands: not at all where it isn't accepted
 abbrev pub standing_in : Grouping → SettingsValue → Message → Option Standing
@@ -19,9 +23,14 @@ standing_in g s m = option_map (submit_standing g) (accepted_key s m)
 abbrev pub decider_in : TrafficValue → Option Standing → Option ReceivedReceipt
 decider_in t standing = option_and_then (λ place. map.get t.receipts place) (option_and_then decided_by standing)
 
+-- the route and network that a message's number has at its moment, if it has a number
+abbrev pub route_in : Versions → Message → Option (RouteId × List ℕ)
+route_in versions m = option_and_then (λ number. route_at versions number m.moment) m.number
+
 -- the circumstances of a message
 abbrev pub circumstances : SettingsValue → TrafficValue → Message → Circumstances
 circumstances s t m = record {
   standing = standing_in (grouping_of s t) s m;
   decider = decider_in t (standing_in (grouping_of s t) s m);
+  route = route_in s.versions m;
 }

@@ -1,6 +1,7 @@
 -- What is known of each message.
-use Rattle.std.specs.Prelude.{Some}
+use Rattle.std.specs.Prelude.{ℕ, List, Option, Some, option_map}
 use Rattle.std.specs.FinMap as map
+use Rattle.smq_kit.specs.declared.names.RouteId.{RouteId}
 use Rattle.smq_kit.specs.declared.place.Place.{Place}
 use Rattle.smq_kit.specs.Maps.{chosen}
 use Rattle.smq_kit.specs.Orders.{place_cmp}
@@ -16,9 +17,15 @@ fact_by place m c = record {
   place = place;
   moment = m.moment;
   link = m.link;
+  route = option_map (λ r. r.0) c.route;
+  network = option_map (λ r. r.1) c.route;
   outcome = outcome_by m c;
   error = error_by (outcome_by m c) m.response c.decider;
 }
+
+-- a fact with this route and network, or neither
+abbrev pub with_route : Option (RouteId × List ℕ) → Fact → Fact
+with_route route f = record f { route = option_map (λ r. r.0) route; network = option_map (λ r. r.1) route }
 
 -- what is known of each message, by place
 abbrev pub facts_of : SettingsValue → TrafficValue → map.FinMap place_cmp Fact

@@ -30,10 +30,12 @@ pub record Response : Type 0 where
   pub status : ℕ
   pub id : Option (List ℕ)
 
--- a message: a decodable submit_sm of the client (SMPP 3.4, 4.4.1), with its response where it has one
+-- a message: a decodable submit_sm of the client (SMPP 3.4, 4.4.1), with the number that it is sent to and its response,
+-- where it has them
 pub record Message : Type 0 where
   pub link : LinkId
   pub moment : ℕ
+  pub number : Option (List ℕ)
   pub asks_receipt : Bool
   pub response : Option Response
 
@@ -93,6 +95,7 @@ abbrev pub message_of : Origin → KeptPdu → Submit → Option KeptPdu → Mes
 message_of origin p submit response = record {
   link = origin.link;
   moment = p.moment;
+  number = submit.number;
   asks_receipt = asks_receipt submit.registered_delivery;
   response = option_map (response_in (header_of p)) response;
 }

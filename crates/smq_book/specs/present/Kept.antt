@@ -15,7 +15,8 @@ use Rattle.smq_book.specs.declared.present.kept.KeptPdu.{KeptPdu}
 
 -- what is kept of a body
 abbrev pub content_of_body : BodyValue → Content
-content_of_body (SubmitBody submit) = c.Submit (record { registered_delivery = submit.registered_delivery })
+content_of_body (SubmitBody submit) =
+    c.Submit (record { registered_delivery = submit.registered_delivery; number = submit.number })
 content_of_body (SubmitAnswerBody id) = c.SubmitAnswer id
 content_of_body (DeliverBody deliver) = c.Deliver (reading_of deliver)
 content_of_body OtherBody = c.Other

@@ -1,5 +1,6 @@
 -- What refuses an edit: its refusals in the order in which they are tested, of which the first that holds is told. Who
--- adds one puts it at the place at which the code tests it; what a piece alone decides stands in Batch.
+-- adds one puts it at the place at which the code tests it; what a piece alone decides stands in Batch, and what refuses an
+-- edit of routes in smq_route.
 use Rattle.std.specs.Prelude.{◌≡◌, ◌≤◌, ◌==◌, not, nat_lt, is_none, List, [], ◌∷◌, length, Option, Some, None}
 use Rattle.smq_kit.specs.declared.names.LinkId.{LinkId}
 use Rattle.smq_kit.specs.declared.refusal.Refusal.{Refusal}
@@ -7,9 +8,11 @@ use Rattle.smq_kit.specs.declared.refusal.Refusal.TheVariants.{OtherLink, OutOfS
 use Rattle.smq_frame.specs.Stream.{Octet, values}
 use Rattle.smq_frame.specs.Tail.{tails_equal, tail_of}
 use Rattle.smq_book.specs.declared.present.edit.Edit.{Edit}
-use Rattle.smq_book.specs.declared.present.edit.Edit.TheVariants.{Append, Withdraw, SetForm}
+use Rattle.smq_book.specs.declared.present.edit.Edit.TheVariants.{Append, Withdraw, SetForm, AddRoute, EndRoute, CorrectRoute}
 use Rattle.smq_book.specs.declared.present.session.Session.{Session}
 use Rattle.smq_kit.specs.Replies.{first_of, refused_if}
+use Rattle.smq_route.specs.Edits.{add_refusals, end_refusals, correct_refusals}
+use Rattle.smq_route.specs.Versions.{version_of}
 use Rattle.smq_book.specs.present.Batch.{BatchValue}
 use Rattle.smq_book.specs.present.Present.{PresentValue, session_of, link_of, octets_in, octets_of, tail_in}
 use Rattle.smq_book.specs.present.Stream.{last_moment}
@@ -47,6 +50,11 @@ abbrev pub reply : PresentValue → Edit → Option Refusal
 reply p (Append batch) = first_of (append_refusals (session_of p batch.session.0) batch)
 reply p (Withdraw session) = no_session (session_of p session.0)
 reply p (SetForm link response receipt) = None
+reply p (AddRoute prefix from route network) = first_of (add_refusals p.settings.versions prefix from)
+reply p (EndRoute prefix from until) =
+    first_of (end_refusals (version_of p.settings.versions prefix from) from until)
+reply p (CorrectRoute prefix from route network) =
+    first_of (correct_refusals (version_of p.settings.versions prefix from))
 
 -- A batch goes after its direction: its session is present under no other link, its tail is the direction's, and its
 -- moment isn't below the direction's last.

@@ -1,26 +1,30 @@
--- What is set: the forms in which the centres of links write message ids.
+-- What is set: the forms in which the centres of links write message ids, and the dated routes of prefixes.
 use Rattle.std.specs.Prelude.{ℕ, Option, unwrap_or, refl}
-use Rattle.std.specs.Coded.{Coded, code_by, coded_ℕ}
+use Rattle.std.specs.Coded.{Coded, code_by, coded×, coded_ℕ}
 use Rattle.std.specs.FinMap as map
 use Rattle.std.specs.Ordering.{nat_cmp}
 use Rattle.smq_kit.specs.declared.form.Form.TheVariants.{Verbatim}
 use Rattle.smq_kit.specs.declared.names.LinkId.{LinkId}
+use Rattle.smq_route.specs.Routes.{RoutesValue, routes_code}
+use Rattle.smq_route.specs.Versions.{Versions}
 use Rattle.smq_book.specs.contracts.present.forms.Forms as forms_block
 use Rattle.smq_book.specs.declared.present.forms.Forms.{Forms}
 
--- the forms that were set, by the numbers of their links
+-- the forms that were set, by the numbers of their links, and the versions of routes
 pub record SettingsValue : Type 0 where
   pub forms : map.FinMap nat_cmp Forms
+  pub versions : Versions
 
--- what is set is stored as these forms
+-- what is set is stored as these forms and these routes
 abbrev pub settings_code : Coded SettingsValue
 settings_code =
-    code_by (map.FinMap nat_cmp Forms) (map.code coded_ℕ (forms_block.the_row).coded) (λ s. s.forms)
-    (λ forms. record { forms = forms }) (λ _. refl)
+    code_by (map.FinMap nat_cmp Forms × RoutesValue)
+    (coded× (map.code coded_ℕ (forms_block.the_row).coded) routes_code)
+    (λ s. (s.forms, record { versions = s.versions })) (λ m. record { forms = m.0; versions = m.1.versions }) (λ _. refl)
 
 -- nothing is set
 abbrev pub opening_settings : SettingsValue
-opening_settings = record { forms = map.empty }
+opening_settings = record { forms = map.empty; versions = map.empty }
 
 -- the forms of a link whose forms were never set: both verbatim
 abbrev pub opening_forms : Forms
@@ -29,6 +33,10 @@ opening_forms = record { response = Verbatim; receipt = Verbatim }
 -- the forms that were set of the link of a number
 abbrev pub set_forms_of : SettingsValue → ℕ → Option Forms
 set_forms_of s number = map.get s.forms number
+
+-- settings with these versions of routes
+abbrev pub with_versions : SettingsValue → Versions → SettingsValue
+with_versions s versions = record s { versions = versions }
 
 -- the forms of a link's message ids
 abbrev pub forms_of : SettingsValue → LinkId → Forms

@@ -1,21 +1,26 @@
 -- What an edit leaves present.
-use Rattle.std.specs.Prelude.{◌≡◌, ◌≢◌, ◌==◌, ℕ, Bool, true, false, List, [], ◌++◌, fold, Option, Some, None, unwrap_or}
+use Rattle.std.specs.Prelude.{◌≡◌, ◌≢◌, ◌==◌, ℕ, Bool, true, false, List, [], ◌++◌, fold, Option, Some, None, option_map, unwrap_or}
 use Rattle.std.specs.FinMap as map
 use Rattle.std.specs.List.{list_all}
 use Rattle.smq_kit.specs.declared.form.Form.{Form}
 use Rattle.smq_kit.specs.declared.names.LinkId.{LinkId}
+use Rattle.smq_kit.specs.declared.names.RouteId.{RouteId}
 use Rattle.smq_kit.specs.declared.names.SessionId.{SessionId}
 use Rattle.smq_kit.specs.declared.place.Dir.{Dir}
 use Rattle.smq_kit.specs.declared.place.Dir.TheVariants.{FromClient, FromCentre}
 use Rattle.smq_kit.specs.declared.refusal.Refusal.{Refusal}
 use Rattle.smq_frame.specs.Stream.{Octet, handed_in}
+use Rattle.smq_route.specs.declared.version.Version.{Version}
+use Rattle.smq_route.specs.declared.version.VersionKey.{VersionKey}
+use Rattle.smq_route.specs.Edits.{added, changed, ending, corrected}
+use Rattle.smq_route.specs.Versions.{key_at, version_of}
 use Rattle.smq_book.specs.declared.present.edit.Edit.{Edit}
-use Rattle.smq_book.specs.declared.present.edit.Edit.TheVariants.{Append, Withdraw, SetForm}
+use Rattle.smq_book.specs.declared.present.edit.Edit.TheVariants.{Append, Withdraw, SetForm, AddRoute, EndRoute, CorrectRoute}
 use Rattle.smq_book.specs.declared.present.session.Session.{Session}
 use Rattle.smq_book.specs.present.Batch.{BatchValue}
 use Rattle.smq_book.specs.declared.present.forms.Forms.{Forms}
 use Rattle.smq_book.specs.present.Present.{PresentValue, session_of, link_of, octets_of}
-use Rattle.smq_book.specs.present.Settings.{SettingsValue, set_forms_of}
+use Rattle.smq_book.specs.present.Settings.{SettingsValue, set_forms_of, with_versions}
 use Rattle.smq_book.specs.present.Replies.{reply}
 
 -- a session with octets put after one direction
@@ -41,6 +46,12 @@ change p (Append batch) =
 change p (Withdraw session) = record p { sessions = map.remove p.sessions session.0 }
 change p (SetForm link response receipt) =
     record p { settings = with_forms p.settings link (record { response = response; receipt = receipt }) }
+change p (AddRoute prefix from route network) =
+    record p { settings = with_versions p.settings (added p.settings.versions prefix from route network) }
+change p (EndRoute prefix from until) =
+    record p { settings = with_versions p.settings (changed p.settings.versions prefix from (ending until)) }
+change p (CorrectRoute prefix from route network) =
+    record p { settings = with_versions p.settings (changed p.settings.versions prefix from (corrected route network)) }
 
 -- the plain change, or none where there is a refusal
 abbrev pub step_unless : Option Refusal → PresentValue → Edit → PresentValue
@@ -78,6 +89,36 @@ pub record SetsForm (old new : PresentValue) (link : LinkId) (response receipt :
   pub elsewhere : (number : ℕ) → number ≢ link.0 → set_forms_of new.settings number ≡ set_forms_of old.settings number
   pub rest : new ≡ record old { settings = record old.settings { forms = new.settings.forms } }
 
+-- A version of the prefix begins then, open, with this route and network. Every other version is as it was, and nothing
+-- else changes.
+pub record AddsRoute (old new : PresentValue) (prefix : List ℕ) (from : ℕ) (route : RouteId) (network : List ℕ)
+    : Type 0 where
+  pub there : version_of new.settings.versions prefix from
+      ≡ Some (record { until = None; route = route; network = network })
+  pub elsewhere : (key : VersionKey) → key ≢ key_at prefix from
+      → map.get new.settings.versions key ≡ map.get old.settings.versions key
+  pub rest : new ≡ record old { settings = record old.settings { versions = new.settings.versions } }
+
+-- The version has this end, and the route and network that it had. Every other version is as it was, and nothing else
+-- changes.
+pub record EndsRoute (old new : PresentValue) (prefix : List ℕ) (from until : ℕ) : Type 0 where
+  pub there : version_of new.settings.versions prefix from
+      ≡ option_map {T = Version} (λ v. record v { until = Some until }) (version_of old.settings.versions prefix from)
+  pub elsewhere : (key : VersionKey) → key ≢ key_at prefix from
+      → map.get new.settings.versions key ≡ map.get old.settings.versions key
+  pub rest : new ≡ record old { settings = record old.settings { versions = new.settings.versions } }
+
+-- The version has this route and network, and the dates that it had. Every other version is as it was, and nothing else
+-- changes.
+pub record CorrectsRoute (old new : PresentValue) (prefix : List ℕ) (from : ℕ) (route : RouteId) (network : List ℕ)
+    : Type 0 where
+  pub there : version_of new.settings.versions prefix from
+      ≡ option_map {T = Version} (λ v. record { until = v.until; route = route; network = network })
+      (version_of old.settings.versions prefix from)
+  pub elsewhere : (key : VersionKey) → key ≢ key_at prefix from
+      → map.get new.settings.versions key ≡ map.get old.settings.versions key
+  pub rest : new ≡ record old { settings = record old.settings { versions = new.settings.versions } }
+
 -- ---- edits of one session, and of two
 
 -- whether an edit puts octets into a session
@@ -85,6 +126,9 @@ abbrev pub is_append_to : SessionId → Edit → Bool
 is_append_to session (Append batch) = batch.session.0 == session.0
 is_append_to session (Withdraw other) = false
 is_append_to session (SetForm link response receipt) = false
+is_append_to session (AddRoute prefix from route network) = false
+is_append_to session (EndRoute prefix from until) = false
+is_append_to session (CorrectRoute prefix from route network) = false
 
 -- What was appended to a session before it is withdrawn leaves nothing: what is present is then what withdrawing it at
 -- first leaves.

@@ -43,7 +43,7 @@ notes_of p = flat_map session_notes (map.entries p.sessions)
 
 -- a fact of each submitted message that is present
 abbrev pub facts_listed : PresentValue → List Fact
-facts_listed p = facts_among (submits_of p) (receipts_of p)
+facts_listed p = facts_among p.settings.versions (submits_of p) (receipts_of p)
 
 -- the tables of these facts and of the notes
 abbrev pub tables_listed : PresentValue → TablesValue

@@ -14,12 +14,13 @@ use Rattle.smq_book.specs.present.Kept.{header_of, headers_of, submit_in, id_in}
 use Rattle.smq_book.specs.pairing.Traffic.{asks_receipt}
 use Rattle.smq_kit.specs.LinkKeys.{link_key}
 
--- a submitted message: a decodable submit_sm of the client (SMPP 3.4, 4.4.1), with its response where it has one, and
--- the key of its id where it is accepted
+-- a submitted message: a decodable submit_sm of the client (SMPP 3.4, 4.4.1), with the number that it is sent to and its
+-- response, where it has them, and the key of its id where it is accepted
 pub record SubmittedMessage : Type 0 where
   pub link : LinkId
   pub place : Place
   pub moment : ℕ
+  pub number : Option (List ℕ)
   pub header : Header
   pub asks_receipt : Bool
   pub response : Option KeptPdu
@@ -48,6 +49,7 @@ message_of source p submit response = record {
   link = source.link;
   place = record { session = source.session; dir = FromClient; offset = p.offset };
   moment = p.moment;
+  number = submit.number;
   header = header_of p;
   asks_receipt = asks_receipt submit.registered_delivery;
   response = response;

@@ -1,5 +1,7 @@
 -- What became of a submitted message of a list, stated apart from the definition by place.
-use Rattle.std.specs.Prelude.{◌==◌, not, Bool, false, List, [], ◌∷◌, map, Option, Some, None, is_none, is_some}
+use Rattle.std.specs.Prelude.{◌==◌, not, ℕ, Bool, false, List, [], ◌∷◌, map, Option, Some, None, is_none, is_some, option_map, option_and_then}
+use Rattle.smq_kit.specs.declared.names.RouteId.{RouteId}
+use Rattle.smq_route.specs.Versions.{Versions, route_at}
 use Rattle.smq_pdu.specs.Header.{Header}
 use Rattle.smq_pdu.specs.Pairing.{agrees}
 use Rattle.smq_book.specs.declared.present.kept.KeptPdu.{KeptPdu}
@@ -49,20 +51,27 @@ error_by o.Refused (Some response) decider = Some (Refused response.status)
 error_by o.Failed response (Some r) = Some (Failed r.receipt.error)
 error_by _ response decider = None
 
--- what is known of a submitted message, by whether it is ambiguous and by its deciding receipt
-abbrev pub fact_by : SubmittedMessage → Bool → Option PlacedReceipt → Fact
-fact_by s ambiguous decider = record {
+-- the route and network of a submitted message's number at its moment, under these versions
+abbrev pub route_of : Versions → SubmittedMessage → Option (RouteId × List ℕ)
+route_of versions s = option_and_then (λ number. route_at versions number s.moment) s.number
+
+-- what is known of a submitted message, by its route and network, whether it is ambiguous, and its deciding receipt
+abbrev pub fact_by : SubmittedMessage → Option (RouteId × List ℕ) → Bool → Option PlacedReceipt → Fact
+fact_by s route ambiguous decider = record {
   place = s.place;
   moment = s.moment;
   link = s.link;
+  route = option_map (λ r. r.0) route;
+  network = option_map (λ r. r.1) route;
   outcome = outcome_by s ambiguous decider;
   error = error_by (outcome_by s ambiguous decider) s.response decider;
 }
 
--- what is known of a submitted message, among all that were submitted and all receipts
-abbrev pub fact_of : List SubmittedMessage → List KeyedReceipt → SubmittedMessage → Fact
-fact_of submits receipts s = fact_by s (is_ambiguous submits s.key) (decider_of submits receipts s.key)
+-- what is known of a submitted message, under these versions of routes, among all that were submitted and all receipts
+abbrev pub fact_of : Versions → List SubmittedMessage → List KeyedReceipt → SubmittedMessage → Fact
+fact_of versions submits receipts s =
+    fact_by s (route_of versions s) (is_ambiguous submits s.key) (decider_of submits receipts s.key)
 
--- what is known of these submitted messages, where these are the receipts
-abbrev pub facts_among : List SubmittedMessage → List KeyedReceipt → List Fact
-facts_among submits receipts = map (fact_of submits receipts) submits
+-- what is known of these submitted messages, where these are the versions of routes and the receipts
+abbrev pub facts_among : Versions → List SubmittedMessage → List KeyedReceipt → List Fact
+facts_among versions submits receipts = map (fact_of versions submits receipts) submits

@@ -1,6 +1,7 @@
 //! Counts of facts in one ordered map, in which no count is 0: a fact adds one at each of its keys. Listed places in one
 //! ordered set, where those of a list stand beside each other.
-ghost use Rattle.std.specs.Prelude.{◌≡◌, ◌<◌, ◌+◌, ◌^◌, [], IfOk, OnOk, OnErr, option_to_list};
+ghost use Rattle.std.specs.Prelude.{◌≡◌, ◌<◌, ◌+◌, ◌^◌, [], IfOk, OnOk, OnErr, option_to_list, option_copied};
+ghost use Rattle.smq_book.specs.counting.Rows as rows;
 ghost use Rattle.smq_book.specs.counting.Rows.{keys_of_fact, key_in, value_in};
 ghost use Rattle.std.specs.List.Sorted.{IsStrictlySortedBy};
 ghost use Rattle.smq_kit.specs.Orders.{place_cmp};
@@ -8,6 +9,7 @@ ghost use Rattle.smq_book.specs.counting.Tables.{count_at, rows_of, listed_in};
 ghost use Rattle.smq_book.specs.within.Counting.{tables_among, count_of, one_more, plus, one_listed};
 
 use crate::{CountKey, Fact, List, Listed, Outcome, Places, Rows, Value, View};
+use smq_kit::{Network, RouteId};
 use std::alloc::{AllocError, Global};
 use std::collections::{BTreeMap, BTreeSet};
 use std::marker::Model;
@@ -139,6 +141,8 @@ impl Tables {
         ensures { OnOk result (self.new ≡ plus self.old (keys_of_fact fact.now)) }
     {
         self.add_in_view(View::Link, fact)?;
+        self.add_in_view(View::Route, fact)?;
+        self.add_in_view(View::Network, fact)?;
         self.add_in_view(View::Error, fact)
     }
 
@@ -193,6 +197,26 @@ fn value_of(view: View, fact: &Fact) -> Option<Value>
 {
     match view {
         View::Link => Some(Value::Link(fact.link)),
+        View::Route => Some(route_value(fact.route)),
+        View::Network => Some(network_value(fact.network.as_ref())),
         View::Error => fact.error.as_ref().map(|error| Value::Error(error.copy())),
+    }
+}
+
+fn route_value(route: Option<RouteId>) -> Value
+    ensures { result ≡ rows.route_value route }
+{
+    match route {
+        Some(route) => Value::Route(route),
+        None => Value::NoRoute,
+    }
+}
+
+fn network_value(network: Option<&Network>) -> Value
+    ensures { result ≡ rows.network_value (option_copied network.entry) }
+{
+    match network {
+        Some(network) => Value::Network(network.copy()),
+        None => Value::NoNetwork,
     }
 }

@@ -2,13 +2,17 @@
 //! gives it its place in specs/counting/Rows.antt and its name in Names.antt; the laws of order say whether they agree.
 ghost use Rattle.std.specs.Prelude.{◌≡◌};
 
-use smq_kit::{ErrorCode, LinkId, Moment, Place};
+use smq_kit::{ErrorCode, LinkId, Moment, Network, Place, RouteId};
 
 /// A way to count submits by a value.
 #[derive(Clone, Copy, Debug, PartialEq, Eq, PartialOrd, Ord)]
 pub enum View {
     /// By the link.
     Link,
+    /// By the route of its number.
+    Route,
+    /// By the network of its number.
+    Network,
     /// By why it failed.
     Error,
 }
@@ -22,6 +26,8 @@ impl View {
     {
         match self {
             View::Link => "link",
+            View::Route => "route",
+            View::Network => "network",
             View::Error => "error",
         }
     }
@@ -53,6 +59,14 @@ impl SubmitError {
 pub enum Value {
     /// The link, by number.
     Link(LinkId),
+    /// The route, by number.
+    Route(RouteId),
+    /// Its number has no route, or it has no number.
+    NoRoute,
+    /// The network, by the octets of its code.
+    Network(Network),
+    /// Its number has no network, or it has no number.
+    NoNetwork,
     /// Why it failed.
     Error(SubmitError),
 }
@@ -64,6 +78,10 @@ impl Value {
     {
         match self {
             Value::Link(link) => Value::Link(*link),
+            Value::Route(route) => Value::Route(*route),
+            Value::NoRoute => Value::NoRoute,
+            Value::Network(network) => Value::Network(network.copy()),
+            Value::NoNetwork => Value::NoNetwork,
             Value::Error(error) => Value::Error(error.copy()),
         }
     }
@@ -122,6 +140,10 @@ pub struct Fact {
     pub moment: Moment,
     /// The link of its session.
     pub link: LinkId,
+    /// The route of its number at its moment. None where no version holds, or it has no number.
+    pub route: Option<RouteId>,
+    /// The network of its number at its moment, where it has a route.
+    pub network: Option<Network>,
     /// What became of it.
     pub outcome: Outcome,
     /// Why it failed, where it was refused or failed.

@@ -17,7 +17,9 @@ use crate::join::deciders::Deciders;
 use crate::join::receipts::PlacedReceipt;
 use crate::join::submits::SubmittedMessage;
 use crate::join::traffic::read_sessions;
+use crate::present::settings::Settings;
 use crate::{Fact, KeptPdu, Outcome, Present, SubmitError};
+use smq_kit::{Network, RouteId};
 use smq_pdu::agrees;
 use smq_receipt::MessageState;
 use std::alloc::{AllocError, Global};
@@ -54,55 +56,70 @@ fn joined(
     ensures { IfOk result (λ facts. facts.items ≡ facts_listed present.now) }
 {
     let deciders = Deciders::of_present(alloc, present)?;
-    facts_among(alloc, submits, &deciders)
+    facts_among(alloc, present.settings(), submits, &deciders)
 }
 
 /// What is known of each of these messages, in their order.
 fn facts_among(
     alloc: Global,
+    settings: &Settings,
     submits: &[SubmittedMessage<'_>],
     deciders: &Deciders<'_>,
 ) -> Result<Vec<Fact>, AllocError>
     ensures { (receipts : List KeyedReceipt) → HasDeciders deciders.now.receipts receipts
-        → IfOk result (λ facts. facts.items ≡ listed.facts_among submits.now receipts) }
+        → IfOk result (λ facts. facts.items
+        ≡ listed.facts_among settings.now.versions submits.now receipts) }
 {
     let accepted = Accepted::of_submits(alloc, submits)?;
     let mut facts = Vec::with_capacity(alloc, submits.len())?;
     for submit in submits {
-        facts.push(fact_of(submit, &accepted, deciders))?;
+        facts.push(fact_of(settings, submit, &accepted, deciders))?;
     }
     Ok(facts)
 }
 
-/// What is known of a message, among all that were submitted and all receipts.
-fn fact_of(submit: &SubmittedMessage<'_>, accepted: &Accepted, deciders: &Deciders<'_>) -> Fact
+/// What is known of a message, under what is set, among all that were submitted and all receipts.
+fn fact_of(
+    settings: &Settings,
+    submit: &SubmittedMessage<'_>,
+    accepted: &Accepted,
+    deciders: &Deciders<'_>,
+) -> Fact
     ensures { (submits : List Submit) (receipts : List KeyedReceipt)
         → HasNumbers accepted.now.numbers submits → HasDeciders deciders.now.receipts receipts
-        → result ≡ listed.fact_of submits receipts submit.now }
+        → result ≡ listed.fact_of settings.now.versions submits receipts submit.now }
 {
+    let route = submit.route(settings);
     let Some(key) = submit.key() else {
-        return fact_by(submit, false, None);
+        return fact_by(submit, route, false, None);
     };
     if accepted.is_single(&key) {
-        fact_by(submit, false, deciders.receipt(&key))
+        fact_by(submit, route, false, deciders.receipt(&key))
     } else {
-        fact_by(submit, true, None)
+        fact_by(submit, route, true, None)
     }
 }
 
-/// What is known of a message, by whether it is ambiguous and by its deciding receipt.
+/// What is known of a message, by its route and network, whether it is ambiguous, and its deciding receipt.
 fn fact_by(
     submit: &SubmittedMessage<'_>,
+    route: Option<(RouteId, Network)>,
     ambiguous: bool,
     decider: Option<&PlacedReceipt<'_>>,
 ) -> Fact
-    ensures { result ≡ listed.fact_by submit.now ambiguous (option_copied decider.entry) }
+    ensures { result ≡ listed.fact_by submit.now route ambiguous (option_copied decider.entry) }
 {
     let outcome = outcome(submit, ambiguous, decider);
+    let (route, network) = match route {
+        Some((route, network)) => (Some(route), Some(network)),
+        None => (None, None),
+    };
     Fact {
         place: submit.place(),
         moment: submit.request.moment,
         link: submit.source.link,
+        route,
+        network,
         outcome,
         error: error(outcome, submit.response, decider),
     }

@@ -7,23 +7,25 @@ ghost use Rattle.smq_book.specs.pairing.Traffic as traffic;
 ghost use Rattle.smq_book.specs.pairing.Traffic.{pairing_among};
 ghost use Rattle.smq_book.specs.within.Messages as messages;
 ghost use Rattle.smq_book.specs.within.Messages.{submit_with, submits_among};
+ghost use Rattle.smq_book.specs.within.Outcomes.{route_of};
 ghost use Rattle.smq_book.specs.within.Pairs.{Rises, SubmitsAreRequests, from_session, response_at};
 
 use crate::KeptPdu;
 use crate::join::source::Source;
 use crate::pairing::pairs::{pdu_at, place_of};
-use smq_kit::{Dir, LinkKey, MessageId, Place};
+use crate::present::settings::Settings;
+use smq_kit::{Dir, LinkKey, MessageId, Network, Place, RouteId};
 use smq_pair::Pairing;
-use smq_pdu::agrees;
+use smq_pdu::{Submit, agrees};
 use std::alloc::AllocError;
 use std::marker::Model;
 
-/// A submitted message: a decodable submit_sm of the client, with its response where it has one.
+/// A submitted message: a decodable submit_sm of the client, as it is kept, with its response where it has one.
 #[derive(Drop)]
 pub(crate) struct SubmittedMessage<'a> {
     pub source: Source,
     pub request: &'a KeptPdu,
-    pub registered_delivery: u8,
+    pub submit: &'a Submit,
     pub response: Option<&'a KeptPdu>,
 }
 
@@ -34,7 +36,7 @@ impl<'a> Model for SubmittedMessage<'a> {
     ghost Value = { SubmittedMessage };
 
     ghost view = { λ s. message_of s.source s.request.now
-        (record { registered_delivery = s.registered_delivery }) (option_copied s.response) };
+        s.submit.now (option_copied s.response) };
 }
 
 impl<'a> SubmittedMessage<'a> {
@@ -53,7 +55,15 @@ impl<'a> SubmittedMessage<'a> {
     pub(crate) fn asks_receipt(&self) -> bool
         ensures { result ≡ self.now.asks_receipt }
     {
-        asks_receipt(self.registered_delivery)
+        asks_receipt(self.submit.registered_delivery)
+    }
+
+    /// The route and network of its number at its moment, where it has a number that has them.
+    pub(crate) fn route(&self, settings: &Settings) -> Option<(RouteId, Network)>
+        ensures { result ≡ route_of settings.now.versions self.now }
+    {
+        let number = self.submit.number.as_ref()?;
+        settings.route_at(number, self.request.moment)
     }
 
     /// The key of its id, where it is accepted.
@@ -106,7 +116,7 @@ fn submit_at<'a>(
         Some(submit) => Some(SubmittedMessage {
             source,
             request: pdu,
-            registered_delivery: submit.registered_delivery,
+            submit,
             response: response_of(
                 pairing,
                 place_of(source.session, Dir::FromClient, pdu),

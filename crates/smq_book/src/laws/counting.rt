@@ -8,7 +8,7 @@ ghost use Rattle.smq_kit.specs.Maps.{set_at, share};
 ghost use Rattle.smq_kit.specs.Orders.{place_cmp};
 ghost use Rattle.smq_book.specs.Known.{known_values, KnownLists};
 ghost use Rattle.smq_book.specs.counting.Lists.{lists, list_place, listed, listed_cmp};
-ghost use Rattle.smq_book.specs.counting.Rows.{views, view_place, value_cmp, count_key, count_cmp, keys_of_fact, stands_in};
+ghost use Rattle.smq_book.specs.counting.Rows.{views, view_place, route_value, network_value, value_cmp, count_key, count_cmp, keys_of_fact, stands_in};
 ghost use Rattle.smq_book.specs.counting.Tables.{TablesValue, tables_of, number_at, count_at, positive, shown_cmp, rows_of};
 ghost use Rattle.smq_book.specs.counting.Tables.{listed_in};
 ghost use Rattle.smq_book.specs.within.CountOrder.{kept_cmp, kept_value_cmp, kept_value_eq};
@@ -16,16 +16,25 @@ ghost use Rattle.smq_book.specs.within.Equal.{fact_eq, tables_eq};
 ghost use Rattle.smq_book.specs.within.ListOrder.{kept_listed_cmp};
 
 use crate::{CountKey, Fact, List, Listed, Outcome, SubmitError, Value, View};
-use smq_kit::{LinkId, Place};
+use smq_kit::{LinkId, Network, Place, RouteId};
 use std::cmp::Ordering;
 
-/// A message is counted by its link, and where it has an error, by its error too.
+/// A message is counted by its link, its route and its network, each a value or none, and where it has an error, by its
+/// error too.
 pub fn messages_are_counted_once_in_a_view()
     ensures no_error { (fact : Fact) → fact.error ≡ None
-        → keys_of_fact fact ≡ count_key View.Link (Value.Link fact.link) fact.outcome ∷ [] }
+        → keys_of_fact fact ≡ count_key View.Link (Value.Link fact.link) fact.outcome
+        ∷ count_key View.Route (route_value fact.route) fact.outcome
+        ∷ count_key View.Network (network_value fact.network) fact.outcome ∷ [] }
     ensures error { (fact : Fact) (error : SubmitError) → fact.error ≡ Some error
         → keys_of_fact fact ≡ count_key View.Link (Value.Link fact.link) fact.outcome
+        ∷ count_key View.Route (route_value fact.route) fact.outcome
+        ∷ count_key View.Network (network_value fact.network) fact.outcome
         ∷ count_key View.Error (Value.Error error) fact.outcome ∷ [] }
+    ensures route { (route : RouteId) → route_value (Some route) ≡ Value.Route route }
+    ensures no_route { route_value None ≡ Value.NoRoute }
+    ensures network { (network : Network) → network_value (Some network) ≡ Value.Network network }
+    ensures no_network { network_value None ≡ Value.NoNetwork }
 {}
 
 /// A count is the number of the facts with this value in the view, and this outcome. A row stands where it isn't 0: the
@@ -71,8 +80,9 @@ pub fn facts_are_told_apart()
     ensures { (a b : Fact) → IsTrue (fact_eq a b) ↔ (a ≡ b) }
 {}
 
-/// Values are ordered: links first, by number; then refused submits, by status; then failed ones, by
-/// the order of error codes. They are equal exactly where they are one.
+/// Values are ordered: links first, by number; then routes, by number, and none; then networks, by the octets of their
+/// codes, and none; then refused submits, by status; then failed ones, by the order of error codes. They are equal exactly
+/// where they are one.
 pub fn values_are_in_order()
     ensures order { (a b : Value) → kept_value_cmp a b ≡ value_cmp a b }
     ensures same { (a b : Value) → IsTrue (kept_value_eq a b) ↔ (a ≡ b) }
@@ -86,7 +96,7 @@ pub fn rows_are_in_order()
         → IsStrictlySortedBy shown_cmp (rows_of tables view) }
     ensures order { (a b : CountKey) → kept_cmp a b ≡ count_cmp a b }
     ensures exact { (a b : CountKey) → count_cmp a b ≡ Ordering.Equal → a ≡ b }
-    ensures views { map view_place views ≡ 0 ∷ 1 ∷ [] }
+    ensures views { map view_place views ≡ 0 ∷ 1 ∷ 2 ∷ 3 ∷ [] }
 {}
 
 /// A list shows exactly the places that are listed there, strictly in order. Lists are in the order of their table, and

@@ -4,12 +4,13 @@ ghost use Rattle.std.specs.Prelude.{◌≡◌, ◌≢◌, ℕ, ◌==◌, ◌↔�
 ghost use Rattle.std.specs.FinMap as fin;
 ghost use Rattle.smq_kit.specs.Maps.{SameOutside, patched};
 ghost use Rattle.smq_kit.specs.declared.link_key.LinkKey.{LinkKey};
+ghost use Rattle.smq_route.specs.Versions.{Versions, route_at};
 ghost use Rattle.smq_book.specs.Known.{KnownOutcomes, KnownReceipts};
 ghost use Rattle.smq_book.specs.counting.Rows.{outcome_place};
-ghost use Rattle.smq_book.specs.present.Settings.{SettingsValue, forms_of};
+ghost use Rattle.smq_book.specs.present.Settings.{SettingsValue, with_versions, forms_of};
 ghost use Rattle.smq_book.specs.pairing.Traffic.{Message, ReceivedReceipt, TrafficValue};
-ghost use Rattle.smq_book.specs.join.Circumstances.{Circumstances, circumstances};
-ghost use Rattle.smq_book.specs.join.Facts.{fact_by, facts_of};
+ghost use Rattle.smq_book.specs.join.Circumstances.{Circumstances, circumstances, route_in};
+ghost use Rattle.smq_book.specs.join.Facts.{fact_by, facts_of, with_route};
 ghost use Rattle.smq_book.specs.join.Keyed.{grouping_of};
 ghost use Rattle.smq_book.specs.join.Matching.{Grouping, CanDecide, IsAlone, IsEarliest, decider, matches};
 ghost use Rattle.smq_book.specs.join.Moves.{IsMove, changes_of, standings_of, put_message, take_message, put_receipt, take_receipt};
@@ -69,13 +70,43 @@ pub fn moves_leave_other_facts()
     ensures take_receipt { (q : Place) (t : TrafficValue) → IsMove q t (take_receipt q t) }
 {}
 
-/// The forms of a link change no fact where none of its messages and receipts is present.
+/// The forms of a link alone change no fact where none of its messages and receipts is present.
 pub fn forms_of_other_links_are_idle()
     ensures { (s z : SettingsValue) (t : TrafficValue) (link : LinkId)
+        → s.versions ≡ z.versions
         → ((other : LinkId) → other ≢ link → forms_of s other ≡ forms_of z other)
         → ((q : Place) (m : Message) → fin.get t.messages q ≡ Some m → m.link ≢ link)
         → ((q : Place) (r : ReceivedReceipt) → fin.get t.receipts q ≡ Some r → r.link ≢ link)
         → facts_of s t ≡ facts_of z t }
+{}
+
+/// The versions of routes change a fact by its route and network alone, and not at all where the number of its message has
+/// the same route and network at the message's moment.
+pub fn versions_change_routes_alone()
+    ensures routed { (s : SettingsValue) (versions : Versions) (t : TrafficValue) (place : Place)
+        → fin.get (facts_of (with_versions s versions) t) place
+        ≡ option_map (λ m. with_route (route_in versions m) (fact_by place m (circumstances s t m)))
+        (fin.get t.messages place) }
+    ensures rest { (s : SettingsValue) (versions : Versions) (t : TrafficValue) (place : Place)
+        → option_map (with_route None) (fin.get (facts_of (with_versions s versions) t) place)
+        ≡ option_map (with_route None) (fin.get (facts_of s t) place) }
+    ensures same { (s : SettingsValue) (versions : Versions) (t : TrafficValue) (place : Place)
+        → ((m : Message) → fin.get t.messages place ≡ Some m
+        → route_in versions m ≡ route_in s.versions m)
+        → fin.get (facts_of (with_versions s versions) t) place ≡ fin.get (facts_of s t) place }
+{}
+
+/// A message without a number has neither route nor network, and one with a number those that it has at the moment of the
+/// message.
+pub fn routes_are_of_the_moment()
+    ensures no_number { (versions : Versions) (m : Message)
+        → m.number ≡ None → route_in versions m ≡ None }
+    ensures number { (versions : Versions) (m : Message) (number : List ℕ) → m.number ≡ Some number
+        → route_in versions m ≡ route_at versions number m.moment }
+    ensures fact { (s : SettingsValue) (t : TrafficValue) (place : Place) (m : Message) (fact : Fact)
+        → fin.get t.messages place ≡ Some m → fin.get (facts_of s t) place ≡ Some fact
+        → (fact.route ≡ option_map (λ r. r.0) (route_in s.versions m))
+        × (fact.network ≡ option_map (λ r. r.1) (route_in s.versions m)) }
 {}
 
 /// The outcomes stand in the order of their table, in which reports print them.

@@ -2,21 +2,22 @@
 ghost use Rattle.std.specs.Prelude.{◌≡◌, ◌≢◌, ◌<◌, ◌↔◌, ◌++◌, [], ℕ, List, length, Some, None, IsTrue};
 ghost use Rattle.smq_kit.specs.declared.form.Form.{Form};
 ghost use Rattle.smq_kit.specs.declared.names.LinkId.{LinkId};
+ghost use Rattle.smq_kit.specs.declared.names.RouteId.{RouteId};
 ghost use Rattle.smq_kit.specs.declared.names.SessionId.{SessionId};
 ghost use Rattle.smq_kit.specs.declared.refusal.Refusal.{Refusal};
 ghost use Rattle.smq_kit.specs.declared.place.Dir.{Dir};
 ghost use Rattle.smq_book.specs.declared.present.edit.Edit.{Edit};
-ghost use Rattle.smq_book.specs.declared.present.edit.Edit.TheVariants.{Append, Withdraw, SetForm};
+ghost use Rattle.smq_book.specs.declared.present.edit.Edit.TheVariants.{Append, Withdraw, SetForm, AddRoute, EndRoute, CorrectRoute};
 ghost use Rattle.smq_book.specs.present.Batch.{BatchValue, with_octets, continued};
-ghost use Rattle.smq_book.specs.Known.{KnownForms, KnownOctets, KnownPieces, KnownReplies, KnownWithdrawals, waiting};
+ghost use Rattle.smq_book.specs.Known.{KnownForms, KnownOctets, KnownPieces, KnownReplies, KnownRouteReplies, KnownRoutes, KnownWithdrawals, waiting};
 ghost use Rattle.smq_book.specs.present.Present.{PresentValue, session_of, tail_in};
 ghost use Rattle.smq_book.specs.present.Replies.{GoesAfter, reply};
-ghost use Rattle.smq_book.specs.present.Steps.{Appends, AppendsCommute, AreAppendedAgain, LeavesNoTrace, SetsForm, Withdraws, change, step};
+ghost use Rattle.smq_book.specs.present.Steps.{Appends, AppendsCommute, AreAppendedAgain, LeavesNoTrace, SetsForm, AddsRoute, EndsRoute, CorrectsRoute, Withdraws, change, step};
 ghost use Rattle.smq_book.specs.declared.present.forms.Forms.{Forms};
 ghost use Rattle.smq_book.specs.within.Equal.{forms_eq};
 
-/// An append changes what `Appends` says, a withdrawal what `Withdraws` says, and setting forms what `SetsForm` says:
-/// nothing else. A refused edit is no step.
+/// An append changes what `Appends` says, a withdrawal what `Withdraws` says, setting forms what `SetsForm` says, and
+/// edits of routes what `AddsRoute`, `EndsRoute` and `CorrectsRoute` say: nothing else. A refused edit is no step.
 pub fn steps_are_plain_changes()
     ensures appends { (p : PresentValue) (batch : BatchValue) →
         Appends p (change p (Append batch)) batch }
@@ -30,6 +31,23 @@ pub fn steps_are_plain_changes()
         SetsForm p (change p (SetForm link response receipt)) link response receipt }
     ensures alone_form { (p q : PresentValue) (link : LinkId) (response receipt : Form) →
         SetsForm p q link response receipt → q ≡ change p (SetForm link response receipt) }
+    ensures adds_route { (p : PresentValue) (prefix : List ℕ) (from : ℕ) (route : RouteId)
+        (network : List ℕ) →
+        AddsRoute p (change p (AddRoute prefix from route network)) prefix from route network }
+    ensures alone_added { (p q : PresentValue) (prefix : List ℕ) (from : ℕ) (route : RouteId)
+        (network : List ℕ) →
+        AddsRoute p q prefix from route network → q ≡ change p (AddRoute prefix from route network) }
+    ensures ends_route { (p : PresentValue) (prefix : List ℕ) (from until : ℕ) →
+        EndsRoute p (change p (EndRoute prefix from until)) prefix from until }
+    ensures alone_ended { (p q : PresentValue) (prefix : List ℕ) (from until : ℕ) →
+        EndsRoute p q prefix from until → q ≡ change p (EndRoute prefix from until) }
+    ensures corrects_route { (p : PresentValue) (prefix : List ℕ) (from : ℕ) (route : RouteId)
+        (network : List ℕ) →
+        CorrectsRoute p (change p (CorrectRoute prefix from route network)) prefix from route network }
+    ensures alone_corrected { (p q : PresentValue) (prefix : List ℕ) (from : ℕ) (route : RouteId)
+        (network : List ℕ) →
+        CorrectsRoute p q prefix from route network
+        → q ≡ change p (CorrectRoute prefix from route network) }
     ensures made { (p : PresentValue) (edit : Edit) →
         reply p edit ≡ None → step p edit ≡ change p edit }
     ensures refused { (p : PresentValue) (edit : Edit) (refusal : Refusal) →
@@ -101,6 +119,12 @@ pub fn octets_are_put_after_their_direction()
 /// What a withdrawal leaves of a book of one session with an octet in each direction.
 pub fn withdrawals_of_a_known_book()
     ensures { KnownWithdrawals }
+{}
+
+/// Edits of routes on a book whose versions are written out: which are refused, in order, and what the others leave.
+pub fn edits_of_known_routes()
+    ensures replies { KnownRouteReplies }
+    ensures left { KnownRoutes }
 {}
 
 /// The forms of a link are both verbatim until they are set. This leaves other links and octets, and an append leaves

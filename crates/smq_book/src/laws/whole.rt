@@ -18,7 +18,8 @@ pub fn lists_say_the_same()
 
 /// What is known and counted of a book whose octets are written out: a message whose two receipts of one moment stand in
 /// two sessions is decided by the earlier place; one is decided by a receipt of another session; two share an id, which
-/// another link has too.
+/// another link has too. Of two messages to one number the first has a route at its moment, at which it begins, and the
+/// second none, at whose moment it has ended; two have no number.
 pub fn figures_of_a_known_book()
     ensures { KnownFigures }
 {}

@@ -1,6 +1,6 @@
 //! The edits of a book. Who adds one gives it a reply and a step in specs/present, and makes it in `Book::apply`.
 use crate::Batch;
-use smq_kit::{Form, LinkId, SessionId};
+use smq_kit::{Digits, Form, LinkId, Moment, Network, RouteId, SessionId};
 
 /// One change of what is present.
 #[derive(Drop)]
@@ -18,5 +18,28 @@ pub enum Edit {
         link: LinkId,
         response: Form,
         receipt: Form,
+    },
+    /// Puts a version of a prefix's route in, which is open and begins at `from`.
+    AddRoute {
+        /// Digits that begin numbers, from the country code on (E.164).
+        prefix: Digits,
+        /// The first moment at which it holds.
+        from: Moment,
+        route: RouteId,
+        network: Network,
+    },
+    /// Ends the version of a prefix's route that begins at `from`.
+    EndRoute {
+        prefix: Digits,
+        from: Moment,
+        /// The first moment at which it no longer holds.
+        until: Moment,
+    },
+    /// Gives the version of a prefix's route that begins at `from` another route and network. Its dates stay.
+    CorrectRoute {
+        prefix: Digits,
+        from: Moment,
+        route: RouteId,
+        network: Network,
     },
 }

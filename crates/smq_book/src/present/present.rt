@@ -7,13 +7,17 @@ ghost use Rattle.std.specs.FinMap as map;
 ghost use Rattle.std.specs.Map.Iter.{ShowsInOrder, deref_pair};
 ghost use Rattle.smq_book.specs.within.InOrder.{sessions_in};
 ghost use Rattle.smq_book.specs.present.Present.{empty, session_of};
-ghost use Rattle.smq_kit.specs.Replies.{IsReply, first_of};
+ghost use Rattle.smq_kit.specs.Replies.{IsReply, IsReplyInPlace, first_of};
+ghost use Rattle.smq_route.specs.declared.version.VersionKey.{VersionKey as KeyOf};
+ghost use Rattle.smq_route.specs.declared.version.Version.{Version as VersionOf};
+ghost use Rattle.smq_route.specs.Versions.{AreApart};
 ghost use Rattle.smq_book.specs.present.Replies.{append_refusals, no_session, reply};
 ghost use Rattle.smq_book.specs.present.Steps.{session_after, change};
 
 use crate::present::settings::Settings;
 use crate::{Batch, Edit, Forms, Session};
-use smq_kit::{LinkId, Refusal, SessionId};
+use smq_kit::{Digits, LinkId, Moment, Network, Refusal, RouteId, SessionId};
+use smq_route::{Version, VersionKey};
 use std::alloc::Global;
 use std::collections::BTreeMap;
 use std::collections::btree_map::Iter;
@@ -78,6 +82,16 @@ impl Present {
         self.settings.forms()
     }
 
+    /// The versions of routes, by the octets of their prefixes, then by their beginnings. Those of one prefix never
+    /// overlap.
+    pub fn versions(&self) -> Iter<'_, VersionKey, Version>
+        ensures entries { result ≡ map.entries self.now.settings.versions }
+        ensures apart { AreApart self.now.settings.versions }
+        ensures runs { ShowsInOrder (deref_pair {K = KeyOf} {X = VersionOf}) }
+    {
+        self.settings.versions()
+    }
+
     /// Puts a batch after its direction, in its session or in a new one. A refusal changes nothing.
     pub(crate) fn append(&mut self, alloc: Global, batch: Batch) -> Result<(), Refusal>
         ensures { IsReply (reply self.old (Edit.Append batch)) result
@@ -101,6 +115,50 @@ impl Present {
             (self.new ≡ change self.old edit) (self.new ≡ self.old) }
     {
         self.settings.set_forms(link, forms)
+    }
+
+    /// Puts an open version of a route in. A refusal changes nothing.
+    pub(crate) fn add_route(
+        &mut self,
+        prefix: Digits,
+        from: Moment,
+        route: RouteId,
+        network: Network,
+    ) -> Result<(), Refusal>
+        ensures { let edit = Edit.AddRoute prefix from route network in
+            IsReply (reply self.old edit) result
+            (self.new ≡ change self.old edit) (self.new ≡ self.old) }
+    {
+        self.settings.add_route(prefix, from, route, network)
+    }
+
+    /// Ends a version of a route, which takes no memory. A refusal changes nothing.
+    pub(crate) fn end_route(
+        &mut self,
+        prefix: &Digits,
+        from: Moment,
+        until: Moment,
+    ) -> Result<(), Refusal>
+        ensures { let edit = Edit.EndRoute prefix.now from until in
+            IsReplyInPlace (reply self.old edit) result
+            (self.new ≡ change self.old edit) (self.new ≡ self.old) }
+    {
+        self.settings.end_route(prefix, from, until)
+    }
+
+    /// Gives a version of a route another route and network, which takes no memory. A refusal changes nothing.
+    pub(crate) fn correct_route(
+        &mut self,
+        prefix: &Digits,
+        from: Moment,
+        route: RouteId,
+        network: Network,
+    ) -> Result<(), Refusal>
+        ensures { let edit = Edit.CorrectRoute prefix.now from route network in
+            IsReplyInPlace (reply self.old edit) result
+            (self.new ≡ change self.old edit) (self.new ≡ self.old) }
+    {
+        self.settings.correct_route(prefix, from, route, network)
     }
 }
 

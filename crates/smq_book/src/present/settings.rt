@@ -1,20 +1,27 @@
-//! What is set for the sessions of links.
+//! What is set: for the sessions of links, and for the numbers that prefixes begin.
 ghost use Rattle.std.specs.Prelude.{◌≡◌, ℕ, MatchResult};
 ghost use Rattle.std.specs.FinMap as map;
 ghost use Rattle.std.specs.Map.Iter.{ShowsInOrder, deref_pair};
-ghost use Rattle.smq_book.specs.present.Settings.{opening_settings, forms_of};
+ghost use Rattle.smq_kit.specs.Replies.{IsReply, IsReplyInPlace, first_of};
+ghost use Rattle.smq_route.specs.declared.version.VersionKey.{VersionKey as KeyOf};
+ghost use Rattle.smq_route.specs.declared.version.Version.{Version as VersionOf};
+ghost use Rattle.smq_route.specs.Edits.{add_refusals, end_refusals, correct_refusals, added, changed, ending, corrected};
+ghost use Rattle.smq_route.specs.Versions.{AreApart, version_of, route_at};
+ghost use Rattle.smq_book.specs.present.Settings.{opening_settings, forms_of, with_versions};
 
 use crate::Forms;
-use smq_kit::{LinkId, Refusal};
+use smq_kit::{Digits, LinkId, Moment, Network, Refusal, RouteId};
+use smq_route::{Routes, Version, VersionKey};
 use std::alloc::Global;
 use std::collections::BTreeMap;
 use std::collections::btree_map::Iter;
 use std::marker::Model;
 
-/// The forms that were set, by the numbers of their links.
+/// The forms that were set, by the numbers of their links, and the dated routes.
 #[derive(Drop)]
 pub struct Settings {
     forms: BTreeMap<u32, Forms>,
+    routes: Routes,
 }
 
 impl Model for Settings {
@@ -25,7 +32,7 @@ impl Model for Settings {
 
     ghost coded = { settings_code };
 
-    ghost view = { λ s. record { forms = forms_in s.forms } };
+    ghost view = { λ s. record { forms = forms_in s.forms; versions = s.routes.versions } };
 }
 
 impl Settings {
@@ -35,6 +42,7 @@ impl Settings {
     {
         Settings {
             forms: BTreeMap::new(alloc),
+            routes: Routes::new(alloc),
         }
     }
 
@@ -56,6 +64,24 @@ impl Settings {
         self.forms.iter()
     }
 
+    /// The versions of routes, by the octets of their prefixes, then by their beginnings. Those of one prefix never
+    /// overlap.
+    pub fn versions(&self) -> Iter<'_, VersionKey, Version>
+        ensures entries { result ≡ map.entries self.now.versions }
+        ensures apart { AreApart self.now.versions }
+        ensures runs { ShowsInOrder (deref_pair {K = KeyOf} {X = VersionOf}) }
+    {
+        self.routes.versions()
+    }
+
+    /// The route and network of a number at a moment: those of the version that holds then with the longest prefix of
+    /// the number.
+    pub fn route_at(&self, number: &Digits, at: Moment) -> Option<(RouteId, Network)>
+        ensures { result ≡ route_at self.now.versions number.now at }
+    {
+        self.routes.at(number, at)
+    }
+
     /// Sets the forms of a link's message ids. An error changes nothing.
     pub(crate) fn set_forms(&mut self, link: LinkId, forms: Forms) -> Result<(), Refusal>
         ensures { MatchResult result
@@ -66,5 +92,52 @@ impl Settings {
             return Err(Refusal::Memory);
         };
         Ok(())
+    }
+
+    /// Puts an open version of a route in. A refusal changes nothing.
+    pub(crate) fn add_route(
+        &mut self,
+        prefix: Digits,
+        from: Moment,
+        route: RouteId,
+        network: Network,
+    ) -> Result<(), Refusal>
+        ensures { let versions = self.old.versions in
+            IsReply (first_of (add_refusals versions prefix from)) result
+            (self.new ≡ with_versions self.old (added versions prefix from route network))
+            (self.new ≡ self.old) }
+    {
+        self.routes.add(prefix, from, route, network)
+    }
+
+    /// Ends a version of a route. A refusal changes nothing.
+    pub(crate) fn end_route(
+        &mut self,
+        prefix: &Digits,
+        from: Moment,
+        until: Moment,
+    ) -> Result<(), Refusal>
+        ensures { let versions = self.old.versions in
+            IsReplyInPlace (first_of (end_refusals (version_of versions prefix.now from) from until)) result
+            (self.new ≡ with_versions self.old (changed versions prefix.now from (ending until)))
+            (self.new ≡ self.old) }
+    {
+        self.routes.end(prefix, from, until)
+    }
+
+    /// Gives a version of a route another route and network. A refusal changes nothing.
+    pub(crate) fn correct_route(
+        &mut self,
+        prefix: &Digits,
+        from: Moment,
+        route: RouteId,
+        network: Network,
+    ) -> Result<(), Refusal>
+        ensures { let versions = self.old.versions in
+            IsReplyInPlace (first_of (correct_refusals (version_of versions prefix.now from))) result
+            (self.new ≡ with_versions self.old (changed versions prefix.now from (corrected route network)))
+            (self.new ≡ self.old) }
+    {
+        self.routes.correct(prefix, from, route, network)
     }
 }

@@ -478,6 +478,8 @@ fn tables_are_equal_where_rows_and_counts_are_and_names_are_printed(
         assert_eq!(rt; outcome.name(), *name, "{outcome:?}");
     }
     assert_eq!(rt; View::Link.name(), "link");
+    assert_eq!(rt; View::Route.name(), "route");
+    assert_eq!(rt; View::Network.name(), "network");
     assert_eq!(rt; View::Error.name(), "error");
     Ok(())
 }

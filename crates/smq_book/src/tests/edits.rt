@@ -1,11 +1,11 @@
 //! What no clause says: octets of the standard's PDUs, and that calls succeed with ample memory.
-use crate::tests::scripts::{NUMBER, Sent, octets_of};
+use crate::tests::scripts::{NUMBER, Sent, added, octets_of};
 use crate::*;
 use bytes::Bytes;
 use smq_frame::Tail;
 use smq_kit::{Dir, Form, LinkId, Moment, Refusal, SessionId};
 use smq_receipt::Reading;
-use std::alloc::Global;
+use std::alloc::{AllocError, Global};
 use std::process::Abort;
 use std::test::Fail;
 
@@ -343,6 +343,33 @@ fn edits_are_made_or_refused_and_are_kept(rt: HostRuntime) -> Result<(), Fail> {
     forms_are_set_and_set_anew_by_link(&rt, alloc)
 }
 
+/// The tables of a book, which are counted again where memory was refused.
+fn tables_of(book: &Book) -> Result<Tables, AllocError> {
+    if let Ok(tables) = book.tables() {
+        return Ok(tables);
+    }
+    book.tables()
+}
+
+/// Adds a version for each of some prefixes, again where memory was refused, which left versions and tables.
+fn routes_are_added(rt: &impl Abort, book: &mut Book) -> Result<(), Fail> {
+    let before = tables_of(book)?;
+    for (number, prefix) in [b"1", b"2", b"3", b"5", b"6", b"7", b"8"]
+        .iter()
+        .enumerate()
+    {
+        if let Err(refusal) = book.apply(added(*prefix, 0, 1, b"23410")?) {
+            assert_eq!(rt; refusal, Refusal::Memory);
+            assert_eq!(rt; book.present().versions().count(), number);
+            assert!(rt; tables_of(book)? == before);
+            book.apply(added(*prefix, 0, 1, b"23410")?)?;
+        }
+        assert_eq!(rt; book.present().versions().count(), number + 1);
+    }
+    assert!(rt; tables_of(book)? == before);
+    Ok(())
+}
+
 /// With each allocation refused in turn (`rt try --test --fail-alloc`), what is present is as before the refusal.
 #[test]
 fn want_of_memory_leaves_what_was_present(rt: HostRuntime) -> Result<(), Fail> {
@@ -362,5 +389,5 @@ fn want_of_memory_leaves_what_was_present(rt: HostRuntime) -> Result<(), Fail> {
             Some((10, LinkId(1), count as usize + 1, 1))
         );
     }
-    Ok(())
+    routes_are_added(&rt, &mut book)
 }

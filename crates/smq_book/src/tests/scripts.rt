@@ -1,9 +1,9 @@
 //! Scripts that are played on a book, and the facts and rows that they give.
 use crate::join::facts::facts_of;
-use crate::tests::{counts, ids, lists, receipts, withdrawals};
+use crate::tests::{counts, ids, lists, receipts, routes, versions, withdrawals};
 use crate::*;
 use bytes::Bytes;
-use smq_kit::{Dir, Form, LinkId, Moment, Place, Refusal, SessionId};
+use smq_kit::{Digits, Dir, Form, LinkId, Moment, Network, Place, Refusal, RouteId, SessionId};
 use smq_receipt::{ErrorCode, ErrorText};
 use std::alloc::{AllocError, Global};
 use std::process::Abort;
@@ -150,6 +150,14 @@ fn what_is_sent_has_the_octets_of_known_pdus(rt: HostRuntime) -> Result<(), Fail
 pub(crate) enum Wanted {
     /// Of the link view: the link, the outcome, the count.
     Link(u32, Outcome, u64),
+    /// Of the route view: the route, the outcome, the count.
+    OfRoute(u32, Outcome, u64),
+    /// Of the route view, of messages without a route: the outcome, the count.
+    OfNoRoute(Outcome, u64),
+    /// Of the network view: the network's code, the outcome, the count.
+    OfNetwork(&'static [u8], Outcome, u64),
+    /// Of the network view, of messages without a network: the outcome, the count.
+    OfNoNetwork(Outcome, u64),
     /// Of the error view: the command_status that refused, the count.
     Refused(u32, u64),
     /// The type of a network and its code in a receipt, the count.
@@ -158,6 +166,18 @@ pub(crate) enum Wanted {
     Text(&'static [u8], u64),
     /// A receipt without an error, the count.
     Unstated(u64),
+}
+
+/// How an edit of routes is answered.
+#[derive(Clone, Copy)]
+pub(crate) enum Reply {
+    Made,
+    /// The least beginning of the versions that the new one would overlap.
+    Overlap(u64),
+    NoRoute,
+    /// The end that the version has.
+    Ended(u64),
+    BadEnd,
 }
 
 /// One step of a script. Sessions 10 to 19 are of link 1, 20 to 29 of link 2.
@@ -173,12 +193,24 @@ pub(crate) enum Step {
     Withdraw(u32),
     /// A session isn't present, so its withdrawal is refused.
     Absent(u32),
+    /// A version of a prefix is added: the prefix, its beginning, its route, its network, the reply.
+    Route(&'static [u8], u64, u32, &'static [u8], Reply),
+    /// A version of a prefix is ended: the prefix, its beginning, its end, the reply.
+    End(&'static [u8], u64, u64, Reply),
+    /// A version of a prefix is corrected: the prefix, its beginning, its route, its network, the reply.
+    Correct(&'static [u8], u64, u32, &'static [u8], Reply),
+    /// The versions, in their order.
+    Versions(&'static [WantedVersion]),
+    /// Where a number goes at a moment: its route and network, if it has one.
+    RouteAt(&'static [u8], u64, Option<(u32, &'static [u8])>),
     /// The forms of link 1: in responses and in receipts.
     Forms(Form, Form),
     /// The facts of the messages.
     Facts(&'static [WantedFact]),
     /// The rows of the link view, then those of the error view.
     Rows(&'static [Wanted]),
+    /// The rows of the route view, then those of the network view.
+    Routes(&'static [Wanted]),
     /// The places in the lists, in their order.
     Lists(&'static [WantedPlace]),
     /// What is counted in a view, whether or not a row stands there.
@@ -190,6 +222,9 @@ pub(crate) type WantedFact = (u64, Outcome, Option<u32>);
 
 /// A place in a list: its session, its direction and its offset.
 pub(crate) type WantedPlace = (List, u64, Dir, u64);
+
+/// A version of a prefix: the prefix, its beginning, its end, its route and its network.
+pub(crate) type WantedVersion = (&'static [u8], u64, Option<u64>, u32, &'static [u8]);
 
 /// A submit_sm at 1000.
 pub(crate) const SUBMIT: Step = Step::Client(10, 1000, Sent::Submit(1, NUMBER));
@@ -254,6 +289,47 @@ fn withdraw(book: &mut Book, session: u32) -> Result<(), Refusal> {
     book.apply(Edit::Withdraw { session })
 }
 
+fn reply_of(reply: Reply) -> Result<Result<(), Refusal>, Fail> {
+    Ok(match reply {
+        Reply::Made => Ok(()),
+        Reply::Overlap(from) => Err(Refusal::Overlap {
+            from: Moment::new(from)?,
+        }),
+        Reply::NoRoute => Err(Refusal::NoRoute),
+        Reply::Ended(until) => Err(Refusal::Ended {
+            until: Moment::new(until)?,
+        }),
+        Reply::BadEnd => Err(Refusal::BadEnd),
+    })
+}
+
+/// The edit that adds a version of a prefix.
+pub(crate) fn added(prefix: &[u8], from: u64, route: u32, network: &[u8]) -> Result<Edit, Refusal> {
+    Ok(Edit::AddRoute {
+        prefix: Digits::parse(prefix)?,
+        from: Moment::new(from)?,
+        route: RouteId(route),
+        network: Network::parse(network)?,
+    })
+}
+
+fn ended(prefix: &[u8], from: u64, until: u64) -> Result<Edit, Refusal> {
+    Ok(Edit::EndRoute {
+        prefix: Digits::parse(prefix)?,
+        from: Moment::new(from)?,
+        until: Moment::new(until)?,
+    })
+}
+
+fn corrected(prefix: &[u8], from: u64, route: u32, network: &[u8]) -> Result<Edit, Refusal> {
+    Ok(Edit::CorrectRoute {
+        prefix: Digits::parse(prefix)?,
+        from: Moment::new(from)?,
+        route: RouteId(route),
+        network: Network::parse(network)?,
+    })
+}
+
 fn set_forms(book: &mut Book, response: Form, receipt: Form) -> Result<(), Fail> {
     let link = LinkId(1);
     Ok(book.apply(Edit::SetForm {
@@ -302,9 +378,27 @@ fn play(
             Step::Absent(session) => {
                 assert_eq!(rt; withdraw(book, session), Err(Refusal::NoSession), "{what}")
             },
+            Step::Route(prefix, from, route, network, reply) => {
+                let edit = added(prefix, from, route, network)?;
+                assert_eq!(rt; book.apply(edit), reply_of(reply)?, "{what}")
+            },
+            Step::End(prefix, from, until, reply) => {
+                let edit = ended(prefix, from, until)?;
+                assert_eq!(rt; book.apply(edit), reply_of(reply)?, "{what}")
+            },
+            Step::Correct(prefix, from, route, network, reply) => {
+                let edit = corrected(prefix, from, route, network)?;
+                assert_eq!(rt; book.apply(edit), reply_of(reply)?, "{what}")
+            },
+            Step::Versions(wanted) => assert_versions(rt, book, what, wanted)?,
+            Step::RouteAt(number, at, wanted) => assert_route(rt, book, what, number, at, wanted)?,
             Step::Forms(response, receipt) => set_forms(book, response, receipt)?,
             Step::Facts(wanted) => assert_facts(rt, alloc, book, what, wanted)?,
             Step::Rows(wanted) => assert_rows(rt, alloc, book, what, wanted)?,
+            Step::Routes(wanted) => {
+                let views = (View::Route, View::Network);
+                assert_rows_of(rt, alloc, book, what, views, wanted)?
+            },
             Step::Lists(wanted) => assert_lists(rt, alloc, book, what, wanted)?,
             Step::Counts(wanted) => assert_counts(rt, book, what, wanted)?,
         }
@@ -355,6 +449,58 @@ pub(crate) fn have_equal_tables(
     Ok(tables == second.tables()?)
 }
 
+/// Asserts that the versions of routes are these, in order.
+fn assert_versions(
+    rt: &impl Abort,
+    book: &Book,
+    what: &str,
+    wanted: &[WantedVersion],
+) -> Result<(), Fail> {
+    let mut versions = book.present().versions();
+    for (prefix, from, until, route, network) in wanted {
+        let (key, version) = versions.next().ok_or("no version")?;
+        assert_eq!(rt; key.prefix.as_slice(), *prefix, "{what}");
+        assert_eq!(rt; key.from.milliseconds(), *from, "{what}");
+        let end = version.until.map(|until| until.milliseconds());
+        assert_eq!(rt; end, *until, "{what}");
+        assert_eq!(rt; version.route, RouteId(*route), "{what}");
+        assert_eq!(rt; version.network.as_slice(), *network, "{what}");
+    }
+    assert!(rt; versions.next().is_none(), "{what}");
+    assert_eq!(rt;
+        book.present().settings().versions().count(),
+        wanted.len(),
+        "{what}"
+    );
+    Ok(())
+}
+
+/// Asserts the route and the network of a number at a moment.
+fn assert_route(
+    rt: &impl Abort,
+    book: &Book,
+    what: &str,
+    number: &[u8],
+    at: u64,
+    wanted: Option<(u32, &[u8])>,
+) -> Result<(), Fail> {
+    let number = Digits::parse(number)?;
+    let found = book
+        .present()
+        .settings()
+        .route_at(&number, Moment::new(at)?);
+    match (found, wanted) {
+        (Some((route, network)), Some((wanted_route, wanted_network))) => {
+            assert_eq!(rt; route, RouteId(wanted_route), "{what}");
+            assert_eq!(rt; network.as_slice(), wanted_network, "{what}");
+        },
+        (found, wanted) => {
+            assert_eq!(rt; found.is_some(), wanted.is_some(), "{what}");
+        },
+    }
+    Ok(())
+}
+
 /// Asserts that the facts of the messages are these, in order.
 fn assert_facts(
     rt: &impl Abort,
@@ -382,13 +528,14 @@ fn fact_of(wanted: WantedFact) -> Fact {
         },
         moment: Moment::epoch(),
         link: LinkId(1),
+        route: None,
+        network: None,
         outcome,
         error: status.map(|status| SubmitError::Refused { status }),
     }
 }
 
-/// Asserts that the rows of the link view, then those of the error view, are these, that each has its count, and that its
-/// value has none in the other view.
+/// Asserts that the rows of the link view, then those of the error view, are these.
 pub(crate) fn assert_rows(
     rt: &impl Abort,
     alloc: Global,
@@ -396,9 +543,23 @@ pub(crate) fn assert_rows(
     what: &str,
     wanted: &[Wanted],
 ) -> Result<(), Fail> {
+    assert_rows_of(rt, alloc, book, what, (View::Link, View::Error), wanted)
+}
+
+/// Asserts that the rows of one view, then those of the other, are these, that each has its count, and that its value has
+/// none in the other view.
+fn assert_rows_of(
+    rt: &impl Abort,
+    alloc: Global,
+    book: &Book,
+    what: &str,
+    views: (View, View),
+    wanted: &[Wanted],
+) -> Result<(), Fail> {
     let tables = book.tables()?;
     let mut rows = Vec::new(alloc);
-    for (view, other) in [(View::Link, View::Error), (View::Error, View::Link)] {
+    let (first, second) = views;
+    for (view, other) in [(first, second), (second, first)] {
         for (value, outcome, count) in tables.rows(view) {
             assert_eq!(rt; tables.count(view, value, outcome), count, "{what}");
             assert_eq!(rt; tables.count(other, value, outcome), 0, "{what}");
@@ -451,6 +612,13 @@ fn assert_counts(
 fn row_of(rt: &impl Abort, wanted: Wanted) -> (Value, Outcome, u64) {
     match wanted {
         Wanted::Link(number, outcome, count) => (Value::Link(LinkId(number)), outcome, count),
+        Wanted::OfRoute(number, outcome, count) => (Value::Route(RouteId(number)), outcome, count),
+        Wanted::OfNoRoute(outcome, count) => (Value::NoRoute, outcome, count),
+        Wanted::OfNetwork(code, outcome, count) => {
+            let network = Network::parse(code).expect(rt, "the code of a network");
+            (Value::Network(network), outcome, count)
+        },
+        Wanted::OfNoNetwork(outcome, count) => (Value::NoNetwork, outcome, count),
         Wanted::Refused(status, count) => {
             let error = SubmitError::Refused { status };
             (Value::Error(error), Outcome::Refused, count)
@@ -486,5 +654,7 @@ fn each_script_gives_its_facts_and_rows(rt: HostRuntime) -> Result<(), Fail> {
     play_table(&rt, alloc, counts::FACTS)?;
     play_table(&rt, alloc, counts::ROWS)?;
     play_table(&rt, alloc, withdrawals::WITHDRAWALS)?;
+    play_table(&rt, alloc, routes::ROUTES)?;
+    play_table(&rt, alloc, versions::VERSIONS)?;
     play_table(&rt, alloc, lists::LISTS)
 }

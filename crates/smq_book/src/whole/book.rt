@@ -69,7 +69,11 @@ impl Book {
     /// Makes an edit, or refuses it and changes nothing. An `Append` is refused, in order: where its session is present
     /// under another link (`OtherLink`); where its tail isn't that of its direction (`OutOfStep`); where its moment is
     /// below the direction's last (`Backward`); and for want of memory (`Memory`). A `Withdraw` is refused where its
-    /// session isn't present (`NoSession`), and a `SetForm` for want of memory alone.
+    /// session isn't present (`NoSession`), and a `SetForm` for want of memory alone. An `AddRoute` is refused, in order:
+    /// where a version of its prefix is open or ends after it begins (`Overlap`); and for want of memory (`Memory`). An
+    /// `EndRoute` is refused, in order: where no version has its prefix and beginning (`NoRoute`); where that one has an
+    /// end (`Ended`); and where its end isn't after the beginning (`BadEnd`). A `CorrectRoute` is refused where no version
+    /// has its prefix and beginning (`NoRoute`).
     pub fn apply(&mut self, edit: Edit) -> Result<(), Refusal>
         ensures { IsReply (reply self.old.present edit) result
             (self.new.present ≡ step self.old.present edit) (self.new.present ≡ self.old.present) }
@@ -82,6 +86,23 @@ impl Book {
                 response,
                 receipt,
             } => self.present.set_forms(link, Forms { response, receipt }),
+            Edit::AddRoute {
+                prefix,
+                from,
+                route,
+                network,
+            } => self.present.add_route(prefix, from, route, network),
+            Edit::EndRoute {
+                prefix,
+                from,
+                until,
+            } => self.present.end_route(&prefix, from, until),
+            Edit::CorrectRoute {
+                prefix,
+                from,
+                route,
+                network,
+            } => self.present.correct_route(&prefix, from, route, network),
         }
     }
 

@@ -6,8 +6,14 @@ pub returns : goal.returns
 unfolding digits
 returns c = record {
   link_row = refl;
+  route_row = refl;
+  no_route_row = refl;
+  network_row = refl;
+  no_network_row = refl;
   error_row = refl;
   link = refl;
+  route = refl;
+  network_code = refl;
   status = refl;
   network = refl;
   text = refl;

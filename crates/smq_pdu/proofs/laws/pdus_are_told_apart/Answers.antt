@@ -1,5 +1,8 @@
-use Rattle.smq_pdu.proofs.PduEquals.{delivers_decide, pdus_decide}
+use Rattle.smq_pdu.proofs.PduEquals.{submits_decide, delivers_decide, pdus_decide}
 use Rattle.smq_pdu.proofs.laws.pdus_are_told_apart.Goals as goal
+
+pub returns-clause-submits : goal.returns-clause-submits
+returns-clause-submits c = submits_decide
 
 pub returns-clause-delivers : goal.returns-clause-delivers
 returns-clause-delivers c = delivers_decide

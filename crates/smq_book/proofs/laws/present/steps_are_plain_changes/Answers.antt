@@ -1,4 +1,4 @@
-use Rattle.smq_book.proofs.Changes.{appends-change, appends-alone, withdraws-change, withdraws-alone, sets-change, sets-alone, step-made, step-refused}
+use Rattle.smq_book.proofs.Changes.{appends-change, appends-alone, withdraws-change, withdraws-alone, sets-change, sets-alone, adds-change, adds-alone, ends-change, ends-alone, corrects-change, corrects-alone, step-made, step-refused}
 use Rattle.smq_book.proofs.laws.present.steps_are_plain_changes.Goals as goal
 
 pub returns : goal.returns
@@ -9,6 +9,12 @@ returns c = record {
   alone_withdrawn = withdraws-alone;
   sets_form = sets-change;
   alone_form = sets-alone;
+  adds_route = adds-change;
+  alone_added = adds-alone;
+  ends_route = ends-change;
+  alone_ended = ends-alone;
+  corrects_route = corrects-change;
+  alone_corrected = corrects-alone;
   made = step-made;
   refused = step-refused;
 }
