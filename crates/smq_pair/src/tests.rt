@@ -11,6 +11,8 @@ const CENTRE: Dir = Dir::FromCentre;
 
 const SUBMIT_SM: u32 = 0x0000_0004;
 
+const DELIVER_SM: u32 = 0x0000_0005;
+
 const UNBIND: u32 = 0x0000_0006;
 
 const BIND_TRANSCEIVER: u32 = 0x0000_0009;
@@ -24,6 +26,8 @@ const ALERT_NOTIFICATION: u32 = 0x0000_0102;
 const GENERIC_NACK: u32 = 0x8000_0000;
 
 const SUBMIT_SM_RESP: u32 = 0x8000_0004;
+
+const DELIVER_SM_RESP: u32 = 0x8000_0005;
 
 const UNBIND_RESP: u32 = 0x8000_0006;
 
@@ -44,7 +48,7 @@ struct Session {
     strays: &'static [usize],
 }
 
-static SESSIONS: [Session; 8] = [
+static SESSIONS: [Session; 9] = [
     Session {
         fact: "a window of ten requests is answered out of order",
         pdus: &[
@@ -175,6 +179,117 @@ static SESSIONS: [Session; 8] = [
         pairs: &[(0, 1, true), (4, 2, true)],
         waiting: &[],
         strays: &[3],
+    },
+    Session {
+        fact: "a session of Kannel 1.4.5, as it was captured: both sides ask by the same numbers, and the client unbinds",
+        pdus: &[
+            (CLIENT, BIND_TRANSCEIVER, 1, 0),
+            (CENTRE, BIND_TRANSCEIVER_RESP, 1, 0),
+            (CLIENT, ENQUIRE_LINK, 2, 0),
+            (CENTRE, ENQUIRE_LINK_RESP, 2, 0),
+            (CENTRE, ENQUIRE_LINK, 1, 0),
+            (CLIENT, ENQUIRE_LINK_RESP, 1, 0),
+            (CLIENT, SUBMIT_SM, 3, 0),
+            (CENTRE, SUBMIT_SM_RESP, 3, 0),
+            (CLIENT, SUBMIT_SM, 4, 0),
+            (CENTRE, SUBMIT_SM_RESP, 4, 0),
+            (CLIENT, ENQUIRE_LINK, 5, 0),
+            (CLIENT, SUBMIT_SM, 6, 0),
+            (CENTRE, ENQUIRE_LINK_RESP, 5, 0),
+            (CENTRE, SUBMIT_SM_RESP, 6, 0),
+            (CENTRE, DELIVER_SM, 2, 0),
+            (CLIENT, DELIVER_SM_RESP, 2, 0),
+            (CENTRE, DELIVER_SM, 3, 0),
+            (CLIENT, DELIVER_SM_RESP, 3, 0),
+            (CLIENT, SUBMIT_SM, 7, 0),
+            (CENTRE, SUBMIT_SM_RESP, 7, 0),
+            (CENTRE, DELIVER_SM, 4, 0),
+            (CLIENT, DELIVER_SM_RESP, 4, 0),
+            (CENTRE, ENQUIRE_LINK, 5, 0),
+            (CLIENT, ENQUIRE_LINK_RESP, 5, 0),
+            (CLIENT, ENQUIRE_LINK, 8, 0),
+            (CENTRE, ENQUIRE_LINK_RESP, 8, 0),
+            (CENTRE, DELIVER_SM, 6, 0),
+            (CLIENT, DELIVER_SM_RESP, 6, 0),
+            (CENTRE, ENQUIRE_LINK, 7, 0),
+            (CLIENT, ENQUIRE_LINK_RESP, 7, 0),
+            (CENTRE, DELIVER_SM, 8, 0),
+            (CLIENT, DELIVER_SM_RESP, 8, 0),
+            (CENTRE, DELIVER_SM, 9, 0),
+            (CLIENT, DELIVER_SM_RESP, 9, 0),
+            (CLIENT, ENQUIRE_LINK, 9, 0),
+            (CENTRE, ENQUIRE_LINK_RESP, 9, 0),
+            (CENTRE, ENQUIRE_LINK, 10, 0),
+            (CLIENT, ENQUIRE_LINK_RESP, 10, 0),
+            (CLIENT, ENQUIRE_LINK, 10, 0),
+            (CENTRE, ENQUIRE_LINK_RESP, 10, 0),
+            (CENTRE, ENQUIRE_LINK, 11, 0),
+            (CLIENT, ENQUIRE_LINK_RESP, 11, 0),
+            (CLIENT, ENQUIRE_LINK, 11, 0),
+            (CENTRE, ENQUIRE_LINK_RESP, 11, 0),
+            (CENTRE, ENQUIRE_LINK, 12, 0),
+            (CLIENT, ENQUIRE_LINK_RESP, 12, 0),
+            (CLIENT, ENQUIRE_LINK, 12, 0),
+            (CENTRE, ENQUIRE_LINK_RESP, 12, 0),
+            (CENTRE, ENQUIRE_LINK, 13, 0),
+            (CLIENT, ENQUIRE_LINK_RESP, 13, 0),
+            (CLIENT, ENQUIRE_LINK, 13, 0),
+            (CENTRE, ENQUIRE_LINK_RESP, 13, 0),
+            (CENTRE, ENQUIRE_LINK, 14, 0),
+            (CLIENT, ENQUIRE_LINK_RESP, 14, 0),
+            (CLIENT, ENQUIRE_LINK, 14, 0),
+            (CENTRE, ENQUIRE_LINK_RESP, 14, 0),
+            (CLIENT, ENQUIRE_LINK, 15, 0),
+            (CENTRE, ENQUIRE_LINK_RESP, 15, 0),
+            (CENTRE, ENQUIRE_LINK, 15, 0),
+            (CLIENT, ENQUIRE_LINK_RESP, 15, 0),
+            (CLIENT, ENQUIRE_LINK, 16, 0),
+            (CENTRE, ENQUIRE_LINK_RESP, 16, 0),
+            (CENTRE, ENQUIRE_LINK, 16, 0),
+            (CLIENT, ENQUIRE_LINK_RESP, 16, 0),
+            (CLIENT, ENQUIRE_LINK, 17, 0),
+            (CLIENT, UNBIND, 18, 0),
+            (CENTRE, ENQUIRE_LINK_RESP, 17, 0),
+            (CENTRE, UNBIND_RESP, 18, 0),
+        ],
+        pairs: &[
+            (0, 1, true),
+            (2, 3, true),
+            (4, 5, true),
+            (6, 7, true),
+            (8, 9, true),
+            (10, 12, true),
+            (11, 13, true),
+            (14, 15, true),
+            (16, 17, true),
+            (18, 19, true),
+            (20, 21, true),
+            (22, 23, true),
+            (24, 25, true),
+            (26, 27, true),
+            (28, 29, true),
+            (30, 31, true),
+            (32, 33, true),
+            (34, 35, true),
+            (36, 37, true),
+            (38, 39, true),
+            (40, 41, true),
+            (42, 43, true),
+            (44, 45, true),
+            (46, 47, true),
+            (48, 49, true),
+            (50, 51, true),
+            (52, 53, true),
+            (54, 55, true),
+            (56, 57, true),
+            (58, 59, true),
+            (60, 61, true),
+            (62, 63, true),
+            (64, 66, true),
+            (65, 67, true),
+        ],
+        waiting: &[],
+        strays: &[],
     },
 ];
 
