@@ -136,6 +136,7 @@ fn greater(a: usize, b: usize) -> usize
 /// The lesser of two numbers.
 fn lesser(a: usize, b: usize) -> usize
     ensures bound { result ≤ a }
+    ensures other { result ≤ b }
     ensures one { (result ≡ a) ⊎ (result ≡ b) }
 {
     if a < b { a } else { b }
