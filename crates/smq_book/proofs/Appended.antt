@@ -14,7 +14,7 @@ use Rattle.smq_book.specs.declared.present.session.Session.{Session}
 use Rattle.smq_book.specs.present.Batch.{BatchValue}
 use Rattle.smq_book.specs.present.Present.{PresentValue}
 use Rattle.smq_book.specs.present.Settings.{SettingsValue}
-use Rattle.smq_kit.specs.Replies.{IsReply, first_of}
+use Rattle.smq_kit.specs.Replies.{IsReply, IsReplyInPlace, first_of}
 use Rattle.smq_book.specs.present.Replies.{append_refusals, no_session, reply}
 use Rattle.smq_book.specs.present.Steps.{session_after, with_forms, change}
 use Rattle.smq_book.proofs.BatchReplies.{IsReply-weaker}
@@ -66,13 +66,13 @@ settings_become p sessions old new link forms (Err e) is a =
 -- the session is taken out, or isn't there
 pub removed : {T : Type 0} (es fs : List (ℕ × Session)) (k : ℕ) (s : Session) (x : T) → Some s ≡ lookup (is_at (nat_cmp k)) es
     → ((q : ℕ) → lookup (is_at (nat_cmp q)) fs ≡ cond (is_at (nat_cmp k) q) None (lookup (is_at (nat_cmp q)) es))
-    → IsReply (no_session (get (seen es) k)) (Ok x) (seen fs ≡ remove (seen es) k) (seen fs ≡ seen es)
+    → IsReplyInPlace (no_session (get (seen es) k)) (Ok x) (seen fs ≡ remove (seen es) k) (seen fs ≡ seen es)
 removed es fs k s x there h =
     let found : get (seen es) k ≡ Some s = get-seen es k ∙ sym there in
-    subst (λ (o : Option Session). IsReply (no_session o) (Ok x) (seen fs ≡ remove (seen es) k) (seen fs ≡ seen es)) (sym found) (remove-seen es fs k h)
+    subst (λ (o : Option Session). IsReplyInPlace (no_session o) (Ok x) (seen fs ≡ remove (seen es) k) (seen fs ≡ seen es)) (sym found) (remove-seen es fs k h)
 
 pub absent : (T : Type 0) (es fs : List (ℕ × Session)) (k : ℕ) → None ≡ lookup (is_at (nat_cmp k)) es → fs ≡ es
-    → IsReply {T = T} (no_session (get (seen es) k)) (Err NoSession) (seen fs ≡ remove (seen es) k) (seen fs ≡ seen es)
+    → IsReplyInPlace {T = T} (no_session (get (seen es) k)) (Err NoSession) (seen fs ≡ remove (seen es) k) (seen fs ≡ seen es)
 absent T es fs k missing same =
     let none : get (seen es) k ≡ None = get-seen es k ∙ sym missing in
-    subst (λ (o : Option Session). IsReply {T = T} (no_session o) (Err NoSession) (seen fs ≡ remove (seen es) k) (seen fs ≡ seen es)) (sym none) (refl, ap (λ (gs : List (ℕ × Session)). seen gs) same)
+    subst (λ (o : Option Session). IsReplyInPlace {T = T} (no_session o) (Err NoSession) (seen fs ≡ remove (seen es) k) (seen fs ≡ seen es)) (sym none) (refl, ap (λ (gs : List (ℕ × Session)). seen gs) same)

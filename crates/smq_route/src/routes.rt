@@ -6,7 +6,7 @@ ghost use Rattle.smq_kit.specs.Numbers.{IsDigits};
 ghost use Rattle.smq_kit.specs.Replies.{IsReply, IsReplyInPlace, first_of};
 ghost use Rattle.smq_route.specs.declared.version.VersionKey.{VersionKey as KeyOf};
 ghost use Rattle.smq_route.specs.declared.version.Version.{Version as VersionOf};
-ghost use Rattle.smq_route.specs.Versions.{AreApart, lasts_past, version_of, overlap as overlap_lem, route_at};
+ghost use Rattle.smq_route.specs.Versions.{AreApart, lasts_past, version_of, overlap as least_overlap, route_at};
 ghost use Rattle.smq_route.specs.within.Kept.{NoneHolds, versions_in};
 ghost use Rattle.smq_route.specs.Routes.{empty};
 ghost use Rattle.smq_route.specs.Edits.{add_refusals, end_refusals, correct_refusals, added, changed, ending, corrected};
@@ -226,7 +226,7 @@ fn overlap(
     from: Moment,
 ) -> Option<Moment>
     requires { AreApart (versions_in versions.now) }
-    ensures { result ≡ overlap_lem (versions_in versions.now) prefix.now from }
+    ensures { result ≡ least_overlap (versions_in versions.now) prefix.now from }
 {
     match holding(versions, prefix, from) {
         Some((earlier, _)) => Some(earlier),

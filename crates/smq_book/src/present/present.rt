@@ -100,9 +100,9 @@ impl Present {
         append_in(alloc, &mut self.sessions, batch)
     }
 
-    /// Takes a session back, with both its directions. A refusal changes nothing.
+    /// Takes a session back, with both its directions, which takes no memory. A refusal changes nothing.
     pub(crate) fn withdraw(&mut self, session: SessionId) -> Result<(), Refusal>
-        ensures { IsReply (reply self.old (Edit.Withdraw session)) result
+        ensures { IsReplyInPlace (reply self.old (Edit.Withdraw session)) result
             (self.new ≡ change self.old (Edit.Withdraw session)) (self.new ≡ self.old) }
     {
         remove_session(&mut self.sessions, session.0)
@@ -215,9 +215,9 @@ fn insert_session(
     }
 }
 
-/// Takes a session out. A refusal changes nothing.
+/// Takes a session out, which takes no memory. A refusal changes nothing.
 fn remove_session(sessions: &mut BTreeMap<u64, Session>, number: u64) -> Result<(), Refusal>
-    ensures { IsReply (no_session (map.get (sessions_in sessions.old) number)) result
+    ensures { IsReplyInPlace (no_session (map.get (sessions_in sessions.old) number)) result
         (sessions_in sessions.new ≡ map.remove (sessions_in sessions.old) number)
         (sessions_in sessions.new ≡ sessions_in sessions.old) }
 {

@@ -1,8 +1,7 @@
 //! The book: it makes an edit or refuses it, and counts what is present from nothing.
 ghost use Rattle.std.specs.Prelude.{◌≡◌, IfOk};
 ghost use Rattle.smq_book.specs.present.Present.{empty, tail_in};
-ghost use Rattle.smq_kit.specs.Replies.{IsReply};
-ghost use Rattle.smq_book.specs.present.Replies.{reply};
+ghost use Rattle.smq_book.specs.present.Replies.{reply, IsReplyTo};
 ghost use Rattle.smq_book.specs.whole.Scratch.{scratch};
 ghost use Rattle.smq_book.specs.present.Steps.{step};
 
@@ -73,9 +72,9 @@ impl Book {
     /// where a version of its prefix is open or ends after it begins (`Overlap`); and for want of memory (`Memory`). An
     /// `EndRoute` is refused, in order: where no version has its prefix and beginning (`NoRoute`); where that one has an
     /// end (`Ended`); and where its end isn't after the beginning (`BadEnd`). A `CorrectRoute` is refused where no version
-    /// has its prefix and beginning (`NoRoute`).
+    /// has its prefix and beginning (`NoRoute`). A `Withdraw`, an `EndRoute` and a `CorrectRoute` take no memory.
     pub fn apply(&mut self, edit: Edit) -> Result<(), Refusal>
-        ensures { IsReply (reply self.old.present edit) result
+        ensures { IsReplyTo edit (reply self.old.present edit) result
             (self.new.present ≡ step self.old.present edit) (self.new.present ≡ self.old.present) }
     {
         match edit {
