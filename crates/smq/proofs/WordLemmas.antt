@@ -3,8 +3,8 @@ use Rattle.std.proofs.Common.{◌≡◌, ◌∙◌, List, Option, Some, None, co
 use Rattle.std.proofs.lemmas.Option.{none-some, same_Some}
 use Rattle.std.specs.Prelude.{option_map}
 use Rattle.clap.specs.Words.{Row, Text, first_of}
-use Rattle.smq_book.specs.declared.counting.tally.View.{View}
-use Rattle.smq_book.specs.counting.Names.{view_name}
+use Rattle.smq_tally.specs.declared.view.View.{View}
+use Rattle.smq_tally.specs.Names.{view_name}
 use Rattle.smq.specs.declared.words.Order.{Order}
 use Rattle.smq.specs.declared.words.Order.TheVariants.{Query}
 use Rattle.smq.specs.Words.{AsksFor, view_of}

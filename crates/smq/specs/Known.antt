@@ -3,10 +3,11 @@ use Rattle.std.specs.Prelude.{◌≡◌, ◌++◌, ℕ, List, [], ◌∷◌, cod
 use Rattle.smq_kit.specs.declared.place.Dir.{Dir}
 use Rattle.smq_kit.specs.declared.place.Dir.TheVariants.{FromClient, FromCentre}
 use Rattle.smq_kit.specs.declared.error_code.ErrorCode.TheVariants as code
-use Rattle.smq_book.specs.declared.counting.tally.Outcome.TheVariants as outcome
-use Rattle.smq_book.specs.declared.counting.tally.SubmitError.TheVariants as error
-use Rattle.smq_book.specs.declared.counting.tally.Value.TheVariants as value
-use Rattle.smq_book.specs.declared.counting.tally.View.TheVariants as view
+use Rattle.smq_tally.specs.declared.outcome.Outcome.TheVariants as outcome
+use Rattle.smq_tally.specs.declared.value.SubmitError.TheVariants as error
+use Rattle.smq_tally.specs.declared.value.Value.TheVariants as value
+use Rattle.smq_tally.specs.declared.band.Band.TheVariants as band
+use Rattle.smq_tally.specs.declared.view.View.TheVariants as view
 use Rattle.smq.specs.declared.input.TheConstants.{MOST_OCTETS, MOST_READS}
 use Rattle.smq.specs.declared.script.TheConstants.{MOST_RECORDS}
 use Rattle.smq.specs.declared.row.PieceRow.{PieceRow}
@@ -101,6 +102,10 @@ pub record KnowsTexts : Type 0 where
       ≡ codes "view,network,none,unasked,1" ++ 10 ∷ []
   pub error_row : row_text view.Error (value.Error (error.Refused 88), outcome.Refused, 1)
       ≡ codes "view,error,status:88,refused,1" ++ 10 ∷ []
+  pub link_delay_row : row_text view.LinkDelay (value.Band band.Under5Seconds, outcome.Delivered, 7)
+      ≡ codes "view,link-delay,under-5s,delivered,7" ++ 10 ∷ []
+  pub centre_delay_row : row_text view.CentreDelay (value.Band band.Over, outcome.Failed, 1)
+      ≡ codes "view,centre-delay,over,failed,1" ++ 10 ∷ []
   pub link : value_text (value.Link (record { 0 = 0 })) ≡ codes "0"
   pub route : value_text (value.Route (record { 0 = 10 })) ≡ codes "10"
   pub network_code : value_text (value.Network (codes "310026")) ≡ codes "310026"
@@ -109,3 +114,4 @@ pub record KnowsTexts : Type 0 where
   pub text : value_text (value.Error (error.Failed (code.Text (codes "0x-27_A.b"))))
       ≡ codes "text:0x-27_A.b"
   pub unstated : value_text (value.Error (error.Failed code.Unstated)) ≡ codes "unstated"
+  pub band : value_text (value.Band band.Early) ≡ codes "early"

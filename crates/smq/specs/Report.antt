@@ -4,13 +4,13 @@ use Rattle.std.specs.List.{flat_map}
 use Rattle.std.specs.Fmt.{decimal}
 use Rattle.smq_kit.specs.declared.error_code.ErrorCode.{ErrorCode}
 use Rattle.smq_kit.specs.declared.error_code.ErrorCode.TheVariants as c
-use Rattle.smq_book.specs.declared.counting.tally.SubmitError.{SubmitError}
-use Rattle.smq_book.specs.declared.counting.tally.SubmitError.TheVariants as e
-use Rattle.smq_book.specs.declared.counting.tally.Value.{Value}
-use Rattle.smq_book.specs.declared.counting.tally.Value.TheVariants as v
-use Rattle.smq_book.specs.declared.counting.tally.View.{View}
-use Rattle.smq_book.specs.counting.Names.{outcome_name, view_name}
-use Rattle.smq_book.specs.counting.Tables.{TablesValue, ShownRow, rows_of}
+use Rattle.smq_tally.specs.declared.value.SubmitError.{SubmitError}
+use Rattle.smq_tally.specs.declared.value.SubmitError.TheVariants as e
+use Rattle.smq_tally.specs.declared.value.Value.{Value}
+use Rattle.smq_tally.specs.declared.value.Value.TheVariants as v
+use Rattle.smq_tally.specs.declared.view.View.{View}
+use Rattle.smq_tally.specs.Names.{outcome_name, view_name, band_name}
+use Rattle.smq_tally.specs.Tables.{TablesValue, ShownRow, rows_of}
 
 -- the error of a receipt as it is printed: network type and code in decimal, the octets of its text, or a word
 abbrev pub code_text : ErrorCode → List ℕ
@@ -24,7 +24,7 @@ error_text (e.Refused status) = codes "status:" ++ decimal status
 error_text (e.Failed code) = code_text code
 
 -- a value as it is printed: a link or a route in decimal, a network by the digits of its code, a word where there is
--- none, or an error
+-- none, an error, or a band of delays by its name
 abbrev pub value_text : Value → List ℕ
 value_text (v.Link link) = decimal link.0
 value_text (v.Route route) = decimal route.0
@@ -32,6 +32,7 @@ value_text v.NoRoute = codes "none"
 value_text (v.Network network) = network
 value_text v.NoNetwork = codes "none"
 value_text (v.Error error) = error_text error
+value_text (v.Band band) = band_name band
 
 -- a row of a view as it is printed: `view,VIEW,VALUE,OUTCOME,COUNT` and a line feed
 abbrev pub row_text : View → ShownRow → List ℕ

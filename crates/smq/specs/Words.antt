@@ -7,8 +7,8 @@ use Rattle.clap.specs.declared.error.kind.ErrorKind.TheVariants.{OutOfMemory}
 use Rattle.clap.specs.declared.builder.action.ArgAction.TheVariants.{Set}
 use Rattle.clap.specs.declared.builder.value_parser.ValueParser.{ValueParser}
 use Rattle.clap.specs.declared.builder.value_parser.ValueParser.TheVariants.{Names}
-use Rattle.smq_book.specs.declared.counting.tally.View.{View}
-use Rattle.smq_book.specs.counting.Names.{view_name}
+use Rattle.smq_tally.specs.declared.view.View.{View}
+use Rattle.smq_tally.specs.Names.{view_name}
 use Rattle.smq.specs.declared.words.Order.{Order}
 use Rattle.smq.specs.declared.words.Order.TheVariants.{Query}
 

@@ -52,6 +52,7 @@ pub fn push_value(text: &mut String, value: &Value) -> Result<(), AllocError>
         Value::Network(network) => text.push_str(digits_of(network)),
         Value::NoRoute | Value::NoNetwork => text.push_str("none"),
         Value::Error(error) => push_error(text, error),
+        Value::Band(band) => text.push_str(band.name()),
     }
 }
 

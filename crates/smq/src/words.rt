@@ -1,7 +1,7 @@
 //! The words of the program, which `clap` takes by the rules that `command` makes.
 ghost use Rattle.std.specs.Prelude.{◌≡◌, IfOk, map};
 ghost use Rattle.std.specs.Prelude.{Some, option_map};
-ghost use Rattle.smq_book.specs.counting.Names.{view_name};
+ghost use Rattle.smq_tally.specs.Names.{view_name};
 ghost use Rattle.clap.specs.Words.{app_of, subcommand_rows_of};
 ghost use Rattle.clap.specs.declared.builder.value_parser.ValueParser.{ValueParser};
 ghost use Rattle.smq.specs.Words.{TakesWords, AsksFor, HasOrder, TakesViews, program};
@@ -59,6 +59,10 @@ fn named_view(name: Option<&str>) -> View
                 View::Route
             } else if text == "network" {
                 View::Network
+            } else if text == "link-delay" {
+                View::LinkDelay
+            } else if text == "centre-delay" {
+                View::CentreDelay
             } else {
                 View::Link
             }

@@ -3,21 +3,29 @@ use Rattle.std.proofs.Common.{◌≡◌, ℕ, List, [], ◌∷◌, ◌++◌, ref
 use Rattle.std.specs.Prelude.{T, map}
 use Rattle.std.specs.List.{flat_map}
 use Rattle.std.proofs.lemmas.List.{map-append}
-use Rattle.std.specs.FinMap.{entries, entries_sorted, is_sorted, values}
+use Rattle.std.specs.FinMap.{entries, entries_sorted, from_entries, is_sorted, keys, values}
 use Rattle.smq_kit.specs.declared.place.Place.{Place}
 use Rattle.smq_kit.specs.Orders.{place_cmp}
-use Rattle.smq_book.specs.declared.counting.tally.Fact.{Fact}
+use Rattle.smq_tally.specs.declared.fact.Fact.{Fact}
 use Rattle.smq_book.specs.declared.present.session.Session.{Session}
 use Rattle.smq_book.specs.present.Kept.{kept_pdus}
 use Rattle.smq_book.specs.present.Present.{PresentValue}
 use Rattle.smq_book.specs.pairing.Traffic.{Message, ReceivedReceipt, traffic_of, traffic_among}
 use Rattle.smq_book.specs.pairing.Traffic as traffic
 use Rattle.smq_book.specs.join.Facts.{facts_of}
+use Rattle.smq_book.specs.join.Keyed.{grouping_of}
+use Rattle.smq_book.specs.join.Listings as listings
+use Rattle.smq_book.specs.join.Listings.{receipt_notes}
 use Rattle.smq_book.specs.whole.Scratch.{scratch}
-use Rattle.smq_book.specs.within.Counting.{tables_among}
-use Rattle.smq_book.specs.within.Lists.{source_of, session_submits, session_receipts, submits_of, receipts_of, notes_of, facts_listed, tables_listed}
+use Rattle.smq_tally.specs.declared.list.Listed.{Listed}
+use Rattle.smq_tally.specs.Lists.{listed_set}
+use Rattle.smq_tally.specs.Tables.{tables_of}
+use Rattle.smq_book.specs.within.Lists.{source_of, session_submits, session_receipts, submits_of, receipts_of, notes_of, facts_listed, placed_fact, receipt_notes_listed, tables_listed}
 use Rattle.smq_book.proofs.AgreeLists.{message_entry, receipt_entry, Keyed, KeyedReceipts, keyed-append, keyed-among, receipts-append, receipts-keyed, messages-map, receipts-map}
 use Rattle.smq_book.proofs.AgreeFacts.{facts-agree}
+use Rattle.smq_book.proofs.AgreeListings.{receipts-agree}
+use Rattle.smq_book.proofs.MoveLemmas.{fact-place}
+use Rattle.smq_book.proofs.Tallied.{made-of-entries, notes-with, values-placed}
 use Rattle.smq_book.proofs.PlacesRise.{messages-sorted, receipts-sorted}
 use Rattle.std.specs.List.{enumerate_from}
 
@@ -61,6 +69,24 @@ module _ (p : PresentValue) where
       ap (λ t. values (facts_of p.settings t)) traffic-is
       ∙ facts-agree p.settings (submits_of p) (receipts_of p) (notes_of p) (keyed-of (entries p.sessions)) (receipts-keyed-of (entries p.sessions)) messages-rise receipts-rise
 
+  -- the facts are made of those of the lists
+  pub facts-made : from_entries (map placed_fact (facts_listed p)) ≡ facts_of p.settings (traffic_of p.sessions)
+  facts-made =
+      let facts = facts_of p.settings (traffic_of p.sessions) in
+      ap (λ (fs : List Fact). from_entries (map placed_fact fs)) (sym facts-are)
+      ∙ ap from_entries (values-placed facts (fact-place p.settings (traffic_of p.sessions))) ∙ made-of-entries facts
+
+  -- the listed receipts by place, in order, are those of the lists
+  pub receipts-listed : receipt_notes (grouping_of p.settings (traffic_of p.sessions)) ≡ receipt_notes_listed p
+  receipts-listed =
+      ap (λ t. receipt_notes (grouping_of p.settings t)) traffic-is
+      ∙ receipts-agree p.settings (submits_of p) (receipts_of p) (notes_of p) (keyed-of (entries p.sessions)) (receipts-keyed-of (entries p.sessions)) messages-rise receipts-rise
+
+  -- what is noted is what the lists say
+  pub notes-are : listings.notes_of p.settings (traffic_of p.sessions) ≡ listed_set (notes_of p ++ receipt_notes_listed p)
+  notes-are =
+      ap (λ (es : List Listed). listed_set (keys (listed_set (notes_of p)) ++ es)) receipts-listed ∙ notes-with (notes_of p) (receipt_notes_listed p)
+
   -- the tables are those of the lists
   pub tables-are : scratch p ≡ tables_listed p
-  tables-are = ap (λ (facts : List Fact). tables_among facts (notes_of p)) facts-are
+  tables-are = λ i. tables_of (sym facts-made i) (notes-are i)

@@ -21,15 +21,15 @@ use Rattle.smq_frame.specs.Stream.{Octet, handed_in}
 use Rattle.smq_route.specs.Edits.{ending, corrected}
 use Rattle.smq_route.specs.Versions.{Versions, key_at}
 use Rattle.smq_book.specs.declared.present.edit.Edit.{Edit}
-use Rattle.smq_book.specs.declared.present.edit.Edit.TheVariants.{Append, Withdraw, SetForm, AddRoute, EndRoute, CorrectRoute}
+use Rattle.smq_book.specs.declared.present.edit.Edit.TheVariants.{Append, Withdraw, SetForm, AddRoute, EndRoute, CorrectRoute, Advance}
 use Rattle.smq_book.specs.declared.present.forms.Forms.{Forms}
 use Rattle.smq_book.specs.declared.present.session.Session.{Session}
 use Rattle.smq_book.specs.present.Batch.{BatchValue}
 use Rattle.smq_book.specs.present.Present.{PresentValue, session_of, direction, octets_in, octets_of}
-use Rattle.smq_book.specs.present.Settings.{set_forms_of, with_versions}
+use Rattle.smq_book.specs.present.Settings.{set_forms_of, with_versions, with_clock}
 use Rattle.smq_kit.specs.Replies.{first_of}
 use Rattle.smq_book.specs.present.Replies.{no_session, append_refusals, reply}
-use Rattle.smq_book.specs.present.Steps.{session_with, session_after, change, step_unless, step, steps, Appends, Withdraws, SetsForm, AddsRoute, EndsRoute, CorrectsRoute, is_append_to, LeavesNoTrace, AreAppendedAgain, AppendsCommute}
+use Rattle.smq_book.specs.present.Steps.{session_with, session_after, change, step_unless, step, steps, Appends, Withdraws, SetsForm, AddsRoute, EndsRoute, CorrectsRoute, Advances, is_append_to, LeavesNoTrace, AreAppendedAgain, AppendsCommute}
 use Rattle.smq_book.proofs.BatchReplies.{new_session}
 use Rattle.smq_book.proofs.Maps.{remove-none}
 use Rattle.smq_book.proofs.VersionLemmas.{put-there, put-elsewhere, changed-there, changed-elsewhere, same_versions}
@@ -131,6 +131,9 @@ corrects-change p prefix from route network = record {
   rest = refl;
 }
 
+pub advances-change : (p : PresentValue) (clock : ℕ) → Advances p (change p (Advance clock)) clock
+advances-change p clock = record { there = refl; rest = refl }
+
 -- ---- no other change
 
 same_link : (a b : LinkId) (o : Option LinkId) → Some a ≡ o → Some b ≡ o → a ≡ b
@@ -214,6 +217,9 @@ corrects-alone p q prefix from route network one =
     let two = corrects-change p prefix from route network in
     one.rest ∙ ap (λ (m : Versions). record p { settings = with_versions p.settings m }) (same_versions p.settings.versions q.settings.versions _ (key_at prefix from) (one.there ∙ sym two.there) one.elsewhere two.elsewhere)
 
+pub advances-alone : (p q : PresentValue) (clock : ℕ) → Advances p q clock → q ≡ change p (Advance clock)
+advances-alone p q clock one = one.rest ∙ ap (λ (n : ℕ). record p { settings = with_clock p.settings n }) one.there
+
 pub step-made : (p : PresentValue) (e : Edit) → reply p e ≡ None → step p e ≡ change p e
 step-made p e h = ap (λ (o : Option Refusal). step_unless o p e) h
 
@@ -248,6 +254,7 @@ hidden p s (SetForm link response receipt) None h = absurd (false≢true h)
 hidden p s (AddRoute prefix from route network) None h = absurd (false≢true h)
 hidden p s (EndRoute prefix from until) None h = absurd (false≢true h)
 hidden p s (CorrectRoute prefix from route network) None h = absurd (false≢true h)
+hidden p s (Advance clock) None h = absurd (false≢true h)
 
 and_parts : (a b : Bool) → a && b ≡ true → (a ≡ true) × (b ≡ true)
 and_parts true true h = (refl, refl)

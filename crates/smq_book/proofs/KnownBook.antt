@@ -1,7 +1,8 @@
 -- The book whose octets are written out: its PDUs, its messages and receipts as lists, its facts.
 use Rattle.std.proofs.Common.{◌≡◌, ℕ, false, List, [], ◌∷◌, ◌++◌, Option, Some, None, refl, ap, ◌∙◌}
-use Rattle.std.specs.Prelude.{codes, filter, map, option_and_then, option_map, unwrap_or}
+use Rattle.std.specs.Prelude.{codes, filter, map, option_and_then, option_map, pos, ◌-ℤ◌, unwrap_or, ℤ}
 use Rattle.std.specs.List.{flat_map}
+use Rattle.std.specs.Option.{option_zip}
 use Rattle.std.specs.Cmp.{nat_cmp_total}
 use Rattle.std.specs.Ordering.{nat_cmp}
 use Rattle.std.specs.FinMap.{entries, values, get-insert, get-empty, empty, nat_cmp-IsAntisymmetric}
@@ -28,12 +29,14 @@ use Rattle.smq_receipt.specs.Readings as readings
 use Rattle.smq_receipt.specs.Readings.{text_of, usable_id, receipted_id, state_in, state_of, error_of, receipt_of, reading_of}
 use Rattle.smq_kit.specs.declared.error_code.ErrorCode.{ErrorCode}
 use Rattle.smq_kit.specs.declared.error_code.ErrorCode.TheVariants as e
+use Rattle.smq_receipt.proofs.KnownReceipts.{limits}
 use Rattle.smq_receipt.specs.declared.message_state.MessageState.{MessageState}
 use Rattle.smq_receipt.specs.declared.message_state.MessageState.TheVariants as state
 use Rattle.smq_receipt.specs.declared.reading.Reading.TheVariants as v
-use Rattle.smq_book.specs.declared.counting.tally.Fact.{Fact}
-use Rattle.smq_book.specs.declared.counting.tally.Outcome.TheVariants as o
-use Rattle.smq_book.specs.declared.counting.tally.SubmitError.TheVariants as s
+use Rattle.smq_tally.specs.declared.band.Band.TheVariants as b
+use Rattle.smq_tally.specs.declared.fact.Fact.{Fact}
+use Rattle.smq_tally.specs.declared.outcome.Outcome.TheVariants as o
+use Rattle.smq_tally.specs.declared.value.SubmitError.TheVariants as s
 use Rattle.smq_book.specs.declared.join.source.Source.{Source}
 use Rattle.smq_book.specs.declared.present.forms.Forms.{Forms}
 use Rattle.smq_book.specs.declared.present.kept.Content.{Content}
@@ -47,7 +50,7 @@ use Rattle.smq_book.specs.join.Facts.{facts_of}
 use Rattle.smq_book.specs.within.Lists.{session_submits, session_receipts, submits_of, receipts_of}
 use Rattle.smq_book.specs.within.Messages.{SubmittedMessage, submits_among}
 use Rattle.smq_book.specs.within.Accepted.{is_ambiguous, decider_of}
-use Rattle.smq_book.specs.within.Outcomes.{fact_by}
+use Rattle.smq_book.specs.within.Outcomes.{fact_by, has_lapsed}
 use Rattle.smq_book.specs.within.Receipts.{KeyedReceipt, receipts_among}
 use Rattle.smq_book.proofs.AgreePresent.{facts-are}
 use Rattle.smq_book.proofs.KnownFacts.{forms-set}
@@ -64,35 +67,41 @@ submit offset moment seq number = pdu offset moment 4 seq (c.Submit (record { re
 abbrev response : ℕ → ℕ → ℕ → List ℕ → KeptPdu
 response offset moment seq id = pdu offset moment 0x8000_0004 seq (c.SubmitAnswer (Some id))
 
-abbrev receipt : ℕ → ℕ → ℕ → List ℕ → MessageState → ErrorCode → KeptPdu
-receipt offset moment seq id state error =
-    pdu offset moment 5 seq (c.Deliver (v.Receipt (record { id = id; state = state; interim = false; error = error; centre_delay = None })))
+abbrev receipt : ℕ → ℕ → ℕ → List ℕ → MessageState → ErrorCode → Option ℤ → KeptPdu
+receipt offset moment seq id state error delay =
+    pdu offset moment 5 seq (c.Deliver (v.Receipt (record { id = id; state = state; interim = false; error = error; centre_delay = delay })))
 
 abbrev known_client : List KeptPdu
 known_client = submit 0 1000 1 (Some (codes "447700900123")) ∷ submit 45 1500 2 (Some (codes "447700900123")) ∷ []
 
+abbrev centre_dated : Option ℤ → Option ℤ → List KeptPdu
+centre_dated submitted done =
+    response 0 1200 1 (codes "07") ∷ response 19 1700 2 (codes "08")
+    ∷ receipt 38 5000 90 (codes "7") state.Delivered e.Unstated (option_map (λ p. p.1 -ℤ p.0) (option_zip submitted done)) ∷ []
+
 abbrev known_centre : List KeptPdu
-known_centre = response 0 1200 1 (codes "07") ∷ response 19 1700 2 (codes "08") ∷ receipt 38 5000 90 (codes "7") state.Delivered e.Unstated ∷ []
+known_centre = centre_dated (Some (pos 1740746040000)) (Some (pos 4102444798000))
 
 abbrev other_client : List KeptPdu
-other_client = receipt 0 100 1 (codes "08") state.Delivered e.Unstated ∷ []
+other_client = receipt 0 100 1 (codes "08") state.Delivered e.Unstated None ∷ []
 
 abbrev other_centre : List KeptPdu
-other_centre = receipt 0 5000 91 (codes "007") state.Undeliverable (e.Text (codes "012")) ∷ receipt 60 6000 92 (codes "008") state.Undeliverable (e.Text (codes "027")) ∷ []
+other_centre = receipt 0 5000 91 (codes "007") state.Undeliverable (e.Text (codes "012")) None ∷ receipt 60 6500 92 (codes "008") state.Undeliverable (e.Text (codes "027")) None ∷ []
 
 abbrev far_client : List KeptPdu
-far_client = submit 0 2000 1 None ∷ submit 33 2000 2 None ∷ []
+far_client = submit 0 2000 1 None ∷ submit 33 2000 2 None ∷ submit 66 2000 3 None ∷ []
 
 abbrev far_centre : List KeptPdu
-far_centre = response 0 2100 1 (codes "7") ∷ response 18 2100 2 (codes "7") ∷ receipt 36 3000 90 (codes "7") state.Delivered e.Unstated ∷ []
+far_centre = response 0 2100 1 (codes "7") ∷ response 18 2100 2 (codes "7") ∷ response 36 2100 3 (codes "9") ∷ receipt 54 3000 90 (codes "7") state.Delivered e.Unstated None ∷ []
 
 known-client : kept_pdus known_session.client ≡ known_client
 unfolding stated_length frames_of frames_within stamped word_at body_of submit_of number_of digits_of deliver_of id_of mandatory_at address_at c_octet_at octets_at number_at tlv_at tlvs_within tlvs_of least_below same_letters stands_at labels_at header_of value_at value_of state_of_number state_of_word network_code_in text_code_in two_digits_at is_date day_number_of second_of_day_of moment_of centre_delay_of text_of usable_id receipted_id state_in readings.id_of state_of error_of receipt_of reading_of
 known-client = refl
 
+-- the receipt's dates are known moments
 known-centre : kept_pdus known_session.centre ≡ known_centre
-unfolding stated_length frames_of frames_within stamped word_at body_of submit_of number_of digits_of deliver_of id_of mandatory_at address_at c_octet_at octets_at number_at tlv_at tlvs_within tlvs_of least_below same_letters stands_at labels_at header_of value_at value_of state_of_number state_of_word network_code_in text_code_in two_digits_at is_date day_number_of second_of_day_of moment_of centre_delay_of text_of usable_id receipted_id state_in readings.id_of state_of error_of receipt_of reading_of
-known-centre = refl
+unfolding stated_length frames_of frames_within stamped word_at body_of submit_of number_of digits_of deliver_of id_of mandatory_at address_at c_octet_at octets_at number_at tlv_at tlvs_within tlvs_of least_below same_letters stands_at labels_at header_of value_at value_of state_of_number state_of_word network_code_in text_code_in centre_delay_of text_of usable_id receipted_id state_in readings.id_of state_of error_of receipt_of reading_of
+known-centre = λ i. centre_dated (limits.minutes i) (limits.seconds i)
 
 other-client : kept_pdus other_session.client ≡ other_client
 unfolding stated_length frames_of frames_within stamped word_at body_of submit_of number_of digits_of deliver_of id_of mandatory_at address_at c_octet_at octets_at number_at tlv_at tlvs_within tlvs_of least_below same_letters stands_at labels_at header_of value_at value_of state_of_number state_of_word network_code_in text_code_in two_digits_at is_date day_number_of second_of_day_of moment_of centre_delay_of text_of usable_id receipted_id state_in readings.id_of state_of error_of receipt_of reading_of
@@ -150,10 +159,11 @@ receipts-are =
 
 abbrev facts : List Fact
 facts =
-    record (fact_of 10 1 0 1000 o.Delivered None) { route = Some (record { 0 = 3 }); network = Some (codes "23410") }
-    ∷ fact_of 10 1 45 1500 o.Failed (Some (s.Failed (e.Text (codes "027"))))
-    ∷ fact_of 65546 65537 0 2000 o.Ambiguous None
-    ∷ fact_of 65546 65537 33 2000 o.Ambiguous None ∷ []
+    record (fact_of 10 1 0 o.Delivered None) { route = Some (record { 0 = 3 }); network = Some (codes "23410"); link_delay = Some b.Under5Seconds; centre_delay = Some b.Over }
+    ∷ record (fact_of 10 1 45 o.Failed (Some (s.Failed (e.Text (codes "027"))))) { link_delay = Some b.Under30Seconds }
+    ∷ fact_of 65546 65537 0 o.Ambiguous None
+    ∷ fact_of 65546 65537 33 o.Ambiguous None
+    ∷ fact_of 65546 65537 66 o.Lapsed None ∷ []
 
 -- the route of a message, where these are the versions
 abbrev route_from : List (VersionKey × Version) → SubmittedMessage → Option (RouteId × List ℕ)
@@ -161,7 +171,7 @@ route_from versions s = option_and_then (λ number. option_map (λ e. (e.1.route
 
 -- the facts of messages, where these are the versions
 abbrev facts_from : List (VersionKey × Version) → List SubmittedMessage → List KeyedReceipt → List Fact
-facts_from versions submits receipts = map (λ s. fact_by s (route_from versions s) (is_ambiguous submits s.key) (decider_of submits receipts s.key)) submits
+facts_from versions submits receipts = map (λ s. fact_by s (route_from versions s) (has_lapsed known_book.settings s) (is_ambiguous submits s.key) (decider_of submits receipts s.key)) submits
 
 versions-are : entries known_book.settings.versions ≡ nested_versions
 versions-are = entries-from_entries versions_total versions_exact nested_versions tt

@@ -1,127 +1,29 @@
--- The places that a list shows are those that are listed there; and sets of listed places with one more.
-use Rattle.std.proofs.Common.{◌≡◌, Bool, ◌||◌, true, false, cond, List, [], ◌∷◌, ◌++◌, Option, Some, None, subst, refl, sym, ap, ◌∙◌, arith}
-use Rattle.std.specs.Prelude.{◌↔◌, Contains, IsTrue, map, filter, is_some}
-use Rattle.std.specs.List.{AllByRecursion, list_any}
-use Rattle.std.specs.BTreeMap.{is_at}
-use Rattle.std.specs.Map.{lookup}
-use Rattle.std.specs.FinMap.{entries, get, insert, contains_key, find, get-entries, get-from_entries, get-insert, same_map}
-use Rattle.std.specs.FinSet.{FinSet}
-use Rattle.std.proofs.lemmas.Bool.{eqb-true}
-use Rattle.std.proofs.lemmas.List.Elements.{All-from_recursion, All-contains, Contains-append_right}
-use Rattle.std.proofs.lemmas.Map.Views.{tells_apart}
-use Rattle.smq_kit.specs.declared.place.Place.{Place}
-use Rattle.smq_kit.proofs.MapLemmas.{get-entry}
-use Rattle.smq_kit.proofs.Ordered as ordered
-use Rattle.smq_book.specs.declared.counting.lists.List as l
-use Rattle.smq_book.specs.declared.counting.lists.List.TheVariants as v
-use Rattle.smq_book.specs.declared.counting.lists.Listed.{Listed}
-use Rattle.smq_book.specs.counting.Lists.{listed, listed_cmp, in_list, listed_set}
-use Rattle.smq_book.specs.counting.Tables.{TablesValue, listed_in}
-use Rattle.smq_book.specs.within.ListOrder.{kept_listed_cmp, listed_total, same_listed}
-use Rattle.smq_book.proofs.ListOrders.{listed-order, listed_exact, same_list}
+-- The listed receipts by what maps have, and one session at a time.
+use Rattle.std.proofs.Common.{◌≡◌, ℕ, List, ◌∷◌, ◌++◌, append_assoc, sym, ap, ◌∙◌}
+use Rattle.std.specs.List.{flat_map}
+use Rattle.std.specs.BTreeMap.{BTreeMap}
+use Rattle.std.proofs.lemmas.Grind.{flat_map-append}
+use Rattle.smq_tally.specs.declared.list.Listed.{Listed}
+use Rattle.smq_book.specs.declared.present.session.Session.{Session}
+use Rattle.smq_kit.specs.declared.link_key.LinkKey.{LinkKey}
+use Rattle.smq_book.specs.within.Accepted.{HasNumbers, HasDeciders}
+use Rattle.smq_book.specs.within.Listings.{note_by, note_kept, note_of}
+use Rattle.smq_book.specs.within.Messages.{SubmittedMessage}
+use Rattle.smq_book.specs.within.Receipts.{PlacedReceipt, KeyedReceipt}
+use Rattle.smq_book.proofs.Numbers.{number-is}
 
--- a set's entries: a listed place with nothing
-abbrev Entries : Type 0
-Entries = List (Listed × Unit {0})
+-- what maps have of keys gives the notes that lists give
+pub kept-notes : (submits : List SubmittedMessage) (receipts es : List KeyedReceipt) (numbers : BTreeMap LinkKey ℕ) (deciders : BTreeMap LinkKey PlacedReceipt) → HasNumbers numbers submits → HasDeciders deciders receipts
+    → flat_map (note_kept numbers deciders) es ≡ flat_map (note_of submits receipts) es
+kept-notes submits receipts es numbers deciders n d = λ i. flat_map (λ e. note_by (number-is submits numbers e.0 n i) (d.at e.0 i) e) es
 
--- the places of a list among these entries
-abbrev places_among : l.List → Entries → List Place
-places_among list es = map (λ e. e.place) (filter (in_list list) (map (λ e. e.0) es))
-
--- ---- a list shows a place exactly where the place is listed there
-
--- a listed place of a list is the one that the list has at its place
-listed-shown : (list : l.List) (e : Listed) → in_list list e ≡ true → listed list e.place ≡ e
-listed-shown list e h = λ i. listed (same_list list e.list (sym (eqb-true _ _ h)) i) e.place
-
-places-stand : (s : FinSet listed_cmp) (list : l.List) (es : Entries) → AllByRecursion (λ e. get s e.0 ≡ Some e.1) es
-    → AllByRecursion (λ place. contains_key s (listed list place) ≡ true) (places_among list es)
-places-stand s list [] a = tt
-places-stand s list (e ∷ es) a =
-    elim (in_list list e.0) as (λ b. in_list list e.0 ≡ b → AllByRecursion (λ place. contains_key s (listed list place) ≡ true) (map (λ x. x.place) (cond b (e.0 ∷ filter (in_list list) (map (λ x. x.0) es)) (filter (in_list list) (map (λ x. x.0) es))))) [
-      | true ↦ λ h. (ap (contains_key s) (listed-shown list e.0 h) ∙ ap is_some a.0, places-stand s list es a.1)
-      | false ↦ λ h. places-stand s list es a.1
-    ] refl
-
--- what stands first is shown
-first-listed : (list : l.List) (place : Place) (es : Entries) → Contains (places_among list ((listed list place, tt) ∷ es)) place
-first-listed v.Waiting place es = (0, omega arith, refl)
-first-listed v.StrayAnswers place es = (0, omega arith, refl)
-first-listed v.Mismatched place es = (0, omega arith, refl)
-
-found-listed : (list : l.List) (place : Place) (es : Entries) → is_some (find listed_cmp (listed list place) es) ≡ true → Contains (places_among list es) place
-found-listed list place [] found = absurd cc
-found-listed list place (e ∷ es) found =
-    elim (same_listed (listed list place) e.0) as (λ b. same_listed (listed list place) e.0 ≡ b → is_some (cond b (Some e.1) (find listed_cmp (listed list place) es)) ≡ true → Contains (places_among list (e ∷ es)) place) [
-      | true ↦ λ same first.
-          let key : listed list place ≡ e.0 = tells_apart listed_exact _ _ same in
-          subst (λ (x : Listed). Contains (places_among list ((x, e.1) ∷ es)) place) key (first-listed list place es)
-      | false ↦ λ same later. elim (in_list list e.0) as (λ b. Contains (map (λ x. x.place) (cond b (e.0 ∷ filter (in_list list) (map (λ x. x.0) es)) (filter (in_list list) (map (λ x. x.0) es)))) place) [
-        | true ↦ Contains-append_right (e.0.place ∷ []) (places_among list es) place (found-listed list place es later)
-        | false ↦ found-listed list place es later
-      ]
-    ] refl found
-
-pub listed-iff : (t : TablesValue) (list : l.List) (place : Place) → Contains (listed_in t list) place ↔ IsTrue (contains_key t.places (listed list place))
-listed-iff t list place = (
-  λ h. All-contains (λ p. contains_key t.places (listed list p) ≡ true) (listed_in t list) place
-      (All-from_recursion _ _ (places-stand t.places list (entries t.places) (get-entry listed_total listed_exact t.places))) h,
-  λ h. found-listed list place (entries t.places) (ap is_some (sym (get-entries t.places (listed list place))) ∙ h),
-)
-
--- ---- one listed place more
-
--- nothing, where a test passes
-abbrev marked : Bool → Option (Unit {0})
-marked b = cond b (Some tt) None
-
-marked-any : (test : Listed → Bool) (es : List Listed) → lookup {K = Listed} {X = Unit {0}} test (map (λ e. (e, tt)) es) ≡ marked (list_any test es)
-marked-any test [] = refl
-marked-any test (e ∷ es) =
-    elim (test e) as (λ b. cond b (Some (tt {0})) (lookup {K = Listed} {X = Unit {0}} test (map (λ e. (e, tt)) es)) ≡ marked (b || list_any test es)) [
-      | true ↦ refl
-      | false ↦ marked-any test es
-    ]
-
-one_mark : (b c : Bool) → marked (cond b true c) ≡ cond b (Some (tt {0})) (marked c)
-one_mark true c = refl
-one_mark false c = refl
-
--- one listed place more in the code's set
-pub note-seen : (es fs : List Listed) (note : Listed) → ((q : Listed) → list_any (is_at (kept_listed_cmp q)) fs ≡ cond (is_at (kept_listed_cmp note) q) true (list_any (is_at (kept_listed_cmp q)) es))
-    → listed_set fs ≡ insert (listed_set es) note tt
-note-seen es fs note h =
-    ordered.put-kept listed_total listed_exact listed-order (map (λ e. (e, tt)) es) (map (λ e. (e, tt)) fs) note tt (λ q.
-    marked-any (is_at (kept_listed_cmp q)) fs
-    ∙ ap marked (h q)
-    ∙ one_mark (is_at (kept_listed_cmp note) q) (list_any (is_at (kept_listed_cmp q)) es)
-    ∙ ap (λ (o : Option (Unit {0})). cond (is_at (kept_listed_cmp note) q) (Some (tt {0})) o) (sym (marked-any (is_at (kept_listed_cmp q)) es)))
-
-find-marked : (q : Listed) (es : List Listed) → find {K = Listed} {X = Unit {0}} listed_cmp q (map (λ e. (e, tt)) es) ≡ marked (list_any (same_listed q) es)
-find-marked q [] = refl
-find-marked q (e ∷ es) =
-    elim (same_listed q e) as (λ b. cond b (Some (tt {0})) (find {K = Listed} {X = Unit {0}} listed_cmp q (map (λ e. (e, tt)) es)) ≡ marked (b || list_any (same_listed q) es)) [
-      | true ↦ refl
-      | false ↦ find-marked q es
-    ]
-
--- what a set of a list has at a listed place
-get-listed : (es : List Listed) (q : Listed) → get (listed_set es) q ≡ marked (list_any (same_listed q) es)
-get-listed es q = get-from_entries listed_total (map (λ e. (e, tt)) es) q ∙ find-marked q es
-
-any-push : (test : Listed → Bool) (es : List Listed) (e : Listed) → list_any test (es ++ e ∷ []) ≡ cond (test e) true (list_any test es)
-any-push test [] e = elim (test e) as (λ b. (b || false) ≡ cond b true false) [ true ↦ refl | false ↦ refl ]
-any-push test (x ∷ xs) e =
-    elim (test x) as (λ b. (b || list_any test (xs ++ e ∷ [])) ≡ cond (test e) true (b || list_any test xs)) [
-      | true ↦ elim (test e) as (λ b. true ≡ cond b true true) [ true ↦ refl | false ↦ refl ]
-      | false ↦ any-push test xs e
-    ]
-
--- the set of a list with one more
-pub set-push : (es : List Listed) (e : Listed) → listed_set (es ++ e ∷ []) ≡ insert (listed_set es) e tt
-set-push es e = same_map listed_total listed_exact _ _ (λ q.
-    get-listed (es ++ e ∷ []) q
-    ∙ ap marked (any-push (same_listed q) es e)
-    ∙ one_mark (same_listed q e) (list_any (same_listed q) es)
-    ∙ ap (λ (o : Option (Unit {0})). cond (same_listed q e) (Some (tt {0})) o) (sym (get-listed es q))
-    ∙ sym (get-insert listed_total (listed_set es) e tt q))
+module _ (note : KeyedReceipt → List Listed) where
+  -- one session more is looked at
+  pub session-next : (receipts : ℕ × Session → List KeyedReceipt) (e : ℕ × Session) (left rest : List (ℕ × Session)) (before after all : List Listed) (this : List KeyedReceipt)
+      → after ≡ before ++ flat_map note this → receipts e ≡ this → left ≡ e ∷ rest
+      → before ++ flat_map note (flat_map receipts left) ≡ all → after ++ flat_map note (flat_map receipts rest) ≡ all
+  session-next receipts e left rest before after all this more is next so =
+      ap (λ (ys : List Listed). ys ++ flat_map note (flat_map receipts rest)) (more ∙ ap (λ (rs : List KeyedReceipt). before ++ flat_map note rs) (sym is))
+      ∙ append_assoc before (flat_map note (receipts e)) (flat_map note (flat_map receipts rest))
+      ∙ ap (λ (ys : List Listed). before ++ ys) (sym (flat_map-append note (receipts e) (flat_map receipts rest)))
+      ∙ ap (λ (es : List (ℕ × Session)). before ++ flat_map note (flat_map receipts es)) (sym next) ∙ so

@@ -20,10 +20,10 @@ use Rattle.smq_book.proofs.Least.{least-found, reduce-all}
 use Rattle.smq_kit.proofs.LinkKeyOrders.{link_keys_total, link_keys_exact}
 use Rattle.smq_kit.proofs.Comparisons.{is_equal}
 
-own_key : (key : LinkKey) → same_key key key ≡ true
+pub own_key : (key : LinkKey) → same_key key key ≡ true
 own_key key = ap is_eq (tied_itself link_keys_total key)
 
-one_key : (a b : LinkKey) → same_key a b ≡ true → a ≡ b
+pub one_key : (a b : LinkKey) → same_key a b ≡ true → a ≡ b
 one_key a b e = link_keys_exact a b (is_equal (link_key_cmp a b) e)
 
 -- ---- numbers of a map by place
@@ -65,10 +65,10 @@ other_place : (p q : Place) (b : Bool) → eq_by_cmp place_cmp p q ≡ b → p �
 other_place p q true e ne = absurd (ne (maps.same_key places_total places_exact p q e))
 other_place p q false e ne = refl
 
-still-there : {X : Type 0} (m : FinMap place_cmp X) (p q : Place) → p ≢ q → get (remove m q) p ≡ get m p
+pub still-there : {X : Type 0} (m : FinMap place_cmp X) (p q : Place) → p ≢ q → get (remove m q) p ≡ get m p
 still-there m p q ne = get-remove places_total m q p ∙ ap (λ b. cond b None (get m p)) (other_place p q (eq_by_cmp place_cmp p q) refl ne)
 
-gone : {X : Type 0} (m : FinMap place_cmp X) (p q : Place) (v : X) → get (remove m q) p ≡ Some v → (p ≢ q) × (get m p ≡ Some v)
+pub gone : {X : Type 0} (m : FinMap place_cmp X) (p q : Place) (v : X) → get (remove m q) p ≡ Some v → (p ≢ q) × (get m p ≡ Some v)
 gone {X} m p q v e = by_test (eq_by_cmp place_cmp p q) refl
   where
     by_test : (b : Bool) → eq_by_cmp place_cmp p q ≡ b → (p ≢ q) × (get m p ≡ Some v)
@@ -82,7 +82,7 @@ gone {X} m p q v e = by_test (eq_by_cmp place_cmp p q) refl
 
 -- ---- single keys
 
-only-one : (g : Grouping) (key : LinkKey) (place : Place) → get g.submits place ≡ Some key → matches g key ≡ 1 → IsAlone g key place
+pub only-one : (g : Grouping) (key : LinkKey) (place : Place) → get g.submits place ≡ Some key → matches g key ≡ 1 → IsAlone g key place
 only-one g key place here one = record {
   here = here;
   elsewhere = λ other ne there.
@@ -91,11 +91,11 @@ only-one g key place here one = record {
       absurd (omega (arith, some, more, one));
 }
 
-failing : (key k : LinkKey) (b : Bool) → same_key key k ≡ b → (key ≡ k → ⊥) → b ≡ false
+pub failing : (key k : LinkKey) (b : Bool) → same_key key k ≡ b → (key ≡ k → ⊥) → b ≡ false
 failing key k true e ne = absurd (ne (one_key key k e))
 failing key k false e ne = refl
 
-alone-one : (g : Grouping) (key : LinkKey) (place : Place) → IsAlone g key place → matches g key ≡ 1
+pub alone-one : (g : Grouping) (key : LinkKey) (place : Place) → IsAlone g key place → matches g key ≡ 1
 alone-one g key place h =
     let some = number-some (same_key key) g.submits place key h.here (own_key key) in
     let none : number_of (same_key key) (remove g.submits place) ≡ 0 = number-none (same_key key) (remove g.submits place) (λ q k e.

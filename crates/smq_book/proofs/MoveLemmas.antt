@@ -10,14 +10,14 @@ use Rattle.smq_kit.specs.Orders.{place_cmp}
 use Rattle.smq_kit.proofs.PlaceOrders.{places_total, places_exact}
 use Rattle.smq_kit.proofs.Comparisons.{or_first, or_second}
 use Rattle.smq_kit.proofs.MapLemmas as maps
-use Rattle.smq_book.specs.declared.counting.tally.Fact.{Fact}
+use Rattle.smq_tally.specs.declared.fact.Fact.{Fact}
 use Rattle.smq_kit.specs.declared.link_key.LinkKey.{LinkKey}
 use Rattle.smq_book.specs.present.Settings.{SettingsValue}
 use Rattle.smq_book.specs.pairing.Traffic.{TrafficValue, Message, ReceivedReceipt}
 use Rattle.smq_kit.specs.LinkKeys.{same_key}
 use Rattle.smq_book.specs.join.Matching.{Grouping, GroupedReceipt, Candidate, Standing, Single, Shared, candidates, candidate_cmp, earlier, decider, matches, submit_standing, decided_by}
 use Rattle.smq_book.specs.join.Keyed.{grouping_of, accepted_key, keyed_receipt}
-use Rattle.smq_book.specs.join.Circumstances.{circumstances, standing_in, decider_in, route_in}
+use Rattle.smq_book.specs.join.Circumstances.{circumstances, standing_in, decider_in, route_in, lapsed_in}
 use Rattle.smq_book.specs.join.Facts.{fact_by, facts_of}
 use Rattle.smq_book.specs.join.Moves.{standings_of, same_standing, changes_of, IsMove, put_message, take_message, put_receipt, take_receipt}
 use Rattle.smq_book.proofs.Least.{reduce-all}
@@ -156,7 +156,7 @@ module _ (q : Place) (t u : TrafficValue) (move : IsMove q t u) (s : SettingsVal
   same-circumstances m e =
       let there = circumstances_by (standing_in (grouping_of s t) s m) (standing_in (grouping_of s u) s m) e
       (λ d is. decider-stays d (decider-there s t m d is) (decider-there s u m d (sym e ∙ is))) in
-      λ i. record { standing = e i; decider = there i; route = route_in s.versions m }
+      λ i. record { standing = e i; decider = there i; route = route_in s.versions m; lapsed = lapsed_in s m }
 
   -- outside of the place and of the places where standings may differ, facts stay
   pub moves : (ks : List Place) → SameOutside ks (standings_of (grouping_of s t)) (standings_of (grouping_of s u)) → SameOutside (q ∷ ks) (facts_of s t) (facts_of s u)

@@ -8,12 +8,14 @@ use Rattle.smq_kit.specs.declared.place.Dir.TheVariants.{FromClient, FromCentre}
 use Rattle.smq_kit.specs.declared.place.Place.{Place}
 use Rattle.smq_pdu.specs.Pairing.{is_request}
 use Rattle.smq_pair.specs.Pairing.{PlacedHeader, PairingValue, pair_at, places_of, waiting, strays}
-use Rattle.smq_book.specs.declared.counting.lists.List.TheVariants as list
-use Rattle.smq_book.specs.declared.counting.lists.Listed.{Listed}
+use Rattle.smq_tally.specs.declared.list.List.{List as ListName}
+use Rattle.smq_tally.specs.declared.list.List.TheVariants as list
+use Rattle.smq_tally.specs.declared.list.Listed.{Listed}
+use Rattle.smq_book.specs.declared.present.kept.Content.{Content}
 use Rattle.smq_book.specs.declared.present.kept.KeptPdu.{KeptPdu}
-use Rattle.smq_book.specs.counting.Lists.{listed}
+use Rattle.smq_tally.specs.Lists.{listed}
 use Rattle.smq_book.specs.present.Kept.{header_of}
-use Rattle.smq_book.specs.pairing.Traffic.{Origin, place_of, placed, pairing_among, disagrees, mismatched, notes_among}
+use Rattle.smq_book.specs.pairing.Traffic.{Origin, place_of, placed, pairing_among, disagrees, mismatched, pairing_notes, places_where}
 use Rattle.smq_book.specs.within.Pairs.{mismatched_in}
 use Rattle.smq_book.proofs.Paired.{filter-placed, places-placed}
 
@@ -62,6 +64,42 @@ module _ (v : PairingValue) (o : Origin) (d : Dir) where
       ap (λ ys. before ++ ys) (sym (noted-step ps i x h is ∙ one-more x (drop (i + 1) ps) ∙ ap (λ b. cond b (listed list.Mismatched (place_of o d x) ∷ noted_left ps (i + 1)) (noted_left ps (i + 1))) noted))
       ∙ so
 
+-- ---- the PDUs of a direction whose content passes a test
+
+module _ (kind : ListName) (test : Content → Bool) (o : Origin) (d : Dir) where
+  abbrev passing : List KeptPdu → List Listed
+  passing ps = map (listed kind) (places_where test o d ps)
+
+  pass-more : (p : KeptPdu) (ps : List KeptPdu) → passing (p ∷ ps) ≡ cond (test p.content) (listed kind (place_of o d p) ∷ passing ps) (passing ps)
+  pass-more p ps =
+      elim (test p.content) as (λ b. map (listed kind) (map (place_of o d) (cond b (p ∷ filter (λ p. test p.content) ps) (filter (λ p. test p.content) ps)))
+      ≡ cond b (listed kind (place_of o d p) ∷ passing ps) (passing ps)) [ true ↦ refl | false ↦ refl ]
+
+  -- those from the i-th PDU on
+  abbrev pub passing_left : List KeptPdu → ℕ → List Listed
+  passing_left ps i = passing (drop i ps)
+
+  pub passing-none : (ps : List KeptPdu) (i : ℕ) → length ps ≤ i → passing_left ps i ≡ []
+  passing-none ps i h = ap passing (drop_all i ps h)
+
+  passing-step : (ps : List KeptPdu) (i : ℕ) (x : KeptPdu) → i < length ps → x ≡ get_or ps i x
+      → passing_left ps i ≡ cond (test x.content) (listed kind (place_of o d x) ∷ passing_left ps (i + 1)) (passing_left ps (i + 1))
+  passing-step ps i x h is = ap passing (drop_more ps i x h ∙ ap (λ (y : KeptPdu). y ∷ drop (i + 1) ps) (sym is)) ∙ pass-more x (drop (i + 1) ps)
+
+  -- one PDU more is looked at
+  pub passing-next : (ps : List KeptPdu) (i : ℕ) (x : KeptPdu) (before all : List Listed) → i < length ps → x ≡ get_or ps i x → test x.content ≡ true
+      → before ++ passing_left ps i ≡ all → (before ++ listed kind (place_of o d x) ∷ []) ++ passing_left ps (i + 1) ≡ all
+  passing-next ps i x before all h is passes so =
+      append_assoc before (listed kind (place_of o d x) ∷ []) (passing_left ps (i + 1))
+      ∙ ap (λ ys. before ++ ys) (sym (passing-step ps i x h is ∙ ap (λ b. cond b (listed kind (place_of o d x) ∷ passing_left ps (i + 1)) (passing_left ps (i + 1))) passes))
+      ∙ so
+
+  pub passing-same : (ps : List KeptPdu) (i : ℕ) (x : KeptPdu) (before all : List Listed) → i < length ps → x ≡ get_or ps i x → test x.content ≡ false
+      → before ++ passing_left ps i ≡ all → before ++ passing_left ps (i + 1) ≡ all
+  passing-same ps i x before all h is passes so =
+      ap (λ ys. before ++ ys) (sym (passing-step ps i x h is ∙ ap (λ b. cond b (listed kind (place_of o d x) ∷ passing_left ps (i + 1)) (passing_left ps (i + 1))) passes))
+      ∙ so
+
 -- ---- both directions
 
 module _ (o : Origin) (client centre : List KeptPdu) where
@@ -79,11 +117,11 @@ module _ (o : Origin) (client centre : List KeptPdu) where
       ∙ ap (filter (λ q. disagrees (pair_at v q))) requests-placed
       ∙ filter-append (λ q. disagrees (pair_at v q)) (map (place_of o FromClient) (filter (λ p. is_request (header_of p)) client)) (map (place_of o FromCentre) (filter (λ p. is_request (header_of p)) centre))
 
-  -- the notes, list by list
-  pub notes-are : (v : PairingValue) (old : List Listed) → v ≡ pairing_among o client centre
+  -- the notes of the pairs, list by list
+  pub pairs-are : (v : PairingValue) (old : List Listed) → v ≡ pairing_among o client centre
       → (((old ++ map (listed list.Waiting) (waiting v)) ++ map (listed list.StrayAnswers) (strays v)) ++ map (listed list.Mismatched) (mismatched_in v o FromClient client)) ++ map (listed list.Mismatched) (mismatched_in v o FromCentre centre)
-      ≡ old ++ notes_among v
-  notes-are v old is =
+      ≡ old ++ pairing_notes v
+  pairs-are v old is =
       let w = map (listed list.Waiting) (waiting v) in
       let s = map (listed list.StrayAnswers) (strays v) in
       let m = map (listed list.Mismatched) (mismatched_in v o FromClient client) in
@@ -93,3 +131,13 @@ module _ (o : Origin) (client centre : List KeptPdu) where
       ∙ ap (λ ys. ((old ++ w) ++ s) ++ ys) all
       ∙ ap (λ ys. ys ++ map (listed list.Mismatched) (mismatched v)) (append_assoc old w s)
       ∙ append_assoc old (w ++ s) (map (listed list.Mismatched) (mismatched v))
+
+-- ---- a session
+
+-- the notes of a session, part by part
+pub notes-are : (old pairs : List Listed) (unreadables client_undecodables centre_undecodables client_broken centre_broken : List Place)
+    → (((((old ++ pairs) ++ map (listed list.Unreadable) unreadables) ++ map (listed list.Undecodable) client_undecodables) ++ map (listed list.Undecodable) centre_undecodables)
+    ++ map (listed list.Broken) client_broken) ++ map (listed list.Broken) centre_broken
+    ≡ old ++ ((pairs ++ (map (listed list.Unreadable) unreadables ++ map (listed list.Undecodable) (client_undecodables ++ centre_undecodables)))
+    ++ map (listed list.Broken) (client_broken ++ centre_broken))
+notes-are old pairs unreadables client_undecodables centre_undecodables client_broken centre_broken = simp (append_assoc, map-append)

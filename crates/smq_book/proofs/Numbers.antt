@@ -2,7 +2,7 @@
 use Rattle.std.proofs.Common.{◌≡◌, ℕ, ◌+◌, ◌<◌, ◌≤◌, true, false, ◌||◌, cond, List, [], ◌∷◌, ◌++◌, length, take, get_or, ◌^◌, Option, Some, None, refl, sym, ap, ◌∙◌, arith}
 use Rattle.std.specs.Prelude.{option_to_list}
 use Rattle.std.specs.List.{list_any}
-use Rattle.smq_book.specs.counting.Tables.{positive}
+use Rattle.smq_kit.specs.Maps.{positive}
 use Rattle.std.specs.BTreeMap.{BTreeMap}
 use Rattle.std.specs.FinMap.{FinMap, get, insert}
 use Rattle.std.proofs.lemmas.List.{take_more, length-take}
@@ -11,7 +11,7 @@ use Rattle.smq_kit.specs.declared.link_key.LinkKey.{LinkKey}
 use Rattle.smq_kit.specs.LinkKeys.{link_key_cmp, by_key, same_key}
 use Rattle.smq_book.specs.within.Messages.{SubmittedMessage}
 use Rattle.smq_book.specs.within.Accepted.{HasNumbers, number_kept, number_accepted, accepted_with}
-use Rattle.smq_book.proofs.Counted as counted
+use Rattle.smq_kit.proofs.Counted as counted
 use Rattle.smq_book.proofs.Keyed.{get-none}
 use Rattle.smq_kit.proofs.LinkKeyOrders.{link_keys_total, link_keys_exact}
 

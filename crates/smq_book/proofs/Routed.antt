@@ -5,7 +5,7 @@ use Rattle.std.specs.FinMap.{get}
 use Rattle.smq_kit.specs.declared.names.RouteId.{RouteId}
 use Rattle.smq_kit.specs.declared.place.Place.{Place}
 use Rattle.smq_route.specs.Versions.{Versions}
-use Rattle.smq_book.specs.declared.counting.tally.Fact.{Fact}
+use Rattle.smq_tally.specs.declared.fact.Fact.{Fact}
 use Rattle.smq_book.specs.present.Settings.{SettingsValue, with_versions}
 use Rattle.smq_book.specs.pairing.Traffic.{TrafficValue, Message}
 use Rattle.smq_book.specs.join.Circumstances.{circumstances, route_in}
@@ -32,7 +32,7 @@ pub same : (s : SettingsValue) (versions : Versions) (t : TrafficValue) (q : Pla
     → get (facts_of (with_versions s versions) t) q ≡ get (facts_of s t) q
 same s versions t q alike = frame (with_versions s versions) s t t q refl (λ m is i. record (circumstances s t m) { route = alike m is i })
 
-routes_in : (s : SettingsValue) (t : TrafficValue) (q : Place) (m : Message) (found : Option Message) (fact : Fact) → found ≡ Some m → option_map (λ m. fact_by q m (circumstances s t m)) found ≡ Some fact
+pub routes_in : (s : SettingsValue) (t : TrafficValue) (q : Place) (m : Message) (found : Option Message) (fact : Fact) → found ≡ Some m → option_map (λ m. fact_by q m (circumstances s t m)) found ≡ Some fact
     → fact_by q m (circumstances s t m) ≡ fact
 routes_in s t q m found fact is made = let one : Some (fact_by q m (circumstances s t m)) ≡ Some fact = sym (ap (option_map (λ m. fact_by q m (circumstances s t m))) is) ∙ made in cc
 

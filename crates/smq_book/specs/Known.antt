@@ -1,5 +1,5 @@
 -- Values that laws pin: what is present, PDUs and octets that are written out, and what the definitions give of them.
-use Rattle.std.specs.Prelude.{◌≡◌, ◌+◌, ℕ, Bool, true, false, List, [], ◌∷◌, ◌++◌, length, map, codes, Option, Some, None}
+use Rattle.std.specs.Prelude.{◌≡◌, ◌+◌, ℕ, Bool, true, false, List, [], ◌∷◌, ◌++◌, length, map, codes, Option, Some, None, ℤ, pos, neg_ℤ}
 use Rattle.std.specs.List.{flat_map}
 use Rattle.std.specs.List.Sorted.{IsStrictlySortedBy}
 use Rattle.std.specs.FinMap as map
@@ -22,18 +22,20 @@ use Rattle.smq_receipt.specs.declared.message_state.MessageState.{MessageState}
 use Rattle.smq_receipt.specs.declared.message_state.MessageState.TheVariants.{Enroute, Delivered, Expired, Undeliverable, Accepted}
 use Rattle.smq_receipt.specs.declared.reading.Reading.TheVariants as v
 use Rattle.smq_receipt.specs.declared.reading.Receipt.{Receipt}
-use Rattle.smq_book.specs.declared.counting.lists.List.TheVariants as l
-use Rattle.smq_book.specs.declared.counting.lists.Listed.{Listed}
-use Rattle.smq_book.specs.declared.counting.tally.Fact.{Fact}
-use Rattle.smq_book.specs.declared.counting.tally.Outcome.{Outcome}
-use Rattle.smq_book.specs.declared.counting.tally.Outcome.TheVariants as o
-use Rattle.smq_book.specs.declared.counting.tally.SubmitError.{SubmitError}
-use Rattle.smq_book.specs.declared.counting.tally.SubmitError.TheVariants as s
-use Rattle.smq_book.specs.declared.counting.tally.Value.{Value}
-use Rattle.smq_book.specs.declared.counting.tally.Value.TheVariants as w
-use Rattle.smq_book.specs.declared.counting.tally.View.TheVariants as view
+use Rattle.smq_tally.specs.declared.list.List.TheVariants as l
+use Rattle.smq_tally.specs.declared.list.Listed.{Listed}
+use Rattle.smq_tally.specs.declared.band.Band.{Band}
+use Rattle.smq_tally.specs.declared.band.Band.TheVariants as b
+use Rattle.smq_tally.specs.declared.fact.Fact.{Fact}
+use Rattle.smq_tally.specs.declared.outcome.Outcome.{Outcome}
+use Rattle.smq_tally.specs.declared.outcome.Outcome.TheVariants as o
+use Rattle.smq_tally.specs.declared.value.SubmitError.{SubmitError}
+use Rattle.smq_tally.specs.declared.value.SubmitError.TheVariants as s
+use Rattle.smq_tally.specs.declared.value.Value.{Value}
+use Rattle.smq_tally.specs.declared.value.Value.TheVariants as w
+use Rattle.smq_tally.specs.declared.view.View.TheVariants as view
 use Rattle.smq_book.specs.declared.present.edit.Edit.{Edit}
-use Rattle.smq_book.specs.declared.present.edit.Edit.TheVariants.{Append, Withdraw, SetForm, AddRoute, EndRoute, CorrectRoute}
+use Rattle.smq_book.specs.declared.present.edit.Edit.TheVariants.{Append, Withdraw, SetForm, AddRoute, EndRoute, CorrectRoute, Advance}
 use Rattle.smq_book.specs.declared.present.kept.Content.{Content}
 use Rattle.smq_book.specs.declared.present.kept.Content.TheVariants as c
 use Rattle.smq_book.specs.declared.present.kept.KeptPdu.{KeptPdu}
@@ -42,13 +44,16 @@ use Rattle.smq_book.specs.present.Batch.{batch_of, prepare_refusal}
 use Rattle.smq_book.specs.present.Kept.{header_of}
 use Rattle.smq_book.specs.present.Present.{PresentValue, empty, link_of, octets_of}
 use Rattle.smq_book.specs.present.Replies.{reply}
-use Rattle.smq_book.specs.present.Settings.{SettingsValue, opening_settings, opening_forms, forms_of}
+use Rattle.smq_book.specs.present.Settings.{SettingsValue, opening_settings, opening_forms, forms_of, with_clock}
 use Rattle.smq_book.specs.present.Steps.{step}
-use Rattle.smq_book.specs.pairing.Traffic.{Origin, TrafficValue, traffic_among, traffic_of, messages_among, receipts_among, notes_among, pairing_among}
+use Rattle.smq_book.specs.pairing.Traffic.{Origin, TrafficValue, traffic_among, traffic_of, messages_among, receipts_among, notes_among, content_notes, session_notes}
+use Rattle.smq_book.specs.join.Circumstances.{window_of}
 use Rattle.smq_book.specs.join.Facts.{facts_of}
-use Rattle.smq_book.specs.counting.Lists.{listed, listed_cmp, listed_set}
-use Rattle.smq_book.specs.counting.Names.{list_name}
-use Rattle.smq_book.specs.counting.Tables.{TablesValue, tables_of, count_at, listed_in}
+use Rattle.smq_book.specs.join.Keyed.{grouping_of}
+use Rattle.smq_book.specs.join.Listings.{receipt_notes}
+use Rattle.smq_tally.specs.Lists.{listed, listed_cmp, listed_set}
+use Rattle.smq_tally.specs.Names.{list_name}
+use Rattle.smq_tally.specs.Tables.{TablesValue, tables_of, count_at, listed_in}
 use Rattle.smq_book.specs.whole.Scratch.{scratch}
 
 -- ---- a small book, on which replies are worked out by hand
@@ -129,6 +134,18 @@ correcting prefix from = CorrectRoute prefix from (record { 0 = 5 }) (codes "234
 abbrev pub versions_of : PresentValue → List (VersionKey × Version)
 versions_of p = map.entries p.settings.versions
 
+-- ---- the clock, on the book with these versions
+
+-- that book once its clock is advanced to 5, to 65,537, and to the last moment
+abbrev pub at_five : PresentValue
+at_five = step routed (Advance 5)
+
+abbrev pub at_65537 : PresentValue
+at_65537 = step routed (Advance 65537)
+
+abbrev pub at_the_last : PresentValue
+at_the_last = step routed (Advance 4102444800000)
+
 -- ---- PDUs
 
 -- a PDU at an offset, with its command_id, command_status, sequence_number and content
@@ -188,6 +205,11 @@ delivered offset moment = receipt_pdu offset moment (receipt_saying Delivered e.
 abbrev pub failed : ℕ → ℕ → KeptPdu
 failed offset moment = receipt_pdu offset moment (receipt_saying Undeliverable e.Unstated false)
 
+-- such a deliver_sm with this delay at the centre, which says that the message was delivered
+abbrev pub delivered_after : ℕ → ℕ → ℤ → KeptPdu
+delivered_after offset moment delay =
+    receipt_pdu offset moment (record (receipt_saying Delivered e.Unstated false) { centre_delay = Some delay })
+
 -- ---- what became of messages
 
 -- session 10 of link 1
@@ -203,7 +225,7 @@ settings_with response receipt =
 abbrev pub known_traffic : List KeptPdu → List KeptPdu → TrafficValue
 known_traffic client centre =
     traffic_among (messages_among known_origin client centre) (receipts_among known_origin centre)
-    (notes_among (pairing_among known_origin client centre))
+    (notes_among known_origin client centre)
 
 -- what is known of its messages, in the order of their places
 unfoldable pub known_facts : SettingsValue → List KeptPdu → List KeptPdu → List Fact
@@ -218,6 +240,16 @@ outcomes_among client centre =
 unfoldable pub errors_among : List KeptPdu → List KeptPdu → List (Option SubmitError)
 errors_among client centre =
     map (λ fact. fact.error) (known_facts (settings_with Verbatim Verbatim) client centre)
+
+-- what became of them at a clock
+unfoldable pub outcomes_at : ℕ → List KeptPdu → List KeptPdu → List Outcome
+outcomes_at clock client centre =
+    map (λ fact. fact.outcome) (known_facts (with_clock (settings_with Verbatim Verbatim) clock) client centre)
+
+-- their delays, on the link and at the centre
+unfoldable pub delays_among : List KeptPdu → List KeptPdu → List (Option Band × Option Band)
+delays_among client centre =
+    map (λ fact. (fact.link_delay, fact.centre_delay)) (known_facts (settings_with Verbatim Verbatim) client centre)
 
 -- what became of one submit_sm with each registered_delivery, where these are the centre's PDUs
 unfoldable pub outcomes_by_delivery : List KeptPdu → List ℕ → List Outcome
@@ -236,6 +268,22 @@ outcomes_under response receipt given reported =
     map (λ fact. fact.outcome)
     (known_facts (settings_with response receipt) (submit 0 1 1 ∷ []) (responded_and_reported given reported))
 
+-- session 11 of link 1
+abbrev pub later_origin : Origin
+later_origin = record { session = record { 0 = 11 }; link = record { 0 = 1 } }
+
+-- the delivery receipts in lists, where these are the PDUs of session 10 and those of the centre of session 11, under the
+-- link's forms of responses and receipts
+unfoldable pub listings_under : Form → Form → List KeptPdu → List KeptPdu → List KeptPdu → List Listed
+listings_under response receipt client centre later =
+    receipt_notes (grouping_of (settings_with response receipt)
+    (traffic_among (messages_among known_origin client centre)
+    (receipts_among known_origin centre ++ receipts_among later_origin later) []))
+
+-- the same of one submit_sm and its response, which gives the id `1`
+abbrev pub listings_after : List KeptPdu → List KeptPdu → List Listed
+listings_after centre later = listings_under Verbatim Verbatim (submit 0 1 1 ∷ []) (accepted 1 ∷ centre) later
+
 -- a request and a later PDU of one sequence number, and two responses of it
 pub record InTurn (one two response later : KeptPdu) : Type 0 where
   pub request : is_request (header_of one) ≡ true
@@ -245,30 +293,11 @@ pub record InTurn (one two response later : KeptPdu) : Type 0 where
   pub first_response_seq : response.seq ≡ one.seq
   pub next_response_seq : later.seq ≡ one.seq
 
--- ---- values, in their order: a link, routes and networks, none last, refusals by a status, failures by an error code
+-- ---- notes of a session
 
-abbrev pub known_values : LinkId → List Value
-known_values link =
-    w.Link link
-    ∷ w.Route (record { 0 = 2 })
-    ∷ w.Route (record { 0 = 10 })
-    ∷ w.Route (record { 0 = 65538 })
-    ∷ w.NoRoute
-    ∷ w.Network (codes "20801")
-    ∷ w.Network (codes "23410")
-    ∷ w.Network (codes "234100")
-    ∷ w.Network (codes "23415")
-    ∷ w.Network (codes "90101")
-    ∷ w.NoNetwork
-    ∷ w.Error (s.Refused 3)
-    ∷ w.Error (s.Refused 11)
-    ∷ w.Error (s.Failed (e.Network 3 8))
-    ∷ w.Error (s.Failed (e.Network 3 9))
-    ∷ w.Error (s.Failed (e.Network 4 0))
-    ∷ w.Error (s.Failed (e.Text (codes "012")))
-    ∷ w.Error (s.Failed (e.Text (codes "1")))
-    ∷ w.Error (s.Failed e.Unstated)
-    ∷ []
+-- a place: a session, a direction and an offset
+abbrev pub place_at : ℕ → Dir → ℕ → Place
+place_at session dir offset = record { session = record { 0 = session }; dir = dir; offset = offset }
 
 -- a session: its client asks with the numbers 7, 8 and 9, responds to 5 as another command, and responds to 4, which
 -- nobody asked
@@ -282,28 +311,19 @@ notes_centre =
     pdu 0 0x8000_0004 0 7 (c.SubmitAnswer None) ∷ pdu 16 0x8000_0015 0 8 c.Other
     ∷ pdu 32 0x8000_0004 0 6 (c.SubmitAnswer None) ∷ pdu 48 0x0000_0005 0 5 c.Other ∷ pdu 64 0x0000_0015 0 3 c.Other ∷ []
 
--- ---- listed places, in their order: by list, then session, then direction, the client's first, then offset
+-- a session: its client sends a submit_sm and a deliver_sm that can't be decoded, and a receipt without an id, which is none
+abbrev pub unread_client : List KeptPdu
+unread_client =
+    pdu 0 0x0000_0004 0 1 c.Undecodable ∷ pdu 20 0x0000_0005 0 2 c.Undecodable
+    ∷ pdu 40 0x0000_0005 0 3 (c.Deliver v.NoId) ∷ []
 
--- a place: a session, a direction and an offset
-abbrev pub place_at : ℕ → Dir → ℕ → Place
-place_at session dir offset = record { session = record { 0 = session }; dir = dir; offset = offset }
-
-abbrev pub known_listed : List Listed
-known_listed =
-    listed l.Waiting (place_at 9 FromClient 49)
-    ∷ listed l.Waiting (place_at 9 FromCentre 0)
-    ∷ listed l.Waiting (place_at 10 FromClient 0)
-    ∷ listed l.Waiting (place_at 10 FromClient 65536)
-    ∷ listed l.Waiting (place_at 10 FromClient 65537)
-    ∷ listed l.StrayAnswers (place_at 9 FromClient 0)
-    ∷ listed l.StrayAnswers (place_at 65536 FromCentre 0)
-    ∷ listed l.StrayAnswers (place_at 65537 FromClient 0)
-    ∷ listed l.Mismatched (place_at 1 FromCentre 16)
-    ∷ []
-
--- tables without facts in which these are listed
-abbrev pub known_tables : TablesValue
-known_tables = tables_of map.empty (listed_set known_listed)
+-- its centre sends a receipt without an id, one without a state, a message that is no receipt, a receipt with both, and a
+-- submit_sm and a deliver_sm that can't be decoded
+abbrev pub unread_centre : List KeptPdu
+unread_centre =
+    pdu 0 0x0000_0005 0 1 (c.Deliver v.NoId) ∷ pdu 50 0x0000_0005 0 2 (c.Deliver v.NoState)
+    ∷ pdu 100 0x0000_0005 0 3 (c.Deliver v.NotReceipt) ∷ delivered 150 5000
+    ∷ pdu 200 0x0000_0004 0 4 c.Undecodable ∷ pdu 220 0x0000_0005 0 5 c.Undecodable ∷ []
 
 -- ---- a whole book, from octets: three sessions of two links, whose numbers are alike modulo 65,536
 
@@ -328,13 +348,14 @@ abbrev pub receipt_octets : ℕ → List ℕ → List ℕ
 receipt_octets seq text =
     pdu_octets 0 5 seq (0 ∷ 0 ∷ 0 ∷ 0 ∷ 0 ∷ 0 ∷ 0 ∷ 4 ∷ 0 ∷ 0 ∷ 0 ∷ 0 ∷ 0 ∷ 0 ∷ 0 ∷ 0 ∷ length text ∷ text)
 
--- session 10 of link 1: two messages to one number, their responses, and a receipt of the first at 5000
+-- session 10 of link 1: two messages to one number, their responses, and a receipt of the first at 5000, with dates
 abbrev pub known_session : Session
 known_session = record {
   link = record { 0 = 1 };
   client = handed_in 1000 (submit_octets 1 (codes "447700900123")) ++ handed_in 1500 (submit_octets 2 (codes "447700900123"));
   centre = handed_in 1200 (response_octets 1 (codes "07")) ++ handed_in 1700 (response_octets 2 (codes "08"))
-      ++ handed_in 5000 (receipt_octets 90 (codes "id:7 stat:DELIVRD"));
+      ++ handed_in 5000
+      (receipt_octets 90 (codes "id:7 submit date:2502281234 done date:991231235958 stat:DELIVRD"));
 }
 
 -- session 11 of link 1: another receipt of the first at 5000 too, and one of the second; the client sends one as well,
@@ -344,15 +365,27 @@ other_session = record {
   link = record { 0 = 1 };
   client = handed_in 100 (receipt_octets 1 (codes "id:08 stat:DELIVRD"));
   centre = handed_in 5000 (receipt_octets 91 (codes "id:007 stat:UNDELIV err:012"))
-      ++ handed_in 6000 (receipt_octets 92 (codes "id:008 stat:UNDELIV err:027"));
+      ++ handed_in 6500 (receipt_octets 92 (codes "id:008 stat:UNDELIV err:027"));
 }
 
--- session 65,546 of link 65,537: two messages to no number with one id, and a receipt of it
+-- session 10 of link 1, both directions of which break off: the client's after a submit_sm without a body, at a length of 15,
+-- after which a whole PDU comes; the centre's after two receipts, one without an id and one without a state, and a
+-- deliver_sm without a body, at a length of 131,073
+abbrev pub broken_session : Session
+broken_session = record {
+  link = record { 0 = 1 };
+  client = handed_in 1000 (pdu_octets 0 4 1 [] ++ 0 ∷ 0 ∷ 0 ∷ 15 ∷ []) ++ handed_in 2000 (pdu_octets 0 4 2 []);
+  centre = handed_in 1200 (receipt_octets 90 (codes "stat:DELIVRD") ++ receipt_octets 91 (codes "id:7"))
+      ++ handed_in 1300 (pdu_octets 0 5 92 [] ++ 0 ∷ 2 ∷ 0 ∷ 1 ∷ []);
+}
+
+-- session 65,546 of link 65,537: two messages to no number with one id, and a receipt of it, and a third message
 abbrev pub far_session : Session
 far_session = record {
   link = record { 0 = 65537 };
-  client = handed_in 2000 (submit_octets 1 [] ++ submit_octets 2 []);
-  centre = handed_in 2100 (response_octets 1 (codes "7") ++ response_octets 2 (codes "7"))
+  client = handed_in 2000 (submit_octets 1 [] ++ submit_octets 2 [] ++ submit_octets 3 []);
+  centre = handed_in 2100
+      (response_octets 1 (codes "7") ++ response_octets 2 (codes "7") ++ response_octets 3 (codes "9"))
       ++ handed_in 3000 (receipt_octets 90 (codes "id:7 stat:DELIVRD"));
 }
 
@@ -363,23 +396,25 @@ nested_versions =
     ∷ version (codes "44") 1000 (Some 1500) 3 (codes "23410")
     ∷ version (codes "447") 1600 None 2 (codes "23415") ∷ []
 
--- the book of these sessions and versions, where ids of link 1 are decimal
+-- the book of these sessions and versions, where ids of link 1 are decimal, at the end of the third message's window
 abbrev pub known_book : PresentValue
 known_book = record {
   sessions = map.from_entries ((10, known_session) ∷ (11, other_session) ∷ (65546, far_session) ∷ []);
-  settings = record (settings_with Decimal Decimal) { versions = map.from_entries nested_versions };
+  settings =
+      record (settings_with Decimal Decimal) { versions = map.from_entries nested_versions; clock = 172802000 };
 }
 
--- a fact of a message of a session and a link, at an offset, that has no route
-abbrev pub fact_of : ℕ → ℕ → ℕ → ℕ → Outcome → Option SubmitError → Fact
-fact_of session link offset moment outcome error = record {
+-- a fact of a message of a session and a link, at an offset, that has no route and no delays
+abbrev pub fact_of : ℕ → ℕ → ℕ → Outcome → Option SubmitError → Fact
+fact_of session link offset outcome error = record {
   place = record { session = record { 0 = session }; dir = FromClient; offset = offset };
-  moment = moment;
   link = record { 0 = link };
   route = None;
   network = None;
   outcome = outcome;
   error = error;
+  link_delay = None;
+  centre_delay = None;
 }
 
 -- ---- what the laws state of these
@@ -492,6 +527,32 @@ pub record KnownRoutes : Type 0 where
   pub withdrawn : versions_of (step routed (Withdraw (record { 0 = 10 }))) ≡ known_versions
   pub forms_set : versions_of (step routed (SetForm (record { 0 = 1 }) Verbatim Verbatim)) ≡ known_versions
 
+-- What refuses an advance: a clock below the present one, which the refusal tells. What others leave: the clock, and octets,
+-- forms and versions as they were; and other edits leave the clock. A new book has the clock 0.
+pub record KnownClocks : Type 0 where
+  pub opening : empty.settings.clock ≡ 0
+  pub opening_again : reply empty (Advance 0) ≡ None
+  pub before : routed.settings.clock ≡ 0
+  pub made : reply routed (Advance 5) ≡ None
+  pub again : reply at_five (Advance 5) ≡ None
+  pub next : reply at_five (Advance 6) ≡ None
+  pub back : reply at_five (Advance 4) ≡ Some (r.ClockBack 5)
+  pub back_to_the_opening : reply at_five (Advance 0) ≡ Some (r.ClockBack 5)
+  pub back_to_1 : reply at_65537 (Advance 1) ≡ Some (r.ClockBack 65537)
+  pub to_the_last : reply at_65537 (Advance 4102444800000) ≡ None
+  pub back_by_1 : reply at_the_last (Advance 4102444799999) ≡ Some (r.ClockBack 4102444800000)
+  pub last_again : reply at_the_last (Advance 4102444800000) ≡ None
+  pub clock : at_five.settings.clock ≡ 5
+  pub last_clock : at_the_last.settings.clock ≡ 4102444800000
+  pub client : octets_of at_five 10 FromClient ≡ handed_in 1000 (0 ∷ [])
+  pub centre : octets_of at_five 10 FromCentre ≡ handed_in 1000 (0 ∷ [])
+  pub forms : forms_of at_five.settings (record { 0 = 1 }) ≡ record { response = Hexadecimal; receipt = Decimal }
+  pub versions : versions_of at_five ≡ known_versions
+  pub refused : step at_five (Advance 4) ≡ at_five
+  pub stands : step at_five (Advance 5) ≡ at_five
+  pub withdrawn : (step at_five (Withdraw (record { 0 = 10 }))).settings.clock ≡ 5
+  pub forms_set : (step at_five (SetForm (record { 0 = 1 }) Verbatim Verbatim)).settings.clock ≡ 5
+
 -- What became of submits that are written out.
 pub record KnownOutcomes : Type 0 where
   pub unanswered : outcomes_by_delivery [] (0 ∷ 1 ∷ []) ≡ o.Waiting ∷ o.Waiting ∷ []
@@ -525,13 +586,25 @@ pub record KnownOutcomes : Type 0 where
       known_facts (settings_with Verbatim Verbatim) (submit 49 7 1 ∷ []) []
       ≡ record {
         place = record { session = record { 0 = 10 }; dir = FromClient; offset = 49 };
-        moment = 1000;
         link = record { 0 = 1 };
         route = None;
         network = None;
         outcome = o.Waiting;
         error = None;
+        link_delay = None;
+        centre_delay = None;
       } ∷ []
+  -- the window is 48 hours from the moment of the submit_sm, 1000
+  pub window : (s : SettingsValue) (link : LinkId) → window_of s link ≡ 172800000
+  pub before_its_end : outcomes_at 172800999 (submit 0 1 1 ∷ []) (accepted 1 ∷ []) ≡ o.Open ∷ []
+  pub at_its_end : outcomes_at 172801000 (submit 0 1 1 ∷ []) (accepted 1 ∷ []) ≡ o.Lapsed ∷ []
+  pub after_its_end : outcomes_at 172801001 (submit 0 1 1 ∷ []) (accepted 1 ∷ []) ≡ o.Lapsed ∷ []
+  pub long_after : outcomes_at 4102444800000 (submit 0 1 1 ∷ []) (accepted 1 ∷ []) ≡ o.Lapsed ∷ []
+  pub unasked_after : outcomes_at 172801000 (submit 0 1 0 ∷ []) (accepted 1 ∷ []) ≡ o.Unasked ∷ []
+  pub unanswered_after : outcomes_at 172801000 (submit 0 1 1 ∷ []) [] ≡ o.Waiting ∷ []
+  pub other_command_after : outcomes_at 172801000 (submit 0 1 1 ∷ []) (link_response 0 1 ∷ []) ≡ o.Mismatched ∷ []
+  pub refused_after : outcomes_at 172801000 (submit 0 1 1 ∷ []) (nack 3 1 ∷ []) ≡ o.Refused ∷ []
+  pub no_id_after : outcomes_at 172801000 (submit 0 1 1 ∷ []) (without_id 1 ∷ []) ≡ o.NoId ∷ []
 
 -- What receipts that are written out make of submits. Each is of the id `1`, which `accepted` gives, but for those under
 -- forms.
@@ -564,6 +637,20 @@ pub record KnownReceipts : Type 0 where
   pub ambiguous :
       outcomes_among (submit 0 1 1 ∷ submit 49 2 0 ∷ []) (accepted 1 ∷ accepted 2 ∷ delivered 36 5000 ∷ [])
       ≡ o.Ambiguous ∷ o.Ambiguous ∷ []
+  pub ambiguous_after :
+      outcomes_at 172801000 (submit 0 1 1 ∷ submit 49 2 1 ∷ []) (accepted 1 ∷ accepted 2 ∷ [])
+      ≡ o.Ambiguous ∷ o.Ambiguous ∷ []
+  -- a receipt decides however late it comes, at a clock past the window too
+  pub delivered_late :
+      outcomes_at 172801000 (submit 0 1 1 ∷ []) (accepted 1 ∷ delivered 18 172801000 ∷ [])
+      ≡ o.Delivered ∷ []
+  pub failed_late :
+      outcomes_at 172801000 (submit 0 1 1 ∷ []) (accepted 1 ∷ failed 18 172801000 ∷ [])
+      ≡ o.Failed ∷ []
+  pub interim_late :
+      outcomes_at 172801000 (submit 0 1 1 ∷ [])
+      (accepted 1 ∷ receipt_pdu 18 5000 (receipt_saying Delivered e.Unstated true) ∷ [])
+      ≡ o.Lapsed ∷ []
   pub forms : outcomes_under Hexadecimal Decimal (codes "0000A1B2") (codes "0000041394") ≡ o.Delivered ∷ []
   pub forms_exchanged : outcomes_under Decimal Hexadecimal (codes "0000A1B2") (codes "0000041394") ≡ o.Open ∷ []
   pub zeros : outcomes_under Decimal Decimal (codes "07") (codes "007") ≡ o.Delivered ∷ []
@@ -576,34 +663,103 @@ pub record KnownReceipts : Type 0 where
       errors_among (submit 0 1 1 ∷ [])
       (accepted 1 ∷ receipt_pdu 18 5000 (receipt_saying Delivered (e.Network 3 8) false) ∷ [])
       ≡ None ∷ []
+  -- delays from the moment of the submit_sm, 1000, and those by the centre's dates
+  pub before_it :
+      delays_among (submit 0 1 1 ∷ []) (accepted 1 ∷ delivered 18 999 ∷ [])
+      ≡ (Some b.Early, None) ∷ []
+  pub at_once :
+      delays_among (submit 0 1 1 ∷ []) (accepted 1 ∷ delivered_after 18 1000 (neg_ℤ (pos 1)) ∷ [])
+      ≡ (Some b.Under5Seconds, Some b.Early) ∷ []
+  pub under_5_seconds :
+      delays_among (submit 0 1 1 ∷ []) (accepted 1 ∷ delivered_after 18 5999 (pos 5000) ∷ [])
+      ≡ (Some b.Under5Seconds, Some b.Under30Seconds) ∷ []
+  pub of_5_seconds :
+      delays_among (submit 0 1 1 ∷ []) (accepted 1 ∷ delivered_after 18 6000 (pos 0) ∷ [])
+      ≡ (Some b.Under30Seconds, Some b.Under5Seconds) ∷ []
+  pub of_an_hour :
+      delays_among (submit 0 1 1 ∷ []) (accepted 1 ∷ failed 18 3601000 ∷ [])
+      ≡ (Some b.Over, None) ∷ []
+  pub no_delays :
+      delays_among (submit 0 1 1 ∷ submit 49 2 1 ∷ submit 98 3 1 ∷ submit 147 4 1 ∷ [])
+      (accepted 1 ∷ nack 3 2 ∷ pdu 34 0x8000_0004 0 3 (c.SubmitAnswer (Some (50 ∷ [])))
+      ∷ pdu 52 0x8000_0004 0 4 (c.SubmitAnswer (Some (50 ∷ []))) ∷ [])
+      ≡ (None, None) ∷ (None, None) ∷ (None, None) ∷ (None, None) ∷ []
 
--- Names of lists, and places that are written out by their lists, in order.
-pub record KnownLists : Type 0 where
-  pub waiting : list_name l.Waiting ≡ codes "waiting"
-  pub stray : list_name l.StrayAnswers ≡ codes "stray-answers"
-  pub mismatched : list_name l.Mismatched ≡ codes "mismatched"
-  pub order : IsStrictlySortedBy listed_cmp known_listed
-  pub in_waiting :
-      listed_in known_tables l.Waiting
-      ≡ place_at 9 FromClient 49 ∷ place_at 9 FromCentre 0 ∷ place_at 10 FromClient 0 ∷ place_at 10 FromClient 65536
-      ∷ place_at 10 FromClient 65537 ∷ []
-  pub in_stray :
-      listed_in known_tables l.StrayAnswers
-      ≡ place_at 9 FromClient 0 ∷ place_at 65536 FromCentre 0 ∷ place_at 65537 FromClient 0 ∷ []
-  pub in_mismatched : listed_in known_tables l.Mismatched ≡ place_at 1 FromCentre 16 ∷ []
+-- Delivery receipts that are written out, in their lists. Each is of the id `1`, but for those under forms.
+pub record KnownListings : Type 0 where
+  pub no_message :
+      listings_under Verbatim Verbatim [] (delivered 0 5000 ∷ []) []
+      ≡ listed l.StrayReceipts (place_at 10 FromCentre 0) ∷ []
+  pub not_final_of_no_message :
+      listings_under Verbatim Verbatim [] (receipt_pdu 18 5000 (receipt_saying Enroute e.Unstated false) ∷ []) []
+      ≡ listed l.StrayReceipts (place_at 10 FromCentre 18) ∷ []
+  pub of_a_refused_message :
+      listings_under Verbatim Verbatim (submit 0 1 1 ∷ [])
+      (pdu 0 0x8000_0004 8 1 (c.SubmitAnswer (Some (49 ∷ []))) ∷ delivered 18 5000 ∷ []) []
+      ≡ listed l.StrayReceipts (place_at 10 FromCentre 18) ∷ []
+  pub of_two_messages :
+      listings_under Verbatim Verbatim (submit 0 1 1 ∷ submit 49 2 0 ∷ []) (accepted 1 ∷ accepted 2 ∷ delivered 36 5000 ∷ []) []
+      ≡ listed l.AmbiguousReceipts (place_at 10 FromCentre 36) ∷ []
+  pub of_three_messages :
+      listings_under Verbatim Verbatim (submit 0 1 1 ∷ submit 49 2 1 ∷ submit 98 3 1 ∷ [])
+      (accepted 1 ∷ accepted 2 ∷ accepted 3 ∷ receipt_pdu 54 5000 (receipt_saying Enroute e.Unstated false) ∷ []) []
+      ≡ listed l.AmbiguousReceipts (place_at 10 FromCentre 54) ∷ []
+  pub decides : listings_after (delivered 18 5000 ∷ []) [] ≡ []
+  -- of two sessions' receipts of one moment the earlier place decides, and else the earlier moment
+  pub extra_of_a_moment :
+      listings_after (delivered 18 5000 ∷ []) (failed 0 5000 ∷ [])
+      ≡ listed l.ExtraReceipts (place_at 11 FromCentre 0) ∷ []
+  pub extra_later :
+      listings_after (delivered 18 5000 ∷ []) (failed 0 4000 ∷ [])
+      ≡ listed l.ExtraReceipts (place_at 10 FromCentre 18) ∷ []
+  pub not_final :
+      listings_after (delivered 18 5000 ∷ receipt_pdu 68 6000 (receipt_saying Enroute e.Unstated false) ∷ []) [] ≡ []
+  pub interim :
+      listings_after (delivered 18 5000 ∷ receipt_pdu 68 6000 (receipt_saying Delivered e.Unstated true) ∷ []) [] ≡ []
+  pub forms :
+      listings_under Hexadecimal Decimal (submit 0 1 1 ∷ [])
+      (responded_and_reported (codes "0000A1B2") (codes "0000041394")) []
+      ≡ []
+  pub forms_exchanged :
+      listings_under Decimal Hexadecimal (submit 0 1 1 ∷ [])
+      (responded_and_reported (codes "0000A1B2") (codes "0000041394")) []
+      ≡ listed l.StrayReceipts (place_at 10 FromCentre 18) ∷ []
+
+-- Notes of sessions that are written out: by pairs, by contents, and from octets.
+pub record KnownNotes : Type 0 where
   pub notes :
-      notes_among (pairing_among known_origin notes_client notes_centre)
+      notes_among known_origin notes_client notes_centre
       ≡ listed l.Waiting (place_at 10 FromClient 98) ∷ listed l.Waiting (place_at 10 FromCentre 64)
       ∷ listed l.StrayAnswers (place_at 10 FromClient 163) ∷ listed l.StrayAnswers (place_at 10 FromCentre 32)
       ∷ listed l.Mismatched (place_at 10 FromClient 49) ∷ listed l.Mismatched (place_at 10 FromCentre 48) ∷ []
+  pub contents :
+      content_notes known_origin unread_client unread_centre
+      ≡ listed l.Unreadable (place_at 10 FromCentre 0) ∷ listed l.Unreadable (place_at 10 FromCentre 50)
+      ∷ listed l.Undecodable (place_at 10 FromClient 0) ∷ listed l.Undecodable (place_at 10 FromClient 20)
+      ∷ listed l.Undecodable (place_at 10 FromCentre 200) ∷ listed l.Undecodable (place_at 10 FromCentre 220) ∷ []
+  pub octets :
+      session_notes (10, broken_session)
+      ≡ listed l.Waiting (place_at 10 FromClient 0) ∷ listed l.Waiting (place_at 10 FromCentre 0)
+      ∷ listed l.Waiting (place_at 10 FromCentre 45) ∷ listed l.Waiting (place_at 10 FromCentre 82)
+      ∷ listed l.Unreadable (place_at 10 FromCentre 0) ∷ listed l.Unreadable (place_at 10 FromCentre 45)
+      ∷ listed l.Undecodable (place_at 10 FromClient 0) ∷ listed l.Undecodable (place_at 10 FromCentre 82)
+      ∷ listed l.Broken (place_at 10 FromClient 16) ∷ listed l.Broken (place_at 10 FromCentre 98) ∷ []
 
 -- What is known and counted of the known book.
 pub record KnownFigures : Type 0 where
   pub facts :
       map.values (facts_of known_book.settings (traffic_of known_book.sessions))
-      ≡ record (fact_of 10 1 0 1000 o.Delivered None) { route = Some (record { 0 = 3 }); network = Some (codes "23410") }
-      ∷ fact_of 10 1 45 1500 o.Failed (Some (s.Failed (e.Text (codes "027"))))
-      ∷ fact_of 65546 65537 0 2000 o.Ambiguous None ∷ fact_of 65546 65537 33 2000 o.Ambiguous None ∷ []
+      ≡ record (fact_of 10 1 0 o.Delivered None) {
+        route = Some (record { 0 = 3 });
+        network = Some (codes "23410");
+        link_delay = Some b.Under5Seconds;
+        centre_delay = Some b.Over;
+      }
+      ∷ record (fact_of 10 1 45 o.Failed (Some (s.Failed (e.Text (codes "027"))))) {
+        link_delay = Some b.Under30Seconds;
+      }
+      ∷ fact_of 65546 65537 0 o.Ambiguous None ∷ fact_of 65546 65537 33 o.Ambiguous None
+      ∷ fact_of 65546 65537 66 o.Lapsed None ∷ []
   pub delivered : count_at (scratch known_book) view.Link (w.Link (record { 0 = 1 })) o.Delivered ≡ 1
   pub failed : count_at (scratch known_book) view.Link (w.Link (record { 0 = 1 })) o.Failed ≡ 1
   pub ambiguous : count_at (scratch known_book) view.Link (w.Link (record { 0 = 65537 })) o.Ambiguous ≡ 2
@@ -617,3 +773,9 @@ pub record KnownFigures : Type 0 where
   pub not_ambiguous : count_at (scratch known_book) view.Link (w.Link (record { 0 = 1 })) o.Ambiguous ≡ 0
   pub why : count_at (scratch known_book) view.Error (w.Error (s.Failed (e.Text (codes "027")))) o.Failed ≡ 1
   pub not_so : count_at (scratch known_book) view.Error (w.Error (s.Failed (e.Text (codes "012")))) o.Failed ≡ 0
+  pub lapsed : count_at (scratch known_book) view.Link (w.Link (record { 0 = 65537 })) o.Lapsed ≡ 1
+  pub soon : count_at (scratch known_book) view.LinkDelay (w.Band b.Under5Seconds) o.Delivered ≡ 1
+  pub later : count_at (scratch known_book) view.LinkDelay (w.Band b.Under30Seconds) o.Failed ≡ 1
+  pub not_later : count_at (scratch known_book) view.LinkDelay (w.Band b.Under30Seconds) o.Delivered ≡ 0
+  pub by_dates : count_at (scratch known_book) view.CentreDelay (w.Band b.Over) o.Delivered ≡ 1
+  pub no_dates : count_at (scratch known_book) view.CentreDelay (w.Band b.Under30Seconds) o.Failed ≡ 0

@@ -1,7 +1,6 @@
 pub mod present
 pub mod pairing
 pub mod join
-pub mod counting
 pub mod whole
 pub mod Known
 pub mod within

@@ -6,8 +6,6 @@ pub mod Messages
 pub mod Receipts
 pub mod Accepted
 pub mod Outcomes
-pub mod Counting
-pub mod ListOrder
+pub mod Listings
 pub mod Equal
-pub mod CountOrder
 pub mod Lists

@@ -2,6 +2,7 @@
 pub mod accepted;
 pub mod deciders;
 pub mod facts;
+pub mod listings;
 pub mod receipts;
 pub mod source;
 pub mod submits;

@@ -1,5 +1,4 @@
 //! Laws of the definitions: each is the contract of a function with no body.
-pub mod counting;
 pub mod join;
 pub mod pairing;
 pub mod present;

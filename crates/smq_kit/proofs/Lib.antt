@@ -6,3 +6,4 @@ pub mod PlaceOrders
 pub mod KeyOrders
 pub mod LinkKeyOrders
 pub mod ErrorOrders
+pub mod Counted

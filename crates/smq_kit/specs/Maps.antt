@@ -1,6 +1,6 @@
 -- Words on finite maps. An edit of a map is told by the keys at which it may change something: what is chosen of each
 -- entry for itself stays where the entry stays, and a number of values changes by what the edited keys had and have.
-use Rattle.std.specs.Prelude.{◌≡◌, ℕ, Bool, true, false, not, List, [], ◌∷◌, ◌++◌, map, filter, count_by, Option, Some, None}
+use Rattle.std.specs.Prelude.{◌≡◌, ℕ, zero, suc, Bool, true, false, not, List, [], ◌∷◌, ◌++◌, map, filter, count_by, Option, Some, None}
 use Rattle.std.specs.Option.{option_to_list}
 use Rattle.std.specs.List.{flat_map, list_any}
 use Rattle.std.specs.declared.cmp.Ordering.{Ordering}
@@ -32,6 +32,11 @@ patched m g (k ∷ ks) = patched (set_at m k (g k)) g ks
 -- how many values of a map pass a test
 abbrev pub number_of : {K X : Type 0} {R : K → K → Ordering} → (X → Bool) → fin.FinMap R X → ℕ
 number_of test m = count_by test (fin.values m)
+
+-- a number that isn't 0, or nothing
+abbrev pub positive : ℕ → Option ℕ
+positive zero = None
+positive (suc n) = Some (suc n)
 
 -- what the value at one key adds to that number: 1 where there is one and it passes the test, and else 0
 abbrev pub share : {X : Type 0} → (X → Bool) → Option X → ℕ

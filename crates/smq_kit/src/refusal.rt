@@ -34,7 +34,7 @@ pub enum Refusal {
     Ended { until: Moment },
     /// An end isn't after the beginning.
     BadEnd,
-    /// The new clock is below the present one. The clock will make it.
+    /// The new clock is below the present one.
     ClockBack { clock: Moment },
     /// The history has as many entries as its limit. The desk will make it.
     HistoryFull,

@@ -1,6 +1,6 @@
 //! How values are printed.
 use crate::report::push_value;
-use smq_book::{SubmitError, Value};
+use smq_book::{Band, SubmitError, Value};
 use smq_kit::{ErrorCode, ErrorText, LinkId, Network, RouteId};
 use std::test::Fail;
 
@@ -30,6 +30,7 @@ fn values_are_printed_by_their_form(rt: HostRuntime) -> Result<(), Fail> {
             Value::Error(SubmitError::Failed(ErrorCode::Unstated)),
             "unstated",
         ),
+        (Value::Band(Band::Under5Minutes), "under-5m"),
     ] {
         let mut line = String::from_str(rt.alloc(), "view,")?;
         push_value(&mut line, &value)?;

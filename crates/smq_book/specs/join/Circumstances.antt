@@ -1,6 +1,7 @@
 -- The circumstances of a message: all that decides what became of it, beside what it says itself.
-use Rattle.std.specs.Prelude.{ℕ, List, Option, option_map, option_and_then}
+use Rattle.std.specs.Prelude.{ℕ, ◌+◌, nat_le, Bool, List, Option, option_map, option_and_then}
 use Rattle.std.specs.FinMap as map
+use Rattle.smq_kit.specs.declared.names.LinkId.{LinkId}
 use Rattle.smq_kit.specs.declared.names.RouteId.{RouteId}
 use Rattle.smq_route.specs.Versions.{Versions, route_at}
 use Rattle.smq_book.specs.present.Settings.{SettingsValue}
@@ -8,12 +9,13 @@ use Rattle.smq_book.specs.pairing.Traffic.{Message, ReceivedReceipt, TrafficValu
 use Rattle.smq_book.specs.join.Matching.{Grouping, Standing, submit_standing, decided_by}
 use Rattle.smq_book.specs.join.Keyed.{accepted_key, grouping_of}
 
--- how it stands where it is accepted, the receipt that decides it where there is one, and the route and network of its
--- number where it has them
+-- how it stands where it is accepted, the receipt that decides it where there is one, the route and network of its number
+-- where it has them, and whether the clock has reached the end of its window
 pub record Circumstances : Type 0 where
   pub standing : Option Standing
   pub decider : Option ReceivedReceipt
   pub route : Option (RouteId × List ℕ)
+  pub lapsed : Bool
 
 -- how a message stands: not at all where it isn't accepted
 abbrev pub standing_in : Grouping → SettingsValue → Message → Option Standing
@@ -27,10 +29,19 @@ decider_in t standing = option_and_then (λ place. map.get t.receipts place) (op
 abbrev pub route_in : Versions → Message → Option (RouteId × List ℕ)
 route_in versions m = option_and_then (λ number. route_at versions number m.moment) m.number
 
+-- how long a message of a link waits for its receipt before it lapses, in ms
+abbrev pub window_of : SettingsValue → LinkId → ℕ
+window_of s link = 172_800_000
+
+-- the clock is at the end of a message's window, or past it
+abbrev pub lapsed_in : SettingsValue → Message → Bool
+lapsed_in s m = nat_le (m.moment + window_of s m.link) s.clock
+
 -- the circumstances of a message
 abbrev pub circumstances : SettingsValue → TrafficValue → Message → Circumstances
 circumstances s t m = record {
   standing = standing_in (grouping_of s t) s m;
   decider = decider_in t (standing_in (grouping_of s t) s m);
   route = route_in s.versions m;
+  lapsed = lapsed_in s m;
 }

@@ -1,11 +1,11 @@
 -- Which delivery receipts decide which accepted messages: by the keys of their ids, each on its link.
-use Rattle.std.specs.Prelude.{◌≡◌, ◌≢◌, ℕ, ◌==◌, ◌&&◌, Bool, true, false, List, map, filter, if◌then◌else◌, Option, Some, None, option_map}
+use Rattle.std.specs.Prelude.{◌≡◌, ◌≢◌, ℕ, ◌==◌, ◌&&◌, not, Bool, true, false, List, map, filter, if◌then◌else◌, Option, Some, None, option_map}
 use Rattle.std.specs.List.{reduce}
 use Rattle.std.specs.declared.cmp.Ordering.{Ordering}
 use Rattle.std.specs.FinMap as map
-use Rattle.std.specs.Ordering.{nat_cmp, ordering_then, min_by_ordering, is_gt}
+use Rattle.std.specs.Ordering.{nat_cmp, ordering_then, min_by_ordering, is_gt, eq_by_cmp}
 use Rattle.smq_kit.specs.declared.place.Place.{Place}
-use Rattle.smq_kit.specs.Maps.{number_of}
+use Rattle.smq_kit.specs.Maps.{number_of, same_option}
 use Rattle.smq_kit.specs.Orders.{place_cmp}
 use Rattle.smq_kit.specs.declared.link_key.LinkKey.{LinkKey}
 use Rattle.smq_kit.specs.LinkKeys.{same_key}
@@ -61,6 +61,27 @@ abbrev pub decided_by : Standing → Option Place
 decided_by (Single place) = place
 decided_by Shared = None
 
+-- how a delivery receipt stands: where no message is accepted with its key, it is stray; where one is, it decides that
+-- message, or is extra, if it can decide and another does, or noted, if it can't; where more are, it matches several
+pub data ReceiptStanding : Type 0 where
+  Stray : ReceiptStanding
+  Deciding : ReceiptStanding
+  Extra : ReceiptStanding
+  Noted : ReceiptStanding
+  Several : ReceiptStanding
+
+-- a delivery receipt at a place is the one that decides the messages of its key
+abbrev pub is_decider : Grouping → Place → LinkKey → Bool
+is_decider g place key = same_option (eq_by_cmp place_cmp) (decider g key) (Some place)
+
+-- the standing of a delivery receipt at a place
+abbrev pub receipt_standing : Grouping → Place → GroupedReceipt → ReceiptStanding
+receipt_standing g place r =
+    if matches g r.key == 0 then Stray
+    else if not (matches g r.key == 1) then Several
+    else if is_decider g place r.key then Deciding
+    else if r.decides then Extra else Noted
+
 -- ---- what these mean, place by place
 
 -- A message is accepted with a key at this place, and at no other.
@@ -78,3 +99,29 @@ pub record IsEarliest (g : Grouping) (key : LinkKey) (place : Place) : Type 0 wh
   pub can : CanDecide g key moment place
   pub after_none : (other_moment : ℕ) (other : Place) → CanDecide g key other_moment other
       → is_gt (candidate_cmp (moment, place) (other_moment, other)) ≡ false
+
+-- A delivery receipt stands at a place, and no message is accepted with its key.
+pub record IsStray (g : Grouping) (place : Place) : Type 0 where
+  pub receipt : GroupedReceipt
+  pub stands : map.get g.receipts place ≡ Some receipt
+  pub unmatched : (message : Place) → map.get g.submits message ≢ Some receipt.key
+
+-- A delivery receipt stands at a place, and messages at two places are accepted with its key.
+pub record MatchesSeveral (g : Grouping) (place : Place) : Type 0 where
+  pub receipt : GroupedReceipt
+  pub stands : map.get g.receipts place ≡ Some receipt
+  pub one : Place
+  pub other : Place
+  pub apart : one ≢ other
+  pub first : map.get g.submits one ≡ Some receipt.key
+  pub second : map.get g.submits other ≡ Some receipt.key
+
+-- A delivery receipt that can decide stands at a place, one message alone is accepted with its key, and another receipt
+-- decides that.
+pub record IsExtra (g : Grouping) (place : Place) : Type 0 where
+  pub receipt : GroupedReceipt
+  pub stands : map.get g.receipts place ≡ Some receipt
+  pub message : Place
+  pub alone : IsAlone g receipt.key message
+  pub can : receipt.decides ≡ true
+  pub decided : decider g receipt.key ≢ Some place

@@ -1,11 +1,13 @@
--- What became of a message, and why it failed.
-use Rattle.std.specs.Prelude.{◌==◌, not, Bool, true, false, List, [], ◌∷◌, if◌then◌else◌, Option, Some, None, is_none, is_some}
+-- What became of a message, why it failed, and how long its receipt took.
+use Rattle.std.specs.Prelude.{◌==◌, not, ℕ, pos, ◌-ℤ◌, Bool, true, false, List, [], ◌∷◌, if◌then◌else◌, Option, Some, None, is_none, is_some, option_map, option_and_then}
 use Rattle.smq_receipt.specs.declared.message_state.MessageState.{MessageState}
 use Rattle.smq_receipt.specs.declared.message_state.MessageState.TheVariants as state
-use Rattle.smq_book.specs.declared.counting.tally.Outcome.{Outcome}
-use Rattle.smq_book.specs.declared.counting.tally.Outcome.TheVariants as o
-use Rattle.smq_book.specs.declared.counting.tally.SubmitError.{SubmitError}
-use Rattle.smq_book.specs.declared.counting.tally.SubmitError.TheVariants.{Refused, Failed}
+use Rattle.smq_tally.specs.Bands.{band_of}
+use Rattle.smq_tally.specs.declared.band.Band.{Band}
+use Rattle.smq_tally.specs.declared.outcome.Outcome.{Outcome}
+use Rattle.smq_tally.specs.declared.outcome.Outcome.TheVariants as o
+use Rattle.smq_tally.specs.declared.value.SubmitError.{SubmitError}
+use Rattle.smq_tally.specs.declared.value.SubmitError.TheVariants.{Refused, Failed}
 use Rattle.smq_book.specs.pairing.Traffic.{Response, Message, ReceivedReceipt}
 use Rattle.smq_book.specs.join.Matching.{Standing, Shared}
 use Rattle.smq_book.specs.join.Circumstances.{Circumstances}
@@ -41,6 +43,7 @@ outcome_table m c =
     ∷ (says_delivered c.decider, o.Delivered)
     ∷ (is_some c.decider, o.Failed)
     ∷ (not m.asks_receipt, o.Unasked)
+    ∷ (c.lapsed, o.Lapsed)
     ∷ []
 
 -- the outcome where no condition of the table holds
@@ -61,3 +64,19 @@ abbrev pub error_by : Outcome → Option Response → Option ReceivedReceipt →
 error_by o.Refused (Some response) decider = Some (Refused response.status)
 error_by o.Failed response (Some r) = Some (Failed r.receipt.error)
 error_by _ response decider = None
+
+-- a message with this outcome was delivered or failed, as its deciding receipt says
+abbrev pub is_decided : Outcome → Bool
+is_decided o.Delivered = true
+is_decided o.Failed = true
+is_decided _ = false
+
+-- how long the deciding receipt of a message of this moment took on the link, where the receipt gave it this outcome
+abbrev pub link_delay_by : Outcome → ℕ → Option ReceivedReceipt → Option Band
+link_delay_by outcome moment decider =
+    if is_decided outcome then option_map (λ r. band_of (pos r.moment -ℤ pos moment)) decider else None
+
+-- how long the message took by the centre's own dates, where that receipt gives them
+abbrev pub centre_delay_by : Outcome → Option ReceivedReceipt → Option Band
+centre_delay_by outcome decider =
+    if is_decided outcome then option_map band_of (option_and_then (λ r. r.receipt.centre_delay) decider) else None

@@ -11,18 +11,21 @@ use Rattle.smq_kit.specs.declared.place.Dir.{Dir}
 use Rattle.smq_kit.specs.declared.place.Dir.TheVariants.{FromClient, FromCentre}
 use Rattle.smq_kit.specs.declared.place.Place.{Place}
 use Rattle.smq_kit.specs.Orders.{place_cmp}
+use Rattle.smq_frame.specs.Stream.{values}
+use Rattle.smq_frame.specs.Tail.{TailValue, tail_of}
 use Rattle.smq_pdu.specs.Header.{Header}
 use Rattle.smq_pdu.specs.Pairing.{agrees, is_request, is_response_of, is_request_of}
 use Rattle.smq_pdu.specs.declared.body.Submit.{Submit}
 use Rattle.smq_receipt.specs.declared.reading.Receipt.{Receipt}
 use Rattle.smq_pair.specs.Pairing.{PlacedHeader, PairingValue, pair_at, places_of, waiting, strays}
 use Rattle.smq_pair.specs.declared.pairing.Pair.{Pair}
-use Rattle.smq_book.specs.declared.counting.lists.List.TheVariants as list
-use Rattle.smq_book.specs.declared.counting.lists.Listed.{Listed}
+use Rattle.smq_tally.specs.declared.list.List.TheVariants as list
+use Rattle.smq_tally.specs.declared.list.Listed.{Listed}
+use Rattle.smq_book.specs.declared.present.kept.Content.{Content}
 use Rattle.smq_book.specs.declared.present.kept.KeptPdu.{KeptPdu}
 use Rattle.smq_book.specs.declared.present.session.Session.{Session}
-use Rattle.smq_book.specs.counting.Lists.{listed, listed_cmp, listed_set}
-use Rattle.smq_book.specs.present.Kept.{header_of, headers_of, kept_pdus, submit_in, id_in, receipt_in}
+use Rattle.smq_tally.specs.Lists.{listed, listed_cmp, listed_set}
+use Rattle.smq_book.specs.present.Kept.{header_of, headers_of, kept_pdus, submit_in, id_in, receipt_in, is_undecodable, is_unreadable}
 
 -- what a response says to its request: whether its command agrees, its command_status, and the message id that it gives
 pub record Response : Type 0 where
@@ -143,11 +146,49 @@ disagrees (Some pair) = not pair.agrees
 abbrev pub mismatched : PairingValue → List Place
 mismatched v = filter (λ q. disagrees (pair_at v q)) (places_of is_request v)
 
--- the notes of a session: the requests that wait, the responses that are strays, and the requests that are mismatched
-abbrev pub notes_among : PairingValue → List Listed
-notes_among v =
+-- the notes of pairs: the requests that wait, the responses that are strays, and the requests that are mismatched
+abbrev pub pairing_notes : PairingValue → List Listed
+pairing_notes v =
     map (listed list.Waiting) (waiting v) ++ map (listed list.StrayAnswers) (strays v)
     ++ map (listed list.Mismatched) (mismatched v)
+
+-- the places of the PDUs of a direction whose content passes a test
+abbrev pub places_where : (Content → Bool) → Origin → Dir → List KeptPdu → List Place
+places_where test origin dir pdus = map (place_of origin dir) (filter (λ p. test p.content) pdus)
+
+-- the places of the centre's delivery receipts without a usable id or state (4.6.1, appendix B)
+abbrev pub unreadable : Origin → List KeptPdu → List Place
+unreadable origin centre = places_where is_unreadable origin FromCentre centre
+
+-- the places of the PDUs of both directions whose body can't be read: the client's first
+abbrev pub undecodable : Origin → List KeptPdu → List KeptPdu → List Place
+undecodable origin client centre =
+    places_where is_undecodable origin FromClient client ++ places_where is_undecodable origin FromCentre centre
+
+-- the notes of contents: the receipts that are unreadable, and the PDUs that are undecodable
+abbrev pub content_notes : Origin → List KeptPdu → List KeptPdu → List Listed
+content_notes origin client centre =
+    map (listed list.Unreadable) (unreadable origin centre)
+    ++ map (listed list.Undecodable) (undecodable origin client centre)
+
+-- the notes of a session whose PDUs are these
+abbrev pub notes_among : Origin → List KeptPdu → List KeptPdu → List Listed
+notes_among origin client centre =
+    pairing_notes (pairing_among origin client centre) ++ content_notes origin client centre
+
+-- the place at which a direction with this tail is broken, where it is: that of a bad length, whatever comes after it
+abbrev pub broken_at : Origin → Dir → TailValue → Option Place
+broken_at origin dir tail =
+    option_map (λ offset. record { session = origin.session; dir = dir; offset = offset }) tail.broken
+
+-- the places at which the directions of a session with these tails are broken: the client's first
+abbrev pub broken : Origin → TailValue → TailValue → List Place
+broken origin client centre =
+    option_to_list (broken_at origin FromClient client) ++ option_to_list (broken_at origin FromCentre centre)
+
+-- the notes of directions: where they are broken
+abbrev pub broken_notes : Origin → TailValue → TailValue → List Listed
+broken_notes origin client centre = map (listed list.Broken) (broken origin client centre)
 
 -- ---- of all sessions
 
@@ -167,9 +208,11 @@ session_receipts e = receipts_among (origin_of e) (kept_pdus e.1.centre)
 abbrev pub session_pairing : ℕ × Session → PairingValue
 session_pairing e = pairing_among (origin_of e) (kept_pdus e.1.client) (kept_pdus e.1.centre)
 
--- its notes
+-- its notes: those of its PDUs, and where its directions are broken
 abbrev pub session_notes : ℕ × Session → List Listed
-session_notes e = notes_among (session_pairing e)
+session_notes e =
+    notes_among (origin_of e) (kept_pdus e.1.client) (kept_pdus e.1.centre)
+    ++ broken_notes (origin_of e) (tail_of (values e.1.client)) (tail_of (values e.1.centre))
 
 -- the traffic of these messages, receipts and notes
 abbrev pub traffic_among : List (Place × Message) → List (Place × ReceivedReceipt) → List Listed → TrafficValue

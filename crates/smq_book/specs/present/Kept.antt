@@ -1,5 +1,5 @@
 -- What is kept of a PDU, and what it says.
-use Rattle.std.specs.Prelude.{ℕ, List, map, Option, Some, None, option_and_then}
+use Rattle.std.specs.Prelude.{ℕ, Bool, true, false, List, map, Option, Some, None, option_map, option_and_then, unwrap_or}
 use Rattle.smq_frame.specs.Stream.{Octet}
 use Rattle.smq_pdu.specs.Header.{Header}
 use Rattle.smq_pdu.specs.Bodies.{BodyValue, SubmitBody, SubmitAnswerBody, DeliverBody, OtherBody, UndecodableBody}
@@ -45,7 +45,7 @@ header_of p = record { command = p.command; status = p.status; seq = p.seq }
 abbrev pub headers_of : List KeptPdu → List Header
 headers_of pdus = map header_of pdus
 
--- ---- what a PDU says: these three alone know the cases of its content
+-- ---- what a PDU says: these four alone know the cases of its content
 
 -- the submit_sm that it is, where it can be decoded (SMPP 3.4, 4.4.1)
 abbrev pub submit_in : Content → Option Submit
@@ -62,6 +62,11 @@ abbrev pub reading_in : Content → Option Reading
 reading_in (c.Deliver reading) = Some reading
 reading_in _ = None
 
+-- whether its body can't be read: it is a submit_sm or deliver_sm whose mandatory fields don't fit
+abbrev pub is_undecodable : Content → Bool
+is_undecodable c.Undecodable = true
+is_undecodable _ = false
+
 -- the receipt of a reading that has an id and a state
 abbrev pub receipt_read : Reading → Option Receipt
 receipt_read (v.Receipt receipt) = Some receipt
@@ -70,3 +75,13 @@ receipt_read _ = None
 -- the delivery receipt that a PDU is, where it says which message it is of and what became of it
 abbrev pub receipt_in : Content → Option Receipt
 receipt_in content = option_and_then receipt_read (reading_in content)
+
+-- whether a reading is of a receipt without a usable id or state
+abbrev pub is_unusable : Reading → Bool
+is_unusable v.NoId = true
+is_unusable v.NoState = true
+is_unusable _ = false
+
+-- whether a PDU is a delivery receipt that doesn't say which message it is of, or what became of it
+abbrev pub is_unreadable : Content → Bool
+is_unreadable content = unwrap_or (option_map is_unusable (reading_in content)) false

@@ -1,14 +1,14 @@
 -- What refuses an edit: its refusals in the order in which they are tested, of which the first that holds is told. Who
 -- adds one puts it at the place at which the code tests it; what a piece alone decides stands in Batch, and what refuses an
 -- edit of routes in smq_route.
-use Rattle.std.specs.Prelude.{◌≡◌, ◌≤◌, ◌==◌, not, nat_lt, is_none, List, [], ◌∷◌, length, Option, Some, None, Result}
+use Rattle.std.specs.Prelude.{◌≡◌, ◌≤◌, ◌==◌, not, ℕ, nat_lt, is_none, List, [], ◌∷◌, length, Option, Some, None, Result}
 use Rattle.smq_kit.specs.declared.names.LinkId.{LinkId}
 use Rattle.smq_kit.specs.declared.refusal.Refusal.{Refusal}
-use Rattle.smq_kit.specs.declared.refusal.Refusal.TheVariants.{OtherLink, OutOfStep, Backward, NoSession}
+use Rattle.smq_kit.specs.declared.refusal.Refusal.TheVariants.{OtherLink, OutOfStep, Backward, NoSession, ClockBack}
 use Rattle.smq_frame.specs.Stream.{Octet, values}
 use Rattle.smq_frame.specs.Tail.{tails_equal, tail_of}
 use Rattle.smq_book.specs.declared.present.edit.Edit.{Edit}
-use Rattle.smq_book.specs.declared.present.edit.Edit.TheVariants.{Append, Withdraw, SetForm, AddRoute, EndRoute, CorrectRoute}
+use Rattle.smq_book.specs.declared.present.edit.Edit.TheVariants.{Append, Withdraw, SetForm, AddRoute, EndRoute, CorrectRoute, Advance}
 use Rattle.smq_book.specs.declared.present.session.Session.{Session}
 use Rattle.smq_kit.specs.Replies.{IsReply, IsReplyInPlace, first_of, refused_if}
 use Rattle.smq_route.specs.Edits.{add_refusals, end_refusals, correct_refusals}
@@ -45,6 +45,10 @@ append_refusals session batch =
 abbrev pub no_session : Option Session → Option Refusal
 no_session session = refused_if (is_none session) NoSession
 
+-- the new clock is below the present one, which the refusal tells
+abbrev pub clock_back : ℕ → ℕ → Option Refusal
+clock_back present clock = refused_if (nat_lt clock present) (ClockBack present)
+
 -- the first refusal of an edit that holds, want of memory aside
 abbrev pub reply : PresentValue → Edit → Option Refusal
 reply p (Append batch) = first_of (append_refusals (session_of p batch.session.0) batch)
@@ -55,6 +59,7 @@ reply p (EndRoute prefix from until) =
     first_of (end_refusals (version_of p.settings.versions prefix from) from until)
 reply p (CorrectRoute prefix from route network) =
     first_of (correct_refusals (version_of p.settings.versions prefix from))
+reply p (Advance clock) = clock_back p.settings.clock clock
 
 -- What an edit comes to. One that takes something away or changes it where it stands takes no memory, and is made or
 -- refused; any other may be refused for want of memory too.
@@ -66,6 +71,7 @@ IsReplyTo (AddRoute prefix from route network) refusal result Made Unchanged = I
 IsReplyTo (EndRoute prefix from until) refusal result Made Unchanged = IsReplyInPlace refusal result Made Unchanged
 IsReplyTo (CorrectRoute prefix from route network) refusal result Made Unchanged =
     IsReplyInPlace refusal result Made Unchanged
+IsReplyTo (Advance clock) refusal result Made Unchanged = IsReplyInPlace refusal result Made Unchanged
 
 -- A batch goes after its direction: its session is present under no other link, its tail is the direction's, and its
 -- moment isn't below the direction's last.

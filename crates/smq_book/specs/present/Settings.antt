@@ -1,4 +1,4 @@
--- What is set: the forms in which the centres of links write message ids, and the dated routes of prefixes.
+-- What is set: the forms in which the centres of links write message ids, the dated routes of prefixes, and the clock.
 use Rattle.std.specs.Prelude.{ℕ, Option, unwrap_or, refl}
 use Rattle.std.specs.Coded.{Coded, code_by, coded×, coded_ℕ}
 use Rattle.std.specs.FinMap as map
@@ -10,21 +10,24 @@ use Rattle.smq_route.specs.Versions.{Versions}
 use Rattle.smq_book.specs.contracts.present.forms.Forms as forms_block
 use Rattle.smq_book.specs.declared.present.forms.Forms.{Forms}
 
--- the forms that were set, by the numbers of their links, and the versions of routes
+-- the forms that were set, by the numbers of their links, the versions of routes, and the clock: the moment up to which
+-- what is present is known
 pub record SettingsValue : Type 0 where
   pub forms : map.FinMap nat_cmp Forms
   pub versions : Versions
+  pub clock : ℕ
 
--- what is set is stored as these forms and these routes
+-- what is set is stored as these forms, these routes and this number
 abbrev pub settings_code : Coded SettingsValue
 settings_code =
-    code_by (map.FinMap nat_cmp Forms × RoutesValue)
-    (coded× (map.code coded_ℕ (forms_block.the_row).coded) routes_code)
-    (λ s. (s.forms, record { versions = s.versions })) (λ m. record { forms = m.0; versions = m.1.versions }) (λ _. refl)
+    code_by (map.FinMap nat_cmp Forms × (RoutesValue × ℕ))
+    (coded× (map.code coded_ℕ (forms_block.the_row).coded) (coded× routes_code coded_ℕ))
+    (λ s. (s.forms, (record { versions = s.versions }, s.clock)))
+    (λ m. record { forms = m.0; versions = m.1.0.versions; clock = m.1.1 }) (λ _. refl)
 
--- nothing is set
+-- nothing is set, and the clock is at the opening moment
 abbrev pub opening_settings : SettingsValue
-opening_settings = record { forms = map.empty; versions = map.empty }
+opening_settings = record { forms = map.empty; versions = map.empty; clock = 0 }
 
 -- the forms of a link whose forms were never set: both verbatim
 abbrev pub opening_forms : Forms
@@ -37,6 +40,10 @@ set_forms_of s number = map.get s.forms number
 -- settings with these versions of routes
 abbrev pub with_versions : SettingsValue → Versions → SettingsValue
 with_versions s versions = record s { versions = versions }
+
+-- settings with this clock
+abbrev pub with_clock : SettingsValue → ℕ → SettingsValue
+with_clock s clock = record s { clock = clock }
 
 -- the forms of a link's message ids
 abbrev pub forms_of : SettingsValue → LinkId → Forms

@@ -15,12 +15,12 @@ use Rattle.smq_route.specs.declared.version.VersionKey.{VersionKey}
 use Rattle.smq_route.specs.Edits.{added, changed, ending, corrected}
 use Rattle.smq_route.specs.Versions.{key_at, version_of}
 use Rattle.smq_book.specs.declared.present.edit.Edit.{Edit}
-use Rattle.smq_book.specs.declared.present.edit.Edit.TheVariants.{Append, Withdraw, SetForm, AddRoute, EndRoute, CorrectRoute}
+use Rattle.smq_book.specs.declared.present.edit.Edit.TheVariants.{Append, Withdraw, SetForm, AddRoute, EndRoute, CorrectRoute, Advance}
 use Rattle.smq_book.specs.declared.present.session.Session.{Session}
 use Rattle.smq_book.specs.present.Batch.{BatchValue}
 use Rattle.smq_book.specs.declared.present.forms.Forms.{Forms}
 use Rattle.smq_book.specs.present.Present.{PresentValue, session_of, link_of, octets_of}
-use Rattle.smq_book.specs.present.Settings.{SettingsValue, set_forms_of, with_versions}
+use Rattle.smq_book.specs.present.Settings.{SettingsValue, set_forms_of, with_versions, with_clock}
 use Rattle.smq_book.specs.present.Replies.{reply}
 
 -- a session with octets put after one direction
@@ -52,6 +52,7 @@ change p (EndRoute prefix from until) =
     record p { settings = with_versions p.settings (changed p.settings.versions prefix from (ending until)) }
 change p (CorrectRoute prefix from route network) =
     record p { settings = with_versions p.settings (changed p.settings.versions prefix from (corrected route network)) }
+change p (Advance clock) = record p { settings = with_clock p.settings clock }
 
 -- the plain change, or none where there is a refusal
 abbrev pub step_unless : Option Refusal → PresentValue → Edit → PresentValue
@@ -119,6 +120,11 @@ pub record CorrectsRoute (old new : PresentValue) (prefix : List ℕ) (from : �
       → map.get new.settings.versions key ≡ map.get old.settings.versions key
   pub rest : new ≡ record old { settings = record old.settings { versions = new.settings.versions } }
 
+-- The clock is this one. Nothing else changes: no session, and nothing else that is set.
+pub record Advances (old new : PresentValue) (clock : ℕ) : Type 0 where
+  pub there : new.settings.clock ≡ clock
+  pub rest : new ≡ record old { settings = record old.settings { clock = new.settings.clock } }
+
 -- ---- edits of one session, and of two
 
 -- whether an edit puts octets into a session
@@ -129,6 +135,7 @@ is_append_to session (SetForm link response receipt) = false
 is_append_to session (AddRoute prefix from route network) = false
 is_append_to session (EndRoute prefix from until) = false
 is_append_to session (CorrectRoute prefix from route network) = false
+is_append_to session (Advance clock) = false
 
 -- What was appended to a session before it is withdrawn leaves nothing: what is present is then what withdrawing it at
 -- first leaves.

@@ -7,7 +7,7 @@ use Rattle.smq_kit.specs.declared.link_key.LinkKey.{LinkKey}
 use Rattle.smq_kit.specs.LinkKeys.{same_key, by_key}
 use Rattle.smq_book.specs.within.Messages.{SubmittedMessage}
 use Rattle.smq_book.specs.within.Receipts.{PlacedReceipt, KeyedReceipt, candidates, least_receipt, earlier}
-use Rattle.smq_book.specs.counting.Tables.{positive}
+use Rattle.smq_kit.specs.Maps.{positive}
 
 -- a submitted message is accepted with this key
 abbrev pub accepted_with : LinkKey → SubmittedMessage → Bool

@@ -1,40 +1,7 @@
--- Whether tables, facts and forms are equal.
-use Rattle.std.specs.Prelude.{ℕ, Bool, ◌&&◌, nat_eq}
-use Rattle.std.specs.Cmp.{IsEquivalence}
-use Rattle.std.specs.Cmp.Lexicographic.{pointwise}
-use Rattle.std.proofs.lemmas.Cmp.{on_equiv, and_equiv, lists_equiv, eq_by_cmp_equiv, nat_eq_equiv}
-use Rattle.std.specs.FinMap as fin
-use Rattle.smq_book.specs.declared.counting.tally.CountKey.{CountKey}
-use Rattle.smq_book.specs.declared.counting.tally.Fact.{Fact}
-use Rattle.smq_book.specs.contracts.counting.tally.FactPartialEq.TheImpl as fact_block
+-- Whether forms are equal.
+use Rattle.std.specs.Prelude.{Bool}
 use Rattle.smq_book.specs.declared.present.forms.Forms.{Forms}
 use Rattle.smq_book.specs.contracts.present.forms.FormsPartialEq.TheImpl as forms_block
-use Rattle.smq_book.specs.counting.Rows.{same_count_key}
-use Rattle.smq_book.specs.counting.Tables.{TablesValue}
-use Rattle.smq_book.specs.within.CountOrder.{count_keys_total}
-use Rattle.smq_book.specs.within.ListOrder.{same_listed, listed_total}
-
--- whether two entries are the same key with the same count
-abbrev pub same_entry : CountKey × ℕ → CountKey × ℕ → Bool
-same_entry p q = same_count_key p.0 q.0 && nat_eq p.1 q.1
-
--- whether two tables have the same keys with the same counts, and the same listed places
-abbrev pub tables_eq : TablesValue → TablesValue → Bool
-tables_eq t u =
-    pointwise same_entry (fin.entries t.counts) (fin.entries u.counts)
-    && pointwise same_listed (fin.keys t.places) (fin.keys u.places)
-
--- that is an equivalence
-pub tables_eq_laws : IsEquivalence tables_eq
-tables_eq_laws =
-    and_equiv
-    (on_equiv (λ t. fin.entries t.counts)
-    (lists_equiv (and_equiv (on_equiv (λ p. p.0) (eq_by_cmp_equiv count_keys_total)) (on_equiv (λ p. p.1) nat_eq_equiv))))
-    (on_equiv (λ t. fin.keys t.places) (lists_equiv (eq_by_cmp_equiv listed_total)))
-
--- `==` of facts
-abbrev pub fact_eq : Fact → Fact → Bool
-fact_eq = (fact_block.ghosts).eq
 
 -- `==` of forms
 abbrev pub forms_eq : Forms → Forms → Bool

@@ -1,21 +1,24 @@
 -- What is known of the messages that are present, as lists over all sessions: stated apart from the definitions by place,
 -- and the same.
-use Rattle.std.specs.Prelude.{ℕ, List}
+use Rattle.std.specs.Prelude.{ℕ, List, ◌++◌}
+use Rattle.std.specs.Prelude.{map as map_list}
 use Rattle.std.specs.List.{flat_map}
 use Rattle.std.specs.FinMap as map
-use Rattle.smq_book.specs.declared.counting.lists.Listed.{Listed}
-use Rattle.smq_book.specs.declared.counting.tally.Fact.{Fact}
+use Rattle.smq_kit.specs.declared.place.Place.{Place}
+use Rattle.smq_tally.specs.declared.list.Listed.{Listed}
+use Rattle.smq_tally.specs.declared.fact.Fact.{Fact}
 use Rattle.smq_book.specs.declared.join.source.Source.{Source}
 use Rattle.smq_book.specs.declared.present.session.Session.{Session}
 use Rattle.smq_book.specs.present.Kept.{kept_pdus}
 use Rattle.smq_book.specs.present.Present.{PresentValue}
 use Rattle.smq_book.specs.present.Settings.{SettingsValue, forms_of}
-use Rattle.smq_book.specs.counting.Tables.{TablesValue}
+use Rattle.smq_tally.specs.Lists.{listed_set}
+use Rattle.smq_tally.specs.Tables.{TablesValue, tables_of}
 use Rattle.smq_book.specs.pairing.Traffic.{session_notes}
-use Rattle.smq_book.specs.within.Counting.{tables_among}
 use Rattle.smq_book.specs.within.Messages.{SubmittedMessage, submits_among}
 use Rattle.smq_book.specs.within.Receipts.{KeyedReceipt, receipts_among}
 use Rattle.smq_book.specs.within.Outcomes.{facts_among}
+use Rattle.smq_book.specs.within.Listings.{note_of}
 
 -- a session with its link and that link's forms
 abbrev pub source_of : SettingsValue → ℕ × Session → Source
@@ -43,8 +46,17 @@ notes_of p = flat_map session_notes (map.entries p.sessions)
 
 -- a fact of each submitted message that is present
 abbrev pub facts_listed : PresentValue → List Fact
-facts_listed p = facts_among p.settings.versions (submits_of p) (receipts_of p)
+facts_listed p = facts_among p.settings (submits_of p) (receipts_of p)
 
--- the tables of these facts and of the notes
+-- the delivery receipts that are present and want looking at, in their lists
+abbrev pub receipt_notes_listed : PresentValue → List Listed
+receipt_notes_listed p = flat_map (note_of (submits_of p) (receipts_of p)) (receipts_of p)
+
+-- a fact with its place
+abbrev pub placed_fact : Fact → Place × Fact
+placed_fact f = (f.place, f)
+
+-- the tables of these facts, of the notes and of these receipts
 abbrev pub tables_listed : PresentValue → TablesValue
-tables_listed p = tables_among (facts_listed p) (notes_of p)
+tables_listed p =
+    tables_of (map.from_entries (map_list placed_fact (facts_listed p))) (listed_set (notes_of p ++ receipt_notes_listed p))

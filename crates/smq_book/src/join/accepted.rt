@@ -47,7 +47,8 @@ impl Accepted {
         Ok(())
     }
 
-    fn number(&self, key: &LinkKey) -> u64
+    /// How many messages are accepted with the key.
+    pub(crate) fn number(&self, key: &LinkKey) -> u64
         ensures { result ≡ number_kept self.now.numbers key.now }
     {
         match self.numbers.get(key) {

@@ -7,7 +7,7 @@ ghost use Rattle.smq_book.specs.join.Facts as by_place;
 ghost use Rattle.smq_book.specs.join.Outcomes as outcomes;
 ghost use Rattle.smq_book.specs.pairing.Traffic.{traffic_of};
 ghost use Rattle.smq_book.specs.within.Accepted.{HasNumbers, HasDeciders};
-ghost use Rattle.smq_book.specs.within.Lists.{facts_listed, submits_of};
+ghost use Rattle.smq_book.specs.within.Lists.{facts_listed, receipts_of, submits_of};
 ghost use Rattle.smq_book.specs.within.Messages.{SubmittedMessage as Submit};
 ghost use Rattle.smq_book.specs.within.Outcomes as listed;
 ghost use Rattle.smq_book.specs.within.Receipts.{KeyedReceipt};
@@ -18,7 +18,7 @@ use crate::join::receipts::PlacedReceipt;
 use crate::join::submits::SubmittedMessage;
 use crate::join::traffic::read_sessions;
 use crate::present::settings::Settings;
-use crate::{Fact, KeptPdu, Outcome, Present, SubmitError};
+use crate::{Band, Fact, KeptPdu, Outcome, Present, SubmitError};
 use smq_kit::{Network, RouteId};
 use smq_pdu::agrees;
 use smq_receipt::MessageState;
@@ -30,20 +30,27 @@ pub(crate) fn facts_of(alloc: Global, present: &Present) -> Result<Vec<Fact>, Al
         ≡ map.values (by_place.facts_of present.now.settings (traffic_of present.now.sessions))) }
 {
     let traffic = read_sessions(alloc, present)?;
-    facts_with(alloc, present, traffic.submits.as_slice())
+    let submits = traffic.submits.as_slice();
+    let accepted = Accepted::of_submits(alloc, submits)?;
+    let deciders = Deciders::of_present(alloc, present)?;
+    facts_with(alloc, present, submits, &accepted, &deciders)
 }
 
-/// The same facts, where these are the submitted messages.
+/// The same facts, where these are the submitted messages, how many are accepted with each key, and what decides them.
 pub(crate) fn facts_with(
     alloc: Global,
     present: &Present,
     submits: &[SubmittedMessage<'_>],
+    accepted: &Accepted,
+    deciders: &Deciders<'_>,
 ) -> Result<Vec<Fact>, AllocError>
-    requires { submits.now ≡ submits_of present.now }
+    requires submits { submits.now ≡ submits_of present.now }
+    requires numbers { HasNumbers accepted.now.numbers submits.now }
+    requires deciders { HasDeciders deciders.now.receipts (receipts_of present.now) }
     ensures { IfOk result (λ made. made.items
         ≡ map.values (by_place.facts_of present.now.settings (traffic_of present.now.sessions))) }
 {
-    joined(alloc, present, submits)
+    joined(alloc, present, submits, accepted, deciders)
 }
 
 /// The submitted messages joined with the receipts that decide them.
@@ -51,12 +58,15 @@ fn joined(
     alloc: Global,
     present: &Present,
     submits: &[SubmittedMessage<'_>],
+    accepted: &Accepted,
+    deciders: &Deciders<'_>,
 ) -> Result<Vec<Fact>, AllocError>
-    requires { submits.now ≡ submits_of present.now }
+    requires submits { submits.now ≡ submits_of present.now }
+    requires numbers { HasNumbers accepted.now.numbers submits.now }
+    requires deciders { HasDeciders deciders.now.receipts (receipts_of present.now) }
     ensures { IfOk result (λ facts. facts.items ≡ facts_listed present.now) }
 {
-    let deciders = Deciders::of_present(alloc, present)?;
-    facts_among(alloc, present.settings(), submits, &deciders)
+    facts_among(alloc, present.settings(), submits, accepted, deciders)
 }
 
 /// What is known of each of these messages, in their order.
@@ -64,16 +74,17 @@ fn facts_among(
     alloc: Global,
     settings: &Settings,
     submits: &[SubmittedMessage<'_>],
+    accepted: &Accepted,
     deciders: &Deciders<'_>,
 ) -> Result<Vec<Fact>, AllocError>
+    requires { HasNumbers accepted.now.numbers submits.now }
     ensures { (receipts : List KeyedReceipt) → HasDeciders deciders.now.receipts receipts
         → IfOk result (λ facts. facts.items
-        ≡ listed.facts_among settings.now.versions submits.now receipts) }
+        ≡ listed.facts_among settings.now submits.now receipts) }
 {
-    let accepted = Accepted::of_submits(alloc, submits)?;
     let mut facts = Vec::with_capacity(alloc, submits.len())?;
     for submit in submits {
-        facts.push(fact_of(settings, submit, &accepted, deciders))?;
+        facts.push(fact_of(settings, submit, accepted, deciders))?;
     }
     Ok(facts)
 }
@@ -87,51 +98,57 @@ fn fact_of(
 ) -> Fact
     ensures { (submits : List Submit) (receipts : List KeyedReceipt)
         → HasNumbers accepted.now.numbers submits → HasDeciders deciders.now.receipts receipts
-        → result ≡ listed.fact_of settings.now.versions submits receipts submit.now }
+        → result ≡ listed.fact_of settings.now submits receipts submit.now }
 {
     let route = submit.route(settings);
+    let lapsed = submit.has_lapsed(settings);
     let Some(key) = submit.key() else {
-        return fact_by(submit, route, false, None);
+        return fact_by(submit, route, lapsed, false, None);
     };
     if accepted.is_single(&key) {
-        fact_by(submit, route, false, deciders.receipt(&key))
+        fact_by(submit, route, lapsed, false, deciders.receipt(&key))
     } else {
-        fact_by(submit, route, true, None)
+        fact_by(submit, route, lapsed, true, None)
     }
 }
 
-/// What is known of a message, by its route and network, whether it is ambiguous, and its deciding receipt.
+/// What is known of a message, by its route and network, whether it has lapsed, whether it is ambiguous, and its deciding
+/// receipt.
 fn fact_by(
     submit: &SubmittedMessage<'_>,
     route: Option<(RouteId, Network)>,
+    lapsed: bool,
     ambiguous: bool,
     decider: Option<&PlacedReceipt<'_>>,
 ) -> Fact
-    ensures { result ≡ listed.fact_by submit.now route ambiguous (option_copied decider.entry) }
+    ensures { result
+        ≡ listed.fact_by submit.now route lapsed ambiguous (option_copied decider.entry) }
 {
-    let outcome = outcome(submit, ambiguous, decider);
+    let outcome = outcome(submit, lapsed, ambiguous, decider);
     let (route, network) = match route {
         Some((route, network)) => (Some(route), Some(network)),
         None => (None, None),
     };
     Fact {
         place: submit.place(),
-        moment: submit.request.moment,
         link: submit.source.link,
         route,
         network,
         outcome,
         error: error(outcome, submit.response, decider),
+        link_delay: link_delay(outcome, submit, decider),
+        centre_delay: centre_delay(outcome, decider),
     }
 }
 
 /// The outcome of the first condition that holds, in the order of the table of outcomes.
 fn outcome(
     submit: &SubmittedMessage<'_>,
+    lapsed: bool,
     ambiguous: bool,
     decider: Option<&PlacedReceipt<'_>>,
 ) -> Outcome
-    ensures { result ≡ listed.outcome_by submit.now ambiguous (option_copied decider.entry) }
+    ensures { result ≡ listed.outcome_by submit.now lapsed ambiguous (option_copied decider.entry) }
 {
     let Some(response) = submit.response else {
         return Outcome::Waiting;
@@ -158,6 +175,9 @@ fn outcome(
     if !submit.asks_receipt() {
         return Outcome::Unasked;
     }
+    if lapsed {
+        return Outcome::Lapsed;
+    }
     Outcome::Open
 }
 
@@ -175,6 +195,32 @@ fn error(
             status: response?.status,
         }),
         Outcome::Failed => Some(SubmitError::Failed(decider?.receipt.error.copy())),
+        _ => None,
+    }
+}
+
+/// The band of how long the deciding receipt took on the link, where it gave the message this outcome.
+fn link_delay(
+    outcome: Outcome,
+    submit: &SubmittedMessage<'_>,
+    decider: Option<&PlacedReceipt<'_>>,
+) -> Option<Band>
+    ensures { result ≡ listed.link_delay_by outcome submit.now (option_copied decider.entry) }
+{
+    match outcome {
+        Outcome::Delivered | Outcome::Failed => {
+            Some(Band::of(decider?.delay_after(submit.request.moment)))
+        }
+        _ => None,
+    }
+}
+
+/// The band of how long the message took by the dates of that receipt, where it gives them.
+fn centre_delay(outcome: Outcome, decider: Option<&PlacedReceipt<'_>>) -> Option<Band>
+    ensures { result ≡ listed.centre_delay_by outcome (option_copied decider.entry) }
+{
+    match outcome {
+        Outcome::Delivered | Outcome::Failed => Some(Band::of(decider?.receipt.centre_delay?)),
         _ => None,
     }
 }

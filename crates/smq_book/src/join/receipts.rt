@@ -4,6 +4,7 @@ ghost use Rattle.std.specs.Option.{option_to_list};
 ghost use Rattle.std.specs.Ordering.{is_gt};
 ghost use Rattle.smq_book.specs.present.Kept.{receipt_in};
 ghost use Rattle.smq_book.specs.join.Keyed as keyed;
+ghost use Rattle.smq_book.specs.within.Outcomes.{delay_after};
 ghost use Rattle.smq_book.specs.within.Receipts.{receipt_cmp, receipt_by};
 
 use crate::KeptPdu;
@@ -34,6 +35,13 @@ impl<'a> PlacedReceipt<'a> {
         ensures { result ≡ keyed.can_decide self.now.receipt }
     {
         self.receipt.state.is_final() && !self.receipt.interim
+    }
+
+    /// The delay in ms from a moment to its own, which is negative where it stands before it.
+    pub(crate) fn delay_after(&self, moment: Moment) -> i64
+        ensures { result ≡ delay_after moment self.now }
+    {
+        self.moment.milliseconds() as i64 - moment.milliseconds() as i64
     }
 
     /// Whether it comes after another, by moment, then by place.

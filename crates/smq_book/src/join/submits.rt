@@ -7,7 +7,7 @@ ghost use Rattle.smq_book.specs.pairing.Traffic as traffic;
 ghost use Rattle.smq_book.specs.pairing.Traffic.{pairing_among};
 ghost use Rattle.smq_book.specs.within.Messages as messages;
 ghost use Rattle.smq_book.specs.within.Messages.{submit_with, submits_among};
-ghost use Rattle.smq_book.specs.within.Outcomes.{route_of};
+ghost use Rattle.smq_book.specs.within.Outcomes.{route_of, has_lapsed};
 ghost use Rattle.smq_book.specs.within.Pairs.{Rises, SubmitsAreRequests, from_session, response_at};
 
 use crate::KeptPdu;
@@ -19,6 +19,9 @@ use smq_pair::Pairing;
 use smq_pdu::{Submit, agrees};
 use std::alloc::AllocError;
 use std::marker::Model;
+
+/// How long a message waits for its receipt before it lapses, in ms: 48 hours.
+pub const LAPSE_WINDOW: u64 = 172_800_000;
 
 /// A submitted message: a decodable submit_sm of the client, as it is kept, with its response where it has one.
 #[derive(Drop)]
@@ -64,6 +67,13 @@ impl<'a> SubmittedMessage<'a> {
     {
         let number = self.submit.number.as_ref()?;
         settings.route_at(number, self.request.moment)
+    }
+
+    /// Whether the clock is at the end of its window, or past it.
+    pub(crate) fn has_lapsed(&self, settings: &Settings) -> bool
+        ensures { result ≡ has_lapsed settings.now self.now }
+    {
+        self.request.moment.milliseconds() + LAPSE_WINDOW <= settings.clock().milliseconds()
     }
 
     /// The key of its id, where it is accepted.

@@ -1,10 +1,9 @@
 //! What the sessions that are present say, in one pass: the submitted messages and the notes. Receipts are read apart.
 ghost use Rattle.std.specs.Prelude.{◌≡◌, ◌++◌, IfOk, OnOk};
 ghost use Rattle.smq_book.specs.present.Kept.{kept_pdus};
-ghost use Rattle.smq_book.specs.pairing.Traffic.{notes_among, pairing_among};
+ghost use Rattle.smq_book.specs.pairing.Traffic.{session_notes};
 ghost use Rattle.smq_book.specs.within.Lists.{notes_of, submits_of};
 ghost use Rattle.smq_book.specs.within.Messages.{submits_among};
-ghost use Rattle.smq_book.specs.within.Pairs.{from_session};
 
 use crate::join::source::Source;
 use crate::join::submits::{SubmittedMessage, push_submits};
@@ -44,13 +43,12 @@ fn read_session<'a>(
     ensures submits { OnOk result (submits.new.items ≡ submits.old.items
         ++ submits_among source (kept_pdus session.now.client) (kept_pdus session.now.centre)) }
     ensures notes { OnOk result (notes.new.items ≡ notes.old.items
-        ++ notes_among (pairing_among (from_session source.session)
-        (kept_pdus session.now.client) (kept_pdus session.now.centre))) }
+        ++ session_notes (source.session.0, session.now)) }
 {
     let alloc = *submits.allocator();
     let client = session.client.pdus();
     let centre = session.centre.pdus();
     let mut pairing = pairing_of(alloc, source.session, client, centre)?;
     push_submits(submits, source, &mut pairing, client, centre)?;
-    push_notes(notes, &mut pairing, source.session, client, centre)
+    push_notes(notes, &mut pairing, source.session, session)
 }

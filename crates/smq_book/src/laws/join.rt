@@ -1,22 +1,23 @@
 //! Laws of what became of messages: which key is single, which receipt decides, what a fact rests on and what a change
 //! leaves, and known outcomes.
-ghost use Rattle.std.specs.Prelude.{◌≡◌, ◌≢◌, ℕ, ◌==◌, ◌↔◌, ◌++◌, ◌∷◌, [], List, Some, None, IsTrue, map, option_map};
+ghost use Rattle.std.specs.Prelude.{◌≡◌, ◌≢◌, ℕ, ◌+◌, ◌<◌, ◌≤◌, nat_le, ◌==◌, ◌↔◌, ◌⊎◌, ◌++◌, ◌∷◌, [], List, Some, None, IsTrue, is_some, map, option_map, pos, ◌-ℤ◌};
 ghost use Rattle.std.specs.FinMap as fin;
 ghost use Rattle.smq_kit.specs.Maps.{SameOutside, patched};
 ghost use Rattle.smq_kit.specs.declared.link_key.LinkKey.{LinkKey};
 ghost use Rattle.smq_route.specs.Versions.{Versions, route_at};
 ghost use Rattle.smq_book.specs.Known.{KnownOutcomes, KnownReceipts};
-ghost use Rattle.smq_book.specs.counting.Rows.{outcome_place};
-ghost use Rattle.smq_book.specs.present.Settings.{SettingsValue, with_versions, forms_of};
+ghost use Rattle.smq_tally.specs.Bands.{band_of};
+ghost use Rattle.smq_tally.specs.Rows.{outcome_place};
+ghost use Rattle.smq_book.specs.present.Settings.{SettingsValue, with_versions, with_clock, forms_of};
 ghost use Rattle.smq_book.specs.pairing.Traffic.{Message, ReceivedReceipt, TrafficValue};
-ghost use Rattle.smq_book.specs.join.Circumstances.{Circumstances, circumstances, route_in};
-ghost use Rattle.smq_book.specs.join.Facts.{fact_by, facts_of, with_route};
+ghost use Rattle.smq_book.specs.join.Circumstances.{Circumstances, circumstances, route_in, window_of};
+ghost use Rattle.smq_book.specs.join.Facts.{fact_by, facts_of, with_route, with_lapse};
 ghost use Rattle.smq_book.specs.join.Keyed.{grouping_of};
 ghost use Rattle.smq_book.specs.join.Matching.{Grouping, CanDecide, IsAlone, IsEarliest, decider, matches};
 ghost use Rattle.smq_book.specs.join.Moves.{IsMove, changes_of, standings_of, put_message, take_message, put_receipt, take_receipt};
 ghost use Rattle.smq_book.specs.join.Outcomes.{outcome_table, last_outcome};
 
-use crate::Fact;
+use crate::{Fact, Outcome};
 use smq_kit::{LinkId, Place};
 
 /// Of a message that is accepted with a key, the key is single exactly where no other message is accepted with it.
@@ -73,7 +74,7 @@ pub fn moves_leave_other_facts()
 /// The forms of a link alone change no fact where none of its messages and receipts is present.
 pub fn forms_of_other_links_are_idle()
     ensures { (s z : SettingsValue) (t : TrafficValue) (link : LinkId)
-        → s.versions ≡ z.versions
+        → s.versions ≡ z.versions → s.clock ≡ z.clock
         → ((other : LinkId) → other ≢ link → forms_of s other ≡ forms_of z other)
         → ((q : Place) (m : Message) → fin.get t.messages q ≡ Some m → m.link ≢ link)
         → ((q : Place) (r : ReceivedReceipt) → fin.get t.receipts q ≡ Some r → r.link ≢ link)
@@ -96,6 +97,53 @@ pub fn versions_change_routes_alone()
         → fin.get (facts_of (with_versions s versions) t) place ≡ fin.get (facts_of s t) place }
 {}
 
+/// The clock changes open and lapsed messages alone, and their outcomes alone: such a message is lapsed where the clock is
+/// at the end of its window or past it, and open before. No fact changes between clocks that are past the same ends.
+pub fn clock_lapses_open_messages_alone()
+    ensures lapsed { (s : SettingsValue) (clock : ℕ) (t : TrafficValue) (place : Place)
+        → fin.get (facts_of (with_clock s clock) t) place
+        ≡ option_map (λ m. with_lapse (nat_le (m.moment + window_of s m.link) clock)
+        (fact_by place m (circumstances s t m))) (fin.get t.messages place) }
+    ensures others { (s : SettingsValue) (clock : ℕ) (t : TrafficValue) (place : Place)
+        (fact : Fact)
+        → fin.get (facts_of s t) place ≡ Some fact
+        → fact.outcome ≢ Outcome.Open → fact.outcome ≢ Outcome.Lapsed
+        → fin.get (facts_of (with_clock s clock) t) place ≡ Some fact }
+    ensures same { (s : SettingsValue) (clock : ℕ) (t : TrafficValue) (place : Place)
+        → ((m : Message) → fin.get t.messages place ≡ Some m
+        → nat_le (m.moment + window_of s m.link) clock
+        ≡ nat_le (m.moment + window_of s m.link) s.clock)
+        → fin.get (facts_of (with_clock s clock) t) place ≡ fin.get (facts_of s t) place }
+{}
+
+/// A lapsed message has come to the end of its window, and an open one hasn't.
+pub fn messages_lapse_at_the_end_of_their_window()
+    ensures lapsed { (s : SettingsValue) (t : TrafficValue) (place : Place) (m : Message)
+        (fact : Fact)
+        → fin.get t.messages place ≡ Some m → fin.get (facts_of s t) place ≡ Some fact
+        → fact.outcome ≡ Outcome.Lapsed → m.moment + window_of s m.link ≤ s.clock }
+    ensures is_open { (s : SettingsValue) (t : TrafficValue) (place : Place) (m : Message)
+        (fact : Fact)
+        → fin.get t.messages place ≡ Some m → fin.get (facts_of s t) place ≡ Some fact
+        → fact.outcome ≡ Outcome.Open → s.clock < m.moment + window_of s m.link }
+{}
+
+/// A message has a delay on its link exactly where it was delivered or failed: the band of the ms from its moment to that
+/// of the receipt that decides. It has a delay at the centre there alone, exactly where that receipt gives one: its band.
+pub fn delays_are_of_decided_messages()
+    ensures exactly { (place : Place) (m : Message) (c : Circumstances)
+        → IsTrue (is_some (fact_by place m c).link_delay)
+        ↔ (((fact_by place m c).outcome ≡ Outcome.Delivered)
+        ⊎ ((fact_by place m c).outcome ≡ Outcome.Failed)) }
+    ensures values { (place : Place) (m : Message) (c : Circumstances) (r : ReceivedReceipt)
+        → c.decider ≡ Some r → IsTrue (is_some (fact_by place m c).link_delay)
+        → ((fact_by place m c).link_delay ≡ Some (band_of (pos r.moment -ℤ pos m.moment)))
+        × ((fact_by place m c).centre_delay ≡ option_map band_of r.receipt.centre_delay) }
+    ensures centre { (place : Place) (m : Message) (c : Circumstances)
+        → IsTrue (is_some (fact_by place m c).centre_delay)
+        → IsTrue (is_some (fact_by place m c).link_delay) }
+{}
+
 /// A message without a number has neither route nor network, and one with a number those that it has at the moment of the
 /// message.
 pub fn routes_are_of_the_moment()
@@ -113,7 +161,7 @@ pub fn routes_are_of_the_moment()
 pub fn outcomes_are_in_order()
     ensures { (m : Message) (c : Circumstances)
         → map (λ row. outcome_place row.1) (outcome_table m c) ++ outcome_place last_outcome ∷ []
-        ≡ 0 ∷ 1 ∷ 2 ∷ 3 ∷ 4 ∷ 5 ∷ 6 ∷ 7 ∷ 8 ∷ [] }
+        ≡ 0 ∷ 1 ∷ 2 ∷ 3 ∷ 4 ∷ 5 ∷ 6 ∷ 7 ∷ 8 ∷ 9 ∷ [] }
 {}
 
 /// What became of submits that are written out.

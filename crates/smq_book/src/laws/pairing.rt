@@ -1,23 +1,29 @@
 //! Laws of messages and delivery receipts by place: what each PDU says, and what one more changes.
-ghost use Rattle.std.specs.Prelude.{◌≡◌, ◌++◌, ◌∷◌, [], ℕ, true, List, Some, length, slice_get, option_map, option_to_list};
+ghost use Rattle.std.specs.Prelude.{◌≡◌, ◌↔◌, ◌⊎◌, ◌++◌, ◌∷◌, [], ℕ, true, IsTrue, List, Some, length, slice_get, option_map, option_to_list};
 ghost use Rattle.std.specs.List.{flat_map};
 ghost use Rattle.std.specs.FinMap as map;
 ghost use Rattle.std.specs.Ordering.{nat_cmp};
 ghost use Rattle.smq_kit.specs.Maps.{SameOutside};
 ghost use Rattle.smq_kit.specs.declared.place.Dir.TheVariants.{FromClient, FromCentre};
 ghost use Rattle.smq_kit.specs.Orders.{place_cmp};
-ghost use Rattle.smq_frame.specs.Stream.{Octet};
+ghost use Rattle.smq_frame.specs.Stream.{Octet, values, handed_in};
+ghost use Rattle.smq_frame.specs.Tail.{tail_of};
 ghost use Rattle.smq_pair.specs.Pairing.{pair_at, pair_of};
 ghost use Rattle.smq_pdu.specs.Header.{Header};
 ghost use Rattle.smq_pdu.specs.Pairing.{IsPair, is_request};
 ghost use Rattle.smq_pdu.specs.declared.body.Submit.{Submit};
+ghost use Rattle.smq_tally.specs.declared.list.List.TheVariants as list;
+ghost use Rattle.smq_tally.specs.Lists.{listed};
 ghost use Rattle.smq_book.specs.declared.present.session.Session.{Session as SessionValue};
-ghost use Rattle.smq_book.specs.Known.{InTurn};
+ghost use Rattle.smq_book.specs.Known.{InTurn, KnownNotes};
 ghost use Rattle.smq_book.specs.present.Kept.{header_of, headers_of, kept_pdus, submit_in};
+ghost use Rattle.smq_book.specs.pairing.Places.{octets_at, StandsAt};
 ghost use Rattle.smq_book.specs.pairing.Pushes.{requests_of};
 ghost use Rattle.smq_book.specs.pairing.Traffic.{Origin, place_of, placed, pairing_among, response_to, message_at, messages_among, session_messages, session_receipts, traffic_of};
 
-use crate::KeptPdu;
+use crate::{Content, KeptPdu};
+use smq_kit::Place;
+use smq_receipt::Reading;
 
 /// The response to a PDU of the client is that of its pair, by sequence number and rank, and that of each pair is found.
 pub fn responses_are_those_of_pairs()
@@ -73,4 +79,29 @@ pub fn pushes_change_few_messages()
         → SameOutside {R = place_cmp} (requests_of origin client centre next)
         (map.from_entries (messages_among origin client centre))
         (map.from_entries (messages_among origin client (centre ++ next ∷ []))) }
+{}
+
+/// Exactly these places are noted: as unreadable those of the centre's delivery receipts without a usable id or a usable
+/// state, as undecodable those of the PDUs whose body can't be read, and as broken that of the bad length at which a
+/// direction is broken, where it stays broken whatever comes after it.
+pub fn unread_places_are_noted()
+    ensures unreadable { (sessions : map.FinMap nat_cmp SessionValue) (place : Place)
+        → IsTrue (map.contains_key (traffic_of sessions).notes (listed list.Unreadable place))
+        ↔ ((p : KeptPdu) × StandsAt sessions place p × (place.dir ≡ FromCentre)
+        × ((p.content ≡ Content.Deliver Reading.NoId)
+        ⊎ (p.content ≡ Content.Deliver Reading.NoState))) }
+    ensures undecodable { (sessions : map.FinMap nat_cmp SessionValue) (place : Place)
+        → IsTrue (map.contains_key (traffic_of sessions).notes (listed list.Undecodable place))
+        ↔ ((p : KeptPdu) × StandsAt sessions place p × (p.content ≡ Content.Undecodable)) }
+    ensures broken { (sessions : map.FinMap nat_cmp SessionValue) (place : Place)
+        → IsTrue (map.contains_key (traffic_of sessions).notes (listed list.Broken place))
+        ↔ ((tail_of (values (octets_at sessions place))).broken ≡ Some place.offset) }
+    ensures stays { (stream : List Octet) (moment : ℕ) (piece : List ℕ) (offset : ℕ)
+        → (tail_of (values stream)).broken ≡ Some offset
+        → (tail_of (values (stream ++ handed_in moment piece))).broken ≡ Some offset }
+{}
+
+/// The notes of sessions that are written out: in each list, those of its client, then those of its centre.
+pub fn notes_of_a_known_session()
+    ensures { KnownNotes }
 {}

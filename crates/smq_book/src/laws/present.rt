@@ -7,17 +7,18 @@ ghost use Rattle.smq_kit.specs.declared.names.SessionId.{SessionId};
 ghost use Rattle.smq_kit.specs.declared.refusal.Refusal.{Refusal};
 ghost use Rattle.smq_kit.specs.declared.place.Dir.{Dir};
 ghost use Rattle.smq_book.specs.declared.present.edit.Edit.{Edit};
-ghost use Rattle.smq_book.specs.declared.present.edit.Edit.TheVariants.{Append, Withdraw, SetForm, AddRoute, EndRoute, CorrectRoute};
+ghost use Rattle.smq_book.specs.declared.present.edit.Edit.TheVariants.{Append, Withdraw, SetForm, AddRoute, EndRoute, CorrectRoute, Advance};
 ghost use Rattle.smq_book.specs.present.Batch.{BatchValue, with_octets, continued};
-ghost use Rattle.smq_book.specs.Known.{KnownForms, KnownOctets, KnownPieces, KnownReplies, KnownRouteReplies, KnownRoutes, KnownWithdrawals, waiting};
+ghost use Rattle.smq_book.specs.Known.{KnownClocks, KnownForms, KnownOctets, KnownPieces, KnownReplies, KnownRouteReplies, KnownRoutes, KnownWithdrawals, waiting};
 ghost use Rattle.smq_book.specs.present.Present.{PresentValue, session_of, tail_in};
 ghost use Rattle.smq_book.specs.present.Replies.{GoesAfter, reply};
-ghost use Rattle.smq_book.specs.present.Steps.{Appends, AppendsCommute, AreAppendedAgain, LeavesNoTrace, SetsForm, AddsRoute, EndsRoute, CorrectsRoute, Withdraws, change, step};
+ghost use Rattle.smq_book.specs.present.Steps.{Appends, AppendsCommute, AreAppendedAgain, LeavesNoTrace, SetsForm, AddsRoute, EndsRoute, CorrectsRoute, Advances, Withdraws, change, step};
 ghost use Rattle.smq_book.specs.declared.present.forms.Forms.{Forms};
 ghost use Rattle.smq_book.specs.within.Equal.{forms_eq};
 
-/// An append changes what `Appends` says, a withdrawal what `Withdraws` says, setting forms what `SetsForm` says, and
-/// edits of routes what `AddsRoute`, `EndsRoute` and `CorrectsRoute` say: nothing else. A refused edit is no step.
+/// An append changes what `Appends` says, a withdrawal what `Withdraws` says, setting forms what `SetsForm` says, edits of
+/// routes what `AddsRoute`, `EndsRoute` and `CorrectsRoute` say, and advancing the clock what `Advances` says: nothing else.
+/// A refused edit is no step.
 pub fn steps_are_plain_changes()
     ensures appends { (p : PresentValue) (batch : BatchValue) →
         Appends p (change p (Append batch)) batch }
@@ -48,6 +49,10 @@ pub fn steps_are_plain_changes()
         (network : List ℕ) →
         CorrectsRoute p q prefix from route network
         → q ≡ change p (CorrectRoute prefix from route network) }
+    ensures advances { (p : PresentValue) (clock : ℕ) →
+        Advances p (change p (Advance clock)) clock }
+    ensures alone_advanced { (p q : PresentValue) (clock : ℕ) →
+        Advances p q clock → q ≡ change p (Advance clock) }
     ensures made { (p : PresentValue) (edit : Edit) →
         reply p edit ≡ None → step p edit ≡ change p edit }
     ensures refused { (p : PresentValue) (edit : Edit) (refusal : Refusal) →
@@ -125,6 +130,11 @@ pub fn withdrawals_of_a_known_book()
 pub fn edits_of_known_routes()
     ensures replies { KnownRouteReplies }
     ensures left { KnownRoutes }
+{}
+
+/// Where the clock of a book is advanced: which clocks are refused, and what the others leave.
+pub fn edits_of_a_known_clock()
+    ensures { KnownClocks }
 {}
 
 /// The forms of a link are both verbatim until they are set. This leaves other links and octets, and an append leaves

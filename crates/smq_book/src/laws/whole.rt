@@ -1,25 +1,67 @@
-//! Laws of the whole: two statements of the same figures, and a known book.
-ghost use Rattle.std.specs.Prelude.{◌≡◌};
+//! Laws of the whole: two statements of the same figures, the delivery receipts that are listed, and a known book.
+ghost use Rattle.std.specs.Prelude.{◌≡◌, ◌↔◌, Contains};
 ghost use Rattle.std.specs.FinMap as fin;
-ghost use Rattle.smq_book.specs.Known.{KnownFigures};
+ghost use Rattle.smq_book.specs.Known.{KnownFigures, KnownListings};
 ghost use Rattle.smq_book.specs.present.Present.{PresentValue};
 ghost use Rattle.smq_book.specs.pairing.Traffic.{traffic_of};
+ghost use Rattle.smq_tally.specs.Lists.{listed};
+ghost use Rattle.smq_tally.specs.Tables.{listed_in};
 ghost use Rattle.smq_book.specs.join.Facts.{facts_of};
+ghost use Rattle.smq_book.specs.join.Keyed.{grouping_of};
+ghost use Rattle.smq_book.specs.join.Listings.{receipt_notes};
+ghost use Rattle.smq_book.specs.join.Matching.{Grouping, IsStray, MatchesSeveral, IsExtra};
 ghost use Rattle.smq_book.specs.whole.Scratch.{scratch};
-ghost use Rattle.smq_book.specs.within.Lists.{facts_listed, tables_listed};
+ghost use Rattle.smq_book.specs.within.Lists.{facts_listed, receipt_notes_listed, tables_listed};
+
+use crate::List;
+use smq_kit::Place;
 
 /// What is known of messages by place is what lists over all sessions say, which are stated apart: of responses by their
-/// places in a direction, of single keys by counting in a list, of deciding receipts by the least of a list.
+/// places in a direction, of single keys by counting in a list, of deciding receipts by the least of a list. So are the
+/// delivery receipts that are listed, and the tables.
 pub fn lists_say_the_same()
     ensures facts { (p : PresentValue)
         → fin.values (facts_of p.settings (traffic_of p.sessions)) ≡ facts_listed p }
+    ensures receipts { (p : PresentValue)
+        → receipt_notes (grouping_of p.settings (traffic_of p.sessions)) ≡ receipt_notes_listed p }
     ensures tables { (p : PresentValue) → scratch p ≡ tables_listed p }
+{}
+
+/// A delivery receipt is listed as a stray exactly where no message is accepted with its key, as ambiguous exactly where
+/// messages at two places are, and as extra exactly where one message alone is, it can decide and another one does.
+pub fn receipts_are_listed_by_their_matches()
+    ensures stray { (g : Grouping) (place : Place)
+        → Contains (receipt_notes g) (listed List.StrayReceipts place) ↔ IsStray g place }
+    ensures ambiguous { (g : Grouping) (place : Place)
+        → Contains (receipt_notes g) (listed List.AmbiguousReceipts place)
+        ↔ MatchesSeveral g place }
+    ensures extra { (g : Grouping) (place : Place)
+        → Contains (receipt_notes g) (listed List.ExtraReceipts place) ↔ IsExtra g place }
+{}
+
+/// The tables of what is present show in the lists of receipts exactly these receipts.
+pub fn tables_list_receipts_by_their_matches()
+    ensures stray { (p : PresentValue) (place : Place)
+        → Contains (listed_in (scratch p) List.StrayReceipts) place
+        ↔ IsStray (grouping_of p.settings (traffic_of p.sessions)) place }
+    ensures ambiguous { (p : PresentValue) (place : Place)
+        → Contains (listed_in (scratch p) List.AmbiguousReceipts) place
+        ↔ MatchesSeveral (grouping_of p.settings (traffic_of p.sessions)) place }
+    ensures extra { (p : PresentValue) (place : Place)
+        → Contains (listed_in (scratch p) List.ExtraReceipts) place
+        ↔ IsExtra (grouping_of p.settings (traffic_of p.sessions)) place }
+{}
+
+/// Delivery receipts that are written out, in their lists. Each is of the id `1`, but for those under forms.
+#[tactic(auto, unfolding(smq_pdu::specs::Pairing::nth_place), using(crate::proofs::KnownListings::listings_known))]
+pub fn known_receipts_are_listed()
+    ensures { KnownListings }
 {}
 
 /// What is known and counted of a book whose octets are written out: a message whose two receipts of one moment stand in
 /// two sessions is decided by the earlier place; one is decided by a receipt of another session; two share an id, which
-/// another link has too. Of two messages to one number the first has a route at its moment, at which it begins, and the
-/// second none, at whose moment it has ended; two have no number.
+/// another link has too; one lapses at the clock. Of two messages to one number the first has a route at its moment, at
+/// which it begins, and the second none, at whose moment it has ended; the others have no number.
 pub fn figures_of_a_known_book()
     ensures { KnownFigures }
 {}

@@ -42,4 +42,8 @@ pub enum Edit {
         route: RouteId,
         network: Network,
     },
+    /// Sets the clock, up to which what is present is known: a message that waits for its receipt lapses by it.
+    Advance {
+        clock: Moment,
+    },
 }

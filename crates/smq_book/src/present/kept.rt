@@ -2,7 +2,7 @@
 ghost use Rattle.std.specs.Prelude.{◌≡◌, IfOk, map, option_copied};
 ghost use Rattle.smq_pdu.specs.Decoded.{body_view};
 ghost use Rattle.smq_pdu.specs.Placed.{placed_pdu};
-ghost use Rattle.smq_book.specs.present.Kept.{content_of_body, kept_pdu, submit_in, id_in, reading_in, receipt_in};
+ghost use Rattle.smq_book.specs.present.Kept.{content_of_body, kept_pdu, submit_in, id_in, reading_in, is_undecodable, receipt_in, is_unreadable};
 
 use smq_frame::Frame;
 use smq_kit::{MessageId, Moment};
@@ -78,6 +78,27 @@ impl Content {
         match self.reading()? {
             Reading::Receipt(receipt) => Some(receipt),
             _ => None,
+        }
+    }
+
+    /// Whether it is a delivery receipt without a usable id or state (SMPP 3.4, 4.6.1, appendix B).
+    pub fn is_unreadable(&self) -> bool
+        ensures { result ≡ is_unreadable self.now }
+    {
+        match self.reading() {
+            Some(Reading::NoId) => true,
+            Some(Reading::NoState) => true,
+            _ => false,
+        }
+    }
+
+    /// Whether it is a submit_sm or deliver_sm that can't be decoded.
+    pub fn is_undecodable(&self) -> bool
+        ensures { result ≡ is_undecodable self.now }
+    {
+        match self {
+            Content::Undecodable => true,
+            _ => false,
         }
     }
 }

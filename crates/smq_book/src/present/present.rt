@@ -92,6 +92,13 @@ impl Present {
         self.settings.versions()
     }
 
+    /// The clock, up to which what is present is known, in ms since 1970 in UTC; 0 until it is advanced.
+    pub fn clock(&self) -> Moment
+        ensures { result ≡ self.now.settings.clock }
+    {
+        self.settings.clock()
+    }
+
     /// Puts a batch after its direction, in its session or in a new one. A refusal changes nothing.
     pub(crate) fn append(&mut self, alloc: Global, batch: Batch) -> Result<(), Refusal>
         ensures { IsReply (reply self.old (Edit.Append batch)) result
@@ -159,6 +166,14 @@ impl Present {
             (self.new ≡ change self.old edit) (self.new ≡ self.old) }
     {
         self.settings.correct_route(prefix, from, route, network)
+    }
+
+    /// Sets the clock, which takes no memory. A refusal changes nothing.
+    pub(crate) fn advance(&mut self, clock: Moment) -> Result<(), Refusal>
+        ensures { IsReplyInPlace (reply self.old (Edit.Advance clock)) result
+            (self.new ≡ change self.old (Edit.Advance clock)) (self.new ≡ self.old) }
+    {
+        self.settings.advance(clock)
     }
 }
 

@@ -1,4 +1,4 @@
-//! What is set: for the sessions of links, and for the numbers that prefixes begin.
+//! What is set: for the sessions of links, for the numbers that prefixes begin, and the clock.
 ghost use Rattle.std.specs.Prelude.{◌≡◌, ℕ, MatchResult};
 ghost use Rattle.std.specs.FinMap as map;
 ghost use Rattle.std.specs.Map.Iter.{ShowsInOrder, deref_pair};
@@ -7,7 +7,8 @@ ghost use Rattle.smq_route.specs.declared.version.VersionKey.{VersionKey as KeyO
 ghost use Rattle.smq_route.specs.declared.version.Version.{Version as VersionOf};
 ghost use Rattle.smq_route.specs.Edits.{add_refusals, end_refusals, correct_refusals, added, changed, ending, corrected};
 ghost use Rattle.smq_route.specs.Versions.{AreApart, version_of, route_at};
-ghost use Rattle.smq_book.specs.present.Settings.{opening_settings, forms_of, with_versions};
+ghost use Rattle.smq_book.specs.present.Replies.{clock_back};
+ghost use Rattle.smq_book.specs.present.Settings.{opening_settings, forms_of, with_versions, with_clock};
 
 use crate::Forms;
 use smq_kit::{Digits, LinkId, Moment, Network, Refusal, RouteId};
@@ -17,11 +18,12 @@ use std::collections::BTreeMap;
 use std::collections::btree_map::Iter;
 use std::marker::Model;
 
-/// The forms that were set, by the numbers of their links, and the dated routes.
+/// The forms that were set, by the numbers of their links, the dated routes, and the clock.
 #[derive(Drop)]
 pub struct Settings {
     forms: BTreeMap<u32, Forms>,
     routes: Routes,
+    clock: Moment,
 }
 
 impl Model for Settings {
@@ -32,17 +34,18 @@ impl Model for Settings {
 
     ghost coded = { settings_code };
 
-    ghost view = { λ s. record { forms = forms_in s.forms; versions = s.routes.versions } };
+    ghost view = { λ s. record { forms = forms_in s.forms; versions = s.routes.versions; clock = s.clock } };
 }
 
 impl Settings {
-    /// Nothing is set.
+    /// Nothing is set, and the clock is at the opening moment.
     pub(crate) fn new(alloc: Global) -> Settings
         ensures { result ≡ opening_settings }
     {
         Settings {
             forms: BTreeMap::new(alloc),
             routes: Routes::new(alloc),
+            clock: Moment::epoch(),
         }
     }
 
@@ -80,6 +83,13 @@ impl Settings {
         ensures { result ≡ route_at self.now.versions number.now at }
     {
         self.routes.at(number, at)
+    }
+
+    /// The clock, up to which what is present is known, in ms since 1970 in UTC; 0 until it is advanced.
+    pub fn clock(&self) -> Moment
+        ensures { result ≡ self.now.clock }
+    {
+        self.clock
     }
 
     /// Sets the forms of a link's message ids. An error changes nothing.
@@ -139,5 +149,17 @@ impl Settings {
             (self.new ≡ self.old) }
     {
         self.routes.correct(prefix, from, route, network)
+    }
+
+    /// Sets the clock. A refusal changes nothing.
+    pub(crate) fn advance(&mut self, clock: Moment) -> Result<(), Refusal>
+        ensures { IsReplyInPlace (clock_back self.old.clock clock) result
+            (self.new ≡ with_clock self.old clock) (self.new ≡ self.old) }
+    {
+        if clock < self.clock {
+            return Err(Refusal::ClockBack { clock: self.clock });
+        }
+        self.clock = clock;
+        Ok(())
     }
 }

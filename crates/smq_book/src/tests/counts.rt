@@ -1,14 +1,11 @@
-//! Facts, tables and listed places of PDUs, and the names in which they are printed.
+//! Facts and tables of PDUs.
 use crate::tests::receipts::{BY_MOMENT, BY_SESSION};
 use crate::tests::scripts::Sent::*;
 use crate::tests::scripts::Step::*;
 use crate::tests::scripts::Wanted::*;
 use crate::tests::scripts::*;
-use crate::{List, Listed, Outcome, Tables, View};
-use smq_kit::{Dir, Form, Place, SessionId};
-use std::alloc::{AllocError, Global};
-use std::process::Abort;
-use std::test::Fail;
+use crate::{Outcome, View};
+use smq_kit::Form;
 
 /// An enquire_link of 49 octets before the submits.
 const BEFORE: Step = Client(
@@ -250,12 +247,26 @@ const OF_ANOTHER_LINK: &[Step] = &[
     Centre(10, 0, Response(2, 8, b"")),
 ];
 
+const UNASKED_THEN_REFUSED: &[Step] = &[
+    Client(10, 0, Asking(1, 0)),
+    Centre(10, 0, Response(1, 0, b"1")),
+    Client(10, 0, Asking(2, 0)),
+    Centre(10, 0, Response(2, 8, b"")),
+];
+
+const REFUSED_THEN_UNASKED: &[Step] = &[
+    Client(10, 0, Asking(1, 0)),
+    Centre(10, 0, Response(1, 8, b"")),
+    Client(10, 0, Asking(2, 0)),
+    Centre(10, 0, Response(2, 0, b"2")),
+];
+
 /// Two scripts, and whether their tables are equal.
 const EQUAL: &[(&str, &[Step], &[Step], bool)] = &[
     (
-        "the order of messages is open",
-        OPEN_THEN_REFUSED,
-        REFUSED_THEN_OPEN,
+        "the order of messages is open where they stand in no list",
+        UNASKED_THEN_REFUSED,
+        REFUSED_THEN_UNASKED,
         true,
     ),
     (
@@ -270,216 +281,21 @@ const EQUAL: &[(&str, &[Step], &[Step], bool)] = &[
         &[Forms(Form::Decimal, Form::Decimal)],
         true,
     ),
+    (
+        "the place of an open message differs",
+        OPEN_THEN_REFUSED,
+        REFUSED_THEN_OPEN,
+        false,
+    ),
     ("a count differs", OPEN_THEN_REFUSED, REFUSED_TWICE, false),
     ("a link differs", OPEN_THEN_REFUSED, OF_ANOTHER_LINK, false),
     ("rows differ", OPEN_THEN_REFUSED, &[], false),
 ];
 
-/// A place: the session, the direction, the offset.
-type At = (u64, Dir, u64);
-
-/// A note: a list and a place.
-type Note = (List, At);
-
-/// Notes, and the places that each list shows then, in order.
-type Shown = (
-    &'static str,
-    &'static [Note],
-    &'static [(List, &'static [At])],
-);
-
-/// Notes of all lists in no order, one of them twice.
-const MIXED: &[Note] = &[
-    (List::Mismatched, (10, Dir::FromCentre, 16)),
-    (List::Waiting, (65_537, Dir::FromClient, 0)),
-    (List::StrayAnswers, (9, Dir::FromCentre, 0)),
-    (List::Waiting, (10, Dir::FromClient, 65_537)),
-    (List::Waiting, (9, Dir::FromCentre, 0)),
-    (List::Mismatched, (10, Dir::FromClient, 16)),
-    (List::Waiting, (65_536, Dir::FromCentre, 0)),
-    (List::Waiting, (10, Dir::FromClient, 65_536)),
-    (List::StrayAnswers, (9, Dir::FromClient, 33)),
-    (List::Waiting, (9, Dir::FromClient, 49)),
-    (List::Waiting, (10, Dir::FromClient, 65_536)),
-];
-
-/// The same in order, each once.
-const SORTED: &[Note] = &[
-    (List::Waiting, (9, Dir::FromClient, 49)),
-    (List::Waiting, (9, Dir::FromCentre, 0)),
-    (List::Waiting, (10, Dir::FromClient, 65_536)),
-    (List::Waiting, (10, Dir::FromClient, 65_537)),
-    (List::Waiting, (65_536, Dir::FromCentre, 0)),
-    (List::Waiting, (65_537, Dir::FromClient, 0)),
-    (List::StrayAnswers, (9, Dir::FromClient, 33)),
-    (List::StrayAnswers, (9, Dir::FromCentre, 0)),
-    (List::Mismatched, (10, Dir::FromClient, 16)),
-    (List::Mismatched, (10, Dir::FromCentre, 16)),
-];
-
-const WAITING: &[Note] = &[(List::Waiting, (10, Dir::FromClient, 0))];
-
-const STRAY: &[Note] = &[(List::StrayAnswers, (10, Dir::FromClient, 0))];
-
-const MISMATCHED: &[Note] = &[(List::Mismatched, (10, Dir::FromClient, 0))];
-
-const OF_THE_CENTRE: &[Note] = &[(List::Waiting, (10, Dir::FromCentre, 0))];
-
-const LISTED: &[Shown] = &[
-    (
-        "without notes each list is empty",
-        &[],
-        &[
-            (List::Waiting, &[]),
-            (List::StrayAnswers, &[]),
-            (List::Mismatched, &[]),
-        ],
-    ),
-    (
-        "each list has its places of both directions, in order, each once",
-        MIXED,
-        &[
-            (
-                List::Waiting,
-                &[
-                    (9, Dir::FromClient, 49),
-                    (9, Dir::FromCentre, 0),
-                    (10, Dir::FromClient, 65_536),
-                    (10, Dir::FromClient, 65_537),
-                    (65_536, Dir::FromCentre, 0),
-                    (65_537, Dir::FromClient, 0),
-                ],
-            ),
-            (
-                List::StrayAnswers,
-                &[(9, Dir::FromClient, 33), (9, Dir::FromCentre, 0)],
-            ),
-            (
-                List::Mismatched,
-                &[(10, Dir::FromClient, 16), (10, Dir::FromCentre, 16)],
-            ),
-        ],
-    ),
-    (
-        "the first list alone",
-        WAITING,
-        &[
-            (List::Waiting, &[(10, Dir::FromClient, 0)]),
-            (List::StrayAnswers, &[]),
-            (List::Mismatched, &[]),
-        ],
-    ),
-    (
-        "the second list alone",
-        STRAY,
-        &[
-            (List::Waiting, &[]),
-            (List::StrayAnswers, &[(10, Dir::FromClient, 0)]),
-            (List::Mismatched, &[]),
-        ],
-    ),
-    (
-        "the last list alone",
-        MISMATCHED,
-        &[
-            (List::Waiting, &[]),
-            (List::StrayAnswers, &[]),
-            (List::Mismatched, &[(10, Dir::FromClient, 0)]),
-        ],
-    ),
-];
-
-/// Two lists of notes, and whether their tables are equal.
-const EQUAL_NOTES: &[(&str, &[Note], &[Note], bool)] = &[
-    ("the order of notes is open", MIXED, SORTED, true),
-    ("a note is missing", WAITING, &[], false),
-    ("a list differs", WAITING, STRAY, false),
-    ("a direction differs", WAITING, OF_THE_CENTRE, false),
-];
-
-fn place_of(at: At) -> Place {
-    let (session, dir, offset) = at;
-    Place {
-        session: SessionId(session),
-        dir,
-        offset,
-    }
-}
-
-/// The tables of no facts with these notes.
-fn noted(alloc: Global, notes: &[Note]) -> Result<Tables, AllocError> {
-    let mut listed = Vec::new(alloc);
-    for (list, at) in notes {
-        listed.push(Listed {
-            list: *list,
-            place: place_of(*at),
-        })?;
-    }
-    Tables::of(alloc, &[], listed.as_slice())
-}
-
-/// Asserts that each of these lists has these places, in order.
-fn assert_lists(rt: &impl Abort, alloc: Global, shown: &Shown) -> Result<(), Fail> {
-    let (what, notes, lists) = *shown;
-    let tables = noted(alloc, notes)?;
-    for (list, wanted) in lists {
-        let mut places = Vec::new(alloc);
-        for place in tables.list(*list) {
-            places.push(place)?;
-        }
-        let mut wanted_places = Vec::new(alloc);
-        for at in *wanted {
-            wanted_places.push(place_of(*at))?;
-        }
-        assert_eq!(rt; places.as_slice(), wanted_places.as_slice(), "{what}");
-    }
-    Ok(())
-}
-
-/// The lists by their names.
-const LISTS: &[(List, &str)] = &[
-    (List::Waiting, "waiting"),
-    (List::StrayAnswers, "stray-answers"),
-    (List::Mismatched, "mismatched"),
-];
-
-/// The outcomes by their names.
-const OUTCOMES: &[(Outcome, &str)] = &[
-    (Outcome::Waiting, "waiting"),
-    (Outcome::Mismatched, "mismatched"),
-    (Outcome::Refused, "refused"),
-    (Outcome::NoId, "noid"),
-    (Outcome::Ambiguous, "ambiguous"),
-    (Outcome::Delivered, "delivered"),
-    (Outcome::Failed, "failed"),
-    (Outcome::Unasked, "unasked"),
-    (Outcome::Open, "open"),
-];
-
 #[test]
-fn tables_are_equal_where_rows_and_counts_are_and_names_are_printed(
-    rt: HostRuntime,
-) -> Result<(), Fail> {
+fn tables_are_equal_where_rows_and_counts_are(rt: HostRuntime) {
     for (what, one, other, wanted) in EQUAL {
-        let equal = have_equal_tables(&rt, rt.alloc(), one, other)?;
+        let equal = have_equal_tables(&rt, rt.alloc(), what, one, other);
         assert_eq!(rt; equal, *wanted, "{what}");
     }
-    for (what, notes, others, wanted) in EQUAL_NOTES {
-        let equal = noted(rt.alloc(), notes)? == noted(rt.alloc(), others)?;
-        assert_eq!(rt; equal, *wanted, "{what}");
-    }
-    for shown in LISTED {
-        assert_lists(&rt, rt.alloc(), shown)?;
-    }
-    for (list, name) in LISTS {
-        assert_eq!(rt; list.name(), *name, "{list:?}");
-    }
-    for (outcome, name) in OUTCOMES {
-        assert_eq!(rt; outcome.name(), *name, "{outcome:?}");
-    }
-    assert_eq!(rt; View::Link.name(), "link");
-    assert_eq!(rt; View::Route.name(), "route");
-    assert_eq!(rt; View::Network.name(), "network");
-    assert_eq!(rt; View::Error.name(), "error");
-    Ok(())
 }

@@ -1,78 +1,55 @@
 //! What no clause says: octets of the standard's PDUs, and that calls succeed with ample memory.
-use crate::tests::scripts::{NUMBER, Sent, added, octets_of};
-use crate::*;
-use bytes::Bytes;
+use crate::tests::scripts::Reply::*;
+use crate::tests::scripts::Sent::*;
+use crate::tests::scripts::Step::*;
+use crate::tests::scripts::*;
+use crate::tests::shown::{first_session, octets_from_client};
+use crate::{Batch, Book, Content, KeptPdu, Settings, Tables};
 use smq_frame::Tail;
-use smq_kit::{Dir, Form, LinkId, Moment, Refusal, SessionId};
+use smq_kit::{Dir, Form, LinkId, Refusal};
 use smq_receipt::Reading;
 use std::alloc::{AllocError, Global};
 use std::process::Abort;
 use std::test::Fail;
 
-/// A submit_sm of sequence number 1 from 1000 to 447700900123, with a receipt asked (SMPP 3.4, 4.4.1): 49 octets.
-const SUBMIT: &[u8] =
-    b"\0\0\0\x31\0\0\0\x04\0\0\0\0\0\0\0\x01\0\0\01000\0\x01\x01447700900123\0\0\0\0\0\0\x01\0\0\0\0";
+/// What `SUBMIT` and `RESPONSE` make of session 10.
+const RESPONDED: Step = Session((1, 1, 1, 49, 1, 1000));
 
-/// Its submit_sm_resp, with the message id `1` (SMPP 3.4, 4.4.2): 18 octets.
-const RESPONSE: &[u8] = b"\0\0\0\x12\x80\0\0\x04\0\0\0\0\0\0\0\x011\0";
-
-/// A piece of session 10 of a link, prepared on the present tail.
-fn prepared(
-    alloc: Global,
-    book: &Book,
-    link: u32,
-    dir: Dir,
-    moment: u64,
-    octets: &'static [u8],
-) -> Result<Batch, Refusal> {
-    let session = SessionId(10);
-    let tail = book.tail(session, dir);
-    let moment = Moment::new(moment)?;
-    let octets = Bytes::from_static(octets);
-    prepare(alloc, LinkId(link), session, dir, tail, moment, octets)
-}
-
-fn append(
-    alloc: Global,
-    book: &mut Book,
-    link: u32,
-    dir: Dir,
-    moment: u64,
-    octets: &'static [u8],
-) -> Result<(), Refusal> {
-    let batch = prepared(alloc, book, link, dir, moment, octets)?;
-    book.apply(Edit::Append { batch })
-}
-
-/// A book of a submit at 1000 and its response at 1200.
-fn responded_book(alloc: Global) -> Result<Book, Refusal> {
-    let mut book = Book::new(alloc);
-    append(alloc, &mut book, 1, Dir::FromClient, 1000, SUBMIT)?;
-    append(alloc, &mut book, 1, Dir::FromCentre, 1200, RESPONSE)?;
-    Ok(book)
-}
-
-/// The number and the link of the first session, and how many PDUs it has from the client and from the centre.
-fn first_session(book: &Book) -> Option<(u64, LinkId, usize, usize)> {
-    let mut sessions = book.present().sessions();
-    let (number, session) = sessions.next()?;
-    let client = session.client.pdus().len();
-    let centre = session.direction(Dir::FromCentre).pdus().len();
-    Some((*number, session.link, client, centre))
-}
-
-/// The octets of session 10 from the client.
-fn octets_from_client(book: &Book) -> u64 {
-    book.tail(SessionId(10), Dir::FromClient).offset()
-}
-
-/// The last moment from the client, and how many pieces came from there.
-fn client_pieces(book: &Book) -> Option<(u64, usize)> {
-    let mut sessions = book.present().sessions();
-    let (_, session) = sessions.next()?;
-    let last = session.client.last().milliseconds();
-    Some((last, session.client.pieces().len()))
-}
+/// Edits that are made or refused.
+pub(crate) const EDITS: Table = &[
+    (
+        "a response may come before its submit",
+        &[RESPONSE, SUBMIT, RESPONDED],
+    ),
+    (
+        "pieces are refused at the limit of octets, and where they are prepared on another tail",
+        &[
+            At(0, 0, Octets(b""), EmptyPiece),
+            At(281_474_976_710_655, 0, Octets(b"\0\0"), StreamFull),
+            At(281_474_976_710_656, 0, Octets(b"\0"), StreamFull),
+            At(281_474_976_710_655, 0, Octets(b"\0"), OutOfStep(0)),
+        ],
+    ),
+    (
+        "a stale batch is out of step",
+        &[
+            SUBMIT,
+            RESPONSE,
+            At(0, 999, Submit(1, NUMBER), OutOfStep(49)),
+            RESPONDED,
+        ],
+    ),
+    (
+        "another link and an earlier moment are refused",
+        &[
+            SUBMIT,
+            RESPONSE,
+            Under(2, 10, 2000, Octets(b"\0"), OtherLink(1)),
+            Under(1, 10, 999, Octets(b"\0"), Backward(1000)),
+            RESPONDED,
+        ],
+    ),
+];
 
 /// The first PDU from the client and from the centre.
 fn first_pdus(book: &Book) -> Option<(&KeptPdu, &KeptPdu)> {
@@ -100,26 +77,42 @@ fn parts_of(batch: &Batch) -> (u32, u64, Dir, u64, usize, u64) {
     )
 }
 
-fn a_batch_says_what_it_was_prepared_with(rt: &impl Abort, alloc: Global) -> Result<(), Fail> {
-    let book = Book::new(alloc);
-    let batch = prepared(alloc, &book, 1, Dir::FromClient, 1000, SUBMIT)?;
-    assert_eq!(rt; parts_of(&batch), (1, 10, Dir::FromClient, 0, 49, 49));
-    assert_eq!(rt;
-        (batch.moment().milliseconds(), batch.pdus().len()),
-        (1000, 1)
-    );
-    Ok(())
+/// What is sent first in a direction of session 10.
+fn batch_of(rt: &impl Abort, alloc: Global, dir: Dir, moment: u64, sent: Sent) -> Batch {
+    let octets = octets_of(alloc, sent).expect(rt, "octets");
+    let origin = (1, 10, dir, moment);
+    batch_on(alloc, &Tail::at(0), origin, octets.as_slice()).expect(rt, "a batch")
+}
+
+fn a_batch_says_what_it_was_prepared_with(rt: &impl Abort, alloc: Global) {
+    let batch = batch_of(rt, alloc, Dir::FromClient, 1000, Submit(1, NUMBER));
+    assert!(rt; is_prepared(&batch));
+}
+
+fn is_prepared(batch: &Batch) -> bool {
+    parts_of(batch) == (1, 10, Dir::FromClient, 0, 49, 49)
+        && batch.moment().milliseconds() == 1000
+        && batch.pdus().len() == 1
 }
 
 /// The offset, moment, command_id, command_status and sequence_number of a PDU.
-fn header_of(pdu: &KeptPdu) -> (u64, u64, u32, u32, u32) {
+type Header = (u64, u64, u32, u32, u32);
+
+fn header_of(pdu: &KeptPdu) -> Header {
     let moment = pdu.moment.milliseconds();
     (pdu.offset, moment, pdu.command, pdu.status, pdu.seq)
 }
 
 /// What the readers of a content give: the registered_delivery of its submit_sm, the message id of its submit_sm_resp,
 /// what its deliver_sm says as a receipt, and the id of the receipt that it is.
-fn read_from(content: &Content) -> (Option<u8>, Option<&[u8]>, Option<&str>, Option<&[u8]>) {
+type Read<'a> = (
+    Option<u8>,
+    Option<&'a [u8]>,
+    Option<&'a str>,
+    Option<&'a [u8]>,
+);
+
+fn read_from(content: &Content) -> Read<'_> {
     (
         content.submit().map(|submit| submit.registered_delivery),
         content.message_id().map(|id| id.as_slice()),
@@ -138,16 +131,7 @@ fn name_of(reading: &Reading) -> &'static str {
 }
 
 /// What is sent, and what the readers of its content give.
-const CONTENTS: &[(
-    &str,
-    Sent,
-    (
-        Option<u8>,
-        Option<&'static [u8]>,
-        Option<&'static str>,
-        Option<&'static [u8]>,
-    ),
-)] = &[
+const CONTENTS: &[(&str, Sent, Read<'static>)] = &[
     (
         "a submit_sm",
         Sent::Submit(1, NUMBER),
@@ -196,104 +180,39 @@ const CONTENTS: &[(
 ];
 
 /// The content of each PDU is read by the one reader that knows it.
-fn contents_are_read(rt: &impl Abort, alloc: Global) -> Result<(), Fail> {
+fn contents_are_read(rt: &impl Abort, alloc: Global) {
     for (what, sent, wanted) in CONTENTS {
-        let octets = octets_of(alloc, *sent)?;
-        let octets = Bytes::copy_from_slice(alloc, octets.as_slice())?;
-        let tail = Tail::at(0);
-        let (link, session) = (LinkId(1), SessionId(10));
-        let moment = Moment::epoch();
-        let batch = prepare(alloc, link, session, Dir::FromCentre, &tail, moment, octets)?;
-        let pdu = batch.pdus().first().ok_or("no PDU")?;
-        assert_eq!(rt; read_from(&pdu.content), *wanted, "{what}");
+        let batch = batch_of(rt, alloc, Dir::FromCentre, 0, *sent);
+        assert_content(rt, batch.pdus(), what, *wanted);
     }
-    Ok(())
 }
 
-fn a_submit_and_its_response_are_kept(rt: &impl Abort, alloc: Global) -> Result<(), Fail> {
-    let book = responded_book(alloc)?;
-    let (submit, response) = first_pdus(&book).ok_or("no PDUs")?;
-    assert_eq!(rt; header_of(submit), (0, 1000, 4, 0, 1));
-    assert_eq!(rt; read_from(&submit.content), (Some(1), None, None, None));
-    assert_eq!(rt; header_of(response), (0, 1200, 0x8000_0004, 0, 1));
-    let id = Some(b"1".as_slice());
-    assert_eq!(rt; read_from(&response.content), (None, id, None, None));
-    Ok(())
+/// Asserts what is read from the first of some PDUs.
+fn assert_content(rt: &impl Abort, pdus: &[KeptPdu], what: &str, wanted: Read<'_>) {
+    let pdu = pdus.first().expect(rt, what);
+    assert!(rt; read_from(&pdu.content) == wanted, "{what}");
 }
 
-fn a_response_may_come_before_its_submit(rt: &impl Abort, alloc: Global) -> Result<(), Fail> {
+fn a_submit_and_its_response_are_kept(rt: &impl Abort, alloc: Global) {
     let mut book = Book::new(alloc);
-    append(alloc, &mut book, 1, Dir::FromCentre, 1200, RESPONSE)?;
-    append(alloc, &mut book, 1, Dir::FromClient, 1000, SUBMIT)?;
-    assert_eq!(rt; first_session(&book), Some((10, LinkId(1), 1, 1)));
-    assert_eq!(rt; client_pieces(&book), Some((1000, 1)));
-    Ok(())
+    play(rt, alloc, &mut book, "first", &[SUBMIT, RESPONSE]);
+    assert_first_pdus(rt, &book);
 }
 
-/// Why octets aren't prepared on a tail of so many octets.
-fn refusal_at(alloc: Global, offset: u64, octets: &'static [u8]) -> Option<Refusal> {
-    let tail = Tail::at(offset);
-    let octets = Bytes::from_static(octets);
-    let moment = Moment::epoch();
-    prepare(
-        alloc,
-        LinkId(1),
-        SessionId(10),
-        Dir::FromClient,
-        &tail,
-        moment,
-        octets,
-    )
-    .err()
-}
-
-fn pieces_are_refused_at_the_limit_of_octets(rt: &impl Abort, alloc: Global) {
-    let full = Some(Refusal::StreamFull);
-    assert_eq!(rt; refusal_at(alloc, 0, b""), Some(Refusal::EmptyPiece));
-    assert_eq!(rt; refusal_at(alloc, 281_474_976_710_655, b"\0\0"), full);
-    assert_eq!(rt; refusal_at(alloc, 281_474_976_710_656, b"\0"), full);
-    assert_eq!(rt; refusal_at(alloc, 281_474_976_710_655, b"\0"), None);
-}
-
-/// Whether what `responded_book` has is present, and nothing else.
-fn is_responded_book(book: &Book) -> bool {
-    octets_from_client(book) == 49
-        && first_session(book) == Some((10, LinkId(1), 1, 1))
-        && client_pieces(book) == Some((1000, 1))
-}
-
-fn a_stale_batch_is_out_of_step(rt: &impl Abort, alloc: Global) -> Result<(), Fail> {
-    let mut book = responded_book(alloc)?;
-    let nothing = Book::new(alloc);
-    let batch = prepared(alloc, &nothing, 1, Dir::FromClient, 999, SUBMIT)?;
-    let reply = book.apply(Edit::Append { batch });
-    assert_eq!(rt; reply, Err(Refusal::OutOfStep { offset: 49 }));
-    assert!(rt; is_responded_book(&book));
-    Ok(())
-}
-
-fn another_link_and_an_earlier_moment_are_refused(
-    rt: &impl Abort,
-    alloc: Global,
-) -> Result<(), Fail> {
-    let mut book = responded_book(alloc)?;
-    let other = append(alloc, &mut book, 2, Dir::FromClient, 2000, b"\0");
-    assert_eq!(rt; other, Err(Refusal::OtherLink { link: LinkId(1) }));
-    let last = Moment::new(1000)?;
-    let earlier = append(alloc, &mut book, 1, Dir::FromClient, 999, b"\0");
-    assert_eq!(rt; earlier, Err(Refusal::Backward { last }));
-    assert!(rt; is_responded_book(&book));
-    Ok(())
-}
-
-fn set_form(book: &mut Book, link: u32, response: Form, receipt: Form) -> Result<(), Refusal> {
-    let link = LinkId(link);
-    let edit = Edit::SetForm {
-        link,
+fn assert_first_pdus(rt: &impl Abort, book: &Book) {
+    let (submit, response) = first_pdus(book).expect(rt, "PDUs");
+    assert_pdu(rt, submit, (0, 1000, 4, 0, 1), (Some(1), None, None, None));
+    let id = Some(b"1".as_slice());
+    assert_pdu(
+        rt,
         response,
-        receipt,
-    };
-    book.apply(edit)
+        (0, 1200, 0x8000_0004, 0, 1),
+        (None, id, None, None),
+    );
+}
+
+fn assert_pdu(rt: &impl Abort, pdu: &KeptPdu, header: Header, read: Read<'_>) {
+    assert!(rt; header_of(pdu) == header && read_from(&pdu.content) == read);
 }
 
 /// The link at a place among those whose forms were set: its number, and its forms in responses and in receipts.
@@ -306,41 +225,91 @@ fn forms_at(book: &Book, place: usize) -> Option<(u32, Form, Form)> {
     Some((*number, forms.response, forms.receipt))
 }
 
-fn forms_are_set_and_set_anew_by_link(rt: &impl Abort, alloc: Global) -> Result<(), Fail> {
+fn forms_are_set_and_set_anew_by_link(rt: &impl Abort, alloc: Global) {
     let mut book = Book::new(alloc);
-    set_form(&mut book, 7, Form::Decimal, Form::Hexadecimal)?;
-    set_form(&mut book, 3, Form::Hexadecimal, Form::Decimal)?;
-    set_form(&mut book, 7, Form::Verbatim, Form::Decimal)?;
-    append(alloc, &mut book, 7, Dir::FromClient, 1000, SUBMIT)?;
+    set_all_forms(&mut book).expect(rt, "forms");
+    play(
+        rt,
+        alloc,
+        &mut book,
+        "first",
+        &[Under(7, 10, 1000, Submit(1, NUMBER), Made)],
+    );
+    assert!(rt; has_forms(&book) && has_settings(book.present().settings()));
+}
+
+fn set_all_forms(book: &mut Book) -> Result<(), Refusal> {
+    set_forms(book, 7, Form::Decimal, Form::Hexadecimal)?;
+    set_forms(book, 3, Form::Hexadecimal, Form::Decimal)?;
+    set_forms(book, 7, Form::Verbatim, Form::Decimal)
+}
+
+fn has_forms(book: &Book) -> bool {
     let three = (3, Form::Hexadecimal, Form::Decimal);
     let seven = (7, Form::Verbatim, Form::Decimal);
-    assert_eq!(rt; forms_at(&book, 0), Some(three));
-    assert_eq!(rt; forms_at(&book, 1), Some(seven));
-    assert_eq!(rt; forms_at(&book, 2), None);
-    let present = book.present();
-    let settings = present.settings();
-    assert_eq!(rt; settings.forms_of(LinkId(7)).receipt, Form::Decimal);
+    forms_at(book, 0) == Some(three)
+        && forms_at(book, 1) == Some(seven)
+        && forms_at(book, 2).is_none()
+        && octets_from_client(book) == 49
+}
+
+fn has_settings(settings: &Settings) -> bool {
     let never_set = settings.forms_of(LinkId(4));
-    assert_eq!(rt; never_set.response, Form::Verbatim);
-    assert_eq!(rt; never_set.receipt, Form::Verbatim);
-    assert_eq!(rt; never_set, Forms::opening());
-    let first = settings.forms().next().map(|(link, _)| *link);
-    assert_eq!(rt; first, Some(3));
-    assert_eq!(rt; octets_from_client(&book), 49);
-    Ok(())
+    settings.forms_of(LinkId(7)).receipt == Form::Decimal
+        && never_set.response == Form::Verbatim
+        && never_set.receipt == Form::Verbatim
+        && never_set == crate::Forms::opening()
+        && first_link(settings) == Some(3)
+}
+
+fn first_link(settings: &Settings) -> Option<u32> {
+    settings.forms().next().map(|(link, _)| *link)
 }
 
 #[test]
-fn edits_are_made_or_refused_and_are_kept(rt: HostRuntime) -> Result<(), Fail> {
+fn edits_are_kept(rt: HostRuntime) {
     let alloc = rt.alloc();
-    a_batch_says_what_it_was_prepared_with(&rt, alloc)?;
-    a_submit_and_its_response_are_kept(&rt, alloc)?;
-    a_response_may_come_before_its_submit(&rt, alloc)?;
-    contents_are_read(&rt, alloc)?;
-    pieces_are_refused_at_the_limit_of_octets(&rt, alloc);
-    a_stale_batch_is_out_of_step(&rt, alloc)?;
-    another_link_and_an_earlier_moment_are_refused(&rt, alloc)?;
-    forms_are_set_and_set_anew_by_link(&rt, alloc)
+    a_batch_says_what_it_was_prepared_with(&rt, alloc);
+    a_submit_and_its_response_are_kept(&rt, alloc);
+    contents_are_read(&rt, alloc);
+    forms_are_set_and_set_anew_by_link(&rt, alloc);
+}
+
+/// A submit_sm of sequence number 1 from 1000 to 447700900123, with a receipt asked (SMPP 3.4, 4.4.1): 49 octets.
+const SUBMITTED: &[u8] =
+    b"\0\0\0\x31\0\0\0\x04\0\0\0\0\0\0\0\x01\0\0\01000\0\x01\x01447700900123\0\0\0\0\0\0\x01\0\0\0\0";
+
+/// Its submit_sm_resp, with the message id `1` (SMPP 3.4, 4.4.2): 18 octets.
+const ANSWERED: &[u8] = b"\0\0\0\x12\x80\0\0\x04\0\0\0\0\0\0\0\x011\0";
+
+/// Puts the octets of a submit_sm after those of the client of session 10.
+fn submit(alloc: Global, book: &mut Book, moment: u64) -> Result<(), Refusal> {
+    append(alloc, book, (1, 10, Dir::FromClient, moment), SUBMITTED)
+}
+
+/// Asserts that session 10 has so many submits and a response.
+fn assert_submits(rt: &impl Abort, book: &Book, count: u32) {
+    assert!(rt; has_submits(book, count));
+}
+
+fn has_submits(book: &Book, count: u32) -> bool {
+    octets_from_client(book) == 49 * u64::from(count)
+        && first_session(book) == Some((10, LinkId(1), count as usize, 1))
+}
+
+/// Puts a submit after so many others, again where memory was refused, which left them.
+fn a_submit_is_put(
+    rt: &impl Abort,
+    alloc: Global,
+    book: &mut Book,
+    count: u32,
+) -> Result<(), Refusal> {
+    if submit(alloc, book, 2000).is_err() {
+        assert_submits(rt, book, count);
+        submit(alloc, book, 2000)?;
+    }
+    assert_submits(rt, book, count.saturating_add(1));
+    Ok(())
 }
 
 /// The tables of a book, which are counted again where memory was refused.
@@ -351,43 +320,60 @@ fn tables_of(book: &Book) -> Result<Tables, AllocError> {
     book.tables()
 }
 
-/// Adds a version for each of some prefixes, again where memory was refused, which left versions and tables.
+fn assert_tables(rt: &impl Abort, book: &Book, wanted: &Tables) -> Result<(), AllocError> {
+    let tables = tables_of(book)?;
+    assert!(rt; tables == *wanted);
+    Ok(())
+}
+
+fn add_route(book: &mut Book, prefix: &[u8]) -> Result<(), Refusal> {
+    made(book, added(prefix, 0, 1, b"23410"))
+}
+
+fn versions_of(book: &Book) -> usize {
+    book.present().versions().count()
+}
+
+/// Adds a version of a prefix after so many others, again where memory was refused, which left versions and tables.
+fn a_route_is_added(
+    rt: &impl Abort,
+    book: &mut Book,
+    before: &Tables,
+    number: usize,
+    prefix: &[u8],
+) -> Result<(), Fail> {
+    if let Err(refusal) = add_route(book, prefix) {
+        assert!(rt; refusal == Refusal::Memory && versions_of(book) == number);
+        assert_tables(rt, book, before)?;
+        add_route(book, prefix)?;
+    }
+    assert!(rt; versions_of(book) == number.saturating_add(1));
+    Ok(())
+}
+
 fn routes_are_added(rt: &impl Abort, book: &mut Book) -> Result<(), Fail> {
     let before = tables_of(book)?;
     for (number, prefix) in [b"1", b"2", b"3", b"5", b"6", b"7", b"8"]
         .iter()
         .enumerate()
     {
-        if let Err(refusal) = book.apply(added(*prefix, 0, 1, b"23410")?) {
-            assert_eq!(rt; refusal, Refusal::Memory);
-            assert_eq!(rt; book.present().versions().count(), number);
-            assert!(rt; tables_of(book)? == before);
-            book.apply(added(*prefix, 0, 1, b"23410")?)?;
-        }
-        assert_eq!(rt; book.present().versions().count(), number + 1);
+        a_route_is_added(rt, book, &before, number, *prefix)?;
     }
-    assert!(rt; tables_of(book)? == before);
-    Ok(())
+    Ok(assert_tables(rt, book, &before)?)
+}
+
+fn submits_and_routes_are_put(rt: &impl Abort, alloc: Global, book: &mut Book) -> Result<(), Fail> {
+    submit(alloc, book, 1000)?;
+    append(alloc, book, (1, 10, Dir::FromCentre, 1200), ANSWERED)?;
+    for count in 1..8 {
+        a_submit_is_put(rt, alloc, book, count)?;
+    }
+    routes_are_added(rt, book)
 }
 
 /// With each allocation refused in turn (`rt try --test --fail-alloc`), what is present is as before the refusal.
 #[test]
 fn want_of_memory_leaves_what_was_present(rt: HostRuntime) -> Result<(), Fail> {
-    let mut book = responded_book(rt.alloc())?;
-    for count in 1..8 {
-        if append(rt.alloc(), &mut book, 1, Dir::FromClient, 2000, SUBMIT).is_err() {
-            assert_eq!(rt; octets_from_client(&book), 49 * count);
-            assert_eq!(rt;
-                first_session(&book),
-                Some((10, LinkId(1), count as usize, 1))
-            );
-            append(rt.alloc(), &mut book, 1, Dir::FromClient, 2000, SUBMIT)?;
-        }
-        assert_eq!(rt; octets_from_client(&book), 49 * (count + 1));
-        assert_eq!(rt;
-            first_session(&book),
-            Some((10, LinkId(1), count as usize + 1, 1))
-        );
-    }
-    routes_are_added(&rt, &mut book)
+    let mut book = Book::new(rt.alloc());
+    submits_and_routes_are_put(&rt, rt.alloc(), &mut book)
 }

@@ -1,13 +1,12 @@
-//! Scripts that are played on a book, and the facts and rows that they give.
-use crate::join::facts::facts_of;
-use crate::tests::{counts, ids, lists, receipts, routes, versions, withdrawals};
+//! Scripts that are played on a book, and what it shows then.
+use crate::tests::shown::*;
+use crate::tests::{counts, edits, ids, lists, receipts, reports, routes, versions, withdrawals};
 use crate::*;
 use bytes::Bytes;
-use smq_kit::{Digits, Dir, Form, LinkId, Moment, Network, Place, Refusal, RouteId, SessionId};
-use smq_receipt::{ErrorCode, ErrorText};
+use smq_frame::Tail;
+use smq_kit::{Digits, Dir, Form, LinkId, Moment, Network, Refusal, RouteId, SessionId};
 use std::alloc::{AllocError, Global};
 use std::process::Abort;
-use std::test::Fail;
 
 /// The number that messages are submitted to.
 pub(crate) const NUMBER: &[u8] = b"447700900123";
@@ -43,17 +42,17 @@ fn pdu_of(
     seq: u32,
     parts: &[&[u8]],
 ) -> Result<Vec<u8>, AllocError> {
-    let mut rest = Vec::new(alloc);
-    rest.extend_from_slice(&command.to_be_bytes())?;
-    rest.extend_from_slice(&status.to_be_bytes())?;
-    rest.extend_from_slice(&seq.to_be_bytes())?;
+    let mut length = 16u32;
     for part in parts {
-        rest.extend_from_slice(part)?;
+        length = length.saturating_add(u32::try_from(part.len()).unwrap_or(0));
     }
-    let length = u32::try_from(rest.len().saturating_add(4)).unwrap_or(0);
     let mut octets = Vec::new(alloc);
-    octets.extend_from_slice(&length.to_be_bytes())?;
-    octets.extend_from_slice(rest.as_slice())?;
+    for word in [length, command, status, seq] {
+        octets.extend_from_slice(&word.to_be_bytes())?;
+    }
+    for part in parts {
+        octets.extend_from_slice(part)?;
+    }
     Ok(octets)
 }
 
@@ -110,39 +109,39 @@ pub(crate) fn octets_of(alloc: Global, sent: Sent) -> Result<Vec<u8>, AllocError
     }
 }
 
+/// What is sent, and its octets.
+const KNOWN: &[(Sent, &[u8])] = &[
+    (
+        Sent::Submit(1, NUMBER),
+        b"\0\0\0\x31\0\0\0\x04\0\0\0\0\0\0\0\x01\
+        \0\0\01000\0\x01\x01447700900123\0\0\0\0\0\0\x01\0\0\0\0",
+    ),
+    (
+        Sent::Response(1, 0, b"1"),
+        b"\0\0\0\x12\x80\0\0\x04\0\0\0\0\0\0\0\x011\0",
+    ),
+    (
+        Sent::Response(1, 0, b"0000A1B2"),
+        b"\0\0\0\x19\x80\0\0\x04\0\0\0\0\0\0\0\x010000A1B2\0",
+    ),
+    (
+        Sent::Receipt(1, b"id:1 stat:DELIVRD"),
+        b"\0\0\0\x32\0\0\0\x05\0\0\0\0\0\0\0\x01\
+        \0\0\0\0\0\0\0\x04\0\0\0\0\0\0\0\0\x11id:1 stat:DELIVRD",
+    ),
+    (
+        Sent::ReceiptWith(1, b"id:1 stat:UNDELIV err:027", b"\x04\x27\0\x01\x02"),
+        b"\0\0\0\x3f\0\0\0\x05\0\0\0\0\0\0\0\x01\
+        \0\0\0\0\0\0\0\x04\0\0\0\0\0\0\0\0\x19id:1 stat:UNDELIV err:027\x04\x27\0\x01\x02",
+    ),
+];
+
 #[test]
-fn what_is_sent_has_the_octets_of_known_pdus(rt: HostRuntime) -> Result<(), Fail> {
-    for (sent, octets) in [
-        (
-            Sent::Submit(1, NUMBER),
-            b"\0\0\0\x31\0\0\0\x04\0\0\0\0\0\0\0\x01\
-            \0\0\01000\0\x01\x01447700900123\0\0\0\0\0\0\x01\0\0\0\0"
-                .as_slice(),
-        ),
-        (
-            Sent::Response(1, 0, b"1"),
-            b"\0\0\0\x12\x80\0\0\x04\0\0\0\0\0\0\0\x011\0".as_slice(),
-        ),
-        (
-            Sent::Response(1, 0, b"0000A1B2"),
-            b"\0\0\0\x19\x80\0\0\x04\0\0\0\0\0\0\0\x010000A1B2\0".as_slice(),
-        ),
-        (
-            Sent::Receipt(1, b"id:1 stat:DELIVRD"),
-            b"\0\0\0\x32\0\0\0\x05\0\0\0\0\0\0\0\x01\
-            \0\0\0\0\0\0\0\x04\0\0\0\0\0\0\0\0\x11id:1 stat:DELIVRD"
-                .as_slice(),
-        ),
-        (
-            Sent::ReceiptWith(1, b"id:1 stat:UNDELIV err:027", b"\x04\x27\0\x01\x02"),
-            b"\0\0\0\x3f\0\0\0\x05\0\0\0\0\0\0\0\x01\
-            \0\0\0\0\0\0\0\x04\0\0\0\0\0\0\0\0\x19id:1 stat:UNDELIV err:027\x04\x27\0\x01\x02"
-                .as_slice(),
-        ),
-    ] {
-        assert_eq!(rt; octets_of(rt.alloc(), sent)?.as_slice(), octets);
+fn what_is_sent_has_the_octets_of_known_pdus(rt: HostRuntime) {
+    for (sent, wanted) in KNOWN {
+        let octets = octets_of(rt.alloc(), *sent).expect(&rt, "octets");
+        assert_eq!(rt; octets.as_slice(), *wanted);
     }
-    Ok(())
 }
 
 /// A row that a book is to give.
@@ -168,16 +167,27 @@ pub(crate) enum Wanted {
     Unstated(u64),
 }
 
-/// How an edit of routes is answered.
+/// How an edit is answered.
 #[derive(Clone, Copy)]
 pub(crate) enum Reply {
     Made,
+    EmptyPiece,
+    /// The last moment of the direction.
+    Backward(u64),
+    /// The link under which the session is present.
+    OtherLink(u32),
+    /// How many octets the direction has.
+    OutOfStep(u64),
+    NoSession,
     /// The least beginning of the versions that the new one would overlap.
     Overlap(u64),
     NoRoute,
     /// The end that the version has.
     Ended(u64),
     BadEnd,
+    /// The present clock.
+    ClockBack(u64),
+    StreamFull,
 }
 
 /// One step of a script. Sessions 10 to 19 are of link 1, 20 to 29 of link 2.
@@ -187,8 +197,12 @@ pub(crate) enum Step {
     Client(u32, u64, Sent),
     /// What the centre sends: the session, the moment.
     Centre(u32, u64, Sent),
-    /// What the client of a session sends under a link: the link, the session, the moment.
-    Under(u32, u32, u64, Sent),
+    /// What the client of a session sends under a link: the link, the session, the moment, the reply.
+    Under(u32, u32, u64, Sent, Reply),
+    /// What an end sends in pieces of one octet each: the session, the direction, the moment.
+    Singly(u32, Dir, u64, Sent),
+    /// What the client of session 10 sends, prepared on a tail of so many octets: these, the moment, the reply.
+    At(u64, u64, Sent, Reply),
     /// A session is withdrawn.
     Withdraw(u32),
     /// A session isn't present, so its withdrawal is refused.
@@ -199,6 +213,10 @@ pub(crate) enum Step {
     End(&'static [u8], u64, u64, Reply),
     /// A version of a prefix is corrected: the prefix, its beginning, its route, its network, the reply.
     Correct(&'static [u8], u64, u32, &'static [u8], Reply),
+    /// The clock is set: its moment, the reply.
+    Advance(u64, Reply),
+    /// Session 10, which is the first.
+    Session(WantedSession),
     /// The versions, in their order.
     Versions(&'static [WantedVersion]),
     /// Where a number goes at a moment: its route and network, if it has one.
@@ -211,11 +229,17 @@ pub(crate) enum Step {
     Rows(&'static [Wanted]),
     /// The rows of the route view, then those of the network view.
     Routes(&'static [Wanted]),
-    /// The places in the lists, in their order.
+    /// The places in the lists of requests and responses, in their order.
     Lists(&'static [WantedPlace]),
     /// What is counted in a view, whether or not a row stands there.
     Counts(&'static [(View, Wanted)]),
+    /// Every line of the report.
+    Report(&'static [&'static str]),
 }
+
+/// A session: its link, how many PDUs the client and the centre sent, how many octets and pieces the client sent, and the
+/// client's last moment.
+pub(crate) type WantedSession = (u32, usize, usize, u64, usize, u64);
 
 /// A fact of a message of session 10 at moment 0: its offset, its outcome, and the command_status that refused it.
 pub(crate) type WantedFact = (u64, Outcome, Option<u32>);
@@ -244,44 +268,88 @@ pub(crate) type Table = &'static [(&'static str, &'static [Step])];
 /// What the centre sends at 2000 after a submit and its response, and the rows then, each with the fact that they show.
 pub(crate) type Received = &'static [(&'static str, Sent, &'static [Wanted])];
 
+/// What octets are of: a link, a session and a direction, and their moment.
+pub(crate) type Origin = (u32, u64, Dir, u64);
+
+/// Decodes octets on a tail.
+pub(crate) fn batch_on(
+    alloc: Global,
+    tail: &Tail,
+    origin: Origin,
+    octets: &[u8],
+) -> Result<Batch, Refusal> {
+    let (link, session, dir, moment) = origin;
+    let moment = Moment::new(moment)?;
+    let octets = Bytes::copy_from_slice(alloc, octets).map_err(|_| Refusal::Memory)?;
+    prepare(
+        alloc,
+        LinkId(link),
+        SessionId(session),
+        dir,
+        tail,
+        moment,
+        octets,
+    )
+}
+
 /// Puts octets after one direction of a session of a link.
 pub(crate) fn append(
     alloc: Global,
     book: &mut Book,
-    link: u32,
-    session: u64,
-    dir: Dir,
-    moment: u64,
+    origin: Origin,
     octets: &[u8],
-) -> Result<(), Fail> {
-    let session = SessionId(session);
-    let tail = book.tail(session, dir);
-    let octets = Bytes::copy_from_slice(alloc, octets)?;
-    let moment = Moment::new(moment)?;
-    let batch = prepare(alloc, LinkId(link), session, dir, tail, moment, octets)?;
-    Ok(book.apply(Edit::Append { batch })?)
+) -> Result<(), Refusal> {
+    let (_, session, dir, _) = origin;
+    let tail = book.tail(SessionId(session), dir);
+    let batch = batch_on(alloc, tail, origin, octets)?;
+    book.apply(Edit::Append { batch })
 }
 
 /// Appends what one end of a session sends.
-fn send(
+pub(crate) fn send(
+    rt: &impl Abort,
     alloc: Global,
     book: &mut Book,
-    link: u32,
-    session: u32,
-    dir: Dir,
+    origin: Origin,
+    sent: Sent,
+) -> Result<(), Refusal> {
+    let octets = octets_of(alloc, sent).expect(rt, "octets");
+    append(alloc, book, origin, octets.as_slice())
+}
+
+/// Appends what one end of a session sends, octet by octet.
+fn send_singly(
+    rt: &impl Abort,
+    alloc: Global,
+    book: &mut Book,
+    origin: Origin,
+    sent: Sent,
+) -> Result<(), Refusal> {
+    let octets = octets_of(alloc, sent).expect(rt, "octets");
+    for octet in octets.as_slice() {
+        append(alloc, book, origin, &[*octet])?;
+    }
+    Ok(())
+}
+
+/// Appends what the client of session 10 sends, as if it had sent so many octets.
+fn send_at(
+    rt: &impl Abort,
+    alloc: Global,
+    book: &mut Book,
+    offset: u64,
     moment: u64,
     sent: Sent,
-) -> Result<(), Fail> {
-    let octets = octets_of(alloc, sent)?;
-    append(
-        alloc,
-        book,
-        link,
-        session as u64,
-        dir,
-        moment,
-        octets.as_slice(),
-    )
+) -> Result<(), Refusal> {
+    let octets = octets_of(alloc, sent).expect(rt, "octets");
+    let origin = (1, 10, Dir::FromClient, moment);
+    let batch = batch_on(alloc, &Tail::at(offset), origin, octets.as_slice())?;
+    book.apply(Edit::Append { batch })
+}
+
+/// Makes an edit of routes, if it is one.
+pub(crate) fn made(book: &mut Book, edit: Result<Edit, Refusal>) -> Result<(), Refusal> {
+    book.apply(edit?)
 }
 
 fn withdraw(book: &mut Book, session: u32) -> Result<(), Refusal> {
@@ -289,17 +357,22 @@ fn withdraw(book: &mut Book, session: u32) -> Result<(), Refusal> {
     book.apply(Edit::Withdraw { session })
 }
 
-fn reply_of(reply: Reply) -> Result<Result<(), Refusal>, Fail> {
-    Ok(match reply {
-        Reply::Made => Ok(()),
-        Reply::Overlap(from) => Err(Refusal::Overlap {
-            from: Moment::new(from)?,
-        }),
-        Reply::NoRoute => Err(Refusal::NoRoute),
-        Reply::Ended(until) => Err(Refusal::Ended {
-            until: Moment::new(until)?,
-        }),
-        Reply::BadEnd => Err(Refusal::BadEnd),
+fn advance(book: &mut Book, clock: u64) -> Result<(), Refusal> {
+    let clock = Moment::new(clock)?;
+    book.apply(Edit::Advance { clock })
+}
+
+pub(crate) fn set_forms(
+    book: &mut Book,
+    link: u32,
+    response: Form,
+    receipt: Form,
+) -> Result<(), Refusal> {
+    let link = LinkId(link);
+    book.apply(Edit::SetForm {
+        link,
+        response,
+        receipt,
     })
 }
 
@@ -330,98 +403,127 @@ fn corrected(prefix: &[u8], from: u64, route: u32, network: &[u8]) -> Result<Edi
     })
 }
 
-fn set_forms(book: &mut Book, response: Form, receipt: Form) -> Result<(), Fail> {
-    let link = LinkId(1);
-    Ok(book.apply(Edit::SetForm {
-        link,
-        response,
-        receipt,
-    })?)
+fn refusal_of(reply: Reply) -> Result<Option<Refusal>, Refusal> {
+    Ok(Some(match reply {
+        Reply::Made => return Ok(None),
+        Reply::EmptyPiece => Refusal::EmptyPiece,
+        Reply::Backward(last) => Refusal::Backward {
+            last: Moment::new(last)?,
+        },
+        Reply::OtherLink(link) => Refusal::OtherLink { link: LinkId(link) },
+        Reply::OutOfStep(offset) => Refusal::OutOfStep { offset },
+        Reply::NoSession => Refusal::NoSession,
+        Reply::Overlap(from) => Refusal::Overlap {
+            from: Moment::new(from)?,
+        },
+        Reply::NoRoute => Refusal::NoRoute,
+        Reply::Ended(until) => Refusal::Ended {
+            until: Moment::new(until)?,
+        },
+        Reply::BadEnd => Refusal::BadEnd,
+        Reply::ClockBack(clock) => Refusal::ClockBack {
+            clock: Moment::new(clock)?,
+        },
+        Reply::StreamFull => Refusal::StreamFull,
+    }))
 }
 
-/// Plays a script on a book, and asserts the rows at each of its points.
-fn play(
-    rt: &impl Abort,
-    alloc: Global,
-    book: &mut Book,
-    what: &str,
-    script: &[Step],
-) -> Result<(), Fail> {
-    for step in script {
-        match *step {
-            Step::Client(session, moment, sent) => {
-                send(
-                    alloc,
-                    book,
-                    session / 10,
-                    session,
-                    Dir::FromClient,
-                    moment,
-                    sent,
-                )?
-            },
-            Step::Centre(session, moment, sent) => {
-                send(
-                    alloc,
-                    book,
-                    session / 10,
-                    session,
-                    Dir::FromCentre,
-                    moment,
-                    sent,
-                )?
-            },
-            Step::Under(link, session, moment, sent) => {
-                send(alloc, book, link, session, Dir::FromClient, moment, sent)?
-            },
-            Step::Withdraw(session) => withdraw(book, session)?,
-            Step::Absent(session) => {
-                assert_eq!(rt; withdraw(book, session), Err(Refusal::NoSession), "{what}")
-            },
-            Step::Route(prefix, from, route, network, reply) => {
-                let edit = added(prefix, from, route, network)?;
-                assert_eq!(rt; book.apply(edit), reply_of(reply)?, "{what}")
-            },
-            Step::End(prefix, from, until, reply) => {
-                let edit = ended(prefix, from, until)?;
-                assert_eq!(rt; book.apply(edit), reply_of(reply)?, "{what}")
-            },
-            Step::Correct(prefix, from, route, network, reply) => {
-                let edit = corrected(prefix, from, route, network)?;
-                assert_eq!(rt; book.apply(edit), reply_of(reply)?, "{what}")
-            },
-            Step::Versions(wanted) => assert_versions(rt, book, what, wanted)?,
-            Step::RouteAt(number, at, wanted) => assert_route(rt, book, what, number, at, wanted)?,
-            Step::Forms(response, receipt) => set_forms(book, response, receipt)?,
-            Step::Facts(wanted) => assert_facts(rt, alloc, book, what, wanted)?,
-            Step::Rows(wanted) => assert_rows(rt, alloc, book, what, wanted)?,
-            Step::Routes(wanted) => {
-                let views = (View::Route, View::Network);
-                assert_rows_of(rt, alloc, book, what, views, wanted)?
-            },
-            Step::Lists(wanted) => assert_lists(rt, alloc, book, what, wanted)?,
-            Step::Counts(wanted) => assert_counts(rt, book, what, wanted)?,
-        }
+fn assert_reply(rt: &impl Abort, what: &str, found: Result<(), Refusal>, wanted: Reply) {
+    let wanted = refusal_of(wanted).expect(rt, what);
+    assert_eq!(rt; found.err(), wanted, "{what}");
+}
+
+/// Plays one step, and asserts its reply or what the book shows.
+fn play_step(rt: &impl Abort, alloc: Global, book: &mut Book, what: &str, step: Step) {
+    match step {
+        Step::Client(session, moment, sent) => {
+            let origin = (session / 10, session as u64, Dir::FromClient, moment);
+            assert_reply(rt, what, send(rt, alloc, book, origin, sent), Reply::Made)
+        },
+        Step::Centre(session, moment, sent) => {
+            let origin = (session / 10, session as u64, Dir::FromCentre, moment);
+            assert_reply(rt, what, send(rt, alloc, book, origin, sent), Reply::Made)
+        },
+        Step::Under(link, session, moment, sent, reply) => {
+            let origin = (link, session as u64, Dir::FromClient, moment);
+            assert_reply(rt, what, send(rt, alloc, book, origin, sent), reply)
+        },
+        Step::Singly(session, dir, moment, sent) => {
+            let origin = (session / 10, session as u64, dir, moment);
+            assert_reply(
+                rt,
+                what,
+                send_singly(rt, alloc, book, origin, sent),
+                Reply::Made,
+            )
+        },
+        Step::At(offset, moment, sent, reply) => {
+            assert_reply(
+                rt,
+                what,
+                send_at(rt, alloc, book, offset, moment, sent),
+                reply,
+            )
+        },
+        Step::Withdraw(session) => assert_reply(rt, what, withdraw(book, session), Reply::Made),
+        Step::Absent(session) => assert_reply(rt, what, withdraw(book, session), Reply::NoSession),
+        Step::Route(prefix, from, route, network, reply) => {
+            assert_reply(
+                rt,
+                what,
+                made(book, added(prefix, from, route, network)),
+                reply,
+            )
+        },
+        Step::End(prefix, from, until, reply) => {
+            assert_reply(rt, what, made(book, ended(prefix, from, until)), reply)
+        },
+        Step::Correct(prefix, from, route, network, reply) => {
+            assert_reply(
+                rt,
+                what,
+                made(book, corrected(prefix, from, route, network)),
+                reply,
+            )
+        },
+        Step::Forms(response, receipt) => {
+            assert_reply(rt, what, set_forms(book, 1, response, receipt), Reply::Made)
+        },
+        Step::Advance(clock, reply) => assert_reply(rt, what, advance(book, clock), reply),
+        Step::Session(wanted) => assert_session(rt, book, what, wanted),
+        Step::Versions(wanted) => assert_versions(rt, book, what, wanted),
+        Step::RouteAt(number, at, wanted) => assert_route(rt, book, what, number, at, wanted),
+        Step::Facts(wanted) => assert_facts(rt, alloc, book, what, wanted),
+        Step::Rows(wanted) => assert_rows(rt, book, what, (View::Link, View::Error), wanted),
+        Step::Routes(wanted) => assert_rows(rt, book, what, (View::Route, View::Network), wanted),
+        Step::Lists(wanted) => assert_lists(rt, book, what, wanted),
+        Step::Counts(wanted) => assert_counts(rt, book, what, wanted),
+        Step::Report(wanted) => assert_report(rt, alloc, book, what, wanted),
     }
-    Ok(())
+}
+
+/// Plays a script on a book, and asserts what it shows at each of its points.
+pub(crate) fn play(rt: &impl Abort, alloc: Global, book: &mut Book, what: &str, script: &[Step]) {
+    for step in script {
+        play_step(rt, alloc, book, what, *step);
+    }
 }
 
 /// Plays a script on a new book.
-fn plays(rt: &impl Abort, alloc: Global, what: &str, script: &[Step]) -> Result<(), Fail> {
+fn plays(rt: &impl Abort, alloc: Global, what: &str, script: &[Step]) {
     let mut book = Book::new(alloc);
-    play(rt, alloc, &mut book, what, script)
+    play(rt, alloc, &mut book, what, script);
 }
 
 /// Plays each script of a table on a new book.
-fn play_table(rt: &impl Abort, alloc: Global, table: Table) -> Result<(), Fail> {
+fn play_table(rt: &impl Abort, alloc: Global, table: Table) {
     for (what, script) in table {
-        plays(rt, alloc, what, script)?;
+        plays(rt, alloc, what, script);
     }
-    Ok(())
 }
 
 /// Plays each row of a table on a new book of a submit and its response.
-fn play_received(rt: &impl Abort, alloc: Global, table: Received) -> Result<(), Fail> {
+fn play_received(rt: &impl Abort, alloc: Global, table: Received) {
     for (what, sent, rows) in table {
         let receipt = Step::Centre(10, 2000, *sent);
         plays(
@@ -429,232 +531,47 @@ fn play_received(rt: &impl Abort, alloc: Global, table: Received) -> Result<(), 
             alloc,
             what,
             &[SUBMIT, RESPONSE, receipt, Step::Rows(rows)],
-        )?;
+        );
     }
-    Ok(())
+}
+
+/// The tables that a script gives.
+fn tables_after(rt: &impl Abort, alloc: Global, what: &str, script: &[Step]) -> Tables {
+    let mut book = Book::new(alloc);
+    play(rt, alloc, &mut book, what, script);
+    book.tables().expect(rt, what)
 }
 
 /// Whether two scripts give equal tables.
 pub(crate) fn have_equal_tables(
     rt: &impl Abort,
     alloc: Global,
+    what: &str,
     one: &[Step],
     other: &[Step],
-) -> Result<bool, Fail> {
-    let mut first = Book::new(alloc);
-    play(rt, alloc, &mut first, "one", one)?;
-    let mut second = Book::new(alloc);
-    play(rt, alloc, &mut second, "the other", other)?;
-    let tables = first.tables()?;
-    Ok(tables == second.tables()?)
-}
-
-/// Asserts that the versions of routes are these, in order.
-fn assert_versions(
-    rt: &impl Abort,
-    book: &Book,
-    what: &str,
-    wanted: &[WantedVersion],
-) -> Result<(), Fail> {
-    let mut versions = book.present().versions();
-    for (prefix, from, until, route, network) in wanted {
-        let (key, version) = versions.next().ok_or("no version")?;
-        assert_eq!(rt; key.prefix.as_slice(), *prefix, "{what}");
-        assert_eq!(rt; key.from.milliseconds(), *from, "{what}");
-        let end = version.until.map(|until| until.milliseconds());
-        assert_eq!(rt; end, *until, "{what}");
-        assert_eq!(rt; version.route, RouteId(*route), "{what}");
-        assert_eq!(rt; version.network.as_slice(), *network, "{what}");
-    }
-    assert!(rt; versions.next().is_none(), "{what}");
-    assert_eq!(rt;
-        book.present().settings().versions().count(),
-        wanted.len(),
-        "{what}"
-    );
-    Ok(())
-}
-
-/// Asserts the route and the network of a number at a moment.
-fn assert_route(
-    rt: &impl Abort,
-    book: &Book,
-    what: &str,
-    number: &[u8],
-    at: u64,
-    wanted: Option<(u32, &[u8])>,
-) -> Result<(), Fail> {
-    let number = Digits::parse(number)?;
-    let found = book
-        .present()
-        .settings()
-        .route_at(&number, Moment::new(at)?);
-    match (found, wanted) {
-        (Some((route, network)), Some((wanted_route, wanted_network))) => {
-            assert_eq!(rt; route, RouteId(wanted_route), "{what}");
-            assert_eq!(rt; network.as_slice(), wanted_network, "{what}");
-        },
-        (found, wanted) => {
-            assert_eq!(rt; found.is_some(), wanted.is_some(), "{what}");
-        },
-    }
-    Ok(())
-}
-
-/// Asserts that the facts of the messages are these, in order.
-fn assert_facts(
-    rt: &impl Abort,
-    alloc: Global,
-    book: &Book,
-    what: &str,
-    wanted: &[WantedFact],
-) -> Result<(), Fail> {
-    let mut wanted_facts = Vec::new(alloc);
-    for fact in wanted {
-        wanted_facts.push(fact_of(*fact))?;
-    }
-    let facts = facts_of(alloc, book.present())?;
-    assert_eq!(rt; facts.as_slice(), wanted_facts.as_slice(), "{what}");
-    Ok(())
-}
-
-fn fact_of(wanted: WantedFact) -> Fact {
-    let (offset, outcome, status) = wanted;
-    Fact {
-        place: Place {
-            session: SessionId(10),
-            dir: Dir::FromClient,
-            offset,
-        },
-        moment: Moment::epoch(),
-        link: LinkId(1),
-        route: None,
-        network: None,
-        outcome,
-        error: status.map(|status| SubmitError::Refused { status }),
-    }
-}
-
-/// Asserts that the rows of the link view, then those of the error view, are these.
-pub(crate) fn assert_rows(
-    rt: &impl Abort,
-    alloc: Global,
-    book: &Book,
-    what: &str,
-    wanted: &[Wanted],
-) -> Result<(), Fail> {
-    assert_rows_of(rt, alloc, book, what, (View::Link, View::Error), wanted)
-}
-
-/// Asserts that the rows of one view, then those of the other, are these, that each has its count, and that its value has
-/// none in the other view.
-fn assert_rows_of(
-    rt: &impl Abort,
-    alloc: Global,
-    book: &Book,
-    what: &str,
-    views: (View, View),
-    wanted: &[Wanted],
-) -> Result<(), Fail> {
-    let tables = book.tables()?;
-    let mut rows = Vec::new(alloc);
-    let (first, second) = views;
-    for (view, other) in [(first, second), (second, first)] {
-        for (value, outcome, count) in tables.rows(view) {
-            assert_eq!(rt; tables.count(view, value, outcome), count, "{what}");
-            assert_eq!(rt; tables.count(other, value, outcome), 0, "{what}");
-            rows.push((value.copy(), outcome, count))?;
-        }
-    }
-    let mut wanted_rows = Vec::new(alloc);
-    for row in wanted {
-        wanted_rows.push(row_of(rt, *row))?;
-    }
-    assert_eq!(rt; rows.as_slice(), wanted_rows.as_slice(), "{what}");
-    Ok(())
-}
-
-/// Asserts that the places in the lists are these, list by list in their order.
-fn assert_lists(
-    rt: &impl Abort,
-    alloc: Global,
-    book: &Book,
-    what: &str,
-    wanted: &[WantedPlace],
-) -> Result<(), Fail> {
-    let tables = book.tables()?;
-    let mut places = Vec::new(alloc);
-    for list in [List::Waiting, List::StrayAnswers, List::Mismatched] {
-        for place in tables.list(list) {
-            places.push((list, place.session.0, place.dir, place.offset))?;
-        }
-    }
-    assert_eq!(rt; places.as_slice(), wanted, "{what}");
-    Ok(())
-}
-
-/// Asserts what is counted in a view.
-fn assert_counts(
-    rt: &impl Abort,
-    book: &Book,
-    what: &str,
-    wanted: &[(View, Wanted)],
-) -> Result<(), Fail> {
-    let tables = book.tables()?;
-    for (view, row) in wanted {
-        let (value, outcome, count) = row_of(rt, *row);
-        assert_eq!(rt; tables.count(*view, &value, outcome), count, "{what}");
-    }
-    Ok(())
-}
-
-/// The value, the outcome and the count of a row.
-fn row_of(rt: &impl Abort, wanted: Wanted) -> (Value, Outcome, u64) {
-    match wanted {
-        Wanted::Link(number, outcome, count) => (Value::Link(LinkId(number)), outcome, count),
-        Wanted::OfRoute(number, outcome, count) => (Value::Route(RouteId(number)), outcome, count),
-        Wanted::OfNoRoute(outcome, count) => (Value::NoRoute, outcome, count),
-        Wanted::OfNetwork(code, outcome, count) => {
-            let network = Network::parse(code).expect(rt, "the code of a network");
-            (Value::Network(network), outcome, count)
-        },
-        Wanted::OfNoNetwork(outcome, count) => (Value::NoNetwork, outcome, count),
-        Wanted::Refused(status, count) => {
-            let error = SubmitError::Refused { status };
-            (Value::Error(error), Outcome::Refused, count)
-        },
-        Wanted::Network(kind, code, count) => failed(ErrorCode::Network { kind, code }, count),
-        Wanted::Text(octets, count) => {
-            let text = ErrorText::new(octets).expect(rt, "an error text");
-            failed(ErrorCode::Text(text), count)
-        },
-        Wanted::Unstated(count) => failed(ErrorCode::Unstated, count),
-    }
-}
-
-fn failed(error: ErrorCode, count: u64) -> (Value, Outcome, u64) {
-    (
-        Value::Error(SubmitError::Failed(error)),
-        Outcome::Failed,
-        count,
-    )
+) -> bool {
+    let tables = tables_after(rt, alloc, what, one);
+    tables == tables_after(rt, alloc, what, other)
 }
 
 #[test]
-fn each_script_gives_its_facts_and_rows(rt: HostRuntime) -> Result<(), Fail> {
+fn each_script_gives_its_facts_and_rows(rt: HostRuntime) {
     let alloc = rt.alloc();
-    play_table(&rt, alloc, ids::RESPONSES)?;
-    play_table(&rt, alloc, ids::FORMS)?;
-    play_table(&rt, alloc, ids::KEYS)?;
-    play_received(&rt, alloc, receipts::FINAL)?;
-    play_received(&rt, alloc, receipts::NOT_FINAL)?;
-    play_table(&rt, alloc, receipts::STRAY)?;
-    play_table(&rt, alloc, receipts::SEVERAL)?;
-    play_table(&rt, alloc, receipts::ERRORS)?;
-    play_table(&rt, alloc, counts::FACTS)?;
-    play_table(&rt, alloc, counts::ROWS)?;
-    play_table(&rt, alloc, withdrawals::WITHDRAWALS)?;
-    play_table(&rt, alloc, routes::ROUTES)?;
-    play_table(&rt, alloc, versions::VERSIONS)?;
-    play_table(&rt, alloc, lists::LISTS)
+    play_table(&rt, alloc, ids::RESPONSES);
+    play_table(&rt, alloc, ids::FORMS);
+    play_table(&rt, alloc, ids::KEYS);
+    play_received(&rt, alloc, receipts::FINAL);
+    play_received(&rt, alloc, receipts::NOT_FINAL);
+    play_table(&rt, alloc, receipts::STRAY);
+    play_table(&rt, alloc, receipts::SEVERAL);
+    play_table(&rt, alloc, receipts::ERRORS);
+    play_table(&rt, alloc, counts::FACTS);
+    play_table(&rt, alloc, counts::ROWS);
+    play_table(&rt, alloc, withdrawals::WITHDRAWALS);
+    play_table(&rt, alloc, routes::ROUTES);
+    play_table(&rt, alloc, versions::VERSIONS);
+    play_table(&rt, alloc, lists::LISTS);
+    play_table(&rt, alloc, edits::EDITS);
+    play_table(&rt, alloc, reports::REPORTS);
+    play_table(&rt, alloc, reports::RECEIPTS);
 }

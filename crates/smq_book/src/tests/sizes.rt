@@ -1,9 +1,10 @@
 //! Large numbers and sizes are taken where memory is there, as no clause can say.
 use crate::tests::scripts::*;
+use crate::tests::shown::assert_rows;
 use crate::*;
 use smq_kit::{Dir, LinkId, SessionId};
 use std::alloc::{AllocError, Global};
-use std::test::Fail;
+use std::process::Abort;
 
 /// 2 to the power 32, and 1 more.
 const FAR_SESSION: u64 = 4_294_967_297;
@@ -20,40 +21,55 @@ fn id_of(seq: u32) -> [u8; 3] {
     [digit(seq / 100), digit(seq / 10), digit(seq)]
 }
 
-/// A delivery receipt of the message of a sequence number: a deliver_sm without addresses (SMPP 3.4, 4.6.1), of 52 octets.
-fn receipt_of(alloc: Global, seq: u32) -> Result<Vec<u8>, AllocError> {
-    let mut octets = Vec::new(alloc);
+/// Puts a delivery receipt of the message of a sequence number after some octets: a deliver_sm without addresses
+/// (SMPP 3.4, 4.6.1), of 52 octets.
+fn push_receipt(octets: &mut Vec<u8>, seq: u32) -> Result<(), AllocError> {
     octets.extend_from_slice(b"\0\0\0\x34\0\0\0\x05\0\0\0\0\0\0\0\x01")?;
     octets.extend_from_slice(b"\0\0\0\0\0\0\0\x04\0\0\0\0\0\0\0\0\x13id:")?;
     octets.extend_from_slice(&id_of(seq))?;
-    octets.extend_from_slice(b" stat:DELIVRD")?;
-    Ok(octets)
+    octets.extend_from_slice(b" stat:DELIVRD")
 }
 
-/// The response of a sequence number with its message id: a submit_sm_resp (4.4.2) of 20 octets.
-fn response_of(alloc: Global, seq: u32) -> Result<Vec<u8>, AllocError> {
-    let mut octets = Vec::new(alloc);
+/// Puts the response of a sequence number with its message id after some octets: a submit_sm_resp (4.4.2) of 20 octets.
+fn push_response(octets: &mut Vec<u8>, seq: u32) -> Result<(), AllocError> {
     octets.extend_from_slice(b"\0\0\0\x14\x80\0\0\x04\0\0\0\0")?;
     octets.extend_from_slice(&seq.to_be_bytes())?;
     octets.extend_from_slice(&id_of(seq))?;
-    octets.extend_from_slice(b"\0")?;
+    octets.extend_from_slice(b"\0")
+}
+
+fn responses(alloc: Global) -> Result<Vec<u8>, AllocError> {
+    let mut octets = Vec::new(alloc);
+    for seq in 1..=MESSAGES {
+        push_response(&mut octets, seq)?;
+    }
     Ok(octets)
 }
 
-/// A submit_sm of `MESSAGES` sequence numbers, each in a piece, then their responses in one piece, then their receipts.
-fn append_messages(alloc: Global, book: &mut Book, link: u32, session: u64) -> Result<(), Fail> {
-    let mut responses = Vec::new(alloc);
-    let mut receipts = Vec::new(alloc);
+fn receipts(alloc: Global) -> Result<Vec<u8>, AllocError> {
+    let mut octets = Vec::new(alloc);
     for seq in 1..=MESSAGES {
-        let submit = octets_of(alloc, Sent::Submit(seq, NUMBER))?;
-        let dir = Dir::FromClient;
-        append(alloc, book, link, session, dir, 1000, submit.as_slice())?;
-        responses.extend_from_slice(response_of(alloc, seq)?.as_slice())?;
-        receipts.extend_from_slice(receipt_of(alloc, seq)?.as_slice())?;
+        push_receipt(&mut octets, seq)?;
     }
-    let dir = Dir::FromCentre;
-    append(alloc, book, link, session, dir, 2000, responses.as_slice())?;
-    append(alloc, book, link, session, dir, 3000, receipts.as_slice())
+    Ok(octets)
+}
+
+/// Puts octets after a direction of the far session.
+fn put(rt: &impl Abort, alloc: Global, book: &mut Book, dir: Dir, moment: u64, octets: &[u8]) {
+    let origin = (FAR_LINK, FAR_SESSION, dir, moment);
+    append(alloc, book, origin, octets).expect(rt, "far octets");
+}
+
+/// A submit_sm of `MESSAGES` sequence numbers, each in a piece, then their responses in one piece, then their receipts.
+fn put_messages(rt: &impl Abort, alloc: Global, book: &mut Book) {
+    let origin = (FAR_LINK, FAR_SESSION, Dir::FromClient, 1000);
+    for seq in 1..=MESSAGES {
+        send(rt, alloc, book, origin, Sent::Submit(seq, NUMBER)).expect(rt, "a far submit");
+    }
+    let octets = responses(alloc).expect(rt, "responses");
+    put(rt, alloc, book, Dir::FromCentre, 2000, octets.as_slice());
+    let octets = receipts(alloc).expect(rt, "receipts");
+    put(rt, alloc, book, Dir::FromCentre, 3000, octets.as_slice());
 }
 
 /// A PDU of 70,000 octets, of the command `enquire_link`.
@@ -74,50 +90,40 @@ fn sizes_of(book: &Book, session: u64, dir: Dir) -> Option<(u64, usize, usize)> 
     ))
 }
 
+/// Whether a submit_sm came a piece, 300 other PDUs a piece, and session 1 is absent.
+fn has_far_sizes(book: &Book) -> bool {
+    sizes_of(book, FAR_SESSION, Dir::FromClient) == Some((14_700, 300, 300))
+        && sizes_of(book, FAR_SESSION, Dir::FromCentre) == Some((21_600, 2, 600))
+        && book.present().session(SessionId(1)).is_none()
+}
+
+/// The long PDU in one piece of session 1, then a submit_sm.
+fn put_long_pdu(rt: &impl Abort, alloc: Global, book: &mut Book) {
+    let octets = long_pdu(alloc).expect(rt, "a long PDU");
+    let origin = (1, 1, Dir::FromClient, 1000);
+    append(alloc, book, origin, octets.as_slice()).expect(rt, "a long piece");
+    let first = sizes_of(book, 1, Dir::FromClient);
+    assert!(rt; first == Some((70_000, 1, 1)), "a piece of one long PDU");
+    send(rt, alloc, book, origin, Sent::Submit(1, NUMBER)).expect(rt, "a submit");
+}
+
+/// Asserts the rows of session 2^32 + 1 and session 1, and the link of the far one.
+fn assert_far_rows(rt: &impl Abort, book: &Book) {
+    let wanted = &[
+        Wanted::Link(1, Outcome::Waiting, 1),
+        Wanted::Link(FAR_LINK, Outcome::Delivered, 300),
+    ];
+    assert_rows(rt, book, "far numbers", (View::Link, View::Error), wanted);
+    let far = book.present().session(SessionId(FAR_SESSION));
+    assert!(rt; far.map(|session| session.link) == Some(LinkId(FAR_LINK)));
+}
+
 #[test]
-fn far_numbers_and_large_sizes_are_taken(rt: HostRuntime) -> Result<(), Fail> {
+fn far_numbers_and_large_sizes_are_taken(rt: HostRuntime) {
     let alloc = rt.alloc();
     let mut book = Book::new(alloc);
-    append_messages(alloc, &mut book, FAR_LINK, FAR_SESSION)?;
-    let client = sizes_of(&book, FAR_SESSION, Dir::FromClient);
-    assert_eq!(rt; client, Some((14_700, 300, 300)), "a submit_sm a piece");
-    let centre = sizes_of(&book, FAR_SESSION, Dir::FromCentre);
-    assert_eq!(rt; centre, Some((21_600, 2, 600)), "300 PDUs a piece");
-    assert!(rt; book.present().session(SessionId(1)).is_none());
-    let long = long_pdu(alloc)?;
-    append(
-        alloc,
-        &mut book,
-        1,
-        1,
-        Dir::FromClient,
-        1000,
-        long.as_slice(),
-    )?;
-    let first = sizes_of(&book, 1, Dir::FromClient);
-    assert_eq!(rt; first, Some((70_000, 1, 1)), "a piece of one long PDU");
-    let submit = octets_of(alloc, Sent::Submit(1, NUMBER))?;
-    append(
-        alloc,
-        &mut book,
-        1,
-        1,
-        Dir::FromClient,
-        1000,
-        submit.as_slice(),
-    )?;
-    let what = "of session 2^32 + 1 and session 1";
-    assert_rows(
-        &rt,
-        alloc,
-        &book,
-        what,
-        &[
-            Wanted::Link(1, Outcome::Waiting, 1),
-            Wanted::Link(FAR_LINK, Outcome::Delivered, 300),
-        ],
-    )?;
-    let far = book.present().session(SessionId(FAR_SESSION));
-    assert_eq!(rt; far.map(|session| session.link), Some(LinkId(FAR_LINK)));
-    Ok(())
+    put_messages(&rt, alloc, &mut book);
+    assert!(rt; has_far_sizes(&book));
+    put_long_pdu(&rt, alloc, &mut book);
+    assert_far_rows(&rt, &book);
 }

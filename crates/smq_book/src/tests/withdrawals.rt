@@ -85,7 +85,7 @@ pub(crate) const WITHDRAWALS: Table = &[
             Forms(Form::Decimal, Form::Decimal),
             SUBMIT,
             Withdraw(10),
-            Under(2, 10, 500, Submit(7, NUMBER)),
+            Under(2, 10, 500, Submit(7, NUMBER), Reply::Made),
             Rows(&[Link(2, Outcome::Waiting, 1)]),
             Withdraw(10),
             SUBMIT,

@@ -1,15 +1,23 @@
 //! The book: it makes an edit or refuses it, and counts what is present from nothing.
-ghost use Rattle.std.specs.Prelude.{◌≡◌, IfOk};
+ghost use Rattle.std.specs.Prelude.{◌≡◌, IfOk, IsTrue, map};
+ghost use Rattle.std.specs.FinMap as fin;
+ghost use Rattle.smq_kit.specs.Orders.{place_cmp};
+ghost use Rattle.smq_tally.specs.Lists.{listed_set};
 ghost use Rattle.smq_book.specs.present.Present.{empty, tail_in};
 ghost use Rattle.smq_book.specs.present.Replies.{reply, IsReplyTo};
 ghost use Rattle.smq_book.specs.whole.Scratch.{scratch};
 ghost use Rattle.smq_book.specs.present.Steps.{step};
+ghost use Rattle.smq_book.specs.within.Lists.{placed_fact};
 
+use crate::join::accepted::Accepted;
+use crate::join::deciders::Deciders;
 use crate::join::facts::facts_with;
-use crate::join::traffic::read_sessions;
-use crate::{Edit, Forms, Present, Tables};
+use crate::join::listings::push_receipt_notes;
+use crate::join::traffic::{Traffic, read_sessions};
+use crate::{Edit, Fact, Forms, Listed, Present, Tables};
 use smq_frame::Tail;
 use smq_kit::{Dir, Refusal, SessionId};
+use smq_tally::Tally;
 use std::alloc::{AllocError, Global};
 use std::marker::Model;
 
@@ -72,7 +80,8 @@ impl Book {
     /// where a version of its prefix is open or ends after it begins (`Overlap`); and for want of memory (`Memory`). An
     /// `EndRoute` is refused, in order: where no version has its prefix and beginning (`NoRoute`); where that one has an
     /// end (`Ended`); and where its end isn't after the beginning (`BadEnd`). A `CorrectRoute` is refused where no version
-    /// has its prefix and beginning (`NoRoute`). A `Withdraw`, an `EndRoute` and a `CorrectRoute` take no memory.
+    /// has its prefix and beginning (`NoRoute`), and an `Advance` where its clock is below the present one (`ClockBack`).
+    /// A `Withdraw`, an `EndRoute`, a `CorrectRoute` and an `Advance` take no memory.
     pub fn apply(&mut self, edit: Edit) -> Result<(), Refusal>
         ensures { IsReplyTo edit (reply self.old.present edit) result
             (self.new.present ≡ step self.old.present edit) (self.new.present ≡ self.old.present) }
@@ -102,6 +111,7 @@ impl Book {
                 route,
                 network,
             } => self.present.correct_route(&prefix, from, route, network),
+            Edit::Advance { clock } => self.present.advance(clock),
         }
     }
 
@@ -109,8 +119,28 @@ impl Book {
     pub fn tables(&self) -> Result<Tables, AllocError>
         ensures { IfOk result (λ tables. tables ≡ scratch self.now.present) }
     {
-        let traffic = read_sessions(self.alloc, &self.present)?;
-        let facts = facts_with(self.alloc, &self.present, traffic.submits.as_slice())?;
-        Tables::of(self.alloc, facts.as_slice(), traffic.notes.as_slice())
+        let Traffic { submits, mut notes } = read_sessions(self.alloc, &self.present)?;
+        let submits = submits.as_slice();
+        let accepted = Accepted::of_submits(self.alloc, submits)?;
+        let deciders = Deciders::of_present(self.alloc, &self.present)?;
+        push_receipt_notes(&mut notes, &self.present, &accepted, &deciders)?;
+        let facts = facts_with(self.alloc, &self.present, submits, &accepted, &deciders)?;
+        Ok(tally_of(self.alloc, facts, notes)?.into_tables())
     }
+}
+
+/// A tally of these facts, which rise by place, and of these notes.
+fn tally_of(alloc: Global, facts: Vec<Fact>, notes: Vec<Listed>) -> Result<Tally, AllocError>
+    requires { IsTrue (fin.is_sorted place_cmp (map placed_fact facts.items)) }
+    ensures facts { IfOk result (λ t. t.facts ≡ fin.from_entries (map placed_fact facts.items)) }
+    ensures notes { IfOk result (λ t. t.notes ≡ listed_set notes.items) }
+{
+    let mut tally = Tally::new(alloc);
+    for fact in facts {
+        tally.add(fact)?;
+    }
+    for note in notes {
+        tally.note(note.list, note.place)?;
+    }
+    Ok(tally)
 }

@@ -11,6 +11,8 @@ returns c = record {
   network_row = refl;
   no_network_row = refl;
   error_row = refl;
+  link_delay_row = refl;
+  centre_delay_row = refl;
   link = refl;
   route = refl;
   network_code = refl;
@@ -18,4 +20,5 @@ returns c = record {
   network = refl;
   text = refl;
   unstated = refl;
+  band = refl;
 }

@@ -6,7 +6,7 @@ use Rattle.clap.specs.Words.{App, Text, fault_of, is_simple, subcommand_of}
 use Rattle.clap.specs.declared.builder.value_parser.ValueParser.{ValueParser}
 use Rattle.clap.specs.declared.error.Error.{Error}
 use Rattle.clap.proofs.OnLiterals.{clap_on_literals}
-use Rattle.smq_book.specs.declared.counting.tally.View.TheVariants.{Link}
+use Rattle.smq_tally.specs.declared.view.View.TheVariants.{Link}
 use Rattle.smq.specs.declared.words.Order.TheVariants.{Query}
 use Rattle.smq.specs.Words.{TakesWords, AsksFor, TakesViews, program}
 use Rattle.smq.proofs.OrderLemmas.{words_name_view}

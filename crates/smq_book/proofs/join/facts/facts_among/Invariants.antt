@@ -6,4 +6,4 @@ use Rattle.smq_book.proofs.join.facts.facts_among.Given as goal
 
 abbrev pub invariant-loop-submit : goal.invariant-loop-submit
 invariant-loop-submit l = (receipts : List KeyedReceipt) → HasDeciders l.deciders.receipts receipts
-    → l.facts.items ++ map (fact_of l.settings.versions l.submits receipts) (drop l.submit-index l.submits) ≡ facts_among l.settings.versions l.submits receipts
+    → l.facts.items ++ map (fact_of l.settings l.submits receipts) (drop l.submit-index l.submits) ≡ facts_among l.settings l.submits receipts

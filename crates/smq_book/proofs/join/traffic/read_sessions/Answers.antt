@@ -5,10 +5,9 @@ use Rattle.smq_book.specs.declared.join.source.Source.{Source}
 use Rattle.smq_book.specs.declared.present.session.Session.{Session}
 use Rattle.smq_book.specs.present.Kept.{kept_pdus}
 use Rattle.smq_book.specs.present.Settings.{SettingsValue}
-use Rattle.smq_book.specs.pairing.Traffic.{notes_among, pairing_among, session_notes}
+use Rattle.smq_book.specs.pairing.Traffic.{session_notes}
 use Rattle.smq_book.specs.within.Lists.{source_of, session_submits}
 use Rattle.smq_book.specs.within.Messages.{submits_among}
-use Rattle.smq_book.specs.within.Pairs.{from_session}
 use Rattle.smq_book.proofs.join.traffic.read_sessions.Goals as goal
 
 -- one session more is read, and the others are left
@@ -28,5 +27,5 @@ loop-number-preserved c =
       submits = more (session_submits c.args.present.now.settings) c.loop-number.submits.items c.read_session.new.submits.items _ e _ c.loop-number.number-iterator c.next.new.self
           c.in_ok-read_session.ensures.submits (ap (λ (s : Source). submits_among s (kept_pdus c.in-Some.session.now.client) (kept_pdus c.in-Some.session.now.centre)) source) left c.loop-number.invariant.submits;
       notes = more session_notes c.loop-number.notes.items c.read_session.new.notes.items _ e _ c.loop-number.number-iterator c.next.new.self
-          c.in_ok-read_session.ensures.notes (ap (λ (s : Source). notes_among (pairing_among (from_session s.session) (kept_pdus c.in-Some.session.now.client) (kept_pdus c.in-Some.session.now.centre))) source) left c.loop-number.invariant.notes;
+          c.in_ok-read_session.ensures.notes (ap (λ (s : Source). session_notes (s.session.0, c.in-Some.session.now)) source) left c.loop-number.invariant.notes;
     }

@@ -1,6 +1,6 @@
 use Rattle.std.proofs.Common.{◌≡◌, ◌++◌}
 use Rattle.std.specs.Prelude.{map}
-use Rattle.smq_book.specs.counting.Lists.{listed}
+use Rattle.smq_tally.specs.Lists.{listed}
 use Rattle.smq_book.proofs.pairing.notes.push_places.Given as goal
 
 abbrev pub invariant-loop-place : goal.invariant-loop-place

@@ -1,0 +1,33 @@
+-- Which delivery receipts want looking at.
+use Rattle.std.specs.Prelude.{List, ◌++◌, Option, Some, None, option_map, option_to_list}
+use Rattle.std.specs.List.{flat_map}
+use Rattle.std.specs.FinMap as map
+use Rattle.std.specs.FinSet.{FinSet}
+use Rattle.smq_kit.specs.declared.place.Place.{Place}
+use Rattle.smq_tally.specs.declared.list.List as l
+use Rattle.smq_tally.specs.declared.list.List.TheVariants.{StrayReceipts, AmbiguousReceipts, ExtraReceipts}
+use Rattle.smq_tally.specs.declared.list.Listed.{Listed}
+use Rattle.smq_tally.specs.Lists.{listed, listed_cmp, listed_set}
+use Rattle.smq_book.specs.present.Settings.{SettingsValue}
+use Rattle.smq_book.specs.pairing.Traffic.{TrafficValue}
+use Rattle.smq_book.specs.join.Keyed.{grouping_of}
+use Rattle.smq_book.specs.join.Matching.{Grouping, GroupedReceipt, ReceiptStanding, Stray, Several, Extra, receipt_standing}
+
+-- the list of the delivery receipts that stand so, if there is one
+abbrev pub list_of_standing : ReceiptStanding → Option l.List
+list_of_standing Stray = Some StrayReceipts
+list_of_standing Several = Some AmbiguousReceipts
+list_of_standing Extra = Some ExtraReceipts
+list_of_standing _ = None
+
+-- a delivery receipt in its list, if it has one
+abbrev pub receipt_listing : Grouping → Place × GroupedReceipt → Option Listed
+receipt_listing g e = option_map (λ list. listed list e.0) (list_of_standing (receipt_standing g e.0 e.1))
+
+-- the delivery receipts that want looking at, in their lists
+abbrev pub receipt_notes : Grouping → List Listed
+receipt_notes g = flat_map (λ e. option_to_list (receipt_listing g e)) (map.entries g.receipts)
+
+-- the places that want looking at, in their lists: those of the traffic, and its delivery receipts, under what is set
+abbrev pub notes_of : SettingsValue → TrafficValue → FinSet listed_cmp
+notes_of s t = listed_set (map.keys t.notes ++ receipt_notes (grouping_of s t))

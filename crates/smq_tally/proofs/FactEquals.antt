@@ -1,0 +1,63 @@
+-- What `==` calls one fact is one: part by part.
+use Rattle.std.proofs.Common.{◌≡◌, ℕ, Bool, List, Option, Some, None, refl, ap, rules}
+use Rattle.std.specs.Bool.{Decides}
+use Rattle.std.specs.Option.{option_eq}
+use Rattle.std.proofs.lemmas.Bool.Decides.{Decides-and, Decides-like}
+use Rattle.smq_kit.specs.declared.place.Place.{Place}
+use Rattle.smq_kit.specs.contracts.place.PlacePartialEq.TheImpl as place_eq
+use Rattle.smq_kit.specs.declared.names.LinkId.{LinkId}
+use Rattle.smq_kit.specs.contracts.names.LinkIdPartialEq.TheImpl as link_eq
+use Rattle.smq_kit.specs.declared.names.RouteId.{RouteId}
+use Rattle.smq_kit.specs.contracts.names.RouteIdPartialEq.TheImpl as route_eq
+use Rattle.smq_kit.specs.contracts.number.NetworkPartialEq.TheImpl as network_eq
+use Rattle.smq_tally.specs.declared.band.Band.{Band}
+use Rattle.smq_tally.specs.declared.fact.Fact.{Fact}
+use Rattle.smq_tally.specs.declared.outcome.Outcome.{Outcome}
+use Rattle.smq_tally.specs.declared.value.SubmitError.{SubmitError}
+use Rattle.smq_tally.specs.contracts.band.BandPartialEq.TheImpl as band_eq
+use Rattle.smq_tally.specs.contracts.outcome.OutcomePartialEq.TheImpl as outcome_eq
+use Rattle.smq_tally.specs.contracts.value.SubmitErrorPartialEq.TheImpl as error_eq
+use Rattle.smq_tally.specs.within.Equal.{fact_eq}
+
+places : (a b : Place) → Decides (place_eq.ghosts.eq a b) (a ≡ b)
+places a b = search rules
+
+links : (a b : LinkId) → Decides (link_eq.ghosts.eq a b) (a ≡ b)
+links a b = search rules
+
+routes : (a b : RouteId) → Decides (route_eq.ghosts.eq a b) (a ≡ b)
+routes a b = search rules
+
+networks : (a b : List ℕ) → Decides (network_eq.ghosts.eq a b) (a ≡ b)
+networks a b = search rules
+
+outcomes : (a b : Outcome) → Decides (outcome_eq.ghosts.eq a b) (a ≡ b)
+outcomes a b = search rules
+
+bands : (a b : Band) → Decides (band_eq.ghosts.eq a b) (a ≡ b)
+bands a b = search rules
+
+errors : (a b : SubmitError) → Decides (error_eq.ghosts.eq a b) (a ≡ b)
+errors a b = search rules
+
+options : {X : Type 0} (eq : X → X → Bool) → ((x y : X) → Decides (eq x y) (x ≡ y)) → (a b : Option X) → Decides (option_eq eq a b) (a ≡ b)
+options eq decides None None = (λ h. refl, λ e. refl)
+options eq decides None (Some y) = (λ h. absurd cc, λ e. absurd cc)
+options eq decides (Some x) None = (λ h. absurd cc, λ e. absurd cc)
+options {X} eq decides (Some x) (Some y) = Decides-like (eq x y) (λ h. ap (λ (z : X). Some z) h) (λ e. let same : x ≡ y = cc in same) (decides x y)
+
+-- each part of two facts is one
+abbrev Parts : Fact → Fact → Type 0
+Parts a b = (a.place ≡ b.place) × ((a.link ≡ b.link) × ((a.route ≡ b.route) × ((a.network ≡ b.network) × ((a.outcome ≡ b.outcome) × ((a.error ≡ b.error) × ((a.link_delay ≡ b.link_delay) × (a.centre_delay ≡ b.centre_delay)))))))
+
+parts_decide : (a b : Fact) → Decides (fact_eq a b) (Parts a b)
+parts_decide a b = Decides-and _ _ (places a.place b.place) (Decides-and _ _ (links a.link b.link) (Decides-and _ _ (options _ routes a.route b.route) (Decides-and _ _ (options _ networks a.network b.network) (Decides-and _ _ (outcomes a.outcome b.outcome) (Decides-and _ _ (options _ errors a.error b.error) (Decides-and _ _ (options _ bands a.link_delay b.link_delay) (options _ bands a.centre_delay b.centre_delay)))))))
+
+one : (a b : Fact) → Parts a b → a ≡ b
+one a b p = λ i. record { place = p.0 i; link = p.1.0 i; route = p.1.1.0 i; network = p.1.1.1.0 i; outcome = p.1.1.1.1.0 i; error = p.1.1.1.1.1.0 i; link_delay = p.1.1.1.1.1.1.0 i; centre_delay = p.1.1.1.1.1.1.1 i }
+
+parts : (a b : Fact) → a ≡ b → Parts a b
+parts a b e = (ap (λ f. f.place) e, (ap (λ f. f.link) e, (ap (λ f. f.route) e, (ap (λ f. f.network) e, (ap (λ f. f.outcome) e, (ap (λ f. f.error) e, (ap (λ f. f.link_delay) e, ap (λ f. f.centre_delay) e)))))))
+
+pub facts_decide : (a b : Fact) → Decides (fact_eq a b) (a ≡ b)
+facts_decide a b = Decides-like (fact_eq a b) (one a b) (parts a b) (parts_decide a b)

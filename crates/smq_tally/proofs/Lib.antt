@@ -1,0 +1,15 @@
+pub mod CountOrders
+pub mod ListOrders
+pub mod Listings
+pub mod ListedFacts
+pub mod Undone
+pub mod Tallies
+pub mod CountMoves
+pub mod Shown
+pub mod ViewRanges
+pub mod Stored
+pub mod Held
+pub mod Equals
+pub mod FactEquals
+pub mod Standing
+pub mod Written

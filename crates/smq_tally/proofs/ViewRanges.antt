@@ -1,0 +1,121 @@
+-- Where the counts of a view begin and end in the code's map, in which they stand beside each other.
+use Rattle.std.proofs.Common.{◌≡◌, ℕ, ◌+◌, ◌-◌, ◌<◌, ◌≤◌, Bool, true, false, List, length, Some, None, refl, sym, ap, ◌∙◌, arith}
+use Rattle.std.specs.Prelude.{◌==◌, ◌&&◌, not, map, filter, slice_get}
+use Rattle.std.specs.List.Sorted.{IsStrictlySortedBy}
+use Rattle.std.specs.declared.cmp.Ordering.{Ordering}
+use Rattle.std.specs.declared.cmp.Ordering.TheVariants.{Less, Equal}
+use Rattle.std.specs.declared.ops.Bound.TheVariants.{Included, Excluded, Unbounded}
+use Rattle.std.specs.Ordering.{nat_cmp, ordering_then, is_le, is_gt}
+use Rattle.std.specs.Cmp.{nat_cmp_is}
+use Rattle.std.specs.BTreeMap.Range.{range_contains}
+use Rattle.std.specs.Map.{keys_of}
+use Rattle.std.specs.FinMap.{FinMap, entries, from_entries}
+use Rattle.smq_tally.specs.declared.fact.CountKey.{CountKey}
+use Rattle.smq_tally.specs.declared.value.Value.{Value}
+use Rattle.smq_tally.specs.declared.value.Value.TheVariants as w
+use Rattle.smq_tally.specs.declared.view.View.{View}
+use Rattle.smq_tally.specs.declared.view.View.TheVariants as v
+use Rattle.smq_tally.specs.Rows.{views, view_place, value_cmp, outcome_place, count_cmp}
+use Rattle.smq_tally.specs.Tables.{TablesValue, in_view, shown_row, rows_of}
+use Rattle.smq_tally.specs.within.CountOrder.{kept_cmp, first_value, first_key}
+use Rattle.smq_tally.proofs.CountOrders.{count_key-order, entries-seen}
+use Rattle.smq_tally.proofs.ListOrders.{le_zero, then_le, then_least, one_number, last_number}
+
+-- ---- views in turn
+
+pub view_next : (view next : View) → Some next ≡ slice_get views (view_place view + 1) → view_place next ≡ view_place view + 1
+view_next v.Link next e = let same : next ≡ v.Route = cc in ap view_place same
+view_next v.Route next e = let same : next ≡ v.Network = cc in ap view_place same
+view_next v.Network next e = let same : next ≡ v.Error = cc in ap view_place same
+view_next v.Error next e = let same : next ≡ v.LinkDelay = cc in ap view_place same
+view_next v.LinkDelay next e = let same : next ≡ v.CentreDelay = cc in ap view_place same
+view_next v.CentreDelay next e = absurd cc
+
+view_last : (view : View) → None ≡ slice_get views (view_place view + 1) → (other : View) → view_place other ≤ view_place view
+view_last v.Link e = absurd cc
+view_last v.Route e = absurd cc
+view_last v.Network e = absurd cc
+view_last v.Error e = absurd cc
+view_last v.LinkDelay e = absurd cc
+view_last v.CentreDelay e = below
+  where
+    below : (other : View) → view_place other ≤ 5
+    below v.Link = omega arith
+    below v.Route = omega arith
+    below v.Network = omega arith
+    below v.Error = omega arith
+    below v.LinkDelay = omega arith
+    below v.CentreDelay = omega arith
+
+-- fewer views are left after the next
+pub view_fewer : (view next : View) → Some next ≡ slice_get views (view_place view + 1) → length views - view_place next < length views - view_place view
+view_fewer v.Link next e = let same : next ≡ v.Route = cc in rw same (omega arith)
+view_fewer v.Route next e = let same : next ≡ v.Network = cc in rw same (omega arith)
+view_fewer v.Network next e = let same : next ≡ v.Error = cc in rw same (omega arith)
+view_fewer v.Error next e = let same : next ≡ v.LinkDelay = cc in rw same (omega arith)
+view_fewer v.LinkDelay next e = let same : next ≡ v.CentreDelay = cc in rw same (omega arith)
+view_fewer v.CentreDelay next e = absurd cc
+
+-- ---- where a view begins
+
+-- no value is before the first
+first_le : (a : Value) → is_le (value_cmp first_value a) ≡ true
+first_le (w.Link link) = then_le (nat_cmp 0 link.0) Equal (le_zero link.0) refl
+first_le (w.Route route) = refl
+first_le w.NoRoute = refl
+first_le (w.Network network) = refl
+first_le w.NoNetwork = refl
+first_le (w.Error error) = refl
+first_le (w.Band band) = refl
+
+-- what a view begins with is at or before what is of no earlier view
+begins : (view : View) (q : CountKey) → is_le (count_cmp (first_key view) q) ≡ is_le (nat_cmp (view_place view) (view_place q.view))
+begins view q =
+    let within : is_le (ordering_then (value_cmp first_value q.value) (nat_cmp 0 (outcome_place q.outcome))) ≡ true =
+    then_le (value_cmp first_value q.value) (nat_cmp 0 (outcome_place q.outcome)) (first_le q.value) (le_zero (outcome_place q.outcome)) in
+    then_least (nat_cmp (view_place view) (view_place q.view)) (ordering_then (value_cmp first_value q.value) (nat_cmp 0 (outcome_place q.outcome))) within
+
+-- of a view are the keys from its first possible one up to the next view's
+up_to_next : (view next : View) → view_place next ≡ view_place view + 1 → (q : CountKey) → range_contains kept_cmp (Included (first_key view)) (Excluded (first_key next)) q ≡ (view_place q.view == view_place view)
+up_to_next view next e q =
+    ap (λ (R : CountKey → CountKey → Ordering). range_contains R (Included (first_key view)) (Excluded (first_key next)) q) count_key-order
+    ∙ (λ i. begins view q i && not (begins next q i))
+    ∙ ap (λ n. is_le (nat_cmp (view_place view) (view_place q.view)) && not (is_le (nat_cmp n (view_place q.view)))) e
+    ∙ one_number (view_place view) (view_place q.view)
+
+-- of the last view are all from its first possible one
+up_to_end : (view : View) → ((other : View) → view_place other ≤ view_place view) → (q : CountKey) → range_contains kept_cmp (Included (first_key view)) Unbounded q ≡ (view_place q.view == view_place view)
+up_to_end view most q =
+    ap (λ (R : CountKey → CountKey → Ordering). range_contains R (Included (first_key view)) Unbounded q) count_key-order
+    ∙ (λ i. begins view q i && not false)
+    ∙ last_number (view_place view) (view_place q.view) (most q.view)
+
+-- a view begins before the next one does
+pub view-forward : (view next : View) (first limit : CountKey) → first ≡ first_key view → limit ≡ first_key next → Some next ≡ slice_get views (view_place view + 1) → is_gt (kept_cmp first limit) ≡ false
+view-forward view next first limit one other e =
+    (λ i. is_gt (count_key-order i (one i) (other i))) ∙ ap (λ n. is_gt (ordering_then (nat_cmp (view_place view) n) Equal)) (view_next view next e) ∙ before (view_place view)
+  where
+    before : (n : ℕ) → is_gt (ordering_then (nat_cmp n (n + 1)) Equal) ≡ false
+    before n = ap (λ r. is_gt (ordering_then r Equal)) (sym (nat_cmp_is n (n + 1) Less (omega arith)))
+
+-- ---- the code's part of the map, which is a run of it, has the rows of the view
+
+ranged : (t : TablesValue) (view : View) (es left : List (CountKey × ℕ)) (inside : CountKey → Bool) → from_entries es ≡ t.counts → IsStrictlySortedBy kept_cmp (keys_of es)
+    → ((q : CountKey) → inside q ≡ (view_place q.view == view_place view)) → left ≡ filter (λ e. inside e.0) es → map shown_row left ≡ rows_of t view
+ranged t view es left inside is sorted same taken =
+    ap (λ (xs : List (CountKey × ℕ)). map shown_row xs) (taken ∙ (λ i. filter (λ e. same e.0 i) (sym (entries-seen es sorted) i)))
+    ∙ ap (λ (m : FinMap count_cmp ℕ). map shown_row (filter (in_view view) (entries m))) is
+
+pub rows-next : (t : TablesValue) (view next : View) (first limit : CountKey) (es left : List (CountKey × ℕ)) → first ≡ first_key view → limit ≡ first_key next → from_entries es ≡ t.counts
+    → IsStrictlySortedBy kept_cmp (keys_of es) → Some next ≡ slice_get views (view_place view + 1)
+    → left ≡ filter (λ e. range_contains kept_cmp (Included first) (Excluded limit) e.0) es → map shown_row left ≡ rows_of t view
+rows-next t view next first limit es left one other is sorted e taken =
+    ranged t view es left (range_contains kept_cmp (Included (first_key view)) (Excluded (first_key next))) is sorted (up_to_next view next (view_next view next e))
+    (taken ∙ (λ i. filter (λ x. range_contains kept_cmp (Included (one i)) (Excluded (other i)) x.0) es))
+
+pub rows-end : (t : TablesValue) (view : View) (first : CountKey) (es left : List (CountKey × ℕ)) → first ≡ first_key view → from_entries es ≡ t.counts
+    → IsStrictlySortedBy kept_cmp (keys_of es) → None ≡ slice_get views (view_place view + 1)
+    → left ≡ filter (λ e. range_contains kept_cmp (Included first) Unbounded e.0) es → map shown_row left ≡ rows_of t view
+rows-end t view first es left one is sorted e taken =
+    ranged t view es left (range_contains kept_cmp (Included (first_key view)) Unbounded) is sorted (up_to_end view (view_last view e))
+    (taken ∙ (λ i. filter (λ x. range_contains kept_cmp (Included (one i)) Unbounded x.0) es))

@@ -1,0 +1,116 @@
+//! What is known of a submit, and where it is counted.
+ghost use Rattle.std.specs.Prelude.{◌≡◌, option_to_list, option_copied};
+ghost use Rattle.smq_tally.specs.Rows as rows;
+ghost use Rattle.smq_tally.specs.Rows.{key_in, value_in};
+
+use crate::{Band, List, Listed, Outcome, SubmitError, Value, View};
+use smq_kit::{LinkId, Network, Place, RouteId};
+
+/// What is known of one submit.
+#[derive(Debug, PartialEq, Eq, Drop)]
+pub struct Fact {
+    /// Where its submit_sm stands.
+    pub place: Place,
+    /// The link of its session.
+    pub link: LinkId,
+    /// The route of its number at its moment. None where no version holds, or it has no number.
+    pub route: Option<RouteId>,
+    /// The network of its number at its moment, where it has a route.
+    pub network: Option<Network>,
+    /// What became of it.
+    pub outcome: Outcome,
+    /// Why it failed, where it was refused or failed.
+    pub error: Option<SubmitError>,
+    /// Where it was delivered or failed, the band of the time from its submit_sm to its deciding receipt.
+    pub link_delay: Option<Band>,
+    /// The band of the time from the submit date to the done date of that receipt, where it has both.
+    pub centre_delay: Option<Band>,
+}
+
+impl Fact {
+    ghost use Rattle.smq_tally.specs.Lists.{listings_of_fact};
+
+    /// Where it is listed, if it is open or lapsed.
+    pub(crate) fn listed(&self) -> Option<Listed>
+        ensures { option_to_list result ≡ listings_of_fact self.now }
+    {
+        let list = match self.outcome {
+            Outcome::Open => List::Open,
+            Outcome::Lapsed => List::Lapsed,
+            _ => return None,
+        };
+        Some(Listed {
+            list,
+            place: self.place,
+        })
+    }
+}
+
+/// Where a count stands: by view, then by value, then by outcome.
+#[derive(Debug, PartialEq, Eq, PartialOrd, Ord, Drop)]
+pub struct CountKey {
+    pub view: View,
+    pub value: Value,
+    pub outcome: Outcome,
+}
+
+impl CountKey {
+    ghost use Rattle.smq_tally.specs.within.CountOrder.{first_key};
+
+    /// What comes before all others that a view can have.
+    pub(crate) fn first_in(view: View) -> CountKey
+        ensures { result ≡ first_key view }
+    {
+        CountKey {
+            view,
+            value: Value::Link(LinkId(0)),
+            outcome: Outcome::Waiting,
+        }
+    }
+}
+
+/// Where a message is counted in a view, if it has a value there.
+pub(crate) fn key_of(view: View, fact: &Fact) -> Option<CountKey>
+    ensures { result ≡ key_in view fact.now }
+{
+    match value_of(view, fact) {
+        Some(value) => Some(CountKey {
+            view,
+            value,
+            outcome: fact.outcome,
+        }),
+        None => None,
+    }
+}
+
+/// What a message is counted by in a view, if it has a value there.
+fn value_of(view: View, fact: &Fact) -> Option<Value>
+    ensures { result ≡ value_in view fact.now }
+{
+    match view {
+        View::Link => Some(Value::Link(fact.link)),
+        View::Route => Some(route_value(fact.route)),
+        View::Network => Some(network_value(fact.network.as_ref())),
+        View::Error => fact.error.as_ref().map(|error| Value::Error(error.copy())),
+        View::LinkDelay => fact.link_delay.map(Value::Band),
+        View::CentreDelay => fact.centre_delay.map(Value::Band),
+    }
+}
+
+fn route_value(route: Option<RouteId>) -> Value
+    ensures { result ≡ rows.route_value route }
+{
+    match route {
+        Some(route) => Value::Route(route),
+        None => Value::NoRoute,
+    }
+}
+
+fn network_value(network: Option<&Network>) -> Value
+    ensures { result ≡ rows.network_value (option_copied network.entry) }
+{
+    match network {
+        Some(network) => Value::Network(network.copy()),
+        None => Value::NoNetwork,
+    }
+}

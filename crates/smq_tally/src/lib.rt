@@ -1,0 +1,33 @@
+//! Counts of submits by views and outcomes, and lists of places that want looking at.
+#![tactic(auto)]
+
+mod band;
+mod fact;
+mod laws;
+mod list;
+mod outcome;
+mod places;
+mod rows;
+mod tables;
+mod tally;
+#[cfg(test)]
+mod tests;
+mod value;
+mod view;
+
+pub use band::Band;
+pub use fact::{CountKey, Fact};
+pub use laws::{
+    bands_are_in_order, counts_are_numbers, equal_tables_are_one, facts_are_told_apart,
+    known_lists, known_names, known_tables, lists_are_in_order,
+    messages_are_counted_once_in_a_view, one_fact_moves_its_counts,
+    open_and_lapsed_messages_are_listed, rows_are_in_order, values_are_in_order,
+};
+pub use list::{List, Listed};
+pub use outcome::Outcome;
+pub use places::Places;
+pub use rows::Rows;
+pub use tables::Tables;
+pub use tally::Tally;
+pub use value::{SubmitError, Value};
+pub use view::View;

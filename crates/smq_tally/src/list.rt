@@ -1,0 +1,100 @@
+//! What wants looking at: places, in lists. Lists are declared in the order in which reports print them. Who adds one
+//! gives it its place in specs/Lists.antt and its name in Names.antt; the law of their order says whether they
+//! agree.
+ghost use Rattle.std.specs.Prelude.{◌≡◌};
+
+use smq_kit::{Dir, Place, SessionId};
+
+/// A list of places.
+#[derive(Clone, Copy, Debug, PartialEq, Eq, PartialOrd, Ord)]
+pub enum List {
+    /// Requests without a response, of both directions.
+    Waiting,
+    /// Responses without a request, of both directions.
+    StrayAnswers,
+    /// Requests whose response doesn't agree with them, of both directions.
+    Mismatched,
+    /// Delivery receipts that match no submit.
+    StrayReceipts,
+    /// Delivery receipts that match two submits or more.
+    AmbiguousReceipts,
+    /// Final delivery receipts, no intermediate notifications, that match one submit and don't decide it.
+    ExtraReceipts,
+    /// deliver_sm of the centre that are delivery receipts without a usable message id or state.
+    Unreadable,
+    /// submit_sm and deliver_sm whose mandatory fields don't fit in the PDU, of both directions.
+    Undecodable,
+    /// Where a direction breaks off: the offset of a command_length out of its range.
+    Broken,
+    /// Submits that wait for their delivery receipt.
+    Open,
+    /// Submits that waited for their delivery receipt too long.
+    Lapsed,
+}
+
+impl List {
+    ghost use Rattle.std.specs.Prelude.{◌+◌, slice_get};
+    ghost use Rattle.smq_tally.specs.Lists.{lists, list_place};
+    ghost use Rattle.smq_tally.specs.Names.{list_name};
+
+    /// The name in reports.
+    pub fn name(self) -> &'static str
+        ensures { result.now ≡ list_name self }
+    {
+        match self {
+            List::Waiting => "waiting",
+            List::StrayAnswers => "stray-answers",
+            List::Mismatched => "mismatched",
+            List::StrayReceipts => "stray-receipts",
+            List::AmbiguousReceipts => "ambiguous-receipts",
+            List::ExtraReceipts => "extra-receipts",
+            List::Unreadable => "unreadable",
+            List::Undecodable => "undecodable",
+            List::Broken => "broken",
+            List::Open => "open",
+            List::Lapsed => "lapsed",
+        }
+    }
+
+    /// The list after it.
+    pub(crate) fn next(self) -> Option<List>
+        ensures { result ≡ slice_get lists (list_place self + 1) }
+    {
+        match self {
+            List::Waiting => Some(List::StrayAnswers),
+            List::StrayAnswers => Some(List::Mismatched),
+            List::Mismatched => Some(List::StrayReceipts),
+            List::StrayReceipts => Some(List::AmbiguousReceipts),
+            List::AmbiguousReceipts => Some(List::ExtraReceipts),
+            List::ExtraReceipts => Some(List::Unreadable),
+            List::Unreadable => Some(List::Undecodable),
+            List::Undecodable => Some(List::Broken),
+            List::Broken => Some(List::Open),
+            List::Open => Some(List::Lapsed),
+            List::Lapsed => None,
+        }
+    }
+}
+
+/// A place in a list. Ordered by list, then by place.
+#[derive(Clone, Copy, Debug, PartialEq, Eq, PartialOrd, Ord)]
+pub struct Listed {
+    pub list: List,
+    pub place: Place,
+}
+
+impl Listed {
+    ghost use Rattle.smq_tally.specs.within.ListOrder.{first_in};
+
+    /// What comes before all others that a list can have.
+    pub(crate) fn first_in(list: List) -> Listed
+        ensures { result ≡ first_in list }
+    {
+        let place = Place {
+            session: SessionId(0),
+            dir: Dir::FromClient,
+            offset: 0,
+        };
+        Listed { list, place }
+    }
+}
