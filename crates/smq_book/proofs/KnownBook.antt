@@ -13,8 +13,9 @@ use Rattle.smq_route.specs.Versions.{serves, longest}
 use Rattle.smq_route.specs.declared.version.Version.{Version}
 use Rattle.smq_route.specs.declared.version.VersionKey.{VersionKey}
 use Rattle.smq_route.proofs.VersionOrders.{versions_total, versions_exact}
-use Rattle.smq_frame.specs.Framing.{stated_length, frames_of, frames_within}
-use Rattle.smq_frame.specs.Stream.{stamped}
+use Rattle.smq_frame.specs.Framing.{stated_length, frames_of, frames_within, rest_of, rest_within}
+use Rattle.smq_frame.specs.Stream.{stamped, values as octets_of}
+use Rattle.smq_frame.specs.Tail.{TailValue, tail_of, tail_from}
 use Rattle.smq_pdu.specs.Header.{word_at}
 use Rattle.smq_pdu.specs.Numbers.{number_of, digits_of}
 use Rattle.smq_pdu.specs.Pairing.{nth_place}
@@ -35,6 +36,14 @@ use Rattle.smq_receipt.specs.declared.message_state.MessageState.TheVariants as 
 use Rattle.smq_receipt.specs.declared.reading.Reading.TheVariants as v
 use Rattle.smq_tally.specs.declared.band.Band.TheVariants as b
 use Rattle.smq_tally.specs.declared.fact.Fact.{Fact}
+use Rattle.smq_tally.specs.declared.list.List as l
+use Rattle.smq_tally.specs.declared.list.List.TheVariants as list
+use Rattle.smq_tally.specs.declared.list.Listed.{Listed}
+use Rattle.smq_tally.specs.Lists.{listed, listings_of_fact, in_list}
+use Rattle.smq_tally.specs.Tables.{listed_in}
+use Rattle.smq_tally.proofs.Written.{in_order, places_in_order, listed-at}
+use Rattle.smq_kit.specs.Orders.{place_cmp}
+use Rattle.smq_kit.specs.declared.place.Dir.TheVariants.{FromClient, FromCentre}
 use Rattle.smq_tally.specs.declared.outcome.Outcome.TheVariants as o
 use Rattle.smq_tally.specs.declared.value.SubmitError.TheVariants as s
 use Rattle.smq_book.specs.declared.join.source.Source.{Source}
@@ -42,17 +51,19 @@ use Rattle.smq_book.specs.declared.present.forms.Forms.{Forms}
 use Rattle.smq_book.specs.declared.present.kept.Content.{Content}
 use Rattle.smq_book.specs.declared.present.kept.Content.TheVariants as c
 use Rattle.smq_book.specs.declared.present.kept.KeptPdu.{KeptPdu}
-use Rattle.smq_book.specs.Known.{known_session, other_session, far_session, known_book, nested_versions, settings_with, fact_of}
+use Rattle.smq_book.specs.Known.{known_session, other_session, far_session, known_book, nested_versions, settings_with, fact_of, place_at}
 use Rattle.smq_book.specs.present.Kept.{kept_pdus}
 use Rattle.smq_book.specs.present.Settings.{opening_forms, forms_of}
-use Rattle.smq_book.specs.pairing.Traffic.{traffic_of}
+use Rattle.smq_book.specs.pairing.Traffic.{traffic_of, Origin, notes_among, broken_notes, session_notes}
 use Rattle.smq_book.specs.join.Facts.{facts_of}
-use Rattle.smq_book.specs.within.Lists.{session_submits, session_receipts, submits_of, receipts_of}
+use Rattle.smq_book.specs.within.Lists.{session_submits, session_receipts, submits_of, receipts_of, notes_of, facts_listed, receipt_notes_listed, placed_fact}
 use Rattle.smq_book.specs.within.Messages.{SubmittedMessage, submits_among}
 use Rattle.smq_book.specs.within.Accepted.{is_ambiguous, decider_of}
 use Rattle.smq_book.specs.within.Outcomes.{fact_by, has_lapsed}
 use Rattle.smq_book.specs.within.Receipts.{KeyedReceipt, receipts_among}
-use Rattle.smq_book.proofs.AgreePresent.{facts-are}
+use Rattle.smq_book.specs.within.Listings.{note_of}
+use Rattle.smq_book.specs.whole.Scratch.{scratch}
+use Rattle.smq_book.proofs.AgreePresent.{facts-are, tables-are}
 use Rattle.smq_book.proofs.KnownFacts.{forms-set}
 
 -- ---- the PDUs of each direction
@@ -180,5 +191,85 @@ facts-computed : facts_from nested_versions (submits decimal opening_forms) (rec
 unfolding nth_place decimal
 facts-computed = refl
 
+facts-listed-of-book : facts_listed known_book ≡ facts
+facts-listed-of-book = (λ i. facts_from (versions-are i) (submits-are i) (receipts-are i)) ∙ facts-computed
+
 pub facts-of-book : values (facts_of known_book.settings (traffic_of known_book.sessions)) ≡ facts
-facts-of-book = facts-are known_book ∙ (λ i. facts_from (versions-are i) (submits-are i) (receipts-are i)) ∙ facts-computed
+facts-of-book = facts-are known_book ∙ facts-listed-of-book
+
+-- ---- lists
+
+abbrev tail_at : ℕ → Option ℕ → TailValue
+tail_at offset broken = record { offset = offset; rest = []; broken = broken }
+
+known-client-tail : tail_of (octets_of known_session.client) ≡ tail_at 90 None
+unfolding stated_length tail_from rest_of rest_within
+known-client-tail = refl
+
+known-centre-tail : tail_of (octets_of known_session.centre) ≡ tail_at 134 None
+unfolding stated_length tail_from rest_of rest_within
+known-centre-tail = refl
+
+other-client-tail : tail_of (octets_of other_session.client) ≡ tail_at 51 None
+unfolding stated_length tail_from rest_of rest_within
+other-client-tail = refl
+
+other-centre-tail : tail_of (octets_of other_session.centre) ≡ tail_at 120 None
+unfolding stated_length tail_from rest_of rest_within
+other-centre-tail = refl
+
+far-client-tail : tail_of (octets_of far_session.client) ≡ tail_at 136 (Some 99)
+unfolding stated_length tail_from rest_of rest_within
+far-client-tail = refl
+
+far-centre-tail : tail_of (octets_of far_session.centre) ≡ tail_at 104 None
+unfolding stated_length tail_from rest_of rest_within
+far-centre-tail = refl
+
+abbrev origin : ℕ → ℕ → Origin
+origin session link = record { session = record { 0 = session }; link = record { 0 = link } }
+
+-- the notes of a session whose PDUs and tails are these
+abbrev noted : Origin → List KeptPdu → List KeptPdu → TailValue → TailValue → List Listed
+noted o client centre client_tail centre_tail = notes_among o client centre ++ broken_notes o client_tail centre_tail
+
+abbrev notes : List Listed
+notes =
+    noted (origin 10 1) known_client known_centre (tail_at 90 None) (tail_at 134 None)
+    ++ (noted (origin 11 1) other_client other_centre (tail_at 51 None) (tail_at 120 None)
+    ++ (noted (origin 65546 65537) far_client far_centre (tail_at 136 (Some 99)) (tail_at 104 None) ++ []))
+
+notes-are : notes_of known_book ≡ notes
+notes-are =
+    ap (flat_map session_notes) sessions-are
+    ∙ (λ i. noted (origin 10 1) (known-client i) (known-centre i) (known-client-tail i) (known-centre-tail i)
+    ++ (noted (origin 11 1) (other-client i) (other-centre i) (other-client-tail i) (other-centre-tail i)
+    ++ (noted (origin 65546 65537) (far-client i) (far-centre i) (far-client-tail i) (far-centre-tail i) ++ [])))
+
+-- the receipts that are noted, where these are the messages and receipts
+abbrev receipt_notes_from : List SubmittedMessage → List KeyedReceipt → List Listed
+receipt_notes_from submits receipts = flat_map (note_of submits receipts) receipts
+
+-- what is listed of these notes and facts, in order
+abbrev listed_from : List Listed → List Listed → List Fact → List Listed
+listed_from notes receipts facts =
+    places_in_order (places_in_order (notes ++ receipts) ++ flat_map listings_of_fact (map (λ e. e.1) (in_order place_cmp (map placed_fact facts))))
+
+abbrev known_listed : List Listed
+known_listed =
+    listed list.Waiting (place_at 10 FromCentre 38) ∷ listed list.Waiting (place_at 11 FromClient 0)
+    ∷ listed list.Waiting (place_at 11 FromCentre 0) ∷ listed list.Waiting (place_at 11 FromCentre 60)
+    ∷ listed list.Waiting (place_at 65546 FromCentre 54) ∷ listed list.AmbiguousReceipts (place_at 65546 FromCentre 54)
+    ∷ listed list.ExtraReceipts (place_at 11 FromCentre 0) ∷ listed list.Broken (place_at 65546 FromClient 99)
+    ∷ listed list.Lapsed (place_at 65546 FromClient 66) ∷ []
+
+listed-computed : listed_from notes (receipt_notes_from (submits decimal opening_forms) (receipts decimal opening_forms)) facts ≡ known_listed
+unfolding nth_place decimal
+listed-computed = refl
+
+pub lists-of-book : (which : l.List) → listed_in (scratch known_book) which ≡ map (λ e. e.place) (filter (in_list which) known_listed)
+lists-of-book which =
+    ap (λ t. listed_in t which) (tables-are known_book)
+    ∙ listed-at (map placed_fact (facts_listed known_book)) (notes_of known_book ++ receipt_notes_listed known_book) which
+    ∙ (λ i. map (λ e. e.place) (filter (in_list which) (listed_from (notes-are i) (receipt_notes_from (submits-are i) (receipts-are i)) (facts-listed-of-book i))))
+    ∙ ap (λ es. map (λ e. e.place) (filter (in_list which) es)) listed-computed

@@ -379,11 +379,13 @@ broken_session = record {
       ++ handed_in 1300 (pdu_octets 0 5 92 [] ++ 0 ∷ 2 ∷ 0 ∷ 1 ∷ []);
 }
 
--- session 65,546 of link 65,537: two messages to no number with one id, and a receipt of it, and a third message
+-- session 65,546 of link 65,537: two messages to no number with one id, and a receipt of it, and a third message, after
+-- which the client's direction breaks off at a length of 15, and a fourth, which isn't read
 abbrev pub far_session : Session
 far_session = record {
   link = record { 0 = 65537 };
-  client = handed_in 2000 (submit_octets 1 [] ++ submit_octets 2 [] ++ submit_octets 3 []);
+  client = handed_in 2000 (submit_octets 1 [] ++ submit_octets 2 [] ++ submit_octets 3 [] ++ 0 ∷ 0 ∷ 0 ∷ 15 ∷ [])
+      ++ handed_in 2500 (submit_octets 4 []);
   centre = handed_in 2100
       (response_octets 1 (codes "7") ++ response_octets 2 (codes "7") ++ response_octets 3 (codes "9"))
       ++ handed_in 3000 (receipt_octets 90 (codes "id:7 stat:DELIVRD"));
@@ -779,3 +781,17 @@ pub record KnownFigures : Type 0 where
   pub not_later : count_at (scratch known_book) view.LinkDelay (w.Band b.Under30Seconds) o.Delivered ≡ 0
   pub by_dates : count_at (scratch known_book) view.CentreDelay (w.Band b.Over) o.Delivered ≡ 1
   pub no_dates : count_at (scratch known_book) view.CentreDelay (w.Band b.Under30Seconds) o.Failed ≡ 0
+  pub in_waiting :
+      listed_in (scratch known_book) l.Waiting
+      ≡ place_at 10 FromCentre 38 ∷ place_at 11 FromClient 0 ∷ place_at 11 FromCentre 0 ∷ place_at 11 FromCentre 60
+      ∷ place_at 65546 FromCentre 54 ∷ []
+  pub in_stray_answers : listed_in (scratch known_book) l.StrayAnswers ≡ []
+  pub in_mismatched : listed_in (scratch known_book) l.Mismatched ≡ []
+  pub in_stray_receipts : listed_in (scratch known_book) l.StrayReceipts ≡ []
+  pub in_ambiguous_receipts : listed_in (scratch known_book) l.AmbiguousReceipts ≡ place_at 65546 FromCentre 54 ∷ []
+  pub in_extra_receipts : listed_in (scratch known_book) l.ExtraReceipts ≡ place_at 11 FromCentre 0 ∷ []
+  pub in_unreadable : listed_in (scratch known_book) l.Unreadable ≡ []
+  pub in_undecodable : listed_in (scratch known_book) l.Undecodable ≡ []
+  pub in_broken : listed_in (scratch known_book) l.Broken ≡ place_at 65546 FromClient 99 ∷ []
+  pub in_open : listed_in (scratch known_book) l.Open ≡ []
+  pub in_lapsed : listed_in (scratch known_book) l.Lapsed ≡ place_at 65546 FromClient 66 ∷ []

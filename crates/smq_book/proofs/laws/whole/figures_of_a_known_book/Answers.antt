@@ -5,6 +5,7 @@ use Rattle.smq_kit.specs.Orders.{place_cmp}
 use Rattle.smq_kit.specs.declared.error_code.ErrorCode.TheVariants.{Text}
 use Rattle.smq_tally.specs.declared.band.Band.TheVariants as b
 use Rattle.smq_tally.specs.declared.fact.Fact.{Fact}
+use Rattle.smq_tally.specs.declared.list.List.TheVariants as l
 use Rattle.smq_tally.specs.declared.outcome.Outcome.TheVariants as o
 use Rattle.smq_tally.specs.declared.value.SubmitError.TheVariants.{Failed}
 use Rattle.smq_tally.specs.declared.value.Value.TheVariants.{Link, Route, NoRoute, Network, NoNetwork, Error, Band}
@@ -17,7 +18,7 @@ use Rattle.smq_book.specs.whole.Scratch.{scratch}
 use Rattle.smq_tally.specs.declared.fact.CountKey.{CountKey}
 use Rattle.smq_tally.specs.Rows.{count_key, stands_in}
 use Rattle.smq_tally.specs.within.Counting.{count_of}
-use Rattle.smq_book.proofs.KnownBook.{facts-of-book}
+use Rattle.smq_book.proofs.KnownBook.{facts-of-book, lists-of-book}
 use Rattle.smq_tally.proofs.Tallies.{count-tables}
 use Rattle.smq_book.proofs.laws.whole.figures_of_a_known_book.Goals as goal
 
@@ -51,4 +52,15 @@ returns c = record {
   not_later = counted (count_key v.LinkDelay (Band b.Under30Seconds) o.Delivered) _ facts-of-book;
   by_dates = counted (count_key v.CentreDelay (Band b.Over) o.Delivered) _ facts-of-book;
   no_dates = counted (count_key v.CentreDelay (Band b.Under30Seconds) o.Failed) _ facts-of-book;
+  in_waiting = lists-of-book l.Waiting;
+  in_stray_answers = lists-of-book l.StrayAnswers;
+  in_mismatched = lists-of-book l.Mismatched;
+  in_stray_receipts = lists-of-book l.StrayReceipts;
+  in_ambiguous_receipts = lists-of-book l.AmbiguousReceipts;
+  in_extra_receipts = lists-of-book l.ExtraReceipts;
+  in_unreadable = lists-of-book l.Unreadable;
+  in_undecodable = lists-of-book l.Undecodable;
+  in_broken = lists-of-book l.Broken;
+  in_open = lists-of-book l.Open;
+  in_lapsed = lists-of-book l.Lapsed;
 }
