@@ -1,5 +1,5 @@
 -- The derived order of the keys of counts is that of the definitions, and the rows of a view stand in it.
-use Rattle.std.proofs.Common.{◌≡◌, ℕ, zero, suc, Bool, true, false, cond, List, [], ◌∷◌, get_or, refl, sym, ap, ◌∙◌}
+use Rattle.std.proofs.Common.{◌≡◌, ℕ, zero, suc, Bool, true, false, cond, List, [], ◌∷◌, get_or, refl, sym, ap, ◌∙◌, rules}
 use Rattle.std.specs.Prelude.{T, ◌&&◌, map, filter}
 use Rattle.std.specs.List.{AllByRecursion}
 use Rattle.std.specs.List.Sorted.{IsStrictlySortedBy}
@@ -32,7 +32,7 @@ use Rattle.smq_tally.specs.contracts.outcome.OutcomeOrd.TheImpl as outcome_ord
 use Rattle.smq_tally.specs.contracts.view.ViewOrd.TheImpl as view_ord
 use Rattle.smq_tally.specs.contracts.value.SubmitErrorOrd.TheImpl as error_ord
 use Rattle.smq_tally.specs.Bands.{band_place}
-use Rattle.smq_tally.specs.Rows.{count_cmp, value_cmp, submit_error_numbers, value_numbers, outcome_place, view_place}
+use Rattle.smq_tally.specs.Rows.{count_cmp, value_cmp, submit_error_numbers, value_numbers, outcome_place, views, view_place}
 use Rattle.smq_tally.specs.Tables.{TablesValue, in_view, shown_row, shown_cmp, rows_of}
 use Rattle.smq_kit.proofs.Ordered as ordered
 use Rattle.smq_kit.proofs.Comparisons.{then_first, then_second, then_equal}
@@ -40,70 +40,23 @@ use Rattle.smq_tally.specs.within.CountOrder.{kept_cmp, kept_value_cmp, count_ke
 
 -- ---- the derived orders are those of the definitions
 
-each_outcome : (P : Outcome → Type 0) → P o.Waiting → P o.Mismatched → P o.Refused → P o.NoId → P o.Ambiguous → P o.Delivered → P o.Failed → P o.Unasked → P o.Lapsed → P o.Open → (a : Outcome) → P a
-each_outcome P p0 p1 p2 p3 p4 p5 p6 p7 p8 p9 o.Waiting = p0
-each_outcome P p0 p1 p2 p3 p4 p5 p6 p7 p8 p9 o.Mismatched = p1
-each_outcome P p0 p1 p2 p3 p4 p5 p6 p7 p8 p9 o.Refused = p2
-each_outcome P p0 p1 p2 p3 p4 p5 p6 p7 p8 p9 o.NoId = p3
-each_outcome P p0 p1 p2 p3 p4 p5 p6 p7 p8 p9 o.Ambiguous = p4
-each_outcome P p0 p1 p2 p3 p4 p5 p6 p7 p8 p9 o.Delivered = p5
-each_outcome P p0 p1 p2 p3 p4 p5 p6 p7 p8 p9 o.Failed = p6
-each_outcome P p0 p1 p2 p3 p4 p5 p6 p7 p8 p9 o.Unasked = p7
-each_outcome P p0 p1 p2 p3 p4 p5 p6 p7 p8 p9 o.Lapsed = p8
-each_outcome P p0 p1 p2 p3 p4 p5 p6 p7 p8 p9 o.Open = p9
-
 abbrev OutcomesAlike : Outcome → Outcome → Type 0
 OutcomesAlike a b = (outcome_ord.ghosts).cmp a b ≡ nat_cmp (outcome_place a) (outcome_place b)
 
 outcome-order : (a b : Outcome) → OutcomesAlike a b
-outcome-order o.Waiting = each_outcome (OutcomesAlike o.Waiting) refl refl refl refl refl refl refl refl refl refl
-outcome-order o.Mismatched = each_outcome (OutcomesAlike o.Mismatched) refl refl refl refl refl refl refl refl refl refl
-outcome-order o.Refused = each_outcome (OutcomesAlike o.Refused) refl refl refl refl refl refl refl refl refl refl
-outcome-order o.NoId = each_outcome (OutcomesAlike o.NoId) refl refl refl refl refl refl refl refl refl refl
-outcome-order o.Ambiguous = each_outcome (OutcomesAlike o.Ambiguous) refl refl refl refl refl refl refl refl refl refl
-outcome-order o.Delivered = each_outcome (OutcomesAlike o.Delivered) refl refl refl refl refl refl refl refl refl refl
-outcome-order o.Failed = each_outcome (OutcomesAlike o.Failed) refl refl refl refl refl refl refl refl refl refl
-outcome-order o.Unasked = each_outcome (OutcomesAlike o.Unasked) refl refl refl refl refl refl refl refl refl refl
-outcome-order o.Lapsed = each_outcome (OutcomesAlike o.Lapsed) refl refl refl refl refl refl refl refl refl refl
-outcome-order o.Open = each_outcome (OutcomesAlike o.Open) refl refl refl refl refl refl refl refl refl refl
-
-each_view : (P : View → Type 0) → P v.Link → P v.Route → P v.Network → P v.Error → P v.LinkDelay → P v.CentreDelay → (a : View) → P a
-each_view P p0 p1 p2 p3 p4 p5 v.Link = p0
-each_view P p0 p1 p2 p3 p4 p5 v.Route = p1
-each_view P p0 p1 p2 p3 p4 p5 v.Network = p2
-each_view P p0 p1 p2 p3 p4 p5 v.Error = p3
-each_view P p0 p1 p2 p3 p4 p5 v.LinkDelay = p4
-each_view P p0 p1 p2 p3 p4 p5 v.CentreDelay = p5
+outcome-order a b = search rules
 
 abbrev ViewsAlike : View → View → Type 0
 ViewsAlike a b = (view_ord.ghosts).cmp a b ≡ nat_cmp (view_place a) (view_place b)
 
 view-order : (a b : View) → ViewsAlike a b
-view-order v.Link = each_view (ViewsAlike v.Link) refl refl refl refl refl refl
-view-order v.Route = each_view (ViewsAlike v.Route) refl refl refl refl refl refl
-view-order v.Network = each_view (ViewsAlike v.Network) refl refl refl refl refl refl
-view-order v.Error = each_view (ViewsAlike v.Error) refl refl refl refl refl refl
-view-order v.LinkDelay = each_view (ViewsAlike v.LinkDelay) refl refl refl refl refl refl
-view-order v.CentreDelay = each_view (ViewsAlike v.CentreDelay) refl refl refl refl refl refl
-
-each_band : (P : Band → Type 0) → P b.Early → P b.Under5Seconds → P b.Under30Seconds → P b.Under5Minutes → P b.Under1Hour → P b.Over → (a : Band) → P a
-each_band P p0 p1 p2 p3 p4 p5 b.Early = p0
-each_band P p0 p1 p2 p3 p4 p5 b.Under5Seconds = p1
-each_band P p0 p1 p2 p3 p4 p5 b.Under30Seconds = p2
-each_band P p0 p1 p2 p3 p4 p5 b.Under5Minutes = p3
-each_band P p0 p1 p2 p3 p4 p5 b.Under1Hour = p4
-each_band P p0 p1 p2 p3 p4 p5 b.Over = p5
+view-order a b = search rules
 
 abbrev BandsAlike : Band → Band → Type 0
 BandsAlike a b = (band_ord.ghosts).cmp a b ≡ nat_cmp (band_place a) (band_place b)
 
 pub band-order : (a b : Band) → BandsAlike a b
-band-order b.Early = each_band (BandsAlike b.Early) refl refl refl refl refl refl
-band-order b.Under5Seconds = each_band (BandsAlike b.Under5Seconds) refl refl refl refl refl refl
-band-order b.Under30Seconds = each_band (BandsAlike b.Under30Seconds) refl refl refl refl refl refl
-band-order b.Under5Minutes = each_band (BandsAlike b.Under5Minutes) refl refl refl refl refl refl
-band-order b.Under1Hour = each_band (BandsAlike b.Under1Hour) refl refl refl refl refl refl
-band-order b.Over = each_band (BandsAlike b.Over) refl refl refl refl refl refl
+band-order a b = search rules
 
 -- ---- values by their numbers
 
@@ -113,56 +66,14 @@ error-order (s.Refused a) (s.Failed y) = refl
 error-order (s.Failed x) (s.Refused b) = refl
 error-order (s.Failed x) (s.Failed y) = code-order x y
 
+then_tied : (m n : ℕ) → nat_cmp m n ≡ ordering_then (nat_cmp m n) Equal
+then_tied m n = sym (then_equal (nat_cmp m n))
+
+band_tied : (a b : Band) → (band_ord.ghosts).cmp a b ≡ ordering_then (nat_cmp (band_place a) (band_place b)) Equal
+band_tied a b = band-order a b ∙ then_tied (band_place a) (band_place b)
+
 pub value-order : (a b : Value) → kept_value_cmp a b ≡ value_cmp a b
-value-order (w.Link a) (w.Link b) = sym (then_equal (nat_cmp a.0 b.0))
-value-order (w.Link a) (w.Route b) = refl
-value-order (w.Link a) w.NoRoute = refl
-value-order (w.Link a) (w.Network b) = refl
-value-order (w.Link a) w.NoNetwork = refl
-value-order (w.Link a) (w.Error y) = refl
-value-order (w.Link a) (w.Band b) = refl
-value-order (w.Route a) (w.Link b) = refl
-value-order (w.Route a) (w.Route b) = sym (then_equal (nat_cmp a.0 b.0))
-value-order (w.Route a) w.NoRoute = refl
-value-order (w.Route a) (w.Network b) = refl
-value-order (w.Route a) w.NoNetwork = refl
-value-order (w.Route a) (w.Error y) = refl
-value-order (w.Route a) (w.Band b) = refl
-value-order w.NoRoute (w.Link b) = refl
-value-order w.NoRoute (w.Route b) = refl
-value-order w.NoRoute w.NoRoute = refl
-value-order w.NoRoute (w.Network b) = refl
-value-order w.NoRoute w.NoNetwork = refl
-value-order w.NoRoute (w.Error y) = refl
-value-order w.NoRoute (w.Band b) = refl
-value-order (w.Network a) (w.Link b) = refl
-value-order (w.Network a) (w.Route b) = refl
-value-order (w.Network a) w.NoRoute = refl
-value-order (w.Network a) (w.Network b) = refl
-value-order (w.Network a) w.NoNetwork = refl
-value-order (w.Network a) (w.Error y) = refl
-value-order (w.Network a) (w.Band b) = refl
-value-order w.NoNetwork (w.Link b) = refl
-value-order w.NoNetwork (w.Route b) = refl
-value-order w.NoNetwork w.NoRoute = refl
-value-order w.NoNetwork (w.Network b) = refl
-value-order w.NoNetwork w.NoNetwork = refl
-value-order w.NoNetwork (w.Error y) = refl
-value-order w.NoNetwork (w.Band b) = refl
-value-order (w.Error x) (w.Link b) = refl
-value-order (w.Error x) (w.Route b) = refl
-value-order (w.Error x) w.NoRoute = refl
-value-order (w.Error x) (w.Network b) = refl
-value-order (w.Error x) w.NoNetwork = refl
-value-order (w.Error x) (w.Error y) = error-order x y
-value-order (w.Error x) (w.Band b) = refl
-value-order (w.Band a) (w.Link b) = refl
-value-order (w.Band a) (w.Route b) = refl
-value-order (w.Band a) w.NoRoute = refl
-value-order (w.Band a) (w.Network b) = refl
-value-order (w.Band a) w.NoNetwork = refl
-value-order (w.Band a) (w.Error y) = refl
-value-order (w.Band a) (w.Band b) = band-order a b ∙ sym (then_equal (nat_cmp (band_place a) (band_place b)))
+value-order a b = search (rules, then_tied, error-order, band_tied)
 
 pub count_key-order : kept_cmp ≡ count_cmp
 count_key-order = λ i a b. ordering_then (view-order a.view b.view i) (ordering_then (value-order a.value b.value i) (outcome-order a.outcome b.outcome i))
@@ -174,31 +85,17 @@ abbrev outcome_at : ℕ → Outcome
 outcome_at n = get_or (o.Waiting ∷ o.Mismatched ∷ o.Refused ∷ o.NoId ∷ o.Ambiguous ∷ o.Delivered ∷ o.Failed ∷ o.Unasked ∷ o.Lapsed ∷ o.Open ∷ []) n o.Waiting
 
 outcome_again : (a : Outcome) → outcome_at (outcome_place a) ≡ a
-outcome_again o.Waiting = refl
-outcome_again o.Mismatched = refl
-outcome_again o.Refused = refl
-outcome_again o.NoId = refl
-outcome_again o.Ambiguous = refl
-outcome_again o.Delivered = refl
-outcome_again o.Failed = refl
-outcome_again o.Unasked = refl
-outcome_again o.Lapsed = refl
-outcome_again o.Open = refl
+outcome_again a = search rules
 
 same_outcome : (a b : Outcome) → nat_cmp (outcome_place a) (outcome_place b) ≡ Equal → a ≡ b
 same_outcome a b e = sym (outcome_again a) ∙ ap outcome_at (nat_cmp-IsAntisymmetric _ _ e) ∙ outcome_again b
 
 -- the view of a place
 abbrev view_at : ℕ → View
-view_at n = get_or (v.Link ∷ v.Route ∷ v.Network ∷ v.Error ∷ v.LinkDelay ∷ v.CentreDelay ∷ []) n v.Link
+view_at n = get_or views n v.Link
 
 view_again : (a : View) → view_at (view_place a) ≡ a
-view_again v.Link = refl
-view_again v.Route = refl
-view_again v.Network = refl
-view_again v.Error = refl
-view_again v.LinkDelay = refl
-view_again v.CentreDelay = refl
+view_again a = search rules
 
 pub same_view : (a b : View) → nat_cmp (view_place a) (view_place b) ≡ Equal → a ≡ b
 same_view a b e = sym (view_again a) ∙ ap view_at (nat_cmp-IsAntisymmetric _ _ e) ∙ view_again b
@@ -231,12 +128,7 @@ abbrev band_at : ℕ → Band
 band_at n = get_or (b.Early ∷ b.Under5Seconds ∷ b.Under30Seconds ∷ b.Under5Minutes ∷ b.Under1Hour ∷ b.Over ∷ []) n b.Early
 
 band_again : (a : Band) → band_at (band_place a) ≡ a
-band_again b.Early = refl
-band_again b.Under5Seconds = refl
-band_again b.Under30Seconds = refl
-band_again b.Under5Minutes = refl
-band_again b.Under1Hour = refl
-band_again b.Over = refl
+band_again a = search rules
 
 -- the value of its numbers
 value_from : List ℕ → Value

@@ -1,12 +1,13 @@
 -- The rows that a view shows are the counts that stand in it.
-use Rattle.std.proofs.Common.{◌≡◌, ℕ, true, false, cond, List, [], ◌∷◌, Some, subst, refl, sym, ap, ◌∙◌, arith}
-use Rattle.std.specs.Prelude.{◌↔◌, Contains, map, filter}
+use Rattle.std.proofs.Common.{◌≡◌, ℕ, Bool, true, false, cond, List, [], ◌∷◌, Some, subst, refl, sym, ap, ◌∙◌, arith}
+use Rattle.std.specs.Prelude.{◌==◌, ◌↔◌, Contains, map, filter}
 use Rattle.std.specs.List.{AllByRecursion}
 use Rattle.std.specs.Cmp.{nat_cmp_is}
 use Rattle.std.specs.Ordering.{nat_cmp}
 use Rattle.std.specs.declared.cmp.Ordering.TheVariants.{Equal}
 use Rattle.std.specs.FinMap.{FinMap, entries, get, find, get-entries}
 use Rattle.std.proofs.lemmas.Bool.{eqb-true}
+use Rattle.std.proofs.lemmas.Bool.Decides.{nat_tests}
 use Rattle.std.proofs.lemmas.List.Elements.{All-from_recursion, All-contains, Contains-append_right}
 use Rattle.std.proofs.lemmas.Map.Views.{tells_apart}
 use Rattle.smq_kit.proofs.MapLemmas.{get-entry}
@@ -14,7 +15,6 @@ use Rattle.smq_tally.specs.declared.fact.CountKey.{CountKey}
 use Rattle.smq_tally.specs.declared.outcome.Outcome.{Outcome}
 use Rattle.smq_tally.specs.declared.value.Value.{Value}
 use Rattle.smq_tally.specs.declared.view.View.{View}
-use Rattle.smq_tally.specs.declared.view.View.TheVariants as v
 use Rattle.smq_tally.specs.Rows.{view_place, count_key, count_cmp, same_count_key}
 use Rattle.smq_tally.specs.Tables.{TablesValue, ShownRow, in_view, shown_row, rows_of}
 use Rattle.smq_tally.specs.within.CountOrder.{count_keys_total}
@@ -45,14 +45,14 @@ rows-stand m view (e ∷ es) a =
       | false ↦ λ h. rows-stand m view es a.1
     ] refl
 
+same_number : (n : ℕ) → (n == n) ≡ true
+same_number n = grind (arith, nat_tests)
+
 -- a count that stands first is shown
 first-shown : (view : View) (value : Value) (outcome : Outcome) (n : ℕ) (es : List (CountKey × ℕ)) → Contains (rows_among view ((count_key view value outcome, n) ∷ es)) (value, outcome, n)
-first-shown v.Link value outcome n es = (0, omega arith, refl)
-first-shown v.Route value outcome n es = (0, omega arith, refl)
-first-shown v.Network value outcome n es = (0, omega arith, refl)
-first-shown v.Error value outcome n es = (0, omega arith, refl)
-first-shown v.LinkDelay value outcome n es = (0, omega arith, refl)
-first-shown v.CentreDelay value outcome n es = (0, omega arith, refl)
+first-shown view value outcome n es =
+    let e : CountKey × ℕ = (count_key view value outcome, n) in
+    subst (λ (b : Bool). Contains (map shown_row (cond b (e ∷ filter (in_view view) es) (filter (in_view view) es))) (value, outcome, n)) (sym (same_number (view_place view))) (0, omega arith, refl)
 
 -- each count that stands in the view is shown
 found-shown : (view : View) (value : Value) (outcome : Outcome) (n : ℕ) (es : List (CountKey × ℕ)) → find count_cmp (count_key view value outcome) es ≡ Some n

@@ -1,6 +1,6 @@
 -- At which keys a message stands, and in which lists.
-use Rattle.std.proofs.Common.{◌≡◌, ◌≢◌, Bool, ◌||◌, true, false, ◌⊎◌, inl, inr, List, [], ◌∷◌, ◌++◌, Option, Some, None, subst, refl, sym, ap, ◌∙◌, arith}
-use Rattle.std.specs.Prelude.{◌↔◌, Contains, IsTrue, option_map, option_to_list}
+use Rattle.std.proofs.Common.{◌≡◌, ◌≢◌, Bool, ◌||◌, true, false, ◌⊎◌, inl, inr, List, [], ◌∷◌, ◌++◌, Option, Some, None, subst, refl, sym, ap, ◌∙◌, arith, rules}
+use Rattle.std.specs.Prelude.{◌↔◌, take, drop, Contains, IsTrue, option_map, option_to_list}
 use Rattle.std.specs.List.{list_any}
 use Rattle.std.specs.Cmp.{eq_by_cmp_equiv}
 use Rattle.std.specs.FinMap.{FinMap, contains_key, values}
@@ -21,7 +21,7 @@ use Rattle.smq_tally.specs.declared.value.Value.{Value}
 use Rattle.smq_tally.specs.declared.view.View.{View}
 use Rattle.smq_tally.specs.declared.view.View.TheVariants as v
 use Rattle.smq_tally.specs.Lists.{listed, listed_cmp, listings_by, HasOutcomeAt}
-use Rattle.smq_tally.specs.Rows.{value_in, count_key, same_count_key, key_in, stands_in}
+use Rattle.smq_tally.specs.Rows.{views, value_in, count_key, same_count_key, key_in, stands_in}
 use Rattle.smq_tally.specs.Tables.{tables_of, listed_in}
 use Rattle.smq_tally.specs.within.CountOrder.{count_keys_total}
 use Rattle.smq_tally.specs.within.ListOrder.{listed_total, same_listed}
@@ -48,12 +48,12 @@ at-own q f (w ∷ ws) view after h k =
     none = sym (any-append (same_count_key q) (option_to_list (key_in w f)) [] ∙ or-false (list_any (same_count_key q) (option_to_list (key_in w f)))) ∙ (others-none q f (w ∷ []) (h.0, tt)).1
 
 stands-own : (f : Fact) (view : View) (value : Value) (outcome : Outcome) → stands_in (count_key view value outcome) f ≡ list_any (same_count_key (count_key view value outcome)) (option_to_list (key_in view f))
-stands-own f v.Link value outcome = at-own (count_key v.Link value outcome) f [] v.Link (v.Route ∷ v.Network ∷ v.Error ∷ v.LinkDelay ∷ v.CentreDelay ∷ []) tt (refl, (refl, (refl, (refl, (refl, tt)))))
-stands-own f v.Route value outcome = at-own (count_key v.Route value outcome) f (v.Link ∷ []) v.Route (v.Network ∷ v.Error ∷ v.LinkDelay ∷ v.CentreDelay ∷ []) (refl, tt) (refl, (refl, (refl, (refl, tt))))
-stands-own f v.Network value outcome = at-own (count_key v.Network value outcome) f (v.Link ∷ v.Route ∷ []) v.Network (v.Error ∷ v.LinkDelay ∷ v.CentreDelay ∷ []) (refl, (refl, tt)) (refl, (refl, (refl, tt)))
-stands-own f v.Error value outcome = at-own (count_key v.Error value outcome) f (v.Link ∷ v.Route ∷ v.Network ∷ []) v.Error (v.LinkDelay ∷ v.CentreDelay ∷ []) (refl, (refl, (refl, tt))) (refl, (refl, tt))
-stands-own f v.LinkDelay value outcome = at-own (count_key v.LinkDelay value outcome) f (v.Link ∷ v.Route ∷ v.Network ∷ v.Error ∷ []) v.LinkDelay (v.CentreDelay ∷ []) (refl, (refl, (refl, (refl, tt)))) (refl, tt)
-stands-own f v.CentreDelay value outcome = at-own (count_key v.CentreDelay value outcome) f (v.Link ∷ v.Route ∷ v.Network ∷ v.Error ∷ v.LinkDelay ∷ []) v.CentreDelay [] (refl, (refl, (refl, (refl, (refl, tt))))) tt
+stands-own f v.Link value outcome = at-own (count_key v.Link value outcome) f [] v.Link (drop 1 views) (search rules) (search rules)
+stands-own f v.Route value outcome = at-own (count_key v.Route value outcome) f (take 1 views) v.Route (drop 2 views) (search rules) (search rules)
+stands-own f v.Network value outcome = at-own (count_key v.Network value outcome) f (take 2 views) v.Network (drop 3 views) (search rules) (search rules)
+stands-own f v.Error value outcome = at-own (count_key v.Error value outcome) f (take 3 views) v.Error (drop 4 views) (search rules) (search rules)
+stands-own f v.LinkDelay value outcome = at-own (count_key v.LinkDelay value outcome) f (take 4 views) v.LinkDelay (drop 5 views) (search rules) (search rules)
+stands-own f v.CentreDelay value outcome = at-own (count_key v.CentreDelay value outcome) f (take 5 views) v.CentreDelay (drop 6 views) (search rules) (search rules)
 
 -- a test of one key, where there is one
 by-value : (view : View) (own : Option Value) (at : Outcome) (value : Value) (outcome : Outcome)

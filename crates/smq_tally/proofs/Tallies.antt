@@ -1,6 +1,6 @@
 -- Tables after one fact or one note more.
-use Rattle.std.proofs.Common.{◌≡◌, ℕ, ◌+◌, ◌-◌, ◌<◌, ◌≤◌, Bool, ◌||◌, true, false, cond, List, [], ◌∷◌, ◌++◌, length, ◌^◌, subst, refl, sym, ap, ◌∙◌, arith}
-use Rattle.std.specs.Prelude.{◌==◌, count_by, unwrap_or, Option, Some, None, option_map, option_to_list, slice_get}
+use Rattle.std.proofs.Common.{◌≡◌, ℕ, ◌+◌, ◌-◌, ◌<◌, ◌≤◌, Bool, ◌||◌, true, false, cond, List, [], ◌∷◌, ◌++◌, length, ◌^◌, subst, refl, sym, ap, ◌∙◌, arith, rules, zero, suc}
+use Rattle.std.specs.Prelude.{◌==◌, count_by, unwrap_or, Option, Some, None, option_map, option_to_list, slice_get, drop}
 use Rattle.std.specs.List.{AllByRecursion, flat_map, list_any}
 use Rattle.std.specs.declared.cmp.Ordering.{Ordering}
 use Rattle.std.specs.declared.cmp.Ordering.TheVariants.{Less, Equal, Greater}
@@ -22,7 +22,6 @@ use Rattle.smq_tally.specs.declared.outcome.Outcome.{Outcome}
 use Rattle.smq_tally.specs.declared.fact.CountKey.{CountKey}
 use Rattle.smq_tally.specs.declared.value.Value.{Value}
 use Rattle.smq_tally.specs.declared.view.View.{View}
-use Rattle.smq_tally.specs.declared.view.View.TheVariants as v
 use Rattle.smq_tally.specs.Lists.{listed_cmp, listings_of_fact}
 use Rattle.smq_tally.specs.Rows.{views, view_place, value_in, count_key, count_cmp, same_count_key, key_in, keys_of_fact, stands_in}
 use Rattle.smq_tally.specs.Tables.{TablesValue, tables_of, number_at}
@@ -30,6 +29,7 @@ use Rattle.smq_tally.specs.within.Counting.{HasNoZeros, keys_from, count_of, one
 use Rattle.smq_tally.specs.within.CountOrder.{count_keys_total}
 use Rattle.smq_tally.proofs.CountOrders.{count_keys_exact}
 use Rattle.smq_tally.proofs.ListedFacts.{fact-listed, note-listed}
+use Rattle.smq_tally.proofs.ViewRanges.{view_next}
 use Rattle.smq_tally.proofs.Undone.{put-back}
 
 -- the tables have the number of each key, where it isn't 0
@@ -154,9 +154,7 @@ once_in f q (v ∷ vs) h =
     ∙ ap (λ b. cond b 1 0) (sym (any-append (same_count_key q) here (keys_in f vs)))
 
 once : (f : Fact) (q : CountKey) → count_by (same_count_key q) (keys_of_fact f) ≡ cond (stands_in q f) 1 0
-once f q =
-    once_in f q views
-    ((refl, (refl, (refl, (refl, (refl, tt))))), ((refl, (refl, (refl, (refl, tt)))), ((refl, (refl, (refl, tt))), ((refl, (refl, tt)), ((refl, tt), (tt, tt))))))
+once f q = once_in f q views (search rules)
 
 -- ---- one fact more
 
@@ -232,34 +230,24 @@ plus-append : (t : TablesValue) (keys others : List CountKey) → plus t (keys +
 plus-append t [] others = refl
 plus-append t (key ∷ keys) others = plus-append (one_more t key) keys others
 
+here : (view : View) → Some view ≡ slice_get views (view_place view)
+here view = search rules
+
+drop-at : (vs : List View) (m : ℕ) (view : View) → Some view ≡ slice_get vs m → drop m vs ≡ view ∷ drop (suc m) vs
+drop-at [] m view e = absurd cc
+drop-at (v ∷ vs) zero view e = let same : v ≡ view = cc in ap (λ (w : View). w ∷ vs) same
+drop-at (v ∷ vs) (suc m) view e = drop-at vs m view e
+
 from-here : (view : View) (f : Fact) (next : View) → Some next ≡ slice_get views (view_place view + 1) → keys_from view f ≡ option_to_list (key_in view f) ++ keys_from next f
-from-here v.Link f next e = let same : next ≡ v.Route = cc in ap (λ (w : View). option_to_list (key_in v.Link f) ++ keys_from w f) (sym same)
-from-here v.Route f next e = let same : next ≡ v.Network = cc in ap (λ (w : View). option_to_list (key_in v.Route f) ++ keys_from w f) (sym same)
-from-here v.Network f next e = let same : next ≡ v.Error = cc in ap (λ (w : View). option_to_list (key_in v.Network f) ++ keys_from w f) (sym same)
-from-here v.Error f next e = let same : next ≡ v.LinkDelay = cc in ap (λ (w : View). option_to_list (key_in v.Error f) ++ keys_from w f) (sym same)
-from-here v.LinkDelay f next e = let same : next ≡ v.CentreDelay = cc in ap (λ (w : View). option_to_list (key_in v.LinkDelay f) ++ keys_from w f) (sym same)
-from-here v.CentreDelay f next e = absurd cc
-
-append-nothing : (keys : List CountKey) → keys ≡ keys ++ []
-append-nothing [] = refl
-append-nothing (key ∷ keys) = ap (λ (ks : List CountKey). key ∷ ks) (append-nothing keys)
-
-last-here : (view : View) (f : Fact) → None ≡ slice_get views (view_place view + 1) → keys_from view f ≡ option_to_list (key_in view f)
-last-here v.Link f e = absurd cc
-last-here v.Route f e = absurd cc
-last-here v.Network f e = absurd cc
-last-here v.Error f e = absurd cc
-last-here v.LinkDelay f e = absurd cc
-last-here v.CentreDelay f e = sym (append-nothing (option_to_list (key_in v.CentreDelay f)))
+from-here view f next e =
+    let after : suc (view_place view) ≡ view_place next = let n = view_next view next e in omega (arith, n) in
+    ap (λ (vs : List View). keys_in f vs) (drop-at views (view_place view) view (here view)) ∙ ap (λ (m : ℕ). option_to_list (key_in view f) ++ keys_in f (drop m views)) after
 
 -- counted in a view, then in those after it
 pub plus-next : (t mid new : TablesValue) (view : View) (f : Fact) (next : View) → Some next ≡ slice_get views (view_place view + 1)
     → mid ≡ plus t (option_to_list (key_in view f)) → new ≡ plus mid (keys_from next f) → new ≡ plus t (keys_from view f)
 plus-next t mid new view f next e first rest =
     rest ∙ ap (λ (u : TablesValue). plus u (keys_from next f)) first ∙ sym (plus-append t (option_to_list (key_in view f)) (keys_from next f)) ∙ ap (plus t) (sym (from-here view f next e))
-
-pub plus-last : (t new : TablesValue) (view : View) (f : Fact) → None ≡ slice_get views (view_place view + 1) → new ≡ plus t (option_to_list (key_in view f)) → new ≡ plus t (keys_from view f)
-plus-last t new view f e first = first ∙ ap (plus t) (sym (last-here view f e))
 
 -- ---- a key of one view counts at no key of another
 

@@ -1,5 +1,5 @@
 -- Where the counts of a view begin and end in the code's map, in which they stand beside each other.
-use Rattle.std.proofs.Common.{◌≡◌, ℕ, ◌+◌, ◌-◌, ◌<◌, ◌≤◌, Bool, true, false, List, length, Some, None, refl, sym, ap, ◌∙◌, arith}
+use Rattle.std.proofs.Common.{◌≡◌, ℕ, ◌+◌, ◌-◌, ◌<◌, ◌≤◌, Bool, true, false, List, [], ◌∷◌, zero, suc, length, Some, None, refl, sym, ap, ◌∙◌, arith, rules}
 use Rattle.std.specs.Prelude.{◌==◌, ◌&&◌, not, map, filter, slice_get}
 use Rattle.std.specs.List.Sorted.{IsStrictlySortedBy}
 use Rattle.std.specs.declared.cmp.Ordering.{Ordering}
@@ -14,7 +14,6 @@ use Rattle.smq_tally.specs.declared.fact.CountKey.{CountKey}
 use Rattle.smq_tally.specs.declared.value.Value.{Value}
 use Rattle.smq_tally.specs.declared.value.Value.TheVariants as w
 use Rattle.smq_tally.specs.declared.view.View.{View}
-use Rattle.smq_tally.specs.declared.view.View.TheVariants as v
 use Rattle.smq_tally.specs.Rows.{views, view_place, value_cmp, outcome_place, count_cmp}
 use Rattle.smq_tally.specs.Tables.{TablesValue, in_view, shown_row, rows_of}
 use Rattle.smq_tally.specs.within.CountOrder.{kept_cmp, first_value, first_key}
@@ -23,38 +22,38 @@ use Rattle.smq_tally.proofs.ListOrders.{le_zero, then_le, then_least, one_number
 
 -- ---- views in turn
 
+-- the places of these views count up from a number
+abbrev AreFrom : ℕ → List View → Type 0
+AreFrom n [] = Unit {0}
+AreFrom n (v ∷ vs) = (view_place v ≡ n) × AreFrom (n + 1) vs
+
+at-place : (vs : List View) (n m : ℕ) (view : View) → AreFrom n vs → Some view ≡ slice_get vs m → view_place view ≡ n + m
+at-place [] n m view h e = absurd cc
+at-place (v ∷ vs) n zero view h e = let same : view ≡ v = cc in ap view_place same ∙ h.0 ∙ omega arith
+at-place (v ∷ vs) n (suc m) view h e = at-place vs (n + 1) m view h.1 e ∙ omega arith
+
+below-length : (vs : List View) (m : ℕ) (view : View) → Some view ≡ slice_get vs m → m < length vs
+below-length [] m view e = absurd cc
+below-length (v ∷ vs) zero view e = omega arith
+below-length (v ∷ vs) (suc m) view e = let rest = below-length vs m view e in omega (arith, rest)
+
+past-length : (vs : List View) (m : ℕ) → None ≡ slice_get vs m → length vs ≤ m
+past-length [] m e = omega arith
+past-length (v ∷ vs) zero e = absurd cc
+past-length (v ∷ vs) (suc m) e = let rest = past-length vs m e in omega (arith, rest)
+
 pub view_next : (view next : View) → Some next ≡ slice_get views (view_place view + 1) → view_place next ≡ view_place view + 1
-view_next v.Link next e = let same : next ≡ v.Route = cc in ap view_place same
-view_next v.Route next e = let same : next ≡ v.Network = cc in ap view_place same
-view_next v.Network next e = let same : next ≡ v.Error = cc in ap view_place same
-view_next v.Error next e = let same : next ≡ v.LinkDelay = cc in ap view_place same
-view_next v.LinkDelay next e = let same : next ≡ v.CentreDelay = cc in ap view_place same
-view_next v.CentreDelay next e = absurd cc
+view_next view next e = at-place views 0 (view_place view + 1) next (search rules) e ∙ omega arith
+
+placed : (view : View) → view_place view < length views
+placed view = search rules
 
 view_last : (view : View) → None ≡ slice_get views (view_place view + 1) → (other : View) → view_place other ≤ view_place view
-view_last v.Link e = absurd cc
-view_last v.Route e = absurd cc
-view_last v.Network e = absurd cc
-view_last v.Error e = absurd cc
-view_last v.LinkDelay e = absurd cc
-view_last v.CentreDelay e = below
-  where
-    below : (other : View) → view_place other ≤ 5
-    below v.Link = omega arith
-    below v.Route = omega arith
-    below v.Network = omega arith
-    below v.Error = omega arith
-    below v.LinkDelay = omega arith
-    below v.CentreDelay = omega arith
+view_last view e other = let few = past-length views (view_place view + 1) e in let there = placed other in omega (arith, few, there)
 
 -- fewer views are left after the next
 pub view_fewer : (view next : View) → Some next ≡ slice_get views (view_place view + 1) → length views - view_place next < length views - view_place view
-view_fewer v.Link next e = let same : next ≡ v.Route = cc in rw same (omega arith)
-view_fewer v.Route next e = let same : next ≡ v.Network = cc in rw same (omega arith)
-view_fewer v.Network next e = let same : next ≡ v.Error = cc in rw same (omega arith)
-view_fewer v.Error next e = let same : next ≡ v.LinkDelay = cc in rw same (omega arith)
-view_fewer v.LinkDelay next e = let same : next ≡ v.CentreDelay = cc in rw same (omega arith)
-view_fewer v.CentreDelay next e = absurd cc
+view_fewer view next e = let one = view_next view next e in let there = below-length views (view_place view + 1) next e in omega (arith, one, there)
 
 -- ---- where a view begins
 
