@@ -1,0 +1,4 @@
+pub mod PaddingLemmas
+pub mod PageLemmas
+pub mod PlainLemmas
+pub mod ValueLemmas

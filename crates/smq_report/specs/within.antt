@@ -1,0 +1,2 @@
+-- What only private clauses cite: records on a page.
+pub mod Pages

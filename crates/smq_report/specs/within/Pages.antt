@@ -1,0 +1,22 @@
+-- Records that wait on a page.
+use Rattle.std.specs.Prelude.{◌≡◌, ℕ, false, List, [], ◌∷◌, ◌++◌, Vec, codes}
+use Rattle.csv.specs.Writing.{default_writer, fields_written, has_written, needs_quotes, writer_pending, writer_setup, writer_under}
+use Rattle.csv.specs.declared.writer.Writer.{Writer}
+
+-- what was put after the records of a writer in memory, all of it
+abbrev pub waiting : {A : Type 0} → Writer (Vec ℕ A) → List ℕ
+waiting records = (writer_under records).items ++ writer_pending records
+
+-- The writer is at the start of a record, and writes as `csv` does by default.
+pub record IsAtStart {W : Type 0} (records : Writer W) : Type 0 where
+  pub setup : writer_setup records ≡ default_writer
+  pub fields : fields_written records ≡ 0
+  pub written : has_written records ≡ false
+
+-- CSV takes a field without quotes
+abbrev pub IsPlain : List ℕ → Type 0
+IsPlain field = needs_quotes default_writer field ≡ false
+
+-- a record of five fields, with commas between them and a line feed after them
+abbrev pub record_of : List ℕ → List ℕ → List ℕ → List ℕ → List ℕ → List ℕ
+record_of a b c d e = a ++ codes "," ++ b ++ codes "," ++ c ++ codes "," ++ d ++ codes "," ++ e ++ 10 ∷ []

@@ -1,0 +1,103 @@
+//! A report as CSV: records are gathered on a page, and a full page is written.
+ghost use Rattle.std.specs.Prelude.{◌≡◌, OnOk, IfOk};
+ghost use Rattle.std.specs.List.{flat_map};
+ghost use Rattle.std.specs.Io.KnownBytes.{Appends, append_known};
+ghost use Rattle.smq_report.specs.Csv.{csv_section, csv_text};
+ghost use Rattle.smq_report.specs.within.Pages.{IsAtStart, waiting};
+
+use crate::csv_page::Page;
+use crate::pick::{Pick, ReportFault, SECTIONS, Section};
+use smq_tally::Tables;
+use std::alloc::Global;
+use std::io::Write;
+
+/// Writes what is picked of the tables as CSV, without a header line: a record for each row and each place. `Write` comes
+/// only where the writer failed in this call; some of the text may have gone out.
+pub fn write_csv<W: Write>(
+    alloc: Global,
+    tables: &Tables,
+    pick: Pick,
+    writer: &mut W,
+) -> Result<(), ReportFault>
+    ensures ok { OnOk result
+        (Appends (W.contents writer.old) (W.contents writer.new) (csv_text tables.now pick)) }
+{
+    let page = put_picked(tables, pick, Page::new(alloc), writer)?;
+    page.send(writer)?;
+    writer.flush()?;
+    Ok(())
+}
+
+/// Puts what is picked after the page, and writes each page that is full.
+fn put_picked<W: Write>(
+    tables: &Tables,
+    pick: Pick,
+    page: Page,
+    writer: &mut W,
+) -> Result<Page, ReportFault>
+    requires { IsAtStart page.records }
+    ensures { IfOk result (λ after. Appends
+        (append_known (W.contents writer.old) (waiting page.records))
+        (append_known (W.contents writer.new) (waiting after.records))
+        (csv_text tables.now pick)) }
+{
+    match pick {
+        Pick::All => put_sections(tables, &SECTIONS, page, writer),
+        Pick::View(view) => put_sections(tables, &[Section::View(view)], page, writer),
+        Pick::List(list) => put_sections(tables, &[Section::List(list)], page, writer),
+    }
+}
+
+/// Puts sections after the page, one after the other, and writes each page that is full.
+fn put_sections<W: Write>(
+    tables: &Tables,
+    sections: &[Section],
+    mut page: Page,
+    writer: &mut W,
+) -> Result<Page, ReportFault>
+    requires { IsAtStart page.records }
+    ensures { IfOk result (λ after. Appends
+        (append_known (W.contents writer.old) (waiting page.records))
+        (append_known (W.contents writer.new) (waiting after.records))
+        (flat_map (csv_section tables.now) sections.now)) }
+{
+    for section in sections {
+        page = put_section(tables, *section, page, writer)?;
+    }
+    Ok(page)
+}
+
+/// Puts a section after the page, and writes each page that is full.
+fn put_section<W: Write>(
+    tables: &Tables,
+    section: Section,
+    mut page: Page,
+    writer: &mut W,
+) -> Result<Page, ReportFault>
+    requires { IsAtStart page.records }
+    ensures start { IfOk result (λ after. IsAtStart after.records) }
+    ensures ok { IfOk result (λ after. Appends
+        (append_known (W.contents writer.old) (waiting page.records))
+        (append_known (W.contents writer.new) (waiting after.records))
+        (csv_section tables.now section)) }
+{
+    match section {
+        Section::View(view) => {
+            for (value, outcome, count) in tables.rows(view) {
+                page.put_row(view, value, outcome, count)?;
+                if page.is_full() {
+                    page = page.send(writer)?;
+                }
+            }
+        }
+        Section::List(list) => {
+            for place in tables.list(list) {
+                page.put_place(list, place)?;
+                if page.is_full() {
+                    page = page.send(writer)?;
+                }
+            }
+        }
+    }
+    Ok(page)
+}

@@ -1,0 +1,41 @@
+//! Laws of the definitions: each is the contract of a function with no body.
+ghost use Rattle.std.specs.Prelude.{◌≡◌, ◌++◌};
+ghost use Rattle.std.specs.List.{flat_map};
+ghost use Rattle.smq_tally.specs.Lists.{lists};
+ghost use Rattle.smq_tally.specs.Rows.{views};
+ghost use Rattle.smq_tally.specs.Tables.{TablesValue};
+ghost use Rattle.smq_report.specs.Csv.{csv_text};
+ghost use Rattle.smq_report.specs.Known.{KnowsColumns, KnowsReports, KnowsSections, KnowsTexts};
+ghost use Rattle.smq_report.specs.Table.{table_text};
+
+use crate::pick::Pick;
+
+/// A whole report is those of the views and then those of the lists, one after the other.
+pub fn whole_reports_are_those_of_views_and_lists()
+    ensures csv { (tables : TablesValue) → csv_text tables Pick.All
+        ≡ flat_map (λ view. csv_text tables (Pick.View view)) views
+        ++ flat_map (λ list. csv_text tables (Pick.List list)) lists }
+    ensures table { (tables : TablesValue) → table_text tables Pick.All
+        ≡ flat_map (λ view. table_text tables (Pick.View view)) views
+        ++ flat_map (λ list. table_text tables (Pick.List list)) lists }
+{}
+
+/// The order of sections.
+pub fn known_sections()
+    ensures { KnowsSections }
+{}
+
+/// How known values and directions are printed.
+pub fn known_texts()
+    ensures { KnowsTexts }
+{}
+
+/// Columns with texts that are shorter, as long and longer.
+pub fn known_columns()
+    ensures { KnowsColumns }
+{}
+
+/// The reports of known tables.
+pub fn known_reports()
+    ensures { KnowsReports }
+{}

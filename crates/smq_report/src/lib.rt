@@ -1,0 +1,21 @@
+//! The text of a report: the tables' views and lists as CSV or as tables to read.
+#![tactic(auto)]
+
+mod csv_page;
+mod csv_report;
+mod laws;
+mod pick;
+mod report;
+mod table_report;
+#[cfg(test)]
+mod tests;
+mod value;
+
+pub use csv_report::write_csv;
+pub use laws::{
+    known_columns, known_reports, known_sections, known_texts,
+    whole_reports_are_those_of_views_and_lists,
+};
+pub use pick::{Format, Pick, ReportFault, Section};
+pub use report::write_report;
+pub use table_report::write_table;

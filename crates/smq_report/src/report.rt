@@ -1,0 +1,29 @@
+//! A report in either format.
+ghost use Rattle.std.specs.Prelude.{OnOk};
+ghost use Rattle.std.specs.Io.KnownBytes.{Appends};
+ghost use Rattle.smq_report.specs.Report.{report_text};
+
+use crate::csv_report::write_csv;
+use crate::pick::{Format, Pick, ReportFault};
+use crate::table_report::write_table;
+use smq_tally::Tables;
+use std::alloc::Global;
+use std::io::Write;
+
+/// Writes what is picked of the tables in a format. `Write` comes only where the writer failed in this call; some of the
+/// text may have gone out.
+pub fn write_report<W: Write>(
+    alloc: Global,
+    tables: &Tables,
+    pick: Pick,
+    format: Format,
+    writer: &mut W,
+) -> Result<(), ReportFault>
+    ensures ok { OnOk result (Appends (W.contents writer.old) (W.contents writer.new)
+        (report_text pick format tables.now)) }
+{
+    match format {
+        Format::Csv => write_csv(alloc, tables, pick, writer),
+        Format::Table => write_table(alloc, tables, pick, writer),
+    }
+}

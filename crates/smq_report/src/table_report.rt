@@ -1,0 +1,181 @@
+//! A report as tables: lines are gathered on a page, and a full page is written.
+ghost use Rattle.std.specs.Prelude.{◌≡◌, ◌++◌, ◌≤◌, ◌-◌, [], OnOk, length, replicate, string_bytes, string_len};
+ghost use Rattle.std.specs.List.{flat_map};
+ghost use Rattle.std.specs.Io.KnownBytes.{Appends, Keeps, append_known};
+ghost use Rattle.smq_report.specs.Table.{section_line, table_place, table_row, table_section, table_text};
+
+use crate::pick::{Pick, ReportFault, SECTIONS, Section};
+use crate::value::{dir_name, push_value};
+use smq_kit::Place;
+use smq_tally::{Outcome, Tables, Value};
+use std::alloc::{AllocError, Global};
+use std::io::Write;
+
+/// From how many octets on a page is written.
+const FULL: usize = 65_536;
+
+/// Writes what is picked of the tables, as tables to read: a line for each view and list, also where it has no rows, and
+/// under it a line of columns for each row or place. `Write` comes only where the writer failed in this call; some of the
+/// text may have gone out.
+pub fn write_table<W: Write>(
+    alloc: Global,
+    tables: &Tables,
+    pick: Pick,
+    writer: &mut W,
+) -> Result<(), ReportFault>
+    ensures ok { OnOk result
+        (Appends (W.contents writer.old) (W.contents writer.new) (table_text tables.now pick)) }
+{
+    let mut page = String::new(alloc);
+    put_picked(tables, pick, &mut page, writer)?;
+    send(&mut page, writer)?;
+    writer.flush()?;
+    Ok(())
+}
+
+/// Puts what is picked after the page, and writes each page that is full.
+fn put_picked<W: Write>(
+    tables: &Tables,
+    pick: Pick,
+    page: &mut String,
+    writer: &mut W,
+) -> Result<(), ReportFault>
+    ensures { OnOk result (Appends
+        (append_known (W.contents writer.old) (string_bytes page.old))
+        (append_known (W.contents writer.new) (string_bytes page.new))
+        (table_text tables.now pick)) }
+{
+    match pick {
+        Pick::All => put_sections(tables, &SECTIONS, page, writer),
+        Pick::View(view) => put_sections(tables, &[Section::View(view)], page, writer),
+        Pick::List(list) => put_sections(tables, &[Section::List(list)], page, writer),
+    }
+}
+
+/// Puts sections after the page, one after the other, and writes each page that is full.
+fn put_sections<W: Write>(
+    tables: &Tables,
+    sections: &[Section],
+    page: &mut String,
+    writer: &mut W,
+) -> Result<(), ReportFault>
+    ensures { OnOk result (Appends
+        (append_known (W.contents writer.old) (string_bytes page.old))
+        (append_known (W.contents writer.new) (string_bytes page.new))
+        (flat_map (table_section tables.now) sections.now)) }
+{
+    for section in sections {
+        put_section(tables, *section, page, writer)?;
+    }
+    Ok(())
+}
+
+/// Puts a section after the page, and writes each page that is full.
+fn put_section<W: Write>(
+    tables: &Tables,
+    section: Section,
+    page: &mut String,
+    writer: &mut W,
+) -> Result<(), ReportFault>
+    ensures { OnOk result (Appends
+        (append_known (W.contents writer.old) (string_bytes page.old))
+        (append_known (W.contents writer.new) (string_bytes page.new))
+        (table_section tables.now section)) }
+{
+    push_section_line(page, section)?;
+    match section {
+        Section::View(view) => {
+            for (value, outcome, count) in tables.rows(view) {
+                push_row(page, value, outcome, count)?;
+                send_full(page, writer)?;
+            }
+        }
+        Section::List(list) => {
+            for place in tables.list(list) {
+                push_place(page, place)?;
+                send_full(page, writer)?;
+            }
+        }
+    }
+    Ok(())
+}
+
+/// Writes the page if it is full.
+fn send_full<W: Write>(page: &mut String, writer: &mut W) -> Result<(), ReportFault>
+    ensures { OnOk result (Keeps
+        (append_known (W.contents writer.old) (string_bytes page.old))
+        (append_known (W.contents writer.new) (string_bytes page.new))) }
+{
+    if page.len() < FULL {
+        return Ok(());
+    }
+    send(page, writer)
+}
+
+/// Writes the page, which is empty then.
+fn send<W: Write>(page: &mut String, writer: &mut W) -> Result<(), ReportFault>
+    ensures written { OnOk result
+        (Appends (W.contents writer.old) (W.contents writer.new) (string_bytes page.old)) }
+    ensures empty { OnOk result (string_bytes page.new ≡ []) }
+{
+    writer.write_all(page.as_bytes())?;
+    page.clear();
+    Ok(())
+}
+
+/// Puts a section's own line after the page.
+fn push_section_line(page: &mut String, section: Section) -> Result<(), AllocError>
+    ensures { OnOk result (string_bytes page.new ≡ string_bytes page.old ++ section_line section) }
+{
+    match section {
+        Section::View(view) => {
+            let name = view.name();
+            writeln!(page, "view {name}")
+        }
+        Section::List(list) => {
+            let name = list.name();
+            writeln!(page, "list {name}")
+        }
+    }
+}
+
+/// Puts a row of a view after the page.
+fn push_row(
+    page: &mut String,
+    value: &Value,
+    outcome: Outcome,
+    count: u64,
+) -> Result<(), AllocError>
+    ensures { OnOk result (string_bytes page.new
+        ≡ string_bytes page.old ++ table_row (value.now, outcome, count)) }
+{
+    page.push_str("  ")?;
+    let start = page.len();
+    push_value(page, value)?;
+    fill(page, start, 24)?;
+    let name = outcome.name();
+    writeln!(page, " {name:<10} {count:>10}")
+}
+
+/// Puts a place of a list after the page.
+fn push_place(page: &mut String, place: Place) -> Result<(), AllocError>
+    ensures { OnOk result (string_bytes page.new ≡ string_bytes page.old ++ table_place place) }
+{
+    let session = place.session.0;
+    let dir = dir_name(place.dir);
+    let offset = place.offset;
+    writeln!(page, "  {session:>20} {dir:<6} {offset:>16}")
+}
+
+/// Puts spaces after the page, up to so many places from the start of a column.
+fn fill(page: &mut String, start: usize, places: usize) -> Result<(), AllocError>
+    requires { start ≤ string_len page.old }
+    ensures { OnOk result (string_bytes page.new
+        ≡ string_bytes page.old ++ replicate (places - (string_len page.old - start)) 32) }
+{
+    let missing = places.saturating_sub(page.len() - start);
+    for filled in 0..missing {
+        page.push(' ')?;
+    }
+    Ok(())
+}
