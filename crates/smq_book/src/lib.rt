@@ -5,8 +5,6 @@ mod join;
 mod laws;
 mod pairing;
 mod present;
-#[cfg(test)]
-mod tests;
 mod whole;
 
 pub use join::submits::LAPSE_WINDOW;
@@ -38,6 +36,7 @@ pub use present::batch::{Batch, prepare};
 pub use present::edit::Edit;
 pub use present::forms::Forms;
 pub use present::kept::{Content, KeptPdu};
+pub use present::piece_row::PieceRow;
 pub use present::present::Present;
 pub use present::session::Session;
 pub use present::settings::Settings;

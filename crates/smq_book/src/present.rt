@@ -3,6 +3,7 @@ pub mod batch;
 pub mod edit;
 pub mod forms;
 pub mod kept;
+pub mod piece_row;
 pub mod present;
 pub mod session;
 pub mod settings;

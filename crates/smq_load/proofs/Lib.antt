@@ -1,0 +1,9 @@
+pub mod DecimalLemmas
+pub mod DistinctLemmas
+pub mod FieldLemmas
+pub mod LinkLemmas
+pub mod NextRecordLemmas
+pub mod OneReadingLemmas
+pub mod RecordLemmas
+pub mod ScriptLemmas
+pub mod SettingsLemmas

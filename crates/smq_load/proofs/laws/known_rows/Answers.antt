@@ -1,0 +1,23 @@
+use Rattle.std.proofs.Common.{refl}
+use Rattle.jiff_core.specs.Calendar.{days_from_civil, day_count, days_of_years, days_of_months}
+use Rattle.smq_load.proofs.laws.known_rows.Goals as goal
+
+pub returns : goal.returns
+unfolding days_from_civil day_count days_of_years days_of_months
+returns c = record {
+  withdraw = refl;
+  withdraw_none = refl;
+  form = refl;
+  form_word = refl;
+  route = refl;
+  route_prefix = refl;
+  end = refl;
+  end_open = refl;
+  correct = refl;
+  correct_network = refl;
+  clock = refl;
+  clock_instant = refl;
+  clock_date = refl;
+  other_word = refl;
+  empty = refl;
+}

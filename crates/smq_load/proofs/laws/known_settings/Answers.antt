@@ -1,0 +1,28 @@
+use Rattle.std.proofs.Common.{refl}
+use Rattle.std.specs.Str.{chars, is_utf8}
+use Rattle.toml.proofs.OnLiterals.{toml_on_literals}
+use Rattle.smq_load.proofs.laws.known_settings.Goals as goal
+
+pub returns : goal.returns
+unfolding chars is_utf8 toml_on_literals
+returns c = record {
+  empty = refl;
+  comment = refl;
+  link = refl;
+  clock_last = refl;
+  last_clock = refl;
+  past_clock = refl;
+  negative = refl;
+  float = refl;
+  text = refl;
+  last_link = refl;
+  past_link = refl;
+  no_id = refl;
+  twice = refl;
+  no_array = refl;
+  other_form = refl;
+  other_key = refl;
+  other_link_key = refl;
+  no_toml = refl;
+  no_text = refl;
+}

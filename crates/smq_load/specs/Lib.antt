@@ -1,0 +1,9 @@
+pub mod Decimal
+pub mod Instant
+pub mod Fields
+pub mod Row
+pub mod Script
+pub mod NextRecord
+pub mod Settings
+pub mod Laws
+pub mod Known

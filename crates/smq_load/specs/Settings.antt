@@ -1,0 +1,135 @@
+-- The rows that a document of settings says: one for each link table, in order, and then one for the clock.
+use Rattle.std.specs.Prelude.{ℕ, nat_le, nat_eq, not, ◌&&◌, ◌||◌, Bool, true, if◌then◌else◌, List, [], ◌∷◌, ◌++◌, length, map, codes, Option, Some, None, option_and_then, option_map, ◌≡◌, ⊤, ℤ, pos, negsuc}
+use Rattle.std.specs.List.{list_any}
+use Rattle.std.specs.Str.{bytes_eq, is_utf8}
+use Rattle.toml.specs.Data.{Data, as_array, as_integer, as_str, as_table, Items, no_items, item, Members, no_members, member, get_member}
+use Rattle.toml.specs.Parse.{parse_document}
+use Rattle.smq_kit.specs.declared.form.Form.{Form}
+use Rattle.smq_kit.specs.declared.form.Form.TheVariants.{Verbatim}
+use Rattle.smq_kit.specs.declared.names.LinkId.{LinkId}
+use Rattle.smq_book.specs.declared.present.edit.Edit.TheVariants.{SetForm, Advance}
+use Rattle.smq_load.specs.declared.link_forms.LinkForms.{LinkForms}
+use Rattle.smq_load.specs.declared.row.Row.{Row}
+use Rattle.smq_load.specs.declared.table.Keys.{Keys}
+use Rattle.smq_load.specs.declared.table.Keys.TheVariants.{Document, Link}
+use Rattle.smq_load.specs.declared.row.Row.TheVariants.{Plain}
+use Rattle.smq_load.specs.declared.load_fault.LoadFault.{LoadFault}
+use Rattle.smq_load.specs.declared.load_fault.LoadFault.TheVariants.{BadRow, BadSettings, Read, Memory}
+use Rattle.smq_load.specs.Decimal.{up_to}
+use Rattle.smq_load.specs.Fields.{form_of}
+
+-- each key of a table is one of these
+abbrev pub all_known : (List ℕ → Bool) → Members → Bool
+all_known is_known no_members = true
+all_known is_known (member key value rest) = is_known key && all_known is_known rest
+
+-- the keys of a document, and of a link table
+abbrev pub names_key : Keys → List ℕ → Bool
+names_key Document key = bytes_eq key (codes "clock") || bytes_eq key (codes "link")
+names_key Link key =
+    bytes_eq key (codes "id") || bytes_eq key (codes "response") || bytes_eq key (codes "receipt")
+
+-- an integer, where it is from 0 to the greatest
+abbrev pub natural_to : ℕ → ℤ → Option ℕ
+natural_to greatest (pos number) = up_to greatest (Some number)
+natural_to greatest (negsuc _) = None
+
+-- the integer that a value is, where it is from 0 to the greatest
+abbrev pub number_to : ℕ → Data → Option ℕ
+number_to greatest value = option_and_then (natural_to greatest) (as_integer value)
+
+-- the link that an `id` names, an integer below 2^32, which has to be there
+abbrev pub id_of : Option Data → Option LinkId
+id_of None = None
+id_of (Some id) = option_map (λ (number : ℕ). record { 0 = number }) (number_to 4294967295 id)
+
+-- the form that a value names, verbatim where it is absent
+abbrev pub form_in : Option Data → Option Form
+form_in None = Some Verbatim
+form_in (Some value) = option_and_then form_of (as_str value)
+
+-- a link with its forms, where none of them is missing
+abbrev pub link_from : Option LinkId → Option Form → Option Form → Option LinkForms
+link_from (Some link) (Some response) (Some receipt) =
+    Some (record { link = link; response = response; receipt = receipt })
+link_from _ _ _ = None
+
+-- the link and the forms that a link table says by `id`, `response` and `receipt`, with no other key
+abbrev pub link_of_table : Members → Option LinkForms
+link_of_table members =
+    if all_known (names_key Link) members
+    then link_from (id_of (get_member (codes "id") members))
+    (form_in (get_member (codes "response") members)) (form_in (get_member (codes "receipt") members))
+    else None
+
+-- the link and the forms that a value says, which has to be a table
+abbrev pub link_in : Data → Option LinkForms
+link_in value = option_and_then link_of_table (as_table value)
+
+-- one more link before others, where none is missing
+abbrev pub link_before : Option LinkForms → Option (List LinkForms) → Option (List LinkForms)
+link_before (Some link) (Some links) = Some (link ∷ links)
+link_before _ _ = None
+
+-- the links of the tables of an array, in order
+abbrev pub links_in : Items → Option (List LinkForms)
+links_in no_items = Some []
+links_in (item value rest) = link_before (link_in value) (links_in rest)
+
+-- no number stands twice
+abbrev pub are_distinct : List ℕ → Bool
+are_distinct [] = true
+are_distinct (number ∷ rest) = not (list_any (nat_eq number) rest) && are_distinct rest
+
+-- links with no number twice, and at most 4,096 of them
+abbrev pub fitting : List LinkForms → Option (List LinkForms)
+fitting links =
+    if nat_le (length links) 4096 && are_distinct (map (λ forms. forms.link.0) links) then Some links else None
+
+-- the links of a document's `link`, none where it is absent
+abbrev pub links_of : Option Data → Option (List LinkForms)
+links_of None = Some []
+links_of (Some value) = option_and_then fitting (option_and_then links_in (as_array value))
+
+-- the row that sets the forms of a link
+abbrev pub form_row : LinkForms → Row
+form_row forms = Plain (SetForm forms.link forms.response forms.receipt)
+
+-- the moment of a document's `clock` in ms since 1970 in UTC, where it is one, or none where it is absent
+abbrev pub clock_of : Option Data → Option (Option ℕ)
+clock_of None = Some None
+clock_of (Some value) = option_map Some (number_to 4102444800000 value)
+
+-- the row that sets the clock, where there is one
+abbrev pub clock_rows : Option ℕ → List Row
+clock_rows None = []
+clock_rows (Some moment) = Plain (Advance moment) ∷ []
+
+-- the rows of links, in order, and then of a clock
+abbrev pub rows_with : List LinkForms → Option ℕ → List Row
+rows_with links clock = map form_row links ++ clock_rows clock
+
+-- the rows of links and of a clock, where both can be read
+abbrev pub rows_from : Option (List LinkForms) → Option (Option ℕ) → Option (List Row)
+rows_from (Some links) (Some clock) = Some (rows_with links clock)
+rows_from _ _ = None
+
+-- the rows of a document by `link` and `clock`, with no other key
+abbrev pub rows_in : Members → Option (List Row)
+rows_in members =
+    if all_known (names_key Document) members
+    then rows_from (links_of (get_member (codes "link") members)) (clock_of (get_member (codes "clock") members))
+    else None
+
+-- the rows that octets say as settings: at most 1,048,576 octets of UTF-8, a TOML document of known keys and values
+abbrev pub settings_of : List ℕ → Option (List Row)
+settings_of octets =
+    if nat_le (length octets) 1048576 && is_utf8 octets then option_and_then rows_in (parse_document octets) else None
+
+-- what a fault tells of settings that say these rows, where they say any: bad settings say none, and the only other
+-- fault is want of memory
+abbrev pub TellsOfSettings : Option (List Row) → LoadFault → Type 0
+TellsOfSettings rows BadSettings = rows ≡ None
+TellsOfSettings rows Memory = ⊤
+TellsOfSettings rows (BadRow row) = ⊥
+TellsOfSettings rows Read = ⊥

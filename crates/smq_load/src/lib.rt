@@ -1,0 +1,29 @@
+//! What a script of records and a document of settings say, as rows.
+#![tactic(auto)]
+
+mod decimal;
+mod field;
+mod input;
+mod instant;
+mod laws;
+mod link_forms;
+mod load_fault;
+mod record;
+mod row;
+mod script;
+mod settings;
+mod table;
+#[cfg(test)]
+mod tests;
+
+pub use input::MOST_OCTETS;
+pub use laws::{
+    known_decimals, known_fields, known_instants, known_limits, known_numbers, known_pieces,
+    known_rows, known_settings, one_reading,
+};
+pub use link_forms::MOST_LINKS;
+pub use load_fault::LoadFault;
+pub use row::Row;
+pub use script::{MOST_RECORDS, read_script};
+pub use settings::{MOST_SETTINGS, read_settings};
+pub use smq_book::PieceRow;

@@ -1,0 +1,97 @@
+//! A script: CSV records, each of which says a row.
+ghost use Rattle.std.specs.Prelude.{◌≡◌, ◌≢◌, ◌<◌, ◌≤◌, ◌∷◌, ◌++◌, [], List, ℕ, true, false};
+ghost use Rattle.std.specs.Prelude.{IfOk, IfErr, IfSome, OnOk, length, vec_len};
+ghost use Rattle.std.specs.Io.KnownBytes.{IsAtEnd};
+ghost use Rattle.csv.specs.Records.{fields_of};
+ghost use Rattle.smq_load.specs.Script.{AreRecordsOf, IfJudged, IsScript, Tells};
+ghost use Rattle.smq_load.specs.NextRecord.{AddsRow, HasGiven, TellsNext};
+
+use crate::input::{InputFault, MOST_OCTETS, read_whole};
+use crate::load_fault::LoadFault;
+use crate::record::read_row;
+use crate::row::Row;
+use csv::{ByteRecord, ErrorKind, Reader, ReaderBuilder};
+use std::alloc::Global;
+use std::io::Read;
+
+/// How many records a script may have.
+pub const MOST_RECORDS: u64 = 1_000_000;
+
+/// The rows of a script. It is read to its end before any of them is judged.
+pub fn read_script<R: Read>(alloc: Global, reader: &mut R) -> Result<Vec<Row>, LoadFault>
+    ensures ok { IfOk result (λ rows.
+        IfSome (R.remaining reader.old) (λ text. IsScript text rows.items)) }
+    ensures bad_row { IfErr result (λ fault. IfSome (R.remaining reader.old) (Tells fault)) }
+    ensures no_settings { IfErr result (λ fault. fault ≢ LoadFault.BadSettings) }
+    ensures whole { IfJudged result (IsAtEnd (R.remaining reader.new)) }
+    ensures in_range { IfJudged result
+        (IfSome (R.remaining reader.old) (λ text. length text ≤ MOST_OCTETS)) }
+{
+    match read_whole(alloc, reader) {
+        Ok(text) => rows_of(alloc, text.as_slice()),
+        Err(InputFault::Read) => Err(LoadFault::Read),
+        Err(InputFault::Memory) => Err(LoadFault::Memory),
+    }
+}
+
+/// The rows of the text of a script.
+fn rows_of(alloc: Global, text: &[u8]) -> Result<Vec<Row>, LoadFault>
+    ensures ok { IfOk result (λ rows. IsScript text.now rows.items) }
+    ensures bad_row { IfErr result (λ fault. Tells fault text.now) }
+{
+    let mut reader = ReaderBuilder::new()
+        .has_headers(false)
+        .flexible(true)
+        .from_reader(alloc, text);
+    let mut fields = ByteRecord::new(alloc);
+    let mut rows = Vec::new(alloc);
+    for _ in 0..MOST_RECORDS {
+        if !read_record(&mut reader, &mut fields)? {
+            return Ok(rows);
+        }
+        push_row(alloc, &mut rows, &fields)?;
+    }
+    if read_record(&mut reader, &mut fields)? {
+        return Err(LoadFault::BadRow {
+            row: MOST_RECORDS + 1,
+        });
+    }
+    Ok(rows)
+}
+
+/// The next record of a text, and whether there is one.
+fn read_record<R: Read>(reader: &mut Reader<R>, fields: &mut ByteRecord) -> Result<bool, LoadFault>
+    ensures found { (text : List ℕ) → (records : List (List (List ℕ)))
+        → HasGiven R.remaining reader.old text records → IfOk result (λ found. found ≡ true
+        → HasGiven R.remaining reader.new text (records ++ fields_of fields.new ∷ [])) }
+    ensures none { (text : List ℕ) → (records : List (List (List ℕ)))
+        → HasGiven R.remaining reader.old text records → IfOk result (λ found. found ≡ false
+        → AreRecordsOf text records) }
+    ensures err { IfErr result (λ fault. (text : List ℕ) → Tells fault text) }
+{
+    match reader.read_byte_record(fields) {
+        Ok(found) => Ok(found),
+        Err(error) => match error.kind() {
+            ErrorKind::OutOfMemory => Err(LoadFault::Memory),
+            _ => Err(LoadFault::Read),
+        },
+    }
+}
+
+/// Puts the row of the next record after the rows of those before it.
+fn push_row(alloc: Global, rows: &mut Vec<Row>, fields: &ByteRecord) -> Result<(), LoadFault>
+    requires { vec_len rows.old < MOST_RECORDS }
+    ensures ok { OnOk result (AddsRow rows.old.items rows.new.items (fields_of fields.now)) }
+    ensures bad_row { IfErr result (λ fault.
+        TellsNext fault rows.old.items (fields_of fields.now)) }
+{
+    let number = rows.len() as u64 + 1;
+    match read_row(alloc, fields) {
+        Ok(Some(row)) => match rows.push(row) {
+            Ok(()) => Ok(()),
+            Err(_) => Err(LoadFault::Memory),
+        },
+        Ok(None) => Err(LoadFault::BadRow { row: number }),
+        Err(_) => Err(LoadFault::Memory),
+    }
+}

@@ -1,0 +1,5 @@
+//! What no clause says.
+mod readers;
+mod records;
+mod scripts;
+mod settings;
