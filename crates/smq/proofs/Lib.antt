@@ -1,9 +1,3 @@
-pub mod DecimalLemmas
-pub mod NextRecordLemmas
-pub mod OneReadingLemmas
+pub mod LevelLemmas
 pub mod OrderLemmas
 pub mod PlayLemmas
-pub mod ReportLemmas
-pub mod RowLemmas
-pub mod ScriptLemmas
-pub mod WordLemmas

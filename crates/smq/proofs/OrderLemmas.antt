@@ -1,318 +1,330 @@
--- The order that `clap` takes: words in which it finds no fault enter `query`, with the name of a view.
-use Rattle.std.proofs.Common.{◌≡◌, ◌∙◌, ◌||◌, ◌==◌, ℕ, zero, suc, Bool, true, false, cond, List, [], ◌∷◌, length, map, Option, Some, None, ◌⊎◌, inl, inr, refl, sym, ap, subst, codes}
-use Rattle.std.specs.Prelude.{fold, is_some, option_map, slice_get, drop, encode_utf8}
+-- The order that `clap` takes: words in which it finds no fault enter `report` or `query`, with what each asks for.
+use Rattle.std.proofs.Common.{◌≡◌, ◌∙◌, ◌||◌, ◌&&◌, ℕ, Bool, true, false, cond, List, [], ◌∷◌, ◌++◌, map, Option, Some, None, ◌⊎◌, inl, inr, refl, sym, ap, subst, codes}
+use Rattle.std.specs.Prelude.{fold, is_some, not, option_map, unwrap_or}
 use Rattle.std.specs.Borrow.{Bor}
 use Rattle.std.specs.List.{list_any}
 use Rattle.std.specs.Option.{option_map_or}
-use Rattle.std.specs.Str.{bytes_eq, chars}
+use Rattle.std.specs.Str.{bytes_eq}
 use Rattle.std.proofs.lemmas.Slice.Eq.{bytes_eq-Decides}
-use Rattle.clap.specs.Faults.{bundle_fault, bundle_step_fault, check_fault, defaults_fault, entered_fault, fault_of, flag_word_fault, flags_fault, level_fault, long_fault, other_fault, react_fault, settle_fault, short_fault, step_fault, turn_fault, walk_fault, word_fault}
-use Rattle.clap.specs.Kinds.{Kinds, or_else, value_kinds}
+use Rattle.clap.specs.Faults.{check_fault, defaults_fault, entered_fault, fault_of, level_fault, other_fault, settle_fault, step_fault, turn_fault, walk_fault, word_fault}
+use Rattle.clap.specs.Kinds.{Kinds, check_kinds, or_else, value_kinds}
 use Rattle.clap.specs.Lexer.{long_of, short_of}
-use Rattle.clap.specs.Simple.{Shape, built, entered, filled, help_rule, names_of, new_shape, subcommand_of}
+use Rattle.clap.specs.Simple.{App, Shape, built, built_leaf, entered, filled, help_rule, help_shape, names_of, rows_at, subcommand_of, with_index}
+use Rattle.clap.specs.Takes.{is_given}
 use Rattle.clap.specs.ValueTests.{accepts}
-use Rattle.clap.specs.Values.{same_text}
-use Rattle.clap.specs.Walk.{Held, Names, Row, Rule, Step, Text, Walk, after_flag, arg_by_long, arg_by_short, bundle_met, bundle_step, finished, first_of, idle, long_or_other, nothing_held, plain, rows_after, settled, short_or_plain, subcommand, subcommand_or_other, trailing, value, walked}
+use Rattle.clap.specs.Values.{refused_kind}
+use Rattle.clap.specs.Walk.{Held, Names, Outcome, Row, Rule, Step, Text, Waiting, Walk, after_flag, after_step, arg_by_index, finished, first_of, long_or_other, nothing_held, plain_word, rows_after, settled, short_or_plain, subcommand_met, subcommand_or_other, to_positional, walk_from, walked, walked_from, word_met}
+use Rattle.clap.specs.Walk.{done, idle, next, option, plain, positional, refused, subcommand, trailing, value, waits}
 use Rattle.clap.specs.declared.builder.value_parser.ValueParser.{ValueParser}
 use Rattle.clap.specs.declared.builder.value_parser.ValueParser.TheVariants as vp
-use Rattle.clap.specs.declared.error.kind.ErrorKind.{ErrorKind}
 use Rattle.clap.specs.declared.error.kind.ErrorKind.TheVariants as kind
-use Rattle.clap.proofs.OnLiterals.{clap_on_literals}
-use Rattle.clap.proofs.WalkLemmas.{list_any-map, walk_stopped, walked_is}
-use Rattle.smq.specs.Words.{TakesViews, program}
+use Rattle.clap.proofs.WalkLemmas.{list_any-map}
+use Rattle.smq_tally.specs.Lists.{lists}
+use Rattle.smq_tally.specs.Names.{list_name, view_name}
+use Rattle.smq_tally.specs.Rows.{views}
+use Rattle.smq.specs.declared.orders.Query.{Query}
+use Rattle.smq_report.specs.declared.pick.Format.{Format}
+use Rattle.smq_report.specs.declared.pick.Format.TheVariants as format
+use Rattle.smq_report.specs.declared.pick.Pick.{Pick}
+use Rattle.smq_report.specs.declared.pick.Pick.TheVariants as pick
+use Rattle.smq.specs.Words.{AsksFor, TakesNames, format_name, format_names, format_rule, name_rule, pick_name, pick_names, program, query_app, report_app, settings_rule, subcommand_name}
+use Rattle.smq.proofs.LevelLemmas.{IfHas, Keeps, first_fit, given_fit, help_keeps, level_fit, neither, set_keeps, set_once, some_kind}
 
--- no step fails where neither of two does
-neither : (a b : Kinds) → or_else a b ≡ [] → (a ≡ []) × (b ≡ [])
-neither [] b h = (refl, h)
-neither (k ∷ ks) b h = cc
+-- ---- names
 
-some_kind : {k : ErrorKind} {ks : Kinds} → ◌≡◌ {A = Kinds} (k ∷ ks) [] → ⊥
-some_kind h = cc
+-- a text that a parser of these names takes is one of them
+taken_name : (texts : List Text) (parser : ValueParser) → TakesNames texts parser → (v : Text) → accepts false parser v ≡ true → list_any (λ text. bytes_eq text v) texts ≡ true
+taken_name texts (vp.Names names) takes v h =
+    subst (λ ts. list_any (λ text. bytes_eq text v) ts ≡ true) takes
+    (sym (list_any-map (λ text. bytes_eq text v) (λ (name : Bor Text). name.now) names.now) ∙ h)
+taken_name texts vp.String takes v h = elim takes [ ]
+taken_name texts vp.NonEmptyString takes v h = elim takes [ ]
+taken_name texts vp.Bool takes v h = elim takes [ ]
+taken_name texts vp.Boolish takes v h = elim takes [ ]
+taken_name texts vp.Falsey takes v h = elim takes [ ]
+taken_name texts (vp.Signed _ _) takes v h = elim takes [ ]
+taken_name texts (vp.Unsigned _ _) takes v h = elim takes [ ]
+taken_name texts vp.Float takes v h = elim takes [ ]
+taken_name texts vp.Char takes v h = elim takes [ ]
+taken_name texts (vp.Values _) takes v h = elim takes [ ]
 
--- ---- flags: there is none but help, which is refused with help
-
-abbrev help_built : Rule
-help_built = filled help_rule
-
--- the flags of a command are those of help alone
-record HelpAlone (c : List Rule) : Type 0 where
-  longs : (name : Text) → (b : Bool) × (arg_by_long c name ≡ cond b (Some help_built) None)
-  shorts : (x : ℕ) → (b : Bool) × (arg_by_short c x ≡ cond b (Some help_built) None)
-
--- nothing was used yet
-abbrev held : Option (Text × List Text) → Held
-held p = record { rows = []; pending = p; skip = 0 }
-
-help_reacts : (c : List Rule) (p : Option (Text × List Text)) → react_fault c false help_built [] (held p) ≡ [] → ⊥
-help_reacts c p h =
-    let asked : ◌≡◌ {A = Kinds} (kind.DisplayHelp ∷ []) [] = (neither (settle_fault c false (held p)) _ h).1 in
-    cc
-
-long_refused : (c : List Rule) (b : Bool) (v : Option Text) (p : Option (Text × List Text)) → long_fault c false (cond b (Some help_built) None) v (held p) ≡ [] → ⊥
-long_refused c false v p h = cc
-long_refused c true (Some v) p h = cc
-long_refused c true None p h = help_reacts c p h
-
-short_refused : (c : List Rule) (b : Bool) (rest : Text) (p : Option (Text × List Text)) (next : Held → Kinds) → short_fault c false (cond b (Some help_built) None) rest (held p) next ≡ [] → ⊥
-short_refused c false rest p next h = cc
-short_refused c true rest p next h = help_reacts c p (neither (react_fault c false help_built [] (held p)) _ h).0
-
-bundle_plain : (c : List Rule) → HelpAlone c → (n : ℕ) (flags : Text) (p : Option (Text × List Text)) → flags_fault c false n flags 0 (held p) ≡ []
-    → bundle_met c n flags 0 plain (held p) ≡ (held p, plain)
-unfolding flags_fault bundle_met
-bundle_plain c alone zero flags p h = refl
-bundle_plain c alone (suc k) flags p h = by_octet (slice_get (chars flags) 0) h
+-- what has one of the names
+named_among : {X : Type 0} (name : X → Text) (xs : List X) (v : Text) → list_any (λ text. bytes_eq text v) (map name xs) ≡ true → (x : X) × (name x ≡ v)
+named_among name [] v h = cc
+named_among name (x ∷ xs) v h = first (bytes_eq (name x) v) refl h (named_among name xs v)
   where
-    by_octet : (o : Option ℕ) → bundle_step_fault c false o flags 0 (held p) (flags_fault c false k) ≡ [] → bundle_step c o flags 0 plain (held p) (bundle_met c k) ≡ (held p, plain)
-    by_octet None h = refl
-    by_octet (Some x) h =
-        let found = alone.shorts x in
-        let rest = drop (length (encode_utf8 x)) flags in
-        absurd (short_refused c found.0 rest p (flags_fault c false k rest 0) (ap (λ o. short_fault c false o rest (held p) (flags_fault c false k rest 0)) (sym found.1) ∙ h))
+    first : (b : Bool) → bytes_eq (name x) v ≡ b → (b || list_any (λ text. bytes_eq text v) (map name xs)) ≡ true
+        → (list_any (λ text. bytes_eq text v) (map name xs) ≡ true → (y : _) × (name y ≡ v)) → (y : _) × (name y ≡ v)
+    first true e h more = (x, (bytes_eq-Decides (name x) v).0 e)
+    first false e h more = more h
 
-short_plain : (c : List Rule) → HelpAlone c → (s : Option Text) (word : Text) (p : Option (Text × List Text)) → option_map_or (λ flags. bundle_fault c false flags (held p)) s [] ≡ []
-    → short_or_plain c idle word s (held p) ≡ (held p, value)
-short_plain c alone None word p h = refl
-short_plain c alone (Some flags) word p h =
-    ap (λ (m : Held × _). after_flag c idle word m.0 m.1) (bundle_plain c alone (length flags) flags p h)
-
-long_plain : (c : List Rule) → HelpAlone c → (o : Option (Text × Option Text)) (word : Text) (p : Option (Text × List Text)) → flag_word_fault c false o word (held p) ≡ []
-    → long_or_other c idle word o (held p) ≡ (held p, value)
-long_plain c alone (Some q) word p h =
-    let found = alone.longs q.0 in
-    absurd (long_refused c found.0 q.1 p (ap (λ o. long_fault c false o q.1 (held p)) (sym found.1) ∙ h))
-long_plain c alone None word p h = short_plain c alone (short_of word) word p h
-
-abbrev dashes : Text
-dashes = 45 ∷ 45 ∷ []
-
--- a word that names no subcommand is `--`, or a value
-met_plain : (c : List Rule) → HelpAlone c → (p : Option (Text × List Text)) (position : ℕ) (word : Text) (b : Bool) → bytes_eq word dashes ≡ b
-    → cond (bytes_eq word dashes) [] (flag_word_fault c false (long_of word) word (held p)) ≡ []
-    → (subcommand_or_other c None idle position word (held p) ≡ (held p, trailing position)) ⊎ (subcommand_or_other c None idle position word (held p) ≡ (held p, value))
-met_plain c alone p position word true e h = inl (ap (λ b. cond b (held p, trailing position) (long_or_other c idle word (long_of word) (held p))) e)
-met_plain c alone p position word false e h =
-    let no_fault = ap (λ b. cond b [] (flag_word_fault c false (long_of word) word (held p))) (sym e) ∙ h in
-    inr (ap (λ b. cond b (held p, trailing position) (long_or_other c idle word (long_of word) (held p))) e ∙ long_plain c alone (long_of word) word p no_fault)
-
--- ---- the words after `query`
-
-abbrev first_shape : List Shape → Shape
-first_shape [] = new_shape []
-first_shape (s ∷ ss) = s
-
-abbrev query_built : ValueParser → Shape
-query_built parser = first_shape (built (program parser)).subs
-
-query_flags : (parser : ValueParser) → HelpAlone (query_built parser).rules
-query_flags parser = record {
-  longs = λ name. (bytes_eq (codes "help") name || false, refl);
-  shorts = λ x. ((104 == x) || false, refl);
-}
-
-abbrev start : Bool → Walk
-start t = record { held = held None; waiting = idle; position = 1; is_trailing = t; stopped = None }
-
-abbrev given : Text → Bool → Walk
-given v t = record { held = held (Some (codes "NAME", v ∷ [])); waiting = idle; position = 2; is_trailing = t; stopped = None }
-
-turn_start : (parser : ValueParser) (t : Bool) (word : Text) → turn_fault (query_built parser) [] (start t) word ≡ []
-    → (walked (query_built parser).rules [] (start t) word ≡ start true) ⊎ (walked (query_built parser).rules [] (start t) word ≡ given word t)
-turn_start parser true word h = inr (sym (walked_is (query_built parser).rules [] (start true) word (held None) value refl))
-turn_start parser false word h =
-    let c = (query_built parser).rules in
-    elim (met_plain c (query_flags parser) None 1 word (bytes_eq word dashes) refl (neither (word_fault (query_built parser) [] false idle word (held None)) _ h).0) [
-      | inl met ↦ inl (sym (walked_is c [] (start false) word (held None) (trailing 1) (sym met)))
-      | inr met ↦ inr (sym (walked_is c [] (start false) word (held None) value (sym met)))
-    ]
-
-turn_given : (parser : ValueParser) (v : Text) (t : Bool) (word : Text) → turn_fault (query_built parser) [] (given v t) word ≡ []
-    → walked (query_built parser).rules [] (given v t) word ≡ given v true
-turn_given parser v true word h = absurd (some_kind {k = kind.UnknownArgument} {ks = []} h)
-turn_given parser v false word h =
-    let c = (query_built parser).rules in
-    let p : Option (Text × List Text) = Some (codes "NAME", v ∷ []) in
-    let parts = neither (word_fault (query_built parser) [] false idle word (held p)) _ h in
-    elim (met_plain c (query_flags parser) p 2 word (bytes_eq word dashes) refl parts.0) [
-      | inl met ↦ sym (walked_is c [] (given v false) word (held p) (trailing 2) (sym met))
-      | inr met ↦
-          let stray : ◌≡◌ {A = Kinds} (kind.UnknownArgument ∷ []) [] = ap (λ (m : Held × Step). step_fault (query_built parser) 2 m.0 m.1) (sym met) ∙ parts.1 in
-          absurd (some_kind stray)
-    ]
-
-walk_given : (parser : ValueParser) (v : Text) (t : Bool) (words : List Text) → walk_fault (query_built parser) [] (given v t) words ≡ []
-    → (u : Bool) × (fold (walked (query_built parser).rules []) (given v t) words ≡ given v u)
-unfolding walk_fault
-walk_given parser v t [] h = (t, refl)
-walk_given parser v t (word ∷ rest) h =
-    let c = (query_built parser).rules in
-    let parts = neither (turn_fault (query_built parser) [] (given v t) word) _ h in
-    let same = turn_given parser v t word parts.0 in
-    let later = walk_given parser v true rest (subst (λ w. walk_fault (query_built parser) [] w rest ≡ []) same parts.1) in
-    (later.0, ap (λ w. fold (walked c []) w rest) same ∙ later.1)
-
-walk_start : (parser : ValueParser) (t : Bool) (words : List Text) → walk_fault (query_built parser) [] (start t) words ≡ []
-    → ((u : Bool) × (fold (walked (query_built parser).rules []) (start t) words ≡ start u))
-    ⊎ ((v : Text) × ((u : Bool) × (fold (walked (query_built parser).rules []) (start t) words ≡ given v u)))
-unfolding walk_fault
-walk_start parser t [] h = inl (t, refl)
-walk_start parser t (word ∷ rest) h =
-    let c = (query_built parser).rules in
-    let parts = neither (turn_fault (query_built parser) [] (start t) word) _ h in
-    elim (turn_start parser t word parts.0) [
-      | inl same ↦ elim (walk_start parser true rest (subst (λ w. walk_fault (query_built parser) [] w rest ≡ []) same parts.1)) [
-        | inl later ↦ inl (later.0, ap (λ w. fold (walked c []) w rest) same ∙ later.1)
-        | inr later ↦ inr (later.0, (later.1.0, ap (λ w. fold (walked c []) w rest) same ∙ later.1.1))
-      ]
-      | inr same ↦
-          let later = walk_given parser word t rest (subst (λ w. walk_fault (query_built parser) [] w rest ≡ []) same parts.1) in
-          inr (word, (later.0, ap (λ w. fold (walked c []) w rest) same ∙ later.1))
-    ]
-
--- ---- the name is that of a view
-
--- what is left of the check of `query` once its words are walked
-abbrev query_rest : ValueParser → Walk → Kinds
-query_rest parser w =
-    or_else [] (or_else (settle_fault (query_built parser).rules false w.held)
-    (or_else (defaults_fault (settled (query_built parser).rules w.held).rows (query_built parser).rules)
-    (check_fault (query_built parser) (finished (query_built parser).rules w.held) false)))
-
-none_given : (parser : ValueParser) (u : Bool) → query_rest parser (start u) ≡ [] → ⊥
-unfolding clap_on_literals
-none_given parser u h =
-    let missing : ◌≡◌ {A = Kinds} (kind.MissingRequiredArgument ∷ []) [] = h in
-    cc
-
--- a name that the parser takes is that of a view
-taken_is_link : (names : Bor (List (Bor Text))) (v : Text) → TakesViews (vp.Names names) → (b : Bool) → accepts false (vp.Names names) v ≡ b
-    → cond b [] (kind.InvalidValue ∷ []) ≡ [] → v ≡ codes "link"
-taken_is_link names v takes false e h = cc
-taken_is_link names v takes true e h =
-    let over : list_any (λ name. same_text false name v) (map (λ (n : Bor Text). n.now) names.now) ≡ true =
-    sym (list_any-map (λ name. same_text false name v) (λ (n : Bor Text). n.now) names.now) ∙ e in
-    let one = rw takes at over in
-    sym ((bytes_eq-Decides (codes "link") v).0 (or_false _ one))
+either_any : {X : Type 0} (p : X → Bool) (xs ys : List X) → list_any p (xs ++ ys) ≡ true → (list_any p xs ≡ true) ⊎ (list_any p ys ≡ true)
+either_any p [] ys h = inr h
+either_any p (x ∷ xs) ys h = first (p x) h (either_any p xs ys)
   where
-    or_false : (b : Bool) → (b || false) ≡ true → b ≡ true
-    or_false true h = refl
-    or_false false h = cc
+    first : (b : Bool) → (b || list_any p (xs ++ ys)) ≡ true → (list_any p (xs ++ ys) ≡ true → (list_any p xs ≡ true) ⊎ (list_any p ys ≡ true))
+        → ((b || list_any p xs) ≡ true) ⊎ (list_any p ys ≡ true)
+    first true h more = inl refl
+    first false h more = more h
 
-given_is_link : (parser : ValueParser) → TakesViews parser → (v : Text) (u : Bool) → query_rest parser (given v u) ≡ []
-    → first_of (codes "NAME") (finished (query_built parser).rules (given v u).held) ≡ Some (codes "link")
-unfolding clap_on_literals
-given_is_link vp.String takes v u h = elim takes [ ]
-given_is_link vp.NonEmptyString takes v u h = elim takes [ ]
-given_is_link vp.Bool takes v u h = elim takes [ ]
-given_is_link vp.Boolish takes v u h = elim takes [ ]
-given_is_link vp.Falsey takes v u h = elim takes [ ]
-given_is_link (vp.Signed _ _) takes v u h = elim takes [ ]
-given_is_link (vp.Unsigned _ _) takes v u h = elim takes [ ]
-given_is_link vp.Float takes v u h = elim takes [ ]
-given_is_link vp.Char takes v u h = elim takes [ ]
-given_is_link (vp.Values _) takes v u h = elim takes [ ]
-given_is_link (vp.Names names) takes v u h =
-    let used = (neither (settle_fault (query_built (vp.Names names)).rules false (given v u).held) _ h).0 in
-    let accepted = (neither (value_kinds false (vp.Names names) v) [] used).0 in
-    ap (λ (x : Text). Some x) (taken_is_link names v takes (accepts false (vp.Names names) v) refl accepted)
+accepted : (parser : ValueParser) (v : Text) → value_kinds false parser v ≡ [] → accepts false parser v ≡ true
+accepted parser v h = of_test (accepts false parser v) h
+  where
+    of_test : (b : Bool) → cond b [] (refused_kind parser ∷ []) ≡ [] → b ≡ true
+    of_test true h = refl
+    of_test false h = absurd (some_kind h)
 
-query_is_named : (parser : ValueParser) → TakesViews parser → (words : List Text) → level_fault (query_built parser) [] nothing_held words false [] ≡ []
-    → first_of (codes "NAME") (rows_after (query_built parser).rules [] words) ≡ Some (codes "link")
-query_is_named parser takes words h =
-    let c = (query_built parser).rules in
-    let parts = neither (walk_fault (query_built parser) [] (start false) words) _ h in
-    elim (walk_start parser false words parts.0) [
-      | inl at ↦ absurd (none_given parser at.0 (subst (λ w. query_rest parser w ≡ []) at.1 parts.1))
-      | inr at ↦
-          ap (λ (w : Walk). first_of (codes "NAME") (finished c w.held)) at.1.1
-          ∙ given_is_link parser takes at.0 at.1.0 (subst (λ w. query_rest parser w ≡ []) at.1.1 parts.1)
-    ]
+-- a text is the name of a view or a list
+abbrev IsPickName : Text → Type 0
+IsPickName v = (x : Pick) × (pick_name x ≡ Some v)
+
+-- a text is the name of a format
+abbrev IsFormatName : Text → Type 0
+IsFormatName v = (x : Format) × (format_name x ≡ v)
+
+taken_pick : (parser : ValueParser) → TakesNames pick_names parser → (v : Text) → value_kinds false parser v ≡ [] → IsPickName v
+taken_pick parser takes v h = elim (either_any (λ text. bytes_eq text v) (map view_name views) (map list_name lists) (taken_name pick_names parser takes v (accepted parser v h))) [
+  | inl a ↦ let named = named_among view_name views v a in (pick.View named.0, ap (λ (t : Text). Some t) named.1)
+  | inr a ↦ let named = named_among list_name lists v a in (pick.List named.0, ap (λ (t : Text). Some t) named.1)
+]
+
+taken_format : (parser : ValueParser) → TakesNames format_names parser → (v : Text) → value_kinds false parser v ≡ [] → IsFormatName v
+taken_format parser takes v h = named_among format_name (format.Csv ∷ format.Table ∷ []) v (taken_name format_names parser takes v (accepted parser v h))
+
+-- ---- the words after a subcommand
+
+-- what is known of the value of an argument: NAME's has N, and a format is named
+abbrev Known : (Text → Type 0) → Text → Text → Type 0
+Known N id v = (id ≡ codes "NAME" → N v) × (id ≡ codes "format" → IsFormatName v)
+
+apart : (a b : Text) → bytes_eq a b ≡ false → a ≡ b → ⊥
+apart a b h e = let same : bytes_eq a b ≡ true = (bytes_eq-Decides a b).1 e in cc
+
+abbrev format_built : ValueParser → Rule
+format_built formats = filled (format_rule formats)
+
+abbrev name_built : ValueParser → Rule
+name_built names = with_index 1 (filled (name_rule names))
+
+format_keeps : (N : Text → Type 0) (formats : ValueParser) → TakesNames format_names formats → Keeps (Known N) (set_once (format_built formats))
+format_keeps N formats takes = set_keeps (Known N) (format_built formats)
+    (λ v h. (λ e. absurd (apart (codes "format") (codes "NAME") refl e), λ e. taken_format formats takes v h))
+
+settings_keeps : (N : Text → Type 0) → Keeps (Known N) (set_once (filled settings_rule))
+settings_keeps N = set_keeps (Known N) (filled settings_rule)
+    (λ v h. (λ e. absurd (apart (codes "settings") (codes "NAME") refl e), λ e. absurd (apart (codes "settings") (codes "format") refl e)))
+
+name_keeps : (names : ValueParser) → TakesNames pick_names names → Keeps (Known IsPickName) (set_once (name_built names))
+name_keeps names takes = set_keeps (Known IsPickName) (name_built names)
+    (λ v h. (λ e. taken_pick names takes v h, λ e. absurd (apart (codes "NAME") (codes "format") refl e)))
+
+abbrev report_built : ValueParser → Shape
+report_built formats = built_leaf (record (report_app formats).top { no_binary_name = true })
+
+abbrev query_built : ValueParser → ValueParser → Shape
+query_built names formats = built_leaf (record (query_app names formats).top { no_binary_name = true })
+
+of_known : (P Q : Text → Type 0) → ((v : Text) → P v → Q v) → (o : Option Text) → IfHas P o → IfHas Q o
+of_known P Q f None h = tt
+of_known P Q f (Some v) h = f v h
+
+none_known : (o : Option Text) → IfHas (λ v. ⊥) o → o ≡ None
+none_known None h = refl
+none_known (Some v) h = absurd h
+
+format_known : (o : Option Text) → IfHas IsFormatName o → (x : Format) × (unwrap_or o (codes "csv") ≡ format_name x)
+format_known None h = (format.Csv, refl)
+format_known (Some v) h = (h.0, sym h.1)
+
+-- what words ask for is known
+abbrev pub Asked : Option (Text × List Row) → Type 0
+Asked entered = (query : Query) × (path : Option Text) × AsksFor entered query path
+
+report_asked : (formats : ValueParser) → TakesNames format_names formats → (words : List Text)
+    → level_fault (report_built formats) [] nothing_held words false [] ≡ [] → Asked (Some (rows_at (report_built formats) words))
+report_asked formats takes words clean =
+    let rows = rows_after (report_built formats).rules [] words in
+    let fit = (level_fit (Known (λ v. ⊥)) (report_built formats) (format_keeps _ formats takes, (settings_keeps _, (help_keeps _ (filled help_rule), tt))) (refl, (refl, (refl, tt))) words clean).0 in
+    let shape = format_known (first_of (codes "format") rows) (of_known (Known (λ v. ⊥) (codes "format")) IsFormatName (λ v h. h.1 refl) _ (first_fit (Known (λ v. ⊥)) (codes "format") rows fit)) in (
+      record { pick = pick.All; format = shape.0 },
+      first_of (codes "settings") rows,
+      record {
+        rows = rows;
+        enters = refl;
+        is_named = none_known _ (of_known (Known (λ v. ⊥) (codes "NAME")) (λ v. ⊥) (λ v h. h.0 refl) _ (first_fit (Known (λ v. ⊥)) (codes "NAME") rows fit));
+        has_format = shape.1;
+        has_path = refl;
+      },
+    )
+
+named_query : (x : Pick) (v : Text) → pick_name x ≡ Some v → codes "query" ≡ subcommand_name x
+named_query pick.All v h = cc
+named_query (pick.View view) v h = refl
+named_query (pick.List list) v h = refl
+
+is_required : (g : Bool) → check_kinds false false (true && (not g || false)) ≡ [] → g ≡ true
+is_required true h = refl
+is_required false h = absurd (some_kind h)
+
+query_asked : (names formats : ValueParser) → TakesNames pick_names names → TakesNames format_names formats → (words : List Text)
+    → level_fault (query_built names formats) [] nothing_held words false [] ≡ [] → Asked (Some (rows_at (query_built names formats) words))
+query_asked names formats takes_names takes_formats words clean =
+    let s = query_built names formats in
+    let rows = rows_after s.rules [] words in
+    let level = level_fit (Known IsPickName) s (name_keeps names takes_names, (format_keeps _ formats takes_formats, (settings_keeps _, (help_keeps _ (filled help_rule), tt)))) (refl, (refl, (refl, (refl, tt)))) words clean in
+    let shape = format_known (first_of (codes "format") rows) (of_known (Known IsPickName (codes "format")) IsFormatName (λ v h. h.1 refl) _ (first_fit (Known IsPickName) (codes "format") rows level.0)) in
+    let given = given_fit (Known IsPickName) (codes "NAME") rows level.0 (is_required (is_given (codes "NAME") rows) level.1) in
+    let named = (subst (IfHas (Known IsPickName (codes "NAME"))) given.1 (first_fit (Known IsPickName) (codes "NAME") rows level.0)).0 refl in (
+      record { pick = named.0; format = shape.0 },
+      first_of (codes "settings") rows,
+      record {
+        rows = rows;
+        enters = ap (λ (name : Text). Some (name, rows)) (named_query named.0 given.0 named.1);
+        is_named = given.1 ∙ sym named.1;
+        has_format = shape.1;
+        has_path = refl;
+      },
+    )
+
+-- ---- the subcommand: it is no `help`, which is refused with help
+
+abbrev app_built : ValueParser → ValueParser → App
+app_built names formats = built (program names formats)
+
+abbrev top_built : ValueParser → ValueParser → Shape
+top_built names formats = (app_built names formats).top
+
+abbrev NoHelp : Option (Text × List Text) → Type 0
+NoHelp None = Unit {0}
+NoHelp (Some p) = bytes_eq p.0 (codes "help") ≡ false
+
+abbrev EntersNoHelp : Step → Type 0
+EntersNoHelp (next w) = Unit {0}
+EntersNoHelp (trailing position) = Unit {0}
+EntersNoHelp (subcommand name) = bytes_eq name (codes "help") ≡ false
+EntersNoHelp value = Unit {0}
+
+plain_enters : (c : List Rule) (w : Waiting) (word : Text) (h : Held) → EntersNoHelp (plain_word c w word h).1
+plain_enters c idle word h = tt
+plain_enters c positional word h = tt
+plain_enters c (option id) word h = tt
+
+after_enters : (c : List Rule) (w : Waiting) (word : Text) (h : Held) (o : Outcome) → EntersNoHelp (after_flag c w word h o).1
+after_enters c w word h done = tt
+after_enters c w word h (waits id) = tt
+after_enters c w word h plain = plain_enters c w word h
+after_enters c w word h refused = plain_enters c w word h
+
+short_enters : (c : List Rule) (w : Waiting) (word : Text) (o : Option Text) (h : Held) → EntersNoHelp (short_or_plain c w word o h).1
+short_enters c w word None h = plain_enters c w word h
+short_enters c w word (Some flags) h = after_enters c w word _ _
+
+long_enters : (c : List Rule) (w : Waiting) (word : Text) (o : Option (Text × Option Text)) (h : Held) → EntersNoHelp (long_or_other c w word o h).1
+long_enters c w word (Some p) h = after_enters c w word _ _
+long_enters c w word None h = short_enters c w word (short_of word) h
+
+other_enters : (names formats : ValueParser) (o : Option Text) (w : Waiting) (position : ℕ) (word : Text) (h : Held) → other_fault (top_built names formats) o word h ≡ []
+    → EntersNoHelp (subcommand_or_other (top_built names formats).rules o w position word h).1
+other_enters names formats (Some name) w position word h clean = no_help (bytes_eq name (codes "help")) clean
+  where
+    no_help : (b : Bool) → cond (b && true) (kind.DisplayHelp ∷ kind.InvalidSubcommand ∷ []) [] ≡ [] → b ≡ false
+    no_help true clean = absurd (some_kind clean)
+    no_help false clean = refl
+other_enters names formats None w position word h clean = by_dashes (bytes_eq word (45 ∷ 45 ∷ []))
+  where
+    by_dashes : (b : Bool) → EntersNoHelp (cond b (h, trailing position) (long_or_other (top_built names formats).rules w word (long_of word) h)).1
+    by_dashes true = tt
+    by_dashes false = long_enters (top_built names formats).rules w word (long_of word) h
+
+met_enters : (names formats : ValueParser) (ns : Names) (t : Bool) (w : Waiting) (position : ℕ) (word : Text) (h : Held) → word_fault (top_built names formats) ns t w word h ≡ []
+    → EntersNoHelp (word_met (top_built names formats).rules ns t w position word h).1
+met_enters names formats ns true w position word h clean = tt
+met_enters names formats ns false w position word h clean = other_enters names formats (subcommand_met ns w word) w position word h clean
+
+step_stops : (c : List Rule) (w : Walk) (word : Text) (h : Held) (x : Step) → EntersNoHelp x → NoHelp w.stopped → NoHelp (after_step c word w h x).stopped
+step_stops c w word h (next after) enters stops = stops
+step_stops c w word h (trailing position) enters stops = stops
+step_stops c w word h (subcommand name) enters stops = enters
+step_stops c w word h value enters stops = by_rule (arg_by_index c w.position)
+  where
+    by_rule : (o : Option Rule) → NoHelp (to_positional c o word w h).stopped
+    by_rule None = stops
+    by_rule (Some a) = tt
+
+turn_stops : (names formats : ValueParser) (ns : Names) (w : Walk) (word : Text) → turn_fault (top_built names formats) ns w word ≡ [] → NoHelp w.stopped
+    → NoHelp (walked (top_built names formats).rules ns w word).stopped
+unfolding walked
+turn_stops names formats ns w word clean stops = by_stop w.stopped clean stops
+  where
+    by_stop : (o : Option (Text × List Text))
+        → cond (is_some o) [] (or_else (word_fault (top_built names formats) ns w.is_trailing w.waiting word w.held)
+        (step_fault (top_built names formats) w.position (word_met (top_built names formats).rules ns w.is_trailing w.waiting w.position word w.held).0 (word_met (top_built names formats).rules ns w.is_trailing w.waiting w.position word w.held).1)) ≡ []
+        → NoHelp o → NoHelp (walked_from (top_built names formats).rules ns o w word).stopped
+    by_stop (Some p) clean enters = enters
+    by_stop None clean enters =
+        step_stops (top_built names formats).rules w word _ _
+        (met_enters names formats ns w.is_trailing w.waiting w.position word w.held (neither (word_fault (top_built names formats) ns w.is_trailing w.waiting word w.held) _ clean).0)
+        stops
+
+walk_stops : (names formats : ValueParser) (ns : Names) (words : List Text) (w : Walk) → walk_fault (top_built names formats) ns w words ≡ [] → NoHelp w.stopped
+    → NoHelp (fold (walked (top_built names formats).rules ns) w words).stopped
+unfolding walk_fault
+walk_stops names formats ns [] w clean stops = stops
+walk_stops names formats ns (word ∷ words) w clean stops =
+    let parts = neither (turn_fault (top_built names formats) ns w word) _ clean in
+    walk_stops names formats ns words (walked (top_built names formats).rules ns w word) parts.1 (turn_stops names formats ns w word parts.0 stops)
 
 -- ---- the words of the program
 
-abbrev top_built : ValueParser → Shape
-top_built parser = (built (program parser)).top
+-- the subcommand that a word names, by a test of each
+abbrev named_by : ValueParser → ValueParser → Bool → Bool → Bool → Option Shape
+named_by names formats report query help =
+    cond (report || false) (Some (report_built formats))
+    (cond (query || false) (Some (query_built names formats)) (cond (help || false) (Some (built_leaf help_shape)) None))
 
-abbrev names : ValueParser → Names
-names parser = names_of (built (program parser))
+-- what a subcommand makes of the words after its name
+abbrev entered_at : List Text → Option Shape → Option (Text × List Row)
+entered_at words = option_map (λ s. rows_at s words)
 
-top_flags : (parser : ValueParser) → HelpAlone (top_built parser).rules
-top_flags parser = record {
-  longs = λ name. (bytes_eq (codes "help") name || false, refl);
-  shorts = λ x. ((104 == x) || false, refl);
-}
+abbrev below_fault : List Text → Option Shape → Kinds
+below_fault words o = option_map_or (λ s. level_fault s [] nothing_held words false []) o []
 
-abbrev entering : List Text → Bool → Walk
-entering words t = record { held = held None; waiting = idle; position = 1; is_trailing = t; stopped = Some (codes "query", words) }
+missing : (names formats : ValueParser) (rows : List Row) → check_fault (top_built names formats) rows false ≡ [] → ⊥
+missing names formats rows clean = some_kind {k = kind.MissingSubcommand} {ks = []} clean
 
--- the subcommand that a word names, by two tests
-abbrev named_by : Bool → Bool → Option Text
-named_by query help = option_map (λ (s : Text × List Text). s.0) (cond query (Some (codes "query", [])) (cond help (Some (codes "help", [])) None))
+by_name : (names formats : ValueParser) → TakesNames pick_names names → TakesNames format_names formats → (words : List Text) (rows : List Row) (report query help : Bool)
+    → help ≡ false → below_fault words (named_by names formats report query help) ≡ []
+    → check_fault (top_built names formats) rows (is_some (entered_at words (named_by names formats report query help))) ≡ []
+    → Asked (entered_at words (named_by names formats report query help))
+by_name names formats takes_names takes_formats words rows true query help h clean checks = report_asked formats takes_formats words clean
+by_name names formats takes_names takes_formats words rows false true help h clean checks = query_asked names formats takes_names takes_formats words clean
+by_name names formats takes_names takes_formats words rows false false true h clean checks = cc
+by_name names formats takes_names takes_formats words rows false false false h clean checks = absurd (missing names formats rows checks)
 
-met_top : (parser : ValueParser) (word : Text) (query help : Bool) → other_fault (top_built parser) (named_by query help) word (held None) ≡ []
-    → (subcommand_or_other (top_built parser).rules (named_by query help) idle 1 word (held None) ≡ (held None, subcommand (codes "query")))
-    ⊎ ((subcommand_or_other (top_built parser).rules (named_by query help) idle 1 word (held None) ≡ (held None, trailing 1))
-    ⊎ (subcommand_or_other (top_built parser).rules (named_by query help) idle 1 word (held None) ≡ (held None, value)))
-met_top parser word true help h = inl refl
-met_top parser word false true h = absurd (some_kind {k = kind.DisplayHelp} {ks = kind.InvalidSubcommand ∷ []} h)
-met_top parser word false false h = inr (met_plain (top_built parser).rules (top_flags parser) None 1 word (bytes_eq word dashes) refl h)
+by_stop : (names formats : ValueParser) → TakesNames pick_names names → TakesNames format_names formats → (rows : List Row) (o : Option (Text × List Text)) → NoHelp o
+    → entered_fault (app_built names formats) o ≡ [] → check_fault (top_built names formats) rows (is_some (entered (app_built names formats) o)) ≡ []
+    → Asked (entered (app_built names formats) o)
+by_stop names formats takes_names takes_formats rows None no_help clean checks = absurd (missing names formats rows checks)
+by_stop names formats takes_names takes_formats rows (Some p) no_help clean checks =
+    by_name names formats takes_names takes_formats p.1 rows (bytes_eq (codes "report") p.0) (bytes_eq (codes "query") p.0) (bytes_eq (codes "help") p.0)
+    (not_named (bytes_eq (codes "help") p.0) refl) clean checks
+  where
+    not_named : (b : Bool) → bytes_eq (codes "help") p.0 ≡ b → b ≡ false
+    not_named false e = refl
+    not_named true e =
+        let same : codes "help" ≡ p.0 = (bytes_eq-Decides (codes "help") p.0).0 e in
+        let asks : bytes_eq (codes "help") (codes "help") ≡ false = subst (λ t. bytes_eq t (codes "help") ≡ false) (sym same) no_help in
+        absurd (apart (codes "help") (codes "help") asks refl)
 
-turn_top : (parser : ValueParser) (t : Bool) (word : Text) → turn_fault (top_built parser) (names parser) (start t) word ≡ []
-    → (walked (top_built parser).rules (names parser) (start t) word ≡ start true) ⊎ (walked (top_built parser).rules (names parser) (start t) word ≡ entering [] t)
-turn_top parser true word h = absurd (some_kind {k = kind.UnknownArgument} {ks = kind.InvalidSubcommand ∷ []} h)
-turn_top parser false word h =
-    let c = (top_built parser).rules in
-    let parts = neither (word_fault (top_built parser) (names parser) false idle word (held None)) _ h in
-    elim (met_top parser word (bytes_eq (codes "query") word || false) (bytes_eq (codes "help") word || false) parts.0) [
-      | inl met ↦ inr (sym (walked_is c (names parser) (start false) word (held None) (subcommand (codes "query")) (sym met)))
-      | inr (inl met) ↦ inl (sym (walked_is c (names parser) (start false) word (held None) (trailing 1) (sym met)))
-      | inr (inr met) ↦
-          let stray : ◌≡◌ {A = Kinds} (kind.UnknownArgument ∷ kind.InvalidSubcommand ∷ []) [] = ap (λ (m : Held × Step). step_fault (top_built parser) 1 m.0 m.1) (sym met) ∙ parts.1 in
-          absurd (some_kind stray)
-    ]
-
-walk_top : (parser : ValueParser) (t : Bool) (words : List Text) → walk_fault (top_built parser) (names parser) (start t) words ≡ []
-    → ((u : Bool) × (fold (walked (top_built parser).rules (names parser)) (start t) words ≡ start u))
-    ⊎ ((after : List Text) × ((u : Bool) × (fold (walked (top_built parser).rules (names parser)) (start t) words ≡ entering after u)))
-unfolding walk_fault
-walk_top parser t [] h = inl (t, refl)
-walk_top parser t (word ∷ rest) h =
-    let c = (top_built parser).rules in
-    let parts = neither (turn_fault (top_built parser) (names parser) (start t) word) _ h in
-    elim (turn_top parser t word parts.0) [
-      | inl same ↦ elim (walk_top parser true rest (subst (λ w. walk_fault (top_built parser) (names parser) w rest ≡ []) same parts.1)) [
-        | inl later ↦ inl (later.0, ap (λ w. fold (walked c (names parser)) w rest) same ∙ later.1)
-        | inr later ↦ inr (later.0, (later.1.0, ap (λ w. fold (walked c (names parser)) w rest) same ∙ later.1.1))
-      ]
-      | inr same ↦ inr (rest, (t, ap (λ w. fold (walked c (names parser)) w rest) same ∙ sym (walk_stopped c (names parser) (entering [] t) (codes "query") [] rest)))
-    ]
-
--- what is left of the check of the program once its words are walked
-abbrev top_rest : ValueParser → Walk → Kinds
-top_rest parser w =
-    or_else (entered_fault (built (program parser)) w.stopped)
-    (or_else (settle_fault (top_built parser).rules false w.held)
-    (or_else (defaults_fault (settled (top_built parser).rules w.held).rows (top_built parser).rules)
-    (check_fault (top_built parser) (finished (top_built parser).rules w.held) (is_some (entered (built (program parser)) w.stopped)))))
-
-none_entered : (parser : ValueParser) (u : Bool) → top_rest parser (start u) ≡ [] → ⊥
-unfolding clap_on_literals
-none_entered parser u h =
-    let missing : ◌≡◌ {A = Kinds} (kind.MissingSubcommand ∷ []) [] = h in
-    cc
-
--- words in which `clap` finds no fault enter `query`, with the name of a view
-pub words_name_view : (parser : ValueParser) → TakesViews parser → (words : List Text) → fault_of (program parser) words ≡ []
-    → (rows : List Row) × (subcommand_of (program parser) words ≡ Some (codes "query", rows)) × (first_of (codes "NAME") rows ≡ Some (codes "link"))
-words_name_view parser takes words h =
-    let parts = neither (walk_fault (top_built parser) (names parser) (start false) words) _ h in
-    elim (walk_top parser false words parts.0) [
-      | inl at ↦ absurd (none_entered parser at.0 (subst (λ w. top_rest parser w ≡ []) at.1 parts.1))
-      | inr at ↦
-          let rest = subst (λ w. top_rest parser w ≡ []) at.1.1 parts.1 in
-          let below = (neither (entered_fault (built (program parser)) (Some (codes "query", at.0))) _ rest).0 in (
-            rows_after (query_built parser).rules [] at.0,
-            ap (λ (w : Walk). entered (built (program parser)) w.stopped) at.1.1,
-            query_is_named parser takes at.0 below,
-          )
-    ]
+-- words in which `clap` finds no fault ask for something
+pub words_ask : (names formats : ValueParser) → TakesNames pick_names names → TakesNames format_names formats → (words : List Text)
+    → fault_of (program names formats) words ≡ [] → Asked (subcommand_of (program names formats) words)
+words_ask names formats takes_names takes_formats words clean =
+    let s = top_built names formats in
+    let ns = names_of (app_built names formats) in
+    let end = fold (walked s.rules ns) (walk_from nothing_held) words in
+    let walks = neither (walk_fault s ns (walk_from nothing_held) words) _ clean in
+    let below = neither (entered_fault (app_built names formats) end.stopped) _ walks.1 in
+    let settles = neither (settle_fault s.rules s.args_override_self end.held) _ below.1 in
+    let checks = neither (defaults_fault (settled s.rules end.held).rows s.rules) _ settles.1 in
+    by_stop names formats takes_names takes_formats (finished s.rules end.held) end.stopped (walk_stops names formats ns words (walk_from nothing_held) walks.0 tt) below.0 checks.1

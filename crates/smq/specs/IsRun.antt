@@ -1,29 +1,60 @@
--- What the program makes of a script.
-use Rattle.std.specs.Prelude.{◌≡◌, ⊤, ℕ, List, Option}
+-- What the program makes of settings and a script.
+use Rattle.std.specs.Prelude.{◌≡◌, ◌⊎◌, ⊤, ℕ, List, ◌++◌, Option, Some}
 use Rattle.std.specs.Io.KnownBytes.{Appends}
 use Rattle.smq_kit.specs.declared.refusal.Refusal.{Refusal}
-use Rattle.smq_tally.specs.declared.view.View.{View}
 use Rattle.smq_book.specs.present.Present.{empty}
-use Rattle.smq_book.specs.whole.Scratch.{scratch}
 use Rattle.smq_book.specs.present.Steps.{steps}
-use Rattle.smq.specs.declared.play.RunFault.{RunFault}
-use Rattle.smq.specs.declared.play.RunFault.TheVariants.{BadRow, Read, Write, Memory}
-use Rattle.smq.specs.declared.row.PieceRow.{PieceRow}
-use Rattle.smq.specs.Script.{IsScript, IsFirstBad}
-use Rattle.smq.specs.Play.{edits_of, refused_rows}
-use Rattle.smq.specs.Report.{report_of}
+use Rattle.smq_book.specs.whole.Scratch.{scratch}
+use Rattle.smq_load.specs.declared.load_fault.LoadFault.{LoadFault}
+use Rattle.smq_load.specs.declared.load_fault.LoadFault.TheVariants as load
+use Rattle.smq_load.specs.declared.row.Row.{Row}
+use Rattle.smq_load.specs.Script.{IsScript, IsFirstBad}
+use Rattle.smq_load.specs.Settings.{settings_of}
+use Rattle.smq_report.specs.declared.pick.ReportFault.{ReportFault}
+use Rattle.smq_report.specs.declared.pick.ReportFault.TheVariants as report
+use Rattle.smq_report.specs.Report.{report_text}
+use Rattle.smq.specs.declared.engine.RunFault.{RunFault}
+use Rattle.smq.specs.declared.engine.RunFault.TheVariants.{BadRow, BadSettings, Read, Write, Memory}
+use Rattle.smq.specs.declared.orders.Query.{Query}
+use Rattle.smq.specs.Play.{after_rows, edits_from, refused_from}
 
--- The text is a script, its refused rows are these, and what was written after the earlier octets is exactly the view's
--- rows that the definitions give of what the edits of its rows leave present in a new book.
-pub record IsRun (view : View) (refused : List (ℕ × Refusal)) (old new : Option (List ℕ)) (text : List ℕ) : Type 0 where
-  pub rows : List PieceRow
+-- The settings and the text say rows, the refused ones are those of the text after the settings, and what was written after
+-- the earlier octets is exactly the report text of the query, of the tables that the definitions give of what the edits of
+-- all these rows, in order, leave present in a new book.
+pub record IsRun (query : Query) (settings : List ℕ) (refused : List (ℕ × Refusal)) (old new : Option (List ℕ)) (text : List ℕ) : Type 0 where
+  pub forms : List Row
+  pub rows : List Row
+  pub are_settings : settings_of settings ≡ Some forms
   pub is_script : IsScript text rows
-  pub refused_are : refused ≡ refused_rows rows
-  pub written : Appends old new (report_of view (scratch (steps empty (edits_of rows))))
+  pub refused_are : refused ≡ refused_from 1 (after_rows empty forms) rows
+  pub written : Appends old new
+      (report_text query.pick query.format (scratch (steps empty (edits_from empty (forms ++ rows)))))
 
--- what a fault tells of a text: a bad row is its first
+-- what a fault tells of a script's text: a bad row is its first
 abbrev pub TellsRun : RunFault → List ℕ → Type 0
 TellsRun (BadRow row) text = IsFirstBad text row
+TellsRun BadSettings text = ⊤
 TellsRun Read text = ⊤
 TellsRun Write text = ⊤
 TellsRun Memory text = ⊤
+
+-- Where something was written although a run ended with this fault, settings and script had been read, and the report was
+-- being written: the writer failed, or memory ran out.
+pub record WasPlayed (fault : RunFault) (settings text : List ℕ) : Type 0 where
+  pub forms : List Row
+  pub rows : List Row
+  pub are_settings : settings_of settings ≡ Some forms
+  pub is_script : IsScript text rows
+  pub at_writing : (fault ≡ Write) ⊎ (fault ≡ Memory)
+
+-- the fault of a run whose settings or script aren't loaded
+abbrev pub run_fault : LoadFault → RunFault
+run_fault (load.BadRow row) = BadRow row
+run_fault load.BadSettings = BadSettings
+run_fault load.Read = Read
+run_fault load.Memory = Memory
+
+-- the fault of a run whose report isn't written
+abbrev pub unwritten_fault : ReportFault → RunFault
+unwritten_fault report.Write = Write
+unwritten_fault report.Memory = Memory

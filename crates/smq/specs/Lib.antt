@@ -1,11 +1,5 @@
-pub mod Decimal
-pub mod Row
-pub mod Script
-pub mod NextRecord
-pub mod Laws
 pub mod Words
 pub mod Play
-pub mod Report
 pub mod IsRun
 pub mod Statuses
 pub mod Known

@@ -1,18 +1,19 @@
 -- The edits that a list of rows comes to, and which of the rows are refused.
 use Rattle.std.specs.Prelude.{ℕ, suc, List, [], ◌∷◌, ◌++◌, Option, Some, None}
 use Rattle.smq_kit.specs.declared.refusal.Refusal.{Refusal}
+use Rattle.smq_kit.specs.Replies.{first_of}
 use Rattle.smq_book.specs.declared.present.edit.Edit.{Edit}
 use Rattle.smq_book.specs.declared.present.edit.Edit.TheVariants.{Append}
-use Rattle.smq_kit.specs.Replies.{first_of}
 use Rattle.smq_book.specs.present.Batch.{prepare_refusal}
-use Rattle.smq_book.specs.present.Present.{PresentValue, empty, tail_in}
+use Rattle.smq_book.specs.present.Present.{PresentValue, tail_in}
 use Rattle.smq_book.specs.present.Replies.{reply}
 use Rattle.smq_book.specs.present.Steps.{steps}
-use Rattle.smq.specs.declared.row.PieceRow.{PieceRow}
+use Rattle.smq_load.specs.declared.row.Row.{Row}
+use Rattle.smq_load.specs.declared.row.Row.TheVariants.{Piece, Plain}
 
--- the edit that a row is: its octets, prepared on the present tail of their direction
-abbrev pub edit_of : PresentValue → PieceRow → Edit
-edit_of p row = Append (record {
+-- the edit that a row is: a piece's octets, prepared on the present tail of their direction; any other edit as it stands
+abbrev pub edit_of : PresentValue → Row → Edit
+edit_of p (Piece row) = Append (record {
   link = row.link;
   session = row.session;
   dir = row.dir;
@@ -20,13 +21,15 @@ edit_of p row = Append (record {
   moment = row.moment;
   octets = row.octets;
 })
+edit_of p (Plain edit) = edit
 
--- what refuses to prepare a row's octets
-abbrev pub unprepared : PresentValue → PieceRow → Option Refusal
-unprepared p row = prepare_refusal (tail_in p row.session.0 row.dir) row.octets
+-- what refuses to prepare a piece's octets; any other edit is there as it stands
+abbrev pub unprepared : PresentValue → Row → Option Refusal
+unprepared p (Piece row) = prepare_refusal (tail_in p row.session.0 row.dir) row.octets
+unprepared p (Plain edit) = None
 
 -- what refuses a row: what refuses to prepare it, or else what refuses its edit
-abbrev pub refusal_of : PresentValue → PieceRow → Option Refusal
+abbrev pub refusal_of : PresentValue → Row → Option Refusal
 refusal_of p row = first_of (unprepared p row ∷ reply p (edit_of p row) ∷ [])
 
 -- one edit, or none where there is a refusal
@@ -35,17 +38,21 @@ edits_unless None edit = edit ∷ []
 edits_unless (Some refusal) edit = []
 
 -- the edits that a row comes to: none where it isn't prepared
-abbrev pub row_edits : PresentValue → PieceRow → List Edit
+abbrev pub row_edits : PresentValue → Row → List Edit
 row_edits p row = edits_unless (unprepared p row) (edit_of p row)
 
 -- what is present after a row, which a refused one leaves
-abbrev pub after_row : PresentValue → PieceRow → PresentValue
+abbrev pub after_row : PresentValue → Row → PresentValue
 after_row p row = steps p (row_edits p row)
 
 -- the edits that rows come to, each row prepared on what those before it leave present
-abbrev pub edits_from : PresentValue → List PieceRow → List Edit
+abbrev pub edits_from : PresentValue → List Row → List Edit
 edits_from p [] = []
 edits_from p (row ∷ rows) = row_edits p row ++ edits_from (after_row p row) rows
+
+-- what rows leave present
+abbrev pub after_rows : PresentValue → List Row → PresentValue
+after_rows p rows = steps p (edits_from p rows)
 
 -- a refused row, told by its number
 abbrev pub told : ℕ → Option Refusal → List (ℕ × Refusal)
@@ -53,18 +60,6 @@ told number None = []
 told number (Some refusal) = (number, refusal) ∷ []
 
 -- the refused rows, each with its number and its refusal, where the first row has this number
-abbrev pub refused_from : ℕ → PresentValue → List PieceRow → List (ℕ × Refusal)
+abbrev pub refused_from : ℕ → PresentValue → List Row → List (ℕ × Refusal)
 refused_from number p [] = []
 refused_from number p (row ∷ rows) = told number (refusal_of p row) ++ refused_from (suc number) (after_row p row) rows
-
--- the edits that a script's rows come to in a new book
-abbrev pub edits_of : List PieceRow → List Edit
-edits_of rows = edits_from empty rows
-
--- the refused rows of a script in a new book, as rows are numbered from 1
-abbrev pub refused_rows : List PieceRow → List (ℕ × Refusal)
-refused_rows rows = refused_from 1 empty rows
-
--- what a script's rows leave present in a new book
-abbrev pub played : List PieceRow → PresentValue
-played rows = steps empty (edits_of rows)

@@ -1,5 +1,7 @@
 -- The words that the program takes, as `clap` reads them.
-use Rattle.std.specs.Prelude.{◌≡◌, ◌⊎◌, List, [], ◌∷◌, map, codes, true, Option, Some, Result, IsErrAnd}
+use Rattle.std.specs.Prelude.{◌≡◌, ◌⊎◌, Bool, List, [], ◌∷◌, ◌++◌, map, codes, true, false, unwrap_or, option_map, string_bytes, Option, Some, None, Result, IsErrAnd}
+use Rattle.std.specs.Option.{option_map_or}
+use Rattle.std.specs.Str.{bytes_eq}
 use Rattle.clap.specs.Words.{App, FailsBy, Row, Rule, Text, fault_of, first_of, kind_of, new_app, new_rule, subcommand_of, with_rule, with_subcommand}
 use Rattle.clap.specs.Simple.{on_top}
 use Rattle.clap.specs.declared.error.Error.{Error}
@@ -7,48 +9,136 @@ use Rattle.clap.specs.declared.error.kind.ErrorKind.TheVariants.{OutOfMemory}
 use Rattle.clap.specs.declared.builder.action.ArgAction.TheVariants.{Set}
 use Rattle.clap.specs.declared.builder.value_parser.ValueParser.{ValueParser}
 use Rattle.clap.specs.declared.builder.value_parser.ValueParser.TheVariants.{Names}
-use Rattle.smq_tally.specs.declared.view.View.{View}
-use Rattle.smq_tally.specs.Names.{view_name}
-use Rattle.smq.specs.declared.words.Order.{Order}
-use Rattle.smq.specs.declared.words.Order.TheVariants.{Query}
+use Rattle.smq_tally.specs.Lists.{lists}
+use Rattle.smq_tally.specs.Names.{list_name, view_name}
+use Rattle.smq_tally.specs.Rows.{views}
+use Rattle.smq_report.specs.declared.pick.Format.{Format}
+use Rattle.smq_report.specs.declared.pick.Format.TheVariants as format
+use Rattle.smq_report.specs.declared.pick.Pick.{Pick}
+use Rattle.smq_report.specs.declared.pick.Pick.TheVariants as pick
+use Rattle.smq.specs.declared.orders.Order.{Order}
+use Rattle.smq.specs.declared.orders.Order.TheVariants.{Run}
+use Rattle.smq.specs.declared.orders.Query.{Query}
 
--- a parser takes the name of the view of links, and no other text
-abbrev pub TakesViews : ValueParser → Type 0
-TakesViews (Names names) = map (λ name. name.now) names.now ≡ codes "link" ∷ []
-TakesViews _ = ⊥
+-- ---- what can be asked for
+
+-- the views and lists, in the order of reports
+abbrev pub picks : List Pick
+picks = map pick.View views ++ map pick.List lists
+
+-- the name of a view or a list; the whole report has none
+abbrev pub pick_name : Pick → Option Text
+pick_name pick.All = None
+pick_name (pick.View view) = Some (view_name view)
+pick_name (pick.List list) = Some (list_name list)
+
+-- the names of views and lists
+abbrev pub pick_names : List Text
+pick_names = map view_name views ++ map list_name lists
+
+-- whether a pick has this name
+abbrev pub is_named : Text → Pick → Bool
+is_named text pick = option_map_or (λ name. bytes_eq name text) (pick_name pick) false
+
+-- the subcommand that gives a pick
+abbrev pub subcommand_name : Pick → Text
+subcommand_name pick.All = codes "report"
+subcommand_name (pick.View view) = codes "query"
+subcommand_name (pick.List list) = codes "query"
+
+-- the name of a format
+abbrev pub format_name : Format → Text
+format_name format.Csv = codes "csv"
+format_name format.Table = codes "table"
+
+-- the names of formats
+abbrev pub format_names : List Text
+format_names = map format_name (format.Csv ∷ format.Table ∷ [])
+
+-- ---- the program's words, without its own name
+
+-- a parser takes these names, and no other text
+abbrev pub TakesNames : List Text → ValueParser → Type 0
+TakesNames texts (Names names) = map (λ name. name.now) names.now ≡ texts
+TakesNames texts _ = ⊥
 
 -- NAME, which is required and has one value
 abbrev pub name_rule : ValueParser → Rule
-name_rule parser =
-    record (new_rule (codes "NAME")) { action = Some Set; parser = Some parser; required = true }
+name_rule names =
+    record (new_rule (codes "NAME")) { action = Some Set; parser = Some names; required = true }
+
+-- `--format`, with one value
+abbrev pub format_rule : ValueParser → Rule
+format_rule formats = record (new_rule (codes "format")) {
+  long = Some (codes "format");
+  action = Some Set;
+  value_names = 1;
+  parser = Some formats;
+}
+
+-- `--settings`, with one value, any text
+abbrev pub settings_rule : Rule
+settings_rule = record (new_rule (codes "settings")) {
+  long = Some (codes "settings");
+  action = Some Set;
+  value_names = 1;
+}
+
+-- a subcommand's options: `--format` and `--settings`
+abbrev pub add_options : ValueParser → App → App
+add_options formats app = with_rule (with_rule app (format_rule formats)) settings_rule
+
+-- the subcommand `report`
+abbrev pub report_app : ValueParser → App
+report_app formats = add_options formats (new_app (codes "report"))
 
 -- the subcommand `query`
-abbrev pub query_app : ValueParser → App
-query_app parser = with_rule (new_app (codes "query")) (name_rule parser)
+abbrev pub query_app : ValueParser → ValueParser → App
+query_app names formats =
+    add_options formats (with_rule (new_app (codes "query")) (name_rule names))
 
--- the program's words, without its own name: one subcommand, which is required
-abbrev pub program : ValueParser → App
-program parser = with_subcommand
-    (on_top (λ shape. record shape { no_binary_name = true; subcommand_required = true }) (new_app (codes "smq")))
-    (query_app parser).top
+-- one subcommand, which is required
+abbrev pub program : ValueParser → ValueParser → App
+program names formats = with_subcommand
+    (with_subcommand
+    (on_top (λ shape. record shape { no_binary_name = true; subcommand_required = true })
+    (new_app (codes "smq")))
+    (report_app formats).top)
+    (query_app names formats).top
+
+-- the program's words, where NAME is the name of a view or a list, and a format is `csv` or `table`
+pub record IsProgram (app : App) : Type 0 where
+  pub names : ValueParser
+  pub formats : ValueParser
+  pub takes_names : TakesNames pick_names names
+  pub takes_formats : TakesNames format_names formats
+  pub is_program : app ≡ program names formats
+
+-- ---- what the words ask for
 
 -- words are taken exactly where `clap` finds no fault in them, and refused by that fault, unless memory ran out
 abbrev pub TakesWords : {T : Type 0} → Result T Error → List Text → Type 0
 TakesWords result words = IsErrAnd result (λ e. kind_of e ≡ OutOfMemory)
-    ⊎ ((parser : ValueParser) × TakesViews parser × FailsBy (fault_of (program parser) words) result)
+    ⊎ ((app : App) × IsProgram app × FailsBy (fault_of app words) result)
 
--- the view of which an order asks
-abbrev pub view_of : Order → View
-view_of (Query view) = view
-
--- The matches of the subcommand that words enter ask for an order: the subcommand is `query`, and its NAME is the name of
--- the order's view.
-pub record AsksFor (entered : Option (Text × List Row)) (order : Order) : Type 0 where
+-- The matches of the subcommand that words enter ask for a pick, a format and a path: the subcommand is the pick's, NAME is
+-- its name, and the format is the one of `--format`, or `csv` where that isn't given.
+pub record AsksFor (entered : Option (Text × List Row)) (query : Query) (path : Option Text) : Type 0 where
   pub rows : List Row
-  pub is_query : entered ≡ Some (codes "query", rows)
-  pub is_named : first_of (codes "NAME") rows ≡ Some (view_name (view_of order))
+  pub enters : entered ≡ Some (subcommand_name query.pick, rows)
+  pub is_named : first_of (codes "NAME") rows ≡ pick_name query.pick
+  pub has_format : unwrap_or (first_of (codes "format") rows) (codes "csv") ≡ format_name query.format
+  pub has_path : first_of (codes "settings") rows ≡ path
+
+-- what of a report an order asks for
+abbrev pub query_of : Order → Query
+query_of (Run query settings) = query
+
+-- the path of the settings that an order names, if it names any
+abbrev pub path_of : Order → Option Text
+path_of (Run query settings) = option_map string_bytes settings
 
 -- an order is the one for which `clap`'s matches of the words ask
 abbrev pub HasOrder : List Text → Order → Type 0
 HasOrder words order =
-    (parser : ValueParser) × TakesViews parser × AsksFor (subcommand_of (program parser) words) order
+    (app : App) × IsProgram app × AsksFor (subcommand_of app words) (query_of order) (path_of order)

@@ -7,37 +7,40 @@ ghost use Rattle.std.specs.declared.io.ErrorKind.TheVariants as io_kind;
 ghost use Rattle.clap.specs.Words.{kind_of};
 ghost use Rattle.smq.specs.Statuses.{fault_status};
 
-mod decimal;
-mod input;
+mod engine;
 mod laws;
+mod orders;
 mod play;
-mod report;
-mod row;
-mod script;
+mod rules;
 mod status;
 mod words;
 
 use clap::error::ErrorKind;
-use play::{RunFault, run_query};
-use smq_book::View;
+use engine::{RunFault, run};
+use orders::{Order, Query};
+use smq_load::MOST_SETTINGS;
 use status::{BAD_INPUT, DONE, FAULT, NO_MEMORY, ran_status};
-use std::io;
+use std::io::Read;
 use std::process::ExitCode;
-use std::rt::Env;
-use words::{Order, own_words, read_order};
+use std::rt::{Env, Files};
+use std::{fs, io};
+use words::{order, own_words};
 
 fn main(rt: HostRuntime) -> ExitCode {
-    ExitCode::from(run(&rt))
+    ExitCode::from(obey(&rt))
 }
 
 /// Does what the program's words ask for, and gives the status. A message that can't be told changes no status.
-fn run<R: Env + Input + Print + Eprint + AllocGlobal>(rt: &R) -> u8 {
+fn obey<R: Env + Files + Input + Print + Eprint + AllocGlobal>(rt: &R) -> u8 {
     let words = match own_words(rt) {
         Ok(words) => words,
         Err(error) => return no_words(rt, &error),
     };
-    match read_order(rt.alloc(), words.as_slice()) {
-        Ok(Order::Query { view }) => query(rt, view),
+    match order(rt.alloc(), words.as_slice()) {
+        Ok(Order::Run { query, settings }) => match read_settings_at(rt, settings) {
+            Ok(settings) => tell(rt, query, settings.as_slice()),
+            Err(fault) => fail(rt, fault),
+        },
         Err(error) => refuse(rt, &error),
     }
 }
@@ -76,9 +79,33 @@ fn refuse<R: Print + Eprint>(rt: &R, error: &clap::Error) -> u8
     }
 }
 
-/// Plays the script, writes the view, and tells what was refused.
-fn query<R: Input + Print + Eprint + AllocGlobal>(rt: &R, view: View) -> u8 {
-    match run_query(rt, view, &mut rt.reader(), &mut io::writer(rt)) {
+/// The octets of the file at a path, at most one more than settings may have; none where no path is given.
+fn read_settings_at<R: Files + AllocGlobal>(
+    rt: &R,
+    path: Option<String>,
+) -> Result<Vec<u8>, RunFault> {
+    let Some(path) = path else {
+        return Ok(Vec::new(rt.alloc()));
+    };
+    match read_start(rt, path.as_str()) {
+        Ok(octets) => Ok(octets),
+        Err(error) if error.kind() == io::ErrorKind::OutOfMemory => Err(RunFault::Memory),
+        Err(_) => Err(RunFault::Read),
+    }
+}
+
+/// The octets of a file, at most one more than settings may have.
+fn read_start<R: Files + AllocGlobal>(rt: &R, path: &str) -> io::Result<Vec<u8>> {
+    let mut octets = Vec::new(rt.alloc());
+    let file = fs::open(rt, path)?;
+    file.take(MOST_SETTINGS as u64 + 1)
+        .read_to_end(&mut octets)?;
+    Ok(octets)
+}
+
+/// Plays the script after the settings, writes what the query asks for, and tells what was refused.
+fn tell<R: Input + Print + Eprint + AllocGlobal>(rt: &R, query: Query, settings: &[u8]) -> u8 {
+    match run(rt, &mut rt.reader(), settings, query, &mut io::writer(rt)) {
         Ok(ran) => {
             for (row, refusal) in &ran.refused {
                 let _ = eprintln!(rt; "row {row}: {refusal}");
@@ -96,6 +123,10 @@ fn fail<R: Eprint>(rt: &R, fault: RunFault) -> u8
     match fault {
         RunFault::BadRow { row } => {
             let _ = eprintln!(rt; "row {row}: bad row");
+            BAD_INPUT
+        }
+        RunFault::BadSettings => {
+            let _ = eprintln!(rt; "settings: bad settings");
             BAD_INPUT
         }
         RunFault::Read => {

@@ -1,99 +1,33 @@
-//! A script is played on a book, row by row, and a view is written: nothing before all rows were read and played.
-ghost use Rattle.std.specs.Prelude.{◌≡◌, ◌≢◌, ◌++◌, IfOk, IfErr, IfSome, OnOk, Some, string_bytes};
-ghost use Rattle.std.specs.Io.KnownBytes.{Keeps};
+//! Rows are played on a book, one after the other. A row that is refused leaves what is present, and the rest goes on.
+ghost use Rattle.std.specs.Prelude.{◌≡◌, ◌≢◌, ◌++◌, IfOk, OnOk, Some};
 ghost use Rattle.smq_book.specs.present.Replies.{reply};
-ghost use Rattle.smq_book.specs.whole.Scratch.{scratch};
 ghost use Rattle.smq_book.specs.present.Steps.{step};
-ghost use Rattle.smq.specs.IsRun.{IsRun, TellsRun};
-ghost use Rattle.smq.specs.Play.{after_row, played, refusal_of, refused_rows, told};
-ghost use Rattle.smq.specs.Report.{report_of};
+ghost use Rattle.smq.specs.Play.{after_row, after_rows, refusal_of, refused_from, told};
+ghost use Rattle.smq_load.specs.declared.row.Row.TheVariants.{Piece};
 
-use crate::report::view_report;
-use crate::row::PieceRow;
-use crate::script::{LoadFault, read_script};
-use smq_book::{Batch, Book, Edit, View, prepare};
+use smq_book::{Book, Edit, PieceRow, prepare};
 use smq_kit::Refusal;
+use smq_load::Row;
 use std::alloc::{AllocError, Global};
-use std::io::{Read, Write};
 
-/// What a script came to.
-#[derive(Drop)]
-pub struct Ran {
-    /// The refused rows, each with its number, from 1, and its refusal.
-    pub refused: Vec<(u64, Refusal)>,
-}
-
-/// Why a script wasn't run.
-#[derive(Clone, Copy, Debug, PartialEq, Eq)]
-pub enum RunFault {
-    /// A record says no row, or is the record after 1,000,000; the least number of such a record, from 1.
-    BadRow { row: u64 },
-    /// The reader failed, or gave more than a script may have.
-    Read,
-    /// The writer failed; some of the report may have been written.
-    Write,
-    /// Memory ran out.
-    Memory,
-}
-
-/// Reads a script, plays its rows in order on a new book, and writes the rows of a view. A refused row is skipped.
-/// Nothing is written unless all rows can be read and memory is there.
-pub fn run_query<RT: AllocGlobal, R: Read, W: Write>(
-    rt: &RT,
-    view: View,
-    reader: &mut R,
-    writer: &mut W,
-) -> Result<Ran, RunFault>
-    ensures ok { IfOk result (λ ran. IfSome (R.remaining reader.old)
-        (IsRun view ran.refused.items (W.contents writer.old) (W.contents writer.new))) }
-    ensures bad_row { IfErr result (λ fault. IfSome (R.remaining reader.old) (TellsRun fault)) }
-    ensures unwritten { IfErr result (λ fault. fault ≢ RunFault.Write
-        → Keeps (W.contents writer.old) (W.contents writer.new)) }
-{
-    let rows = match read_script(rt.alloc(), reader) {
-        Ok(rows) => rows,
-        Err(LoadFault::BadRow { row }) => return Err(RunFault::BadRow { row }),
-        Err(LoadFault::Read) => return Err(RunFault::Read),
-        Err(LoadFault::Memory) => return Err(RunFault::Memory),
-    };
-    let Ok((text, refused)) = report_rows(rt.alloc(), view, rows) else {
-        return Err(RunFault::Memory);
-    };
-    match writer.write_all(text.as_bytes()) {
-        Ok(()) => Ok(Ran { refused }),
-        Err(_) => Err(RunFault::Write),
-    }
-}
-
-/// The report of a view of what the rows leave present, and the rows that are refused.
-fn report_rows(
+/// Plays rows in order on a book, and gives the refused ones, each with its number, from 1.
+pub fn play(
     alloc: Global,
-    view: View,
-    rows: Vec<PieceRow>,
-) -> Result<(String, Vec<(u64, Refusal)>), AllocError>
-    ensures text { IfOk result (λ made.
-        string_bytes made.0 ≡ report_of view (scratch (played rows.items))) }
-    ensures refused { IfOk result (λ made. made.1.items ≡ refused_rows rows.items) }
+    book: &mut Book,
+    rows: Vec<Row>,
+) -> Result<Vec<(u64, Refusal)>, AllocError>
+    ensures present { OnOk result
+        (book.new.present ≡ after_rows book.old.present rows.items) }
+    ensures refused { IfOk result (λ refused.
+        refused.items ≡ refused_from 1 book.old.present rows.items) }
 {
-    let (book, refused) = play(alloc, rows)?;
-    let tables = book.tables()?;
-    let text = view_report(alloc, view, &tables)?;
-    Ok((text, refused))
-}
-
-/// Plays the rows in order on a new book.
-fn play(alloc: Global, rows: Vec<PieceRow>) -> Result<(Book, Vec<(u64, Refusal)>), AllocError>
-    ensures present { IfOk result (λ made. made.0.present ≡ played rows.items) }
-    ensures refused { IfOk result (λ made. made.1.items ≡ refused_rows rows.items) }
-{
-    let mut book = Book::new(alloc);
     let mut refused = Vec::new(alloc);
     let mut number = 0u64;
     for row in rows {
         number += 1;
-        play_next(alloc, &mut book, &mut refused, number, row)?;
+        play_next(alloc, book, &mut refused, number, row)?;
     }
-    Ok((book, refused))
+    Ok(refused)
 }
 
 /// Plays a row, and notes its refusal.
@@ -102,22 +36,26 @@ fn play_next(
     book: &mut Book,
     refused: &mut Vec<(u64, Refusal)>,
     number: u64,
-    row: PieceRow,
+    row: Row,
 ) -> Result<(), AllocError>
     ensures present { OnOk result (book.new.present ≡ after_row book.old.present row) }
     ensures noted { OnOk result
         (refused.new.items ≡ refused.old.items ++ told number (refusal_of book.old.present row)) }
 {
-    if let Some(refusal) = play_row(alloc, book, row)? {
+    let refusal = match row {
+        Row::Piece(piece) => play_piece(alloc, book, piece)?,
+        Row::Plain(edit) => make(book, edit)?,
+    };
+    if let Some(refusal) = refusal {
         refused.push((number, refusal))?;
     }
     Ok(())
 }
 
-/// Puts a row's octets after their direction, unless it is refused.
-fn play_row(alloc: Global, book: &mut Book, row: PieceRow) -> Result<Option<Refusal>, AllocError>
-    ensures { IfOk result (λ refusal. (refusal ≡ refusal_of book.old.present row)
-        × (book.new.present ≡ after_row book.old.present row)) }
+/// Puts a piece's octets after their direction, unless it is refused.
+fn play_piece(alloc: Global, book: &mut Book, row: PieceRow) -> Result<Option<Refusal>, AllocError>
+    ensures { IfOk result (λ refusal. (refusal ≡ refusal_of book.old.present (Piece row))
+        × (book.new.present ≡ after_row book.old.present (Piece row))) }
 {
     let tail = book.tail(row.session, row.dir);
     let PieceRow {
@@ -128,17 +66,17 @@ fn play_row(alloc: Global, book: &mut Book, row: PieceRow) -> Result<Option<Refu
         octets,
     } = row;
     match prepare(alloc, link, session, dir, tail, moment, octets) {
-        Ok(batch) => append(book, batch),
+        Ok(batch) => make(book, Edit::Append { batch }),
         Err(refusal) => unless_memory(refusal),
     }
 }
 
-/// Appends a batch, unless it is refused.
-fn append(book: &mut Book, batch: Batch) -> Result<Option<Refusal>, AllocError>
-    ensures { IfOk result (λ refusal. (refusal ≡ reply book.old.present (Edit.Append batch))
-        × (book.new.present ≡ step book.old.present (Edit.Append batch))) }
+/// Makes an edit, unless it is refused.
+fn make(book: &mut Book, edit: Edit) -> Result<Option<Refusal>, AllocError>
+    ensures { IfOk result (λ refusal. (refusal ≡ reply book.old.present edit)
+        × (book.new.present ≡ step book.old.present edit)) }
 {
-    match book.apply(Edit::Append { batch }) {
+    match book.apply(edit) {
         Ok(()) => Ok(None),
         Err(refusal) => unless_memory(refusal),
     }

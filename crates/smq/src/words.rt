@@ -1,96 +1,146 @@
-//! The words of the program, which `clap` takes by the rules that `command` makes.
-ghost use Rattle.std.specs.Prelude.{◌≡◌, IfOk, map};
-ghost use Rattle.std.specs.Prelude.{Some, option_map};
-ghost use Rattle.smq_tally.specs.Names.{view_name};
-ghost use Rattle.clap.specs.Words.{app_of, subcommand_rows_of};
-ghost use Rattle.clap.specs.declared.builder.value_parser.ValueParser.{ValueParser};
-ghost use Rattle.smq.specs.Words.{TakesWords, AsksFor, HasOrder, TakesViews, program};
+//! The words of the program, and what they ask for.
+ghost use Rattle.std.specs.Prelude.{◌≡◌, Option, Some, IfOk, find, map, option_map, unwrap_or, codes};
+ghost use Rattle.clap.specs.Words.{Text, first_of, found_of, rows_of, subcommand_rows_of};
+ghost use Rattle.smq.specs.Words.{AsksFor, HasOrder, TakesWords, format_name, is_named, path_of, pick_name};
+ghost use Rattle.smq.specs.Words.{picks, query_of};
 
-use clap::{Arg, ArgAction, ArgMatches, Command, Error};
-use smq_book::View;
+use crate::orders::{Order, Query};
+use crate::rules::command;
+use clap::{ArgMatches, Error};
+use smq_report::{Format, Pick};
+use smq_tally::{List, View};
 use std::alloc::{AllocError, Global};
 use std::convert::AsStr;
 use std::rt::Env;
 use std::{env, io};
 
-/// What the words ask for.
-#[derive(Clone, Copy, Debug, PartialEq, Eq)]
-pub enum Order {
-    /// The rows of one view.
-    Query { view: View },
-}
-
-static NAMES: [&str; 1] = ["link"];
+/// The views and lists, in the order of reports.
+static PICKS: [Pick; 17] = [
+    Pick::View(View::Link),
+    Pick::View(View::Route),
+    Pick::View(View::Network),
+    Pick::View(View::Error),
+    Pick::View(View::LinkDelay),
+    Pick::View(View::CentreDelay),
+    Pick::List(List::Waiting),
+    Pick::List(List::StrayAnswers),
+    Pick::List(List::Mismatched),
+    Pick::List(List::StrayReceipts),
+    Pick::List(List::AmbiguousReceipts),
+    Pick::List(List::ExtraReceipts),
+    Pick::List(List::Unreadable),
+    Pick::List(List::Undecodable),
+    Pick::List(List::Broken),
+    Pick::List(List::Open),
+    Pick::List(List::Lapsed),
+];
 
 /// What the program's words, without its own name, ask for. Where they ask for nothing that it does, the error has
 /// `clap`'s text; a request for help is an error of its own kind.
-pub fn read_order<S: AsStr>(alloc: Global, words: &[S]) -> Result<Order, Error>
+pub fn order<S: AsStr>(alloc: Global, words: &[S]) -> Result<Order, Error>
     ensures words { TakesWords result (map S.text words.now) }
     ensures order { IfOk result (HasOrder (map S.text words.now)) }
 {
     let command = command(alloc)?;
     let matches = command.try_get_matches_from(words)?;
-    Ok(order_in(&matches))
+    Ok(order_in(alloc, &matches)?)
 }
 
-/// What the matches of the words ask for.
-fn order_in(matches: &ArgMatches) -> Order
-    ensures { (order : Order) → AsksFor (subcommand_rows_of matches.now) order → result ≡ order }
+/// What the matches of the words ask for. `clap` takes no words without a subcommand.
+fn order_in(alloc: Global, matches: &ArgMatches) -> Result<Order, AllocError>
+    ensures { (query : Query) → (path : Option Text)
+        → AsksFor (subcommand_rows_of matches.now) query path
+        → IfOk result (λ order. (query_of order ≡ query) × (path_of order ≡ path)) }
 {
-    let name = match matches.subcommand() {
-        Some((_, entered)) => entered.get_str("NAME"),
-        None => None,
-    };
-    Order::Query {
-        view: named_view(name),
+    match matches.subcommand() {
+        Some((_, entered)) => order_of(alloc, entered),
+        None => Ok(Order::Run {
+            query: Query {
+                pick: Pick::All,
+                format: Format::Csv,
+            },
+            settings: None,
+        }),
     }
 }
 
-/// The view of a name. `clap` lets no name through but those of views.
-fn named_view(name: Option<&str>) -> View
-    ensures { (view : View) → option_map (λ text. text.now) name.entry ≡ Some (view_name view)
-        → result ≡ view }
+/// What the matches of a subcommand ask for.
+fn order_of(alloc: Global, entered: &ArgMatches) -> Result<Order, AllocError>
+    ensures pick { (pick : Pick)
+        → first_of (codes "NAME") (rows_of (found_of entered.now)) ≡ pick_name pick
+        → IfOk result (λ order. (query_of order).pick ≡ pick) }
+    ensures format { (format : Format)
+        → unwrap_or (first_of (codes "format") (rows_of (found_of entered.now))) (codes "csv")
+        ≡ format_name format
+        → IfOk result (λ order. (query_of order).format ≡ format) }
+    ensures path { IfOk result (λ order.
+        path_of order ≡ first_of (codes "settings") (rows_of (found_of entered.now))) }
+{
+    let query = Query {
+        pick: named_pick(entered.get_str("NAME")),
+        format: named_format(entered.get_str("format")),
+    };
+    let settings = match entered.get_str("settings") {
+        Some(path) => Some(String::from_str(alloc, path)?),
+        None => None,
+    };
+    Ok(Order::Run { query, settings })
+}
+
+/// The pick of a name, and the whole report where none is given. `clap` lets no name through but those of picks.
+fn named_pick(name: Option<&str>) -> Pick
+    ensures { (pick : Pick) → option_map (λ text. text.now) name.entry ≡ pick_name pick
+        → result ≡ pick }
+{
+    match name {
+        Some(text) => find_pick(text).unwrap_or(Pick::All),
+        None => Pick::All,
+    }
+}
+
+/// The view or list of a name.
+fn find_pick(text: &str) -> Option<Pick>
+    ensures { result ≡ find (is_named text.now) picks }
+{
+    PICKS.iter().copied().find(|pick| is_named(*pick, text))
+}
+
+fn is_named(pick: Pick, text: &str) -> bool
+    ensures { result ≡ is_named text.now pick }
+{
+    match name_of(pick) {
+        Some(name) => name == text,
+        None => false,
+    }
+}
+
+/// The name of a view or a list.
+fn name_of(pick: Pick) -> Option<&'static str>
+    ensures { option_map (λ name. name.now) result ≡ pick_name pick }
+{
+    match pick {
+        Pick::All => None,
+        Pick::View(view) => Some(view.name()),
+        Pick::List(list) => Some(list.name()),
+    }
+}
+
+/// The format of a name, and CSV where none is given. `clap` lets no name through but those of formats.
+fn named_format(name: Option<&str>) -> Format
+    ensures { (format : Format)
+        → unwrap_or (option_map (λ text. text.now) name.entry) (codes "csv") ≡ format_name format
+        → result ≡ format }
 {
     match name {
         Some(text) => {
-            if text == "error" {
-                View::Error
-            } else if text == "route" {
-                View::Route
-            } else if text == "network" {
-                View::Network
-            } else if text == "link-delay" {
-                View::LinkDelay
-            } else if text == "centre-delay" {
-                View::CentreDelay
+            if text == "table" {
+                Format::Table
             } else {
-                View::Link
+                Format::Csv
             }
         }
-        None => View::Link,
+        None => Format::Csv,
     }
-}
-
-fn command<'a>(alloc: Global) -> Result<Command<'a>, AllocError>
-    ensures { IfOk result (λ command. (parser : ValueParser) × TakesViews parser
-        × (app_of command ≡ program parser)) }
-{
-    let name = Arg::new(alloc, "NAME")
-        .help("The view's name")
-        .required(true)
-        .action(ArgAction::Set)
-        .value_parser(NAMES.as_slice());
-    let query = Command::new(alloc, "query")
-        .about("Writes one view of the report")
-        .arg(name)?;
-    let program = Command::new(alloc, "smq").bin_name("smq")?;
-    program
-        .about(
-            "Reports what became of messages, from a script of captured SMPP 3.4 sessions on standard input",
-        )
-        .no_binary_name(true)
-        .subcommand_required(true)
-        .subcommand(query)
 }
 
 /// The program's words, without its own name.

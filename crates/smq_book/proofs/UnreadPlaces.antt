@@ -28,7 +28,7 @@ use Rattle.smq_book.specs.declared.present.kept.KeptPdu.{KeptPdu}
 use Rattle.smq_book.specs.declared.present.session.Session.{Session}
 use Rattle.smq_book.specs.present.Kept.{kept_pdus, is_undecodable, is_unreadable}
 use Rattle.smq_book.specs.present.Present.{direction, octets_in}
-use Rattle.smq_book.specs.pairing.Traffic.{broken, session_notes, traffic_of}
+use Rattle.smq_book.specs.pairing.Traffic.{session_notes, traffic_of}
 use Rattle.smq_book.specs.pairing.Places.{octets_at, StandsAt}
 use Rattle.smq_book.proofs.Growth.{kept_pdus-nil}
 use Rattle.smq_book.proofs.Members.{first-one, later-one, none-in, flat-has, has-flat}

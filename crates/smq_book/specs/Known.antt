@@ -1,7 +1,6 @@
 -- Values that laws pin: what is present, PDUs and octets that are written out, and what the definitions give of them.
 use Rattle.std.specs.Prelude.{◌≡◌, ◌+◌, ℕ, Bool, true, false, List, [], ◌∷◌, ◌++◌, length, map, codes, Option, Some, None, ℤ, pos, neg_ℤ}
 use Rattle.std.specs.List.{flat_map}
-use Rattle.std.specs.List.Sorted.{IsStrictlySortedBy}
 use Rattle.std.specs.FinMap as map
 use Rattle.smq_kit.specs.declared.form.Form.{Form}
 use Rattle.smq_kit.specs.declared.form.Form.TheVariants.{Verbatim, Decimal, Hexadecimal}
@@ -31,7 +30,6 @@ use Rattle.smq_tally.specs.declared.outcome.Outcome.{Outcome}
 use Rattle.smq_tally.specs.declared.outcome.Outcome.TheVariants as o
 use Rattle.smq_tally.specs.declared.value.SubmitError.{SubmitError}
 use Rattle.smq_tally.specs.declared.value.SubmitError.TheVariants as s
-use Rattle.smq_tally.specs.declared.value.Value.{Value}
 use Rattle.smq_tally.specs.declared.value.Value.TheVariants as w
 use Rattle.smq_tally.specs.declared.view.View.TheVariants as view
 use Rattle.smq_book.specs.declared.present.edit.Edit.{Edit}
@@ -51,9 +49,8 @@ use Rattle.smq_book.specs.join.Circumstances.{window_of}
 use Rattle.smq_book.specs.join.Facts.{facts_of}
 use Rattle.smq_book.specs.join.Keyed.{grouping_of}
 use Rattle.smq_book.specs.join.Listings.{receipt_notes}
-use Rattle.smq_tally.specs.Lists.{listed, listed_cmp, listed_set}
-use Rattle.smq_tally.specs.Names.{list_name}
-use Rattle.smq_tally.specs.Tables.{TablesValue, tables_of, count_at, listed_in}
+use Rattle.smq_tally.specs.Lists.{listed}
+use Rattle.smq_tally.specs.Tables.{count_at, listed_in}
 use Rattle.smq_book.specs.whole.Scratch.{scratch}
 
 -- ---- a small book, on which replies are worked out by hand

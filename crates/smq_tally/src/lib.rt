@@ -10,8 +10,6 @@ mod places;
 mod rows;
 mod tables;
 mod tally;
-#[cfg(test)]
-mod tests;
 mod value;
 mod view;
 

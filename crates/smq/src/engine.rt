@@ -1,0 +1,131 @@
+//! A run: settings and a script are read and checked, then played, and what is asked of the report is written. Nothing is
+//! written before all rows were read and played.
+ghost use Rattle.std.specs.Prelude.{◌≡◌, ◌≢◌, ◌⊎◌, ◌++◌, IfOk, IfErr, IfSome, IsErrAnd, None, OnOk};
+ghost use Rattle.std.specs.Io.KnownBytes.{Appends, Keeps};
+ghost use Rattle.smq_book.specs.present.Present.{empty};
+ghost use Rattle.smq_book.specs.present.Steps.{steps};
+ghost use Rattle.smq_book.specs.whole.Scratch.{scratch};
+ghost use Rattle.smq_load.specs.Settings.{settings_of};
+ghost use Rattle.smq_report.specs.Report.{report_text};
+ghost use Rattle.smq.specs.IsRun.{IsRun, TellsRun, WasPlayed, run_fault, unwritten_fault};
+ghost use Rattle.smq.specs.Play.{after_rows, edits_from, refused_from};
+
+use crate::orders::Query;
+use crate::play::play;
+use smq_book::{Book, Tables};
+use smq_kit::Refusal;
+use smq_load::{LoadFault, Row, read_script, read_settings};
+use smq_report::{ReportFault, write_report};
+use std::alloc::{AllocError, Global};
+use std::io::{Read, Write};
+
+/// What a script came to.
+#[derive(Drop)]
+pub struct Ran {
+    /// The refused rows, each with its number, from 1, and its refusal.
+    pub refused: Vec<(u64, Refusal)>,
+}
+
+/// Why a script wasn't run.
+#[derive(Clone, Copy, Debug, PartialEq, Eq)]
+pub enum RunFault {
+    /// A record says no row, or is the record after 1,000,000; the least number of such a record, from 1.
+    BadRow { row: u64 },
+    /// The settings are none.
+    BadSettings,
+    /// The reader failed, or gave more than a script may have.
+    Read,
+    /// The writer failed; some of the report may have been written.
+    Write,
+    /// Memory ran out.
+    Memory,
+}
+
+impl From<LoadFault> for RunFault {
+    ghost from_gives = { λ fault made. made ≡ run_fault fault };
+
+    fn from(fault: LoadFault) -> RunFault {
+        match fault {
+            LoadFault::BadRow { row } => RunFault::BadRow { row },
+            LoadFault::BadSettings => RunFault::BadSettings,
+            LoadFault::Read => RunFault::Read,
+            LoadFault::Memory => RunFault::Memory,
+        }
+    }
+}
+
+impl From<ReportFault> for RunFault {
+    ghost from_gives = { λ fault made. made ≡ unwritten_fault fault };
+
+    fn from(fault: ReportFault) -> RunFault {
+        match fault {
+            ReportFault::Write => RunFault::Write,
+            ReportFault::Memory => RunFault::Memory,
+        }
+    }
+}
+
+/// Checks settings, then reads a script and checks all its rows, plays both in order on a new book, and writes what the
+/// query asks of the report. A refused row is skipped. Nothing is written before all rows were read and played; some of the
+/// report may have gone out where the writer failed, or memory ran out, while it was written.
+pub fn run<RT: AllocGlobal, R: Read, W: Write>(
+    rt: &RT,
+    reader: &mut R,
+    settings: &[u8],
+    query: Query,
+    writer: &mut W,
+) -> Result<Ran, RunFault>
+    ensures ok { IfOk result (λ ran. IfSome (R.remaining reader.old)
+        (IsRun query settings.now ran.refused.items (W.contents writer.old) (W.contents writer.new))) }
+    ensures bad_row { IfErr result (λ fault. IfSome (R.remaining reader.old) (TellsRun fault)) }
+    ensures bad_settings { IfErr result (λ fault.
+        fault ≡ RunFault.BadSettings → settings_of settings.now ≡ None) }
+    ensures no_settings { settings_of settings.now ≡ None → IsErrAnd result (λ fault.
+        (fault ≡ RunFault.BadSettings) ⊎ (fault ≡ RunFault.Memory)) }
+    ensures unread { IfErr result (λ fault. fault ≡ RunFault.BadSettings
+        → R.remaining reader.new ≡ R.remaining reader.old) }
+    ensures unwritten { IfErr result (λ fault. IfSome (R.remaining reader.old) (λ text.
+        Keeps (W.contents writer.old) (W.contents writer.new)
+        ⊎ WasPlayed fault settings.now text)) }
+{
+    let forms = read_settings(rt.alloc(), settings)?;
+    let rows = read_script(rt.alloc(), reader)?;
+    let Ok((tables, refused)) = play_all(rt.alloc(), forms, rows) else {
+        return Err(RunFault::Memory);
+    };
+    write_query(rt.alloc(), &tables, query, writer)?;
+    Ok(Ran { refused })
+}
+
+/// The tables of what settings and a script leave present, and the rows of the script that are refused.
+fn play_all(
+    alloc: Global,
+    forms: Vec<Row>,
+    rows: Vec<Row>,
+) -> Result<(Tables, Vec<(u64, Refusal)>), AllocError>
+    ensures tables { IfOk result (λ made. made.0
+        ≡ scratch (steps empty (edits_from empty (forms.items ++ rows.items)))) }
+    ensures refused { IfOk result (λ made.
+        made.1.items ≡ refused_from 1 (after_rows empty forms.items) rows.items) }
+{
+    let mut book = Book::new(alloc);
+    play(alloc, &mut book, forms)?;
+    let refused = play(alloc, &mut book, rows)?;
+    let tables = book.tables()?;
+    Ok((tables, refused))
+}
+
+/// Writes what the query asks of the report of tables.
+fn write_query<W: Write>(
+    alloc: Global,
+    tables: &Tables,
+    query: Query,
+    writer: &mut W,
+) -> Result<(), RunFault>
+    ensures ok { OnOk result (Appends (W.contents writer.old) (W.contents writer.new)
+        (report_text query.pick query.format tables.now)) }
+    ensures fault { IfErr result (λ fault. (fault ≡ RunFault.Write) ⊎ (fault ≡ RunFault.Memory)) }
+{
+    write_report(alloc, tables, query.pick, query.format, writer)?;
+    Ok(())
+}

@@ -1,0 +1,19 @@
+//! What the words of the program ask for.
+use smq_report::{Format, Pick};
+
+/// What is written of a report, and how.
+#[derive(Clone, Copy, Debug, PartialEq, Eq)]
+pub struct Query {
+    pub pick: Pick,
+    pub format: Format,
+}
+
+/// What the words ask for.
+#[derive(Debug, Drop)]
+pub enum Order {
+    /// To play a script with the settings at a path, if one is named, and to write what is asked of its report.
+    Run {
+        query: Query,
+        settings: Option<String>,
+    },
+}
