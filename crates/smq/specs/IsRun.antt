@@ -1,5 +1,5 @@
 -- What the program makes of settings and a script.
-use Rattle.std.specs.Prelude.{◌≡◌, ◌⊎◌, ⊤, ℕ, List, ◌++◌, Option, Some}
+use Rattle.std.specs.Prelude.{◌≡◌, ⊤, ℕ, List, ◌++◌, Option, Some}
 use Rattle.std.specs.Io.KnownBytes.{Appends}
 use Rattle.smq_kit.specs.declared.refusal.Refusal.{Refusal}
 use Rattle.smq_book.specs.present.Present.{empty}
@@ -38,14 +38,12 @@ TellsRun Read text = ⊤
 TellsRun Write text = ⊤
 TellsRun Memory text = ⊤
 
--- Where something was written although a run ended with this fault, settings and script had been read, and the report was
--- being written: the writer failed, or memory ran out.
-pub record WasPlayed (fault : RunFault) (settings text : List ℕ) : Type 0 where
+-- settings and a script's text were read: both say rows
+pub record WasRead (settings text : List ℕ) : Type 0 where
   pub forms : List Row
   pub rows : List Row
   pub are_settings : settings_of settings ≡ Some forms
   pub is_script : IsScript text rows
-  pub at_writing : (fault ≡ Write) ⊎ (fault ≡ Memory)
 
 -- the fault of a run whose settings or script aren't loaded
 abbrev pub run_fault : LoadFault → RunFault

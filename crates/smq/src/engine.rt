@@ -7,7 +7,7 @@ ghost use Rattle.smq_book.specs.present.Steps.{steps};
 ghost use Rattle.smq_book.specs.whole.Scratch.{scratch};
 ghost use Rattle.smq_load.specs.Settings.{settings_of};
 ghost use Rattle.smq_report.specs.Report.{report_text};
-ghost use Rattle.smq.specs.IsRun.{IsRun, TellsRun, WasPlayed, run_fault, unwritten_fault};
+ghost use Rattle.smq.specs.IsRun.{IsRun, TellsRun, WasRead, run_fault, unwritten_fault};
 ghost use Rattle.smq.specs.Play.{after_rows, edits_from, refused_from};
 
 use crate::orders::Query;
@@ -18,6 +18,7 @@ use smq_load::{LoadFault, Row, read_script, read_settings};
 use smq_report::{ReportFault, write_report};
 use std::alloc::{AllocError, Global};
 use std::io::{Read, Write};
+use std::mem::forget;
 
 /// What a script came to.
 #[derive(Drop)]
@@ -67,7 +68,8 @@ impl From<ReportFault> for RunFault {
 
 /// Checks settings, then reads a script and checks all its rows, plays both in order on a new book, and writes what the
 /// query asks of the report. A refused row is skipped. Nothing is written before all rows were read and played; some of the
-/// report may have gone out where the writer failed, or memory ran out, while it was written.
+/// report may have gone out where the writer failed, or memory ran out, while it was written. After a run that is done the
+/// process ends, which gives the memory of its book and tables back at once: they are not taken apart piece by piece.
 pub fn run<RT: AllocGlobal, R: Read, W: Write>(
     rt: &RT,
     reader: &mut R,
@@ -84,9 +86,10 @@ pub fn run<RT: AllocGlobal, R: Read, W: Write>(
         (fault ≡ RunFault.BadSettings) ⊎ (fault ≡ RunFault.Memory)) }
     ensures unread { IfErr result (λ fault. fault ≡ RunFault.BadSettings
         → R.remaining reader.new ≡ R.remaining reader.old) }
-    ensures unwritten { IfErr result (λ fault. IfSome (R.remaining reader.old) (λ text.
-        Keeps (W.contents writer.old) (W.contents writer.new)
-        ⊎ WasPlayed fault settings.now text)) }
+    ensures unwritten { IfErr result (λ fault. fault ≢ RunFault.Write → fault ≢ RunFault.Memory
+        → Keeps (W.contents writer.old) (W.contents writer.new)) }
+    ensures read_first { IfErr result (λ fault. IfSome (R.remaining reader.old) (λ text.
+        Keeps (W.contents writer.old) (W.contents writer.new) ⊎ WasRead settings.now text)) }
 {
     let forms = read_settings(rt.alloc(), settings)?;
     let rows = read_script(rt.alloc(), reader)?;
@@ -94,6 +97,7 @@ pub fn run<RT: AllocGlobal, R: Read, W: Write>(
         return Err(RunFault::Memory);
     };
     write_query(rt.alloc(), &tables, query, writer)?;
+    forget(tables);
     Ok(Ran { refused })
 }
 
@@ -112,6 +116,7 @@ fn play_all(
     play(alloc, &mut book, forms)?;
     let refused = play(alloc, &mut book, rows)?;
     let tables = book.tables()?;
+    forget(book);
     Ok((tables, refused))
 }
 

@@ -147,6 +147,3 @@ fn no_memory<R: Eprint>(rt: &R) -> u8
     let _ = eprintln!(rt; "out of memory");
     NO_MEMORY
 }
-
-#[cfg(test)]
-mod tests;

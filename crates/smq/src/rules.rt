@@ -42,6 +42,10 @@ const MORE: &str = "\
 SCRIPT is CSV records, one a line, as `piece,LINK,SESSION,DIR,MOMENT,HEX`, where DIR is client or centre and
 MOMENT is in ms since 1970. docs/FORMATS.md tells all records, the settings and the report.
 
+Views count messages: link, route, network, error, link-delay, centre-delay.
+Lists have places: waiting, stray-answers, mismatched, stray-receipts, ambiguous-receipts, extra-receipts,
+unreadable, undecodable, broken, open, lapsed.
+
 Status:
   0  each row was taken
   1  a row was refused, which is told on standard error and skipped

@@ -1,4 +1,0 @@
-//! What no clause says.
-mod faults;
-mod running;
-mod words;
