@@ -5,8 +5,6 @@ mod frame;
 mod framing;
 mod laws;
 mod tail;
-#[cfg(test)]
-mod tests;
 
 pub use frame::Frame;
 pub use framing::{LONGEST_PDU, SHORTEST_PDU, frames};

@@ -14,8 +14,6 @@ mod names;
 mod number;
 mod place;
 mod refusal;
-#[cfg(test)]
-mod tests;
 
 pub use error_code::{ErrorCode, ErrorText, error_codes_are_ordered};
 pub use form::{Form, Key, key_of, keys_are_ordered};

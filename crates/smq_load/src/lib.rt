@@ -13,8 +13,6 @@ mod row;
 mod script;
 mod settings;
 mod table;
-#[cfg(test)]
-mod tests;
 
 pub use input::MOST_OCTETS;
 pub use laws::{

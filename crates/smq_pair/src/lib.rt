@@ -6,8 +6,6 @@ mod laws;
 mod pairing;
 mod places;
 mod streams;
-#[cfg(test)]
-mod tests;
 mod turns;
 
 pub use laws::{

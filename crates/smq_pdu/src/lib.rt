@@ -6,8 +6,6 @@ mod command;
 mod fields;
 mod laws;
 mod pdu;
-#[cfg(test)]
-mod tests;
 mod tlv;
 
 pub use body::{Body, Deliver, Submit, SubmitAnswer};

@@ -6,8 +6,6 @@ mod error_codes;
 mod laws;
 mod message_state;
 mod reading;
-#[cfg(test)]
-mod tests;
 mod text;
 
 pub use laws::{

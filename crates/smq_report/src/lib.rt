@@ -7,8 +7,6 @@ mod laws;
 mod pick;
 mod report;
 mod table_report;
-#[cfg(test)]
-mod tests;
 mod value;
 
 pub use csv_report::write_csv;

@@ -3,8 +3,6 @@
 
 mod laws;
 mod routes;
-#[cfg(test)]
-mod tests;
 mod version;
 
 pub use laws::{

@@ -1,4 +1,5 @@
-//! Tests of `smq_tally` and `smq_book` that no case of a script can show, apart from them: a crate with tests is proved twice.
+//! Tests of `smq_tally`, `smq_report`, `smq_book` and `smq_load` that no case of a script can show, apart from them: a crate with
+//! tests is proved twice.
 #![tactic(auto)]
 
 #[cfg(test)]

@@ -1,6 +1,8 @@
 mod edits;
 mod equal;
+mod load;
 mod readers;
+mod reports;
 mod scripts;
 mod shown;
 mod sizes;

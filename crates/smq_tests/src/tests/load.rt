@@ -1,4 +1,4 @@
-//! What no clause says.
+//! Scripts and settings as rows.
 mod readers;
 mod records;
 mod scripts;

@@ -1,6 +1,6 @@
 //! Reports of tables that are written out, and writers that take little or fail.
-use crate::{Format, Pick, ReportFault, write_csv, write_report, write_table};
 use smq_kit::{Dir, ErrorCode, ErrorText, LinkId, Network, Place, RouteId, SessionId};
+use smq_report::{Format, Pick, ReportFault, write_csv, write_report, write_table};
 use smq_tally::{Band, Fact, List, Outcome, SubmitError, Tables, Tally, View};
 use std::alloc::Global;
 use std::io;

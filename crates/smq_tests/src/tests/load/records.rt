@@ -1,7 +1,7 @@
 //! A script with a record of each kind, read field by field.
-use crate::{Row, read_script};
 use smq_book::Edit;
 use smq_kit::{Dir, Form};
+use smq_load::{Row, read_script};
 use std::test::Fail;
 
 /// A record of each kind.

@@ -1,5 +1,5 @@
 //! Scripts, and the rows that they have or their first bad one.
-use crate::{LoadFault, read_script};
+use smq_load::{LoadFault, read_script};
 use std::test::Fail;
 
 /// A script, how many rows it has or the number of its first bad one, and what it shows.

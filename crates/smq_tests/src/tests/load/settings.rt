@@ -1,7 +1,7 @@
 //! Settings, and the rows that they have.
-use crate::{LoadFault, Row, read_settings};
 use smq_book::Edit;
 use smq_kit::Form;
+use smq_load::{LoadFault, Row, read_settings};
 use std::fmt::Write;
 use std::test::Fail;
 

@@ -1,5 +1,5 @@
 //! Readers that give little at a time, and readers that fail.
-use crate::{LoadFault, read_script};
+use smq_load::{LoadFault, read_script};
 use std::io;
 use std::io::Read;
 use std::test::Fail;

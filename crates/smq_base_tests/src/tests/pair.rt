@@ -1,9 +1,8 @@
 //! Sessions as real traffic has them, whose pairs are known by hand, and want of memory.
-use crate::{Pair, Pairing, Places};
 use smq_kit::{Dir, Place, SessionId};
-use std::alloc::{AllocError, Global};
+use smq_pair::{Pair, Pairing, Places};
+use std::alloc::Global;
 use std::process::Abort;
-use std::test::Fail;
 
 const CLIENT: Dir = Dir::FromClient;
 
@@ -302,25 +301,31 @@ fn place(dir: Dir, number: usize) -> Place {
     }
 }
 
-/// Adds a PDU, twice where memory was refused, which left all as it was.
-fn add(
-    rt: &impl Abort,
-    pairing: &mut Pairing,
-    at: Place,
-    pdu: Pdu,
-) -> Result<Option<Pair>, AllocError> {
+/// The first PDUs without a pair: of those that wait, and of the strays.
+fn first_alone(pairing: &Pairing) -> (Option<Place>, Option<Place>) {
+    (pairing.waiting().next(), pairing.strays().next())
+}
+
+/// Adds a PDU, again where memory was refused, which left all as it was.
+fn add(rt: &impl Abort, pairing: &mut Pairing, at: Place, pdu: Pdu) -> Option<Pair> {
     let (_, command, seq, status) = pdu;
-    let waiting = pairing.waiting().next();
-    let stray = pairing.strays().next();
-    assert!(rt; pairing.is_next(at));
+    let alone = first_alone(pairing);
+    assert!(rt; pairing.is_next(at), "a next PDU");
     if let Ok(made) = pairing.add(at, seq, command, status) {
-        return Ok(made);
+        return made;
     }
-    assert!(rt; pairing.pair_of(at).is_none());
-    assert_eq!(rt; pairing.waiting().next(), waiting);
-    assert_eq!(rt; pairing.strays().next(), stray);
-    assert!(rt; pairing.is_next(at));
-    pairing.add(at, seq, command, status)
+    assert!(rt;
+        pairing.pair_of(at).is_none() && first_alone(pairing) == alone,
+        "as before"
+    );
+    assert!(rt; pairing.is_next(at), "as before");
+    pairing.add(at, seq, command, status).expect(rt, "a PDU")
+}
+
+/// Adds a PDU, whose pair is then found at its place.
+fn put(rt: &impl Abort, pairing: &mut Pairing, at: Place, pdu: Pdu, fact: &str) {
+    let made = add(rt, pairing, at, pdu);
+    assert!(rt; pairing.pair_of(at) == made, "{fact}");
 }
 
 impl Session {
@@ -343,79 +348,95 @@ impl Session {
         None
     }
 
-    /// Adds the PDUs of these directions in turn, or at `None` those of both as they come.
-    fn pairing(
-        &self,
-        rt: &impl Abort,
-        alloc: Global,
-        turns: &[Option<Dir>],
-    ) -> Result<Pairing, AllocError> {
-        let mut pairing = Pairing::new(alloc);
-        for turn in turns {
-            for (number, pdu) in self.pdus.iter().enumerate() {
-                if turn.is_none() || *turn == Some(pdu.0) {
-                    let at = place(pdu.0, number);
-                    let made = add(rt, &mut pairing, at, *pdu)?;
-                    assert_eq!(rt; pairing.pair_of(at), made, "{}", self.fact);
-                }
+    /// Puts the PDUs of a direction, or at `None` those of both as they come.
+    fn put_turn(&self, rt: &impl Abort, pairing: &mut Pairing, turn: Option<Dir>) {
+        for (number, pdu) in self.pdus.iter().enumerate() {
+            if turn.is_none() || turn == Some(pdu.0) {
+                put(rt, pairing, place(pdu.0, number), *pdu, self.fact);
             }
         }
-        Ok(pairing)
     }
 
-    fn expect_places(&self, rt: &impl Abort, mut found: Places<'_>, wanted: &[usize]) {
-        for number in wanted {
-            assert_eq!(rt; found.next(), self.place(*number), "{}", self.fact);
+    fn has_pairs(&self, pairing: &mut Pairing) -> bool {
+        for (number, pdu) in self.pdus.iter().enumerate() {
+            if pairing.pair_of(place(pdu.0, number)) != self.pair(number) {
+                return false;
+            }
         }
-        assert!(rt; found.next().is_none(), "{}", self.fact);
+        true
+    }
+
+    /// Whether the places are those of these PDUs, in order.
+    fn has_places(&self, mut found: Places<'_>, wanted: &[usize]) -> bool {
+        for number in wanted {
+            if found.next() != self.place(*number) {
+                return false;
+            }
+        }
+        found.next().is_none()
+    }
+
+    fn is_paired(&self, pairing: &mut Pairing) -> bool {
+        self.has_pairs(pairing)
+            && self.has_places(pairing.waiting(), self.waiting)
+            && self.has_places(pairing.strays(), self.strays)
     }
 }
 
-#[test]
-fn sessions_are_paired_in_any_order_of_directions(rt: HostRuntime) -> Result<(), Fail> {
-    let turns: [&[Option<Dir>]; 3] = [
-        &[None],
-        &[Some(CLIENT), Some(CENTRE)],
-        &[Some(CENTRE), Some(CLIENT)],
-    ];
-    for session in &SESSIONS {
-        for turn in &turns {
-            let mut pairing = session.pairing(&rt, rt.alloc(), turn)?;
-            for (number, pdu) in session.pdus.iter().enumerate() {
-                let found = pairing.pair_of(place(pdu.0, number));
-                assert_eq!(&rt; found, session.pair(number), "{}", session.fact);
-            }
-            session.expect_places(&rt, pairing.waiting(), session.waiting);
-            session.expect_places(&rt, pairing.strays(), session.strays);
-        }
+fn assert_session(rt: &impl Abort, alloc: Global, session: &Session, turns: &[Option<Dir>]) {
+    let mut pairing = Pairing::new(alloc);
+    for turn in turns {
+        session.put_turn(rt, &mut pairing, *turn);
     }
-    Ok(())
+    assert!(rt; session.is_paired(&mut pairing), "{}", session.fact);
+}
+
+#[test]
+fn sessions_are_paired_in_any_order_of_directions(rt: HostRuntime) {
+    for session in &SESSIONS {
+        assert_session(&rt, rt.alloc(), session, &[None]);
+        assert_session(&rt, rt.alloc(), session, &[Some(CLIENT), Some(CENTRE)]);
+        assert_session(&rt, rt.alloc(), session, &[Some(CENTRE), Some(CLIENT)]);
+    }
+}
+
+/// The pair of a submit_sm and a submit_sm_resp of a number.
+fn pair(number: usize) -> Pair {
+    Pair {
+        request: place(CLIENT, number),
+        response: place(CENTRE, number),
+        agrees: true,
+        status: 0,
+    }
+}
+
+fn is_pair_added(rt: &impl Abort, pairing: &mut Pairing, number: usize) -> bool {
+    let pair = pair(number);
+    add(rt, pairing, pair.response, (CENTRE, SUBMIT_SM_RESP, 7, 0)) == Some(pair)
+        && pairing.pair_of(pair.request) == Some(pair)
+}
+
+/// Whether nothing waits, nothing is a stray, and a submit_sm of this number isn't the next.
+fn is_settled(pairing: &Pairing, number: usize) -> bool {
+    !pairing.is_next(place(CLIENT, number)) && first_alone(pairing) == (None, None)
 }
 
 /// The n-th response is that of the n-th request, however many there are of one number. With each allocation refused in
 /// turn (`rt try --test --fail-alloc`) the same pairs are made.
 #[test]
-fn many_of_one_number_are_paired_in_turn(rt: HostRuntime) -> Result<(), Fail> {
+fn many_of_one_number_are_paired_in_turn(rt: HostRuntime) {
     let mut pairing = Pairing::new(rt.alloc());
     for number in 0..2000 {
-        let submit = (CLIENT, SUBMIT_SM, 7, 0);
-        let made = add(&rt, &mut pairing, place(CLIENT, number), submit)?;
-        assert!(rt; made.is_none());
+        let made = add(
+            &rt,
+            &mut pairing,
+            place(CLIENT, number),
+            (CLIENT, SUBMIT_SM, 7, 0),
+        );
+        assert!(rt; made.is_none(), "no pair");
     }
     for number in 0..2000 {
-        let pair = Pair {
-            request: place(CLIENT, number),
-            response: place(CENTRE, number),
-            agrees: true,
-            status: 0,
-        };
-        let response = (CENTRE, SUBMIT_SM_RESP, 7, 0);
-        let made = add(&rt, &mut pairing, place(CENTRE, number), response)?;
-        assert_eq!(rt; made, Some(pair));
-        assert_eq!(rt; pairing.pair_of(pair.request), Some(pair));
+        assert!(rt; is_pair_added(&rt, &mut pairing, number), "a pair");
     }
-    assert!(rt; !pairing.is_next(place(CLIENT, 1999)));
-    assert!(rt; pairing.waiting().next().is_none());
-    assert!(rt; pairing.strays().next().is_none());
-    Ok(())
+    assert!(rt; is_settled(&pairing, 1999), "nothing alone");
 }

@@ -1,10 +1,9 @@
 //! What no clause says: that calls succeed, and frames of octets from outside.
-use crate::{Tail, frames};
 use bytes::Bytes;
+use smq_frame::{Frame, Tail, frames};
 use smq_kit::Moment;
-use std::alloc::AllocError;
+use std::alloc::{AllocError, Global};
 use std::process::Abort;
-use std::test::Fail;
 
 /// A submit_sm of 49 octets with sequence_number 1, from 1000 to 447700900123.
 const SUBMIT: &[u8] = b"\0\0\0\x31\0\0\0\x04\0\0\0\0\0\0\0\x01\0\0\01000\0\x01\x01447700900123\0\
@@ -39,7 +38,7 @@ struct Row {
     tail: State,
 }
 
-const ROWS: [Row; 11] = [
+const ROWS: &[Row] = &[
     Row {
         message: "a length of 15",
         offset: 0,
@@ -141,30 +140,58 @@ const ROWS: [Row; 11] = [
     },
 ];
 
-/// The frames of a row's octets, which the tail takes.
-fn feed(
-    rt: &(impl Abort + AllocGlobal),
-    tail: &mut Tail,
-    row: &Row,
-) -> Result<Vec<Found>, AllocError> {
-    let mut octets = Vec::from_slice(rt.alloc(), row.front)?;
-    octets.resize(row.octets, 0)?;
-    let mut places = Vec::new(rt.alloc());
-    let mut milliseconds: u64 = 0;
-    assert!(rt; row.piece > 0);
-    for part in octets.as_slice().chunks(row.piece) {
-        assert!(rt; tail.has_room(part.len()) && milliseconds < 1_000_000);
-        milliseconds += 1000;
-        let moment = Moment::new(milliseconds).unwrap_or(Moment::epoch());
-        let piece = Bytes::copy_from_slice(rt.alloc(), part)?;
-        let (found, after) = frames(rt.alloc(), tail, moment, &piece)?;
-        *tail = after;
-        for frame in &found {
-            let length = frame.octets.len();
-            places.push((frame.offset, frame.moment.milliseconds(), length))?;
-        }
+/// The octets of a row.
+fn octets_of(rt: &impl Abort, alloc: Global, row: &Row) -> Vec<u8> {
+    let mut octets = Vec::from_slice(alloc, row.front).expect(rt, "octets");
+    octets.resize(row.octets, 0).expect(rt, "octets");
+    octets
+}
+
+fn found_as(frame: &Frame) -> Found {
+    let milliseconds = frame.moment.milliseconds();
+    (frame.offset, milliseconds, frame.octets.len())
+}
+
+/// Puts what is known of some frames after what was found.
+fn push_found(found: &mut Vec<Found>, frames: &[Frame]) -> Result<(), AllocError> {
+    for frame in frames {
+        found.push(found_as(frame))?;
     }
-    Ok(places)
+    Ok(())
+}
+
+/// The tail takes a piece, and what was found gets its frames.
+fn take(
+    rt: &impl Abort,
+    alloc: Global,
+    tail: &mut Tail,
+    found: &mut Vec<Found>,
+    moment: Moment,
+    octets: &[u8],
+) {
+    let piece = Bytes::copy_from_slice(alloc, octets).expect(rt, "a piece");
+    assert!(rt; tail.has_room(piece.len()), "room");
+    let (frames, after) = frames(alloc, tail, moment, &piece).expect(rt, "frames");
+    push_found(found, frames.as_slice()).expect(rt, "found frames");
+    *tail = after;
+}
+
+/// The moment of the n-th piece.
+fn moment_of(rt: &impl Abort, number: usize) -> Moment {
+    Moment::new((number as u64).saturating_mul(1000)).expect(rt, "a moment")
+}
+
+/// What is known of the frames of a row's octets, which the tail takes.
+fn feed(rt: &impl Abort, alloc: Global, tail: &mut Tail, row: &Row) -> Vec<Found> {
+    let octets = octets_of(rt, alloc, row);
+    let mut found = Vec::new(alloc);
+    assert!(rt; row.piece > 0, "a piece");
+    let mut number: usize = 0;
+    for part in octets.as_slice().chunks(row.piece) {
+        number = number.saturating_add(1);
+        take(rt, alloc, tail, &mut found, moment_of(rt, number), part);
+    }
+    found
 }
 
 /// What a tail shows.
@@ -172,44 +199,55 @@ fn state_of(tail: &Tail) -> State {
     (tail.offset(), tail.rest().len(), tail.broken())
 }
 
-#[test]
-fn octets_in_pieces_are_these_frames_and_this_tail(rt: HostRuntime) -> Result<(), Fail> {
-    for row in &ROWS {
-        let message = row.message;
-        let mut tail = Tail::at(row.offset);
-        let found = feed(&rt, &mut tail, row)?;
-        assert_eq!(rt; found.as_slice(), row.found, "frames of {message}");
-        assert!(rt; state_of(&tail) == row.tail, "tail after {message}");
-        let copy = tail.copy()?;
-        assert!(rt;
-            state_of(&copy) == row.tail,
-            "copy of the tail after {message}"
-        );
-        assert!(rt; tail.is_same(&copy), "test of the copy after {message}");
-        let is_plain = row.tail.1 == 0 && row.tail.2.is_none();
-        let is_at_end = tail.is_same(&Tail::at(row.tail.0));
-        assert!(rt;
-            is_at_end == is_plain,
-            "test of a plain tail after {message}"
-        );
+/// Whether a copy of a tail shows the same, and is told to be the same.
+fn is_copied(tail: &Tail) -> bool {
+    match tail.copy() {
+        Ok(copy) => state_of(&copy) == state_of(tail) && tail.is_same(&copy),
+        Err(_) => false,
     }
-    Ok(())
+}
+
+/// Whether a tail shows this, and is that of a stream of whole frames only where nothing waits and nothing is broken.
+fn is_in_state(tail: &Tail, state: State) -> bool {
+    let (offset, waiting, broken) = state;
+    let is_plain = waiting == 0 && broken.is_none();
+    state_of(tail) == state && tail.is_same(&Tail::at(offset)) == is_plain
+}
+
+fn assert_row(rt: &impl Abort, alloc: Global, row: &Row) {
+    let mut tail = Tail::at(row.offset);
+    let found = feed(rt, alloc, &mut tail, row);
+    assert!(rt; found.as_slice() == row.found, "frames of {}", row.message);
+    assert!(rt;
+        is_in_state(&tail, row.tail) && is_copied(&tail),
+        "tail after {}",
+        row.message
+    );
 }
 
 #[test]
+fn octets_in_pieces_are_these_frames_and_this_tail(rt: HostRuntime) {
+    for row in ROWS {
+        assert_row(&rt, rt.alloc(), row);
+    }
+}
+
+/// The number of octets before, a number of octets, and whether there is room for them.
+const ROOMS: &[(u64, usize, bool)] = &[
+    (0, 0, true),
+    (281_474_976_710_655, 1, true),
+    (281_474_976_710_655, 2, false),
+    (281_474_976_710_656, 0, true),
+    (281_474_976_710_656, 1, false),
+    (u64::MAX, 0, false),
+    (0, usize::MAX, false),
+];
+
+#[test]
 fn a_stream_has_room_for_2_to_the_power_48_octets(rt: HostRuntime) {
-    for (offset, octets, has_room) in [
-        (0, 0, true),
-        (281_474_976_710_655, 1, true),
-        (281_474_976_710_655, 2, false),
-        (281_474_976_710_656, 0, true),
-        (281_474_976_710_656, 1, false),
-        (u64::MAX, 0, false),
-        (0, usize::MAX, false),
-    ] {
-        let tail = Tail::at(offset);
+    for (offset, octets, has_room) in ROOMS {
         assert!(rt;
-            tail.has_room(octets) == has_room,
+            Tail::at(*offset).has_room(*octets) == *has_room,
             "{octets} after {offset}"
         );
     }

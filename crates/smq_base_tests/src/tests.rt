@@ -1,0 +1,6 @@
+mod frame;
+mod kit;
+mod pair;
+mod pdu;
+mod receipt;
+mod route;

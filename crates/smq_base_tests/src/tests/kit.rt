@@ -1,0 +1,212 @@
+//! Values at their limits, keys of ids, and the printed text of refusals.
+use smq_kit::{
+    Digits, ErrorCode, ErrorText, Form, Key, LAST_MOMENT, LONGEST_ID, LinkId, LinkKey, MessageId,
+    Moment, Network, Refusal, key_of,
+};
+use std::alloc::Global;
+
+const ZEROS_64: &str = "0000000000000000000000000000000000000000000000000000000000000000";
+
+const ZEROS_65: &str = "00000000000000000000000000000000000000000000000000000000000000000";
+
+/// A text, and whether it is an id, digits, a network and an error text.
+const TEXTS: &[(&str, [bool; 4])] = &[
+    ("", [false, false, false, false]),
+    ("4", [true, true, false, true]),
+    ("2341", [true, true, false, true]),
+    ("23415", [true, true, true, true]),
+    ("234150", [true, true, true, true]),
+    ("2341500", [true, true, false, true]),
+    ("447700900123456", [true, true, false, true]),
+    ("4477009001234567", [true, false, false, true]),
+    ("44770090012345678", [true, false, false, false]),
+    ("+4415", [true, false, false, false]),
+    ("2341x", [true, false, false, true]),
+    ("a-Z_9.", [true, false, false, true]),
+    ("0x1/2", [true, false, false, false]),
+    ("err: 1", [true, false, false, false]),
+    (ZEROS_64, [true, false, false, false]),
+    (ZEROS_65, [false, false, false, false]),
+];
+
+/// A number of ms, and whether it is a moment.
+const MOMENTS: &[(u64, bool)] = &[
+    (0, true),
+    (4_102_444_800_000, true),
+    (4_102_444_800_001, false),
+    (u64::MAX, false),
+];
+
+/// Whether octets are an id only where they are to be one, and are kept.
+fn is_kept_as_id(octets: &[u8], is_id: bool) -> bool {
+    match MessageId::new(octets) {
+        Ok(id) => is_id && id.copy().as_slice() == octets,
+        Err(_) => !is_id,
+    }
+}
+
+fn is_kept_as_digits(octets: &[u8], are_digits: bool) -> bool {
+    match Digits::parse(octets) {
+        Ok(digits) => are_digits && digits.copy().as_slice() == octets,
+        Err(_) => !are_digits,
+    }
+}
+
+fn is_kept_as_network(octets: &[u8], is_network: bool) -> bool {
+    match Network::parse(octets) {
+        Ok(network) => is_network && network.copy().as_slice() == octets,
+        Err(_) => !is_network,
+    }
+}
+
+fn is_kept_as_error(octets: &[u8], is_error: bool) -> bool {
+    match ErrorText::new(octets) {
+        Some(error) => is_error && error.copy().as_slice() == octets,
+        None => !is_error,
+    }
+}
+
+fn is_kept_as_moment(milliseconds: u64, is_moment: bool) -> bool {
+    match Moment::new(milliseconds) {
+        Ok(moment) => is_moment && moment.milliseconds() == milliseconds,
+        Err(_) => !is_moment,
+    }
+}
+
+fn are_kept(octets: &[u8], [is_id, are_digits, is_network, is_error]: [bool; 4]) -> bool {
+    is_kept_as_id(octets, is_id)
+        && is_kept_as_digits(octets, are_digits)
+        && is_kept_as_network(octets, is_network)
+        && is_kept_as_error(octets, is_error)
+}
+
+fn are_known_limits() -> bool {
+    ZEROS_64.len() == LONGEST_ID
+        && Moment::epoch().milliseconds() == 0
+        && LAST_MOMENT == 4_102_444_800_000
+}
+
+fn is_copied(code: &ErrorCode) -> bool {
+    code.copy() == *code
+}
+
+#[test]
+fn texts_are_kept_within_their_limits(rt: HostRuntime) {
+    for (text, kinds) in TEXTS {
+        assert!(rt; are_kept(text.as_bytes(), *kinds), "{text}");
+    }
+}
+
+#[test]
+fn moments_are_kept_within_their_limits(rt: HostRuntime) {
+    for (milliseconds, is_moment) in MOMENTS {
+        assert!(rt;
+            is_kept_as_moment(*milliseconds, *is_moment),
+            "{milliseconds} ms"
+        );
+    }
+    assert!(rt; are_known_limits(), "limits");
+}
+
+#[test]
+fn errors_are_copied(rt: HostRuntime) {
+    let network = ErrorCode::Network { kind: 3, code: 258 };
+    assert!(rt; is_copied(&network) && is_copied(&ErrorCode::Unstated));
+}
+
+/// A form, an id, and the number of its key; none where the key is the text.
+const KEYS: &[(Form, &str, Option<u128>)] = &[
+    (Form::Verbatim, "7", None),
+    (Form::Decimal, "007", Some(7)),
+    (Form::Decimal, "7x", None),
+    (Form::Decimal, "a1b2", None),
+    (
+        Form::Decimal,
+        "340282366920938463463374607431768211455",
+        Some(u128::MAX),
+    ),
+    (
+        Form::Decimal,
+        "340282366920938463463374607431768211456",
+        None,
+    ),
+    (Form::Decimal, ZEROS_64, Some(0)),
+    (Form::Hexadecimal, "0000A1B2", Some(41_394)),
+    (Form::Hexadecimal, "a1b2", Some(41_394)),
+    (Form::Hexadecimal, "0xA1B2", None),
+    (Form::Hexadecimal, "a1g2", None),
+    (
+        Form::Hexadecimal,
+        "ffffffffffffffffffffffffffffffff",
+        Some(u128::MAX),
+    ),
+    (Form::Hexadecimal, "100000000000000000000000000000000", None),
+    (Form::Hexadecimal, ZEROS_64, Some(0)),
+];
+
+/// Whether an id has this number as its key under a form, or its text where there is none.
+fn has_key(id: &MessageId, form: Form, number: Option<u128>) -> bool {
+    let wanted = match number {
+        Some(number) => Key::Number(number),
+        None => Key::Text(id.copy()),
+    };
+    let key = LinkKey::of(LinkId(7), form, id);
+    key_of(form, id) == wanted && key.link == LinkId(7) && key.key == wanted
+}
+
+#[test]
+fn ids_are_numbers_under_their_forms(rt: HostRuntime) {
+    for (form, text, number) in KEYS {
+        let id = MessageId::new(text.as_bytes()).expect(&rt, text);
+        assert!(rt; has_key(&id, *form, *number), "{text}");
+    }
+}
+
+/// Refusals that tell of this moment, if of any, with their numbers and what they print.
+fn refusals(moment: Moment) -> [(Refusal, u32, &'static str); 21] {
+    [
+        (Refusal::EmptyPiece, 1, "1 EmptyPiece"),
+        (Refusal::BadMoment, 2, "2 BadMoment"),
+        (Refusal::Backward { last: moment }, 3, "3 Backward 20000"),
+        (Refusal::OtherLink { link: LinkId(7) }, 4, "4 OtherLink 7"),
+        (Refusal::OutOfStep { offset: 49 }, 5, "5 OutOfStep 49"),
+        (Refusal::NoSession, 6, "6 NoSession"),
+        (Refusal::Overlap { from: moment }, 7, "7 Overlap 20000"),
+        (Refusal::NoRoute, 8, "8 NoRoute"),
+        (Refusal::Ended { until: moment }, 9, "9 Ended 20000"),
+        (Refusal::BadEnd, 10, "10 BadEnd"),
+        (
+            Refusal::ClockBack { clock: moment },
+            11,
+            "11 ClockBack 20000",
+        ),
+        (Refusal::HistoryFull, 12, "12 HistoryFull"),
+        (Refusal::Memory, 13, "13 Memory"),
+        (Refusal::StreamFull, 14, "14 StreamFull"),
+        (Refusal::NoThread, 15, "15 NoThread"),
+        (Refusal::NoSeat, 16, "16 NoSeat"),
+        (Refusal::NoWatcher, 17, "17 NoWatcher"),
+        (Refusal::TornSeat { number: 3 }, 19, "19 TornSeat 3"),
+        (Refusal::BadPrefix, 20, "20 BadPrefix"),
+        (Refusal::BadNetwork, 21, "21 BadNetwork"),
+        (Refusal::BadId, 22, "22 BadId"),
+    ]
+}
+
+fn is_printed(alloc: Global, refusal: Refusal, text: &str) -> bool {
+    match refusal.to_string(alloc) {
+        Ok(printed) => printed.as_str() == text,
+        Err(_) => false,
+    }
+}
+
+#[test]
+fn refusals_print_number_name_and_field(rt: HostRuntime) {
+    let moment = Moment::new(20_000).expect(&rt, "a moment");
+    for (refusal, number, text) in refusals(moment) {
+        assert!(rt;
+            refusal.number() == number && is_printed(rt.alloc(), refusal, text),
+            "{text}"
+        );
+    }
+}
