@@ -13,7 +13,7 @@ use Rattle.smq_load.specs.declared.settings.TheConstants.{MOST_SETTINGS}
 use Rattle.smq_load.specs.Decimal.{decimal_of, decimal_to}
 use Rattle.smq_load.specs.Fields.{dir_of, form_of, link_of, moment_of, network_of, prefix_of, route_of, session_of}
 use Rattle.smq_load.specs.Row.{row_of}
-use Rattle.smq_load.specs.Script.{most_records}
+use Rattle.smq_load.specs.Script.{IsFirstBad, IsScript, most_records}
 use Rattle.smq_load.specs.Settings.{settings_of}
 
 -- how many octets, reads and records a script may have, and how many octets and links settings may have
@@ -180,3 +180,12 @@ pub record KnowsSettings : Type 0 where
   pub other_link_key : settings_of (codes "link = [{ id = 1, x = 1 }]") ≡ None
   pub no_toml : settings_of (codes "clock") ≡ None
   pub no_text : settings_of (255 ∷ []) ≡ None
+
+-- Scripts with no record, and with a byte order mark, CR LF, an empty line, double quotes and no line feed at the end; and
+-- first bad records, by their numbers from 1.
+pub record KnowsScripts : Type 0 where
+  pub empty : IsScript [] []
+  pub rows : IsScript (239 ∷ 187 ∷ 191 ∷ codes "clock,5" ++ 13 ∷ 10 ∷ 10 ∷ codes "\"withdraw\",10")
+      (Plain (Advance 5) ∷ Plain (Withdraw (record { 0 = 10 })) ∷ [])
+  pub first_bad : IsFirstBad (text_of (codes "x" ∷ codes "y" ∷ [])) 1
+  pub second_bad : IsFirstBad (text_of (codes "clock,5" ∷ [] ∷ codes "x" ∷ [])) 2

@@ -1,5 +1,5 @@
 //! Laws of the definitions: each is the contract of a function with no body.
-ghost use Rattle.smq_load.specs.Known.{KnowsDecimals, KnowsFields, KnowsInstants, KnowsLimits, KnowsNumbers, KnowsPieces, KnowsRows, KnowsSettings};
+ghost use Rattle.smq_load.specs.Known.{KnowsDecimals, KnowsFields, KnowsInstants, KnowsLimits, KnowsNumbers, KnowsPieces, KnowsRows, KnowsScripts, KnowsSettings};
 ghost use Rattle.smq_load.specs.Laws.{HasOneReading};
 
 /// Each text is a script of one list of rows, or has one first bad record, and never both.
@@ -45,4 +45,9 @@ pub fn known_rows()
 /// The rows of known settings.
 pub fn known_settings()
     ensures { KnowsSettings }
+{}
+
+/// The rows and the first bad records of known scripts.
+pub fn known_scripts()
+    ensures { KnowsScripts }
 {}
