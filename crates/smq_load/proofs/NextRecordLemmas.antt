@@ -1,5 +1,5 @@
 -- A script that is read record by record.
-use Rattle.std.proofs.Common.{◌≡◌, ◌<◌, ◌≤◌, ◌+◌, ℕ, List, [], ◌∷◌, ◌++◌, length, Option, Some, None, Result, Ok, Err, ◌⊎◌, inl, inr, refl, sym, ap, ◌∙◌, arith, append_assoc, length-append}
+use Rattle.std.proofs.Common.{◌≡◌, ◌<◌, ◌≤◌, ◌+◌, ℕ, List, [], ◌∷◌, ◌++◌, length, Option, Some, None, Result, Ok, Err, ◌⊎◌, inl, inr, refl, sym, ap, ◌∙◌, arith, append_assoc}
 use Rattle.std.proofs.lemmas.List.{length-map, map-append}
 use Rattle.std.specs.Prelude.{IfErr, IsErrAnd}
 use Rattle.csv.specs.Reading.{reader_state, strip_bom}
@@ -10,15 +10,8 @@ use Rattle.smq_load.specs.declared.load_fault.LoadFault.{LoadFault}
 use Rattle.smq_load.specs.declared.load_fault.LoadFault.TheVariants.{BadRow, BadSettings, Read, Memory}
 use Rattle.smq_load.specs.Row.{row_of}
 use Rattle.smq_load.specs.Script.{AreRecordsOf, IsFirstBad, IsScript, SayRows, Tells, most_records}
-use Rattle.smq_load.specs.NextRecord.{AddsRow, HasGiven, TellsNext}
+use Rattle.smq_load.specs.NextRecord.{AddsRow, HasGiven, HasRead, TellsNext}
 use Rattle.smq_load.proofs.ScriptLemmas.{AreRecords-append, AreRecords-exist, Reached-settles}
-
--- a reader of this text has given so many records, which say these rows
-pub record HasRead {R : Type 0} (remaining : R → Option (List ℕ)) (reader : Reader R) (text : List ℕ) (rows : List Row) (count : ℕ) : Type 0 where
-  pub records : List (List (List ℕ))
-  pub given : HasGiven remaining reader text records
-  pub say_rows : SayRows records rows
-  pub counted : length records ≡ count
 
 pub length-SayRows : (records : List (List (List ℕ))) (rows : List Row) → SayRows records rows → length rows ≡ length records
 length-SayRows records rows h = sym (simp length-map at (ap length h))
@@ -46,48 +39,49 @@ AreRecords-around remaining reader text before fields h =
     (after, rw append_assoc at all)
 
 -- a row more
-pub HasRead-more : {R : Type 0} (remaining : R → Option (List ℕ)) (reader after : Reader R) (text : List ℕ) (old new : List Row) (count : ℕ) (fields : List (List ℕ))
-    → (h : HasRead remaining reader text old count) → HasGiven remaining after text (h.records ++ fields ∷ []) → AddsRow old new fields → HasRead remaining after text new (count + 1)
-HasRead-more remaining reader after text old new count fields h given adds = record {
+pub HasRead-more : {R : Type 0} (remaining : R → Option (List ℕ)) (reader after : Reader R) (text : List ℕ) (old new : List Row) (fields : List (List ℕ))
+    → (h : HasRead remaining reader text old) → HasGiven remaining after text (h.records ++ fields ∷ []) → AddsRow old new fields → HasRead remaining after text new
+HasRead-more remaining reader after text old new fields h given adds = record {
   records = h.records ++ fields ∷ [];
   given = given;
   say_rows = SayRows-append h.records old new fields h.say_rows adds;
-  counted = omega (arith, length-append h.records (fields ∷ []), h.counted);
 }
 
 -- the script ends
-pub HasRead-ends : {R : Type 0} (remaining : R → Option (List ℕ)) (reader : Reader R) (text : List ℕ) (rows : List Row) (count : ℕ)
-    → (h : HasRead remaining reader text rows count) → AreRecordsOf text h.records → count ≤ most_records → IsScript text rows
-HasRead-ends remaining reader text rows count h all low = record { records = h.records; are_records = all; say_rows = h.say_rows; in_range = omega (arith, h.counted) }
+pub HasRead-ends : {R : Type 0} (remaining : R → Option (List ℕ)) (reader : Reader R) (text : List ℕ) (rows : List Row)
+    → (h : HasRead remaining reader text rows) → AreRecordsOf text h.records → length rows ≤ most_records → IsScript text rows
+HasRead-ends remaining reader text rows h all low =
+    let count = length-SayRows h.records rows h.say_rows in
+    record { records = h.records; are_records = all; say_rows = h.say_rows; in_range = omega (arith, count) }
 
 -- the next record is bad
-pub first_bad-next : {R : Type 0} (remaining : R → Option (List ℕ)) (reader after : Reader R) (text : List ℕ) (rows : List Row) (count : ℕ) (fields : List (List ℕ))
-    → (h : HasRead remaining reader text rows count) → HasGiven remaining after text (h.records ++ fields ∷ []) → count ≤ most_records
-    → (row_of fields ≡ None) ⊎ (count ≡ most_records) → IsFirstBad text (count + 1)
-first_bad-next remaining reader after text rows count fields h given low bad =
+pub first_bad-next : {R : Type 0} (remaining : R → Option (List ℕ)) (reader after : Reader R) (text : List ℕ) (rows : List Row) (fields : List (List ℕ))
+    → (h : HasRead remaining reader text rows) → HasGiven remaining after text (h.records ++ fields ∷ []) → length rows ≤ most_records
+    → (row_of fields ≡ None) ⊎ (length rows ≡ most_records) → IsFirstBad text (length rows + 1)
+first_bad-next remaining reader after text rows fields h given low bad =
+    let count = length-SayRows h.records rows h.say_rows in
     let (others, all) = AreRecords-around remaining after text h.records fields given in
     record {
       before = h.records;
       bad = fields;
       after = others;
       are_records = all;
-      numbered = omega (arith, h.counted);
+      numbered = omega (arith, count);
       rows = rows;
       say_rows = h.say_rows;
-      in_range = omega (arith, h.counted);
-      is_bad = elim bad [ inl none ↦ inl none | inr full ↦ inr (h.counted ∙ full) ];
+      in_range = omega (arith, count);
+      is_bad = elim bad [ inl none ↦ inl none | inr full ↦ inr (sym count ∙ full) ];
     }
 
 -- what a fault at the next record tells of the text
-pub Tells-next : {R : Type 0} (remaining : R → Option (List ℕ)) (reader after : Reader R) (text : List ℕ) (rows : List Row) (count : ℕ) (fields : List (List ℕ)) (fault : LoadFault)
-    → (h : HasRead remaining reader text rows count) → HasGiven remaining after text (h.records ++ fields ∷ []) → count < most_records
+pub Tells-next : {R : Type 0} (remaining : R → Option (List ℕ)) (reader after : Reader R) (text : List ℕ) (rows : List Row) (fields : List (List ℕ)) (fault : LoadFault)
+    → (h : HasRead remaining reader text rows) → HasGiven remaining after text (h.records ++ fields ∷ []) → length rows < most_records
     → TellsNext fault rows fields → Tells fault text
-Tells-next remaining reader after text rows count fields (BadRow row) h given low told =
-    let numbered : row ≡ count + 1 = omega (arith, told.1, length-SayRows h.records rows h.say_rows, h.counted) in
-    rw numbered (first_bad-next remaining reader after text rows count fields h given (omega arith) (inl told.0))
-Tells-next remaining reader after text rows count fields BadSettings h given low told = absurd told
-Tells-next remaining reader after text rows count fields Read h given low told = tt
-Tells-next remaining reader after text rows count fields Memory h given low told = tt
+Tells-next remaining reader after text rows fields (BadRow row) h given low told =
+    rw told.1 (first_bad-next remaining reader after text rows fields h given (omega arith) (inl told.0))
+Tells-next remaining reader after text rows fields BadSettings h given low told = absurd told
+Tells-next remaining reader after text rows fields Read h given low told = tt
+Tells-next remaining reader after text rows fields Memory h given low told = tt
 
 -- what an error that is passed on tells
 pub passed_on : {A : Type 0} (P : LoadFault → Type 0) (r : Result A LoadFault) (fault : LoadFault) → IsErrAnd r (λ e. e ≡ fault) → P fault → IfErr r P

@@ -8,6 +8,7 @@ use Rattle.smq_load.specs.declared.row.Row.{Row}
 use Rattle.smq_load.specs.declared.load_fault.LoadFault.{LoadFault}
 use Rattle.smq_load.specs.declared.load_fault.LoadFault.TheVariants.{BadRow, BadSettings, Read, Memory}
 use Rattle.smq_load.specs.Row.{row_of}
+use Rattle.smq_load.specs.Script.{SayRows}
 
 -- the row of a record stands after the rows before it
 abbrev pub AddsRow : List Row → List Row → List (List ℕ) → Type 0
@@ -30,3 +31,10 @@ pub record HasGiven {R : Type 0} (remaining : R → Option (List ℕ)) (reader :
   pub source : source_of remaining reader ≡ Some rest
   pub reached : Reached default_config state.StartRecord (strip_bom text) records
       (reader_state reader) rest
+
+-- a reader of this text has given the records that say these rows
+pub record HasRead {R : Type 0} (remaining : R → Option (List ℕ)) (reader : Reader R) (text : List ℕ) (rows : List Row)
+    : Type 0 where
+  pub records : List (List (List ℕ))
+  pub given : HasGiven remaining reader text records
+  pub say_rows : SayRows records rows

@@ -1,5 +1,6 @@
 //! What a field of a record says.
 ghost use Rattle.std.specs.Prelude.{◌≡◌, IfOk};
+ghost use Rattle.std.specs.Str.{bytes_eq};
 ghost use Rattle.smq_load.specs.Decimal.{decimal_to};
 ghost use Rattle.smq_load.specs.Fields.{dir_of, form_of, link_of, moment_of, network_of, octets_of, prefix_of, route_of, session_of};
 
@@ -37,9 +38,9 @@ pub fn read_route(field: &[u8]) -> Option<RouteId>
 pub fn read_dir(field: &[u8]) -> Option<Dir>
     ensures { result ≡ dir_of field.now }
 {
-    if field == b"client".as_slice() {
+    if is_word(field, "client") {
         Some(Dir::FromClient)
-    } else if field == b"centre".as_slice() {
+    } else if is_word(field, "centre") {
         Some(Dir::FromCentre)
     } else {
         None
@@ -66,11 +67,11 @@ fn read_milliseconds(field: &[u8]) -> Option<Moment>
 pub fn read_form(field: &[u8]) -> Option<Form>
     ensures { result ≡ form_of field.now }
 {
-    if field == b"verbatim".as_slice() {
+    if is_word(field, "verbatim") {
         Some(Form::Verbatim)
-    } else if field == b"decimal".as_slice() {
+    } else if is_word(field, "decimal") {
         Some(Form::Decimal)
-    } else if field == b"hexadecimal".as_slice() {
+    } else if is_word(field, "hexadecimal") {
         Some(Form::Hexadecimal)
     } else {
         None
@@ -89,6 +90,13 @@ pub fn read_network(field: &[u8]) -> Option<Network>
     ensures { result ≡ network_of field.now }
 {
     Network::parse(field).ok()
+}
+
+/// Whether a text is a word.
+pub fn is_word(text: &[u8], word: &str) -> bool
+    ensures { result ≡ bytes_eq text.now word.now }
+{
+    text == word.as_bytes()
 }
 
 /// The octets that a field says in hexadecimal digits.

@@ -1,7 +1,7 @@
 //! The input: a reader, read to its end within limits.
 ghost use Rattle.std.specs.Prelude.{◌≡◌, ◌<◌, ◌≤◌, ◌+◌, ◌++◌};
-ghost use Rattle.std.specs.Prelude.{IfErr, IfOk, IfSome, OnOk, length, vec_len};
-ghost use Rattle.std.specs.Io.KnownBytes.{IsAtEnd};
+ghost use Rattle.std.specs.Prelude.{IfErr, IfOk, IfSome, List, OnOk, Option, ℕ, false, length, vec_len};
+ghost use Rattle.std.specs.Io.KnownBytes.{Consumes, IsAtEnd};
 
 use std::alloc::{AllocError, Global};
 use std::io::{ErrorKind, Read};
@@ -34,20 +34,54 @@ pub fn read_whole<R: Read>(alloc: Global, reader: &mut R) -> Result<Vec<u8>, Inp
     let Ok(mut room) = zeros(alloc, CHUNK) else {
         return Err(InputFault::Memory);
     };
-    let chunk = room.as_mut_slice();
+    read_in_chunks(alloc, reader, room.as_mut_slice())
+}
+
+/// Reads to the end, at most a chunk at a time.
+fn read_in_chunks<R: Read>(
+    alloc: Global,
+    reader: &mut R,
+    chunk: &mut [u8],
+) -> Result<Vec<u8>, InputFault>
+    requires { 0 < length chunk.old }
+    ensures whole { IfOk result (λ octets.
+        IfSome (R.remaining reader.old) (λ text. octets.items ≡ text)) }
+    ensures in_range { IfOk result (λ octets. vec_len octets ≤ MOST_OCTETS) }
+    ensures at_end { OnOk result (IsAtEnd (R.remaining reader.new)) }
+{
     let mut octets = Vec::new(alloc);
     for _ in 0..MOST_READS {
-        match reader.read(chunk) {
-            Ok(0) => return Ok(octets),
-            Ok(count) => append(&mut octets, &chunk[..count])?,
-            Err(error) => {
-                if error.kind() != ErrorKind::Interrupted {
-                    return Err(InputFault::Read);
-                }
-            }
+        if !read_chunk(reader, chunk, &mut octets)? {
+            return Ok(octets);
         }
     }
     Err(InputFault::Read)
+}
+
+/// Appends what one read gives, and tells whether there may be more.
+fn read_chunk<R: Read>(
+    reader: &mut R,
+    chunk: &mut [u8],
+    octets: &mut Vec<u8>,
+) -> Result<bool, InputFault>
+    requires room { 0 < length chunk.old }
+    requires in_range { vec_len octets.old ≤ MOST_OCTETS }
+    ensures room { length chunk.new ≡ length chunk.old }
+    ensures in_range { OnOk result (vec_len octets.new ≤ MOST_OCTETS) }
+    ensures taken { (text : Option (List ℕ))
+        → Consumes text (R.remaining reader.old) octets.old.items
+        → OnOk result (Consumes text (R.remaining reader.new) octets.new.items) }
+    ensures at_end { IfOk result (λ more. more ≡ false → IsAtEnd (R.remaining reader.new)) }
+{
+    match reader.read(chunk) {
+        Ok(0) => Ok(false),
+        Ok(count) => {
+            append(octets, &chunk[..count])?;
+            Ok(true)
+        }
+        Err(error) if error.kind() == ErrorKind::Interrupted => Ok(true),
+        Err(_) => Err(InputFault::Read),
+    }
 }
 
 /// So many octets to read into.

@@ -1,5 +1,5 @@
 //! Instants `YYYY-MM-DDTHH:MM:SSZ` (RFC 3339, section 5.6), in UTC, with no fraction of a second and no other offset.
-ghost use Rattle.std.specs.Prelude.{◌≡◌, ◌≤◌, ◌<◌, ◌↔◌, pos, IsTrue, IsSome, IfSome, length};
+ghost use Rattle.std.specs.Prelude.{◌≡◌, ◌+◌, ◌*◌, ◌≤◌, ◌<◌, ◌↔◌, pos, IsTrue, IsSome, IfSome, length};
 ghost use Rattle.jiff.specs.Words.{IsEpochDay, IsWithin, IsYmd};
 ghost use Rattle.smq_load.specs.Instant.{day_number_of, day_of, has_marks, instant_of, is_date, milliseconds_of, moment_at, second_of};
 
@@ -53,7 +53,18 @@ fn read_second(time: &[u8]) -> Option<u32>
     let hour = read_decimal(&time[..2], 23)?;
     let minute = read_decimal(&time[3..5], 59)?;
     let second = read_decimal(&time[6..8], 59)?;
-    Some((hour * 3_600 + minute * 60 + second) as u32)
+    Some(second_at(hour, minute, second))
+}
+
+/// The second of a day at a time of it.
+fn second_at(hour: u64, minute: u64, second: u64) -> u32
+    requires hour_in { hour ≤ 23 }
+    requires minute_in { minute ≤ 59 }
+    requires second_in { second ≤ 59 }
+    ensures value { result ≡ hour * 3_600 + minute * 60 + second }
+    ensures bound { result < 86_400 }
+{
+    (hour * 3_600 + minute * 60 + second) as u32
 }
 
 /// The day number of a date, from 1970-01-01, where the calendar has it.

@@ -5,7 +5,7 @@ ghost use Rattle.csv.specs.Records.{field_at, fields_of};
 ghost use Rattle.smq_load.specs.Row.{field_count_of, kind_of, piece_from, row_of, row_of_kind};
 
 use crate::field::{
-    read_dir, read_form, read_link, read_moment, read_network, read_octets, read_prefix,
+    is_word, read_dir, read_form, read_link, read_moment, read_network, read_octets, read_prefix,
     read_route, read_session,
 };
 use crate::row::Row;
@@ -32,19 +32,19 @@ impl Kind {
     fn read(field: &[u8]) -> Option<Kind>
         ensures { result ≡ kind_of field.now }
     {
-        if field == b"piece".as_slice() {
+        if is_word(field, "piece") {
             Some(Kind::Piece)
-        } else if field == b"withdraw".as_slice() {
+        } else if is_word(field, "withdraw") {
             Some(Kind::Withdraw)
-        } else if field == b"form".as_slice() {
+        } else if is_word(field, "form") {
             Some(Kind::Form)
-        } else if field == b"route".as_slice() {
+        } else if is_word(field, "route") {
             Some(Kind::Route)
-        } else if field == b"end".as_slice() {
+        } else if is_word(field, "end") {
             Some(Kind::End)
-        } else if field == b"correct".as_slice() {
+        } else if is_word(field, "correct") {
             Some(Kind::Correct)
-        } else if field == b"clock".as_slice() {
+        } else if is_word(field, "clock") {
             Some(Kind::Clock)
         } else {
             None

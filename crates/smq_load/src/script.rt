@@ -1,16 +1,18 @@
 //! A script: CSV records, each of which says a row.
-ghost use Rattle.std.specs.Prelude.{◌≡◌, ◌≢◌, ◌<◌, ◌≤◌, ◌∷◌, ◌++◌, [], List, ℕ, true, false};
+ghost use Rattle.std.specs.Prelude.{◌≡◌, ◌≢◌, ◌+◌, ◌<◌, ◌≤◌, ◌∷◌, ◌++◌, [], List, Some, ℕ, true, false};
 ghost use Rattle.std.specs.Prelude.{IfOk, IfErr, IfSome, OnOk, length, vec_len};
+ghost use Rattle.std.specs.Borrow.{Bor};
 ghost use Rattle.std.specs.Io.KnownBytes.{IsAtEnd};
+ghost use Rattle.csv.specs.Reading.{error_kind};
 ghost use Rattle.csv.specs.Records.{fields_of};
 ghost use Rattle.smq_load.specs.Script.{AreRecordsOf, IfJudged, IsScript, Tells};
-ghost use Rattle.smq_load.specs.NextRecord.{AddsRow, HasGiven, TellsNext};
+ghost use Rattle.smq_load.specs.NextRecord.{AddsRow, HasGiven, HasRead, TellsNext};
 
 use crate::input::{InputFault, MOST_OCTETS, read_whole};
 use crate::load_fault::LoadFault;
 use crate::record::read_row;
 use crate::row::Row;
-use csv::{ByteRecord, ErrorKind, Reader, ReaderBuilder};
+use csv::{ByteRecord, Error, ErrorKind, Reader, ReaderBuilder};
 use std::alloc::Global;
 use std::io::Read;
 
@@ -39,24 +41,81 @@ fn rows_of(alloc: Global, text: &[u8]) -> Result<Vec<Row>, LoadFault>
     ensures ok { IfOk result (λ rows. IsScript text.now rows.items) }
     ensures bad_row { IfErr result (λ fault. Tells fault text.now) }
 {
-    let mut reader = ReaderBuilder::new()
+    let mut reader = reader_of(alloc, text);
+    let mut fields = ByteRecord::new(alloc);
+    read_rows(alloc, &mut reader, &mut fields)
+}
+
+/// A reader of the records of a text, the first of which is no header.
+fn reader_of(alloc: Global, text: &[u8]) -> Reader<&[u8]>
+    ensures { HasRead (λ (octets : Bor (List ℕ)). Some octets.now) result text.now [] }
+{
+    ReaderBuilder::new()
         .has_headers(false)
         .flexible(true)
-        .from_reader(alloc, text);
-    let mut fields = ByteRecord::new(alloc);
+        .from_reader(alloc, text)
+}
+
+/// The rows of a reader's records, each of which is read into the same fields.
+fn read_rows<R: Read>(
+    alloc: Global,
+    reader: &mut Reader<R>,
+    fields: &mut ByteRecord,
+) -> Result<Vec<Row>, LoadFault>
+    ensures ok { (text : List ℕ) → HasRead R.remaining reader.old text []
+        → IfOk result (λ rows. IsScript text rows.items) }
+    ensures bad_row { (text : List ℕ) → HasRead R.remaining reader.old text []
+        → IfErr result (λ fault. Tells fault text) }
+{
     let mut rows = Vec::new(alloc);
     for _ in 0..MOST_RECORDS {
-        if !read_record(&mut reader, &mut fields)? {
+        if !read_next(alloc, reader, fields, &mut rows)? {
             return Ok(rows);
         }
-        push_row(alloc, &mut rows, &fields)?;
     }
-    if read_record(&mut reader, &mut fields)? {
+    expect_end(reader, fields)?;
+    Ok(rows)
+}
+
+/// Puts the row of the next record after those of the records before it, and tells whether there is such a record.
+fn read_next<R: Read>(
+    alloc: Global,
+    reader: &mut Reader<R>,
+    fields: &mut ByteRecord,
+    rows: &mut Vec<Row>,
+) -> Result<bool, LoadFault>
+    requires { length rows.old.items < MOST_RECORDS }
+    ensures more { (text : List ℕ) → HasRead R.remaining reader.old text rows.old.items
+        → IfOk result (λ found. found ≡ true
+        → HasRead R.remaining reader.new text rows.new.items) }
+    ensures counted { IfOk result (λ found. found ≡ true
+        → length rows.new.items ≡ length rows.old.items + 1) }
+    ensures none { (text : List ℕ) → HasRead R.remaining reader.old text rows.old.items
+        → IfOk result (λ found. found ≡ false → IsScript text rows.new.items) }
+    ensures err { (text : List ℕ) → HasRead R.remaining reader.old text rows.old.items
+        → IfErr result (λ fault. Tells fault text) }
+{
+    if !read_record(reader, fields)? {
+        return Ok(false);
+    }
+    push_row(alloc, rows, fields)?;
+    Ok(true)
+}
+
+/// Nothing, where as many records as a script may have were all.
+fn expect_end<R: Read>(reader: &mut Reader<R>, fields: &mut ByteRecord) -> Result<(), LoadFault>
+    ensures ok { (text : List ℕ) → (rows : List Row) → HasRead R.remaining reader.old text rows
+        → length rows ≡ MOST_RECORDS → OnOk result (IsScript text rows) }
+    ensures bad_row { (text : List ℕ) → (rows : List Row)
+        → HasRead R.remaining reader.old text rows → length rows ≡ MOST_RECORDS
+        → IfErr result (λ fault. Tells fault text) }
+{
+    if read_record(reader, fields)? {
         return Err(LoadFault::BadRow {
             row: MOST_RECORDS + 1,
         });
     }
-    Ok(rows)
+    Ok(())
 }
 
 /// The next record of a text, and whether there is one.
@@ -71,16 +130,25 @@ fn read_record<R: Read>(reader: &mut Reader<R>, fields: &mut ByteRecord) -> Resu
 {
     match reader.read_byte_record(fields) {
         Ok(found) => Ok(found),
-        Err(error) => match error.kind() {
-            ErrorKind::OutOfMemory => Err(LoadFault::Memory),
-            _ => Err(LoadFault::Read),
-        },
+        Err(error) => Err(fault_of(&error)),
+    }
+}
+
+/// Want of memory, or a failed read.
+fn fault_of(error: &Error) -> LoadFault
+    ensures memory { error_kind error.now ≡ ErrorKind.OutOfMemory → result ≡ LoadFault.Memory }
+    ensures read { error_kind error.now ≢ ErrorKind.OutOfMemory → result ≡ LoadFault.Read }
+    ensures err { (text : List ℕ) → Tells result text }
+{
+    match error.kind() {
+        ErrorKind::OutOfMemory => LoadFault::Memory,
+        _ => LoadFault::Read,
     }
 }
 
 /// Puts the row of the next record after the rows of those before it.
 fn push_row(alloc: Global, rows: &mut Vec<Row>, fields: &ByteRecord) -> Result<(), LoadFault>
-    requires { vec_len rows.old < MOST_RECORDS }
+    requires { length rows.old.items < MOST_RECORDS }
     ensures ok { OnOk result (AddsRow rows.old.items rows.new.items (fields_of fields.now)) }
     ensures bad_row { IfErr result (λ fault.
         TellsNext fault rows.old.items (fields_of fields.now)) }

@@ -4,6 +4,7 @@ ghost use Rattle.toml.specs.Data.{get_member};
 ghost use Rattle.toml.specs.View.{table_view, view};
 ghost use Rattle.smq_load.specs.Settings.{all_known, names_key, number_to};
 
+use crate::field::is_word;
 use toml::{Table, Value};
 
 /// The value at a key of a table.
@@ -36,12 +37,12 @@ pub enum Keys {
 
 impl Keys {
     /// Whether a key is one of them.
-    fn have(self, key: &str) -> bool
+    fn have(self, key: &[u8]) -> bool
         ensures { result ≡ names_key self key.now }
     {
         match self {
-            Keys::Document => key == "clock" || key == "link",
-            Keys::Link => key == "id" || key == "response" || key == "receipt",
+            Keys::Document => is_word(key, "clock") || is_word(key, "link"),
+            Keys::Link => is_word(key, "id") || is_word(key, "response") || is_word(key, "receipt"),
         }
     }
 }
@@ -51,7 +52,7 @@ pub fn has_known_keys(table: &Table, keys: Keys) -> bool
     ensures { result ≡ all_known (names_key keys) (table_view table.now) }
 {
     for (key, _) in table.iter() {
-        if !keys.have(key.as_str()) {
+        if !keys.have(key.as_bytes()) {
             return false;
         }
     }
