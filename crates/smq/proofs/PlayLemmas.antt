@@ -76,3 +76,7 @@ edits-append p (row ∷ rows) more =
 pub rows-then : (p : PresentValue) (rows more : List Row) → after_rows (after_rows p rows) more ≡ steps p (edits_from p (rows ++ more))
 rows-then p rows more =
     sym (fold-append step p (edits_from p rows) (edits_from (after_rows p rows) more)) ∙ ap (steps p) (sym (edits-append p rows more))
+
+-- what is present after rows, and then after more rows, is what the edits of all of them leave
+pub rows-played : (p q r : PresentValue) (rows more : List Row) → q ≡ after_rows p rows → r ≡ after_rows q more → r ≡ steps p (edits_from p (rows ++ more))
+rows-played p q r rows more first then = then ∙ ap (λ present. after_rows present more) first ∙ rows-then p rows more

@@ -2,10 +2,11 @@
 use Rattle.std.specs.Prelude.{◌≡◌, ◌⊎◌, Bool, List, [], ◌∷◌, ◌++◌, map, codes, true, false, unwrap_or, option_map, string_bytes, Option, Some, None, Result, IsErrAnd}
 use Rattle.std.specs.Option.{option_map_or}
 use Rattle.std.specs.Str.{bytes_eq}
-use Rattle.clap.specs.Words.{App, FailsBy, Row, Rule, Text, fault_of, first_of, kind_of, new_app, new_rule, subcommand_of, with_rule, with_subcommand}
+use Rattle.clap.specs.Words.{App, FailsBy, Row, Rule, Text, fault_of, first_of, kind_of, new_app, new_rule, rule_of, subcommand_of, with_rule, with_subcommand}
 use Rattle.clap.specs.Simple.{on_top}
 use Rattle.clap.specs.declared.error.Error.{Error}
 use Rattle.clap.specs.declared.error.kind.ErrorKind.TheVariants.{OutOfMemory}
+use Rattle.clap.specs.declared.builder.arg.Arg.{Arg}
 use Rattle.clap.specs.declared.builder.action.ArgAction.TheVariants.{Set}
 use Rattle.clap.specs.declared.builder.value_parser.ValueParser.{ValueParser}
 use Rattle.clap.specs.declared.builder.value_parser.ValueParser.TheVariants.{Names}
@@ -83,6 +84,10 @@ settings_rule = record (new_rule (codes "settings")) {
   action = Some Set;
   value_names = 1;
 }
+
+-- an argument has a rule, of its own subcommand alone
+abbrev pub IsArgument : Rule → Arg → Type 0
+IsArgument rule argument = (rule_of argument ≡ rule) × (argument.global ≡ false)
 
 -- a subcommand's options: `--format` and `--settings`
 abbrev pub add_options : ValueParser → App → App

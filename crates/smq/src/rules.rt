@@ -1,10 +1,11 @@
 //! The rules by which `clap` takes the program's words, and its help. Who adds a subcommand adds its rules here and in
 //! specs/Words.antt.
 ghost use Rattle.std.specs.Prelude.{◌≡◌, IfOk, false};
-ghost use Rattle.clap.specs.Words.{app_of};
+ghost use Rattle.clap.specs.Words.{app_of, new_app};
 ghost use Rattle.clap.specs.declared.builder.command.Command.TheViews.{out-Command as fields_of};
 ghost use Rattle.clap.specs.declared.builder.value_parser.ValueParser.TheVariants.{Names};
-ghost use Rattle.smq.specs.Words.{IsProgram, add_options, query_app, report_app};
+ghost use Rattle.smq.specs.Words.{IsArgument, IsProgram, add_options, format_rule, name_rule};
+ghost use Rattle.smq.specs.Words.{query_app, report_app, settings_rule};
 
 use clap::{Arg, ArgAction, Command};
 use std::alloc::{AllocError, Global};
@@ -74,10 +75,8 @@ fn report_command<'a>(alloc: Global, formats: &'a [&'a str]) -> Result<Command<'
     ensures rules { IfOk result (λ command. app_of command ≡ report_app (Names formats.entry)) }
     ensures local { IfOk result (λ command. (fields_of command).has_globals ≡ false) }
 {
-    let report = Command::new(alloc, "report")
-        .about("Writes the whole report of a script: all views, then all lists")
-        .override_usage("smq report [OPTIONS] < SCRIPT")
-        .after_help(MORE);
+    let about = "Writes the whole report of a script: all views, then all lists";
+    let report = subcommand(alloc, "report", about, "smq report [OPTIONS] < SCRIPT");
     add_options(alloc, formats, report)
 }
 
@@ -90,17 +89,20 @@ fn query_command<'a>(
         app_of command ≡ query_app (Names names.entry) (Names formats.entry)) }
     ensures local { IfOk result (λ command. (fields_of command).has_globals ≡ false) }
 {
-    let name = Arg::new(alloc, "NAME")
-        .help("The view's or the list's name: counts are in views, places in lists")
-        .required(true)
-        .action(ArgAction::Set)
-        .value_parser(names);
-    let query = Command::new(alloc, "query")
-        .about("Writes one view or one list of a script's report")
-        .override_usage("smq query [OPTIONS] <NAME> < SCRIPT")
+    let about = "Writes one view or one list of a script's report";
+    let query = subcommand(alloc, "query", about, "smq query [OPTIONS] <NAME> < SCRIPT");
+    add_options(alloc, formats, query.arg(name_argument(alloc, names))?)
+}
+
+/// A subcommand with no argument yet, and its help.
+fn subcommand<'a>(alloc: Global, name: &'a str, about: &'a str, usage: &'a str) -> Command<'a>
+    ensures rules { app_of result ≡ new_app name.entry.now }
+    ensures local { (fields_of result).has_globals ≡ false }
+{
+    Command::new(alloc, name)
+        .about(about)
+        .override_usage(usage)
         .after_help(MORE)
-        .arg(name)?;
-    add_options(alloc, formats, query)
 }
 
 /// A subcommand with the options that each has.
@@ -114,16 +116,38 @@ fn add_options<'a>(
     ensures local { IfOk result (λ made.
         (fields_of made).has_globals ≡ (fields_of command.entry).has_globals) }
 {
-    let format = Arg::new(alloc, "format")
+    command
+        .arg(format_option(alloc, formats))?
+        .arg(settings_option(alloc))
+}
+
+fn name_argument<'a>(alloc: Global, names: &'a [&'a str]) -> Arg<'a>
+    ensures { IsArgument (name_rule (Names names.entry)) result }
+{
+    Arg::new(alloc, "NAME")
+        .help("The view's or the list's name: counts are in views, places in lists")
+        .required(true)
+        .action(ArgAction::Set)
+        .value_parser(names)
+}
+
+fn format_option<'a>(alloc: Global, formats: &'a [&'a str]) -> Arg<'a>
+    ensures { IsArgument (format_rule (Names formats.entry)) result }
+{
+    Arg::new(alloc, "format")
         .long("format")
         .value_name("FORMAT")
         .help("The report's format, csv where none is given")
         .action(ArgAction::Set)
-        .value_parser(formats);
-    let settings = Arg::new(alloc, "settings")
+        .value_parser(formats)
+}
+
+fn settings_option<'a>(alloc: Global) -> Arg<'a>
+    ensures { IsArgument settings_rule result }
+{
+    Arg::new(alloc, "settings")
         .long("settings")
         .value_name("PATH")
         .help("A TOML file of settings: the clock, and each link's forms of message ids")
-        .action(ArgAction::Set);
-    command.arg(format)?.arg(settings)
+        .action(ArgAction::Set)
 }

@@ -1,5 +1,5 @@
 //! The words of the program, and what they ask for.
-ghost use Rattle.std.specs.Prelude.{◌≡◌, Option, Some, IfOk, find, map, option_map, unwrap_or, codes};
+ghost use Rattle.std.specs.Prelude.{◌≡◌, Option, Some, IfOk, find, map, option_map, string_bytes, unwrap_or, codes};
 ghost use Rattle.clap.specs.Words.{Text, first_of, found_of, rows_of, subcommand_rows_of};
 ghost use Rattle.smq.specs.Words.{AsksFor, HasOrder, TakesWords, format_name, is_named, path_of, pick_name};
 ghost use Rattle.smq.specs.Words.{picks, query_of};
@@ -80,11 +80,19 @@ fn order_of(alloc: Global, entered: &ArgMatches) -> Result<Order, AllocError>
         pick: named_pick(entered.get_str("NAME")),
         format: named_format(entered.get_str("format")),
     };
-    let settings = match entered.get_str("settings") {
-        Some(path) => Some(String::from_str(alloc, path)?),
-        None => None,
-    };
+    let settings = named_path(alloc, entered.get_str("settings"))?;
     Ok(Order::Run { query, settings })
+}
+
+/// A path, where one is given.
+fn named_path(alloc: Global, path: Option<&str>) -> Result<Option<String>, AllocError>
+    ensures { IfOk result (λ named.
+        option_map string_bytes named ≡ option_map (λ text. text.now) path.entry) }
+{
+    match path {
+        Some(text) => Ok(Some(String::from_str(alloc, text)?)),
+        None => Ok(None),
+    }
 }
 
 /// The pick of a name, and the whole report where none is given. `clap` lets no name through but those of picks.

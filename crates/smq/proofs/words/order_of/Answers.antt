@@ -1,9 +1,8 @@
-use Rattle.std.proofs.Common.{◌∙◌, ap, codes, rules}
+use Rattle.std.proofs.Common.{◌∙◌, ap, codes}
 use Rattle.std.specs.Prelude.{unwrap_or}
 use Rattle.clap.specs.Words.{found_of}
 use Rattle.clap.proofs.WalkLemmas.{first_value-rows}
 use Rattle.smq.proofs.words.order_of.Goals as goal
-use Rattle.smq.proofs.words.order_of.Goals.{in-Some+in_ok-from_str-in-Some, in-None}
 
 pub returns-clause-pick : goal.returns-clause-pick
 returns-clause-pick c pick h =
@@ -16,8 +15,4 @@ returns-clause-format c format h =
 
 pub returns-clause-path : goal.returns-clause-path
 returns-clause-path c =
-    let given = c.get_str-3.ensures ∙ first_value-rows (found_of c.args.entered.now) (codes "settings") in
-    elim c.match-get_str.branch [
-      | in-Some+in_ok-from_str-in-Some w ↦ search rules
-      | in-None w ↦ search rules
-    ]
+    c.in_ok-settings.ensures ∙ c.get_str-3.ensures ∙ first_value-rows (found_of c.args.entered.now) (codes "settings")
