@@ -85,7 +85,7 @@ settings_rule = record (new_rule (codes "settings")) {
   value_names = 1;
 }
 
--- an argument has a rule, of its own subcommand alone
+-- an argument that its own subcommand alone has, with this rule
 abbrev pub IsArgument : Rule → Arg → Type 0
 IsArgument rule argument = (rule_of argument ≡ rule) × (argument.global ≡ false)
 

@@ -32,9 +32,9 @@ pub struct Ran {
 pub enum RunFault {
     /// A record says no row, or is the record after 1,000,000; the least number of such a record, from 1.
     BadRow { row: u64 },
-    /// The settings are none.
+    /// The octets are no settings.
     BadSettings,
-    /// The reader failed, or gave more than a script may have.
+    /// The reader failed, or gave more octets or was read more often than a script may be.
     Read,
     /// The writer failed; some of the report may have been written.
     Write,
@@ -88,6 +88,8 @@ pub fn run<RT: AllocGlobal, R: Read, W: Write>(
         → R.remaining reader.new ≡ R.remaining reader.old) }
     ensures unwritten { IfErr result (λ fault. fault ≢ RunFault.Write → fault ≢ RunFault.Memory
         → Keeps (W.contents writer.old) (W.contents writer.new)) }
+    ensures write { IfErr result (λ fault. fault ≡ RunFault.Write
+        → IfSome (R.remaining reader.old) (WasRead settings.now)) }
     ensures read_first { IfErr result (λ fault. IfSome (R.remaining reader.old) (λ text.
         Keeps (W.contents writer.old) (W.contents writer.new) ⊎ WasRead settings.now text)) }
 {

@@ -116,7 +116,7 @@ fn tell<R: Input + Print + Eprint + AllocGlobal>(rt: &R, query: Query, settings:
     }
 }
 
-/// Tells why the script wasn't run, or nothing was told of the words.
+/// Tells why the script wasn't run, or that help couldn't be written, and gives the status.
 fn fail<R: Eprint>(rt: &R, fault: RunFault) -> u8
     ensures { result ≡ fault_status fault }
 {

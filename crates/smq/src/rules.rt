@@ -41,7 +41,7 @@ const USAGE: &str = "smq report [OPTIONS] < SCRIPT\n       smq query [OPTIONS] <
 /// What stands below each help.
 const MORE: &str = "\
 SCRIPT is CSV records, one a line, as `piece,LINK,SESSION,DIR,MOMENT,HEX`, where DIR is client or centre and
-MOMENT is in ms since 1970. docs/FORMATS.md tells all records, the settings and the report.
+MOMENT is in ms since 1970 or YYYY-MM-DDTHH:MM:SSZ. docs/FORMATS.md tells all records, the settings and the report.
 
 Views count messages: link, route, network, error, link-delay, centre-delay.
 Lists have places: waiting, stray-answers, mismatched, stray-receipts, ambiguous-receipts, extra-receipts,

@@ -9,7 +9,7 @@ pub const DONE: u8 = 0;
 /// Some row was refused.
 pub const REFUSED: u8 = 1;
 
-/// The words ask for nothing that the program does, or a row can't be read.
+/// The words ask for nothing that the program does, or a row or the settings can't be read.
 pub const BAD_INPUT: u8 = 2;
 
 /// A read or a write failed.

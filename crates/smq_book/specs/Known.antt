@@ -18,7 +18,7 @@ use Rattle.smq_route.specs.declared.version.Version.{Version}
 use Rattle.smq_route.specs.declared.version.VersionKey.{VersionKey}
 use Rattle.smq_route.specs.Versions.{key_at}
 use Rattle.smq_receipt.specs.declared.message_state.MessageState.{MessageState}
-use Rattle.smq_receipt.specs.declared.message_state.MessageState.TheVariants.{Enroute, Delivered, Expired, Undeliverable, Accepted}
+use Rattle.smq_receipt.specs.declared.message_state.MessageState.TheVariants.{Enroute, Delivered, Expired, Deleted, Undeliverable, Accepted, Unknown, Rejected}
 use Rattle.smq_receipt.specs.declared.reading.Reading.TheVariants as v
 use Rattle.smq_receipt.specs.declared.reading.Receipt.{Receipt}
 use Rattle.smq_tally.specs.declared.list.List.TheVariants as l
@@ -44,11 +44,13 @@ use Rattle.smq_book.specs.present.Present.{PresentValue, empty, link_of, octets_
 use Rattle.smq_book.specs.present.Replies.{reply}
 use Rattle.smq_book.specs.present.Settings.{SettingsValue, opening_settings, opening_forms, forms_of, with_clock}
 use Rattle.smq_book.specs.present.Steps.{step}
+use Rattle.smq_book.specs.present.Stream.{last_moment}
 use Rattle.smq_book.specs.pairing.Traffic.{Origin, TrafficValue, traffic_among, traffic_of, messages_among, receipts_among, notes_among, content_notes, session_notes}
 use Rattle.smq_book.specs.join.Circumstances.{window_of}
 use Rattle.smq_book.specs.join.Facts.{facts_of}
 use Rattle.smq_book.specs.join.Keyed.{grouping_of}
 use Rattle.smq_book.specs.join.Listings.{receipt_notes}
+use Rattle.smq_book.specs.join.Outcomes.{is_delivered}
 use Rattle.smq_tally.specs.Lists.{listed}
 use Rattle.smq_tally.specs.Tables.{count_at, listed_in}
 use Rattle.smq_book.specs.whole.Scratch.{scratch}
@@ -438,11 +440,13 @@ pub record KnownPieces : Type 0 where
   pub full : prepare_refusal (waiting 281474976710655 []) (0 ∷ 0 ∷ []) ≡ Some r.StreamFull
   pub last_octet : prepare_refusal (waiting 281474976710655 []) (0 ∷ []) ≡ None
 
--- What an append leaves of the book of one octet.
+-- What an append leaves of the book of one octet, and the last moment of a stream of two pieces and of none.
 pub record KnownOctets : Type 0 where
   pub grown : octets_of two_octets 10 FromClient ≡ handed_in 1000 (0 ∷ []) ++ handed_in 2000 (0 ∷ [])
   pub other_direction : octets_of two_octets 10 FromCentre ≡ []
   pub stale : step one_octet (one_more 1 10 FromClient (waiting 0 []) 2000) ≡ one_octet
+  pub last : last_moment (handed_in 1000 (0 ∷ []) ++ handed_in 2000 (0 ∷ 0 ∷ [])) ≡ 2000
+  pub no_last : last_moment [] ≡ 0
 
 -- What refuses a withdrawal, and what it leaves: no octet in either direction, the forms of the link, and the number of
 -- the session, which serves anew.
@@ -561,6 +565,9 @@ pub record KnownOutcomes : Type 0 where
       outcomes_by_delivery (link_response 3 1 ∷ []) (0 ∷ 1 ∷ [])
       ≡ o.Mismatched ∷ o.Mismatched ∷ []
   pub nack_with_status : outcomes_by_delivery (nack 3 1 ∷ []) (0 ∷ 1 ∷ []) ≡ o.Refused ∷ o.Refused ∷ []
+  pub nack_with_great_status :
+      outcomes_by_delivery (nack 0x0100_0000 1 ∷ []) (0 ∷ 1 ∷ [])
+      ≡ o.Refused ∷ o.Refused ∷ []
   pub response_with_status :
       outcomes_by_delivery (pdu 0 0x8000_0004 8 1 (c.SubmitAnswer (Some (49 ∷ []))) ∷ []) (0 ∷ 1 ∷ [])
       ≡ o.Refused ∷ o.Refused ∷ []
@@ -611,6 +618,10 @@ pub record KnownReceipts : Type 0 where
   pub was_delivered :
       outcomes_by_delivery (accepted 1 ∷ delivered 18 5000 ∷ []) (0 ∷ 1 ∷ [])
       ≡ o.Delivered ∷ o.Delivered ∷ []
+  pub delivered_states :
+      map is_delivered
+      (Enroute ∷ Delivered ∷ Expired ∷ Deleted ∷ Undeliverable ∷ Accepted ∷ Unknown ∷ Rejected ∷ [])
+      ≡ false ∷ true ∷ false ∷ false ∷ false ∷ false ∷ false ∷ false ∷ []
   pub has_failed : outcomes_by_delivery (accepted 1 ∷ failed 18 5000 ∷ []) (0 ∷ 1 ∷ []) ≡ o.Failed ∷ o.Failed ∷ []
   -- whichever came first in the stream, the earlier moment decides
   pub earlier :
@@ -656,8 +667,9 @@ pub record KnownReceipts : Type 0 where
   pub verbatim : outcomes_under Verbatim Verbatim (codes "07") (codes "007") ≡ o.Open ∷ []
   pub why :
       errors_among (submit 0 1 1 ∷ submit 49 2 1 ∷ submit 98 3 1 ∷ [])
-      (accepted 1 ∷ nack 3 2 ∷ accepted 4 ∷ receipt_pdu 50 5000 (receipt_saying Expired (e.Network 3 8) false) ∷ [])
-      ≡ Some (s.Failed (e.Network 3 8)) ∷ Some (s.Refused 3) ∷ None ∷ []
+      (accepted 1 ∷ nack 0x0102_0304 2 ∷ accepted 4 ∷ receipt_pdu 50 5000 (receipt_saying Expired (e.Network 3 8) false)
+      ∷ [])
+      ≡ Some (s.Failed (e.Network 3 8)) ∷ Some (s.Refused 0x0102_0304) ∷ None ∷ []
   pub why_not :
       errors_among (submit 0 1 1 ∷ [])
       (accepted 1 ∷ receipt_pdu 18 5000 (receipt_saying Delivered (e.Network 3 8) false) ∷ [])

@@ -11,10 +11,10 @@ pub use join::submits::LAPSE_WINDOW;
 pub use laws::join::{
     clock_lapses_open_messages_alone, deciding_receipts_are_earliest,
     delays_are_of_decided_messages, each_message_has_its_fact, facts_rest_on_circumstances,
-    forms_of_other_links_are_idle, messages_lapse_at_the_end_of_their_window,
-    moves_leave_other_facts, outcomes_are_in_order, outcomes_of_known_submits,
-    receipts_decide_known_submits, routes_are_of_the_moment, single_keys_have_no_other,
-    versions_change_routes_alone,
+    forms_of_other_links_are_idle, keys_are_of_their_link,
+    messages_lapse_at_the_end_of_their_window, moves_leave_other_facts, outcomes_are_in_order,
+    outcomes_of_known_submits, receipts_decide_known_submits, routes_are_of_the_moment,
+    single_keys_have_no_other, versions_change_routes_alone,
 };
 pub use laws::pairing::{
     each_message_has_its_place, notes_of_a_known_session, pushes_change_few_messages,

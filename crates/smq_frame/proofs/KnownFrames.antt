@@ -12,6 +12,7 @@ known_frames = record {
   shortest_tail = refl;
   shortest_waits = refl;
   too_short = refl;
+  weights = refl;
   longest = refl;
   longest_waits = refl;
   too_long = refl;

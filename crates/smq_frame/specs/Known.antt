@@ -36,6 +36,8 @@ pub record KnownFrames : Type 0 where
       ≡ (record { offset = 4; rest = 0 ∷ 0 ∷ 0 ∷ 16 ∷ []; broken = None })
   pub too_short :
       tail_of (0 ∷ 0 ∷ 0 ∷ 15 ∷ []) ≡ (record { offset = 4; rest = []; broken = Some 0 })
+  -- the first octet of a length counts most
+  pub weights : stated_length (1 ∷ 2 ∷ 3 ∷ 4 ∷ []) ≡ 0x0102_0304
   -- a length of 131,072 waits, and one more is bad at once
   pub longest : stated_length (0 ∷ 2 ∷ 0 ∷ 0 ∷ []) ≡ 131072
   pub longest_waits :

@@ -1,9 +1,10 @@
 //! What the definitions say of values that are written out, so that none of them is right by itself alone.
-ghost use Rattle.std.specs.Prelude.{◌≡◌, ◌-◌, ◌<◌, ℕ, List, [], true, false, map, filter, codes};
+ghost use Rattle.std.specs.Prelude.{◌≡◌, ◌-◌, ◌<◌, ℕ, List, [], true, false, map, filter, codes, is_some};
 ghost use Rattle.std.specs.Ordering.{nat_cmp};
 ghost use Rattle.std.specs.declared.cmp.Ordering.TheVariants.{Less};
 ghost use Rattle.smq_kit.specs.declared.error_code.ErrorCode.TheVariants as e;
 ghost use Rattle.smq_kit.specs.ErrorTexts.{is_error_octet, is_error_text};
+ghost use Rattle.smq_kit.specs.Keys.{value_in};
 ghost use Rattle.smq_kit.specs.Known.{KnownKeys, numbers_from, every_refusal, printed_refusals};
 ghost use Rattle.smq_kit.specs.LinkKeys.{link_key_cmp};
 ghost use Rattle.smq_kit.specs.Numbers.{IsDigits, IsNetwork};
@@ -39,13 +40,17 @@ pub fn known_error_texts()
 {}
 
 /// The keys of some ids: leading zeros don't count, hexadecimal digits have either case, 2^128 is no number, and an id
-/// with any other octet is a text.
+/// with any other octet is a text. Of all 256 octets, those that are digits.
 pub fn known_keys()
-    ensures { KnownKeys }
+    ensures keys { KnownKeys }
+    ensures decimal { filter (λ octet. is_some (value_in 10 octet)) (numbers_from 0 256)
+        ≡ codes "0123456789" }
+    ensures hexadecimal { filter (λ octet. is_some (value_in 16 octet)) (numbers_from 0 256)
+        ≡ codes "0123456789ABCDEFabcdef" }
 {}
 
 /// What comes first in each order: of two places the lower session, then the client's direction, then the lower offset;
-/// of keys a number before a text; of errors a network's code before a text before none.
+/// of keys a number before a text; of errors a network's code before a text, and a text before `Unstated`.
 pub fn known_orders()
     ensures session { (a b : Place) → a.session.0 < b.session.0 → place_cmp a b ≡ Less }
     ensures dir { (a b : Place) → a.session ≡ b.session → a.dir ≡ Dir.FromClient

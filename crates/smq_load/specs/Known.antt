@@ -1,11 +1,14 @@
 -- Limits, and definitions at known values.
-use Rattle.std.specs.Prelude.{◌≡◌, ◌++◌, ℕ, List, [], ◌∷◌, codes, drop, take, Some, None}
+use Rattle.std.specs.Prelude.{◌≡◌, ◌++◌, ℕ, List, [], ◌∷◌, codes, drop, take, Some, None, if◌then◌else◌, length, map, option_and_then, true}
+use Rattle.std.specs.Str.{is_utf8}
+use Rattle.toml.specs.Parse.{parse_document}
 use Rattle.smq_kit.specs.declared.form.Form.TheVariants.{Verbatim, Decimal, Hexadecimal}
 use Rattle.smq_kit.specs.declared.place.Dir.{Dir}
 use Rattle.smq_kit.specs.declared.place.Dir.TheVariants.{FromClient, FromCentre}
 use Rattle.smq_book.specs.declared.present.edit.Edit.TheVariants.{Withdraw, SetForm, AddRoute, EndRoute, CorrectRoute, Advance}
 use Rattle.smq_load.specs.declared.input.TheConstants.{MOST_OCTETS, MOST_READS}
 use Rattle.smq_load.specs.declared.link_forms.TheConstants.{MOST_LINKS}
+use Rattle.smq_load.specs.declared.link_forms.LinkForms.{LinkForms}
 use Rattle.smq_load.specs.declared.row.Row.{Row}
 use Rattle.smq_load.specs.declared.row.Row.TheVariants.{Piece, Plain}
 use Rattle.smq_load.specs.declared.script.TheConstants.{MOST_RECORDS}
@@ -13,10 +16,11 @@ use Rattle.smq_load.specs.declared.settings.TheConstants.{MOST_SETTINGS}
 use Rattle.smq_load.specs.Decimal.{decimal_of, decimal_to}
 use Rattle.smq_load.specs.Fields.{dir_of, form_of, link_of, moment_of, network_of, prefix_of, route_of, session_of}
 use Rattle.smq_load.specs.Row.{row_of}
-use Rattle.smq_load.specs.Script.{IsFirstBad, IsScript, most_records}
-use Rattle.smq_load.specs.Settings.{settings_of}
+use Rattle.smq_load.specs.Script.{AreRecordsOf, IsFirstBad, IsScript, SayRows, most_records}
+use Rattle.smq_load.specs.Settings.{are_distinct, fitting, rows_in, settings_of}
 
--- how many octets, reads and records a script may have, and how many octets and links settings may have
+-- how many octets, reads and records a script may have, and how many octets and links settings may have: so many are
+-- taken, and one more is not
 pub record KnowsLimits : Type 0 where
   pub octets : MOST_OCTETS ≡ 268435456
   pub reads : MOST_READS ≡ 16777216
@@ -24,6 +28,16 @@ pub record KnowsLimits : Type 0 where
   pub read_records : MOST_RECORDS ≡ 1000000
   pub settings : MOST_SETTINGS ≡ 1048576
   pub links : MOST_LINKS ≡ 4096
+  pub all_records : (text : List ℕ) (records : List (List (List ℕ))) (rows : List Row)
+      → AreRecordsOf text records → SayRows records rows → length records ≡ 1000000
+      → IsScript text rows
+  pub all_settings : (octets : List ℕ) → length octets ≡ 1048576
+      → settings_of octets
+      ≡ (if is_utf8 octets then option_and_then rows_in (parse_document octets) else None)
+  pub past_settings : (octets : List ℕ) → length octets ≡ 1048577 → settings_of octets ≡ None
+  pub all_links : (links : List LinkForms) → length links ≡ 4096
+      → are_distinct (map (λ forms. forms.link.0) links) ≡ true → fitting links ≡ Some links
+  pub past_links : (links : List LinkForms) → length links ≡ 4097 → fitting links ≡ None
 
 -- decimals of one digit, with leading zeros, of 20 digits at both sides of 2^64, of 21 digits, and texts that are none
 pub record KnowsDecimals : Type 0 where

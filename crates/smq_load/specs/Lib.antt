@@ -6,4 +6,5 @@ pub mod Script
 pub mod NextRecord
 pub mod Settings
 pub mod Laws
+pub mod Faults
 pub mod Known

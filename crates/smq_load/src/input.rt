@@ -6,7 +6,7 @@ ghost use Rattle.std.specs.Io.KnownBytes.{Consumes, IsAtEnd};
 use std::alloc::{AllocError, Global};
 use std::io::{ErrorKind, Read};
 
-/// How many octets an input may have.
+/// How many octets a script may have.
 pub const MOST_OCTETS: usize = 268_435_456;
 
 /// How often an input may be read, the read that finds its end among them.

@@ -1,10 +1,19 @@
 //! Laws of the definitions: each is the contract of a function with no body.
+ghost use Rattle.std.specs.Prelude.{◌≡◌, ◌↔◌, IsTrue};
+ghost use Rattle.smq_load.specs.Faults.{faults_eq};
 ghost use Rattle.smq_load.specs.Known.{KnowsDecimals, KnowsFields, KnowsInstants, KnowsLimits, KnowsNumbers, KnowsPieces, KnowsRows, KnowsScripts, KnowsSettings};
 ghost use Rattle.smq_load.specs.Laws.{HasOneReading};
+
+use crate::load_fault::LoadFault;
 
 /// Each text is a script of one list of rows, or has one first bad record, and never both.
 pub fn one_reading()
     ensures { HasOneReading }
+{}
+
+/// `==` of faults answers whether they are one.
+pub fn faults_are_told_apart()
+    ensures { (a b : LoadFault) → IsTrue (faults_eq a b) ↔ (a ≡ b) }
 {}
 
 /// The limits of a script and of settings.

@@ -16,8 +16,8 @@ mod table;
 
 pub use input::MOST_OCTETS;
 pub use laws::{
-    known_decimals, known_fields, known_instants, known_limits, known_numbers, known_pieces,
-    known_rows, known_scripts, known_settings, one_reading,
+    faults_are_told_apart, known_decimals, known_fields, known_instants, known_limits,
+    known_numbers, known_pieces, known_rows, known_scripts, known_settings, one_reading,
 };
 pub use link_forms::MOST_LINKS;
 pub use load_fault::LoadFault;

@@ -19,7 +19,9 @@ use std::io::Read;
 /// How many records a script may have.
 pub const MOST_RECORDS: u64 = 1_000_000;
 
-/// The rows of a script. It is read to its end before any of them is judged.
+/// The rows of a script, which is read to its end before any of them is judged. Errors: `Read` where the reader fails, gives
+/// more than 268,435,456 octets or is read more than 16,777,216 times; `BadRow` at the first record that says no row, or
+/// at record 1,000,001; `Memory`.
 pub fn read_script<R: Read>(alloc: Global, reader: &mut R) -> Result<Vec<Row>, LoadFault>
     ensures ok { IfOk result (λ rows.
         IfSome (R.remaining reader.old) (λ text. IsScript text rows.items)) }

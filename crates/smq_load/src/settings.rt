@@ -16,7 +16,8 @@ use toml::{Table, Value};
 /// How many octets settings may have.
 pub const MOST_SETTINGS: usize = 1_048_576;
 
-/// The rows of settings: the forms of each link in order, and then the clock where it is set.
+/// The rows of settings: the forms of each link in order, and then the clock where it is set. Errors: `BadSettings` where
+/// the octets say no rows; `Memory`.
 pub fn read_settings(alloc: Global, octets: &[u8]) -> Result<Vec<Row>, LoadFault>
     ensures ok { IfOk result (λ rows. settings_of octets.now ≡ Some rows.items) }
     ensures bad_settings { IfErr result (TellsOfSettings (settings_of octets.now)) }

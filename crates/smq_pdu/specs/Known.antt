@@ -157,6 +157,25 @@ nack_octets =
 abbrev pub nack_pdu : PduValue
 nack_pdu = record { header = record { command = 0x8000_0000; status = 3; seq = 7 }; body = OtherBody }
 
+-- a header of which each octet after command_length is another
+abbrev pub words_octets : List ℕ
+words_octets =
+    0x00 ∷ 0x00 ∷ 0x00 ∷ 0x10 ∷ 0x01 ∷ 0x02 ∷ 0x03 ∷ 0x04 ∷ 0x05 ∷ 0x06 ∷ 0x07 ∷ 0x08 ∷ 0x09 ∷ 0x0a ∷ 0x0b ∷ 0x0c ∷
+    []
+
+-- what these octets say
+abbrev pub words_pdu : PduValue
+words_pdu = record {
+  header = record { command = 0x0102_0304; status = 0x0506_0708; seq = 0x090a_0b0c };
+  body = OtherBody;
+}
+
+-- ---- message ids
+
+-- an id of 64 octets
+abbrev pub id_of_64 : List ℕ
+id_of_64 = codes "0123456789012345678901234567890123456789012345678901234567890123"
+
 -- ---- addresses
 
 -- an address of this type of number, where the numbering plan doesn't matter

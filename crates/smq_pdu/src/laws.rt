@@ -1,15 +1,16 @@
 //! Laws of the definitions that the contracts cite. No code calls these functions.
 ghost use Rattle.std.specs.Prelude.{◌≡◌, ◌≢◌, ◌↔◌, ◌⊎◌, ◌+◌, ◌^◌, ◌<◌, ◌≤◌, ◌++◌, ◌∷◌, [], List, ℕ, codes, Some, None, true, false, IsTrue};
+ghost use Rattle.smq_kit.specs.Known.{numbers_from};
 ghost use Rattle.smq_pdu.specs.Fields.{Address, Mandatory, BeginsWith};
 ghost use Rattle.smq_pdu.specs.Numbers.{IsNumberOf, number_of};
 ghost use Rattle.smq_pdu.specs.Parameters.{Tlv, AreParameters, BeginsWithNoTlv, IsTlv, tlv_spelling, first_value, receipted_message_id_tag, network_error_code_tag, message_payload_tag, message_state_tag};
 ghost use Rattle.smq_pdu.specs.Bodies.{SubmitValue, DeliverValue, SubmitBody, SubmitAnswerBody, DeliverBody, OtherBody, UndecodableBody, IsBody, IsFirstText};
 ghost use Rattle.smq_pdu.specs.Readers.{mandatory_at, tlvs_of, rest_of};
-ghost use Rattle.smq_pdu.specs.Pdu.{before_zero, pdu_of};
+ghost use Rattle.smq_pdu.specs.Pdu.{before_zero, id_of, pdu_of};
 ghost use Rattle.smq_pdu.specs.Laws.{said, IsSubmit, IsDeliver, IsUndecodable, IsSubmitResponse, IsSubmitResponseWithoutId, IsOther};
 ghost use Rattle.smq_pdu.specs.Pairing.{FindsPairs, FindsEachPair, HasOneRequest, FindsInTurn, agrees, is_request, is_response, request_rank, response_rank, response_place};
 ghost use Rattle.smq_pdu.specs.Header.{Header, header_with};
-ghost use Rattle.smq_pdu.specs.Known.{submit_octets, submit_pdu, plus_octets, plus_pdu, national_octets, national_pdu, too_long_octets, too_long_pdu, other_octets, address_with, response_octets, response_pdu, receipt_octets, receipt_pdu, all_parameters_octets, all_parameters_pdu, cut_octets, cut_pdu, nack_octets, nack_pdu, parameter_octets, parameter_tlvs, parameter_rest, IsRequestCommand, IsResponseCommand, IsNeitherCommand, short_requests, short_responses};
+ghost use Rattle.smq_pdu.specs.Known.{submit_octets, submit_pdu, plus_octets, plus_pdu, national_octets, national_pdu, too_long_octets, too_long_pdu, other_octets, address_with, response_octets, response_pdu, receipt_octets, receipt_pdu, all_parameters_octets, all_parameters_pdu, cut_octets, cut_pdu, nack_octets, nack_pdu, words_octets, words_pdu, id_of_64, parameter_octets, parameter_tlvs, parameter_rest, IsRequestCommand, IsResponseCommand, IsNeitherCommand, short_requests, short_responses};
 ghost use Rattle.smq_pdu.specs.Decoded.{submit_view, deliver_view, pdu_view};
 ghost use Rattle.smq_pdu.specs.Equalities.{is_same_submit, is_same_deliver, is_same_pdu};
 ghost use Rattle.smq_pdu.specs.declared.body.Submit.{Submit};
@@ -116,6 +117,17 @@ pub fn known_pdus()
     ensures parameters { pdu_of all_parameters_octets ≡ all_parameters_pdu }
     ensures cut { pdu_of cut_octets ≡ cut_pdu }
     ensures nack { pdu_of nack_octets ≡ nack_pdu }
+    ensures words { pdu_of words_octets ≡ words_pdu }
+{}
+
+/// The message ids of some bodies of submit_sm_resp, at their limits and just past them (SMPP 3.4, 5.2.23).
+pub fn known_ids()
+    ensures longest { id_of (id_of_64 ++ 0 ∷ []) ≡ Some id_of_64 }
+    ensures too_long { id_of (id_of_64 ++ 52 ∷ 0 ∷ []) ≡ None }
+    ensures no_zero { id_of (codes "abc") ≡ Some (codes "abc") }
+    ensures to_the_first_zero { id_of (codes "a" ++ 0 ∷ codes "b" ++ 0 ∷ []) ≡ Some (codes "a") }
+    ensures zero_first { id_of (0 ∷ codes "abc") ≡ None }
+    ensures no_body { id_of [] ≡ None }
 {}
 
 /// The numbers of some addresses, by their type of number and their text.
@@ -155,6 +167,8 @@ pub fn known_parameters()
     ensures first { first_value 0x0427 parameter_tlvs ≡ Some (2 ∷ []) }
     ensures other { first_value 0x0423 parameter_tlvs ≡ Some (3 ∷ 0 ∷ 27 ∷ []) }
     ensures none { first_value 0x0424 parameter_tlvs ≡ None }
+    ensures long { tlvs_of (0x04 ∷ 0x24 ∷ 0x01 ∷ 0x00 ∷ numbers_from 0 256)
+        ≡ (record { tag = 0x0424; value = numbers_from 0 256 }) ∷ [] }
 {}
 
 /// The tags of the parameters that are read (SMPP 3.4, 5.3.2).

@@ -28,9 +28,12 @@ known = record {
   unmarked = refl;
   own_text = refl;
   a_tab = refl;
+  id_beside = refl;
+  code_beside = refl;
   payload_beside = refl;
   unusable_id = refl;
   unusable_state = refl;
+  unusable_code = refl;
 }
 
 pub limits : KnownLimits

@@ -126,6 +126,13 @@ pub record ReadingsOfKnownReceipts : Type 0 where
   -- the message's own text, and what follows an octet that is no space, says nothing
   pub own_text : reading_of_text (codes "id:1 TEXT: stat:DELIVRD") ≡ v.NoState
   pub a_tab : reading_of_text (codes "id:1" ++ 9 ∷ codes "stat:DELIVRD") ≡ v.NoState
+  -- a usable parameter comes before the text
+  pub id_beside : reading_of
+      (record (deliver_saying 0x04 (codes "id:1 stat:DELIVRD")) { receipted_message_id = Some (55 ∷ 0 ∷ []) })
+      ≡ receipt_reading (codes "7") Delivered Unstated None
+  pub code_beside : reading_of
+      (record (deliver_saying 0x04 (codes "id:1 stat:UNDELIV err:027")) { network_error_code = Some (3 ∷ 0 ∷ 8 ∷ []) })
+      ≡ receipt_reading (codes "1") Undeliverable (Network 3 8) None
   -- short_message comes before message_payload, and a parameter that isn't usable leaves it to the text
   pub payload_beside : reading_of
       (record (deliver_saying 0x04 (codes "id:1 stat:DELIVRD")) { message_payload = Some (codes "id:2") })
@@ -136,3 +143,6 @@ pub record ReadingsOfKnownReceipts : Type 0 where
   pub unusable_state : reading_of
       (record (deliver_saying 0x04 (codes "id:1 stat:DELIVRD")) { message_state = Some (9 ∷ []) })
       ≡ receipt_reading (codes "1") Delivered Unstated None
+  pub unusable_code : reading_of
+      (record (deliver_saying 0x04 (codes "id:1 stat:UNDELIV err:027")) { network_error_code = Some (0 ∷ 8 ∷ []) })
+      ≡ receipt_reading (codes "1") Undeliverable (Text (codes "027")) None

@@ -16,7 +16,6 @@ use crate::join::accepted::Accepted;
 use crate::join::deciders::Deciders;
 use crate::join::receipts::PlacedReceipt;
 use crate::join::submits::SubmittedMessage;
-use crate::join::traffic::read_sessions;
 use crate::present::settings::Settings;
 use crate::{Band, Fact, KeptPdu, Outcome, Present, SubmitError};
 use smq_kit::{Network, RouteId};
@@ -24,19 +23,8 @@ use smq_pdu::agrees;
 use smq_receipt::MessageState;
 use std::alloc::{AllocError, Global};
 
-/// A fact of each submitted message that is present, in the order of places.
-pub(crate) fn facts_of(alloc: Global, present: &Present) -> Result<Vec<Fact>, AllocError>
-    ensures { IfOk result (λ made. made.items
-        ≡ map.values (by_place.facts_of present.now.settings (traffic_of present.now.sessions))) }
-{
-    let traffic = read_sessions(alloc, present)?;
-    let submits = traffic.submits.as_slice();
-    let accepted = Accepted::of_submits(alloc, submits)?;
-    let deciders = Deciders::of_present(alloc, present)?;
-    facts_with(alloc, present, submits, &accepted, &deciders)
-}
-
-/// The same facts, where these are the submitted messages, how many are accepted with each key, and what decides them.
+/// A fact of each submitted message that is present, in the order of places, where these are the submitted messages, how
+/// many are accepted with each key, and what decides them.
 pub(crate) fn facts_with(
     alloc: Global,
     present: &Present,

@@ -12,7 +12,7 @@ ghost use Rattle.smq_book.specs.present.Settings.{SettingsValue, with_versions, 
 ghost use Rattle.smq_book.specs.pairing.Traffic.{Message, ReceivedReceipt, TrafficValue};
 ghost use Rattle.smq_book.specs.join.Circumstances.{Circumstances, circumstances, route_in, window_of};
 ghost use Rattle.smq_book.specs.join.Facts.{fact_by, facts_of, with_route, with_lapse};
-ghost use Rattle.smq_book.specs.join.Keyed.{grouping_of};
+ghost use Rattle.smq_book.specs.join.Keyed.{accepted_key, grouping_of, receipt_key};
 ghost use Rattle.smq_book.specs.join.Matching.{Grouping, CanDecide, IsAlone, IsEarliest, decider, matches};
 ghost use Rattle.smq_book.specs.join.Moves.{IsMove, changes_of, standings_of, put_message, take_message, put_receipt, take_receipt};
 ghost use Rattle.smq_book.specs.join.Outcomes.{outcome_table, last_outcome};
@@ -24,6 +24,13 @@ use smq_kit::{LinkId, Place};
 pub fn single_keys_have_no_other()
     ensures { (g : Grouping) (key : LinkKey) (place : Place) → fin.get g.submits place ≡ Some key
         → IsTrue (matches g key == 1) ↔ IsAlone g key place }
+{}
+
+/// The key with which a message is accepted, and that of a receipt, is of its own link: ids of two links never meet.
+pub fn keys_are_of_their_link()
+    ensures messages { (s : SettingsValue) (m : Message) (key : LinkKey)
+        → accepted_key s m ≡ Some key → key.link ≡ m.link }
+    ensures receipts { (s : SettingsValue) (r : ReceivedReceipt) → (receipt_key s r).link ≡ r.link }
 {}
 
 /// The receipt that decides has the key, can decide, and comes after none of those that have it and can: by moment, and

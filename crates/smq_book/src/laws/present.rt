@@ -72,7 +72,8 @@ pub fn absent_sessions_have_no_octets()
 {}
 
 /// How octets are cut into pieces doesn't matter: two batches of one moment, the second on the tail that the first leaves,
-/// are refused or made as their joined batch is, and leave what it leaves. Where their moments differ they leave its tail.
+/// are refused or made as their joined batch is, and leave what it leaves. As plain changes they leave its tail, whatever
+/// their moments.
 pub fn cutting_changes_nothing()
     ensures refused { (p : PresentValue) (batch : BatchValue) (first second : List ℕ) →
         reply p (Append (with_octets batch first))

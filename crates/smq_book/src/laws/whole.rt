@@ -59,9 +59,9 @@ pub fn known_receipts_are_listed()
 {}
 
 /// What is known and counted of a book whose octets are written out: a message whose two receipts of one moment stand in
-/// two sessions is decided by the earlier place; one is decided by a receipt of another session; two share an id, which
-/// another link has too; one lapses at the clock. Of two messages to one number the first has a route at its moment, at
-/// which it begins, and the second none, at whose moment it has ended; the others have no number.
+/// two sessions is decided by the earlier place; one is decided by a receipt of another session; two of another link, whose
+/// ids are taken verbatim, share an id; one lapses at the clock. Of two messages to one number the first has a route at its
+/// moment, at which it begins, and the second none, at whose moment it has ended; the others have no number.
 pub fn figures_of_a_known_book()
     ensures { KnownFigures }
 {}

@@ -16,7 +16,9 @@ pub enum Edit {
     /// Sets the forms of a link's message ids.
     SetForm {
         link: LinkId,
+        /// That of ids in submit_sm_resp.
         response: Form,
+        /// That of ids in delivery receipts.
         receipt: Form,
     },
     /// Puts a version of a prefix's route in, which is open and begins at `from`.

@@ -32,8 +32,11 @@ pub struct KeptPdu {
     pub offset: u64,
     /// That of its last octet.
     pub moment: Moment,
+    /// command_id (SMPP 3.4, 5.1.2).
     pub command: u32,
+    /// command_status (5.1.3), 0 for success.
     pub status: u32,
+    /// sequence_number (5.1.4).
     pub seq: u32,
     pub content: Content,
 }

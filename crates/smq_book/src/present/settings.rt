@@ -78,7 +78,7 @@ impl Settings {
     }
 
     /// The route and network of a number at a moment: those of the version that holds then with the longest prefix of
-    /// the number.
+    /// the number, or none where no version does.
     pub fn route_at(&self, number: &Digits, at: Moment) -> Option<(RouteId, Network)>
         ensures { result ≡ route_at self.now.versions number.now at }
     {

@@ -74,14 +74,14 @@ impl Direction {
         self.pdus.as_slice()
     }
 
-    /// The moment of the last octet, and the opening moment where there is none.
+    /// The moment of the last octet, in ms since 1970 in UTC; 0 where there is none.
     pub fn last(&self) -> Moment
         ensures { result ≡ last_moment self.now }
     {
         self.last
     }
 
-    /// The octets as the pieces in which they were handed in, in order.
+    /// The octets as pieces of one moment each, in order.
     pub fn pieces(&self) -> &[Piece]
         ensures { stream_of result.now ≡ self.now }
     {

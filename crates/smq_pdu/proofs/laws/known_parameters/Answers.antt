@@ -9,3 +9,7 @@ returns-clause-tlvs c = refl
 pub returns-clause-rest : goal.returns-clause-rest
 unfolding octets_at number_at tlv_at rest_within rest_of
 returns-clause-rest c = refl
+
+pub returns-clause-long : goal.returns-clause-long
+unfolding octets_at number_at tlv_at tlvs_within tlvs_of
+returns-clause-long c = refl

@@ -54,3 +54,7 @@ returns-clause-too_long c = refl
 pub returns-clause-apart : goal.returns-clause-apart
 unfolding word_at body_of submit_of deliver_of id_of number_of digits_of mandatory_at address_at c_octet_at octets_at number_at tlv_at tlvs_within tlvs_of
 returns-clause-apart c = λ same. let differ : 613 ≡ 614 = ap (λ (p : PduValue). octet_sum p.body) same in omega (arith, differ)
+
+pub returns-clause-words : goal.returns-clause-words
+unfolding word_at body_of submit_of deliver_of id_of mandatory_at address_at c_octet_at octets_at number_at tlv_at tlvs_within tlvs_of
+returns-clause-words c = refl

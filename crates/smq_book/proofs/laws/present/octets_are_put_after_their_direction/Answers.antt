@@ -1,4 +1,4 @@
-use Rattle.std.proofs.Common.{◌≡◌, [], ◌∷◌, ◌++◌, Option, ap, ◌∙◌}
+use Rattle.std.proofs.Common.{◌≡◌, [], ◌∷◌, ◌++◌, Option, ap, ◌∙◌, refl}
 use Rattle.smq_kit.specs.declared.place.Dir.TheVariants.{FromClient, FromCentre}
 use Rattle.smq_kit.specs.declared.refusal.Refusal.TheVariants.{OutOfStep}
 use Rattle.smq_frame.specs.Framing.{rest_of, rest_within}
@@ -29,4 +29,6 @@ returns c =
       grown = ap (λ (p : PresentValue). octets_of p 10 FromClient) made ∙ appends.grown ∙ ap (λ (o : Option Session). octets_in FromClient o ++ handed_in 2000 (0 ∷ [])) at_ten;
       other_direction = ap (λ (p : PresentValue). octets_of p 10 FromCentre) made ∙ appends.other_direction FromCentre (λ h. cc) ∙ ap (octets_in FromCentre) at_ten;
       stale = step-refused one_octet (one_more 1 10 FromClient (waiting 0 []) 2000) (OutOfStep 1) (reply_at_ten 1 FromClient (waiting 0 []) 2000);
+      last = refl;
+      no_last = refl;
     }
