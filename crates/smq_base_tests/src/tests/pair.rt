@@ -1,299 +1,46 @@
-//! Sessions as real traffic has them, whose pairs are known by hand, and want of memory.
+//! Sessions as real traffic has them, whose pairs are known by hand, and refused memory.
+mod many;
+mod sessions;
+
 use smq_kit::{Dir, Place, SessionId};
-use smq_pair::{Pair, Pairing, Places};
-use std::alloc::Global;
+use smq_pair::{Pair, Pairing};
 use std::process::Abort;
 
-const CLIENT: Dir = Dir::FromClient;
+pub const CLIENT: Dir = Dir::FromClient;
 
-const CENTRE: Dir = Dir::FromCentre;
+pub const CENTRE: Dir = Dir::FromCentre;
 
-const SUBMIT_SM: u32 = 0x0000_0004;
+pub const SUBMIT_SM: u32 = 0x0000_0004;
 
-const DELIVER_SM: u32 = 0x0000_0005;
+pub const DELIVER_SM: u32 = 0x0000_0005;
 
-const UNBIND: u32 = 0x0000_0006;
+pub const UNBIND: u32 = 0x0000_0006;
 
-const BIND_TRANSCEIVER: u32 = 0x0000_0009;
+pub const BIND_TRANSCEIVER: u32 = 0x0000_0009;
 
-const OUTBIND: u32 = 0x0000_000b;
+pub const OUTBIND: u32 = 0x0000_000b;
 
-const ENQUIRE_LINK: u32 = 0x0000_0015;
+pub const ENQUIRE_LINK: u32 = 0x0000_0015;
 
-const ALERT_NOTIFICATION: u32 = 0x0000_0102;
+pub const ALERT_NOTIFICATION: u32 = 0x0000_0102;
 
-const GENERIC_NACK: u32 = 0x8000_0000;
+pub const GENERIC_NACK: u32 = 0x8000_0000;
 
-const SUBMIT_SM_RESP: u32 = 0x8000_0004;
+pub const SUBMIT_SM_RESP: u32 = 0x8000_0004;
 
-const DELIVER_SM_RESP: u32 = 0x8000_0005;
+pub const DELIVER_SM_RESP: u32 = 0x8000_0005;
 
-const UNBIND_RESP: u32 = 0x8000_0006;
+pub const UNBIND_RESP: u32 = 0x8000_0006;
 
-const BIND_TRANSCEIVER_RESP: u32 = 0x8000_0009;
+pub const BIND_TRANSCEIVER_RESP: u32 = 0x8000_0009;
 
-const ENQUIRE_LINK_RESP: u32 = 0x8000_0015;
+pub const ENQUIRE_LINK_RESP: u32 = 0x8000_0015;
 
 /// A PDU: its direction, command_id, sequence_number and command_status.
-type Pdu = (Dir, u32, u32, u32);
-
-struct Session {
-    fact: &'static str,
-    /// The n-th stands at the offset 16 n of its direction.
-    pdus: &'static [Pdu],
-    /// A request's number, its response's, and whether that agrees.
-    pairs: &'static [(usize, usize, bool)],
-    waiting: &'static [usize],
-    strays: &'static [usize],
-}
-
-static SESSIONS: [Session; 9] = [
-    Session {
-        fact: "a window of ten requests is answered out of order",
-        pdus: &[
-            (CLIENT, SUBMIT_SM, 1, 0),
-            (CLIENT, SUBMIT_SM, 2, 0),
-            (CLIENT, SUBMIT_SM, 3, 0),
-            (CLIENT, SUBMIT_SM, 4, 0),
-            (CLIENT, SUBMIT_SM, 5, 0),
-            (CLIENT, SUBMIT_SM, 6, 0),
-            (CLIENT, SUBMIT_SM, 7, 0),
-            (CLIENT, SUBMIT_SM, 8, 0),
-            (CLIENT, SUBMIT_SM, 9, 0),
-            (CLIENT, SUBMIT_SM, 10, 0),
-            (CENTRE, SUBMIT_SM_RESP, 3, 0),
-            (CENTRE, SUBMIT_SM_RESP, 1, 0),
-            (CENTRE, SUBMIT_SM_RESP, 2, 0x58),
-            (CENTRE, SUBMIT_SM_RESP, 10, 0),
-            (CENTRE, SUBMIT_SM_RESP, 9, 0),
-            (CENTRE, SUBMIT_SM_RESP, 4, 0),
-            (CENTRE, SUBMIT_SM_RESP, 5, 0),
-            (CENTRE, SUBMIT_SM_RESP, 8, 0x14),
-            (CENTRE, SUBMIT_SM_RESP, 6, 0),
-            (CENTRE, SUBMIT_SM_RESP, 7, 0),
-        ],
-        pairs: &[
-            (0, 11, true),
-            (1, 12, true),
-            (2, 10, true),
-            (3, 15, true),
-            (4, 16, true),
-            (5, 18, true),
-            (6, 19, true),
-            (7, 17, true),
-            (8, 14, true),
-            (9, 13, true),
-        ],
-        waiting: &[],
-        strays: &[],
-    },
-    Session {
-        fact: "generic_nack answers the request of its number",
-        pdus: &[
-            (CLIENT, SUBMIT_SM, 1, 0),
-            (CLIENT, 0x0000_00ff, 2, 0),
-            (CENTRE, SUBMIT_SM_RESP, 1, 0),
-            (CENTRE, GENERIC_NACK, 2, 3),
-        ],
-        pairs: &[(0, 2, true), (1, 3, true)],
-        waiting: &[],
-        strays: &[],
-    },
-    Session {
-        fact: "a session that is unbound leaves a submit_sm unanswered",
-        pdus: &[
-            (CLIENT, BIND_TRANSCEIVER, 1, 0),
-            (CENTRE, BIND_TRANSCEIVER_RESP, 1, 0),
-            (CLIENT, SUBMIT_SM, 2, 0),
-            (CLIENT, UNBIND, 3, 0),
-            (CENTRE, UNBIND_RESP, 3, 0),
-        ],
-        pairs: &[(0, 1, true), (3, 4, true)],
-        waiting: &[2],
-        strays: &[],
-    },
-    Session {
-        fact: "both sides ask enquire_link with the same numbers",
-        pdus: &[
-            (CLIENT, ENQUIRE_LINK, 1, 0),
-            (CENTRE, ENQUIRE_LINK, 1, 0),
-            (CLIENT, ENQUIRE_LINK_RESP, 1, 0),
-            (CENTRE, ENQUIRE_LINK_RESP, 1, 0),
-            (CENTRE, ENQUIRE_LINK, 2, 0),
-            (CLIENT, ENQUIRE_LINK_RESP, 2, 0),
-            (CENTRE, ENQUIRE_LINK, 3, 0),
-            (CLIENT, ENQUIRE_LINK, 3, 0),
-        ],
-        pairs: &[(0, 3, true), (1, 2, true), (4, 5, true)],
-        waiting: &[7, 6],
-        strays: &[],
-    },
-    Session {
-        fact: "numbers begin anew after 2^31 - 1",
-        pdus: &[
-            (CLIENT, SUBMIT_SM, 0x7fff_ffff, 0),
-            (CENTRE, SUBMIT_SM_RESP, 0x7fff_ffff, 0),
-            (CLIENT, SUBMIT_SM, 1, 0),
-            (CENTRE, SUBMIT_SM_RESP, 1, 8),
-            (CLIENT, SUBMIT_SM, 0x7fff_ffff, 0),
-            (CENTRE, SUBMIT_SM_RESP, 0x7fff_ffff, 0x45),
-            (CLIENT, SUBMIT_SM, 1, 0),
-        ],
-        pairs: &[(0, 1, true), (2, 3, true), (4, 5, true)],
-        waiting: &[6],
-        strays: &[],
-    },
-    Session {
-        fact: "outbind and alert_notification want no response",
-        pdus: &[
-            (CENTRE, OUTBIND, 1, 0),
-            (CLIENT, BIND_TRANSCEIVER, 1, 0),
-            (CENTRE, BIND_TRANSCEIVER_RESP, 1, 0),
-            (CENTRE, ALERT_NOTIFICATION, 2, 0),
-        ],
-        pairs: &[(1, 2, true)],
-        waiting: &[],
-        strays: &[],
-    },
-    Session {
-        fact: "a response to another command disagrees, and one of another number is a stray",
-        pdus: &[
-            (CLIENT, SUBMIT_SM, 1, 0),
-            (CENTRE, ENQUIRE_LINK_RESP, 1, 0),
-            (CENTRE, SUBMIT_SM_RESP, 5, 0),
-        ],
-        pairs: &[(0, 1, false)],
-        waiting: &[],
-        strays: &[2],
-    },
-    Session {
-        fact: "the second response to a request is that of the next request of its number",
-        pdus: &[
-            (CLIENT, SUBMIT_SM, 7, 0),
-            (CENTRE, SUBMIT_SM_RESP, 7, 0),
-            (CENTRE, SUBMIT_SM_RESP, 7, 0x58),
-            (CENTRE, SUBMIT_SM_RESP, 7, 0),
-            (CLIENT, SUBMIT_SM, 7, 0),
-        ],
-        pairs: &[(0, 1, true), (4, 2, true)],
-        waiting: &[],
-        strays: &[3],
-    },
-    Session {
-        fact: "a session of Kannel 1.4.5, as it was captured: both sides ask by the same numbers, and the client unbinds",
-        pdus: &[
-            (CLIENT, BIND_TRANSCEIVER, 1, 0),
-            (CENTRE, BIND_TRANSCEIVER_RESP, 1, 0),
-            (CLIENT, ENQUIRE_LINK, 2, 0),
-            (CENTRE, ENQUIRE_LINK_RESP, 2, 0),
-            (CENTRE, ENQUIRE_LINK, 1, 0),
-            (CLIENT, ENQUIRE_LINK_RESP, 1, 0),
-            (CLIENT, SUBMIT_SM, 3, 0),
-            (CENTRE, SUBMIT_SM_RESP, 3, 0),
-            (CLIENT, SUBMIT_SM, 4, 0),
-            (CENTRE, SUBMIT_SM_RESP, 4, 0),
-            (CLIENT, ENQUIRE_LINK, 5, 0),
-            (CLIENT, SUBMIT_SM, 6, 0),
-            (CENTRE, ENQUIRE_LINK_RESP, 5, 0),
-            (CENTRE, SUBMIT_SM_RESP, 6, 0),
-            (CENTRE, DELIVER_SM, 2, 0),
-            (CLIENT, DELIVER_SM_RESP, 2, 0),
-            (CENTRE, DELIVER_SM, 3, 0),
-            (CLIENT, DELIVER_SM_RESP, 3, 0),
-            (CLIENT, SUBMIT_SM, 7, 0),
-            (CENTRE, SUBMIT_SM_RESP, 7, 0),
-            (CENTRE, DELIVER_SM, 4, 0),
-            (CLIENT, DELIVER_SM_RESP, 4, 0),
-            (CENTRE, ENQUIRE_LINK, 5, 0),
-            (CLIENT, ENQUIRE_LINK_RESP, 5, 0),
-            (CLIENT, ENQUIRE_LINK, 8, 0),
-            (CENTRE, ENQUIRE_LINK_RESP, 8, 0),
-            (CENTRE, DELIVER_SM, 6, 0),
-            (CLIENT, DELIVER_SM_RESP, 6, 0),
-            (CENTRE, ENQUIRE_LINK, 7, 0),
-            (CLIENT, ENQUIRE_LINK_RESP, 7, 0),
-            (CENTRE, DELIVER_SM, 8, 0),
-            (CLIENT, DELIVER_SM_RESP, 8, 0),
-            (CENTRE, DELIVER_SM, 9, 0),
-            (CLIENT, DELIVER_SM_RESP, 9, 0),
-            (CLIENT, ENQUIRE_LINK, 9, 0),
-            (CENTRE, ENQUIRE_LINK_RESP, 9, 0),
-            (CENTRE, ENQUIRE_LINK, 10, 0),
-            (CLIENT, ENQUIRE_LINK_RESP, 10, 0),
-            (CLIENT, ENQUIRE_LINK, 10, 0),
-            (CENTRE, ENQUIRE_LINK_RESP, 10, 0),
-            (CENTRE, ENQUIRE_LINK, 11, 0),
-            (CLIENT, ENQUIRE_LINK_RESP, 11, 0),
-            (CLIENT, ENQUIRE_LINK, 11, 0),
-            (CENTRE, ENQUIRE_LINK_RESP, 11, 0),
-            (CENTRE, ENQUIRE_LINK, 12, 0),
-            (CLIENT, ENQUIRE_LINK_RESP, 12, 0),
-            (CLIENT, ENQUIRE_LINK, 12, 0),
-            (CENTRE, ENQUIRE_LINK_RESP, 12, 0),
-            (CENTRE, ENQUIRE_LINK, 13, 0),
-            (CLIENT, ENQUIRE_LINK_RESP, 13, 0),
-            (CLIENT, ENQUIRE_LINK, 13, 0),
-            (CENTRE, ENQUIRE_LINK_RESP, 13, 0),
-            (CENTRE, ENQUIRE_LINK, 14, 0),
-            (CLIENT, ENQUIRE_LINK_RESP, 14, 0),
-            (CLIENT, ENQUIRE_LINK, 14, 0),
-            (CENTRE, ENQUIRE_LINK_RESP, 14, 0),
-            (CLIENT, ENQUIRE_LINK, 15, 0),
-            (CENTRE, ENQUIRE_LINK_RESP, 15, 0),
-            (CENTRE, ENQUIRE_LINK, 15, 0),
-            (CLIENT, ENQUIRE_LINK_RESP, 15, 0),
-            (CLIENT, ENQUIRE_LINK, 16, 0),
-            (CENTRE, ENQUIRE_LINK_RESP, 16, 0),
-            (CENTRE, ENQUIRE_LINK, 16, 0),
-            (CLIENT, ENQUIRE_LINK_RESP, 16, 0),
-            (CLIENT, ENQUIRE_LINK, 17, 0),
-            (CLIENT, UNBIND, 18, 0),
-            (CENTRE, ENQUIRE_LINK_RESP, 17, 0),
-            (CENTRE, UNBIND_RESP, 18, 0),
-        ],
-        pairs: &[
-            (0, 1, true),
-            (2, 3, true),
-            (4, 5, true),
-            (6, 7, true),
-            (8, 9, true),
-            (10, 12, true),
-            (11, 13, true),
-            (14, 15, true),
-            (16, 17, true),
-            (18, 19, true),
-            (20, 21, true),
-            (22, 23, true),
-            (24, 25, true),
-            (26, 27, true),
-            (28, 29, true),
-            (30, 31, true),
-            (32, 33, true),
-            (34, 35, true),
-            (36, 37, true),
-            (38, 39, true),
-            (40, 41, true),
-            (42, 43, true),
-            (44, 45, true),
-            (46, 47, true),
-            (48, 49, true),
-            (50, 51, true),
-            (52, 53, true),
-            (54, 55, true),
-            (56, 57, true),
-            (58, 59, true),
-            (60, 61, true),
-            (62, 63, true),
-            (64, 66, true),
-            (65, 67, true),
-        ],
-        waiting: &[],
-        strays: &[],
-    },
-];
+pub type Pdu = (Dir, u32, u32, u32);
 
 /// The place of the PDU of a number, of session 1.
-fn place(dir: Dir, number: usize) -> Place {
+pub fn place(dir: Dir, number: usize) -> Place {
     Place {
         session: SessionId(1),
         dir,
@@ -302,12 +49,12 @@ fn place(dir: Dir, number: usize) -> Place {
 }
 
 /// The first PDUs without a pair: of those that wait, and of the strays.
-fn first_alone(pairing: &Pairing) -> (Option<Place>, Option<Place>) {
+pub fn first_alone(pairing: &Pairing) -> (Option<Place>, Option<Place>) {
     (pairing.waiting().next(), pairing.strays().next())
 }
 
 /// Adds a PDU, again where memory was refused, which left all as it was.
-fn add(rt: &impl Abort, pairing: &mut Pairing, at: Place, pdu: Pdu) -> Option<Pair> {
+pub fn add(rt: &impl Abort, pairing: &mut Pairing, at: Place, pdu: Pdu) -> Option<Pair> {
     let (_, command, seq, status) = pdu;
     let alone = first_alone(pairing);
     assert!(rt; pairing.is_next(at), "a next PDU");
@@ -320,123 +67,4 @@ fn add(rt: &impl Abort, pairing: &mut Pairing, at: Place, pdu: Pdu) -> Option<Pa
     );
     assert!(rt; pairing.is_next(at), "as before");
     pairing.add(at, seq, command, status).expect(rt, "a PDU")
-}
-
-/// Adds a PDU, whose pair is then found at its place.
-fn put(rt: &impl Abort, pairing: &mut Pairing, at: Place, pdu: Pdu, fact: &str) {
-    let made = add(rt, pairing, at, pdu);
-    assert!(rt; pairing.pair_of(at) == made, "{fact}");
-}
-
-impl Session {
-    fn place(&self, number: usize) -> Option<Place> {
-        Some(place(self.pdus.get(number)?.0, number))
-    }
-
-    /// The pair in which the PDU of a number stands.
-    fn pair(&self, number: usize) -> Option<Pair> {
-        for (request, response, agrees) in self.pairs {
-            if *request == number || *response == number {
-                return Some(Pair {
-                    request: self.place(*request)?,
-                    response: self.place(*response)?,
-                    agrees: *agrees,
-                    status: self.pdus.get(*response)?.3,
-                });
-            }
-        }
-        None
-    }
-
-    /// Puts the PDUs of a direction, or at `None` those of both as they come.
-    fn put_turn(&self, rt: &impl Abort, pairing: &mut Pairing, turn: Option<Dir>) {
-        for (number, pdu) in self.pdus.iter().enumerate() {
-            if turn.is_none() || turn == Some(pdu.0) {
-                put(rt, pairing, place(pdu.0, number), *pdu, self.fact);
-            }
-        }
-    }
-
-    fn has_pairs(&self, pairing: &mut Pairing) -> bool {
-        for (number, pdu) in self.pdus.iter().enumerate() {
-            if pairing.pair_of(place(pdu.0, number)) != self.pair(number) {
-                return false;
-            }
-        }
-        true
-    }
-
-    /// Whether the places are those of these PDUs, in order.
-    fn has_places(&self, mut found: Places<'_>, wanted: &[usize]) -> bool {
-        for number in wanted {
-            if found.next() != self.place(*number) {
-                return false;
-            }
-        }
-        found.next().is_none()
-    }
-
-    fn is_paired(&self, pairing: &mut Pairing) -> bool {
-        self.has_pairs(pairing)
-            && self.has_places(pairing.waiting(), self.waiting)
-            && self.has_places(pairing.strays(), self.strays)
-    }
-}
-
-fn assert_session(rt: &impl Abort, alloc: Global, session: &Session, turns: &[Option<Dir>]) {
-    let mut pairing = Pairing::new(alloc);
-    for turn in turns {
-        session.put_turn(rt, &mut pairing, *turn);
-    }
-    assert!(rt; session.is_paired(&mut pairing), "{}", session.fact);
-}
-
-#[test]
-fn sessions_are_paired_in_any_order_of_directions(rt: HostRuntime) {
-    for session in &SESSIONS {
-        assert_session(&rt, rt.alloc(), session, &[None]);
-        assert_session(&rt, rt.alloc(), session, &[Some(CLIENT), Some(CENTRE)]);
-        assert_session(&rt, rt.alloc(), session, &[Some(CENTRE), Some(CLIENT)]);
-    }
-}
-
-/// The pair of a submit_sm and a submit_sm_resp of a number.
-fn pair(number: usize) -> Pair {
-    Pair {
-        request: place(CLIENT, number),
-        response: place(CENTRE, number),
-        agrees: true,
-        status: 0,
-    }
-}
-
-fn is_pair_added(rt: &impl Abort, pairing: &mut Pairing, number: usize) -> bool {
-    let pair = pair(number);
-    add(rt, pairing, pair.response, (CENTRE, SUBMIT_SM_RESP, 7, 0)) == Some(pair)
-        && pairing.pair_of(pair.request) == Some(pair)
-}
-
-/// Whether nothing waits, nothing is a stray, and a submit_sm of this number isn't the next.
-fn is_settled(pairing: &Pairing, number: usize) -> bool {
-    !pairing.is_next(place(CLIENT, number)) && first_alone(pairing) == (None, None)
-}
-
-/// The n-th response is that of the n-th request, however many there are of one number. With each allocation refused in
-/// turn (`rt try --test --fail-alloc`) the same pairs are made.
-#[test]
-fn many_of_one_number_are_paired_in_turn(rt: HostRuntime) {
-    let mut pairing = Pairing::new(rt.alloc());
-    for number in 0..2000 {
-        let made = add(
-            &rt,
-            &mut pairing,
-            place(CLIENT, number),
-            (CLIENT, SUBMIT_SM, 7, 0),
-        );
-        assert!(rt; made.is_none(), "no pair");
-    }
-    for number in 0..2000 {
-        assert!(rt; is_pair_added(&rt, &mut pairing, number), "a pair");
-    }
-    assert!(rt; is_settled(&pairing, 1999), "nothing alone");
 }

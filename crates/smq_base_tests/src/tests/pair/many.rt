@@ -1,0 +1,45 @@
+//! Many PDUs of one number.
+use crate::tests::pair::{CENTRE, CLIENT, SUBMIT_SM, SUBMIT_SM_RESP, add, first_alone, place};
+use smq_pair::{Pair, Pairing};
+use std::process::Abort;
+
+/// The pair of a submit_sm and a submit_sm_resp of a number.
+fn pair(number: usize) -> Pair {
+    Pair {
+        request: place(CLIENT, number),
+        response: place(CENTRE, number),
+        agrees: true,
+        status: 0,
+    }
+}
+
+fn is_pair_added(rt: &impl Abort, pairing: &mut Pairing, number: usize) -> bool {
+    let pair = pair(number);
+    add(rt, pairing, pair.response, (CENTRE, SUBMIT_SM_RESP, 7, 0)) == Some(pair)
+        && pairing.pair_of(pair.request) == Some(pair)
+}
+
+/// Whether nothing waits, nothing is a stray, and a submit_sm of this number isn't the next.
+fn is_settled(pairing: &Pairing, number: usize) -> bool {
+    !pairing.is_next(place(CLIENT, number)) && first_alone(pairing) == (None, None)
+}
+
+/// The n-th response is that of the n-th request, however many there are of one number. With each allocation refused in
+/// turn (`rt try --test --fail-alloc`) the same pairs are made.
+#[test]
+fn many_of_one_number_are_paired_in_turn(rt: HostRuntime) {
+    let mut pairing = Pairing::new(rt.alloc());
+    for number in 0..2000 {
+        let made = add(
+            &rt,
+            &mut pairing,
+            place(CLIENT, number),
+            (CLIENT, SUBMIT_SM, 7, 0),
+        );
+        assert!(rt; made.is_none(), "no pair");
+    }
+    for number in 0..2000 {
+        assert!(rt; is_pair_added(&rt, &mut pairing, number), "a pair");
+    }
+    assert!(rt; is_settled(&pairing, 1999), "nothing alone");
+}
