@@ -4,30 +4,13 @@ use Rattle.std.proofs.lemmas.List.Sums.{fold-append}
 use Rattle.std.specs.Prelude.{◌≢◌, IfOk}
 use Rattle.smq_kit.specs.declared.refusal.Refusal.{Refusal}
 use Rattle.smq_kit.specs.declared.refusal.Refusal.TheVariants.{Memory}
-use Rattle.smq_kit.specs.Replies.{IsReply, IsReplyInPlace}
+use Rattle.smq_kit.specs.Replies.{IsReply}
 use Rattle.smq_book.specs.declared.present.edit.Edit.{Edit}
-use Rattle.smq_book.specs.declared.present.edit.Edit.TheVariants.{Append, Withdraw, SetForm, AddRoute, EndRoute, CorrectRoute, Advance}
 use Rattle.smq_book.specs.present.Present.{PresentValue}
-use Rattle.smq_book.specs.present.Replies.{IsReplyTo, reply}
+use Rattle.smq_book.specs.present.Replies.{reply}
 use Rattle.smq_book.specs.present.Steps.{step, step_unless, steps}
 use Rattle.smq_load.specs.declared.row.Row.{Row}
 use Rattle.smq.specs.Play.{after_row, after_rows, edits_from, refusal_of, refused_from, row_edits, told}
-
-in_any_case : {T : Type 0} (o : Option Refusal) (r : Result T Refusal) (Made Unchanged : Type 0) → IsReplyInPlace o r Made Unchanged → IsReply o r Made Unchanged
-in_any_case None (Ok x) Made Unchanged a = a
-in_any_case None (Err e) Made Unchanged a = absurd a
-in_any_case (Some refusal) (Ok x) Made Unchanged a = a
-in_any_case (Some refusal) (Err e) Made Unchanged a = a
-
--- what an edit comes to, whether or not it may take memory
-as_reply : {T : Type 0} (edit : Edit) (o : Option Refusal) (r : Result T Refusal) (Made Unchanged : Type 0) → IsReplyTo edit o r Made Unchanged → IsReply o r Made Unchanged
-as_reply (Append batch) o r Made Unchanged a = a
-as_reply (Withdraw session) o r Made Unchanged a = in_any_case o r Made Unchanged a
-as_reply (SetForm link response receipt) o r Made Unchanged a = a
-as_reply (AddRoute prefix from route network) o r Made Unchanged a = a
-as_reply (EndRoute prefix from until) o r Made Unchanged a = in_any_case o r Made Unchanged a
-as_reply (CorrectRoute prefix from route network) o r Made Unchanged a = in_any_case o r Made Unchanged a
-as_reply (Advance clock) o r Made Unchanged a = in_any_case o r Made Unchanged a
 
 refused_by : (T : Type 0) (o : Option Refusal) (e : Refusal) (p new : PresentValue) (edit : Edit) → IsReply {T = T} o (Err e) (new ≡ step_unless o p edit) (new ≡ p)
     → (refusal : Option Refusal) → refusal ≡ Some e → e ≢ Memory → (refusal ≡ o) × (new ≡ step_unless o p edit)
@@ -35,9 +18,9 @@ refused_by T None e p new edit a refusal is other = absurd (other a.0)
 refused_by T (Some r) e p new edit a refusal is other = (is ∙ ap Some a.0, a.1)
 
 -- an edit that answers something else than want of memory answers its refusal
-pub refused_edit : (T : Type 0) {E : Type 0} (e : Refusal) (p new : PresentValue) (edit : Edit) (r : Result (Option Refusal) E) → IsReplyTo {T = T} edit (reply p edit) (Err e) (new ≡ step p edit) (new ≡ p)
+pub refused_edit : (T : Type 0) {E : Type 0} (e : Refusal) (p new : PresentValue) (edit : Edit) (r : Result (Option Refusal) E) → IsReply {T = T} (reply p edit) (Err e) (new ≡ step p edit) (new ≡ p)
     → IfOk r (λ noted. (noted ≡ Some e) × (e ≢ Memory)) → IfOk r (λ refusal. (refusal ≡ reply p edit) × (new ≡ step p edit))
-refused_edit T e p new edit (Ok noted) a h = refused_by T (reply p edit) e p new edit (as_reply edit (reply p edit) _ _ _ a) noted h.0 h.1
+refused_edit T e p new edit (Ok noted) a h = refused_by T (reply p edit) e p new edit a noted h.0 h.1
 refused_edit T e p new edit (Err f) a h = tt
 
 made_by : (T : Type 0) (x : T) (o : Option Refusal) (p new : PresentValue) (edit : Edit) → IsReply {T = T} o (Ok x) (new ≡ step_unless o p edit) (new ≡ p)
@@ -46,9 +29,9 @@ made_by T x None p new edit a = (refl, a)
 made_by T x (Some r) p new edit a = absurd a
 
 -- an edit that is made has no refusal
-pub made_edit : (T : Type 0) (x : T) (p new : PresentValue) (edit : Edit) → IsReplyTo {T = T} edit (reply p edit) (Ok x) (new ≡ step p edit) (new ≡ p)
+pub made_edit : (T : Type 0) (x : T) (p new : PresentValue) (edit : Edit) → IsReply {T = T} (reply p edit) (Ok x) (new ≡ step p edit) (new ≡ p)
     → (None ≡ reply p edit) × (new ≡ step p edit)
-made_edit T x p new edit a = made_by T x (reply p edit) p new edit (as_reply edit (reply p edit) (Ok x) _ _ a)
+made_edit T x p new edit a = made_by T x (reply p edit) p new edit a
 
 -- one more row is played
 pub present-step : (p : PresentValue) (row : Row) (left rows : List Row) (new all : PresentValue) → rows ≡ row ∷ left → new ≡ after_row p row

@@ -4,6 +4,7 @@ pub mod Maps
 pub mod VersionLemmas
 pub mod Appended
 pub mod Changes
+pub mod Replied
 pub mod Fits
 pub mod Cutting
 pub mod Submitted

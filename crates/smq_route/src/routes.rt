@@ -81,10 +81,10 @@ impl Routes {
 
     /// Ends the open version of a prefix that begins at a moment: it holds up to `until`, and no longer. It is refused
     /// as `NoRoute` where there is no such version, then as `Ended` where it has an end, which is told, then as `BadEnd`
-    /// where `until` isn't after the beginning. It takes no memory. A refusal changes nothing.
+    /// where `until` isn't after the beginning; `Memory` comes last. A refusal changes nothing.
     pub fn end(&mut self, prefix: &Digits, from: Moment, until: Moment) -> Result<(), Refusal>
         ensures { let version = version_of self.old.versions prefix.now from in
-            IsReplyInPlace (first_of (end_refusals version from until)) result
+            IsReply (first_of (end_refusals version from until)) result
             (self.new.versions ≡ changed self.old.versions prefix.now from (ending until))
             (self.new ≡ self.old) }
     {
@@ -92,7 +92,7 @@ impl Routes {
     }
 
     /// Gives the version of a prefix that begins at a moment, open or ended, another route and network. It is refused as
-    /// `NoRoute` where there is no such version. It takes no memory. A refusal changes nothing.
+    /// `NoRoute` where there is no such version; `Memory` comes last. A refusal changes nothing.
     pub fn correct(
         &mut self,
         prefix: &Digits,
@@ -101,7 +101,7 @@ impl Routes {
         network: Network,
     ) -> Result<(), Refusal>
         ensures { let version = version_of self.old.versions prefix.now from in
-            IsReplyInPlace (first_of (correct_refusals version)) result
+            IsReply (first_of (correct_refusals version)) result
             (self.new.versions ≡ changed self.old.versions prefix.now from (corrected route network))
             (self.new ≡ self.old) }
     {

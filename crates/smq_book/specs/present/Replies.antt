@@ -1,16 +1,17 @@
 -- What refuses an edit: its refusals in the order in which they are tested, of which the first that holds is told. Who
 -- adds one puts it at the place at which the code tests it; what a piece alone decides stands in Batch, and what refuses an
 -- edit of routes in smq_route.
-use Rattle.std.specs.Prelude.{◌≡◌, ◌≤◌, ◌==◌, not, ℕ, nat_lt, is_none, List, [], ◌∷◌, length, Option, Some, None, Result}
+use Rattle.std.specs.Prelude.{◌≡◌, ◌≤◌, ◌==◌, not, ℕ, nat_lt, is_none, List, [], ◌∷◌, length, Option, Some, None}
 use Rattle.smq_kit.specs.declared.names.LinkId.{LinkId}
 use Rattle.smq_kit.specs.declared.refusal.Refusal.{Refusal}
 use Rattle.smq_kit.specs.declared.refusal.Refusal.TheVariants.{OtherLink, OutOfStep, Backward, NoSession, ClockBack}
+use Rattle.smq_kit.specs.Refusals.{number_of}
 use Rattle.smq_frame.specs.Stream.{Octet, values}
 use Rattle.smq_frame.specs.Tail.{tails_equal, tail_of}
 use Rattle.smq_book.specs.declared.present.edit.Edit.{Edit}
 use Rattle.smq_book.specs.declared.present.edit.Edit.TheVariants.{Append, Withdraw, SetForm, AddRoute, EndRoute, CorrectRoute, Advance}
 use Rattle.smq_book.specs.declared.present.session.Session.{Session}
-use Rattle.smq_kit.specs.Replies.{IsReply, IsReplyInPlace, first_of, refused_if}
+use Rattle.smq_kit.specs.Replies.{first_of, refused_if}
 use Rattle.smq_route.specs.Edits.{add_refusals, end_refusals, correct_refusals}
 use Rattle.smq_route.specs.Versions.{version_of}
 use Rattle.smq_book.specs.present.Batch.{BatchValue}
@@ -61,17 +62,9 @@ reply p (CorrectRoute prefix from route network) =
     first_of (correct_refusals (version_of p.settings.versions prefix from))
 reply p (Advance clock) = clock_back p.settings.clock clock
 
--- What an edit comes to. One that takes something away or changes it where it stands takes no memory, and is made or
--- refused; any other may be refused for want of memory too.
-abbrev pub IsReplyTo : {T : Type 0} → Edit → Option Refusal → Result T Refusal → Type 0 → Type 0 → Type 0
-IsReplyTo (Append batch) refusal result Made Unchanged = IsReply refusal result Made Unchanged
-IsReplyTo (Withdraw session) refusal result Made Unchanged = IsReplyInPlace refusal result Made Unchanged
-IsReplyTo (SetForm link response receipt) refusal result Made Unchanged = IsReply refusal result Made Unchanged
-IsReplyTo (AddRoute prefix from route network) refusal result Made Unchanged = IsReply refusal result Made Unchanged
-IsReplyTo (EndRoute prefix from until) refusal result Made Unchanged = IsReplyInPlace refusal result Made Unchanged
-IsReplyTo (CorrectRoute prefix from route network) refusal result Made Unchanged =
-    IsReplyInPlace refusal result Made Unchanged
-IsReplyTo (Advance clock) refusal result Made Unchanged = IsReplyInPlace refusal result Made Unchanged
+-- a refusal that edits have: its number is one of 3 to 11
+abbrev pub IsOfEdits : Refusal → Type 0
+IsOfEdits refusal = (3 ≤ number_of refusal) × (number_of refusal ≤ 11)
 
 -- A batch goes after its direction: its session is present under no other link, its tail is the direction's, and its
 -- moment isn't below the direction's last.

@@ -11,7 +11,7 @@ ghost use Rattle.smq_book.specs.declared.present.edit.Edit.TheVariants.{Append, 
 ghost use Rattle.smq_book.specs.present.Batch.{BatchValue, with_octets, continued};
 ghost use Rattle.smq_book.specs.Known.{KnownClocks, KnownForms, KnownOctets, KnownPieces, KnownReplies, KnownRouteReplies, KnownRoutes, KnownWithdrawals, waiting};
 ghost use Rattle.smq_book.specs.present.Present.{PresentValue, session_of, tail_in};
-ghost use Rattle.smq_book.specs.present.Replies.{GoesAfter, reply};
+ghost use Rattle.smq_book.specs.present.Replies.{GoesAfter, IsOfEdits, reply};
 ghost use Rattle.smq_book.specs.present.Steps.{Appends, AppendsCommute, AreAppendedAgain, LeavesNoTrace, SetsForm, AddsRoute, EndsRoute, CorrectsRoute, Advances, Withdraws, change, step};
 ghost use Rattle.smq_book.specs.declared.present.forms.Forms.{Forms};
 ghost use Rattle.smq_book.specs.within.Equal.{forms_eq};
@@ -57,6 +57,14 @@ pub fn steps_are_plain_changes()
         reply p edit ≡ None → step p edit ≡ change p edit }
     ensures refused { (p : PresentValue) (edit : Edit) (refusal : Refusal) →
         reply p edit ≡ Some refusal → step p edit ≡ p }
+{}
+
+/// The refusals that edits have are those of the numbers 3 to 11: the reply to an edit is never want of memory, nor what
+/// refuses a piece while it is prepared, a value while it is made, or a call of a history.
+pub fn replies_are_of_edits()
+    ensures numbers { (p : PresentValue) (edit : Edit) (refusal : Refusal) →
+        reply p edit ≡ Some refusal → IsOfEdits refusal }
+    ensures memory { (p : PresentValue) (edit : Edit) → reply p edit ≢ Some Refusal.Memory }
 {}
 
 /// A batch that goes after its direction has no refusal, and every other has one.

@@ -107,9 +107,9 @@ impl Present {
         append_in(alloc, &mut self.sessions, batch)
     }
 
-    /// Takes a session back, with both its directions, which takes no memory. A refusal changes nothing.
+    /// Takes a session back, with both its directions. A refusal changes nothing.
     pub(crate) fn withdraw(&mut self, session: SessionId) -> Result<(), Refusal>
-        ensures { IsReplyInPlace (reply self.old (Edit.Withdraw session)) result
+        ensures { IsReply (reply self.old (Edit.Withdraw session)) result
             (self.new ≡ change self.old (Edit.Withdraw session)) (self.new ≡ self.old) }
     {
         remove_session(&mut self.sessions, session.0)
@@ -139,7 +139,7 @@ impl Present {
         self.settings.add_route(prefix, from, route, network)
     }
 
-    /// Ends a version of a route, which takes no memory. A refusal changes nothing.
+    /// Ends a version of a route. A refusal changes nothing.
     pub(crate) fn end_route(
         &mut self,
         prefix: &Digits,
@@ -147,13 +147,13 @@ impl Present {
         until: Moment,
     ) -> Result<(), Refusal>
         ensures { let edit = Edit.EndRoute prefix.now from until in
-            IsReplyInPlace (reply self.old edit) result
+            IsReply (reply self.old edit) result
             (self.new ≡ change self.old edit) (self.new ≡ self.old) }
     {
         self.settings.end_route(prefix, from, until)
     }
 
-    /// Gives a version of a route another route and network, which takes no memory. A refusal changes nothing.
+    /// Gives a version of a route another route and network. A refusal changes nothing.
     pub(crate) fn correct_route(
         &mut self,
         prefix: &Digits,
@@ -162,15 +162,15 @@ impl Present {
         network: Network,
     ) -> Result<(), Refusal>
         ensures { let edit = Edit.CorrectRoute prefix.now from route network in
-            IsReplyInPlace (reply self.old edit) result
+            IsReply (reply self.old edit) result
             (self.new ≡ change self.old edit) (self.new ≡ self.old) }
     {
         self.settings.correct_route(prefix, from, route, network)
     }
 
-    /// Sets the clock, which takes no memory. A refusal changes nothing.
+    /// Sets the clock. A refusal changes nothing.
     pub(crate) fn advance(&mut self, clock: Moment) -> Result<(), Refusal>
-        ensures { IsReplyInPlace (reply self.old (Edit.Advance clock)) result
+        ensures { IsReply (reply self.old (Edit.Advance clock)) result
             (self.new ≡ change self.old (Edit.Advance clock)) (self.new ≡ self.old) }
     {
         self.settings.advance(clock)

@@ -128,7 +128,7 @@ impl Settings {
         until: Moment,
     ) -> Result<(), Refusal>
         ensures { let versions = self.old.versions in
-            IsReplyInPlace (first_of (end_refusals (version_of versions prefix.now from) from until)) result
+            IsReply (first_of (end_refusals (version_of versions prefix.now from) from until)) result
             (self.new ≡ with_versions self.old (changed versions prefix.now from (ending until)))
             (self.new ≡ self.old) }
     {
@@ -144,7 +144,7 @@ impl Settings {
         network: Network,
     ) -> Result<(), Refusal>
         ensures { let versions = self.old.versions in
-            IsReplyInPlace (first_of (correct_refusals (version_of versions prefix.now from))) result
+            IsReply (first_of (correct_refusals (version_of versions prefix.now from))) result
             (self.new ≡ with_versions self.old (changed versions prefix.now from (corrected route network)))
             (self.new ≡ self.old) }
     {

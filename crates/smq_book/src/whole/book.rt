@@ -3,8 +3,9 @@ ghost use Rattle.std.specs.Prelude.{◌≡◌, IfOk, IsTrue, map};
 ghost use Rattle.std.specs.FinMap as fin;
 ghost use Rattle.smq_kit.specs.Orders.{place_cmp};
 ghost use Rattle.smq_tally.specs.Lists.{listed_set};
+ghost use Rattle.smq_kit.specs.Replies.{IsReply};
 ghost use Rattle.smq_book.specs.present.Present.{empty, tail_in};
-ghost use Rattle.smq_book.specs.present.Replies.{reply, IsReplyTo};
+ghost use Rattle.smq_book.specs.present.Replies.{reply};
 ghost use Rattle.smq_book.specs.whole.Scratch.{scratch};
 ghost use Rattle.smq_book.specs.present.Steps.{step};
 ghost use Rattle.smq_book.specs.within.Lists.{placed_fact};
@@ -74,16 +75,15 @@ impl Book {
     }
 
     /// Makes an edit, or refuses it and changes nothing. An `Append` is refused, in order: where its session is present
-    /// under another link (`OtherLink`); where its tail isn't that of its direction (`OutOfStep`); where its moment is
-    /// below the direction's last (`Backward`); and for want of memory (`Memory`). A `Withdraw` is refused where its
-    /// session isn't present (`NoSession`), and a `SetForm` for want of memory alone. An `AddRoute` is refused, in order:
-    /// where a version of its prefix is open or ends after it begins (`Overlap`); and for want of memory (`Memory`). An
-    /// `EndRoute` is refused, in order: where no version has its prefix and beginning (`NoRoute`); where that one has an
-    /// end (`Ended`); and where its end isn't after the beginning (`BadEnd`). A `CorrectRoute` is refused where no version
-    /// has its prefix and beginning (`NoRoute`), and an `Advance` where its clock is below the present one (`ClockBack`).
-    /// A `Withdraw`, an `EndRoute`, a `CorrectRoute` and an `Advance` take no memory.
+    /// under another link (`OtherLink`); where its tail isn't that of its direction (`OutOfStep`); and where its moment is
+    /// below the direction's last (`Backward`). A `Withdraw` is refused where its session isn't present (`NoSession`). An
+    /// `AddRoute` is refused where a version of its prefix is open or ends after it begins (`Overlap`). An `EndRoute` is
+    /// refused, in order: where no version has its prefix and beginning (`NoRoute`); where that one has an end (`Ended`);
+    /// and where its end isn't after the beginning (`BadEnd`). A `CorrectRoute` is refused where no version has its prefix
+    /// and beginning (`NoRoute`), and an `Advance` where its clock is below the present one (`ClockBack`). Each of them, and
+    /// a `SetForm`, is refused last for want of memory (`Memory`).
     pub fn apply(&mut self, edit: Edit) -> Result<(), Refusal>
-        ensures { IsReplyTo edit (reply self.old.present edit) result
+        ensures { IsReply (reply self.old.present edit) result
             (self.new.present ≡ step self.old.present edit) (self.new.present ≡ self.old.present) }
     {
         match edit {
