@@ -1,6 +1,6 @@
 -- What an edit changes, and when it is refused.
 use Rattle.std.proofs.Common.{◌≡◌, ◌≢◌, ◌⊎◌, ℕ, Bool, true, false, cond, List, [], ◌∷◌, ◌++◌, Option, Some, None, refl, sym, ap, ◌∙◌, subst, inl, inr, arith}
-use Rattle.std.specs.Prelude.{◌==◌, ◌&&◌, option_map, unwrap_or}
+use Rattle.std.specs.Prelude.{◌==◌, ◌&&◌, not, if◌then◌else◌, option_map, unwrap_or}
 use Rattle.std.specs.List.{list_all}
 use Rattle.std.proofs.lemmas.Bool.{false≢true}
 use Rattle.std.proofs.lemmas.Bool.Decides.{nat_tests}
@@ -29,7 +29,7 @@ use Rattle.smq_book.specs.present.Present.{PresentValue, session_of, direction, 
 use Rattle.smq_book.specs.present.Settings.{set_forms_of, with_versions, with_clock}
 use Rattle.smq_kit.specs.Replies.{first_of}
 use Rattle.smq_book.specs.present.Replies.{no_session, append_refusals, reply}
-use Rattle.smq_book.specs.present.Steps.{session_with, session_after, change, step_unless, step, steps, Appends, Withdraws, SetsForm, AddsRoute, EndsRoute, CorrectsRoute, Advances, is_append_to, LeavesNoTrace, AreAppendedAgain, AppendsCommute}
+use Rattle.smq_book.specs.present.Steps.{session_with, session_after, change, step_unless, step, steps, Appends, Withdraws, SetsForm, AddsRoute, EndsRoute, CorrectsRoute, Advances, is_append_to, is_of_session, edits_without, LeavesNoTrace, IsAsNeverThere, AreAppendedAgain, AppendsCommute}
 use Rattle.smq_book.proofs.BatchReplies.{new_session}
 use Rattle.smq_book.proofs.Maps.{remove-none}
 use Rattle.smq_book.proofs.VersionLemmas.{put-there, put-elsewhere, changed-there, changed-elsewhere, same_versions}
@@ -267,12 +267,121 @@ no_trace p s (e ∷ edits) h =
     let parts = and_parts (is_append_to s e) (list_all (is_append_to s) edits) h in
     no_trace (step p e) s edits parts.1 ∙ hidden p s e (reply p e) parts.0
 
+-- ---- edits that aren't of the session are the same without it
+
+number_apart : (a b : ℕ) → a == b ≡ false → a ≢ b
+number_apart a b h is = grind (arith, nat_tests, h, is)
+
+remove-insert-apart : {X : Type 0} (m : FinMap nat_cmp X) (k n : ℕ) (v : X) → n ≢ k → remove (insert m n v) k ≡ insert (remove m k) n v
+remove-insert-apart m k n v ne = same_map nat_cmp_total nat_cmp-IsAntisymmetric _ _ (λ q.
+    elim (either_number q n (nat_cmp q n) refl) [
+      | inl at ↦ subst (λ (j : ℕ). get (remove (insert m n v) k) j ≡ get (insert (remove m k) n v) j) (sym at) (get-left (insert m n v) k n ne ∙ get-here m n v ∙ sym (get-here (remove m k) n v))
+      | inr far ↦ elim (either_number q k (nat_cmp q k) refl) [
+        | inl at ↦ subst (λ (j : ℕ). get (remove (insert m n v) k) j ≡ get (insert (remove m k) n v) j) (sym at) (get-removed (insert m n v) k ∙ sym (get-elsewhere (remove m k) n k v (λ is. ne (sym is)) ∙ get-removed m k))
+        | inr apart ↦ get-left (insert m n v) k q apart ∙ get-elsewhere m n q v far ∙ sym (get-elsewhere (remove m k) n q v far ∙ get-left m k q apart)
+      ]
+    ])
+
+remove-remove : {X : Type 0} (m : FinMap nat_cmp X) (k n : ℕ) → remove (remove m n) k ≡ remove (remove m k) n
+remove-remove m k n = same_map nat_cmp_total nat_cmp-IsAntisymmetric _ _ (λ q.
+    elim (either_number q k (nat_cmp q k) refl) [
+      | inl at ↦ elim (either_number q n (nat_cmp q n) refl) [
+        | inl too ↦ subst (λ (j : ℕ). get (remove (remove m n) k) j ≡ None) (sym at) (get-removed (remove m n) k) ∙ sym (subst (λ (j : ℕ). get (remove (remove m k) n) j ≡ None) (sym too) (get-removed (remove m k) n))
+        | inr far ↦ subst (λ (j : ℕ). get (remove (remove m n) k) j ≡ None) (sym at) (get-removed (remove m n) k) ∙ sym (get-left (remove m k) n q far ∙ subst (λ (j : ℕ). get (remove m k) j ≡ None) (sym at) (get-removed m k))
+      ]
+      | inr apart ↦ get-left (remove m n) k q apart ∙ elim (either_number q n (nat_cmp q n) refl) [
+        | inl too ↦ subst (λ (j : ℕ). get (remove m n) j ≡ None) (sym too) (get-removed m n) ∙ sym (subst (λ (j : ℕ). get (remove (remove m k) n) j ≡ None) (sym too) (get-removed (remove m k) n))
+        | inr far ↦ get-left m n q far ∙ sym (get-left (remove m k) n q far ∙ get-left m k q apart)
+      ]
+    ])
+
+remove-twice : {X : Type 0} (m : FinMap nat_cmp X) (k n : ℕ) → n ≡ k → remove (remove m n) k ≡ remove m k
+remove-twice m k n is = same_map nat_cmp_total nat_cmp-IsAntisymmetric _ _ (λ q.
+    elim (either_number q k (nat_cmp q k) refl) [
+      | inl at ↦ subst (λ (j : ℕ). get (remove (remove m n) k) j ≡ get (remove m k) j) (sym at) (get-removed (remove m n) k ∙ sym (get-removed m k))
+      | inr ne ↦ get-left (remove m n) k q ne ∙ get-left m n q (λ at. ne (at ∙ is)) ∙ sym (get-left m k q ne)
+    ])
+
+abbrev without : PresentValue → SessionId → PresentValue
+without p s = change p (Withdraw s)
+
+set-apart : (p : PresentValue) (s : SessionId) (b : BatchValue) → b.session.0 ≢ s.0 → (o : Option Refusal) → o ≡ reply p (Append b) → without (step_unless o p (Append b)) s ≡ step (without p s) (Append b)
+set-apart p s b ne o is =
+    let same : session_of (without p s) b.session.0 ≡ session_of p b.session.0 = get-left p.sessions s.0 b.session.0 ne in
+    let replies : o ≡ reply (without p s) (Append b) = is ∙ sym (ap (λ (there : Option Session). first_of (append_refusals there b)) same) in
+    elim o as (λ (q : Option Refusal). q ≡ reply (without p s) (Append b) → without (step_unless q p (Append b)) s ≡ step (without p s) (Append b)) [
+      | None ↦ λ none. ap (λ (m : FinMap nat_cmp Session). record p { sessions = m }) (remove-insert-apart p.sessions s.0 b.session.0 (session_after (session_of p b.session.0) b) ne)
+          ∙ ap (λ (there : Option Session). record p { sessions = insert (remove p.sessions s.0) b.session.0 (session_after there b) }) (sym same)
+          ∙ sym (step-made (without p s) (Append b) (sym none))
+      | Some r ↦ λ some. sym (step-refused (without p s) (Append b) r (sym some))
+    ] replies
+
+either_way : (p : PresentValue) (s : SessionId) (e : Edit) (o : Option Refusal) → without (change p e) s ≡ change (without p s) e → without (step_unless o p e) s ≡ step_unless o (without p s) e
+either_way p s e None same = same
+either_way p s e (Some r) same = refl
+
+-- an edit that isn't of a session leaves without the session what it leaves where that is absent
+apart : (p : PresentValue) (s : SessionId) (e : Edit) → is_of_session s e ≡ false → without (step p e) s ≡ step (without p s) e
+apart p s (Append b) h = set-apart p s b (number_apart b.session.0 s.0 h) (reply p (Append b)) refl
+apart p s (Withdraw t) h =
+    ap (λ (q : PresentValue). without q s) (step-withdraw p t)
+    ∙ ap (λ (m : FinMap nat_cmp Session). record p { sessions = m }) (remove-remove p.sessions s.0 t.0)
+    ∙ sym (step-withdraw (without p s) t)
+apart p s (SetForm link response receipt) h = refl
+apart p s (AddRoute prefix from route network) h = either_way p s (AddRoute prefix from route network) (reply p (AddRoute prefix from route network)) refl
+apart p s (EndRoute prefix from until) h = either_way p s (EndRoute prefix from until) (reply p (EndRoute prefix from until)) refl
+apart p s (CorrectRoute prefix from route network) h = either_way p s (CorrectRoute prefix from route network) (reply p (CorrectRoute prefix from route network)) refl
+apart p s (Advance clock) h = either_way p s (Advance clock) (reply p (Advance clock)) refl
+
+-- an edit of the session leaves nothing without it
+of_it : (p : PresentValue) (s : SessionId) (e : Edit) → is_of_session s e ≡ true → without (step p e) s ≡ without p s
+of_it p s (Append b) h = hidden p s (Append b) (reply p (Append b)) h
+of_it p s (Withdraw t) h =
+    ap (λ (q : PresentValue). without q s) (step-withdraw p t)
+    ∙ ap (λ (m : FinMap nat_cmp Session). record p { sessions = m }) (remove-twice p.sessions s.0 t.0 (same_number t.0 s.0 h))
+of_it p s (SetForm link response receipt) h = absurd (false≢true h)
+of_it p s (AddRoute prefix from route network) h = absurd (false≢true h)
+of_it p s (EndRoute prefix from until) h = absurd (false≢true h)
+of_it p s (CorrectRoute prefix from route network) h = absurd (false≢true h)
+of_it p s (Advance clock) h = absurd (false≢true h)
+
+-- Without the session, all edits leave what those that aren't of it leave where it is absent.
+all_left : (p : PresentValue) (s : SessionId) (edits : List Edit) → without (steps p edits) s ≡ steps (without p s) (edits_without s edits)
+all_left p s [] = refl
+all_left p s (e ∷ edits) =
+    all_left (step p e) s edits
+    ∙ elim (is_of_session s e) as (λ (b : Bool). is_of_session s e ≡ b → steps (without (step p e) s) (edits_without s edits) ≡ steps (without p s) (if not b then e ∷ edits_without s edits else edits_without s edits)) [
+      | true ↦ λ h. ap (λ (q : PresentValue). steps q (edits_without s edits)) (of_it p s e h)
+      | false ↦ λ h. ap (λ (q : PresentValue). steps q (edits_without s edits)) (apart p s e h)
+    ] refl
+
+others_left : (p : PresentValue) (s : SessionId) (edits : List Edit) → without (steps p (edits_without s edits)) s ≡ steps (without p s) (edits_without s edits)
+others_left p s [] = refl
+others_left p s (e ∷ edits) =
+    elim (is_of_session s e) as (λ (b : Bool). is_of_session s e ≡ b → without (steps p (if not b then e ∷ edits_without s edits else edits_without s edits)) s
+    ≡ steps (without p s) (if not b then e ∷ edits_without s edits else edits_without s edits)) [
+      | true ↦ λ h. others_left p s edits
+      | false ↦ λ h. others_left (step p e) s edits ∙ ap (λ (q : PresentValue). steps q (edits_without s edits)) (apart p s e h)
+    ] refl
+
 pub leaves_no_trace : LeavesNoTrace
-leaves_no_trace p s edits h = step-withdraw (steps p edits) s ∙ no_trace p s edits h ∙ sym (step-withdraw p s)
+leaves_no_trace p s edits =
+    step-withdraw (steps p edits) s ∙ all_left p s edits
+    ∙ sym (others_left p s edits) ∙ sym (step-withdraw (steps p (edits_without s edits)) s)
+
+pub as_never_there : (p : PresentValue) (s : SessionId) (edits : List Edit) → session_of p s.0 ≡ None → IsAsNeverThere p s edits
+as_never_there p s edits missing =
+    let others = edits_without s edits in
+    let first : without p s ≡ p = ap (λ (m : FinMap nat_cmp Session). record p { sessions = m }) (remove-none p.sessions s.0 missing) in
+    let last : without (steps p others) s ≡ steps p others = others_left p s edits ∙ ap (λ (q : PresentValue). steps q others) first in
+    record {
+      left = step-withdraw (steps p edits) s ∙ all_left p s edits ∙ ap (λ (q : PresentValue). steps q others) first;
+      absent = ap (λ (q : PresentValue). session_of q s.0) (sym last) ∙ get-removed (steps p others).sessions s.0;
+    }
 
 pub appended_again : AreAppendedAgain
 appended_again p s edits missing h =
-    let gone : step (steps p edits) (Withdraw s) ≡ p = leaves_no_trace p s edits h ∙ step-refused p (Withdraw s) NoSession (ap no_session missing) in
+    let gone : step (steps p edits) (Withdraw s) ≡ p = step-withdraw (steps p edits) s ∙ no_trace p s edits h ∙ sym (step-withdraw p s) ∙ step-refused p (Withdraw s) NoSession (ap no_session missing) in
     ap (λ (q : PresentValue). steps q edits) gone
 
 -- ---- batches of different sessions

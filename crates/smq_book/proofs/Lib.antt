@@ -5,6 +5,7 @@ pub mod VersionLemmas
 pub mod Appended
 pub mod Changes
 pub mod Replied
+pub mod Folded
 pub mod Fits
 pub mod Cutting
 pub mod Submitted

@@ -7,3 +7,4 @@ pub mod Present
 pub mod Book
 pub mod Replies
 pub mod Steps
+pub mod Judged

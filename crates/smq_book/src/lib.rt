@@ -23,10 +23,11 @@ pub use laws::pairing::{
 };
 pub use laws::present::{
     absent_sessions_have_no_octets, appends_of_sessions_commute, batches_that_fit_are_not_refused,
-    cutting_changes_nothing, edits_of_a_known_clock, edits_of_known_routes, forms_are_told_apart,
-    forms_are_verbatim_until_set, octets_are_put_after_their_direction,
-    pieces_are_refused_in_order, replies_are_of_edits, replies_stand_in_order,
-    steps_are_plain_changes, withdrawals_leave_no_trace, withdrawals_of_a_known_book,
+    cutting_changes_nothing, edits_of_a_known_clock, edits_of_a_known_session,
+    edits_of_known_routes, forms_are_told_apart, forms_are_verbatim_until_set, known_edits_fold,
+    octets_are_put_after_their_direction, pieces_are_refused_in_order, replies_are_of_edits,
+    replies_stand_in_order, steps_are_plain_changes, withdrawals_leave_no_trace,
+    withdrawals_of_a_known_book,
 };
 pub use laws::whole::{
     figures_of_a_known_book, known_receipts_are_listed, lists_say_the_same,
@@ -44,4 +45,4 @@ pub use present::stream::{Direction, Piece};
 pub use smq_tally::{
     Band, CountKey, Fact, List, Listed, Outcome, Places, Rows, SubmitError, Tables, Value, View,
 };
-pub use whole::book::Book;
+pub use whole::book::{Book, tables_of_edits};

@@ -1,5 +1,5 @@
 -- What an edit leaves present.
-use Rattle.std.specs.Prelude.{◌≡◌, ◌≢◌, ◌==◌, ℕ, Bool, true, false, List, [], ◌++◌, fold, Option, Some, None, option_map, unwrap_or}
+use Rattle.std.specs.Prelude.{◌≡◌, ◌≢◌, ◌==◌, ℕ, Bool, true, false, List, [], ◌++◌, filter, fold, not, Option, Some, None, option_map, unwrap_or}
 use Rattle.std.specs.FinMap as map
 use Rattle.std.specs.List.{list_all}
 use Rattle.smq_kit.specs.declared.form.Form.{Form}
@@ -137,12 +137,31 @@ is_append_to session (EndRoute prefix from until) = false
 is_append_to session (CorrectRoute prefix from route network) = false
 is_append_to session (Advance clock) = false
 
--- What was appended to a session before it is withdrawn leaves nothing: what is present is then what withdrawing it at
--- first leaves.
+-- whether an edit puts octets into a session or takes it back
+abbrev pub is_of_session : SessionId → Edit → Bool
+is_of_session session (Append batch) = batch.session.0 == session.0
+is_of_session session (Withdraw other) = other.0 == session.0
+is_of_session session (SetForm link response receipt) = false
+is_of_session session (AddRoute prefix from route network) = false
+is_of_session session (EndRoute prefix from until) = false
+is_of_session session (CorrectRoute prefix from route network) = false
+is_of_session session (Advance clock) = false
+
+-- the edits that aren't of a session: those of other sessions, of forms, of routes and of the clock
+abbrev pub edits_without : SessionId → List Edit → List Edit
+edits_without session edits = filter (λ edit. not (is_of_session session edit)) edits
+
+-- A session that is withdrawn leaves nothing, whatever edits were made before: what is present is then what withdrawing it
+-- leaves after those of these edits that aren't of it.
 abbrev pub LeavesNoTrace : Type 0
 LeavesNoTrace = (p : PresentValue) (session : SessionId) (edits : List Edit)
-    → list_all (is_append_to session) edits ≡ true
-    → step (steps p edits) (Withdraw session) ≡ step p (Withdraw session)
+    → step (steps p edits) (Withdraw session) ≡ step (steps p (edits_without session edits)) (Withdraw session)
+
+-- Where it was absent before the edits, everything is as though it had never been: what is present is what the edits that
+-- aren't of it leave, and these leave it absent.
+pub record IsAsNeverThere (p : PresentValue) (session : SessionId) (edits : List Edit) : Type 0 where
+  pub left : step (steps p edits) (Withdraw session) ≡ steps p (edits_without session edits)
+  pub absent : session_of (steps p (edits_without session edits)) session.0 ≡ None
 
 -- Octets that are appended to an absent session, withdrawn and appended again leave what they left.
 abbrev pub AreAppendedAgain : Type 0

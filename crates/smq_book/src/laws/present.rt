@@ -10,9 +10,10 @@ ghost use Rattle.smq_book.specs.declared.present.edit.Edit.{Edit};
 ghost use Rattle.smq_book.specs.declared.present.edit.Edit.TheVariants.{Append, Withdraw, SetForm, AddRoute, EndRoute, CorrectRoute, Advance};
 ghost use Rattle.smq_book.specs.present.Batch.{BatchValue, with_octets, continued};
 ghost use Rattle.smq_book.specs.Known.{KnownClocks, KnownForms, KnownOctets, KnownPieces, KnownReplies, KnownRouteReplies, KnownRoutes, KnownWithdrawals, waiting};
+ghost use Rattle.smq_book.specs.KnownEdits.{KnownEditsWithout, KnownFolds};
 ghost use Rattle.smq_book.specs.present.Present.{PresentValue, session_of, tail_in};
 ghost use Rattle.smq_book.specs.present.Replies.{GoesAfter, IsOfEdits, reply};
-ghost use Rattle.smq_book.specs.present.Steps.{Appends, AppendsCommute, AreAppendedAgain, LeavesNoTrace, SetsForm, AddsRoute, EndsRoute, CorrectsRoute, Advances, Withdraws, change, step};
+ghost use Rattle.smq_book.specs.present.Steps.{Appends, AppendsCommute, AreAppendedAgain, IsAsNeverThere, LeavesNoTrace, SetsForm, AddsRoute, EndsRoute, CorrectsRoute, Advances, Withdraws, change, step};
 ghost use Rattle.smq_book.specs.declared.present.forms.Forms.{Forms};
 ghost use Rattle.smq_book.specs.within.Equal.{forms_eq};
 
@@ -79,9 +80,10 @@ pub fn absent_sessions_have_no_octets()
         session_of p number ≡ None → tail_in p number dir ≡ waiting 0 [] }
 {}
 
-/// How octets are cut into pieces doesn't matter: two batches of one moment, the second on the tail that the first leaves,
-/// are refused or made as their joined batch is, and leave what it leaves. As plain changes they leave its tail, whatever
-/// their moments.
+/// How octets are cut into pieces doesn't matter. Of two batches of one moment, the second on the tail that the first
+/// leaves, the first is refused exactly where their joined batch is, with its refusal. Where the first is made and has
+/// octets, the second is made too, and they leave what the joined batch leaves. Nothing is said of a second batch whose
+/// first was refused. As plain changes they leave the tail of the joined batch, whatever their moments.
 pub fn cutting_changes_nothing()
     ensures refused { (p : PresentValue) (batch : BatchValue) (first second : List ℕ) →
         reply p (Append (with_octets batch first))
@@ -102,11 +104,24 @@ pub fn cutting_changes_nothing()
         ≡ tail_in (change p (Append (with_octets batch (first ++ second)))) batch.session.0 batch.dir }
 {}
 
-/// A withdrawn session leaves no trace: whatever was appended to it, what is present then is what withdrawing it at first
-/// leaves, so its octets can be appended again and leave what they left.
+/// After a withdrawal everything is as though the session had never been: whatever edits were made before, of this session,
+/// of others, of forms, of routes and of the clock, what is present is what those that aren't of the session leave, and its
+/// octets can be appended again and leave what they left.
 pub fn withdrawals_leave_no_trace()
     ensures trace { LeavesNoTrace }
+    ensures never_there { (p : PresentValue) (session : SessionId) (edits : List Edit) →
+        session_of p session.0 ≡ None → IsAsNeverThere p session edits }
     ensures again { AreAppendedAgain }
+{}
+
+/// Which of some edits are of session 10.
+pub fn edits_of_a_known_session()
+    ensures { KnownEditsWithout }
+{}
+
+/// What three edits come to on a new book, where the second is refused and where memory runs out at the first.
+pub fn known_edits_fold()
+    ensures { KnownFolds }
 {}
 
 /// Batches of different sessions are answered and leave the same, whichever is made first.

@@ -1,5 +1,5 @@
 //! The book: it makes an edit or refuses it, and counts what is present from nothing.
-ghost use Rattle.std.specs.Prelude.{◌≡◌, IfOk, IsTrue, map};
+ghost use Rattle.std.specs.Prelude.{◌≡◌, [], ◌∷◌, IfOk, MatchResult, IsTrue, map};
 ghost use Rattle.std.specs.FinMap as fin;
 ghost use Rattle.smq_kit.specs.Orders.{place_cmp};
 ghost use Rattle.smq_tally.specs.Lists.{listed_set};
@@ -7,7 +7,8 @@ ghost use Rattle.smq_kit.specs.Replies.{IsReply};
 ghost use Rattle.smq_book.specs.present.Present.{empty, tail_in};
 ghost use Rattle.smq_book.specs.present.Replies.{reply};
 ghost use Rattle.smq_book.specs.whole.Scratch.{scratch};
-ghost use Rattle.smq_book.specs.present.Steps.{step};
+ghost use Rattle.smq_book.specs.present.Steps.{step, steps};
+ghost use Rattle.smq_book.specs.present.Judged.{judged, AreAnswers, IsAnswer};
 ghost use Rattle.smq_book.specs.within.Lists.{placed_fact};
 
 use crate::join::accepted::Accepted;
@@ -27,7 +28,8 @@ use std::marker::Model;
 pub struct Book {
     alloc: Global,
     present: Present,
-    nothing: Tail,
+    /// That of a direction without octets.
+    empty_tail: Tail,
 }
 
 impl Model for Book {
@@ -41,7 +43,7 @@ impl Model for Book {
 
     ghost view = { λ b. record { present = b.present } };
 
-    ghost invariant = { λ b. b.nothing ≡ tail_of [] };
+    ghost invariant = { λ b. b.empty_tail ≡ tail_of [] };
 }
 
 impl Book {
@@ -52,7 +54,7 @@ impl Book {
         Book {
             alloc,
             present: Present::new(alloc),
-            nothing: Tail::at(0),
+            empty_tail: Tail::at(0),
         }
     }
 
@@ -69,7 +71,7 @@ impl Book {
         ensures { result.now ≡ tail_in self.now.present session.0 dir }
     {
         match self.present.session(session) {
-            None => &self.nothing,
+            None => &self.empty_tail,
             Some(found) => found.direction(dir).tail(),
         }
     }
@@ -115,6 +117,34 @@ impl Book {
         }
     }
 
+    /// Applies edits one after the other, and gives their answers: a refusal, or none where the edit was made. What is
+    /// present then is what those edits leave that weren't refused for want of memory. An error applies none of them: memory
+    /// for the answers is taken first.
+    pub fn apply_all(&mut self, edits: Vec<Edit>) -> Result<Vec<Option<Refusal>>, AllocError>
+        ensures answers { IfOk result (λ answers. AreAnswers self.old.present edits.items answers.items) }
+        ensures present { MatchResult result
+            (λ answers. self.new.present ≡ steps self.old.present (judged edits.items answers.items))
+            (λ _. self.new ≡ self.old) }
+    {
+        let mut answers = Vec::with_capacity(self.alloc, edits.len())?;
+        for edit in edits {
+            let answer = self.answer(edit);
+            answers.push_reserved(answer);
+        }
+        Ok(answers)
+    }
+
+    /// Applies an edit, and gives its answer.
+    fn answer(&mut self, edit: Edit) -> Option<Refusal>
+        ensures value { IsAnswer self.old.present edit result }
+        ensures present { self.new.present ≡ steps self.old.present (judged (edit ∷ []) (result ∷ [])) }
+    {
+        match self.apply(edit) {
+            Ok(()) => None,
+            Err(refusal) => Some(refusal),
+        }
+    }
+
     /// The tables of what is present, counted from nothing.
     pub fn tables(&self) -> Result<Tables, AllocError>
         ensures { IfOk result (λ tables. tables ≡ scratch self.now.present) }
@@ -127,6 +157,20 @@ impl Book {
         let facts = facts_with(self.alloc, &self.present, submits, &accepted, &deciders)?;
         Ok(tally_of(self.alloc, facts, notes)?.into_tables())
     }
+}
+
+/// Applies edits one after the other on a new book, and gives the tables of what is present then, with the edits' answers.
+pub fn tables_of_edits(
+    alloc: Global,
+    edits: Vec<Edit>,
+) -> Result<(Tables, Vec<Option<Refusal>>), AllocError>
+    ensures answers { IfOk result (λ given. AreAnswers empty edits.items given.1.items) }
+    ensures tables { IfOk result (λ given.
+        given.0 ≡ scratch (steps empty (judged edits.items given.1.items))) }
+{
+    let mut book = Book::new(alloc);
+    let answers = book.apply_all(edits)?;
+    Ok((book.tables()?, answers))
 }
 
 /// A tally of these facts, which rise by place, and of these notes.
