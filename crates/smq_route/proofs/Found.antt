@@ -3,14 +3,14 @@ use Rattle.std.proofs.lemmas.Bool.Decides.{nat_tests}
 use Rattle.std.proofs.lemmas.Bool.{false≢true}
 use Rattle.std.proofs.Common.{◌≡◌, ◌<◌, ◌≤◌, ◌+◌, ℕ, Bool, true, false, cond, ◌⊎◌, inl, inr, List, [], ◌∷◌, length, take, length-take-le, Option, Some, None, subst, refl, sym, ap, ◌∙◌, arith}
 use Rattle.std.specs.Prelude.{◌&&◌, nat_lt, nat_le, map, filter, option_map}
-use Rattle.std.specs.List.{AllByRecursion}
+use Rattle.std.specs.List.{AllByRecursion, find}
 use Rattle.std.specs.Cmp.Lexicographic.{bytes_decides}
 use Rattle.std.specs.FinMap.{entries, get, get-entries}
 use Rattle.smq_kit.proofs.MapLemmas as maps
 use Rattle.smq_kit.specs.declared.names.RouteId.{RouteId}
 use Rattle.smq_route.specs.declared.version.VersionKey.{VersionKey}
 use Rattle.smq_route.specs.declared.version.Version.{Version}
-use Rattle.smq_route.specs.Versions.{Versions, key_at, version_of, lasts_past, holds, begins, serves, version_at, route_at, least, AreApart}
+use Rattle.smq_route.specs.Versions.{Versions, key_at, version_of, lasts_past, holds, begins, serves, version_at, route_at, is_longest, least, AreApart}
 use Rattle.smq_route.specs.within.Kept.{NoneHolds}
 use Rattle.smq_route.proofs.VersionOrders.{versions_total, versions_exact}
 use Rattle.smq_route.proofs.Least.{Entry, AllPassing, IsShorter, longest-found, longest-none, no-longest, none-pass}
@@ -154,3 +154,36 @@ pub absent-route : (m : Versions) (number p : List ℕ) (t f : ℕ) (v : Version
 absent-route m number p t f v none there =
     let empty : filter (serves number t) (entries m) ≡ [] = no-longest (filter (serves number t) (entries m)) (none-before (version_at m number t) none) in
     none-pass (serves number t) (entries m) (ap (λ (es : List Entry). least (map (λ e. e.0.from) es)) empty) (key_at p f) v (sym (get-entries m (key_at p f)) ∙ there)
+
+-- what passes a test is of the list
+passing : (P : Entry → Type 0) (test : Entry → Bool) (es : List Entry) → AllByRecursion P es → AllByRecursion (λ e. P e × (test e ≡ true)) (filter test es)
+passing P test [] a = tt
+passing P test (e ∷ es) a =
+    elim (test e) as (λ b. test e ≡ b → AllByRecursion (λ e. P e × (test e ≡ true)) (cond b (e ∷ filter test es) (filter test es))) [
+      | true ↦ λ p. ((a.0, p), passing P test es a.1)
+      | false ↦ λ p. passing P test es a.1
+    ] refl
+
+-- what is found is of the list
+found-in : (P : Entry → Type 0) (test : Entry → Bool) (es : List Entry) (e : Entry) → AllByRecursion P es → find test es ≡ Some e → P e
+found-in P test [] e a f = absurd cc
+found-in P test (x ∷ es) e a f =
+    elim (test x) as (λ b. cond b (Some x) (find test es) ≡ Some e → P e) [
+      | true ↦ λ is. subst P (let same : x ≡ e = cc in same) a.0
+      | false ↦ λ later. found-in P test es e a.1 later
+    ] f
+
+told-of : (o : Option Entry) (told : RouteId × List ℕ) → option_map {U = RouteId × List ℕ} (λ e. (e.1.route, e.1.network)) o ≡ Some told
+    → (e : Entry) × (o ≡ Some e) × ((e.1.route, e.1.network) ≡ told)
+told-of None told h = absurd cc
+told-of (Some e) told h = (e, refl, let same : (e.1.route, e.1.network) ≡ told = cc in same)
+
+-- the route that is told is that of a version which serves
+pub route-witness : (m : Versions) (number : List ℕ) (t : ℕ) (told : RouteId × List ℕ) → route_at m number t ≡ Some told
+    → (p : List ℕ) × (f : ℕ) × (v : Version) × (version_of m p f ≡ Some v) × (serves number t (key_at p f, v) ≡ true) × ((v.route, v.network) ≡ told)
+route-witness m number t told h =
+    let one = told-of (version_at m number t) told h in
+    let e = one.0 in
+    let is = found-in (λ e. (get m e.0 ≡ Some e.1) × (serves number t e ≡ true)) (is_longest (filter (serves number t) (entries m))) (filter (serves number t) (entries m)) e
+    (passing (λ e. get m e.0 ≡ Some e.1) (serves number t) (entries m) (maps.get-entry versions_total versions_exact m)) one.1 in
+    (e.0.prefix, e.0.from, e.1, is.0, is.1, one.2)

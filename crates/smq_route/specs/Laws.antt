@@ -85,7 +85,8 @@ pub record OrderIsIdle : Type 0 where
       → added (added versions p f r n) q g s m ≡ added (added versions q g s m) p f r n
 
 -- The route of a number is that of the version which holds and begins it, where no other such one has a longer prefix.
--- Where there is none the number has no route, and nowhere else.
+-- Where there is none the number has no route, and nowhere else. What is told is the route of a version that holds and
+-- begins it.
 pub record IsOfLongest : Type 0 where
   pub found : (versions : Versions) (number prefix : List ℕ) (t from : ℕ) (v : Version) → AreApart versions
       → version_of versions prefix from ≡ Some v → serves number t (key_at prefix from, v) ≡ true
@@ -99,6 +100,10 @@ pub record IsOfLongest : Type 0 where
   pub only_there : (versions : Versions) (number prefix : List ℕ) (t from : ℕ) (v : Version)
       → route_at versions number t ≡ None → version_of versions prefix from ≡ Some v
       → serves number t (key_at prefix from, v) ≡ false
+  pub witness : (versions : Versions) (number : List ℕ) (t : ℕ) (told : RouteId × List ℕ)
+      → route_at versions number t ≡ Some told
+      → (prefix : List ℕ) × (from : ℕ) × (v : Version) × (version_of versions prefix from ≡ Some v)
+      × (serves number t (key_at prefix from, v) ≡ true) × ((v.route, v.network) ≡ told)
 
 -- What a new version overlaps first is the least beginning of the versions of its prefix that are open or end after the
 -- new one begins. Where there is none it overlaps nothing, and nowhere else.

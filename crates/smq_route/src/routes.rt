@@ -23,7 +23,8 @@ use std::marker::Model;
 #[derive(Drop)]
 pub struct Routes {
     versions: BTreeMap<VersionKey, Version>,
-    /// No prefix has more digits, so no number is looked up by more.
+    /// No prefix has more digits, so no number is looked up by more. A version that was refused may have raised it, which
+    /// costs searches and changes no answer.
     most_digits: usize,
 }
 
