@@ -22,7 +22,8 @@ use Rattle.smq_book.specs.within.Accepted.{number_accepted}
 use Rattle.smq_book.specs.within.Listings.{list_by, note_of, stands_at}
 use Rattle.smq_book.specs.within.Messages.{SubmittedMessage}
 use Rattle.smq_book.specs.within.Receipts.{KeyedReceipt, candidates, least_receipt}
-use Rattle.smq_book.proofs.AgreeLists.{message_entry, receipt_from, receipt_entry, Keyed, KeyedReceipts}
+use Rattle.smq_book.specs.within.Outcomes.{received}
+use Rattle.smq_book.proofs.AgreeLists.{message_entry, receipt_entry, Keyed, KeyedReceipts}
 use Rattle.smq_book.proofs.AgreeFacts.{matches-agree, decider-of}
 
 -- the standing of a receipt, by how many messages are accepted with its key, whether it decides and whether it can
@@ -61,7 +62,7 @@ module _ (s : SettingsValue) (xs : List SubmittedMessage) (rs : List KeyedReceip
   decides-agree : (place : Place) (key : LinkKey) → is_decider groups place key ≡ stands_at (least_receipt (candidates key rs)) place
   decides-agree place key = ap (λ d. same_option (eq_by_cmp place_cmp) d (Some place)) (decider-of s xs rs notes keyed receipts_keyed messages_sorted receipts_sorted key)
 
-  listing-agrees : (e : KeyedReceipt) → receipt_key s (receipt_from e) ≡ e.0 → option_to_list (receipt_listing groups (e.1.place, keyed_receipt s (receipt_from e))) ≡ note_of xs rs e
+  listing-agrees : (e : KeyedReceipt) → receipt_key s (received e.1) ≡ e.0 → option_to_list (receipt_listing groups (e.1.place, keyed_receipt s (received e.1))) ≡ note_of xs rs e
   listing-agrees e h =
       ap (λ key. listing_at e.1.place key (can_decide e.1.receipt)) h
       ∙ (λ i. option_to_list (option_map (λ list. listed list e.1.place) (list_of_standing (standing_by (matches-agree s xs rs notes keyed receipts_keyed messages_sorted receipts_sorted e.0 i) (decides-agree e.1.place e.0 i) (can_decide e.1.receipt)))))

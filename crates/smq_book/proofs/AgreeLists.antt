@@ -28,6 +28,7 @@ use Rattle.smq_book.specs.join.Matching.{Candidate, earlier}
 use Rattle.smq_book.specs.within.Accepted.{accepted_with, number_accepted}
 use Rattle.smq_book.specs.within.Messages as listed
 use Rattle.smq_book.specs.within.Messages.{SubmittedMessage, response_of, submit_by}
+use Rattle.smq_book.specs.within.Outcomes.{message_from, received}
 use Rattle.smq_book.specs.within.Receipts as receipts
 use Rattle.smq_book.specs.within.Receipts.{PlacedReceipt, KeyedReceipt, receipt_by}
 
@@ -47,17 +48,11 @@ response-same client centre before after i p all many =
 
 -- ---- entries of what is read as lists
 
-abbrev pub message_from : SubmittedMessage → Message
-message_from s = record { link = s.link; moment = s.moment; number = s.number; asks_receipt = s.asks_receipt; response = option_map (response_in s.header) s.response }
-
 abbrev pub message_entry : SubmittedMessage → Place × Message
 message_entry s = (s.place, message_from s)
 
-abbrev pub receipt_from : KeyedReceipt → ReceivedReceipt
-receipt_from e = record { link = e.0.link; moment = e.1.moment; receipt = e.1.receipt }
-
 abbrev pub receipt_entry : KeyedReceipt → Place × ReceivedReceipt
-receipt_entry e = (e.1.place, receipt_from e)
+receipt_entry e = (e.1.place, received e.1)
 
 abbrev pub origin_in : Source → Origin
 origin_in source = record { session = source.session; link = source.link }
@@ -99,7 +94,7 @@ Keyed s (x ∷ xs) = (accepted_key s (message_from x) ≡ x.key) × Keyed s xs
 
 abbrev pub KeyedReceipts : SettingsValue → List KeyedReceipt → Type 0
 KeyedReceipts s [] = Unit {0}
-KeyedReceipts s (x ∷ xs) = (receipt_key s (receipt_from x) ≡ x.0) × KeyedReceipts s xs
+KeyedReceipts s (x ∷ xs) = (receipt_key s (received x.1) ≡ x.0) × KeyedReceipts s xs
 
 pub keyed-append : (s : SettingsValue) (xs ys : List SubmittedMessage) → Keyed s xs → Keyed s ys → Keyed s (xs ++ ys)
 keyed-append s [] ys h k = k
@@ -163,8 +158,8 @@ pub candidates-agree : (s : SettingsValue) (key : LinkKey) (xs : List KeyedRecei
 candidates-agree s key [] h = refl
 candidates-agree s key (x ∷ xs) h =
     let rest = flat_map (kept_of (λ place r. Some (keyed_receipt s r))) (map receipt_entry xs) in
-    (λ i. map (λ e. (e.1.moment, e.0)) (cond (same_key key (h.0 i) && can_decide x.1.receipt) ((x.1.place, keyed_receipt s (receipt_from x)) ∷ filter (λ e. same_key key e.1.key && e.1.decides) rest) (filter (λ e. same_key key e.1.key && e.1.decides) rest)))
-    ∙ elim (same_key key x.0 && can_decide x.1.receipt) as (λ b. map (λ e. (e.1.moment, e.0)) (cond b ((x.1.place, keyed_receipt s (receipt_from x)) ∷ filter (λ e. same_key key e.1.key && e.1.decides) rest) (filter (λ e. same_key key e.1.key && e.1.decides) rest))
+    (λ i. map (λ e. (e.1.moment, e.0)) (cond (same_key key (h.0 i) && can_decide x.1.receipt) ((x.1.place, keyed_receipt s (received x.1)) ∷ filter (λ e. same_key key e.1.key && e.1.decides) rest) (filter (λ e. same_key key e.1.key && e.1.decides) rest)))
+    ∙ elim (same_key key x.0 && can_decide x.1.receipt) as (λ b. map (λ e. (e.1.moment, e.0)) (cond b ((x.1.place, keyed_receipt s (received x.1)) ∷ filter (λ e. same_key key e.1.key && e.1.decides) rest) (filter (λ e. same_key key e.1.key && e.1.decides) rest))
     ≡ map candidate_of (map (λ e. e.1) (cond b (x ∷ filter (λ e. same_key key e.0 && can_decide e.1.receipt) xs) (filter (λ e. same_key key e.0 && can_decide e.1.receipt) xs)))) [
       | true ↦ ap (λ t. candidate_of x.1 ∷ t) (candidates-agree s key xs h.1)
       | false ↦ candidates-agree s key xs h.1

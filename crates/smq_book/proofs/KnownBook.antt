@@ -55,11 +55,10 @@ use Rattle.smq_book.specs.Known.{known_session, other_session, far_session, know
 use Rattle.smq_book.specs.present.Kept.{kept_pdus}
 use Rattle.smq_book.specs.present.Settings.{opening_forms, forms_of}
 use Rattle.smq_book.specs.pairing.Traffic.{traffic_of, Origin, notes_among, broken_notes, session_notes}
-use Rattle.smq_book.specs.join.Facts.{facts_of}
+use Rattle.smq_book.specs.join.Facts.{fact_by, facts_of}
 use Rattle.smq_book.specs.within.Lists.{session_submits, session_receipts, submits_of, receipts_of, notes_of, facts_listed, receipt_notes_listed, placed_fact}
 use Rattle.smq_book.specs.within.Messages.{SubmittedMessage, submits_among}
-use Rattle.smq_book.specs.within.Accepted.{is_ambiguous, decider_of}
-use Rattle.smq_book.specs.within.Outcomes.{fact_by, has_lapsed}
+use Rattle.smq_book.specs.within.Outcomes.{message_from, circumstances_of}
 use Rattle.smq_book.specs.within.Receipts.{KeyedReceipt, receipts_among}
 use Rattle.smq_book.specs.within.Listings.{note_of}
 use Rattle.smq_book.specs.whole.Scratch.{scratch}
@@ -170,7 +169,7 @@ receipts-are =
 
 abbrev facts : List Fact
 facts =
-    record (fact_of 10 1 0 o.Delivered None) { route = Some (record { 0 = 3 }); network = Some (codes "23410"); link_delay = Some b.Under5Seconds; centre_delay = Some b.Over }
+    record (fact_of 10 1 0 o.Delivered None) { route = Some (record { 0 = 3 }, codes "23410"); link_delay = Some b.Under5Seconds; centre_delay = Some b.Over }
     ∷ record (fact_of 10 1 45 o.Failed (Some (s.Failed (e.Text (codes "027"))))) { link_delay = Some b.Under30Seconds }
     ∷ fact_of 65546 65537 0 o.Ambiguous None
     ∷ fact_of 65546 65537 33 o.Ambiguous None
@@ -182,7 +181,7 @@ route_from versions s = option_and_then (λ number. option_map (λ e. (e.1.route
 
 -- the facts of messages, where these are the versions
 abbrev facts_from : List (VersionKey × Version) → List SubmittedMessage → List KeyedReceipt → List Fact
-facts_from versions submits receipts = map (λ s. fact_by s (route_from versions s) (has_lapsed known_book.settings s) (is_ambiguous submits s.key) (decider_of submits receipts s.key)) submits
+facts_from versions submits receipts = map (λ m. fact_by m.place (message_from m) (record (circumstances_of known_book.settings submits receipts m) { route = route_from versions m })) submits
 
 versions-are : entries known_book.settings.versions ≡ nested_versions
 versions-are = entries-from_entries versions_total versions_exact nested_versions tt

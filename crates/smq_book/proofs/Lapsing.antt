@@ -70,8 +70,7 @@ fact-lapses q m c b =
     λ i. record {
       place = q;
       link = m.link;
-      route = option_map (λ r. r.0) c.route;
-      network = option_map (λ r. r.1) c.route;
+      route = c.route;
       outcome = outcome i;
       error = (ap (λ x. error_by x m.response c.decider) outcome ∙ error-stays b (outcome_by m c) m.response c.decider) i;
       link_delay = (ap (λ x. link_delay_by x m.moment c.decider) outcome ∙ ap (λ z. cond z (option_map (λ r. band_of (pos r.moment -ℤ pos m.moment)) c.decider) None) decided) i;

@@ -37,7 +37,7 @@ routes_in s t q m found fact is made = let one : Some (fact_by q m (circumstance
 
 -- the fact of a message has the route and network of its number at its moment
 pub route-told : (s : SettingsValue) (t : TrafficValue) (q : Place) (m : Message) (fact : Fact) → get t.messages q ≡ Some m → get (facts_of s t) q ≡ Some fact
-    → (fact.route ≡ option_map (λ r. r.0) (route_in s.versions m)) × (fact.network ≡ option_map (λ r. r.1) (route_in s.versions m))
+    → fact.route ≡ route_in s.versions m
 route-told s t q m fact is made =
     let one : fact_by q m (circumstances s t m) ≡ fact = routes_in s t q m (get t.messages q) fact is (sym (fact-at s t q) ∙ made) in
-    (ap (λ (f : Fact). f.route) (sym one), ap (λ (f : Fact). f.network) (sym one))
+    ap (λ (f : Fact). f.route) (sym one)

@@ -411,7 +411,6 @@ fact_of session link offset outcome error = record {
   place = record { session = record { 0 = session }; dir = FromClient; offset = offset };
   link = record { 0 = link };
   route = None;
-  network = None;
   outcome = outcome;
   error = error;
   link_delay = None;
@@ -594,7 +593,6 @@ pub record KnownOutcomes : Type 0 where
         place = record { session = record { 0 = 10 }; dir = FromClient; offset = 49 };
         link = record { 0 = 1 };
         route = None;
-        network = None;
         outcome = o.Waiting;
         error = None;
         link_delay = None;
@@ -761,8 +759,7 @@ pub record KnownFigures : Type 0 where
   pub facts :
       map.values (facts_of known_book.settings (traffic_of known_book.sessions))
       ≡ record (fact_of 10 1 0 o.Delivered None) {
-        route = Some (record { 0 = 3 });
-        network = Some (codes "23410");
+        route = Some (record { 0 = 3 }, codes "23410");
         link_delay = Some b.Under5Seconds;
         centre_delay = Some b.Over;
       }

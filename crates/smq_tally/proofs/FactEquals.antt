@@ -1,6 +1,7 @@
 -- What `==` calls one fact is one: part by part.
 use Rattle.std.proofs.Common.{◌≡◌, ℕ, Bool, List, Option, Some, None, refl, ap, rules}
 use Rattle.std.specs.Bool.{Decides}
+use Rattle.std.specs.Prelude.{◌&&◌}
 use Rattle.std.specs.Option.{option_eq}
 use Rattle.std.proofs.lemmas.Bool.Decides.{Decides-and, Decides-like}
 use Rattle.smq_kit.specs.declared.place.Place.{Place}
@@ -31,6 +32,12 @@ routes a b = search rules
 networks : (a b : List ℕ) → Decides (network_eq.ghosts.eq a b) (a ≡ b)
 networks a b = search rules
 
+-- a route and its network
+routed : (a b : RouteId × List ℕ) → Decides (route_eq.ghosts.eq a.0 b.0 && network_eq.ghosts.eq a.1 b.1) (a ≡ b)
+routed a b =
+    Decides-like (route_eq.ghosts.eq a.0 b.0 && network_eq.ghosts.eq a.1 b.1) (λ p i. (p.0 i, p.1 i)) (λ e. (ap (λ x. x.0) e, ap (λ x. x.1) e))
+    (Decides-and _ _ (routes a.0 b.0) (networks a.1 b.1))
+
 outcomes : (a b : Outcome) → Decides (outcome_eq.ghosts.eq a b) (a ≡ b)
 outcomes a b = search rules
 
@@ -48,16 +55,16 @@ options {X} eq decides (Some x) (Some y) = Decides-like (eq x y) (λ h. ap (λ (
 
 -- each part of two facts is one
 abbrev Parts : Fact → Fact → Type 0
-Parts a b = (a.place ≡ b.place) × ((a.link ≡ b.link) × ((a.route ≡ b.route) × ((a.network ≡ b.network) × ((a.outcome ≡ b.outcome) × ((a.error ≡ b.error) × ((a.link_delay ≡ b.link_delay) × (a.centre_delay ≡ b.centre_delay)))))))
+Parts a b = (a.place ≡ b.place) × ((a.link ≡ b.link) × ((a.route ≡ b.route) × ((a.outcome ≡ b.outcome) × ((a.error ≡ b.error) × ((a.link_delay ≡ b.link_delay) × (a.centre_delay ≡ b.centre_delay))))))
 
 parts_decide : (a b : Fact) → Decides (fact_eq a b) (Parts a b)
-parts_decide a b = Decides-and _ _ (places a.place b.place) (Decides-and _ _ (links a.link b.link) (Decides-and _ _ (options _ routes a.route b.route) (Decides-and _ _ (options _ networks a.network b.network) (Decides-and _ _ (outcomes a.outcome b.outcome) (Decides-and _ _ (options _ errors a.error b.error) (Decides-and _ _ (options _ bands a.link_delay b.link_delay) (options _ bands a.centre_delay b.centre_delay)))))))
+parts_decide a b = Decides-and _ _ (places a.place b.place) (Decides-and _ _ (links a.link b.link) (Decides-and _ _ (options _ routed a.route b.route) (Decides-and _ _ (outcomes a.outcome b.outcome) (Decides-and _ _ (options _ errors a.error b.error) (Decides-and _ _ (options _ bands a.link_delay b.link_delay) (options _ bands a.centre_delay b.centre_delay))))))
 
 one : (a b : Fact) → Parts a b → a ≡ b
-one a b p = λ i. record { place = p.0 i; link = p.1.0 i; route = p.1.1.0 i; network = p.1.1.1.0 i; outcome = p.1.1.1.1.0 i; error = p.1.1.1.1.1.0 i; link_delay = p.1.1.1.1.1.1.0 i; centre_delay = p.1.1.1.1.1.1.1 i }
+one a b p = λ i. record { place = p.0 i; link = p.1.0 i; route = p.1.1.0 i; outcome = p.1.1.1.0 i; error = p.1.1.1.1.0 i; link_delay = p.1.1.1.1.1.0 i; centre_delay = p.1.1.1.1.1.1 i }
 
 parts : (a b : Fact) → a ≡ b → Parts a b
-parts a b e = (ap (λ f. f.place) e, (ap (λ f. f.link) e, (ap (λ f. f.route) e, (ap (λ f. f.network) e, (ap (λ f. f.outcome) e, (ap (λ f. f.error) e, (ap (λ f. f.link_delay) e, ap (λ f. f.centre_delay) e)))))))
+parts a b e = (ap (λ f. f.place) e, (ap (λ f. f.link) e, (ap (λ f. f.route) e, (ap (λ f. f.outcome) e, (ap (λ f. f.error) e, (ap (λ f. f.link_delay) e, ap (λ f. f.centre_delay) e))))))
 
 pub facts_decide : (a b : Fact) → Decides (fact_eq a b) (a ≡ b)
 facts_decide a b = Decides-like (fact_eq a b) (one a b) (parts a b) (parts_decide a b)

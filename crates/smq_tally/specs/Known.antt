@@ -163,8 +163,8 @@ pub record KnownDelays : Type 0 where
 
 -- ---- small tables
 
-abbrev pub known_route : Option RouteId
-known_route = Some (record { 0 = 65538 })
+abbrev pub known_route : List ℕ → Option (RouteId × List ℕ)
+known_route network = Some (record { 0 = 65538 }, network)
 
 -- two that were delivered, one of them before it was sent; one that failed; one that is open and one that lapsed
 abbrev pub known_facts : List (Place × Fact)
@@ -173,8 +173,7 @@ known_facts = (
   record {
     place = place_at 1 FromClient 0;
     link = record { 0 = 7 };
-    route = known_route;
-    network = Some (codes "20801");
+    route = known_route (codes "20801");
     outcome = o.Delivered;
     error = None;
     link_delay = Some b.Under5Seconds;
@@ -186,8 +185,7 @@ known_facts = (
       record {
         place = place_at 1 FromClient 90;
         link = record { 0 = 7 };
-        route = known_route;
-        network = Some (codes "23415");
+        route = known_route (codes "23415");
         outcome = o.Delivered;
         error = None;
         link_delay = Some b.Early;
@@ -200,7 +198,6 @@ known_facts = (
         place = place_at 1 FromClient 180;
         link = record { 0 = 7 };
         route = None;
-        network = None;
         outcome = o.Open;
         error = None;
         link_delay = None;
@@ -212,8 +209,7 @@ known_facts = (
       record {
         place = place_at 2 FromClient 0;
         link = record { 0 = 70000 };
-        route = known_route;
-        network = Some (codes "20801");
+        route = known_route (codes "20801");
         outcome = o.Failed;
         error = Some (s.Failed (e.Text (codes "012")));
         link_delay = Some b.Under5Seconds;
@@ -226,7 +222,6 @@ known_facts = (
         place = place_at 2 FromClient 90;
         link = record { 0 = 70000 };
         route = None;
-        network = None;
         outcome = o.Lapsed;
         error = None;
         link_delay = None;

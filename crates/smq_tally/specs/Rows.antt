@@ -33,21 +33,21 @@ view_place v.Error = 3
 view_place v.LinkDelay = 4
 view_place v.CentreDelay = 5
 
--- what a message is counted by whose number has this route, or none
-abbrev pub route_value : Option RouteId → Value
+-- what a message is counted by whose number has this route and network, or neither: the route
+abbrev pub route_value : Option (RouteId × List ℕ) → Value
 route_value None = w.NoRoute
-route_value (Some route) = w.Route route
+route_value (Some r) = w.Route r.0
 
--- the same of its network, by the octets of its code
-abbrev pub network_value : Option (List ℕ) → Value
+-- the same of the network, by the octets of its code
+abbrev pub network_value : Option (RouteId × List ℕ) → Value
 network_value None = w.NoNetwork
-network_value (Some network) = w.Network network
+network_value (Some r) = w.Network r.1
 
 -- what a message is counted by in a view, if it has a value there
 abbrev pub value_in : View → Fact → Option Value
 value_in v.Link f = Some (w.Link f.link)
 value_in v.Route f = Some (route_value f.route)
-value_in v.Network f = Some (network_value f.network)
+value_in v.Network f = Some (network_value f.route)
 value_in v.Error f = option_map w.Error f.error
 value_in v.LinkDelay f = option_map w.Band f.link_delay
 value_in v.CentreDelay f = option_map w.Band f.centre_delay

@@ -13,10 +13,8 @@ pub struct Fact {
     pub place: Place,
     /// The link of its session.
     pub link: LinkId,
-    /// The route of its number at its moment. None where no version holds, or it has no number.
-    pub route: Option<RouteId>,
-    /// The network of its number at its moment, where it has a route.
-    pub network: Option<Network>,
+    /// The route and network of its number at its moment. None where no version holds, or it has no number.
+    pub route: Option<(RouteId, Network)>,
     /// What became of it.
     pub outcome: Outcome,
     /// Why it failed, where it was refused or failed.
@@ -89,28 +87,28 @@ fn value_of(view: View, fact: &Fact) -> Option<Value>
 {
     match view {
         View::Link => Some(Value::Link(fact.link)),
-        View::Route => Some(route_value(fact.route)),
-        View::Network => Some(network_value(fact.network.as_ref())),
+        View::Route => Some(route_value(fact.route.as_ref())),
+        View::Network => Some(network_value(fact.route.as_ref())),
         View::Error => fact.error.as_ref().map(|error| Value::Error(error.copy())),
         View::LinkDelay => fact.link_delay.map(Value::Band),
         View::CentreDelay => fact.centre_delay.map(Value::Band),
     }
 }
 
-fn route_value(route: Option<RouteId>) -> Value
-    ensures { result ≡ rows.route_value route }
+fn route_value(route: Option<&(RouteId, Network)>) -> Value
+    ensures { result ≡ rows.route_value (option_copied route.entry) }
 {
     match route {
-        Some(route) => Value::Route(route),
+        Some((route, _)) => Value::Route(*route),
         None => Value::NoRoute,
     }
 }
 
-fn network_value(network: Option<&Network>) -> Value
-    ensures { result ≡ rows.network_value (option_copied network.entry) }
+fn network_value(route: Option<&(RouteId, Network)>) -> Value
+    ensures { result ≡ rows.network_value (option_copied route.entry) }
 {
-    match network {
-        Some(network) => Value::Network(network.copy()),
+    match route {
+        Some((_, network)) => Value::Network(network.copy()),
         None => Value::NoNetwork,
     }
 }

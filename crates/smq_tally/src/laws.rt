@@ -27,16 +27,17 @@ use std::cmp::Ordering;
 pub fn messages_are_counted_once_in_a_view()
     ensures link { (fact : Fact) → value_in View.Link fact ≡ Some (Value.Link fact.link) }
     ensures route { (fact : Fact) → value_in View.Route fact ≡ Some (route_value fact.route) }
-    ensures network { (fact : Fact)
-        → value_in View.Network fact ≡ Some (network_value fact.network) }
+    ensures network { (fact : Fact) → value_in View.Network fact ≡ Some (network_value fact.route) }
     ensures error { (fact : Fact) → value_in View.Error fact ≡ option_map Value.Error fact.error }
     ensures link_delay { (fact : Fact)
         → value_in View.LinkDelay fact ≡ option_map Value.Band fact.link_delay }
     ensures centre_delay { (fact : Fact)
         → value_in View.CentreDelay fact ≡ option_map Value.Band fact.centre_delay }
-    ensures a_route { (route : RouteId) → route_value (Some route) ≡ Value.Route route }
+    ensures a_route { (route : RouteId) (network : Network)
+        → route_value (Some (route, network)) ≡ Value.Route route }
     ensures no_route { route_value None ≡ Value.NoRoute }
-    ensures a_network { (network : Network) → network_value (Some network) ≡ Value.Network network }
+    ensures a_network { (route : RouteId) (network : Network)
+        → network_value (Some (route, network)) ≡ Value.Network network }
     ensures no_network { network_value None ≡ Value.NoNetwork }
     ensures once { (fact : Fact) (view : View) (value : Value) (outcome : Outcome)
         → IsTrue (stands_in (count_key view value outcome) fact)

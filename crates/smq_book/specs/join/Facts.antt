@@ -1,5 +1,5 @@
 -- What is known of each message.
-use Rattle.std.specs.Prelude.{ℕ, Bool, List, if◌then◌else◌, Option, Some, option_map}
+use Rattle.std.specs.Prelude.{ℕ, Bool, List, if◌then◌else◌, Option, Some}
 use Rattle.std.specs.FinMap as map
 use Rattle.smq_kit.specs.declared.names.RouteId.{RouteId}
 use Rattle.smq_kit.specs.declared.place.Place.{Place}
@@ -18,8 +18,7 @@ abbrev pub fact_by : Place → Message → Circumstances → Fact
 fact_by place m c = record {
   place = place;
   link = m.link;
-  route = option_map (λ r. r.0) c.route;
-  network = option_map (λ r. r.1) c.route;
+  route = c.route;
   outcome = outcome_by m c;
   error = error_by (outcome_by m c) m.response c.decider;
   link_delay = link_delay_by (outcome_by m c) m.moment c.decider;
@@ -28,7 +27,7 @@ fact_by place m c = record {
 
 -- a fact with this route and network, or neither
 abbrev pub with_route : Option (RouteId × List ℕ) → Fact → Fact
-with_route route f = record f { route = option_map (λ r. r.0) route; network = option_map (λ r. r.1) route }
+with_route route f = record f { route = route }
 
 -- what becomes of an open or lapsed message by whether it has lapsed; any other outcome stays
 abbrev pub by_lapse : Bool → Outcome → Outcome

@@ -1,5 +1,5 @@
 -- Which receipts decide which submitted messages.
-use Rattle.std.specs.Prelude.{◌≡◌, ℕ, ◌==◌, not, Bool, false, List, count_by, if◌then◌else◌, Option, Some, None, option_to_list, unwrap_or}
+use Rattle.std.specs.Prelude.{◌≡◌, ℕ, ◌==◌, Bool, List, count_by, if◌then◌else◌, Option, Some, None, option_to_list, unwrap_or}
 use Rattle.std.specs.List.{list_any}
 use Rattle.std.specs.BTreeMap.{BTreeMap}
 use Rattle.std.specs.FinMap as map
@@ -20,11 +20,6 @@ number_accepted key submits = count_by (accepted_with key) submits
 -- a key is single where one submitted message is accepted with it and no other
 abbrev pub is_single : List SubmittedMessage → LinkKey → Bool
 is_single submits key = number_accepted key submits == 1
-
--- a submitted message is ambiguous where it is accepted and its key isn't single
-abbrev pub is_ambiguous : List SubmittedMessage → Option LinkKey → Bool
-is_ambiguous submits None = false
-is_ambiguous submits (Some key) = not (is_single submits key)
 
 -- the deciding receipt of a submitted message whose key is single: the least that can decide
 abbrev pub decider_of : List SubmittedMessage → List KeyedReceipt → Option LinkKey → Option PlacedReceipt

@@ -3,6 +3,7 @@ use Rattle.std.specs.Prelude.{ℕ, ◌&&◌, List, [], ◌∷◌, map, filter, O
 use Rattle.std.specs.List.{flat_map, reduce}
 use Rattle.std.specs.declared.cmp.Ordering.{Ordering}
 use Rattle.std.specs.Ordering.{nat_cmp, ordering_then, min_by_ordering}
+use Rattle.smq_kit.specs.declared.names.LinkId.{LinkId}
 use Rattle.smq_kit.specs.declared.place.Dir.TheVariants.{FromCentre}
 use Rattle.smq_kit.specs.declared.place.Place.{Place}
 use Rattle.smq_kit.specs.Orders.{place_cmp}
@@ -16,6 +17,7 @@ use Rattle.smq_kit.specs.LinkKeys.{link_key, same_key}
 
 -- a delivery receipt: a deliver_sm of the centre (SMPP 3.4, 4.6.1) that says what became of a message
 pub record PlacedReceipt : Type 0 where
+  pub link : LinkId
   pub place : Place
   pub moment : ℕ
   pub receipt : Receipt
@@ -29,6 +31,7 @@ abbrev pub keyed_receipt : Source → KeptPdu → Receipt → KeyedReceipt
 keyed_receipt source p receipt = (
   link_key source.link source.forms.receipt receipt.id,
   record {
+    link = source.link;
     place = record { session = source.session; dir = FromCentre; offset = p.offset };
     moment = p.moment;
     receipt = receipt;

@@ -1,15 +1,19 @@
 //! What is known of the submitted messages. Outcomes are tested in the order of their table; who adds one tests it at
-//! the place that it has there, in specs/join/Outcomes.antt and in specs/within/Outcomes.antt.
-ghost use Rattle.std.specs.Prelude.{◌≡◌, List, IfOk};
+//! the place that it has there, in specs/join/Outcomes.antt.
+ghost use Rattle.std.specs.Prelude.{◌≡◌, ℕ, List, Option, option_map, IfOk};
 ghost use Rattle.std.specs.Option.{option_copied};
 ghost use Rattle.std.specs.FinMap as map;
-ghost use Rattle.smq_book.specs.join.Facts as by_place;
+ghost use Rattle.smq_kit.specs.declared.names.RouteId.{RouteId};
+ghost use Rattle.smq_book.specs.join.Facts as facts;
+ghost use Rattle.smq_book.specs.join.Matching.{Standing};
 ghost use Rattle.smq_book.specs.join.Outcomes as outcomes;
+ghost use Rattle.smq_book.specs.join.Outcomes.{is_shared};
 ghost use Rattle.smq_book.specs.pairing.Traffic.{traffic_of};
 ghost use Rattle.smq_book.specs.within.Accepted.{HasNumbers, HasDeciders};
-ghost use Rattle.smq_book.specs.within.Lists.{facts_listed, receipts_of, submits_of};
+ghost use Rattle.smq_book.specs.within.Lists.{receipts_of, submits_of};
 ghost use Rattle.smq_book.specs.within.Messages.{SubmittedMessage as Submit};
 ghost use Rattle.smq_book.specs.within.Outcomes as listed;
+ghost use Rattle.smq_book.specs.within.Outcomes.{circumstances_by, message_from, received};
 ghost use Rattle.smq_book.specs.within.Receipts.{KeyedReceipt};
 
 use crate::join::accepted::Accepted;
@@ -17,7 +21,7 @@ use crate::join::deciders::Deciders;
 use crate::join::receipts::PlacedReceipt;
 use crate::join::submits::SubmittedMessage;
 use crate::present::settings::Settings;
-use crate::{Band, Fact, KeptPdu, Outcome, Present, SubmitError};
+use crate::{Band, Fact, Outcome, Present, SubmitError};
 use smq_kit::{Network, RouteId};
 use smq_pdu::agrees;
 use smq_receipt::MessageState;
@@ -36,40 +40,9 @@ pub(crate) fn facts_with(
     requires numbers { HasNumbers accepted.now.numbers submits.now }
     requires deciders { HasDeciders deciders.now.receipts (receipts_of present.now) }
     ensures { IfOk result (λ made. made.items
-        ≡ map.values (by_place.facts_of present.now.settings (traffic_of present.now.sessions))) }
+        ≡ map.values (facts.facts_of present.now.settings (traffic_of present.now.sessions))) }
 {
-    joined(alloc, present, submits, accepted, deciders)
-}
-
-/// The submitted messages joined with the receipts that decide them.
-fn joined(
-    alloc: Global,
-    present: &Present,
-    submits: &[SubmittedMessage<'_>],
-    accepted: &Accepted,
-    deciders: &Deciders<'_>,
-) -> Result<Vec<Fact>, AllocError>
-    requires submits { submits.now ≡ submits_of present.now }
-    requires numbers { HasNumbers accepted.now.numbers submits.now }
-    requires deciders { HasDeciders deciders.now.receipts (receipts_of present.now) }
-    ensures { IfOk result (λ facts. facts.items ≡ facts_listed present.now) }
-{
-    facts_among(alloc, present.settings(), submits, accepted, deciders)
-}
-
-/// What is known of each of these messages, in their order.
-fn facts_among(
-    alloc: Global,
-    settings: &Settings,
-    submits: &[SubmittedMessage<'_>],
-    accepted: &Accepted,
-    deciders: &Deciders<'_>,
-) -> Result<Vec<Fact>, AllocError>
-    requires { HasNumbers accepted.now.numbers submits.now }
-    ensures { (receipts : List KeyedReceipt) → HasDeciders deciders.now.receipts receipts
-        → IfOk result (λ facts. facts.items
-        ≡ listed.facts_among settings.now submits.now receipts) }
-{
+    let settings = present.settings();
     let mut facts = Vec::with_capacity(alloc, submits.len())?;
     for submit in submits {
         facts.push(fact_of(settings, submit, accepted, deciders))?;
@@ -109,21 +82,17 @@ fn fact_by(
     ambiguous: bool,
     decider: Option<&PlacedReceipt<'_>>,
 ) -> Fact
-    ensures { result
-        ≡ listed.fact_by submit.now route lapsed ambiguous (option_copied decider.entry) }
+    ensures { (standing : Option Standing) → is_shared standing ≡ ambiguous
+        → result ≡ facts.fact_by submit.now.place (message_from submit.now)
+        (circumstances_by standing (option_copied decider.entry) route lapsed) }
 {
     let outcome = outcome(submit, lapsed, ambiguous, decider);
-    let (route, network) = match route {
-        Some((route, network)) => (Some(route), Some(network)),
-        None => (None, None),
-    };
     Fact {
         place: submit.place(),
         link: submit.source.link,
         route,
-        network,
         outcome,
-        error: error(outcome, submit.response, decider),
+        error: error(outcome, submit, decider),
         link_delay: link_delay(outcome, submit, decider),
         centre_delay: centre_delay(outcome, decider),
     }
@@ -136,7 +105,10 @@ fn outcome(
     ambiguous: bool,
     decider: Option<&PlacedReceipt<'_>>,
 ) -> Outcome
-    ensures { result ≡ listed.outcome_by submit.now lapsed ambiguous (option_copied decider.entry) }
+    ensures { (standing : Option Standing) (route : Option (RouteId × List ℕ))
+        → is_shared standing ≡ ambiguous
+        → result ≡ outcomes.outcome_by (message_from submit.now)
+        (circumstances_by standing (option_copied decider.entry) route lapsed) }
 {
     let Some(response) = submit.response else {
         return Outcome::Waiting;
@@ -172,15 +144,15 @@ fn outcome(
 /// Why a message with this outcome failed.
 fn error(
     outcome: Outcome,
-    response: Option<&KeptPdu>,
+    submit: &SubmittedMessage<'_>,
     decider: Option<&PlacedReceipt<'_>>,
 ) -> Option<SubmitError>
-    ensures { result ≡ listed.error_by outcome (option_copied response.entry)
-        (option_copied decider.entry) }
+    ensures { result ≡ outcomes.error_by outcome (message_from submit.now).response
+        (option_map received (option_copied decider.entry)) }
 {
     match outcome {
         Outcome::Refused => Some(SubmitError::Refused {
-            status: response?.status,
+            status: submit.response?.status,
         }),
         Outcome::Failed => Some(SubmitError::Failed(decider?.receipt.error.copy())),
         _ => None,
@@ -193,7 +165,8 @@ fn link_delay(
     submit: &SubmittedMessage<'_>,
     decider: Option<&PlacedReceipt<'_>>,
 ) -> Option<Band>
-    ensures { result ≡ listed.link_delay_by outcome submit.now (option_copied decider.entry) }
+    ensures { result ≡ outcomes.link_delay_by outcome submit.now.moment
+        (option_map received (option_copied decider.entry)) }
 {
     match outcome {
         Outcome::Delivered | Outcome::Failed => {
@@ -205,7 +178,8 @@ fn link_delay(
 
 /// The band of how long the message took by the dates of that receipt, where it gives them.
 fn centre_delay(outcome: Outcome, decider: Option<&PlacedReceipt<'_>>) -> Option<Band>
-    ensures { result ≡ listed.centre_delay_by outcome (option_copied decider.entry) }
+    ensures { result ≡ outcomes.centre_delay_by outcome
+        (option_map received (option_copied decider.entry)) }
 {
     match outcome {
         Outcome::Delivered | Outcome::Failed => Some(Band::of(decider?.receipt.centre_delay?)),

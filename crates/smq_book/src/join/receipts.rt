@@ -1,21 +1,21 @@
 //! The delivery receipts of a session, each at its place.
-ghost use Rattle.std.specs.Prelude.{◌≡◌};
+ghost use Rattle.std.specs.Prelude.{◌≡◌, pos, ◌-ℤ◌};
 ghost use Rattle.std.specs.Option.{option_to_list};
 ghost use Rattle.std.specs.Ordering.{is_gt};
 ghost use Rattle.smq_book.specs.present.Kept.{receipt_in};
 ghost use Rattle.smq_book.specs.join.Keyed as keyed;
-ghost use Rattle.smq_book.specs.within.Outcomes.{delay_after};
 ghost use Rattle.smq_book.specs.within.Receipts.{receipt_cmp, receipt_by};
 
 use crate::KeptPdu;
 use crate::join::source::Source;
-use smq_kit::{Dir, LinkKey, Moment, Place};
+use smq_kit::{Dir, LinkId, LinkKey, Moment, Place};
 use smq_receipt::Receipt;
 use std::marker::Model;
 
 /// A delivery receipt that the centre sent.
 #[derive(Drop)]
 pub(crate) struct PlacedReceipt<'a> {
+    pub link: LinkId,
     pub place: Place,
     pub moment: Moment,
     pub receipt: &'a Receipt,
@@ -26,7 +26,7 @@ impl<'a> Model for PlacedReceipt<'a> {
 
     ghost Value = { PlacedReceipt };
 
-    ghost view = { λ r. record { place = r.place; moment = r.moment; receipt = r.receipt.now } };
+    ghost view = { λ r. record { link = r.link; place = r.place; moment = r.moment; receipt = r.receipt.now } };
 }
 
 impl<'a> PlacedReceipt<'a> {
@@ -39,7 +39,7 @@ impl<'a> PlacedReceipt<'a> {
 
     /// The delay in ms from a moment to its own, which is negative where it stands before it.
     pub(crate) fn delay_after(&self, moment: Moment) -> i64
-        ensures { result ≡ delay_after moment self.now }
+        ensures { result ≡ (pos self.now.moment -ℤ pos moment) }
     {
         self.moment.milliseconds() as i64 - moment.milliseconds() as i64
     }
@@ -63,6 +63,7 @@ pub(crate) fn receipt_at<'a>(
         Some(receipt) => Some((
             LinkKey::of(source.link, source.forms.receipt, &receipt.id),
             PlacedReceipt {
+                link: source.link,
                 place: Place {
                     session: source.session,
                     dir: Dir::FromCentre,

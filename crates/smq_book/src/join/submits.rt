@@ -2,12 +2,13 @@
 ghost use Rattle.std.specs.Prelude.{◌≡◌, ◌++◌, OnOk};
 ghost use Rattle.std.specs.Option.{option_to_list, option_copied};
 ghost use Rattle.smq_kit.specs.declared.place.Dir.TheVariants.{FromClient};
+ghost use Rattle.smq_book.specs.join.Circumstances.{lapsed_in, route_in};
 ghost use Rattle.smq_book.specs.present.Kept.{header_of, submit_in};
 ghost use Rattle.smq_book.specs.pairing.Traffic as traffic;
 ghost use Rattle.smq_book.specs.pairing.Traffic.{pairing_among};
 ghost use Rattle.smq_book.specs.within.Messages as messages;
 ghost use Rattle.smq_book.specs.within.Messages.{submit_with, submits_among};
-ghost use Rattle.smq_book.specs.within.Outcomes.{route_of, has_lapsed};
+ghost use Rattle.smq_book.specs.within.Outcomes.{message_from};
 ghost use Rattle.smq_book.specs.within.Pairs.{Rises, SubmitsAreRequests, from_session, response_at};
 
 use crate::KeptPdu;
@@ -63,7 +64,7 @@ impl<'a> SubmittedMessage<'a> {
 
     /// The route and network of its number at its moment, where it has a number that has them.
     pub(crate) fn route(&self, settings: &Settings) -> Option<(RouteId, Network)>
-        ensures { result ≡ route_of settings.now.versions self.now }
+        ensures { result ≡ route_in settings.now.versions (message_from self.now) }
     {
         let number = self.submit.number.as_ref()?;
         settings.route_at(number, self.request.moment)
@@ -71,7 +72,7 @@ impl<'a> SubmittedMessage<'a> {
 
     /// Whether the clock is at the end of its window, or past it.
     pub(crate) fn has_lapsed(&self, settings: &Settings) -> bool
-        ensures { result ≡ has_lapsed settings.now self.now }
+        ensures { result ≡ lapsed_in settings.now (message_from self.now) }
     {
         self.request.moment.milliseconds() + LAPSE_WINDOW <= settings.clock().milliseconds()
     }

@@ -160,8 +160,7 @@ pub fn routes_are_of_the_moment()
         → route_in versions m ≡ route_at versions number m.moment }
     ensures fact { (s : SettingsValue) (t : TrafficValue) (place : Place) (m : Message) (fact : Fact)
         → fin.get t.messages place ≡ Some m → fin.get (facts_of s t) place ≡ Some fact
-        → (fact.route ≡ option_map (λ r. r.0) (route_in s.versions m))
-        × (fact.network ≡ option_map (λ r. r.1) (route_in s.versions m)) }
+        → fact.route ≡ route_in s.versions m }
 {}
 
 /// The outcomes stand in the order of their table, in which reports print them.

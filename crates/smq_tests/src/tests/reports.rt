@@ -226,19 +226,14 @@ impl Why {
 
 impl Message {
     fn fact(&self) -> Result<Fact, Fail> {
-        let network = match self.route {
-            Some((_, code)) => Some(Network::parse(code.as_bytes())?),
-            None => None,
-        };
         let route = match self.route {
-            Some((number, _)) => Some(RouteId(number)),
+            Some((number, code)) => Some((RouteId(number), Network::parse(code.as_bytes())?)),
             None => None,
         };
         Ok(Fact {
             place: place(1, Dir::FromClient, self.offset),
             link: LinkId(self.link),
             route,
-            network,
             outcome: self.outcome,
             error: self.why.error(),
             link_delay: self.delays.0,

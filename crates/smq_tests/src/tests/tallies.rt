@@ -230,7 +230,6 @@ fn plain(at: At, outcome: Outcome) -> Fact {
         place: place_of(at),
         link: LinkId(7),
         route: None,
-        network: None,
         outcome,
         error: None,
         link_delay: None,
@@ -245,11 +244,7 @@ fn network(code: &str) -> Result<Network, Refusal> {
 impl Known {
     fn fact(&self) -> Result<Fact, Refusal> {
         let route = match self.route {
-            Some((number, _)) => Some(RouteId(number)),
-            None => None,
-        };
-        let network = match self.route {
-            Some((_, code)) => Some(network(code)?),
+            Some((number, code)) => Some((RouteId(number), network(code)?)),
             None => None,
         };
         let error = match self.status {
@@ -260,7 +255,6 @@ impl Known {
             place: place_of(self.at),
             link: LinkId(self.link),
             route,
-            network,
             outcome: self.outcome,
             error,
             link_delay: self.delays.0,
@@ -357,8 +351,7 @@ fn one_of_many(number: u32) -> Result<Fact, Refusal> {
     Ok(Fact {
         place: place_of((u64::from(number % 5), CLIENT, u64::from(number))),
         link: LinkId(number % 7),
-        route: Some(RouteId(number)),
-        network: Some(network("20801")?),
+        route: Some((RouteId(number), network("20801")?)),
         outcome: TURNS[number as usize % 4],
         error: Some(SubmitError::Refused { status: number % 3 }),
         link_delay: Some(Band::Over),
