@@ -15,7 +15,7 @@ use Rattle.smq_tally.specs.declared.list.Listed.{Listed}
 use Rattle.smq_tally.specs.Lists.{listed}
 use Rattle.smq_book.specs.present.Settings.{SettingsValue}
 use Rattle.smq_book.specs.pairing.Traffic.{TrafficValue, traffic_among}
-use Rattle.smq_book.specs.join.Matching.{Grouping, ReceiptStanding, Stray, Deciding, Extra, Noted, Several, is_decider, matches}
+use Rattle.smq_book.specs.join.Matching.{Grouping, ReceiptStanding, Stray, Deciding, Extra, Noted, KeyShared, is_decider, matches}
 use Rattle.smq_book.specs.join.Keyed.{grouping_of, keyed_receipt, receipt_key, can_decide}
 use Rattle.smq_book.specs.join.Listings.{list_of_standing, receipt_listing, receipt_notes}
 use Rattle.smq_book.specs.within.Accepted.{number_accepted}
@@ -29,7 +29,7 @@ use Rattle.smq_book.proofs.AgreeFacts.{matches-agree, decider-of}
 -- the standing of a receipt, by how many messages are accepted with its key, whether it decides and whether it can
 abbrev pub standing_by : ℕ → Bool → Bool → ReceiptStanding
 standing_by n decides can =
-    if n == 0 then Stray else if not (n == 1) then Several else if decides then Deciding else if can then Extra else Noted
+    if n == 0 then Stray else if not (n == 1) then KeyShared else if decides then Deciding else if can then Extra else Noted
 
 differ : (a b : ℕ) → (a ≡ b → ⊥) → (a == b) ≡ false
 differ a b ne = by_test (a == b) refl
@@ -45,7 +45,7 @@ lists-alike (suc zero) true false = refl
 lists-alike (suc zero) false true = refl
 lists-alike (suc zero) false false = refl
 lists-alike (suc (suc n)) decides can =
-    λ i. list_of_standing (if differ (suc (suc n)) 0 (λ e. absurd (omega (arith, e))) i then Stray else if not (differ (suc (suc n)) 1 (λ e. absurd (omega (arith, e))) i) then Several else if decides then Deciding else if can then Extra else Noted)
+    λ i. list_of_standing (if differ (suc (suc n)) 0 (λ e. absurd (omega (arith, e))) i then Stray else if not (differ (suc (suc n)) 1 (λ e. absurd (omega (arith, e))) i) then KeyShared else if decides then Deciding else if can then Extra else Noted)
 
 module _ (s : SettingsValue) (xs : List SubmittedMessage) (rs : List KeyedReceipt) (notes : List Listed) (keyed : Keyed s xs) (receipts_keyed : KeyedReceipts s rs)
     (messages_sorted : T (is_sorted place_cmp (map message_entry xs))) (receipts_sorted : T (is_sorted place_cmp (map receipt_entry rs))) where

@@ -11,7 +11,7 @@ use Rattle.smq_kit.specs.declared.place.Dir.TheVariants.{FromClient}
 use Rattle.smq_kit.specs.declared.place.Place.{Place}
 use Rattle.smq_kit.specs.Maps.{kept_of}
 use Rattle.smq_pdu.specs.Header.{Header}
-use Rattle.smq_pdu.specs.Pairing.{is_response_of, is_request_of, nth_place}
+use Rattle.smq_pdu.specs.Pairing.{is_response_of, is_request_of, nth_index}
 use Rattle.smq_pdu.proofs.Pairs.{response-in-turn}
 use Rattle.smq_pdu.specs.declared.body.Submit.{Submit}
 use Rattle.smq_receipt.specs.declared.reading.Receipt.{Receipt}
@@ -32,7 +32,7 @@ use Rattle.smq_book.specs.within.Outcomes.{message_from, received}
 use Rattle.smq_book.specs.within.Receipts as receipts
 use Rattle.smq_book.specs.within.Receipts.{PlacedReceipt, KeyedReceipt, receipt_by}
 
--- ---- the response of a rank among those of a sequence number is the one at its place
+-- ---- the response of a rank among those of a sequence number is the one at its index
 
 -- the headers before a PDU
 headers-before : (before after : List KeptPdu) → take (length before) (headers_of (before ++ after)) ≡ headers_of before
@@ -43,7 +43,7 @@ headers-before before after =
 pub response-same : (client centre before after : List KeptPdu) (i : ℕ) (p : KeptPdu) → client ≡ before ++ after → i ≡ length before → response_to centre before p ≡ response_of client centre i p
 response-same client centre before after i p all many =
     response-in-turn header_of centre p.seq (count_by (is_request_of p.seq) (headers_of before))
-    ∙ ap (λ hs. option_and_then (λ j. slice_get centre j) (nth_place (is_response_of p.seq) (headers_of centre) (count_by (is_request_of p.seq) hs)))
+    ∙ ap (λ hs. option_and_then (λ j. slice_get centre j) (nth_index (is_response_of p.seq) (headers_of centre) (count_by (is_request_of p.seq) hs)))
     (sym (headers-before before after) ∙ (λ j. take (sym many j) (headers_of (sym all j))))
 
 -- ---- entries of what is read as lists

@@ -18,7 +18,7 @@ use Rattle.smq_frame.specs.Stream.{stamped, values as octets_of}
 use Rattle.smq_frame.specs.Tail.{TailValue, tail_of, tail_from}
 use Rattle.smq_pdu.specs.Header.{word_at}
 use Rattle.smq_pdu.specs.Numbers.{number_of, digits_of}
-use Rattle.smq_pdu.specs.Pairing.{nth_place}
+use Rattle.smq_pdu.specs.Pairing.{nth_index}
 use Rattle.smq_pdu.specs.Pdu.{body_of, submit_of, deliver_of, id_of}
 use Rattle.smq_pdu.specs.Readers.{mandatory_at, address_at, c_octet_at, octets_at, number_at, tlv_at, tlvs_within, tlvs_of}
 use Rattle.smq_receipt.specs.Places.{least_below}
@@ -187,7 +187,7 @@ versions-are : entries known_book.settings.versions ≡ nested_versions
 versions-are = entries-from_entries versions_total versions_exact nested_versions tt
 
 facts-computed : facts_from nested_versions (submits decimal opening_forms) (receipts decimal opening_forms) ≡ facts
-unfolding nth_place decimal
+unfolding nth_index decimal
 facts-computed = refl
 
 facts-listed-of-book : facts_listed known_book ≡ facts
@@ -263,7 +263,7 @@ known_listed =
     ∷ listed list.Lapsed (place_at 65546 FromClient 66) ∷ []
 
 listed-computed : listed_from notes (receipt_notes_from (submits decimal opening_forms) (receipts decimal opening_forms)) facts ≡ known_listed
-unfolding nth_place decimal
+unfolding nth_index decimal
 listed-computed = refl
 
 pub lists-of-book : (which : l.List) → listed_in (scratch known_book) which ≡ map (λ e. e.place) (filter (in_list which) known_listed)

@@ -20,7 +20,7 @@ use Rattle.smq_tally.specs.declared.list.List.TheVariants.{StrayReceipts, Ambigu
 use Rattle.smq_tally.specs.declared.list.Listed.{Listed}
 use Rattle.smq_tally.specs.Lists.{listed}
 use Rattle.smq_book.specs.join.Listings.{list_of_standing, receipt_listing, receipt_notes}
-use Rattle.smq_book.specs.join.Matching.{Grouping, GroupedReceipt, IsStray, MatchesSeveral, IsExtra, decider, is_decider, matches, receipt_standing}
+use Rattle.smq_book.specs.join.Matching.{Grouping, GroupedReceipt, IsStray, HasSharedKey, IsExtra, decider, is_decider, matches, receipt_standing}
 use Rattle.smq_book.specs.within.Listings.{list_by}
 use Rattle.smq_book.proofs.AgreeListings.{lists-alike}
 use Rattle.smq_book.proofs.MatchingLemmas.{number-none, number-some, own_key, one_key, failing, only-one, alone-one, still-there, gone}
@@ -151,7 +151,7 @@ module _ (g : Grouping) where
       let none : matches g key ≡ 0 = number-none (same_key key) g.submits (λ q k there. failing key k (same_key key k) refl (λ same. h.unmatched q (there ∙ ap Some (sym same)))) in
       (h.receipt, h.stands, list-at place h.receipt ∙ ap (λ n. list_by n (h.receipt.decides && not (is_decider g place key))) none)
 
-  matches-several : (place : Place) → Shown g AmbiguousReceipts place → MatchesSeveral g place
+  matches-several : (place : Place) → Shown g AmbiguousReceipts place → HasSharedKey g place
   matches-several place s =
       let key = s.0.key in
       let many = several_many _ _ (sym (list-at place s.0) ∙ s.2) in
@@ -169,7 +169,7 @@ module _ (g : Grouping) where
         second = there.1 ∙ ap Some (sym (one_key key more.1 more.3));
       }
 
-  from-several : (place : Place) → MatchesSeveral g place → Shown g AmbiguousReceipts place
+  from-several : (place : Place) → HasSharedKey g place → Shown g AmbiguousReceipts place
   from-several place h =
       let key = h.receipt.key in
       let some = number-some (same_key key) g.submits h.one key h.first (own_key key) in
@@ -221,7 +221,7 @@ module _ (g : Grouping) where
   pub listed-stray : (place : Place) → Contains (receipt_notes g) (listed StrayReceipts place) ↔ IsStray g place
   listed-stray place = (λ h. is-stray place ((shown g StrayReceipts place).0 h), λ h. (shown g StrayReceipts place).1 (from-stray place h))
 
-  pub listed-several : (place : Place) → Contains (receipt_notes g) (listed AmbiguousReceipts place) ↔ MatchesSeveral g place
+  pub listed-several : (place : Place) → Contains (receipt_notes g) (listed AmbiguousReceipts place) ↔ HasSharedKey g place
   listed-several place = (λ h. matches-several place ((shown g AmbiguousReceipts place).0 h), λ h. (shown g AmbiguousReceipts place).1 (from-several place h))
 
   pub listed-extra : (place : Place) → Contains (receipt_notes g) (listed ExtraReceipts place) ↔ IsExtra g place

@@ -30,7 +30,7 @@ use Rattle.smq_pair.specs.Pairing.{waiting, strays}
 use Rattle.smq_book.specs.join.Facts.{facts_of}
 use Rattle.smq_book.specs.join.Keyed.{grouping_of}
 use Rattle.smq_book.specs.join.Listings.{notes_of, receipt_notes}
-use Rattle.smq_book.specs.join.Matching.{Grouping, IsStray, MatchesSeveral, IsExtra}
+use Rattle.smq_book.specs.join.Matching.{Grouping, IsStray, HasSharedKey, IsExtra}
 use Rattle.smq_book.specs.whole.Scratch.{scratch}
 use Rattle.smq_book.proofs.ListedReceipts.{listed-stray, listed-several, listed-extra}
 use Rattle.smq_book.proofs.Tallied.{any-append, is-marked}
@@ -163,7 +163,7 @@ shown-stray p place =
     let shown = receipts-shown StrayReceipts place strays-apart p in
     (λ h. (listed-stray g place).0 (shown.0 h), λ h. shown.1 ((listed-stray g place).1 h))
 
-pub shown-several : (p : PresentValue) (place : Place) → Contains (listed_in (scratch p) AmbiguousReceipts) place ↔ MatchesSeveral (grouping_of p.settings (traffic_of p.sessions)) place
+pub shown-several : (p : PresentValue) (place : Place) → Contains (listed_in (scratch p) AmbiguousReceipts) place ↔ HasSharedKey (grouping_of p.settings (traffic_of p.sessions)) place
 shown-several p place =
     let g : Grouping = grouping_of p.settings (traffic_of p.sessions) in
     let shown = receipts-shown AmbiguousReceipts place several-apart p in

@@ -15,7 +15,7 @@ use Rattle.smq_kit.proofs.PlaceOrders.{places_total, places_exact}
 use Rattle.smq_kit.proofs.MapLemmas as maps
 use Rattle.smq_kit.specs.declared.link_key.LinkKey.{LinkKey}
 use Rattle.smq_kit.specs.LinkKeys.{link_key_cmp, same_key}
-use Rattle.smq_book.specs.join.Matching.{Grouping, GroupedReceipt, Candidate, CanDecide, IsAlone, IsEarliest, candidates, candidate_cmp, decider, matches}
+use Rattle.smq_book.specs.join.Matching.{Grouping, GroupedReceipt, Candidate, CanDecide, IsSingle, IsEarliest, candidates, candidate_cmp, decider, matches}
 use Rattle.smq_book.proofs.Least.{least-found, reduce-all}
 use Rattle.smq_kit.proofs.LinkKeyOrders.{link_keys_total, link_keys_exact}
 use Rattle.smq_kit.proofs.Comparisons.{is_equal}
@@ -82,7 +82,7 @@ gone {X} m p q v e = by_test (eq_by_cmp place_cmp p q) refl
 
 -- ---- single keys
 
-pub only-one : (g : Grouping) (key : LinkKey) (place : Place) → get g.submits place ≡ Some key → matches g key ≡ 1 → IsAlone g key place
+pub only-one : (g : Grouping) (key : LinkKey) (place : Place) → get g.submits place ≡ Some key → matches g key ≡ 1 → IsSingle g key place
 only-one g key place here one = record {
   here = here;
   elsewhere = λ other ne there.
@@ -95,7 +95,7 @@ pub failing : (key k : LinkKey) (b : Bool) → same_key key k ≡ b → (key ≡
 failing key k true e ne = absurd (ne (one_key key k e))
 failing key k false e ne = refl
 
-pub alone-one : (g : Grouping) (key : LinkKey) (place : Place) → IsAlone g key place → matches g key ≡ 1
+pub alone-one : (g : Grouping) (key : LinkKey) (place : Place) → IsSingle g key place → matches g key ≡ 1
 alone-one g key place h =
     let some = number-some (same_key key) g.submits place key h.here (own_key key) in
     let none : number_of (same_key key) (remove g.submits place) ≡ 0 = number-none (same_key key) (remove g.submits place) (λ q k e.
@@ -104,7 +104,7 @@ alone-one g key place h =
     omega (arith, some, none)
 
 -- a key is single where one message alone is accepted with it
-pub alone : (g : Grouping) (key : LinkKey) (place : Place) → get g.submits place ≡ Some key → IsTrue (matches g key == 1) ↔ IsAlone g key place
+pub alone : (g : Grouping) (key : LinkKey) (place : Place) → get g.submits place ≡ Some key → IsTrue (matches g key == 1) ↔ IsSingle g key place
 alone g key place here = (λ e. only-one g key place here (eqb-true (matches g key) 1 e), λ h. eq-eqb (matches g key) 1 (alone-one g key place h))
 
 -- ---- the earliest receipt that can decide

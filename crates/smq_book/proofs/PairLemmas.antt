@@ -7,7 +7,7 @@ use Rattle.smq_frame.specs.Stream.{Octet}
 use Rattle.smq_pdu.specs.Header.{Header}
 use Rattle.smq_pdu.specs.declared.body.Submit.{Submit}
 use Rattle.smq_pair.specs.Pairing.{pair_at, pair_of}
-use Rattle.smq_pdu.specs.Pairing.{IsPair, is_response_of, is_request_of, is_request, is_response, request_rank, response_place}
+use Rattle.smq_pdu.specs.Pairing.{IsPair, is_response_of, is_request_of, is_request, is_response, request_rank, response_index}
 use Rattle.smq_pdu.proofs.Pairs.{finds_pairs, finds_each}
 use Rattle.smq_book.specs.declared.present.kept.KeptPdu.{KeptPdu}
 use Rattle.smq_book.specs.Known.{InTurn}
@@ -24,7 +24,7 @@ use Rattle.smq_book.proofs.Requests.{kept-ask}
 abbrev rank : List KeptPdu → List KeptPdu → KeptPdu → ℕ
 rank before after p = request_rank (headers_of (before ++ p ∷ after)) (length before) p.seq
 
-found_at : (before after centre : List KeptPdu) (p : KeptPdu) → response_to centre before p ≡ option_and_then (λ j. slice_get centre j) (response_place (headers_of centre) p.seq (rank before after p))
+found_at : (before after centre : List KeptPdu) (p : KeptPdu) → response_to centre before p ≡ option_and_then (λ j. slice_get centre j) (response_index (headers_of centre) p.seq (rank before after p))
 found_at before after centre p = response-same (before ++ p ∷ after) centre before (p ∷ after) (length before) p refl refl
 
 pub pair-each : (before after centre : List KeptPdu) (p : KeptPdu) (j : ℕ) (response : Header)
@@ -45,7 +45,7 @@ header-at (x ∷ centre) (suc j) r e = header-at centre j r e
 one_header : (a b : Header) (o : Option Header) → o ≡ Some a → o ≡ Some b → a ≡ b
 one_header a b o e f = cc
 
-by_place : (before after centre : List KeptPdu) (p r : KeptPdu) (o : Option ℕ) → is_request (header_of p) ≡ true → response_place (headers_of centre) p.seq (rank before after p) ≡ o
+by_place : (before after centre : List KeptPdu) (p r : KeptPdu) (o : Option ℕ) → is_request (header_of p) ≡ true → response_index (headers_of centre) p.seq (rank before after p) ≡ o
     → option_and_then (λ j. slice_get centre j) o ≡ Some r
     → (j : ℕ) × (slice_get centre j ≡ Some r) × IsPair (headers_of (before ++ p ∷ after)) (headers_of centre) (length before) j (header_of p) (header_of r)
 by_place before after centre p r None request place e = absurd cc
@@ -57,7 +57,7 @@ by_place before after centre p r (Some j) request place e =
 pub pair-found : (before after centre : List KeptPdu) (p r : KeptPdu) → is_request (header_of p) ≡ true → response_to centre before p ≡ Some r
     → (j : ℕ) × (slice_get centre j ≡ Some r) × IsPair (headers_of (before ++ p ∷ after)) (headers_of centre) (length before) j (header_of p) (header_of r)
 pair-found before after centre p r request e =
-    by_place before after centre p r (response_place (headers_of centre) p.seq (rank before after p)) request refl (sym (found_at before after centre p) ∙ e)
+    by_place before after centre p r (response_index (headers_of centre) p.seq (rank before after p)) request refl (sym (found_at before after centre p) ∙ e)
 
 -- ---- the pairs of a session
 

@@ -15,7 +15,7 @@ use Rattle.smq_kit.specs.Orders.{place_cmp}
 use Rattle.smq_kit.proofs.MapLemmas.{same_key}
 use Rattle.smq_kit.proofs.PlaceOrders.{places_total, places_exact}
 use Rattle.smq_pdu.specs.Header.{Header}
-use Rattle.smq_pdu.specs.Pairing.{is_request, is_response, is_request_of, is_response_of, request_rank, response_place}
+use Rattle.smq_pdu.specs.Pairing.{is_request, is_response, is_request_of, is_response_of, request_rank, response_index}
 use Rattle.smq_pdu.specs.declared.body.Submit.{Submit}
 use Rattle.smq_pair.specs.declared.pairing.Pair.{Pair}
 use Rattle.smq_pair.specs.Pairing as pairs
@@ -126,7 +126,7 @@ module _ (o : Origin) where
       ap (λ ps. response_at (pairing_among o ps centre) centre (place_of o FromClient p)) all
       ∙ ap (option_and_then (λ (pair : Pair). pdu_at centre pair.response.offset))
       (request-pair before after centre p rises request ∙ ap (option_map (pair_with p)) (response-same client centre before (p ∷ after) i p all many))
-      ∙ found-again centre p (response_place (headers_of centre) p.seq (request_rank (headers_of client) i p.seq)) centre_rises
+      ∙ found-again centre p (response_index (headers_of centre) p.seq (request_rank (headers_of client) i p.seq)) centre_rises
 
   -- the same of the i-th PDU of the client
   pub response-at : (client centre : List KeptPdu) (i : ℕ) (p : KeptPdu) (submit : Submit) → i < length client → p ≡ get_or client i p → Rises 0 client → Rises 0 centre → SubmitsAreRequests client

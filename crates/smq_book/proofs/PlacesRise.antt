@@ -14,7 +14,7 @@ use Rattle.smq_kit.specs.declared.place.Place.{Place}
 use Rattle.smq_kit.specs.Orders.{dir_cmp, place_cmp}
 use Rattle.smq_kit.proofs.Comparisons.{both_tests, first_test, second_test, is_less}
 use Rattle.smq_frame.specs.Stream.{Octet, stream_frames}
-use Rattle.smq_frame.proofs.Offsets.{ascends-map, stream_frames-ascend}
+use Rattle.smq_frame.proofs.Offsets.{Ascends, ascends-map, stream_frames-ascend}
 use Rattle.smq_pdu.specs.Placed.{placed_pdu, stream_pdus}
 use Rattle.smq_pdu.specs.declared.body.Submit.{Submit}
 use Rattle.smq_receipt.specs.declared.reading.Receipt.{Receipt}
@@ -26,10 +26,15 @@ use Rattle.smq_book.specs.within.Pairs.{Rises}
 
 -- ---- the offsets of a stream's PDUs ascend
 
+rises-of : (low : ℕ) (ps : List KeptPdu) → Ascends (λ p. p.offset) low ps → Rises low ps
+rises-of low [] h = tt
+rises-of low (p ∷ ps) h = (h.0, rises-of (p.offset + 1) ps h.1)
+
 pub kept-rise : (stream : List Octet) → Rises 0 (kept_pdus stream)
 kept-rise stream =
-    ascends-map (λ p. p.offset) (λ p. p.offset) kept_pdu (λ p. refl) 0 (stream_pdus stream)
-    (ascends-map (λ f. f.offset) (λ p. p.offset) placed_pdu (λ f. refl) 0 (stream_frames stream) (stream_frames-ascend stream))
+    rises-of 0 (kept_pdus stream)
+    (ascends-map (λ p. p.offset) (λ p. p.offset) kept_pdu (λ p. refl) 0 (stream_pdus stream)
+    (ascends-map (λ f. f.offset) (λ p. p.offset) placed_pdu (λ f. refl) 0 (stream_frames stream) (stream_frames-ascend stream)))
 
 -- ---- comparisons
 

@@ -12,7 +12,7 @@ use Rattle.smq_pair.specs.Pairing.{PairingValue, waiting, strays}
 use Rattle.smq_tally.specs.declared.list.List.{List as ListName}
 use Rattle.smq_tally.specs.declared.list.List.TheVariants as list
 use Rattle.smq_tally.specs.declared.list.Listed.{Listed}
-use Rattle.smq_tally.specs.Lists.{list_place, listed}
+use Rattle.smq_tally.specs.Lists.{list_rank, listed}
 use Rattle.smq_book.specs.declared.present.kept.Content.{Content}
 use Rattle.smq_book.specs.declared.present.kept.KeptPdu.{KeptPdu}
 use Rattle.smq_book.specs.declared.present.session.Session.{Session}
@@ -29,14 +29,14 @@ place session dir offset = record { session = session; dir = dir; offset = offse
 pub some_none : {A : Type 0} (x : A) → Some x ≡ None → ⊥
 some_none x e = absurd cc
 
-in-other : {A : Type 0} (k l : ListName) (qs : List Place) (q : Place) → (list_place k ≡ list_place l → ⊥) → Contains (map (listed k) qs) (listed l q) → A
-in-other k l qs q apart h = let w = map-has (listed k) qs (listed l q) h in absurd (apart (ap (λ (e : Listed). list_place e.list) w.2))
+in-other : {A : Type 0} (k l : ListName) (qs : List Place) (q : Place) → (list_rank k ≡ list_rank l → ⊥) → Contains (map (listed k) qs) (listed l q) → A
+in-other k l qs q apart h = let w = map-has (listed k) qs (listed l q) h in absurd (apart (ap (λ (e : Listed). list_rank e.list) w.2))
 
 in-this : (k : ListName) (qs : List Place) (q : Place) → Contains (map (listed k) qs) (listed k q) → Contains qs q
 in-this k qs q h = let w = map-has (listed k) qs (listed k q) h in subst (λ z. Contains qs z) (ap (λ (e : Listed). e.place) w.2) w.1
 
 -- the notes of a list that isn't one of pairs
-by-list : (v : PairingValue) (us ds bs : List Place) (l : ListName) (q : Place) → 2 < list_place l
+by-list : (v : PairingValue) (us ds bs : List Place) (l : ListName) (q : Place) → 2 < list_rank l
     → Contains ((pairing_notes v ++ (map (listed list.Unreadable) us ++ map (listed list.Undecodable) ds)) ++ map (listed list.Broken) bs) (listed l q)
     → Contains (map (listed list.Unreadable) us) (listed l q) ⊎ (Contains (map (listed list.Undecodable) ds) (listed l q) ⊎ Contains (map (listed list.Broken) bs) (listed l q))
 by-list v us ds bs l q high h =
@@ -51,10 +51,10 @@ by-list v us ds bs l q high h =
       | inl pdus ↦ elim (Contains-append_cases (w ++ s ++ m) (u ++ d) here pdus) as (λ _. Contains u here ⊎ (Contains d here ⊎ Contains b here)) [
         | inl pairs ↦ elim (Contains-append_cases (w ++ s) m here pairs) as (λ _. Contains u here ⊎ (Contains d here ⊎ Contains b here)) [
           | inl others ↦ elim (Contains-append_cases w s here others) as (λ _. Contains u here ⊎ (Contains d here ⊎ Contains b here)) [
-            | inl waits ↦ in-other list.Waiting l (waiting v) q (λ (is : 0 ≡ list_place l). absurd (omega (arith, is, high))) waits
-            | inr strayed ↦ in-other list.StrayAnswers l (strays v) q (λ (is : 1 ≡ list_place l). absurd (omega (arith, is, high))) strayed
+            | inl waits ↦ in-other list.Waiting l (waiting v) q (λ (is : 0 ≡ list_rank l). absurd (omega (arith, is, high))) waits
+            | inr strayed ↦ in-other list.StrayAnswers l (strays v) q (λ (is : 1 ≡ list_rank l). absurd (omega (arith, is, high))) strayed
           ]
-          | inr disagreed ↦ in-other list.Mismatched l (mismatched v) q (λ (is : 2 ≡ list_place l). absurd (omega (arith, is, high))) disagreed
+          | inr disagreed ↦ in-other list.Mismatched l (mismatched v) q (λ (is : 2 ≡ list_rank l). absurd (omega (arith, is, high))) disagreed
         ]
         | inr contents ↦ elim (Contains-append_cases u d here contents) as (λ _. Contains u here ⊎ (Contains d here ⊎ Contains b here)) [
           | inl unread ↦ inl unread

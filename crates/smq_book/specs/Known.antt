@@ -555,7 +555,7 @@ pub record KnownClocks : Type 0 where
   pub withdrawn : (step at_five (Withdraw (record { 0 = 10 }))).settings.clock ≡ 5
   pub forms_set : (step at_five (SetForm (record { 0 = 1 }) Verbatim Verbatim)).settings.clock ≡ 5
 
--- What became of submits that are written out.
+-- What became of messages that are written out.
 pub record KnownOutcomes : Type 0 where
   pub unanswered : outcomes_by_delivery [] (0 ∷ 1 ∷ []) ≡ o.Waiting ∷ o.Waiting ∷ []
   pub of_another_number : outcomes_by_delivery (accepted 2 ∷ []) (0 ∷ 1 ∷ []) ≡ o.Waiting ∷ o.Waiting ∷ []
@@ -582,7 +582,7 @@ pub record KnownOutcomes : Type 0 where
       outcomes_among (pdu 0 0x0000_000b 0 7 c.Other ∷ pdu 16 0x0000_0102 0 7 c.Other ∷ submit 32 7 1 ∷ [])
       (accepted 7 ∷ [])
       ≡ o.Open ∷ []
-  -- a submit_sm that can't be decoded is no submit, but takes its response
+  -- a submit_sm that can't be decoded is no message, but takes its response
   pub after_undecodable :
       outcomes_among (pdu 0 0x0000_0004 0 7 c.Undecodable ∷ submit 16 7 1 ∷ []) (accepted 7 ∷ [])
       ≡ o.Waiting ∷ []
@@ -610,7 +610,7 @@ pub record KnownOutcomes : Type 0 where
   pub refused_after : outcomes_at 172801000 (submit 0 1 1 ∷ []) (nack 3 1 ∷ []) ≡ o.Refused ∷ []
   pub no_id_after : outcomes_at 172801000 (submit 0 1 1 ∷ []) (without_id 1 ∷ []) ≡ o.NoId ∷ []
 
--- What receipts that are written out make of submits. Each is of the id `1`, which `accepted` gives, but for those under
+-- What receipts that are written out make of messages. Each is of the id `1`, which `accepted` gives, but for those under
 -- forms.
 pub record KnownReceipts : Type 0 where
   pub was_delivered :

@@ -6,7 +6,7 @@ use Rattle.std.proofs.lemmas.Option.{slice_get-map}
 use Rattle.smq_kit.specs.declared.place.Dir.{Dir}
 use Rattle.smq_kit.specs.declared.place.Place.{Place}
 use Rattle.smq_pdu.specs.Header.{Header}
-use Rattle.smq_pdu.specs.Pairing.{IsPair, is_request, is_response, is_request_of, nth_place, request_rank, response_rank, response_place}
+use Rattle.smq_pdu.specs.Pairing.{IsPair, is_request, is_response, is_request_of, nth_index, request_rank, response_rank, response_index}
 use Rattle.smq_pdu.proofs.Pairs.{stands, found, finds_pairs, finds_each}
 use Rattle.smq_pair.specs.declared.pairing.Pair.{Pair}
 use Rattle.smq_pair.specs.declared.entry.Side.TheVariants.{Request, Response}
@@ -25,13 +25,13 @@ header-at ps i p at = slice_get-map (λ (p : PlacedHeader). p.header) ps i ∙ a
 
 -- the index of a request's partner is that of its response
 pub partner-request : (v : PairingValue) (d : Dir) (i : ℕ) (h : Header) → is_request h ≡ true
-    → partner_of v d i h ≡ response_place (headers_from (opposite d) v) h.seq (request_rank (headers_from d v) i h.seq)
+    → partner_of v d i h ≡ response_index (headers_from (opposite d) v) h.seq (request_rank (headers_from d v) i h.seq)
 partner-request v d i h e =
     ap (λ s. option_and_then (λ t. index_at v (partner t)) (option_map (turn_after (take i (headers_from d v))) (option_map (λ side. record { dir = d; side = side; seq = h.seq }) s))) (side-request h e)
 
 -- and the index of a response's is that of its request
 pub partner-response : (v : PairingValue) (d : Dir) (i : ℕ) (h : Header) → is_response h ≡ true
-    → partner_of v d i h ≡ nth_place (is_request_of h.seq) (headers_from (opposite d) v) (response_rank (headers_from d v) i h.seq)
+    → partner_of v d i h ≡ nth_index (is_request_of h.seq) (headers_from (opposite d) v) (response_rank (headers_from d v) i h.seq)
 partner-response v d i h e =
     ap (λ s. option_and_then (λ t. index_at v (partner t)) (option_map (turn_after (take i (headers_from d v))) (option_map (λ side. record { dir = d; side = side; seq = h.seq }) s))) (side-response h e)
 
@@ -50,12 +50,12 @@ module _ (v : PairingValue) (d : Dir) (i j : ℕ) (request response : PlacedHead
       ∙ ap (option_map (pair_either request)) by.response_at
       ∙ ap (λ b. Some (cond b (pair_of request response) (pair_of response request))) by.by_rank.is_request
 
-  request_found : nth_place (is_request_of response.header.seq) (headers_from d v) (response_rank (headers_from (opposite d) v) j response.header.seq) ≡ Some i
+  request_found : nth_index (is_request_of response.header.seq) (headers_from d v) (response_rank (headers_from (opposite d) v) j response.header.seq) ≡ Some i
   request_found =
       let same : request.header.seq ≡ response.header.seq = by.by_rank.seq in
       let itself : (request.header.seq == request.header.seq) ≡ true = grind (arith, nat_tests) in
-      ap (λ n. nth_place (is_request_of response.header.seq) (headers_from d v) n) (sym by.by_rank.rank)
-      ∙ ap (λ n. nth_place (is_request_of n) (headers_from d v) (request_rank (headers_from d v) i request.header.seq)) (sym same)
+      ap (λ n. nth_index (is_request_of response.header.seq) (headers_from d v) n) (sym by.by_rank.rank)
+      ∙ ap (λ n. nth_index (is_request_of n) (headers_from d v) (request_rank (headers_from d v) i request.header.seq)) (sym same)
       ∙ found (is_request_of request.header.seq) (headers_from d v) i request.header by.by_rank.request_at (and_both _ _ by.by_rank.is_request itself)
 
   at-response : pair_at v response.place ≡ Some (pair_of request response)
@@ -63,7 +63,7 @@ module _ (v : PairingValue) (d : Dir) (i j : ℕ) (request response : PlacedHead
       pair-here v (opposite d) j response o by.response_at
       ∙ ap (pair_with v (opposite d) response) (
       partner-response v (opposite d) j response.header by.by_rank.is_response
-      ∙ ap (λ (d' : Dir). nth_place (is_request_of response.header.seq) (headers_from d' v) (response_rank (headers_from (opposite d) v) j response.header.seq)) (opposite-back d)
+      ∙ ap (λ (d' : Dir). nth_index (is_request_of response.header.seq) (headers_from d' v) (response_rank (headers_from (opposite d) v) j response.header.seq)) (opposite-back d)
       ∙ request_found)
       ∙ ap (λ (d' : Dir). option_map (pair_either response) (slice_get (pdus_from d' v) i)) (opposite-back d)
       ∙ ap (option_map (pair_either response)) by.request_at

@@ -19,7 +19,7 @@ use Rattle.smq_kit.specs.Orders.{place_cmp}
 use Rattle.smq_kit.specs.contracts.place.PlaceOrd.TheImpl as place_ord
 use Rattle.smq_kit.proofs.PlaceOrders.{places_total, places_exact}
 use Rattle.smq_pdu.specs.Header.{Header}
-use Rattle.smq_pdu.specs.Pairing.{nth_place}
+use Rattle.smq_pdu.specs.Pairing.{nth_index}
 use Rattle.smq_pair.specs.declared.entry.Entry.{Entry}
 use Rattle.smq_pair.specs.declared.entry.Series.{Series}
 use Rattle.smq_pair.specs.declared.entry.Side.{Side}
@@ -151,8 +151,8 @@ no_headers FromClient = refl
 no_headers FromCentre = refl
 
 no_index : (t : Turn) → index_at no_pdus t ≡ None
-unfolding nth_place
-no_index t = ap (λ hs. nth_place (is_of t.series.side t.series.seq) hs t.rank) (no_headers t.series.dir)
+unfolding nth_index
+no_index t = ap (λ hs. nth_index (is_of t.series.side t.series.seq) hs t.rank) (no_headers t.series.dir)
 
 no_entries : (es : Entries) → es.client ≡ [] → es.centre ≡ [] → (d : Dir) (i : ℕ) (e : Entry) → slice_get (entries_from d es) i ≢ Some e
 no_entries es client centre FromClient i e at = absurd (never (slice_get (entries_from FromClient es) i) e (ap (λ xs. slice_get xs i) client) at)

@@ -16,8 +16,8 @@ use Rattle.smq_kit.specs.Orders.{place_cmp}
 use Rattle.smq_kit.proofs.Comparisons.{is_equal}
 use Rattle.smq_kit.proofs.PlaceOrders.{places_total, places_exact}
 use Rattle.smq_pdu.specs.Header.{Header}
-use Rattle.smq_pdu.specs.Pairing.{is_request, is_response, is_request_of, is_response_of, nth_place}
-use Rattle.smq_pdu.proofs.Pairs.{in_turn, nth_place-map}
+use Rattle.smq_pdu.specs.Pairing.{is_request, is_response, is_request_of, is_response_of, nth_index}
+use Rattle.smq_pdu.proofs.Pairs.{in_turn, nth_index-map}
 use Rattle.smq_pair.specs.declared.pairing.Pair.{Pair}
 use Rattle.smq_pair.specs.declared.entry.Side.TheVariants.{Request, Response}
 use Rattle.smq_pair.specs.Pairing.{PlacedHeader, PairingValue, pdus_from, opposite, headers, pair_of, pair_after, response_to, request_of, with_earlier, standing_at, pair_at}
@@ -187,27 +187,27 @@ module _ (v : PairingValue) (d : Dir) (i : ℕ) (p : PlacedHeader) where
 
   -- the element of a rank, by its index
   by_rank : (g k : Header → Bool) → slice_get (filter (λ (r : PlacedHeader). g r.header) other) (count_by k (headers (take i mine)))
-      ≡ option_and_then (slice_get other) (nth_place g (headers other) (count_by k (take i (headers mine))))
+      ≡ option_and_then (slice_get other) (nth_index g (headers other) (count_by k (take i (headers mine))))
   by_rank g k =
       ap (λ hs. slice_get (filter (λ (r : PlacedHeader). g r.header) other) (count_by k hs)) (sym (take-map (λ (r : PlacedHeader). r.header) i mine))
       ∙ in_turn (λ (r : PlacedHeader). g r.header) other (count_by k (take i (headers mine)))
-      ∙ ap (option_and_then (slice_get other)) (sym (nth_place-map g (λ (r : PlacedHeader). r.header) other (count_by k (take i (headers mine)))))
+      ∙ ap (option_and_then (slice_get other)) (sym (nth_index-map g (λ (r : PlacedHeader). r.header) other (count_by k (take i (headers mine)))))
 
   by_kind : (a b : Bool) → is_request p.header ≡ a → is_response p.header ≡ b → pair_after other (take i mine) p ≡ pair_with v d p (partner_of v d i p.header)
   by_kind true b e f =
-      let at : partner_of v d i p.header ≡ nth_place (is_response_of p.header.seq) (headers other) (count_by (is_request_of p.header.seq) (take i (headers mine))) =
+      let at : partner_of v d i p.header ≡ nth_index (is_response_of p.header.seq) (headers other) (count_by (is_request_of p.header.seq) (take i (headers mine))) =
       ap (λ s. option_and_then (λ t. index_at v (partner t)) (option_map (turn_after (take i (headers mine))) (option_map (λ side. record { dir = d; side = side; seq = p.header.seq }) s))) (side-request p.header e) in
       ap (λ c. cond c (option_map (λ r. pair_of p r) (response_to other (take i mine) p)) (cond (is_response p.header) (option_map (λ r. pair_of r p) (request_of other (take i mine) p)) None)) e
       ∙ ap (option_map (λ r. pair_of p r)) (by_rank (is_response_of p.header.seq) (is_request_of p.header.seq))
-      ∙ joined (λ r. pair_of p r) other (nth_place (is_response_of p.header.seq) (headers other) (count_by (is_request_of p.header.seq) (take i (headers mine))))
+      ∙ joined (λ r. pair_of p r) other (nth_index (is_response_of p.header.seq) (headers other) (count_by (is_request_of p.header.seq) (take i (headers mine))))
       ∙ (λ x. option_and_then (λ j. option_map (λ r. cond (sym e x) (pair_of p r) (pair_of r p)) (slice_get other j)) (sym at x))
   by_kind false true e f =
-      let at : partner_of v d i p.header ≡ nth_place (is_request_of p.header.seq) (headers other) (count_by (is_response_of p.header.seq) (take i (headers mine))) =
+      let at : partner_of v d i p.header ≡ nth_index (is_request_of p.header.seq) (headers other) (count_by (is_response_of p.header.seq) (take i (headers mine))) =
       ap (λ s. option_and_then (λ t. index_at v (partner t)) (option_map (turn_after (take i (headers mine))) (option_map (λ side. record { dir = d; side = side; seq = p.header.seq }) s))) (side-response p.header f) in
       ap (λ c. cond c (option_map (λ r. pair_of p r) (response_to other (take i mine) p)) (cond (is_response p.header) (option_map (λ r. pair_of r p) (request_of other (take i mine) p)) None)) e
       ∙ ap (λ c. cond c (option_map (λ r. pair_of r p) (request_of other (take i mine) p)) None) f
       ∙ ap (option_map (λ r. pair_of r p)) (by_rank (is_request_of p.header.seq) (is_response_of p.header.seq))
-      ∙ joined (λ r. pair_of r p) other (nth_place (is_request_of p.header.seq) (headers other) (count_by (is_response_of p.header.seq) (take i (headers mine))))
+      ∙ joined (λ r. pair_of r p) other (nth_index (is_request_of p.header.seq) (headers other) (count_by (is_response_of p.header.seq) (take i (headers mine))))
       ∙ (λ x. option_and_then (λ j. option_map (λ r. cond (sym e x) (pair_of p r) (pair_of r p)) (slice_get other j)) (sym at x))
   by_kind false false e f =
       let none : side_of p.header ≡ None = (λ x. cond (e x) (Some Request) (cond (f x) (Some Response) None)) in

@@ -7,7 +7,7 @@ use Rattle.std.proofs.lemmas.List.{map-append, length-map}
 use Rattle.smq_kit.specs.declared.place.Dir.{Dir}
 use Rattle.smq_kit.specs.declared.place.Dir.TheVariants.{FromClient, FromCentre}
 use Rattle.smq_pdu.specs.Header.{Header}
-use Rattle.smq_pdu.specs.Pairing.{is_request, is_response, nth_place}
+use Rattle.smq_pdu.specs.Pairing.{is_request, is_response, nth_index}
 use Rattle.smq_pdu.proofs.Pairs.{stands, found}
 use Rattle.smq_pair.specs.declared.entry.Side.{Side}
 use Rattle.smq_pair.specs.declared.entry.Side.TheVariants.{Request, Response}
@@ -130,8 +130,8 @@ turn-found v d i h t at e =
     let parts = turn_parts (take i (headers_from d v)) (series_of d h) t e in
     let has = series-has d h t.series parts.0 in (
       has.dir,
-      ap (λ n. nth_place (is_of t.series.side t.series.seq) (headers_from t.series.dir v) n) parts.1
-          ∙ ap (λ (d' : Dir). nth_place (is_of t.series.side t.series.seq) (headers_from d' v) (count_by (is_of t.series.side t.series.seq) (take i (headers_from d v)))) has.dir
+      ap (λ n. nth_index (is_of t.series.side t.series.seq) (headers_from t.series.dir v) n) parts.1
+          ∙ ap (λ (d' : Dir). nth_index (is_of t.series.side t.series.seq) (headers_from d' v) (count_by (is_of t.series.side t.series.seq) (take i (headers_from d v)))) has.dir
           ∙ found (is_of t.series.side t.series.seq) (headers_from d v) i h at has.passes,
     )
 
@@ -168,7 +168,7 @@ module _ (v : PairingValue) (p : PlacedHeader) where
   index_by : (t : Turn) → t.series.dir ≡ p.place.dir
       → index_at (pushed v p) t ≡ cond (is_of t.series.side t.series.seq p.header && t.rank == count_in v t.series) (Some (length (headers_from t.series.dir v))) (index_at v t)
   index_by t e =
-      ap (λ hs. nth_place (is_of t.series.side t.series.seq) hs t.rank) (headers-by t.series.dir v p e)
+      ap (λ hs. nth_index (is_of t.series.side t.series.seq) hs t.rank) (headers-by t.series.dir v p e)
       ∙ place-last (is_of t.series.side t.series.seq) (headers_from t.series.dir v) p.header t.rank
 
   next_parts : (t : Turn) → next_turn ≡ Some t → IsOfSeries p.place.dir p.header t.series × (t.rank ≡ count_in v t.series)
@@ -186,7 +186,7 @@ module _ (v : PairingValue) (p : PlacedHeader) where
   -- nothing had its turn before
   pub index-free : (t : Turn) → next_turn ≡ Some t → index_at v t ≡ None
   index-free t e =
-      ap (λ n. nth_place (is_of t.series.side t.series.seq) (headers_from t.series.dir v) n) (next-rank t e)
+      ap (λ n. nth_index (is_of t.series.side t.series.seq) (headers_from t.series.dir v) n) (next-rank t e)
       ∙ place-none (is_of t.series.side t.series.seq) (headers_from t.series.dir v)
 
   -- it is the last of its direction
@@ -203,7 +203,7 @@ module _ (v : PairingValue) (p : PlacedHeader) where
   pub index-others : (u : Turn) → next_turn ≢ Some u → index_at (pushed v p) u ≡ index_at v u
   index-others u h = by_dir u.series.dir p.place.dir
       (λ same. index_by u same ∙ left same (is_of u.series.side u.series.seq p.header && u.rank == count_in v u.series) refl)
-      (λ apart. ap (λ ps. nth_place (is_of u.series.side u.series.seq) (headers ps) u.rank) (pushed-apart u.series.dir p.place.dir v p apart))
+      (λ apart. ap (λ ps. nth_index (is_of u.series.side u.series.seq) (headers ps) u.rank) (pushed-apart u.series.dir p.place.dir v p apart))
     where
       left : u.series.dir ≡ p.place.dir → (b : Bool) → (is_of u.series.side u.series.seq p.header && u.rank == count_in v u.series) ≡ b
           → cond b (Some (length (headers_from u.series.dir v))) (index_at v u) ≡ index_at v u

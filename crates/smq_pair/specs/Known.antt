@@ -58,7 +58,7 @@ two_sides = record { client = enquiry (client_at 0) 7 ∷ []; centre = enquiry (
 abbrev pub notices : PairingValue
 notices = record { client = []; centre = outbind (centre_at 0) 1 ∷ alert (centre_at 16) 2 ∷ [] }
 
--- a request that is answered by generic_nack
+-- a request whose response is generic_nack
 abbrev pub refused : PairingValue
 refused = record { client = submit (client_at 0) 7 ∷ []; centre = nack (centre_at 0) 7 ∷ [] }
 

@@ -49,7 +49,7 @@ pub fn known_pairings()
     ensures none_waits { waiting notices ≡ [] }
     ensures no_stray { strays notices ≡ [] }
 
-    // generic_nack answers a request of its number, and agrees with it; another command doesn't.
+    // generic_nack is the response to a request of its number, and agrees with it; another command doesn't.
     ensures nack { pair_at refused (centre_at 0)
         ≡ Some (pair_at_places (client_at 0) (centre_at 0) true 3) }
     ensures disagrees { pair_at other_command (client_at 0)

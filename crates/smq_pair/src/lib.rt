@@ -1,4 +1,4 @@
-//! Which response answers which request, as the PDUs of a session come in, whichever of its directions is read first.
+//! Which response belongs to which request, as the PDUs of a session come in, whichever of its directions is read first.
 #![tactic(auto)]
 
 mod entry;

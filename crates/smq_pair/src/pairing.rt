@@ -102,7 +102,8 @@ impl Pairing {
         Ok(made)
     }
 
-    /// The pair in which the PDU at a place stands, if there is one.
+    /// The pair in which the PDU at a place stands, if there is one. It changes nothing; it takes `&mut self` so that a
+    /// pairing whose PDUs are stored outside memory may read what it looks for.
     pub fn pair_of(&mut self, place: Place) -> Option<Pair>
         ensures found { result ≡ pair_at self.old place }
         ensures stays { self.new ≡ self.old }

@@ -38,6 +38,7 @@ impl Streams {
         ensures fits { OnOk result (length (entries_from dir (entries_in self.old)) + 1 < 2 ^ 64) }
     {
         match dir {
+            // A capacity fits in 64 bits, and so does the number of PDUs that it has room for.
             Dir::FromClient => {
                 self.client.reserve(1)?;
                 let _capacity = self.client.capacity();

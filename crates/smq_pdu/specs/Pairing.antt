@@ -43,27 +43,27 @@ agrees request response = response.command == request.command + response_bit || 
 
 -- ---- the response of a request, computed
 
--- the place of the element that passes a test and before which so many pass it
-unfoldable pub nth_place : {X : Type 0} → (X → Bool) → List X → ℕ → Option ℕ
-nth_place passes [] rank = None
-nth_place passes (x ∷ xs) zero = if passes x then Some 0 else option_map suc (nth_place passes xs zero)
-nth_place passes (x ∷ xs) (suc rank) = option_map suc (nth_place passes xs (if passes x then rank else suc rank))
+-- the index of the element that passes a test and before which so many pass it
+unfoldable pub nth_index : {X : Type 0} → (X → Bool) → List X → ℕ → Option ℕ
+nth_index passes [] rank = None
+nth_index passes (x ∷ xs) zero = if passes x then Some 0 else option_map suc (nth_index passes xs zero)
+nth_index passes (x ∷ xs) (suc rank) = option_map suc (nth_index passes xs (if passes x then rank else suc rank))
 
--- the place of the response to a request of this sequence number and rank
-abbrev pub response_place : List Header → ℕ → ℕ → Option ℕ
-response_place other seq rank = nth_place (is_response_of seq) other rank
+-- the index of the response to a request of this sequence number and rank
+abbrev pub response_index : List Header → ℕ → ℕ → Option ℕ
+response_index other seq rank = nth_index (is_response_of seq) other rank
 
 -- what is computed at a request's rank is the response of a pair
 abbrev pub FindsPairs : Type 0
 FindsPairs = (mine other : List Header) (i j : ℕ) (request : Header) → slice_get mine i ≡ Some request
-    → is_request request ≡ true → response_place other request.seq (request_rank mine i request.seq) ≡ Some j
+    → is_request request ≡ true → response_index other request.seq (request_rank mine i request.seq) ≡ Some j
     → (response : Header) × IsPair mine other i j request response
 
 -- the response of a pair is the one computed, so a request has one at most
 abbrev pub FindsEachPair : Type 0
 FindsEachPair = (mine other : List Header) (i j : ℕ) (request response : Header)
     → IsPair mine other i j request response
-    → response_place other request.seq (request_rank mine i request.seq) ≡ Some j
+    → response_index other request.seq (request_rank mine i request.seq) ≡ Some j
 
 -- a response has one request at most
 abbrev pub HasOneRequest : Type 0
@@ -74,4 +74,4 @@ HasOneRequest = (mine other : List Header) (i k j : ℕ) (one two response : Hea
 abbrev pub FindsInTurn : Type 0
 FindsInTurn = (other : List Header) (seq rank : ℕ)
     → slice_get (filter (is_response_of seq) other) rank
-    ≡ option_and_then (slice_get other) (response_place other seq rank)
+    ≡ option_and_then (slice_get other) (response_index other seq rank)

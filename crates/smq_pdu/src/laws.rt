@@ -8,7 +8,7 @@ ghost use Rattle.smq_pdu.specs.Bodies.{SubmitValue, DeliverValue, SubmitBody, Su
 ghost use Rattle.smq_pdu.specs.Readers.{mandatory_at, tlvs_of, rest_of};
 ghost use Rattle.smq_pdu.specs.Pdu.{before_zero, id_of, pdu_of};
 ghost use Rattle.smq_pdu.specs.Laws.{said, IsSubmit, IsDeliver, IsUndecodable, IsSubmitResponse, IsSubmitResponseWithoutId, IsOther};
-ghost use Rattle.smq_pdu.specs.Pairing.{FindsPairs, FindsEachPair, HasOneRequest, FindsInTurn, agrees, is_request, is_response, request_rank, response_rank, response_place};
+ghost use Rattle.smq_pdu.specs.Pairing.{FindsPairs, FindsEachPair, HasOneRequest, FindsInTurn, agrees, is_request, is_response, request_rank, response_rank, response_index};
 ghost use Rattle.smq_pdu.specs.Header.{Header, header_with};
 ghost use Rattle.smq_pdu.specs.Known.{submit_octets, submit_pdu, plus_octets, plus_pdu, national_octets, national_pdu, too_long_octets, too_long_pdu, other_octets, address_with, response_octets, response_pdu, receipt_octets, receipt_pdu, all_parameters_octets, all_parameters_pdu, cut_octets, cut_pdu, nack_octets, nack_pdu, words_octets, words_pdu, id_of_64, parameter_octets, parameter_tlvs, parameter_rest, IsRequestCommand, IsResponseCommand, IsNeitherCommand, short_requests, short_responses};
 ghost use Rattle.smq_pdu.specs.Decoded.{submit_view, deliver_view, pdu_view};
@@ -197,10 +197,10 @@ pub fn known_pairs()
     ensures second_rank { request_rank short_requests 2 7 ≡ 1 }
     ensures other_rank { request_rank short_requests 3 8 ≡ 0 }
     ensures response_rank { response_rank short_responses 2 7 ≡ 1 }
-    ensures first_response { response_place short_responses 7 0 ≡ Some 1 }
-    ensures second_response { response_place short_responses 7 1 ≡ Some 2 }
-    ensures no_third_response { response_place short_responses 7 2 ≡ None }
-    ensures nack { response_place short_responses 8 0 ≡ Some 3 }
+    ensures first_response { response_index short_responses 7 0 ≡ Some 1 }
+    ensures second_response { response_index short_responses 7 1 ≡ Some 2 }
+    ensures no_third_response { response_index short_responses 7 2 ≡ None }
+    ensures nack { response_index short_responses 8 0 ≡ Some 3 }
 
     // Pairs are made by rank alone, so these two disagree.
     ensures disagrees { agrees (header_with 0x0000_0004) (header_with 0x8000_0015) ≡ false }

@@ -33,7 +33,7 @@ state_of_number number = find (λ state. (row_of state).number == number) states
 unfoldable pub state_of_word : List ℕ → Option MessageState
 state_of_word word = find (λ state. same_letters word (row_of state).word) states
 
--- Each state is found by its number and by its word, and the numbers are 1 to 8.
+-- Each state is found by its number and by its word, and what is found has that number and that word.
 pub record StatesAreTheTable : Type 0 where
   pub by_number : (state : MessageState) → state_of_number (row_of state).number ≡ Some state
   pub numbered : (number : ℕ) (state : MessageState) → state_of_number number ≡ Some state

@@ -39,12 +39,12 @@ fn header_end(text: &[u8]) -> Option<usize>
 pub(crate) fn value_of<'a>(label: &[u8], header: &'a [u8]) -> Option<&'a [u8]>
     ensures { option_copied result ≡ value_of label.now header.entry.now }
 {
-    let place = label_place(label, header)?;
-    Some(up_to(b' ', &header[place + label.len()..]))
+    let offset = label_offset(label, header)?;
+    Some(up_to(b' ', &header[offset + label.len()..]))
 }
 
-/// The least place of a label.
-fn label_place(label: &[u8], header: &[u8]) -> Option<usize>
+/// The least offset at which a label stands.
+fn label_offset(label: &[u8], header: &[u8]) -> Option<usize>
     ensures value { result ≡ least_below (labels_at label.now header.now) (length header.now) }
     ensures within { IfSome result (λ place. place + length label.now ≤ length header.now) }
 {

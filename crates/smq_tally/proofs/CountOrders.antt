@@ -31,8 +31,8 @@ use Rattle.smq_tally.specs.contracts.band.BandOrd.TheImpl as band_ord
 use Rattle.smq_tally.specs.contracts.outcome.OutcomeOrd.TheImpl as outcome_ord
 use Rattle.smq_tally.specs.contracts.view.ViewOrd.TheImpl as view_ord
 use Rattle.smq_tally.specs.contracts.value.SubmitErrorOrd.TheImpl as error_ord
-use Rattle.smq_tally.specs.Bands.{band_place}
-use Rattle.smq_tally.specs.Rows.{count_cmp, value_cmp, submit_error_numbers, value_numbers, outcome_place, views, view_place}
+use Rattle.smq_tally.specs.Bands.{band_rank}
+use Rattle.smq_tally.specs.Rows.{count_cmp, value_cmp, submit_error_numbers, value_numbers, outcome_rank, views, view_rank}
 use Rattle.smq_tally.specs.Tables.{TablesValue, in_view, shown_row, shown_cmp, rows_of}
 use Rattle.smq_kit.proofs.Ordered as ordered
 use Rattle.smq_kit.proofs.Comparisons.{then_first, then_second, then_equal}
@@ -41,19 +41,19 @@ use Rattle.smq_tally.specs.within.CountOrder.{kept_cmp, kept_value_cmp, count_ke
 -- ---- the derived orders are those of the definitions
 
 abbrev OutcomesAlike : Outcome → Outcome → Type 0
-OutcomesAlike a b = (outcome_ord.ghosts).cmp a b ≡ nat_cmp (outcome_place a) (outcome_place b)
+OutcomesAlike a b = (outcome_ord.ghosts).cmp a b ≡ nat_cmp (outcome_rank a) (outcome_rank b)
 
 outcome-order : (a b : Outcome) → OutcomesAlike a b
 outcome-order a b = search rules
 
 abbrev ViewsAlike : View → View → Type 0
-ViewsAlike a b = (view_ord.ghosts).cmp a b ≡ nat_cmp (view_place a) (view_place b)
+ViewsAlike a b = (view_ord.ghosts).cmp a b ≡ nat_cmp (view_rank a) (view_rank b)
 
 view-order : (a b : View) → ViewsAlike a b
 view-order a b = search rules
 
 abbrev BandsAlike : Band → Band → Type 0
-BandsAlike a b = (band_ord.ghosts).cmp a b ≡ nat_cmp (band_place a) (band_place b)
+BandsAlike a b = (band_ord.ghosts).cmp a b ≡ nat_cmp (band_rank a) (band_rank b)
 
 pub band-order : (a b : Band) → BandsAlike a b
 band-order a b = search rules
@@ -69,8 +69,8 @@ error-order (s.Failed x) (s.Failed y) = code-order x y
 then_tied : (m n : ℕ) → nat_cmp m n ≡ ordering_then (nat_cmp m n) Equal
 then_tied m n = sym (then_equal (nat_cmp m n))
 
-band_tied : (a b : Band) → (band_ord.ghosts).cmp a b ≡ ordering_then (nat_cmp (band_place a) (band_place b)) Equal
-band_tied a b = band-order a b ∙ then_tied (band_place a) (band_place b)
+band_tied : (a b : Band) → (band_ord.ghosts).cmp a b ≡ ordering_then (nat_cmp (band_rank a) (band_rank b)) Equal
+band_tied a b = band-order a b ∙ then_tied (band_rank a) (band_rank b)
 
 pub value-order : (a b : Value) → kept_value_cmp a b ≡ value_cmp a b
 value-order a b = search (rules, then_tied, error-order, band_tied)
@@ -84,20 +84,20 @@ count_key-order = λ i a b. ordering_then (view-order a.view b.view i) (ordering
 abbrev outcome_at : ℕ → Outcome
 outcome_at n = get_or (o.Waiting ∷ o.Mismatched ∷ o.Refused ∷ o.NoId ∷ o.Ambiguous ∷ o.Delivered ∷ o.Failed ∷ o.Unasked ∷ o.Lapsed ∷ o.Open ∷ []) n o.Waiting
 
-outcome_again : (a : Outcome) → outcome_at (outcome_place a) ≡ a
+outcome_again : (a : Outcome) → outcome_at (outcome_rank a) ≡ a
 outcome_again a = search rules
 
-same_outcome : (a b : Outcome) → nat_cmp (outcome_place a) (outcome_place b) ≡ Equal → a ≡ b
+same_outcome : (a b : Outcome) → nat_cmp (outcome_rank a) (outcome_rank b) ≡ Equal → a ≡ b
 same_outcome a b e = sym (outcome_again a) ∙ ap outcome_at (nat_cmp-IsAntisymmetric _ _ e) ∙ outcome_again b
 
 -- the view of a place
 abbrev view_at : ℕ → View
 view_at n = get_or views n v.Link
 
-view_again : (a : View) → view_at (view_place a) ≡ a
+view_again : (a : View) → view_at (view_rank a) ≡ a
 view_again a = search rules
 
-pub same_view : (a b : View) → nat_cmp (view_place a) (view_place b) ≡ Equal → a ≡ b
+pub same_view : (a b : View) → nat_cmp (view_rank a) (view_rank b) ≡ Equal → a ≡ b
 same_view a b e = sym (view_again a) ∙ ap view_at (nat_cmp-IsAntisymmetric _ _ e) ∙ view_again b
 
 -- the error code of its numbers
@@ -127,7 +127,7 @@ submit_error_again (s.Failed x) = ap s.Failed (error_again x)
 abbrev band_at : ℕ → Band
 band_at n = get_or (b.Early ∷ b.Under5Seconds ∷ b.Under30Seconds ∷ b.Under5Minutes ∷ b.Under1Hour ∷ b.Over ∷ []) n b.Early
 
-band_again : (a : Band) → band_at (band_place a) ≡ a
+band_again : (a : Band) → band_at (band_rank a) ≡ a
 band_again a = search rules
 
 -- the value of its numbers
@@ -158,9 +158,9 @@ same_value a b e = sym (value_again a) ∙ ap value_from (slice_cmp-IsAntisymmet
 -- two keys that compare equal are one
 pub count_keys_exact : IsAntisymmetric count_cmp
 count_keys_exact a b e =
-    let views : Ordering = nat_cmp (view_place a.view) (view_place b.view) in
+    let views : Ordering = nat_cmp (view_rank a.view) (view_rank b.view) in
     let values : Ordering = value_cmp a.value b.value in
-    let outcomes : Ordering = nat_cmp (outcome_place a.outcome) (outcome_place b.outcome) in
+    let outcomes : Ordering = nat_cmp (outcome_rank a.outcome) (outcome_rank b.outcome) in
     let later : ordering_then values outcomes ≡ Equal = then_second views (ordering_then values outcomes) e in
     λ i. record { view = same_view a.view b.view (then_first views (ordering_then values outcomes) e) i; value = same_value a.value b.value (then_first values outcomes later) i; outcome = same_outcome a.outcome b.outcome (then_second values outcomes later) i }
 
@@ -190,9 +190,9 @@ above-first e (f ∷ fs) h = let b = both_true (is_lt (count_cmp e.0 f.0)) (belo
 
 same_view_less : (view : View) (e f : CountKey × ℕ) → in_view view e ≡ true → in_view view f ≡ true → entry_cmp e f ≡ Less → shown_cmp (shown_row e) (shown_row f) ≡ Less
 same_view_less view e f h k less =
-    let one : view_place e.0.view ≡ view_place view = eqb-true _ _ h in
-    let two : view_place f.0.view ≡ view_place view = eqb-true _ _ k in
-    let tied : nat_cmp (view_place e.0.view) (view_place f.0.view) ≡ Equal = rw (one, two) (sym (nat_cmp_is (view_place view) (view_place view) Equal refl)) in
+    let one : view_rank e.0.view ≡ view_rank view = eqb-true _ _ h in
+    let two : view_rank f.0.view ≡ view_rank view = eqb-true _ _ k in
+    let tied : nat_cmp (view_rank e.0.view) (view_rank f.0.view) ≡ Equal = rw (one, two) (sym (nat_cmp_is (view_rank view) (view_rank view) Equal refl)) in
     rw tied at less
 
 shown-above : (view : View) (e : CountKey × ℕ) (es : List (CountKey × ℕ)) → in_view view e ≡ true → AllByRecursion (λ f. entry_cmp e f ≡ Less) es → AllByRecursion (λ y. shown_cmp (shown_row e) y ≡ Less) (map shown_row (filter (in_view view) es))

@@ -28,7 +28,7 @@ use Rattle.smq_tally.specs.declared.list.List as l
 use Rattle.smq_tally.specs.declared.list.List.TheVariants as v
 use Rattle.smq_tally.specs.declared.list.Listed.{Listed}
 use Rattle.smq_tally.specs.contracts.list.ListOrd.TheImpl as list_ord
-use Rattle.smq_tally.specs.Lists.{lists, list_place, listed_cmp, in_list, listed_set}
+use Rattle.smq_tally.specs.Lists.{lists, list_rank, listed_cmp, in_list, listed_set}
 use Rattle.smq_tally.specs.Tables.{TablesValue, listed_in}
 use Rattle.smq_tally.specs.within.ListOrder.{kept_listed_cmp, listed_total, first_place, first_in}
 
@@ -48,7 +48,7 @@ each_list P p0 p1 p2 p3 p4 p5 p6 p7 p8 p9 p10 v.Open = p9
 each_list P p0 p1 p2 p3 p4 p5 p6 p7 p8 p9 p10 v.Lapsed = p10
 
 abbrev ListsAlike : l.List → l.List → Type 0
-ListsAlike a b = (list_ord.ghosts).cmp a b ≡ nat_cmp (list_place a) (list_place b)
+ListsAlike a b = (list_ord.ghosts).cmp a b ≡ nat_cmp (list_rank a) (list_rank b)
 
 list-order : (a b : l.List) → ListsAlike a b
 list-order v.Waiting = each_list (ListsAlike v.Waiting) refl refl refl refl refl refl refl refl refl refl refl
@@ -81,7 +81,7 @@ listed-order = λ i a b. ordering_then (list-order a.list b.list i) (place-order
 abbrev list_at : ℕ → l.List
 list_at n = get_or lists n v.Waiting
 
-list_again : (a : l.List) → list_at (list_place a) ≡ a
+list_again : (a : l.List) → list_at (list_rank a) ≡ a
 list_again v.Waiting = refl
 list_again v.StrayAnswers = refl
 list_again v.Mismatched = refl
@@ -94,12 +94,12 @@ list_again v.Broken = refl
 list_again v.Open = refl
 list_again v.Lapsed = refl
 
-pub same_list : (a b : l.List) → list_place a ≡ list_place b → a ≡ b
+pub same_list : (a b : l.List) → list_rank a ≡ list_rank b → a ≡ b
 same_list a b e = sym (list_again a) ∙ ap list_at e ∙ list_again b
 
 pub listed_exact : IsAntisymmetric listed_cmp
 listed_exact a b e =
-    let in_lists : Ordering = nat_cmp (list_place a.list) (list_place b.list) in
+    let in_lists : Ordering = nat_cmp (list_rank a.list) (list_rank b.list) in
     let in_places : Ordering = place_cmp a.place b.place in
     λ i. record {
       list = same_list a.list b.list (nat_cmp-IsAntisymmetric _ _ (then_first in_lists in_places e)) i;
@@ -138,9 +138,9 @@ keys-sorted (e ∷ es) h =
 -- of two in one list the place decides
 same_list_less : (list : l.List) (a b : Listed) → in_list list a ≡ true → in_list list b ≡ true → listed_cmp a b ≡ Less → place_cmp a.place b.place ≡ Less
 same_list_less list a b h k less =
-    let one : list_place a.list ≡ list_place list = eqb-true _ _ h in
-    let two : list_place b.list ≡ list_place list = eqb-true _ _ k in
-    let tied : nat_cmp (list_place a.list) (list_place b.list) ≡ Equal = rw (one, two) (sym (nat_cmp_is (list_place list) (list_place list) Equal refl)) in
+    let one : list_rank a.list ≡ list_rank list = eqb-true _ _ h in
+    let two : list_rank b.list ≡ list_rank list = eqb-true _ _ k in
+    let tied : nat_cmp (list_rank a.list) (list_rank b.list) ≡ Equal = rw (one, two) (sym (nat_cmp_is (list_rank list) (list_rank list) Equal refl)) in
     rw tied at less
 
 places-above : (list : l.List) (e : Listed) (es : List Listed) → in_list list e ≡ true → AllByRecursion (λ y. listed_cmp e y ≡ Less) es
@@ -190,8 +190,8 @@ then_least Equal q h = h
 then_least Greater q h = refl
 
 -- what a list begins with is at or before what is of no earlier list
-begins : (list : l.List) (q : Listed) → is_le (listed_cmp (first_in list) q) ≡ is_le (nat_cmp (list_place list) (list_place q.list))
-begins list q = then_least (nat_cmp (list_place list) (list_place q.list)) (place_cmp first_place q.place) (first_le q.place)
+begins : (list : l.List) (q : Listed) → is_le (listed_cmp (first_in list) q) ≡ is_le (nat_cmp (list_rank list) (list_rank q.list))
+begins list q = then_least (nat_cmp (list_rank list) (list_rank q.list)) (place_cmp first_place q.place) (first_le q.place)
 
 pub one_number : (a b : ℕ) → (is_le (nat_cmp a b) && not (is_le (nat_cmp (a + 1) b))) ≡ (b == a)
 one_number a b = grind (arith, nat_tests)
@@ -200,34 +200,34 @@ pub last_number : (a b : ℕ) → b ≤ a → (is_le (nat_cmp a b) && not false)
 last_number a b h = grind (arith, nat_tests)
 
 -- of a list are those from its first possible one up to the next list's
-up_to_next : (list next : l.List) → list_place next ≡ list_place list + 1 → (q : Listed) → range_contains kept_listed_cmp (Included (first_in list)) (Excluded (first_in next)) q ≡ in_list list q
+up_to_next : (list next : l.List) → list_rank next ≡ list_rank list + 1 → (q : Listed) → range_contains kept_listed_cmp (Included (first_in list)) (Excluded (first_in next)) q ≡ in_list list q
 up_to_next list next e q =
     ap (λ (R : Listed → Listed → Ordering). range_contains R (Included (first_in list)) (Excluded (first_in next)) q) listed-order
     ∙ (λ i. begins list q i && not (begins next q i))
-    ∙ ap (λ n. is_le (nat_cmp (list_place list) (list_place q.list)) && not (is_le (nat_cmp n (list_place q.list)))) e
-    ∙ one_number (list_place list) (list_place q.list)
+    ∙ ap (λ n. is_le (nat_cmp (list_rank list) (list_rank q.list)) && not (is_le (nat_cmp n (list_rank q.list)))) e
+    ∙ one_number (list_rank list) (list_rank q.list)
 
 -- of the last list are all from its first possible one
-up_to_end : (list : l.List) → ((other : l.List) → list_place other ≤ list_place list) → (q : Listed) → range_contains kept_listed_cmp (Included (first_in list)) Unbounded q ≡ in_list list q
+up_to_end : (list : l.List) → ((other : l.List) → list_rank other ≤ list_rank list) → (q : Listed) → range_contains kept_listed_cmp (Included (first_in list)) Unbounded q ≡ in_list list q
 up_to_end list most q =
     ap (λ (R : Listed → Listed → Ordering). range_contains R (Included (first_in list)) Unbounded q) listed-order
     ∙ (λ i. begins list q i && not false)
-    ∙ last_number (list_place list) (list_place q.list) (most q.list)
+    ∙ last_number (list_rank list) (list_rank q.list) (most q.list)
 
-pub next_place : (list next : l.List) → Some next ≡ slice_get lists (list_place list + 1) → list_place next ≡ list_place list + 1
-next_place v.Waiting next e = let same : next ≡ v.StrayAnswers = cc in ap list_place same
-next_place v.StrayAnswers next e = let same : next ≡ v.Mismatched = cc in ap list_place same
-next_place v.Mismatched next e = let same : next ≡ v.StrayReceipts = cc in ap list_place same
-next_place v.StrayReceipts next e = let same : next ≡ v.AmbiguousReceipts = cc in ap list_place same
-next_place v.AmbiguousReceipts next e = let same : next ≡ v.ExtraReceipts = cc in ap list_place same
-next_place v.ExtraReceipts next e = let same : next ≡ v.Unreadable = cc in ap list_place same
-next_place v.Unreadable next e = let same : next ≡ v.Undecodable = cc in ap list_place same
-next_place v.Undecodable next e = let same : next ≡ v.Broken = cc in ap list_place same
-next_place v.Broken next e = let same : next ≡ v.Open = cc in ap list_place same
-next_place v.Open next e = let same : next ≡ v.Lapsed = cc in ap list_place same
+pub next_place : (list next : l.List) → Some next ≡ slice_get lists (list_rank list + 1) → list_rank next ≡ list_rank list + 1
+next_place v.Waiting next e = let same : next ≡ v.StrayAnswers = cc in ap list_rank same
+next_place v.StrayAnswers next e = let same : next ≡ v.Mismatched = cc in ap list_rank same
+next_place v.Mismatched next e = let same : next ≡ v.StrayReceipts = cc in ap list_rank same
+next_place v.StrayReceipts next e = let same : next ≡ v.AmbiguousReceipts = cc in ap list_rank same
+next_place v.AmbiguousReceipts next e = let same : next ≡ v.ExtraReceipts = cc in ap list_rank same
+next_place v.ExtraReceipts next e = let same : next ≡ v.Unreadable = cc in ap list_rank same
+next_place v.Unreadable next e = let same : next ≡ v.Undecodable = cc in ap list_rank same
+next_place v.Undecodable next e = let same : next ≡ v.Broken = cc in ap list_rank same
+next_place v.Broken next e = let same : next ≡ v.Open = cc in ap list_rank same
+next_place v.Open next e = let same : next ≡ v.Lapsed = cc in ap list_rank same
 next_place v.Lapsed next e = absurd cc
 
-last_place : (list : l.List) → None ≡ slice_get lists (list_place list + 1) → (other : l.List) → list_place other ≤ list_place list
+last_place : (list : l.List) → None ≡ slice_get lists (list_rank list + 1) → (other : l.List) → list_rank other ≤ list_rank list
 last_place v.Waiting e = absurd cc
 last_place v.StrayAnswers e = absurd cc
 last_place v.Mismatched e = absurd cc
@@ -238,12 +238,12 @@ last_place v.Unreadable e = absurd cc
 last_place v.Undecodable e = absurd cc
 last_place v.Broken e = absurd cc
 last_place v.Open e = absurd cc
-last_place v.Lapsed e = each_list (λ other. list_place other ≤ 10) (omega arith) (omega arith) (omega arith) (omega arith) (omega arith) (omega arith) (omega arith) (omega arith) (omega arith) (omega arith) (omega arith)
+last_place v.Lapsed e = each_list (λ other. list_rank other ≤ 10) (omega arith) (omega arith) (omega arith) (omega arith) (omega arith) (omega arith) (omega arith) (omega arith) (omega arith) (omega arith) (omega arith)
 
 -- a list begins before the next one does
-pub list-forward : (list next : l.List) (first limit : Listed) → first ≡ first_in list → limit ≡ first_in next → Some next ≡ slice_get lists (list_place list + 1) → is_gt (kept_listed_cmp first limit) ≡ false
+pub list-forward : (list next : l.List) (first limit : Listed) → first ≡ first_in list → limit ≡ first_in next → Some next ≡ slice_get lists (list_rank list + 1) → is_gt (kept_listed_cmp first limit) ≡ false
 list-forward list next first limit one other e =
-    (λ i. is_gt (listed-order i (one i) (other i))) ∙ ap (λ n. is_gt (ordering_then (nat_cmp (list_place list) n) Equal)) (next_place list next e) ∙ before (list_place list)
+    (λ i. is_gt (listed-order i (one i) (other i))) ∙ ap (λ n. is_gt (ordering_then (nat_cmp (list_rank list) n) Equal)) (next_place list next e) ∙ before (list_rank list)
   where
     before : (n : ℕ) → is_gt (ordering_then (nat_cmp n (n + 1)) Equal) ≡ false
     before n = ap (λ r. is_gt (ordering_then r Equal)) (sym (nat_cmp_is n (n + 1) Less (omega arith)))
@@ -256,14 +256,14 @@ ranged t list es left inside is sorted same taken =
     ∙ ap (λ (s : FinSet listed_cmp). map (λ e. e.place) (filter (in_list list) (keys s))) is
 
 pub ranged-next : (t : TablesValue) (list next : l.List) (first limit : Listed) (es left : List Listed) → first ≡ first_in list → limit ≡ first_in next → listed_set es ≡ t.places
-    → IsStrictlySortedBy kept_listed_cmp es → Some next ≡ slice_get lists (list_place list + 1)
+    → IsStrictlySortedBy kept_listed_cmp es → Some next ≡ slice_get lists (list_rank list + 1)
     → left ≡ filter (range_contains kept_listed_cmp (Included first) (Excluded limit)) es → map (λ e. e.place) left ≡ listed_in t list
 ranged-next t list next first limit es left one other is sorted e taken =
     ranged t list es left (range_contains kept_listed_cmp (Included (first_in list)) (Excluded (first_in next))) is sorted (up_to_next list next (next_place list next e))
     (taken ∙ (λ i. filter (range_contains kept_listed_cmp (Included (one i)) (Excluded (other i))) es))
 
 pub ranged-end : (t : TablesValue) (list : l.List) (first : Listed) (es left : List Listed) → first ≡ first_in list → listed_set es ≡ t.places
-    → IsStrictlySortedBy kept_listed_cmp es → None ≡ slice_get lists (list_place list + 1)
+    → IsStrictlySortedBy kept_listed_cmp es → None ≡ slice_get lists (list_rank list + 1)
     → left ≡ filter (range_contains kept_listed_cmp (Included first) Unbounded) es → map (λ e. e.place) left ≡ listed_in t list
 ranged-end t list first es left one is sorted e taken =
     ranged t list es left (range_contains kept_listed_cmp (Included (first_in list)) Unbounded) is sorted (up_to_end list (last_place list e))

@@ -15,7 +15,7 @@ use Rattle.smq_tally.specs.declared.fact.CountKey.{CountKey}
 use Rattle.smq_tally.specs.declared.outcome.Outcome.{Outcome}
 use Rattle.smq_tally.specs.declared.value.Value.{Value}
 use Rattle.smq_tally.specs.declared.view.View.{View}
-use Rattle.smq_tally.specs.Rows.{view_place, count_key, count_cmp, same_count_key}
+use Rattle.smq_tally.specs.Rows.{view_rank, count_key, count_cmp, same_count_key}
 use Rattle.smq_tally.specs.Tables.{TablesValue, ShownRow, in_view, shown_row, rows_of}
 use Rattle.smq_tally.specs.within.CountOrder.{count_keys_total}
 use Rattle.smq_tally.proofs.CountOrders.{count_keys_exact, same_view}
@@ -31,8 +31,8 @@ key_of view row = count_key view row.0 row.1
 -- a count in a view has the key of the row that shows it
 key-shown : (view : View) (e : CountKey × ℕ) → in_view view e ≡ true → key_of view (shown_row e) ≡ e.0
 key-shown view e h =
-    let place : view_place view ≡ view_place e.0.view = sym (eqb-true _ _ h) in
-    let tied : nat_cmp (view_place view) (view_place e.0.view) ≡ Equal = sym (nat_cmp_is (view_place view) (view_place e.0.view) Equal place) in
+    let place : view_rank view ≡ view_rank e.0.view = sym (eqb-true _ _ h) in
+    let tied : nat_cmp (view_rank view) (view_rank e.0.view) ≡ Equal = sym (nat_cmp_is (view_rank view) (view_rank e.0.view) Equal place) in
     λ i. count_key (same_view view e.0.view tied i) e.0.value e.0.outcome
 
 -- each row shows the count that stands at its key
@@ -52,7 +52,7 @@ same_number n = grind (arith, nat_tests)
 first-shown : (view : View) (value : Value) (outcome : Outcome) (n : ℕ) (es : List (CountKey × ℕ)) → Contains (rows_among view ((count_key view value outcome, n) ∷ es)) (value, outcome, n)
 first-shown view value outcome n es =
     let e : CountKey × ℕ = (count_key view value outcome, n) in
-    subst (λ (b : Bool). Contains (map shown_row (cond b (e ∷ filter (in_view view) es) (filter (in_view view) es))) (value, outcome, n)) (sym (same_number (view_place view))) (0, omega arith, refl)
+    subst (λ (b : Bool). Contains (map shown_row (cond b (e ∷ filter (in_view view) es) (filter (in_view view) es))) (value, outcome, n)) (sym (same_number (view_rank view))) (0, omega arith, refl)
 
 -- each count that stands in the view is shown
 found-shown : (view : View) (value : Value) (outcome : Outcome) (n : ℕ) (es : List (CountKey × ℕ)) → find count_cmp (count_key view value outcome) es ≡ Some n

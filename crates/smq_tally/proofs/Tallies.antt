@@ -23,7 +23,7 @@ use Rattle.smq_tally.specs.declared.fact.CountKey.{CountKey}
 use Rattle.smq_tally.specs.declared.value.Value.{Value}
 use Rattle.smq_tally.specs.declared.view.View.{View}
 use Rattle.smq_tally.specs.Lists.{listed_cmp, listings_of_fact}
-use Rattle.smq_tally.specs.Rows.{views, view_place, value_in, count_key, count_cmp, same_count_key, key_in, keys_of_fact, stands_in}
+use Rattle.smq_tally.specs.Rows.{views, view_rank, value_in, count_key, count_cmp, same_count_key, key_in, keys_of_fact, stands_in}
 use Rattle.smq_tally.specs.Tables.{TablesValue, tables_of, number_at}
 use Rattle.smq_tally.specs.within.Counting.{HasNoZeros, keys_from, count_of, one_more, plus, one_less, minus, one_listed, with_listed}
 use Rattle.smq_tally.specs.within.CountOrder.{count_keys_total}
@@ -75,8 +75,8 @@ unequal_places : (a b : ℕ) → (a == b) ≡ false → is_eq (nat_cmp a b) ≡ 
 unequal_places a b e = grind (arith, nat_tests, e)
 
 -- a key of another view is another key
-apart : (q : CountKey) (view : View) (value : Value) (outcome : Outcome) → (view_place q.view == view_place view) ≡ false → same_count_key q (count_key view value outcome) ≡ false
-apart q view value outcome e = unequal_then (nat_cmp (view_place q.view) (view_place view)) _ (unequal_places _ _ e)
+apart : (q : CountKey) (view : View) (value : Value) (outcome : Outcome) → (view_rank q.view == view_rank view) ≡ false → same_count_key q (count_key view value outcome) ≡ false
+apart q view value outcome e = unequal_then (nat_cmp (view_rank q.view) (view_rank view)) _ (unequal_places _ _ e)
 
 module _ (p : CountKey → Bool) where
   count-one : (k : CountKey) → count_by p (k ∷ []) ≡ cond (p k) 1 0
@@ -102,14 +102,14 @@ keys_in f vs = flat_map (λ view. option_to_list (key_in view f)) vs
 
 -- views other than that of a key
 abbrev pub Others : CountKey → List View → Type 0
-Others q vs = AllByRecursion (λ (view : View). (view_place q.view == view_place view) ≡ false) vs
+Others q vs = AllByRecursion (λ (view : View). (view_rank q.view == view_rank view) ≡ false) vs
 
-one-none : (q : CountKey) (view : View) (f : Fact) (value : Option Value) → (view_place q.view == view_place view) ≡ false
+one-none : (q : CountKey) (view : View) (f : Fact) (value : Option Value) → (view_rank q.view == view_rank view) ≡ false
     → count_by (same_count_key q) (option_to_list (option_map (λ x. count_key view x f.outcome) value)) ≡ 0
 one-none q view f None e = refl
 one-none q view f (Some x) e = count-one (same_count_key q) (count_key view x f.outcome) ∙ ap (λ b. cond b 1 0) (apart q view x f.outcome e)
 
-any-none : (q : CountKey) (view : View) (f : Fact) (value : Option Value) → (view_place q.view == view_place view) ≡ false
+any-none : (q : CountKey) (view : View) (f : Fact) (value : Option Value) → (view_rank q.view == view_rank view) ≡ false
     → list_any (same_count_key q) (option_to_list (option_map (λ x. count_key view x f.outcome) value)) ≡ false
 any-none q view f None e = refl
 any-none q view f (Some x) e = any-one (same_count_key q) (count_key view x f.outcome) ∙ apart q view x f.outcome e
@@ -125,11 +125,11 @@ others-none q f (v ∷ vs) h =
 -- no two of these views are one
 abbrev AreApart : List View → Type 0
 AreApart [] = Unit {0}
-AreApart (v ∷ vs) = AllByRecursion (λ (w : View). (view_place v == view_place w) ≡ false) vs × AreApart vs
+AreApart (v ∷ vs) = AllByRecursion (λ (w : View). (view_rank v == view_rank w) ≡ false) vs × AreApart vs
 
-carried : (q : CountKey) (v : View) (vs : List View) → view_place q.view ≡ view_place v → AllByRecursion (λ (w : View). (view_place v == view_place w) ≡ false) vs → Others q vs
+carried : (q : CountKey) (v : View) (vs : List View) → view_rank q.view ≡ view_rank v → AllByRecursion (λ (w : View). (view_rank v == view_rank w) ≡ false) vs → Others q vs
 carried q v [] e h = tt
-carried q v (w ∷ vs) e h = (ap (λ n. n == view_place w) e ∙ h.0, carried q v vs e h.1)
+carried q v (w ∷ vs) e h = (ap (λ n. n == view_rank w) e ∙ h.0, carried q v vs e h.1)
 
 pub or-false : (b : Bool) → (b || false) ≡ b
 or-false true = refl
@@ -140,9 +140,9 @@ once_in f q [] h = refl
 once_in f q (v ∷ vs) h =
     let here = option_to_list (key_in v f) in
     count-append (same_count_key q) here (keys_in f vs)
-    ∙ elim (view_place q.view == view_place v) as (λ b. (view_place q.view == view_place v) ≡ b → count_by (same_count_key q) here + count_by (same_count_key q) (keys_in f vs) ≡ cond (list_any (same_count_key q) here || list_any (same_count_key q) (keys_in f vs)) 1 0) [
+    ∙ elim (view_rank q.view == view_rank v) as (λ b. (view_rank q.view == view_rank v) ≡ b → count_by (same_count_key q) here + count_by (same_count_key q) (keys_in f vs) ≡ cond (list_any (same_count_key q) here || list_any (same_count_key q) (keys_in f vs)) 1 0) [
       | true ↦ λ e.
-          let rest = others-none q f vs (carried q v vs (eqb-true (view_place q.view) (view_place v) e) h.0) in
+          let rest = others-none q f vs (carried q v vs (eqb-true (view_rank q.view) (view_rank v) e) h.0) in
           let none : count_by (same_count_key q) here + count_by (same_count_key q) (keys_in f vs) ≡ count_by (same_count_key q) here = omega (arith, rest.0) in
           none ∙ once-one (same_count_key q) (key_in v f)
           ∙ ap (λ b. cond b 1 0) (sym (or-false (list_any (same_count_key q) here)) ∙ ap (λ b. list_any (same_count_key q) here || b) (sym rest.1))
@@ -230,7 +230,7 @@ plus-append : (t : TablesValue) (keys others : List CountKey) → plus t (keys +
 plus-append t [] others = refl
 plus-append t (key ∷ keys) others = plus-append (one_more t key) keys others
 
-here : (view : View) → Some view ≡ slice_get views (view_place view)
+here : (view : View) → Some view ≡ slice_get views (view_rank view)
 here view = search rules
 
 drop-at : (vs : List View) (m : ℕ) (view : View) → Some view ≡ slice_get vs m → drop m vs ≡ view ∷ drop (suc m) vs
@@ -238,20 +238,20 @@ drop-at [] m view e = absurd cc
 drop-at (v ∷ vs) zero view e = let same : v ≡ view = cc in ap (λ (w : View). w ∷ vs) same
 drop-at (v ∷ vs) (suc m) view e = drop-at vs m view e
 
-from-here : (view : View) (f : Fact) (next : View) → Some next ≡ slice_get views (view_place view + 1) → keys_from view f ≡ option_to_list (key_in view f) ++ keys_from next f
+from-here : (view : View) (f : Fact) (next : View) → Some next ≡ slice_get views (view_rank view + 1) → keys_from view f ≡ option_to_list (key_in view f) ++ keys_from next f
 from-here view f next e =
-    let after : suc (view_place view) ≡ view_place next = let n = view_next view next e in omega (arith, n) in
-    ap (λ (vs : List View). keys_in f vs) (drop-at views (view_place view) view (here view)) ∙ ap (λ (m : ℕ). option_to_list (key_in view f) ++ keys_in f (drop m views)) after
+    let after : suc (view_rank view) ≡ view_rank next = let n = view_next view next e in omega (arith, n) in
+    ap (λ (vs : List View). keys_in f vs) (drop-at views (view_rank view) view (here view)) ∙ ap (λ (m : ℕ). option_to_list (key_in view f) ++ keys_in f (drop m views)) after
 
 -- counted in a view, then in those after it
-pub plus-next : (t mid new : TablesValue) (view : View) (f : Fact) (next : View) → Some next ≡ slice_get views (view_place view + 1)
+pub plus-next : (t mid new : TablesValue) (view : View) (f : Fact) (next : View) → Some next ≡ slice_get views (view_rank view + 1)
     → mid ≡ plus t (option_to_list (key_in view f)) → new ≡ plus mid (keys_from next f) → new ≡ plus t (keys_from view f)
 plus-next t mid new view f next e first rest =
     rest ∙ ap (λ (u : TablesValue). plus u (keys_from next f)) first ∙ sym (plus-append t (option_to_list (key_in view f)) (keys_from next f)) ∙ ap (plus t) (sym (from-here view f next e))
 
 -- ---- a key of one view counts at no key of another
 
-stays_by : (t : TablesValue) (view : View) (f : Fact) (value : Option Value) (q : CountKey) → (view_place q.view == view_place view) ≡ false
+stays_by : (t : TablesValue) (view : View) (f : Fact) (value : Option Value) (q : CountKey) → (view_rank q.view == view_rank view) ≡ false
     → count_of (plus t (option_to_list (option_map (λ x. count_key view x f.outcome) value))) q ≡ count_of t q
 stays_by t view f None q e = refl
 stays_by t view f (Some x) q e =
@@ -259,17 +259,17 @@ stays_by t view f (Some x) q e =
     (get-insert count_keys_total t.counts (count_key view x f.outcome) (count_of t (count_key view x f.outcome) + 1) q
     ∙ ap (λ b. cond b (Some (count_of t (count_key view x f.outcome) + 1)) (get t.counts q)) (apart q view x f.outcome e))
 
-pub other-view-stays : (t : TablesValue) (view : View) (f : Fact) (q : CountKey) → (view_place q.view == view_place view) ≡ false → count_of (plus t (option_to_list (key_in view f))) q ≡ count_of t q
+pub other-view-stays : (t : TablesValue) (view : View) (f : Fact) (q : CountKey) → (view_rank q.view == view_rank view) ≡ false → count_of (plus t (option_to_list (key_in view f))) q ≡ count_of t q
 other-view-stays t view f q e = stays_by t view f (value_in view f) q e
 
 not-same : (a b : ℕ) → a < b → (b == a) ≡ false
 not-same a b h = grind (arith, nat_tests)
 
 -- what is counted in a view leaves room for what is counted in those after it
-pub later-room : (t mid : TablesValue) (view next : View) (f : Fact) → view_place next ≡ view_place view + 1 → mid ≡ plus t (option_to_list (key_in view f))
-    → ((key : CountKey) → view_place view ≤ view_place key.view → count_of t key + 1 < 2 ^ 64) → (key : CountKey) → view_place next ≤ view_place key.view → count_of mid key + 1 < 2 ^ 64
+pub later-room : (t mid : TablesValue) (view next : View) (f : Fact) → view_rank next ≡ view_rank view + 1 → mid ≡ plus t (option_to_list (key_in view f))
+    → ((key : CountKey) → view_rank view ≤ view_rank key.view → count_of t key + 1 < 2 ^ 64) → (key : CountKey) → view_rank next ≤ view_rank key.view → count_of mid key + 1 < 2 ^ 64
 later-room t mid view next f e first few key above =
-    let after : view_place view < view_place key.view = omega (arith, e, above) in
+    let after : view_rank view < view_rank key.view = omega (arith, e, above) in
     let same : count_of mid key ≡ count_of t key =
-    ap (λ (u : TablesValue). count_of u key) first ∙ other-view-stays t view f key (not-same (view_place view) (view_place key.view) after) in
+    ap (λ (u : TablesValue). count_of u key) first ∙ other-view-stays t view f key (not-same (view_rank view) (view_rank key.view) after) in
     subst (λ (n : ℕ). n + 1 < 2 ^ 64) (sym same) (few key (omega (arith, after)))

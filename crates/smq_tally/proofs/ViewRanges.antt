@@ -14,7 +14,7 @@ use Rattle.smq_tally.specs.declared.fact.CountKey.{CountKey}
 use Rattle.smq_tally.specs.declared.value.Value.{Value}
 use Rattle.smq_tally.specs.declared.value.Value.TheVariants as w
 use Rattle.smq_tally.specs.declared.view.View.{View}
-use Rattle.smq_tally.specs.Rows.{views, view_place, value_cmp, outcome_place, count_cmp}
+use Rattle.smq_tally.specs.Rows.{views, view_rank, value_cmp, outcome_rank, count_cmp}
 use Rattle.smq_tally.specs.Tables.{TablesValue, in_view, shown_row, rows_of}
 use Rattle.smq_tally.specs.within.CountOrder.{kept_cmp, first_value, first_key}
 use Rattle.smq_tally.proofs.CountOrders.{count_key-order, entries-seen}
@@ -25,11 +25,11 @@ use Rattle.smq_tally.proofs.ListOrders.{le_zero, then_le, then_least, one_number
 -- the places of these views count up from a number
 abbrev AreFrom : ℕ → List View → Type 0
 AreFrom n [] = Unit {0}
-AreFrom n (v ∷ vs) = (view_place v ≡ n) × AreFrom (n + 1) vs
+AreFrom n (v ∷ vs) = (view_rank v ≡ n) × AreFrom (n + 1) vs
 
-at-place : (vs : List View) (n m : ℕ) (view : View) → AreFrom n vs → Some view ≡ slice_get vs m → view_place view ≡ n + m
+at-place : (vs : List View) (n m : ℕ) (view : View) → AreFrom n vs → Some view ≡ slice_get vs m → view_rank view ≡ n + m
 at-place [] n m view h e = absurd cc
-at-place (v ∷ vs) n zero view h e = let same : view ≡ v = cc in ap view_place same ∙ h.0 ∙ omega arith
+at-place (v ∷ vs) n zero view h e = let same : view ≡ v = cc in ap view_rank same ∙ h.0 ∙ omega arith
 at-place (v ∷ vs) n (suc m) view h e = at-place vs (n + 1) m view h.1 e ∙ omega arith
 
 below-length : (vs : List View) (m : ℕ) (view : View) → Some view ≡ slice_get vs m → m < length vs
@@ -42,18 +42,18 @@ past-length [] m e = omega arith
 past-length (v ∷ vs) zero e = absurd cc
 past-length (v ∷ vs) (suc m) e = let rest = past-length vs m e in omega (arith, rest)
 
-pub view_next : (view next : View) → Some next ≡ slice_get views (view_place view + 1) → view_place next ≡ view_place view + 1
-view_next view next e = at-place views 0 (view_place view + 1) next (search rules) e ∙ omega arith
+pub view_next : (view next : View) → Some next ≡ slice_get views (view_rank view + 1) → view_rank next ≡ view_rank view + 1
+view_next view next e = at-place views 0 (view_rank view + 1) next (search rules) e ∙ omega arith
 
-placed : (view : View) → view_place view < length views
+placed : (view : View) → view_rank view < length views
 placed view = search rules
 
-view_last : (view : View) → None ≡ slice_get views (view_place view + 1) → (other : View) → view_place other ≤ view_place view
-view_last view e other = let few = past-length views (view_place view + 1) e in let there = placed other in omega (arith, few, there)
+view_last : (view : View) → None ≡ slice_get views (view_rank view + 1) → (other : View) → view_rank other ≤ view_rank view
+view_last view e other = let few = past-length views (view_rank view + 1) e in let there = placed other in omega (arith, few, there)
 
 -- fewer views are left after the next
-pub view_fewer : (view next : View) → Some next ≡ slice_get views (view_place view + 1) → length views - view_place next < length views - view_place view
-view_fewer view next e = let one = view_next view next e in let there = below-length views (view_place view + 1) next e in omega (arith, one, there)
+pub view_fewer : (view next : View) → Some next ≡ slice_get views (view_rank view + 1) → length views - view_rank next < length views - view_rank view
+view_fewer view next e = let one = view_next view next e in let there = below-length views (view_rank view + 1) next e in omega (arith, one, there)
 
 -- ---- where a view begins
 
@@ -68,31 +68,31 @@ first_le (w.Error error) = refl
 first_le (w.Band band) = refl
 
 -- what a view begins with is at or before what is of no earlier view
-begins : (view : View) (q : CountKey) → is_le (count_cmp (first_key view) q) ≡ is_le (nat_cmp (view_place view) (view_place q.view))
+begins : (view : View) (q : CountKey) → is_le (count_cmp (first_key view) q) ≡ is_le (nat_cmp (view_rank view) (view_rank q.view))
 begins view q =
-    let within : is_le (ordering_then (value_cmp first_value q.value) (nat_cmp 0 (outcome_place q.outcome))) ≡ true =
-    then_le (value_cmp first_value q.value) (nat_cmp 0 (outcome_place q.outcome)) (first_le q.value) (le_zero (outcome_place q.outcome)) in
-    then_least (nat_cmp (view_place view) (view_place q.view)) (ordering_then (value_cmp first_value q.value) (nat_cmp 0 (outcome_place q.outcome))) within
+    let within : is_le (ordering_then (value_cmp first_value q.value) (nat_cmp 0 (outcome_rank q.outcome))) ≡ true =
+    then_le (value_cmp first_value q.value) (nat_cmp 0 (outcome_rank q.outcome)) (first_le q.value) (le_zero (outcome_rank q.outcome)) in
+    then_least (nat_cmp (view_rank view) (view_rank q.view)) (ordering_then (value_cmp first_value q.value) (nat_cmp 0 (outcome_rank q.outcome))) within
 
 -- of a view are the keys from its first possible one up to the next view's
-up_to_next : (view next : View) → view_place next ≡ view_place view + 1 → (q : CountKey) → range_contains kept_cmp (Included (first_key view)) (Excluded (first_key next)) q ≡ (view_place q.view == view_place view)
+up_to_next : (view next : View) → view_rank next ≡ view_rank view + 1 → (q : CountKey) → range_contains kept_cmp (Included (first_key view)) (Excluded (first_key next)) q ≡ (view_rank q.view == view_rank view)
 up_to_next view next e q =
     ap (λ (R : CountKey → CountKey → Ordering). range_contains R (Included (first_key view)) (Excluded (first_key next)) q) count_key-order
     ∙ (λ i. begins view q i && not (begins next q i))
-    ∙ ap (λ n. is_le (nat_cmp (view_place view) (view_place q.view)) && not (is_le (nat_cmp n (view_place q.view)))) e
-    ∙ one_number (view_place view) (view_place q.view)
+    ∙ ap (λ n. is_le (nat_cmp (view_rank view) (view_rank q.view)) && not (is_le (nat_cmp n (view_rank q.view)))) e
+    ∙ one_number (view_rank view) (view_rank q.view)
 
 -- of the last view are all from its first possible one
-up_to_end : (view : View) → ((other : View) → view_place other ≤ view_place view) → (q : CountKey) → range_contains kept_cmp (Included (first_key view)) Unbounded q ≡ (view_place q.view == view_place view)
+up_to_end : (view : View) → ((other : View) → view_rank other ≤ view_rank view) → (q : CountKey) → range_contains kept_cmp (Included (first_key view)) Unbounded q ≡ (view_rank q.view == view_rank view)
 up_to_end view most q =
     ap (λ (R : CountKey → CountKey → Ordering). range_contains R (Included (first_key view)) Unbounded q) count_key-order
     ∙ (λ i. begins view q i && not false)
-    ∙ last_number (view_place view) (view_place q.view) (most q.view)
+    ∙ last_number (view_rank view) (view_rank q.view) (most q.view)
 
 -- a view begins before the next one does
-pub view-forward : (view next : View) (first limit : CountKey) → first ≡ first_key view → limit ≡ first_key next → Some next ≡ slice_get views (view_place view + 1) → is_gt (kept_cmp first limit) ≡ false
+pub view-forward : (view next : View) (first limit : CountKey) → first ≡ first_key view → limit ≡ first_key next → Some next ≡ slice_get views (view_rank view + 1) → is_gt (kept_cmp first limit) ≡ false
 view-forward view next first limit one other e =
-    (λ i. is_gt (count_key-order i (one i) (other i))) ∙ ap (λ n. is_gt (ordering_then (nat_cmp (view_place view) n) Equal)) (view_next view next e) ∙ before (view_place view)
+    (λ i. is_gt (count_key-order i (one i) (other i))) ∙ ap (λ n. is_gt (ordering_then (nat_cmp (view_rank view) n) Equal)) (view_next view next e) ∙ before (view_rank view)
   where
     before : (n : ℕ) → is_gt (ordering_then (nat_cmp n (n + 1)) Equal) ≡ false
     before n = ap (λ r. is_gt (ordering_then r Equal)) (sym (nat_cmp_is n (n + 1) Less (omega arith)))
@@ -100,20 +100,20 @@ view-forward view next first limit one other e =
 -- ---- the code's part of the map, which is a run of it, has the rows of the view
 
 ranged : (t : TablesValue) (view : View) (es left : List (CountKey × ℕ)) (inside : CountKey → Bool) → from_entries es ≡ t.counts → IsStrictlySortedBy kept_cmp (keys_of es)
-    → ((q : CountKey) → inside q ≡ (view_place q.view == view_place view)) → left ≡ filter (λ e. inside e.0) es → map shown_row left ≡ rows_of t view
+    → ((q : CountKey) → inside q ≡ (view_rank q.view == view_rank view)) → left ≡ filter (λ e. inside e.0) es → map shown_row left ≡ rows_of t view
 ranged t view es left inside is sorted same taken =
     ap (λ (xs : List (CountKey × ℕ)). map shown_row xs) (taken ∙ (λ i. filter (λ e. same e.0 i) (sym (entries-seen es sorted) i)))
     ∙ ap (λ (m : FinMap count_cmp ℕ). map shown_row (filter (in_view view) (entries m))) is
 
 pub rows-next : (t : TablesValue) (view next : View) (first limit : CountKey) (es left : List (CountKey × ℕ)) → first ≡ first_key view → limit ≡ first_key next → from_entries es ≡ t.counts
-    → IsStrictlySortedBy kept_cmp (keys_of es) → Some next ≡ slice_get views (view_place view + 1)
+    → IsStrictlySortedBy kept_cmp (keys_of es) → Some next ≡ slice_get views (view_rank view + 1)
     → left ≡ filter (λ e. range_contains kept_cmp (Included first) (Excluded limit) e.0) es → map shown_row left ≡ rows_of t view
 rows-next t view next first limit es left one other is sorted e taken =
     ranged t view es left (range_contains kept_cmp (Included (first_key view)) (Excluded (first_key next))) is sorted (up_to_next view next (view_next view next e))
     (taken ∙ (λ i. filter (λ x. range_contains kept_cmp (Included (one i)) (Excluded (other i)) x.0) es))
 
 pub rows-end : (t : TablesValue) (view : View) (first : CountKey) (es left : List (CountKey × ℕ)) → first ≡ first_key view → from_entries es ≡ t.counts
-    → IsStrictlySortedBy kept_cmp (keys_of es) → None ≡ slice_get views (view_place view + 1)
+    → IsStrictlySortedBy kept_cmp (keys_of es) → None ≡ slice_get views (view_rank view + 1)
     → left ≡ filter (λ e. range_contains kept_cmp (Included first) Unbounded e.0) es → map shown_row left ≡ rows_of t view
 rows-end t view first es left one is sorted e taken =
     ranged t view es left (range_contains kept_cmp (Included (first_key view)) Unbounded) is sorted (up_to_end view (view_last view e))

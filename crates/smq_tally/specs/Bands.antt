@@ -22,11 +22,11 @@ first_below (row ∷ rows) delay = if int_lt delay row.0 then row.1 else first_b
 abbrev pub band_of : ℤ → Band
 band_of delay = first_below band_table delay
 
--- the place of a band among the bands
-abbrev pub band_place : Band → ℕ
-band_place b.Early = 0
-band_place b.Under5Seconds = 1
-band_place b.Under30Seconds = 2
-band_place b.Under5Minutes = 3
-band_place b.Under1Hour = 4
-band_place b.Over = 5
+-- how many bands come before a band
+abbrev pub band_rank : Band → ℕ
+band_rank b.Early = 0
+band_rank b.Under5Seconds = 1
+band_rank b.Under30Seconds = 2
+band_rank b.Under5Minutes = 3
+band_rank b.Under1Hour = 4
+band_rank b.Over = 5

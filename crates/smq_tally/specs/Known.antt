@@ -11,6 +11,7 @@ use Rattle.smq_kit.specs.declared.place.Place.{Place}
 use Rattle.smq_kit.specs.declared.error_code.ErrorCode.TheVariants as e
 use Rattle.smq_tally.specs.declared.band.Band.{Band}
 use Rattle.smq_tally.specs.declared.band.Band.TheVariants as b
+use Rattle.smq_tally.specs.declared.fact.CountKey.{CountKey}
 use Rattle.smq_tally.specs.declared.fact.Fact.{Fact}
 use Rattle.smq_tally.specs.declared.list.List.TheVariants as l
 use Rattle.smq_tally.specs.declared.list.Listed.{Listed}
@@ -20,10 +21,10 @@ use Rattle.smq_tally.specs.declared.value.Value.TheVariants as w
 use Rattle.smq_tally.specs.declared.outcome.Outcome.{Outcome}
 use Rattle.smq_tally.specs.declared.outcome.Outcome.TheVariants as o
 use Rattle.smq_tally.specs.declared.view.View.TheVariants as v
-use Rattle.smq_tally.specs.Bands.{band_of, band_place}
+use Rattle.smq_tally.specs.Bands.{band_of, band_rank}
 use Rattle.smq_tally.specs.Lists.{lists, listed, listed_cmp, listed_set}
 use Rattle.smq_tally.specs.Names.{view_name, list_name, outcome_name, band_name}
-use Rattle.smq_tally.specs.Rows.{views, outcome_place}
+use Rattle.smq_tally.specs.Rows.{views, outcome_rank, count_key}
 use Rattle.smq_tally.specs.Tables.{TablesValue, tables_of, count_at, listed_in}
 
 -- ---- outcomes and bands, in their order
@@ -36,6 +37,11 @@ abbrev pub known_bands : List Band
 known_bands = b.Early ∷ b.Under5Seconds ∷ b.Under30Seconds ∷ b.Under5Minutes ∷ b.Under1Hour ∷ b.Over ∷ []
 
 -- ---- values, in their order: a link, routes and networks, none last, refusals by a status, failures by an error code, bands
+
+abbrev pub known_keys : List CountKey
+known_keys =
+    count_key v.LinkDelay (w.Band b.Under5Seconds) o.Failed ∷ count_key v.LinkDelay (w.Band b.Over) o.Delivered
+    ∷ count_key v.CentreDelay (w.Band b.Early) o.Waiting ∷ []
 
 abbrev pub known_values : LinkId → List Value
 known_values link =
@@ -134,12 +140,12 @@ pub record KnownNames : Type 0 where
       map_of list_name lists
       ≡ codes "waiting" ∷ codes "stray-answers" ∷ codes "mismatched" ∷ codes "stray-receipts" ∷ codes "ambiguous-receipts"
       ∷ codes "extra-receipts" ∷ codes "unreadable" ∷ codes "undecodable" ∷ codes "broken" ∷ codes "open" ∷ codes "lapsed" ∷ []
-  pub outcome_order : map_of outcome_place known_outcomes ≡ 0 ∷ 1 ∷ 2 ∷ 3 ∷ 4 ∷ 5 ∷ 6 ∷ 7 ∷ 8 ∷ 9 ∷ []
+  pub outcome_order : map_of outcome_rank known_outcomes ≡ 0 ∷ 1 ∷ 2 ∷ 3 ∷ 4 ∷ 5 ∷ 6 ∷ 7 ∷ 8 ∷ 9 ∷ []
   pub outcome_names :
       map_of outcome_name known_outcomes
       ≡ codes "waiting" ∷ codes "mismatched" ∷ codes "refused" ∷ codes "noid" ∷ codes "ambiguous" ∷ codes "delivered"
       ∷ codes "failed" ∷ codes "unasked" ∷ codes "lapsed" ∷ codes "open" ∷ []
-  pub band_order : map_of band_place known_bands ≡ 0 ∷ 1 ∷ 2 ∷ 3 ∷ 4 ∷ 5 ∷ []
+  pub band_order : map_of band_rank known_bands ≡ 0 ∷ 1 ∷ 2 ∷ 3 ∷ 4 ∷ 5 ∷ []
   pub band_names :
       map_of band_name known_bands
       ≡ codes "early" ∷ codes "under-5s" ∷ codes "under-30s" ∷ codes "under-5m" ∷ codes "under-1h" ∷ codes "over" ∷ []

@@ -19,19 +19,19 @@ lists =
     v.Waiting ∷ v.StrayAnswers ∷ v.Mismatched ∷ v.StrayReceipts ∷ v.AmbiguousReceipts ∷ v.ExtraReceipts ∷ v.Unreadable
     ∷ v.Undecodable ∷ v.Broken ∷ v.Open ∷ v.Lapsed ∷ []
 
--- the place of a list among the lists
-abbrev pub list_place : l.List → ℕ
-list_place v.Waiting = 0
-list_place v.StrayAnswers = 1
-list_place v.Mismatched = 2
-list_place v.StrayReceipts = 3
-list_place v.AmbiguousReceipts = 4
-list_place v.ExtraReceipts = 5
-list_place v.Unreadable = 6
-list_place v.Undecodable = 7
-list_place v.Broken = 8
-list_place v.Open = 9
-list_place v.Lapsed = 10
+-- how many lists come before a list
+abbrev pub list_rank : l.List → ℕ
+list_rank v.Waiting = 0
+list_rank v.StrayAnswers = 1
+list_rank v.Mismatched = 2
+list_rank v.StrayReceipts = 3
+list_rank v.AmbiguousReceipts = 4
+list_rank v.ExtraReceipts = 5
+list_rank v.Unreadable = 6
+list_rank v.Undecodable = 7
+list_rank v.Broken = 8
+list_rank v.Open = 9
+list_rank v.Lapsed = 10
 
 -- a place in a list
 abbrev pub listed : l.List → Place → Listed
@@ -39,11 +39,11 @@ listed list place = record { list = list; place = place }
 
 -- the order of listed places: by list, then by place
 abbrev pub listed_cmp : Listed → Listed → Ordering
-listed_cmp a b = ordering_then (nat_cmp (list_place a.list) (list_place b.list)) (place_cmp a.place b.place)
+listed_cmp a b = ordering_then (nat_cmp (list_rank a.list) (list_rank b.list)) (place_cmp a.place b.place)
 
 -- whether a listed place is in a list
 abbrev pub in_list : l.List → Listed → Bool
-in_list list e = list_place e.list == list_place list
+in_list list e = list_rank e.list == list_rank list
 
 -- the lists in which a message stands for its outcome, at its place
 abbrev pub listings_by : Outcome → Place → List Listed

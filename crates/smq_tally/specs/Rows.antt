@@ -6,7 +6,7 @@ use Rattle.std.specs.declared.cmp.Ordering.{Ordering}
 use Rattle.std.specs.Ordering.{nat_cmp, ordering_then, eq_by_cmp}
 use Rattle.smq_kit.specs.Orders.{error_numbers}
 use Rattle.smq_kit.specs.declared.names.RouteId.{RouteId}
-use Rattle.smq_tally.specs.Bands.{band_place}
+use Rattle.smq_tally.specs.Bands.{band_rank}
 use Rattle.smq_tally.specs.declared.view.View.{View}
 use Rattle.smq_tally.specs.declared.view.View.TheVariants as v
 use Rattle.smq_tally.specs.declared.value.SubmitError.{SubmitError}
@@ -24,14 +24,14 @@ use Rattle.smq_tally.specs.declared.fact.CountKey.{CountKey}
 abbrev pub views : List View
 views = v.Link ∷ v.Route ∷ v.Network ∷ v.Error ∷ v.LinkDelay ∷ v.CentreDelay ∷ []
 
--- the place of a view among the views
-abbrev pub view_place : View → ℕ
-view_place v.Link = 0
-view_place v.Route = 1
-view_place v.Network = 2
-view_place v.Error = 3
-view_place v.LinkDelay = 4
-view_place v.CentreDelay = 5
+-- how many views come before a view
+abbrev pub view_rank : View → ℕ
+view_rank v.Link = 0
+view_rank v.Route = 1
+view_rank v.Network = 2
+view_rank v.Error = 3
+view_rank v.LinkDelay = 4
+view_rank v.CentreDelay = 5
 
 -- what a message is counted by whose number has this route and network, or neither: the route
 abbrev pub route_value : Option (RouteId × List ℕ) → Value
@@ -67,7 +67,7 @@ value_numbers w.NoRoute = 2 ∷ []
 value_numbers (w.Network network) = 3 ∷ network
 value_numbers w.NoNetwork = 4 ∷ []
 value_numbers (w.Error error) = 5 ∷ submit_error_numbers error
-value_numbers (w.Band band) = 6 ∷ band_place band ∷ []
+value_numbers (w.Band band) = 6 ∷ band_rank band ∷ []
 
 -- the order of values: by these numbers, the first that differ deciding
 abbrev pub value_cmp : Value → Value → Ordering
@@ -75,18 +75,18 @@ value_cmp a b = slice_cmp nat_cmp (value_numbers a) (value_numbers b)
 
 -- ---- the order of outcomes
 
--- the place of an outcome in the table of outcomes
-abbrev pub outcome_place : Outcome → ℕ
-outcome_place o.Waiting = 0
-outcome_place o.Mismatched = 1
-outcome_place o.Refused = 2
-outcome_place o.NoId = 3
-outcome_place o.Ambiguous = 4
-outcome_place o.Delivered = 5
-outcome_place o.Failed = 6
-outcome_place o.Unasked = 7
-outcome_place o.Lapsed = 8
-outcome_place o.Open = 9
+-- how many outcomes come before an outcome in their table
+abbrev pub outcome_rank : Outcome → ℕ
+outcome_rank o.Waiting = 0
+outcome_rank o.Mismatched = 1
+outcome_rank o.Refused = 2
+outcome_rank o.NoId = 3
+outcome_rank o.Ambiguous = 4
+outcome_rank o.Delivered = 5
+outcome_rank o.Failed = 6
+outcome_rank o.Unasked = 7
+outcome_rank o.Lapsed = 8
+outcome_rank o.Open = 9
 
 -- ---- where a count stands
 
@@ -97,8 +97,8 @@ count_key view value outcome = record { view = view; value = value; outcome = ou
 -- the order of keys: by view, then by value, then by outcome
 abbrev pub count_cmp : CountKey → CountKey → Ordering
 count_cmp a b =
-    ordering_then (nat_cmp (view_place a.view) (view_place b.view))
-    (ordering_then (value_cmp a.value b.value) (nat_cmp (outcome_place a.outcome) (outcome_place b.outcome)))
+    ordering_then (nat_cmp (view_rank a.view) (view_rank b.view))
+    (ordering_then (value_cmp a.value b.value) (nat_cmp (outcome_rank a.outcome) (outcome_rank b.outcome)))
 
 -- whether two are one
 abbrev pub same_count_key : CountKey → CountKey → Bool

@@ -18,7 +18,7 @@ use Rattle.smq_tally.specs.declared.outcome.Outcome.{Outcome}
 use Rattle.smq_tally.specs.declared.fact.Fact.{Fact}
 use Rattle.smq_tally.specs.declared.fact.CountKey.{CountKey}
 use Rattle.smq_tally.specs.Lists.{listed_cmp, listed_set, listings_of_fact, in_list}
-use Rattle.smq_tally.specs.Rows.{view_place, outcome_place, value_cmp, count_key, count_cmp, keys_of_fact, stands_in}
+use Rattle.smq_tally.specs.Rows.{view_rank, outcome_rank, value_cmp, count_key, count_cmp, keys_of_fact, stands_in}
 
 -- tables: the counts at keys, and the places in lists
 pub record TablesValue : Type 0 where
@@ -52,7 +52,7 @@ count_at t view value outcome = unwrap_or (fin.get t.counts (count_key view valu
 
 -- whether a count is of a view
 abbrev pub in_view : View → CountKey × ℕ → Bool
-in_view view e = view_place e.0.view == view_place view
+in_view view e = view_rank e.0.view == view_rank view
 
 -- a row as it is shown: its value, its outcome and its count
 abbrev pub ShownRow : Type 0
@@ -64,7 +64,7 @@ shown_row e = (e.0.value, e.0.outcome, e.1)
 
 -- the order of the rows of a view: by value, then by outcome
 abbrev pub shown_cmp : ShownRow → ShownRow → Ordering
-shown_cmp a b = ordering_then (value_cmp a.0 b.0) (nat_cmp (outcome_place a.1) (outcome_place b.1))
+shown_cmp a b = ordering_then (value_cmp a.0 b.0) (nat_cmp (outcome_rank a.1) (outcome_rank b.1))
 
 -- the rows of a view, in order
 abbrev pub rows_of : TablesValue → View → List ShownRow

@@ -1,4 +1,4 @@
-//! What is known of a submit, and where it is counted.
+//! What is known of a message, and where it is counted.
 ghost use Rattle.std.specs.Prelude.{◌≡◌, option_to_list, option_copied};
 ghost use Rattle.smq_tally.specs.Rows as rows;
 ghost use Rattle.smq_tally.specs.Rows.{key_in, value_in};
@@ -6,10 +6,10 @@ ghost use Rattle.smq_tally.specs.Rows.{key_in, value_in};
 use crate::{Band, List, Listed, Outcome, SubmitError, Value, View};
 use smq_kit::{LinkId, Network, Place, RouteId};
 
-/// What is known of one submit.
+/// What is known of one message.
 #[derive(Debug, PartialEq, Eq, Drop)]
 pub struct Fact {
-    /// Where its submit_sm stands.
+    /// Where its submit_sm (SMPP 3.4, 4.4.1) stands.
     pub place: Place,
     /// The link of its session.
     pub link: LinkId,
@@ -21,7 +21,7 @@ pub struct Fact {
     pub error: Option<SubmitError>,
     /// Where it was delivered or failed, the band of the time from its submit_sm to its deciding receipt.
     pub link_delay: Option<Band>,
-    /// The band of the time from the submit date to the done date of that receipt, where it has both.
+    /// The band of the time from the submit date to the done date of that receipt (appendix B), where it has both.
     pub centre_delay: Option<Band>,
 }
 

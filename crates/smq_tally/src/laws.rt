@@ -7,10 +7,10 @@ ghost use Rattle.std.specs.FinMap as fin;
 ghost use Rattle.std.specs.FinSet.{FinSet};
 ghost use Rattle.smq_kit.specs.Maps.{set_at, share};
 ghost use Rattle.smq_kit.specs.Orders.{place_cmp};
-ghost use Rattle.smq_tally.specs.Bands.{band_place};
-ghost use Rattle.smq_tally.specs.Known.{known_values, KnownDelays, KnownLists, KnownNames, KnownTables};
-ghost use Rattle.smq_tally.specs.Lists.{lists, list_place, listed, listed_cmp, HasOutcomeAt};
-ghost use Rattle.smq_tally.specs.Rows.{views, view_place, route_value, network_value, value_in, value_cmp, count_key, count_cmp, stands_in};
+ghost use Rattle.smq_tally.specs.Bands.{band_rank};
+ghost use Rattle.smq_tally.specs.Known.{known_keys, known_values, KnownDelays, KnownLists, KnownNames, KnownTables};
+ghost use Rattle.smq_tally.specs.Lists.{lists, list_rank, listed, listed_cmp, HasOutcomeAt};
+ghost use Rattle.smq_tally.specs.Rows.{views, view_rank, route_value, network_value, value_in, value_cmp, count_key, count_cmp, stands_in};
 ghost use Rattle.smq_tally.specs.Tables.{TablesValue, tables_of, number_at, count_at, shown_cmp, rows_of};
 ghost use Rattle.smq_kit.specs.Maps.{positive};
 ghost use Rattle.smq_tally.specs.Tables.{listed_in};
@@ -76,20 +76,20 @@ pub fn one_fact_moves_its_counts()
         + share (stands_in (count_key view value outcome)) fact }
 {}
 
-/// `==` of tables answers whether they are one.
+/// `==` of tables says whether they are one.
 pub fn equal_tables_are_one()
     ensures { (tables others : TablesValue)
         → IsTrue (tables_eq tables others) ↔ (tables ≡ others) }
 {}
 
-/// `==` of facts answers whether they are one.
+/// `==` of facts says whether they are one.
 pub fn facts_are_told_apart()
     ensures { (a b : Fact) → IsTrue (fact_eq a b) ↔ (a ≡ b) }
 {}
 
 /// Values are ordered: links first, by number; then routes, by number, and none; then networks, by the octets of their
-/// codes, and none; then refused submits, by status; then failed ones, by the order of error codes. They are equal exactly
-/// where they are one.
+/// codes, and none; then refused messages, by status; then failed ones, by the order of error codes; then bands, by their
+/// delays. They are equal exactly where they are one.
 pub fn values_are_in_order()
     ensures order { (a b : Value) → kept_value_cmp a b ≡ value_cmp a b }
     ensures same { (a b : Value) → IsTrue (kept_value_eq a b) ↔ (a ≡ b) }
@@ -103,7 +103,8 @@ pub fn rows_are_in_order()
         → IsStrictlySortedBy shown_cmp (rows_of tables view) }
     ensures order { (a b : CountKey) → kept_cmp a b ≡ count_cmp a b }
     ensures exact { (a b : CountKey) → count_cmp a b ≡ Ordering.Equal → a ≡ b }
-    ensures views { map view_place views ≡ 0 ∷ 1 ∷ 2 ∷ 3 ∷ 4 ∷ 5 ∷ [] }
+    ensures known { IsStrictlySortedBy count_cmp known_keys }
+    ensures views { map view_rank views ≡ 0 ∷ 1 ∷ 2 ∷ 3 ∷ 4 ∷ 5 ∷ [] }
 {}
 
 /// A list shows exactly the places that are listed there, strictly in order. Lists are in the order of their table, and
@@ -111,7 +112,7 @@ pub fn rows_are_in_order()
 pub fn lists_are_in_order()
     ensures order { (a b : Listed) → kept_listed_cmp a b ≡ listed_cmp a b }
     ensures exact { (a b : Listed) → listed_cmp a b ≡ Ordering.Equal → a ≡ b }
-    ensures lists { map list_place lists
+    ensures lists { map list_rank lists
         ≡ 0 ∷ 1 ∷ 2 ∷ 3 ∷ 4 ∷ 5 ∷ 6 ∷ 7 ∷ 8 ∷ 9 ∷ 10 ∷ [] }
     ensures sorted { (tables : TablesValue) (list : List)
         → IsStrictlySortedBy place_cmp (listed_in tables list) }
@@ -139,7 +140,7 @@ pub fn open_and_lapsed_messages_are_listed()
 
 /// Bands are in the order of their table, and delays at their ends have these.
 pub fn bands_are_in_order()
-    ensures order { (a b : Band) → kept_band_cmp a b ≡ nat_cmp (band_place a) (band_place b) }
+    ensures order { (a b : Band) → kept_band_cmp a b ≡ nat_cmp (band_rank a) (band_rank b) }
     ensures known { KnownDelays }
 {}
 

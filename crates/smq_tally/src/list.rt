@@ -1,5 +1,5 @@
 //! What wants looking at: places, in lists. Lists are declared in the order in which reports print them. Who adds one
-//! gives it its place in specs/Lists.antt and its name in Names.antt; the law of their order says whether they
+//! gives it its rank in specs/Lists.antt and its name in Names.antt; the law of their order says whether they
 //! agree.
 ghost use Rattle.std.specs.Prelude.{◌≡◌};
 
@@ -8,33 +8,33 @@ use smq_kit::{Dir, Place, SessionId};
 /// A list of places.
 #[derive(Clone, Copy, Debug, PartialEq, Eq, PartialOrd, Ord)]
 pub enum List {
-    /// Requests without a response, of both directions.
+    /// Requests without a response (SMPP 3.4, 3.2), of both directions.
     Waiting,
     /// Responses without a request, of both directions.
     StrayAnswers,
     /// Requests whose response doesn't agree with them, of both directions.
     Mismatched,
-    /// Delivery receipts that match no submit.
+    /// Delivery receipts (appendix B) that match no message.
     StrayReceipts,
-    /// Delivery receipts that match two submits or more.
+    /// Delivery receipts that match two messages or more.
     AmbiguousReceipts,
-    /// Final delivery receipts, no intermediate notifications, that match one submit and don't decide it.
+    /// Final delivery receipts, no intermediate notifications, that match one message and don't decide it.
     ExtraReceipts,
     /// deliver_sm of the centre that are delivery receipts without a usable message id or state.
     Unreadable,
-    /// submit_sm and deliver_sm whose mandatory fields don't fit in the PDU, of both directions.
+    /// submit_sm (4.4.1) and deliver_sm (4.6.1) whose mandatory fields don't fit in the PDU, of both directions.
     Undecodable,
-    /// Where a direction breaks off: the offset of a command_length out of its range.
+    /// Where a direction breaks off: the offset of a command_length (5.1.1) out of its range.
     Broken,
-    /// Submits that wait for their delivery receipt.
+    /// Messages that wait for their delivery receipt.
     Open,
-    /// Submits that waited for their delivery receipt too long.
+    /// Messages that waited for their delivery receipt too long.
     Lapsed,
 }
 
 impl List {
     ghost use Rattle.std.specs.Prelude.{◌+◌, slice_get};
-    ghost use Rattle.smq_tally.specs.Lists.{lists, list_place};
+    ghost use Rattle.smq_tally.specs.Lists.{lists, list_rank};
     ghost use Rattle.smq_tally.specs.Names.{list_name};
 
     /// The name in reports.
@@ -58,7 +58,7 @@ impl List {
 
     /// The list after it.
     pub(crate) fn next(self) -> Option<List>
-        ensures { result ≡ slice_get lists (list_place self + 1) }
+        ensures { result ≡ slice_get lists (list_rank self + 1) }
     {
         match self {
             List::Waiting => Some(List::StrayAnswers),

@@ -1,25 +1,25 @@
-//! The outcomes, declared in the order in which reports print them. Who adds one gives it its place in specs/Rows.antt and
+//! The outcomes, declared in the order in which reports print them. Who adds one gives it its rank in specs/Rows.antt and
 //! its name in Names.antt; the laws of order say whether they agree.
 ghost use Rattle.std.specs.Prelude.{◌≡◌};
 
-/// What became of a submit. Of those whose condition holds it is the first.
+/// What became of a message. Of those whose condition holds it is the first.
 #[derive(Clone, Copy, Debug, PartialEq, Eq, PartialOrd, Ord)]
 pub enum Outcome {
-    /// It has no response.
+    /// It has no response (SMPP 3.4, 4.4.2).
     Waiting,
-    /// Its response's command_id isn't its own with bit 31 set, nor generic_nack.
+    /// Its response's command_id isn't its own with bit 31 set, nor generic_nack (5.1.2).
     Mismatched,
-    /// Its response's command_status isn't 0.
+    /// Its response's command_status isn't 0 (5.1.3).
     Refused,
-    /// Its response has no message id.
+    /// Its response has no message id (5.2.23).
     NoId,
-    /// It is accepted, and another accepted submit of its link has its key.
+    /// It is accepted, and another accepted message of its link has its key.
     Ambiguous,
-    /// Its deciding receipt says that it was delivered.
+    /// Its deciding receipt says that it was delivered (5.2.28).
     Delivered,
     /// It has a deciding receipt with another state.
     Failed,
-    /// It asks for no delivery receipt.
+    /// It asks for no delivery receipt (5.2.17).
     Unasked,
     /// It waited for its delivery receipt too long.
     Lapsed,

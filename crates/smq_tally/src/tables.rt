@@ -3,7 +3,7 @@
 ghost use Rattle.std.specs.Prelude.{◌≡◌, ◌<◌, ◌≤◌, ◌+◌, ◌^◌, false, not, IfOk, OnOk, OnErr, option_to_list};
 ghost use Rattle.std.specs.FinMap as fin;
 ghost use Rattle.smq_tally.specs.Lists.{listings_of_fact};
-ghost use Rattle.smq_tally.specs.Rows.{view_place, keys_of_fact, key_in};
+ghost use Rattle.smq_tally.specs.Rows.{view_rank, keys_of_fact, key_in};
 ghost use Rattle.std.specs.List.Sorted.{IsStrictlySortedBy};
 ghost use Rattle.smq_kit.specs.Orders.{place_cmp};
 ghost use Rattle.smq_tally.specs.Tables.{tables_of, count_at, rows_of, listed_in};
@@ -15,7 +15,7 @@ use std::alloc::{AllocError, Global};
 use std::collections::{BTreeMap, BTreeSet};
 use std::marker::Model;
 
-/// How many submits have each value and outcome, and the places in each list.
+/// How many messages have each value and outcome, and the places in each list.
 #[derive(Drop)]
 pub struct Tables {
     counts: BTreeMap<CountKey, u64>,
@@ -151,7 +151,7 @@ impl Tables {
     /// Counts the fact in this view and those after it. An error changes nothing.
     fn add_from(&mut self, view: View, fact: &Fact) -> Result<(), AllocError>
         requires no_zeros { HasNoZeros self.old }
-        requires room { (key : CountKey) → view_place view ≤ view_place key.view
+        requires room { (key : CountKey) → view_rank view ≤ view_rank key.view
             → count_of self.old key + 1 < 2 ^ 64 }
         ensures ok { OnOk result (self.new ≡ plus self.old (keys_from view fact.now)) }
         ensures err { OnErr result (self.new ≡ self.old) }
@@ -189,6 +189,7 @@ impl Tables {
         }
     }
 
+    /// Counts one more at a key: looked up, then inserted, since a count that is there takes no memory and one that isn't may.
     fn add_in(&mut self, key: CountKey) -> Result<(), AllocError>
         requires { count_of self.old key + 1 < 2 ^ 64 }
         ensures ok { OnOk result (self.new ≡ one_more self.old key) }

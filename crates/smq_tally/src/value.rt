@@ -1,16 +1,16 @@
-//! What views count submits by. Who adds one gives it its numbers in specs/Rows.antt; the laws of order say whether they
+//! What views count messages by. Who adds one gives it its numbers in specs/Rows.antt; the laws of order say whether they
 //! agree.
 ghost use Rattle.std.specs.Prelude.{◌≡◌};
 
 use crate::Band;
 use smq_kit::{ErrorCode, LinkId, Network, RouteId};
 
-/// Why a submit failed.
+/// Why a message failed.
 #[derive(Debug, PartialEq, Eq, PartialOrd, Ord, Drop)]
 pub enum SubmitError {
-    /// By the command_status of its response.
+    /// By the command_status of its response (SMPP 3.4, 5.1.3).
     Refused { status: u32 },
-    /// By the error of its deciding receipt.
+    /// By the error that its deciding receipt gives (5.3.2.31, appendix B).
     Failed(ErrorCode),
 }
 
@@ -26,7 +26,7 @@ impl SubmitError {
     }
 }
 
-/// What a view counts submits by.
+/// What a view counts messages by.
 #[derive(Debug, PartialEq, Eq, PartialOrd, Ord, Drop)]
 pub enum Value {
     /// The link, by number.

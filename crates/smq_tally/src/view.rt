@@ -1,8 +1,8 @@
-//! The views, declared in the order in which reports print them. Who adds one gives it its place in specs/Rows.antt and its
+//! The views, declared in the order in which reports print them. Who adds one gives it its rank in specs/Rows.antt and its
 //! name in Names.antt; the laws of order say whether they agree.
 ghost use Rattle.std.specs.Prelude.{◌≡◌};
 
-/// A way to count submits by a value.
+/// A way to count messages by a value.
 #[derive(Clone, Copy, Debug, PartialEq, Eq, PartialOrd, Ord)]
 pub enum View {
     /// By the link.
@@ -15,14 +15,14 @@ pub enum View {
     Error,
     /// By the time from the submit_sm to its deciding receipt, on this link.
     LinkDelay,
-    /// By the time from the submit date to the done date of its deciding receipt, by the centre's clock.
+    /// By the time from the submit date to the done date of its deciding receipt (SMPP 3.4, appendix B), by the centre's clock.
     CentreDelay,
 }
 
 impl View {
     ghost use Rattle.std.specs.Prelude.{◌+◌, slice_get};
     ghost use Rattle.smq_tally.specs.Names.{view_name};
-    ghost use Rattle.smq_tally.specs.Rows.{views, view_place};
+    ghost use Rattle.smq_tally.specs.Rows.{views, view_rank};
 
     /// The name in commands and reports.
     pub fn name(self) -> &'static str
@@ -40,7 +40,7 @@ impl View {
 
     /// The view after it.
     pub(crate) fn next(self) -> Option<View>
-        ensures { result ≡ slice_get views (view_place self + 1) }
+        ensures { result ≡ slice_get views (view_rank self + 1) }
     {
         match self {
             View::Link => Some(View::Route),

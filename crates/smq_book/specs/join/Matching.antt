@@ -46,8 +46,8 @@ earlier a b = min_by_ordering (candidate_cmp a b) a b
 abbrev pub decider : Grouping → LinkKey → Option Place
 decider g key = option_map (λ c. c.1) (reduce earlier (candidates g key))
 
--- how an accepted message stands: alone with its key, with the place of the receipt that decides where there is one, or
--- sharing its key with another
+-- how an accepted message stands: its key is single, with the place of the receipt that decides where there is one, or
+-- shared with another
 pub data Standing : Type 0 where
   Single : Option Place → Standing
   Shared : Standing
@@ -62,13 +62,13 @@ decided_by (Single place) = place
 decided_by Shared = None
 
 -- how a delivery receipt stands: where no message is accepted with its key, it is stray; where one is, it decides that
--- message, or is extra, if it can decide and another does, or noted, if it can't; where more are, it matches several
+-- message, or is extra, if it can decide and another does, or noted, if it can't; where more are, its key is shared
 pub data ReceiptStanding : Type 0 where
   Stray : ReceiptStanding
   Deciding : ReceiptStanding
   Extra : ReceiptStanding
   Noted : ReceiptStanding
-  Several : ReceiptStanding
+  KeyShared : ReceiptStanding
 
 -- a delivery receipt at a place is the one that decides the messages of its key
 abbrev pub is_decider : Grouping → Place → LinkKey → Bool
@@ -78,14 +78,14 @@ is_decider g place key = same_option (eq_by_cmp place_cmp) (decider g key) (Some
 abbrev pub receipt_standing : Grouping → Place → GroupedReceipt → ReceiptStanding
 receipt_standing g place r =
     if matches g r.key == 0 then Stray
-    else if not (matches g r.key == 1) then Several
+    else if not (matches g r.key == 1) then KeyShared
     else if is_decider g place r.key then Deciding
     else if r.decides then Extra else Noted
 
 -- ---- what these mean, place by place
 
 -- A message is accepted with a key at this place, and at no other.
-pub record IsAlone (g : Grouping) (key : LinkKey) (place : Place) : Type 0 where
+pub record IsSingle (g : Grouping) (key : LinkKey) (place : Place) : Type 0 where
   pub here : map.get g.submits place ≡ Some key
   pub elsewhere : (other : Place) → other ≢ place → map.get g.submits other ≢ Some key
 
@@ -107,7 +107,7 @@ pub record IsStray (g : Grouping) (place : Place) : Type 0 where
   pub unmatched : (message : Place) → map.get g.submits message ≢ Some receipt.key
 
 -- A delivery receipt stands at a place, and messages at two places are accepted with its key.
-pub record MatchesSeveral (g : Grouping) (place : Place) : Type 0 where
+pub record HasSharedKey (g : Grouping) (place : Place) : Type 0 where
   pub receipt : GroupedReceipt
   pub stands : map.get g.receipts place ≡ Some receipt
   pub one : Place
@@ -122,6 +122,6 @@ pub record IsExtra (g : Grouping) (place : Place) : Type 0 where
   pub receipt : GroupedReceipt
   pub stands : map.get g.receipts place ≡ Some receipt
   pub message : Place
-  pub alone : IsAlone g receipt.key message
+  pub alone : IsSingle g receipt.key message
   pub can : receipt.decides ≡ true
   pub decided : decider g receipt.key ≢ Some place

@@ -1,11 +1,11 @@
--- The submitted messages of a session as a list, each with its response by its place in the direction.
+-- The submitted messages of a session as a list, each with its response by its index in the direction.
 use Rattle.std.specs.Prelude.{◌==◌, ◌&&◌, if◌then◌else◌, ℕ, Bool, List, [], ◌∷◌, slice_get, Option, Some, None, option_map, option_and_then}
 use Rattle.std.specs.List.{enumerate_from, flat_map}
 use Rattle.smq_kit.specs.declared.names.LinkId.{LinkId}
 use Rattle.smq_kit.specs.declared.place.Dir.TheVariants.{FromClient}
 use Rattle.smq_kit.specs.declared.place.Place.{Place}
 use Rattle.smq_pdu.specs.Header.{Header}
-use Rattle.smq_pdu.specs.Pairing.{agrees, request_rank, response_place}
+use Rattle.smq_pdu.specs.Pairing.{agrees, request_rank, response_index}
 use Rattle.smq_pdu.specs.declared.body.Submit.{Submit}
 use Rattle.smq_book.specs.declared.present.kept.KeptPdu.{KeptPdu}
 use Rattle.smq_kit.specs.declared.link_key.LinkKey.{LinkKey}
@@ -30,7 +30,7 @@ pub record SubmittedMessage : Type 0 where
 abbrev pub response_of : List KeptPdu → List KeptPdu → ℕ → KeptPdu → Option KeptPdu
 response_of client centre i p =
     option_and_then (λ j. slice_get centre j)
-    (response_place (headers_of centre) p.seq (request_rank (headers_of client) i p.seq))
+    (response_index (headers_of centre) p.seq (request_rank (headers_of client) i p.seq))
 
 -- the id with which a request is accepted: its response agrees, has status 0 and gives one
 abbrev pub accepted_id : Header → Option KeptPdu → Option (List ℕ)

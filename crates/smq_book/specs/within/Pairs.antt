@@ -1,9 +1,8 @@
 -- The pairs of a session, as its code makes them of its PDUs, and a response, as it is found by its offset.
-use Rattle.std.specs.Prelude.{◌≡◌, ℕ, ◌==◌, true, List, map, filter, slice_get, Option, Some, option_and_then}
+use Rattle.std.specs.Prelude.{◌≡◌, ◌≤◌, ◌+◌, ℕ, ◌==◌, true, List, [], ◌∷◌, map, filter, slice_get, Option, Some, option_and_then}
 use Rattle.smq_kit.specs.declared.names.SessionId.{SessionId}
 use Rattle.smq_kit.specs.declared.place.Dir.{Dir}
 use Rattle.smq_kit.specs.declared.place.Place.{Place}
-use Rattle.smq_frame.proofs.Offsets.{Ascends}
 use Rattle.smq_pdu.specs.Pairing.{is_request}
 use Rattle.smq_pdu.specs.declared.body.Submit.{Submit}
 use Rattle.smq_pair.specs.Pairing.{PairingValue, pair_at}
@@ -17,7 +16,8 @@ from_session session = record { session = session; link = record { 0 = 0 } }
 
 -- the offsets of PDUs rise from a bound on, as those of a stream do from 0 on
 abbrev pub Rises : ℕ → List KeptPdu → Type 0
-Rises low pdus = Ascends (λ p. p.offset) low pdus
+Rises low [] = Unit {0}
+Rises low (p ∷ pdus) = (low ≤ p.offset) × Rises (p.offset + 1) pdus
 
 -- Each submit_sm among PDUs is a request, as it is in a stream.
 pub record SubmitsAreRequests (pdus : List KeptPdu) : Type 0 where

@@ -1,5 +1,5 @@
-//! What is known of the submitted messages. Outcomes are tested in the order of their table; who adds one tests it at
-//! the place that it has there, in specs/join/Outcomes.antt.
+//! What is known of the submitted messages. Outcomes are tested in the order of their table; who adds one tests it in
+//! the turn that it has there, in specs/join/Outcomes.antt.
 ghost use Rattle.std.specs.Prelude.{◌≡◌, ℕ, List, Option, option_map, IfOk};
 ghost use Rattle.std.specs.Option.{option_copied};
 ghost use Rattle.std.specs.FinMap as map;
@@ -73,20 +73,20 @@ fn fact_of(
     }
 }
 
-/// What is known of a message, by its route and network, whether it has lapsed, whether it is ambiguous, and its deciding
+/// What is known of a message, by its route and network, whether it has lapsed, whether its key is shared, and its deciding
 /// receipt.
 fn fact_by(
     submit: &SubmittedMessage<'_>,
     route: Option<(RouteId, Network)>,
     lapsed: bool,
-    ambiguous: bool,
+    shared: bool,
     decider: Option<&PlacedReceipt<'_>>,
 ) -> Fact
-    ensures { (standing : Option Standing) → is_shared standing ≡ ambiguous
+    ensures { (standing : Option Standing) → is_shared standing ≡ shared
         → result ≡ facts.fact_by submit.now.place (message_from submit.now)
         (circumstances_by standing (option_copied decider.entry) route lapsed) }
 {
-    let outcome = outcome(submit, lapsed, ambiguous, decider);
+    let outcome = outcome(submit, lapsed, shared, decider);
     Fact {
         place: submit.place(),
         link: submit.source.link,
@@ -102,11 +102,11 @@ fn fact_by(
 fn outcome(
     submit: &SubmittedMessage<'_>,
     lapsed: bool,
-    ambiguous: bool,
+    shared: bool,
     decider: Option<&PlacedReceipt<'_>>,
 ) -> Outcome
     ensures { (standing : Option Standing) (route : Option (RouteId × List ℕ))
-        → is_shared standing ≡ ambiguous
+        → is_shared standing ≡ shared
         → result ≡ outcomes.outcome_by (message_from submit.now)
         (circumstances_by standing (option_copied decider.entry) route lapsed) }
 {
@@ -122,7 +122,7 @@ fn outcome(
     if response.content.message_id().is_none() {
         return Outcome::NoId;
     }
-    if ambiguous {
+    if shared {
         return Outcome::Ambiguous;
     }
     if let Some(receipt) = decider {

@@ -1,4 +1,5 @@
-//! What the sessions that are present say, in one pass: the submitted messages and the notes. Receipts are read apart.
+//! What the sessions that are present say, session by session: the submitted messages and the notes. A session's PDUs are
+//! walked more than once: for its pairs, its messages and each kind of note. Receipts are read apart.
 ghost use Rattle.std.specs.Prelude.{◌≡◌, ◌++◌, IfOk, OnOk};
 ghost use Rattle.smq_book.specs.present.Kept.{kept_pdus};
 ghost use Rattle.smq_book.specs.pairing.Traffic.{session_notes};

@@ -7,13 +7,13 @@ ghost use Rattle.smq_kit.specs.declared.link_key.LinkKey.{LinkKey};
 ghost use Rattle.smq_route.specs.Versions.{Versions, route_at};
 ghost use Rattle.smq_book.specs.Known.{KnownOutcomes, KnownReceipts};
 ghost use Rattle.smq_tally.specs.Bands.{band_of};
-ghost use Rattle.smq_tally.specs.Rows.{outcome_place};
+ghost use Rattle.smq_tally.specs.Rows.{outcome_rank};
 ghost use Rattle.smq_book.specs.present.Settings.{SettingsValue, with_versions, with_clock, forms_of};
 ghost use Rattle.smq_book.specs.pairing.Traffic.{Message, ReceivedReceipt, TrafficValue};
 ghost use Rattle.smq_book.specs.join.Circumstances.{Circumstances, circumstances, route_in, window_of};
 ghost use Rattle.smq_book.specs.join.Facts.{fact_by, facts_of, with_route, with_lapse};
 ghost use Rattle.smq_book.specs.join.Keyed.{accepted_key, grouping_of, receipt_key};
-ghost use Rattle.smq_book.specs.join.Matching.{Grouping, CanDecide, IsAlone, IsEarliest, decider, matches};
+ghost use Rattle.smq_book.specs.join.Matching.{Grouping, CanDecide, IsSingle, IsEarliest, decider, matches};
 ghost use Rattle.smq_book.specs.join.Moves.{IsMove, changes_of, standings_of, put_message, take_message, put_receipt, take_receipt};
 ghost use Rattle.smq_book.specs.join.Outcomes.{outcome_table, last_outcome};
 
@@ -23,7 +23,7 @@ use smq_kit::{LinkId, Place};
 /// Of a message that is accepted with a key, the key is single exactly where no other message is accepted with it.
 pub fn single_keys_have_no_other()
     ensures { (g : Grouping) (key : LinkKey) (place : Place) → fin.get g.submits place ≡ Some key
-        → IsTrue (matches g key == 1) ↔ IsAlone g key place }
+        → IsTrue (matches g key == 1) ↔ IsSingle g key place }
 {}
 
 /// The key with which a message is accepted, and that of a receipt, is of its own link: ids of two links never meet.
@@ -166,19 +166,19 @@ pub fn routes_are_of_the_moment()
 /// The outcomes stand in the order of their table, in which reports print them.
 pub fn outcomes_are_in_order()
     ensures { (m : Message) (c : Circumstances)
-        → map (λ row. outcome_place row.1) (outcome_table m c) ++ outcome_place last_outcome ∷ []
+        → map (λ row. outcome_rank row.1) (outcome_table m c) ++ outcome_rank last_outcome ∷ []
         ≡ 0 ∷ 1 ∷ 2 ∷ 3 ∷ 4 ∷ 5 ∷ 6 ∷ 7 ∷ 8 ∷ 9 ∷ [] }
 {}
 
-/// What became of submits that are written out.
-#[tactic(auto, unfolding(smq_pdu::specs::Pairing::nth_place), using(crate::proofs::KnownFacts::known))]
+/// What became of messages that are written out.
+#[tactic(auto, unfolding(smq_pdu::specs::Pairing::nth_index), using(crate::proofs::KnownFacts::known))]
 pub fn outcomes_of_known_submits()
     ensures { KnownOutcomes }
 {}
 
-/// What receipts that are written out make of submits. Each receipt is of the id `1`, which `accepted` gives, but for those
+/// What receipts that are written out make of messages. Each receipt is of the id `1`, which `accepted` gives, but for those
 /// under forms.
-#[tactic(auto, unfolding(smq_pdu::specs::Pairing::nth_place), using(crate::proofs::KnownFacts::known))]
+#[tactic(auto, unfolding(smq_pdu::specs::Pairing::nth_index), using(crate::proofs::KnownFacts::known))]
 pub fn receipts_decide_known_submits()
     ensures { KnownReceipts }
 {}

@@ -167,7 +167,7 @@ pub fn forms_are_verbatim_until_set()
     ensures { KnownForms }
 {}
 
-/// `==` of forms answers whether they are one.
+/// `==` of forms says whether they are one.
 pub fn forms_are_told_apart()
     ensures { (a b : Forms) → IsTrue (forms_eq a b) ↔ (a ≡ b) }
 {}

@@ -9,7 +9,7 @@ ghost use Rattle.smq_tally.specs.Tables.{listed_in};
 ghost use Rattle.smq_book.specs.join.Facts.{facts_of};
 ghost use Rattle.smq_book.specs.join.Keyed.{grouping_of};
 ghost use Rattle.smq_book.specs.join.Listings.{receipt_notes};
-ghost use Rattle.smq_book.specs.join.Matching.{Grouping, IsStray, MatchesSeveral, IsExtra};
+ghost use Rattle.smq_book.specs.join.Matching.{Grouping, IsStray, HasSharedKey, IsExtra};
 ghost use Rattle.smq_book.specs.whole.Scratch.{scratch};
 ghost use Rattle.smq_book.specs.within.Lists.{facts_listed, receipt_notes_listed, tables_listed};
 
@@ -34,7 +34,7 @@ pub fn receipts_are_listed_by_their_matches()
         → Contains (receipt_notes g) (listed List.StrayReceipts place) ↔ IsStray g place }
     ensures ambiguous { (g : Grouping) (place : Place)
         → Contains (receipt_notes g) (listed List.AmbiguousReceipts place)
-        ↔ MatchesSeveral g place }
+        ↔ HasSharedKey g place }
     ensures extra { (g : Grouping) (place : Place)
         → Contains (receipt_notes g) (listed List.ExtraReceipts place) ↔ IsExtra g place }
 {}
@@ -46,14 +46,14 @@ pub fn tables_list_receipts_by_their_matches()
         ↔ IsStray (grouping_of p.settings (traffic_of p.sessions)) place }
     ensures ambiguous { (p : PresentValue) (place : Place)
         → Contains (listed_in (scratch p) List.AmbiguousReceipts) place
-        ↔ MatchesSeveral (grouping_of p.settings (traffic_of p.sessions)) place }
+        ↔ HasSharedKey (grouping_of p.settings (traffic_of p.sessions)) place }
     ensures extra { (p : PresentValue) (place : Place)
         → Contains (listed_in (scratch p) List.ExtraReceipts) place
         ↔ IsExtra (grouping_of p.settings (traffic_of p.sessions)) place }
 {}
 
 /// Delivery receipts that are written out, in their lists. Each is of the id `1`, but for those under forms.
-#[tactic(auto, unfolding(smq_pdu::specs::Pairing::nth_place), using(crate::proofs::KnownListings::listings_known))]
+#[tactic(auto, unfolding(smq_pdu::specs::Pairing::nth_index), using(crate::proofs::KnownListings::listings_known))]
 pub fn known_receipts_are_listed()
     ensures { KnownListings }
 {}

@@ -3,7 +3,7 @@
 use Rattle.std.specs.Prelude.{ℕ, Bool, if◌then◌else◌, List, take, count_by, Option, Some, None, option_map, option_and_then, is_none}
 use Rattle.smq_kit.specs.declared.place.Dir.{Dir}
 use Rattle.smq_pdu.specs.Header.{Header}
-use Rattle.smq_pdu.specs.Pairing.{is_request, is_response, is_request_of, is_response_of, nth_place}
+use Rattle.smq_pdu.specs.Pairing.{is_request, is_response, is_request_of, is_response_of, nth_index}
 use Rattle.smq_pair.specs.declared.entry.Side.{Side}
 use Rattle.smq_pair.specs.declared.entry.Side.TheVariants.{Request, Response}
 use Rattle.smq_pair.specs.declared.entry.Series.{Series}
@@ -37,7 +37,7 @@ count_in v s = count_by (is_of s.side s.seq) (headers_from s.dir v)
 
 -- the index of the PDU of a turn in its direction
 abbrev pub index_at : value.PairingValue → Turn → Option ℕ
-index_at v t = nth_place (is_of t.series.side t.series.seq) (headers_from t.series.dir v) t.rank
+index_at v t = nth_index (is_of t.series.side t.series.seq) (headers_from t.series.dir v) t.rank
 
 -- the turn of what makes a pair with the PDU of this turn
 abbrev pub partner : Turn → Turn

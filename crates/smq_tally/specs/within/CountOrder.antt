@@ -13,7 +13,7 @@ use Rattle.smq_tally.specs.contracts.band.BandOrd.TheImpl as band_ord
 use Rattle.smq_tally.specs.contracts.fact.CountKeyOrd.TheImpl as key_ord
 use Rattle.smq_tally.specs.contracts.value.ValueOrd.TheImpl as value_ord
 use Rattle.smq_tally.specs.contracts.value.ValuePartialEq.TheImpl as value_eq
-use Rattle.smq_tally.specs.Rows.{count_key, count_cmp, value_cmp, value_numbers, outcome_place, view_place}
+use Rattle.smq_tally.specs.Rows.{count_key, count_cmp, value_cmp, value_numbers, outcome_rank, view_rank}
 
 -- the order by which the map of counts compares keys
 abbrev pub kept_cmp : CountKey → CountKey → Ordering
@@ -38,8 +38,8 @@ values_total = on_total value_numbers (lists_total nat_cmp_total)
 -- the order of keys is total
 pub count_keys_total : IsTotalOrder count_cmp
 count_keys_total =
-    then_total (on_total (λ k. view_place k.view) nat_cmp_total)
-    (then_total (on_total (λ k. k.value) values_total) (on_total (λ k. outcome_place k.outcome) nat_cmp_total))
+    then_total (on_total (λ k. view_rank k.view) nat_cmp_total)
+    (then_total (on_total (λ k. k.value) values_total) (on_total (λ k. outcome_rank k.outcome) nat_cmp_total))
 
 -- the value before which there is none
 abbrev pub first_value : Value

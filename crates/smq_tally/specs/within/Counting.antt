@@ -7,12 +7,12 @@ use Rattle.smq_tally.specs.declared.fact.CountKey.{CountKey}
 use Rattle.smq_tally.specs.declared.fact.Fact.{Fact}
 use Rattle.smq_tally.specs.declared.list.Listed.{Listed}
 use Rattle.smq_tally.specs.declared.view.View.{View}
-use Rattle.smq_tally.specs.Rows.{views, view_place, key_in}
+use Rattle.smq_tally.specs.Rows.{views, view_rank, key_in}
 use Rattle.smq_tally.specs.Tables.{TablesValue}
 
 -- where a message is counted in a view and those after it
 abbrev pub keys_from : View → Fact → List CountKey
-keys_from view f = flat_map (λ v. option_to_list (key_in v f)) (drop (view_place view) views)
+keys_from view f = flat_map (λ v. option_to_list (key_in v f)) (drop (view_rank view) views)
 
 -- the count at a key, which is 0 where none stands
 abbrev pub count_of : TablesValue → CountKey → ℕ

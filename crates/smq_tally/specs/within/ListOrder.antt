@@ -10,7 +10,7 @@ use Rattle.smq_kit.proofs.PlaceOrders.{places_total}
 use Rattle.smq_tally.specs.declared.list.List as l
 use Rattle.smq_tally.specs.declared.list.Listed.{Listed}
 use Rattle.smq_tally.specs.contracts.list.ListedOrd.TheImpl as listed_ord
-use Rattle.smq_tally.specs.Lists.{list_place, listed, listed_cmp}
+use Rattle.smq_tally.specs.Lists.{list_rank, listed, listed_cmp}
 
 -- the order by which the set of listed places compares them
 abbrev pub kept_listed_cmp : Listed → Listed → Ordering
@@ -18,7 +18,7 @@ kept_listed_cmp = (listed_ord.ghosts).cmp
 
 -- the order of listed places is total
 pub listed_total : IsTotalOrder listed_cmp
-listed_total = then_total (on_total (λ e. list_place e.list) nat_cmp_total) (on_total (λ e. e.place) places_total)
+listed_total = then_total (on_total (λ e. list_rank e.list) nat_cmp_total) (on_total (λ e. e.place) places_total)
 
 -- whether two listed places are one
 abbrev pub same_listed : Listed → Listed → Bool

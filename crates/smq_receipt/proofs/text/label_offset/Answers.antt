@@ -1,7 +1,7 @@
 use Rattle.std.proofs.Common.{sym, length, arith}
 use Rattle.smq_receipt.specs.Texts.{labels_at}
 use Rattle.smq_receipt.proofs.LeastPlaces.{first_place, no_place}
-use Rattle.smq_receipt.proofs.text.label_place.Goals as goal
+use Rattle.smq_receipt.proofs.text.label_offset.Goals as goal
 
 pub returns-then-labels_at-clause-value : goal.returns-then-labels_at-clause-value
 returns-then-labels_at-clause-value c =
