@@ -1,11 +1,10 @@
 -- The facts by place are the facts of the lists.
 use Rattle.std.proofs.Common.{◌≡◌, ℕ, zero, suc, Bool, true, false, cond, List, [], ◌∷◌, Option, Some, None, refl, ap, ◌∙◌, subst}
-use Rattle.std.specs.Prelude.{T, ◌&&◌, ◌==◌, not, pos, ◌-ℤ◌, map, filter, count_by, option_map, option_and_then, slice_get}
+use Rattle.std.specs.Prelude.{T, ◌&&◌, ◌==◌, map, filter, count_by, option_map, option_and_then, slice_get}
 use Rattle.std.specs.List.{flat_map, reduce}
 use Rattle.std.specs.Cmp.{IsTotalOrder}
 use Rattle.std.specs.FinMap.{get, values, find, is_sorted, get-from_entries}
 use Rattle.std.proofs.lemmas.Cmp.{on_total, then_total, nat_cmp_total}
-use Rattle.smq_kit.specs.declared.place.Place.{Place}
 use Rattle.smq_kit.specs.Maps.{kept_of}
 use Rattle.smq_kit.specs.Orders.{place_cmp}
 use Rattle.smq_kit.proofs.PlaceOrders.{places_total, places_exact}

@@ -1,7 +1,6 @@
 use Rattle.std.proofs.Common.{◌≡◌, ap, sym, ◌∙◌, ◌≤◌, ◌++◌, List, length, map, arith}
 use Rattle.std.proofs.lemmas.List.{append-nil}
 use Rattle.std.proofs.Math.ListN.{drop_of_length-le}
-use Rattle.smq_tally.specs.declared.fact.Fact.{Fact}
 use Rattle.smq_book.specs.within.Lists.{receipts_of}
 use Rattle.smq_book.specs.within.Messages.{SubmittedMessage}
 use Rattle.smq_book.specs.within.Outcomes.{fact_of, facts_among}
