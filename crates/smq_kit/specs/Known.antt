@@ -66,6 +66,7 @@ printed_refusals =
 -- The keys of some ids.
 pub record KnownKeys : Type 0 where
   pub verbatim : key_under Verbatim (codes "007") ≡ Text (codes "007")
+  pub either_case : key_under Verbatim (codes "A1b2") ≡ Text (codes "A1b2")
   pub zeros : key_under Decimal (codes "007") ≡ Number 7
   pub decimal : key_under Decimal (codes "0000041394") ≡ Number 41394
   pub letters : key_under Decimal (codes "A1B2") ≡ Text (codes "A1B2")

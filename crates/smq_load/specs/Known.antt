@@ -1,5 +1,5 @@
 -- Limits, and definitions at known values.
-use Rattle.std.specs.Prelude.{◌≡◌, ◌++◌, ℕ, List, [], ◌∷◌, codes, drop, take, Some, None, if◌then◌else◌, length, map, option_and_then, true}
+use Rattle.std.specs.Prelude.{◌≡◌, ◌++◌, ℕ, List, [], ◌∷◌, codes, drop, take, Some, None, if◌then◌else◌, length, map, option_and_then, true, false}
 use Rattle.std.specs.Str.{is_utf8}
 use Rattle.toml.specs.Parse.{parse_document}
 use Rattle.smq_kit.specs.declared.form.Form.TheVariants.{Verbatim, Decimal, Hexadecimal}
@@ -16,13 +16,15 @@ use Rattle.smq_load.specs.declared.settings.TheConstants.{MOST_SETTINGS}
 use Rattle.smq_load.specs.Decimal.{decimal_of, decimal_to}
 use Rattle.smq_load.specs.Fields.{dir_of, form_of, link_of, moment_of, network_of, prefix_of, route_of, session_of}
 use Rattle.smq_load.specs.Row.{row_of}
-use Rattle.smq_load.specs.Script.{AreRecordsOf, IsFirstBad, IsScript, SayRows, most_records}
+use Rattle.smq_load.specs.Script.{AreRecordsOf, IsFirstBad, IsScript, SayRows, may_have, most_records}
 use Rattle.smq_load.specs.Settings.{are_distinct, fitting, rows_in, settings_of}
 
 -- how many octets, reads and records a script may have, and how many octets and links settings may have: so many are
 -- taken, and one more is not
 pub record KnowsLimits : Type 0 where
   pub octets : MOST_OCTETS ≡ 268435456
+  pub all_octets : may_have 268435456 ≡ true
+  pub past_octets : may_have 268435457 ≡ false
   pub reads : MOST_READS ≡ 16777216
   pub records : most_records ≡ 1000000
   pub read_records : MOST_RECORDS ≡ 1000000
@@ -88,7 +90,12 @@ pub record KnowsInstants : Type 0 where
   pub fraction : moment_of (codes "1970-01-01T00:00:00.0Z") ≡ None
   pub offset : moment_of (codes "1970-01-01T00:00:00+00:00") ≡ None
   pub no_zone : moment_of (codes "1970-01-01T00:00:00") ≡ None
-  pub lower_case : moment_of (codes "1970-01-01t00:00:00z") ≡ None
+  pub first_dash : moment_of (codes "1970/01-01T00:00:00Z") ≡ None
+  pub second_dash : moment_of (codes "1970-01/01T00:00:00Z") ≡ None
+  pub small_t : moment_of (codes "1970-01-01t00:00:00Z") ≡ None
+  pub first_colon : moment_of (codes "1970-01-01T00.00:00Z") ≡ None
+  pub second_colon : moment_of (codes "1970-01-01T00:00.00Z") ≡ None
+  pub small_z : moment_of (codes "1970-01-01T00:00:00z") ≡ None
   pub blank : moment_of (codes "1970-01-01 00:00:00Z") ≡ None
   pub no_digit : moment_of (codes "1970-01-0aT00:00:00Z") ≡ None
 
@@ -136,27 +143,39 @@ pub record KnowsPieces : Type 0 where
   pub five : row_of (take 5 (fields_at (codes "client") (codes "1000") [])) ≡ None
   pub seven : row_of (fields_at (codes "client") (codes "1000") [] ++ [] ∷ []) ≡ None
 
--- a record of each other kind, and one of each that says none
+-- a record of each other kind, one of each that says none, and one of each with a field too many
 pub record KnowsRows : Type 0 where
   pub withdraw : row_of (codes "withdraw" ∷ codes "10" ∷ [])
       ≡ Some (Plain (Withdraw (record { 0 = 10 })))
   pub withdraw_none : row_of (codes "withdraw" ∷ []) ≡ None
+  pub withdraw_two : row_of (codes "withdraw" ∷ codes "10" ∷ codes "10" ∷ []) ≡ None
   pub form : row_of (codes "form" ∷ codes "1" ∷ codes "hexadecimal" ∷ codes "decimal" ∷ [])
       ≡ Some (Plain (SetForm (record { 0 = 1 }) Hexadecimal Decimal))
   pub form_word : row_of (codes "form" ∷ codes "1" ∷ codes "Decimal" ∷ codes "decimal" ∷ []) ≡ None
+  pub form_five :
+      row_of (codes "form" ∷ codes "1" ∷ codes "decimal" ∷ codes "decimal" ∷ codes "decimal" ∷ [])
+      ≡ None
   pub route : row_of (codes "route" ∷ codes "44" ∷ codes "0" ∷ codes "7" ∷ codes "23410" ∷ [])
       ≡ Some (Plain (AddRoute (codes "44") 0 (record { 0 = 7 }) (codes "23410")))
   pub route_prefix : row_of (codes "route" ∷ [] ∷ codes "0" ∷ codes "7" ∷ codes "23410" ∷ []) ≡ None
+  pub route_six :
+      row_of (codes "route" ∷ codes "44" ∷ codes "0" ∷ codes "7" ∷ codes "23410" ∷ codes "1" ∷ [])
+      ≡ None
   pub end : row_of (codes "end" ∷ codes "44" ∷ codes "5" ∷ codes "1970-01-01T00:00:01Z" ∷ [])
       ≡ Some (Plain (EndRoute (codes "44") 5 1000))
   pub end_open : row_of (codes "end" ∷ codes "44" ∷ codes "5" ∷ []) ≡ None
+  pub end_five : row_of (codes "end" ∷ codes "44" ∷ codes "5" ∷ codes "6" ∷ codes "7" ∷ []) ≡ None
   pub correct : row_of (codes "correct" ∷ codes "44" ∷ codes "0" ∷ codes "8" ∷ codes "310026" ∷ [])
       ≡ Some (Plain (CorrectRoute (codes "44") 0 (record { 0 = 8 }) (codes "310026")))
   pub correct_network : row_of (codes "correct" ∷ codes "44" ∷ codes "0" ∷ codes "8" ∷ codes "3100" ∷ []) ≡ None
+  pub correct_six :
+      row_of (codes "correct" ∷ codes "44" ∷ codes "0" ∷ codes "8" ∷ codes "310026" ∷ codes "1" ∷ [])
+      ≡ None
   pub clock : row_of (codes "clock" ∷ codes "172801000" ∷ []) ≡ Some (Plain (Advance 172801000))
   pub clock_instant : row_of (codes "clock" ∷ codes "1970-01-03T00:00:01Z" ∷ [])
       ≡ Some (Plain (Advance 172801000))
   pub clock_date : row_of (codes "clock" ∷ codes "1970-02-30T00:00:00Z" ∷ []) ≡ None
+  pub clock_two : row_of (codes "clock" ∷ codes "1" ∷ codes "2" ∷ []) ≡ None
   pub other_word : row_of (codes "close" ∷ codes "1" ∷ []) ≡ None
   pub empty : row_of ([] ∷ []) ≡ None
 
@@ -188,8 +207,11 @@ pub record KnowsSettings : Type 0 where
   pub past_link : settings_of (codes "link = [{ id = 4294967296 }]") ≡ None
   pub no_id : settings_of (codes "link = [{ receipt = 'decimal' }]") ≡ None
   pub twice : settings_of (codes "link = [{ id = 1 }, { id = 1 }]") ≡ None
+  pub twice_apart : settings_of (codes "link = [{ id = 1 }, { id = 2 }, { id = 1 }]") ≡ None
   pub no_array : settings_of (codes "link = { id = 1 }") ≡ None
   pub other_form : settings_of (codes "link = [{ id = 1, response = 'hex' }]") ≡ None
+  pub no_form : settings_of (codes "link = [{ id = 1, receipt = 10 }]") ≡ None
+  pub no_response_form : settings_of (codes "link = [{ id = 1, response = 10 }]") ≡ None
   pub other_key : settings_of (codes "x = 1") ≡ None
   pub other_link_key : settings_of (codes "link = [{ id = 1, x = 1 }]") ≡ None
   pub no_toml : settings_of (codes "clock") ≡ None

@@ -1,11 +1,15 @@
 -- A script: its records, its rows, and its first bad record.
-use Rattle.std.specs.Prelude.{◌≡◌, ◌+◌, ◌≤◌, ◌⊎◌, ⊤, ℕ, List, ◌∷◌, ◌++◌, length, map, Some, None, Result, Ok, Err}
+use Rattle.std.specs.Prelude.{Bool, nat_le, ◌≡◌, ◌+◌, ◌≤◌, ◌⊎◌, ⊤, ℕ, List, ◌∷◌, ◌++◌, length, map, Some, None, Result, Ok, Err}
 use Rattle.csv.specs.Reading.{AreRecords, default_config, strip_bom}
 use Rattle.csv.specs.declared.parser.State.TheVariants as state
 use Rattle.smq_load.specs.declared.row.Row.{Row}
 use Rattle.smq_load.specs.declared.load_fault.LoadFault.{LoadFault}
 use Rattle.smq_load.specs.declared.load_fault.LoadFault.TheVariants.{BadRow, BadSettings, Read, Memory}
 use Rattle.smq_load.specs.Row.{row_of}
+
+-- whether a script may have so many octets
+abbrev pub may_have : ℕ → Bool
+may_have octets = nat_le octets 268435456
 
 -- how many records a script may have
 abbrev pub most_records : ℕ

@@ -1,7 +1,8 @@
 //! The input: a reader, read to its end within limits.
 ghost use Rattle.std.specs.Prelude.{◌≡◌, ◌<◌, ◌≤◌, ◌+◌, ◌++◌};
-ghost use Rattle.std.specs.Prelude.{IfErr, IfOk, IfSome, List, OnOk, Option, ℕ, false, length, vec_len};
+ghost use Rattle.std.specs.Prelude.{IfErr, IfOk, IfSome, List, OnOk, Option, ℕ, true, false, length, vec_len};
 ghost use Rattle.std.specs.Io.KnownBytes.{Consumes, IsAtEnd};
+ghost use Rattle.smq_load.specs.Script.{may_have};
 
 use std::alloc::{AllocError, Global};
 use std::io::{ErrorKind, Read};
@@ -28,7 +29,7 @@ pub enum InputFault {
 pub fn read_whole<R: Read>(alloc: Global, reader: &mut R) -> Result<Vec<u8>, InputFault>
     ensures whole { IfOk result (λ octets.
         IfSome (R.remaining reader.old) (λ text. octets.items ≡ text)) }
-    ensures in_range { IfOk result (λ octets. vec_len octets ≤ MOST_OCTETS) }
+    ensures in_range { IfOk result (λ octets. may_have (vec_len octets) ≡ true) }
     ensures at_end { OnOk result (IsAtEnd (R.remaining reader.new)) }
 {
     let Ok(mut room) = zeros(alloc, CHUNK) else {
@@ -46,7 +47,7 @@ fn read_in_chunks<R: Read>(
     requires { 0 < length chunk.old }
     ensures whole { IfOk result (λ octets.
         IfSome (R.remaining reader.old) (λ text. octets.items ≡ text)) }
-    ensures in_range { IfOk result (λ octets. vec_len octets ≤ MOST_OCTETS) }
+    ensures in_range { IfOk result (λ octets. may_have (vec_len octets) ≡ true) }
     ensures at_end { OnOk result (IsAtEnd (R.remaining reader.new)) }
 {
     let mut octets = Vec::new(alloc);
@@ -97,7 +98,7 @@ fn append(octets: &mut Vec<u8>, more: &[u8]) -> Result<(), InputFault>
     ensures ok { OnOk result (octets.new.items ≡ octets.old.items ++ more.now) }
     ensures in_range { OnOk result (vec_len octets.new ≤ MOST_OCTETS) }
     ensures read { IfErr result (λ fault. fault ≡ InputFault.Read
-        → MOST_OCTETS < vec_len octets.old + length more.now) }
+        → may_have (vec_len octets.old + length more.now) ≡ false) }
 {
     if more.len() > MOST_OCTETS - octets.len() {
         return Err(InputFault::Read);

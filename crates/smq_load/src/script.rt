@@ -3,12 +3,12 @@ ghost use Rattle.std.specs.Prelude.{◌≡◌, ◌≢◌, ◌+◌, ◌<◌, ◌�
 ghost use Rattle.std.specs.Prelude.{IfOk, IfErr, IfSome, OnOk, length, vec_len};
 ghost use Rattle.std.specs.Borrow.{Bor};
 ghost use Rattle.std.specs.Io.KnownBytes.{IsAtEnd};
-ghost use Rattle.csv.specs.Reading.{error_kind};
+ghost use Rattle.csv.specs.Reading.{error_kind, is_flexible};
 ghost use Rattle.csv.specs.Records.{fields_of};
-ghost use Rattle.smq_load.specs.Script.{AreRecordsOf, IfJudged, IsScript, Tells};
+ghost use Rattle.smq_load.specs.Script.{AreRecordsOf, IfJudged, IsScript, Tells, may_have};
 ghost use Rattle.smq_load.specs.NextRecord.{AddsRow, HasGiven, HasRead, TellsNext};
 
-use crate::input::{InputFault, MOST_OCTETS, read_whole};
+use crate::input::{InputFault, read_whole};
 use crate::load_fault::LoadFault;
 use crate::record::read_row;
 use crate::row::Row;
@@ -29,7 +29,7 @@ pub fn read_script<R: Read>(alloc: Global, reader: &mut R) -> Result<Vec<Row>, L
     ensures no_settings { IfErr result (λ fault. fault ≢ LoadFault.BadSettings) }
     ensures whole { IfJudged result (IsAtEnd (R.remaining reader.new)) }
     ensures in_range { IfJudged result
-        (IfSome (R.remaining reader.old) (λ text. length text ≤ MOST_OCTETS)) }
+        (IfSome (R.remaining reader.old) (λ text. may_have (length text) ≡ true)) }
 {
     match read_whole(alloc, reader) {
         Ok(text) => rows_of(alloc, text.as_slice()),
@@ -48,9 +48,10 @@ fn rows_of(alloc: Global, text: &[u8]) -> Result<Vec<Row>, LoadFault>
     read_rows(alloc, &mut reader, &mut fields)
 }
 
-/// A reader of the records of a text, the first of which is no header.
+/// A reader of the records of a text, the first of which is no header. Records may have any number of fields.
 fn reader_of(alloc: Global, text: &[u8]) -> Reader<&[u8]>
-    ensures { HasRead (λ (octets : Bor (List ℕ)). Some octets.now) result text.now [] }
+    ensures start { HasRead (λ (octets : Bor (List ℕ)). Some octets.now) result text.now [] }
+    ensures any_length { is_flexible result ≡ true }
 {
     ReaderBuilder::new()
         .has_headers(false)

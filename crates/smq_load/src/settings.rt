@@ -1,5 +1,6 @@
 //! Settings: one TOML document with a clock and the forms of links, each optional.
 ghost use Rattle.std.specs.Prelude.{◌≡◌, IfOk, IfErr, Some, option_map};
+ghost use Rattle.toml.specs.Errors.{IsMemory};
 ghost use Rattle.toml.specs.View.{table_view, view};
 ghost use Rattle.smq_load.specs.Settings.{TellsOfSettings, clock_of, rows_in, rows_with, settings_of};
 
@@ -11,6 +12,7 @@ use smq_book::Edit;
 use smq_kit::{LAST_MOMENT, Moment};
 use std::alloc::{AllocError, Global};
 use std::str;
+use toml::de::Error;
 use toml::{Table, Value};
 
 /// How many octets settings may have.
@@ -30,8 +32,19 @@ pub fn read_settings(alloc: Global, octets: &[u8]) -> Result<Vec<Row>, LoadFault
     };
     match toml::table_from_str(alloc, text) {
         Ok(table) => read_document(alloc, &table),
-        Err(error) if error.is_memory() => Err(LoadFault::Memory),
-        Err(_) => Err(LoadFault::BadSettings),
+        Err(error) => Err(fault_of(&error)),
+    }
+}
+
+/// Want of memory, or a text that is no TOML.
+fn fault_of(error: &Error) -> LoadFault
+    ensures memory { IsMemory error.now → result ≡ LoadFault.Memory }
+    ensures bad_settings { ¬ IsMemory error.now → result ≡ LoadFault.BadSettings }
+{
+    if error.is_memory() {
+        LoadFault::Memory
+    } else {
+        LoadFault::BadSettings
     }
 }
 

@@ -23,7 +23,12 @@ returns c = record {
   fraction = refl;
   offset = refl;
   no_zone = refl;
-  lower_case = refl;
+  first_dash = refl;
+  second_dash = refl;
+  small_t = refl;
+  first_colon = refl;
+  second_colon = refl;
+  small_z = refl;
   blank = refl;
   no_digit = refl;
 }

@@ -2,9 +2,9 @@ use Rattle.std.proofs.Common.{◌∙◌, sym, refl, inr, []}
 use Rattle.csv.specs.Reading.{Reached, strip_bom}
 use Rattle.smq_load.proofs.script.reader_of.Goals as goal
 
-pub returns : goal.returns
+pub returns-clause-start : goal.returns-clause-start
 unfolding Reached
-returns c =
+returns-clause-start c =
     let from = c.from_reader.ensures in
     let named = c.has_headers.ensures in
     let flexible = c.flexible.ensures in
