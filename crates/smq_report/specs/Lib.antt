@@ -1,4 +1,5 @@
 pub mod Sections
+pub mod Equal
 pub mod Values
 pub mod Csv
 pub mod Table

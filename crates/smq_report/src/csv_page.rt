@@ -1,8 +1,8 @@
 //! A page of CSV: records that wait to be written, gathered by `csv` in memory that is used again.
-ghost use Rattle.std.specs.Prelude.{◌≡◌, ◌++◌, [], OnOk, IfErr, IfOk};
+ghost use Rattle.std.specs.Prelude.{◌≡◌, ◌++◌, [], OnOk, IfErr, IfOk, length, nat_le};
 ghost use Rattle.std.specs.Io.KnownBytes.{Appends};
 ghost use Rattle.smq_report.specs.Csv.{csv_place, csv_row};
-ghost use Rattle.smq_report.specs.within.Pages.{IsAtStart, IsPlain, record_of, waiting};
+ghost use Rattle.smq_report.specs.within.Pages.{IsAtStart, IsPlain, gathered, record_of, waiting};
 
 use crate::pick::ReportFault;
 use crate::value::{dir_name, push_value};
@@ -37,7 +37,9 @@ impl Page {
     }
 
     /// Whether it is to be written before more is put on it.
-    pub(crate) fn is_full(&self) -> bool {
+    pub(crate) fn is_full(&self) -> bool
+        ensures { result ≡ nat_le FULL (length (gathered self.now.records)) }
+    {
         self.records.get_ref().len() >= FULL
     }
 

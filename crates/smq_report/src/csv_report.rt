@@ -6,7 +6,7 @@ ghost use Rattle.smq_report.specs.Csv.{csv_section, csv_text};
 ghost use Rattle.smq_report.specs.within.Pages.{IsAtStart, waiting};
 
 use crate::csv_page::Page;
-use crate::pick::{Pick, ReportFault, SECTIONS, Section};
+use crate::pick::{Pick, ReportFault, Section, sections_of};
 use smq_tally::Tables;
 use std::alloc::Global;
 use std::io::Write;
@@ -22,30 +22,11 @@ pub fn write_csv<W: Write>(
     ensures ok { OnOk result
         (Appends (W.contents writer.old) (W.contents writer.new) (csv_text tables.now pick)) }
 {
-    let page = put_picked(tables, pick, Page::new(alloc), writer)?;
+    let sections = sections_of(alloc, pick)?;
+    let page = put_sections(tables, sections.as_slice(), Page::new(alloc), writer)?;
     page.send(writer)?;
     writer.flush()?;
     Ok(())
-}
-
-/// Puts what is picked after the page, and writes each page that is full.
-fn put_picked<W: Write>(
-    tables: &Tables,
-    pick: Pick,
-    page: Page,
-    writer: &mut W,
-) -> Result<Page, ReportFault>
-    requires { IsAtStart page.records }
-    ensures { IfOk result (λ after. Appends
-        (append_known (W.contents writer.old) (waiting page.records))
-        (append_known (W.contents writer.new) (waiting after.records))
-        (csv_text tables.now pick)) }
-{
-    match pick {
-        Pick::All => put_sections(tables, &SECTIONS, page, writer),
-        Pick::View(view) => put_sections(tables, &[Section::View(view)], page, writer),
-        Pick::List(list) => put_sections(tables, &[Section::List(list)], page, writer),
-    }
 }
 
 /// Puts sections after the page, one after the other, and writes each page that is full.

@@ -1,14 +1,15 @@
 //! Laws of the definitions: each is the contract of a function with no body.
-ghost use Rattle.std.specs.Prelude.{◌≡◌, ◌++◌};
+ghost use Rattle.std.specs.Prelude.{◌≡◌, ◌++◌, ◌↔◌, IsTrue};
 ghost use Rattle.std.specs.List.{flat_map};
 ghost use Rattle.smq_tally.specs.Lists.{lists};
 ghost use Rattle.smq_tally.specs.Rows.{views};
 ghost use Rattle.smq_tally.specs.Tables.{TablesValue};
 ghost use Rattle.smq_report.specs.Csv.{csv_text};
+ghost use Rattle.smq_report.specs.Equal.{faults_eq, formats_eq, picks_eq, sections_eq};
 ghost use Rattle.smq_report.specs.Known.{KnowsColumns, KnowsReports, KnowsSections, KnowsTexts};
 ghost use Rattle.smq_report.specs.Table.{table_text};
 
-use crate::pick::Pick;
+use crate::pick::{Format, Pick, ReportFault, Section};
 
 /// A whole report is those of the views and then those of the lists, one after the other.
 pub fn whole_reports_are_those_of_views_and_lists()
@@ -18,6 +19,14 @@ pub fn whole_reports_are_those_of_views_and_lists()
     ensures table { (tables : TablesValue) → table_text tables Pick.All
         ≡ flat_map (λ view. table_text tables (Pick.View view)) views
         ++ flat_map (λ list. table_text tables (Pick.List list)) lists }
+{}
+
+/// `==` of picks, sections, formats and faults answers whether they are one.
+pub fn what_is_asked_for_is_told_apart()
+    ensures picks { (a b : Pick) → IsTrue (picks_eq a b) ↔ (a ≡ b) }
+    ensures sections { (a b : Section) → IsTrue (sections_eq a b) ↔ (a ≡ b) }
+    ensures formats { (a b : Format) → IsTrue (formats_eq a b) ↔ (a ≡ b) }
+    ensures faults { (a b : ReportFault) → IsTrue (faults_eq a b) ↔ (a ≡ b) }
 {}
 
 /// The order of sections.

@@ -1,9 +1,10 @@
 //! What a report tells, how it is laid out, and why it wasn't written.
-ghost use Rattle.std.specs.Prelude.{◌≡◌};
+ghost use Rattle.std.specs.Prelude.{◌≡◌, ◌++◌, IfOk, OnOk, map};
 ghost use Rattle.smq_report.specs.declared.pick.ReportFault.TheVariants.{Memory, Write};
+ghost use Rattle.smq_report.specs.Sections.{sections_of};
 
 use smq_tally::{List, View};
-use std::alloc::AllocError;
+use std::alloc::{AllocError, Global};
 use std::io;
 
 /// Which views and lists a report tells.
@@ -35,26 +36,43 @@ pub enum Section {
     List(List),
 }
 
-/// The sections of a whole report, in order.
-pub(crate) const SECTIONS: [Section; 17] = [
-    Section::View(View::Link),
-    Section::View(View::Route),
-    Section::View(View::Network),
-    Section::View(View::Error),
-    Section::View(View::LinkDelay),
-    Section::View(View::CentreDelay),
-    Section::List(List::Waiting),
-    Section::List(List::StrayAnswers),
-    Section::List(List::Mismatched),
-    Section::List(List::StrayReceipts),
-    Section::List(List::AmbiguousReceipts),
-    Section::List(List::ExtraReceipts),
-    Section::List(List::Unreadable),
-    Section::List(List::Undecodable),
-    Section::List(List::Broken),
-    Section::List(List::Open),
-    Section::List(List::Lapsed),
-];
+/// The sections that a report tells, in order.
+pub(crate) fn sections_of(alloc: Global, pick: Pick) -> Result<Vec<Section>, AllocError>
+    ensures { IfOk result (λ sections. sections.items ≡ sections_of pick) }
+{
+    let mut sections = Vec::new(alloc);
+    match pick {
+        Pick::All => {
+            push_views(&mut sections, View::all())?;
+            push_lists(&mut sections, List::all())?;
+        }
+        Pick::View(view) => sections.push(Section::View(view))?,
+        Pick::List(list) => sections.push(Section::List(list))?,
+    }
+    Ok(sections)
+}
+
+/// Puts views after the sections.
+fn push_views(sections: &mut Vec<Section>, views: &[View]) -> Result<(), AllocError>
+    ensures { OnOk result
+        (sections.new.items ≡ sections.old.items ++ map Section.View views.now) }
+{
+    for view in views {
+        sections.push(Section::View(*view))?;
+    }
+    Ok(())
+}
+
+/// Puts lists after the sections.
+fn push_lists(sections: &mut Vec<Section>, lists: &[List]) -> Result<(), AllocError>
+    ensures { OnOk result
+        (sections.new.items ≡ sections.old.items ++ map Section.List lists.now) }
+{
+    for list in lists {
+        sections.push(Section::List(*list))?;
+    }
+    Ok(())
+}
 
 /// Why a report wasn't written. Some of its text may have gone out.
 #[derive(Clone, Copy, Debug, PartialEq, Eq)]

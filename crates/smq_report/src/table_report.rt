@@ -4,7 +4,7 @@ ghost use Rattle.std.specs.List.{flat_map};
 ghost use Rattle.std.specs.Io.KnownBytes.{Appends, Keeps, append_known};
 ghost use Rattle.smq_report.specs.Table.{section_line, table_place, table_row, table_section, table_text};
 
-use crate::pick::{Pick, ReportFault, SECTIONS, Section};
+use crate::pick::{Pick, ReportFault, Section, sections_of};
 use crate::value::{dir_name, push_value};
 use smq_kit::Place;
 use smq_tally::{Outcome, Tables, Value};
@@ -26,30 +26,12 @@ pub fn write_table<W: Write>(
     ensures ok { OnOk result
         (Appends (W.contents writer.old) (W.contents writer.new) (table_text tables.now pick)) }
 {
+    let sections = sections_of(alloc, pick)?;
     let mut page = String::new(alloc);
-    put_picked(tables, pick, &mut page, writer)?;
+    put_sections(tables, sections.as_slice(), &mut page, writer)?;
     send(&mut page, writer)?;
     writer.flush()?;
     Ok(())
-}
-
-/// Puts what is picked after the page, and writes each page that is full.
-fn put_picked<W: Write>(
-    tables: &Tables,
-    pick: Pick,
-    page: &mut String,
-    writer: &mut W,
-) -> Result<(), ReportFault>
-    ensures { OnOk result (Appends
-        (append_known (W.contents writer.old) (string_bytes page.old))
-        (append_known (W.contents writer.new) (string_bytes page.new))
-        (table_text tables.now pick)) }
-{
-    match pick {
-        Pick::All => put_sections(tables, &SECTIONS, page, writer),
-        Pick::View(view) => put_sections(tables, &[Section::View(view)], page, writer),
-        Pick::List(list) => put_sections(tables, &[Section::List(list)], page, writer),
-    }
 }
 
 /// Puts sections after the page, one after the other, and writes each page that is full.

@@ -1,6 +1,6 @@
 //! What wants looking at: places, in lists. Lists are declared in the order in which reports print them. Who adds one
-//! gives it its rank in specs/Lists.antt and its name in Names.antt; the law of their order says whether they
-//! agree.
+//! gives it its place here and in specs/Lists.antt, and its name in Names.antt; the law of their order says whether
+//! they agree.
 ghost use Rattle.std.specs.Prelude.{◌≡◌};
 
 use smq_kit::{Dir, Place, SessionId};
@@ -32,10 +32,32 @@ pub enum List {
     Lapsed,
 }
 
+/// The lists, in the order of reports.
+static LISTS: [List; 11] = [
+    List::Waiting,
+    List::StrayAnswers,
+    List::Mismatched,
+    List::StrayReceipts,
+    List::AmbiguousReceipts,
+    List::ExtraReceipts,
+    List::Unreadable,
+    List::Undecodable,
+    List::Broken,
+    List::Open,
+    List::Lapsed,
+];
+
 impl List {
     ghost use Rattle.std.specs.Prelude.{◌+◌, slice_get};
     ghost use Rattle.smq_tally.specs.Lists.{lists, list_rank};
     ghost use Rattle.smq_tally.specs.Names.{list_name};
+
+    /// All lists, in the order of reports.
+    pub fn all() -> &'static [List]
+        ensures { result.now ≡ lists }
+    {
+        LISTS.as_slice()
+    }
 
     /// The name in reports.
     pub fn name(self) -> &'static str

@@ -1,5 +1,5 @@
-//! The views, declared in the order in which reports print them. Who adds one gives it its rank in specs/Rows.antt and its
-//! name in Names.antt; the laws of order say whether they agree.
+//! The views, declared in the order in which reports print them. Who adds one gives it its place here and in
+//! specs/Rows.antt, and its name in Names.antt; the laws of order say whether they agree.
 ghost use Rattle.std.specs.Prelude.{◌≡◌};
 
 /// A way to count messages by a value.
@@ -19,10 +19,27 @@ pub enum View {
     CentreDelay,
 }
 
+/// The views, in the order of reports.
+static VIEWS: [View; 6] = [
+    View::Link,
+    View::Route,
+    View::Network,
+    View::Error,
+    View::LinkDelay,
+    View::CentreDelay,
+];
+
 impl View {
     ghost use Rattle.std.specs.Prelude.{◌+◌, slice_get};
     ghost use Rattle.smq_tally.specs.Names.{view_name};
     ghost use Rattle.smq_tally.specs.Rows.{views, view_rank};
+
+    /// All views, in the order of reports.
+    pub fn all() -> &'static [View]
+        ensures { result.now ≡ views }
+    {
+        VIEWS.as_slice()
+    }
 
     /// The name in commands and reports.
     pub fn name(self) -> &'static str

@@ -3,9 +3,13 @@ use Rattle.std.specs.Prelude.{◌≡◌, ℕ, false, List, [], ◌∷◌, ◌++�
 use Rattle.csv.specs.Writing.{default_writer, fields_written, has_written, needs_quotes, writer_pending, writer_setup, writer_under}
 use Rattle.csv.specs.declared.writer.Writer.{Writer}
 
+-- what a writer in memory has gathered of what was put after its records
+abbrev pub gathered : {A : Type 0} → Writer (Vec ℕ A) → List ℕ
+gathered records = (writer_under records).items
+
 -- what was put after the records of a writer in memory, all of it
 abbrev pub waiting : {A : Type 0} → Writer (Vec ℕ A) → List ℕ
-waiting records = (writer_under records).items ++ writer_pending records
+waiting records = gathered records ++ writer_pending records
 
 -- The writer is at the start of a record, and writes as `csv` does by default.
 pub record IsAtStart {W : Type 0} (records : Writer W) : Type 0 where
