@@ -1,3 +1,4 @@
 pub mod LevelLemmas
 pub mod OrderLemmas
 pub mod PlayLemmas
+pub mod PickLemmas

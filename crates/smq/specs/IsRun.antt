@@ -1,9 +1,7 @@
 -- What the program makes of settings and a script.
-use Rattle.std.specs.Prelude.{◌≡◌, ⊤, ℕ, List, ◌++◌, Option, Some}
+use Rattle.std.specs.Prelude.{◌≡◌, ⊤, ℕ, List, Option, Some}
 use Rattle.std.specs.Io.KnownBytes.{Appends}
 use Rattle.smq_kit.specs.declared.refusal.Refusal.{Refusal}
-use Rattle.smq_book.specs.present.Present.{empty}
-use Rattle.smq_book.specs.present.Steps.{steps}
 use Rattle.smq_book.specs.whole.Scratch.{scratch}
 use Rattle.smq_load.specs.declared.load_fault.LoadFault.{LoadFault}
 use Rattle.smq_load.specs.declared.load_fault.LoadFault.TheVariants as load
@@ -16,19 +14,19 @@ use Rattle.smq_report.specs.Report.{report_text}
 use Rattle.smq.specs.declared.engine.RunFault.{RunFault}
 use Rattle.smq.specs.declared.engine.RunFault.TheVariants.{BadRow, BadSettings, Read, Write, Memory}
 use Rattle.smq.specs.declared.orders.Query.{Query}
-use Rattle.smq.specs.Play.{after_rows, edits_from, refused_from}
+use Rattle.smq.specs.Play.{present_of, refused_of}
 
 -- The settings and the text say rows, the refused ones are those of the text after the settings, and what was written after
 -- the earlier octets is exactly the report text of the query, of the tables that the definitions give of what the edits of
 -- all these rows, in order, leave present in a new book.
 pub record IsRun (query : Query) (settings : List ℕ) (refused : List (ℕ × Refusal)) (old new : Option (List ℕ)) (text : List ℕ) : Type 0 where
-  pub forms : List Row
+  pub settings_rows : List Row
   pub rows : List Row
-  pub are_settings : settings_of settings ≡ Some forms
+  pub are_settings : settings_of settings ≡ Some settings_rows
   pub is_script : IsScript text rows
-  pub refused_are : refused ≡ refused_from 1 (after_rows empty forms) rows
+  pub refused_are : refused ≡ refused_of settings_rows rows
   pub written : Appends old new
-      (report_text query.pick query.format (scratch (steps empty (edits_from empty (forms ++ rows)))))
+      (report_text query.pick query.format (scratch (present_of settings_rows rows)))
 
 -- what a fault tells of a script's text: a bad row is its first
 abbrev pub TellsRun : RunFault → List ℕ → Type 0
@@ -40,9 +38,9 @@ TellsRun Memory text = ⊤
 
 -- settings and a script's text were read: both say rows
 pub record WasRead (settings text : List ℕ) : Type 0 where
-  pub forms : List Row
+  pub settings_rows : List Row
   pub rows : List Row
-  pub are_settings : settings_of settings ≡ Some forms
+  pub are_settings : settings_of settings ≡ Some settings_rows
   pub is_script : IsScript text rows
 
 -- the fault of a run whose settings or script aren't loaded

@@ -5,7 +5,7 @@ use Rattle.smq_kit.specs.Replies.{first_of}
 use Rattle.smq_book.specs.declared.present.edit.Edit.{Edit}
 use Rattle.smq_book.specs.declared.present.edit.Edit.TheVariants.{Append}
 use Rattle.smq_book.specs.present.Batch.{prepare_refusal}
-use Rattle.smq_book.specs.present.Present.{PresentValue, tail_in}
+use Rattle.smq_book.specs.present.Present.{PresentValue, empty, tail_in}
 use Rattle.smq_book.specs.present.Replies.{reply}
 use Rattle.smq_book.specs.present.Steps.{steps}
 use Rattle.smq_load.specs.declared.row.Row.{Row}
@@ -63,3 +63,21 @@ told number (Some refusal) = (number, refusal) ∷ []
 abbrev pub refused_from : ℕ → PresentValue → List Row → List (ℕ × Refusal)
 refused_from number p [] = []
 refused_from number p (row ∷ rows) = told number (refusal_of p row) ++ refused_from (suc number) (after_row p row) rows
+
+-- the refused rows, each with its number, from 1, and its refusal
+abbrev pub refused_rows : PresentValue → List Row → List (ℕ × Refusal)
+refused_rows p rows = refused_from 1 p rows
+
+-- ---- the rows of settings and of a script
+
+-- the edits that the rows of settings, and then those of a script, come to in a new book
+abbrev pub edits_of : List Row → List Row → List Edit
+edits_of settings_rows rows = edits_from empty (settings_rows ++ rows)
+
+-- what these edits leave present
+abbrev pub present_of : List Row → List Row → PresentValue
+present_of settings_rows rows = steps empty (edits_of settings_rows rows)
+
+-- the refused rows of a script after the rows of settings, by their numbers in the script
+abbrev pub refused_of : List Row → List Row → List (ℕ × Refusal)
+refused_of settings_rows rows = refused_rows (after_rows empty settings_rows) rows

@@ -1,5 +1,6 @@
 -- The words that the program takes, as `clap` reads them.
 use Rattle.std.specs.Prelude.{◌≡◌, ◌⊎◌, Bool, List, [], ◌∷◌, ◌++◌, map, codes, true, false, unwrap_or, option_map, string_bytes, Option, Some, None, Result, IsErrAnd}
+use Rattle.std.specs.Borrow.{Bor}
 use Rattle.std.specs.Option.{option_map_or}
 use Rattle.std.specs.Str.{bytes_eq}
 use Rattle.clap.specs.Words.{App, FailsBy, Row, Rule, Text, fault_of, first_of, kind_of, new_app, new_rule, rule_of, subcommand_of, with_rule, with_subcommand}
@@ -58,9 +59,13 @@ format_names = map format_name (format.Csv ∷ format.Table ∷ [])
 
 -- ---- the program's words, without its own name
 
+-- the texts that names are
+abbrev pub texts_of : List (Bor Text) → List Text
+texts_of names = map (λ name. name.now) names
+
 -- a parser takes these names, and no other text
 abbrev pub TakesNames : List Text → ValueParser → Type 0
-TakesNames texts (Names names) = map (λ name. name.now) names.now ≡ texts
+TakesNames texts (Names names) = texts_of names.now ≡ texts
 TakesNames texts _ = ⊥
 
 -- NAME, which is required and has one value
@@ -102,14 +107,19 @@ abbrev pub query_app : ValueParser → ValueParser → App
 query_app names formats =
     add_options formats (with_rule (new_app (codes "query")) (name_rule names))
 
--- one subcommand, which is required
+-- the program's version
+abbrev pub version_text : Text
+version_text = codes "0.8.0"
+
+-- the program without its subcommands: one is required, or `--version`
+abbrev pub bare_program : App
+bare_program = on_top (λ shape. record shape { no_binary_name = true; subcommand_required = true; has_version = true })
+    (new_app (codes "smq"))
+
+-- the program's subcommands
 abbrev pub program : ValueParser → ValueParser → App
-program names formats = with_subcommand
-    (with_subcommand
-    (on_top (λ shape. record shape { no_binary_name = true; subcommand_required = true })
-    (new_app (codes "smq")))
-    (report_app formats).top)
-    (query_app names formats).top
+program names formats =
+    with_subcommand (with_subcommand bare_program (report_app formats).top) (query_app names formats).top
 
 -- the program's words, where NAME is the name of a view or a list, and a format is `csv` or `table`
 pub record IsProgram (app : App) : Type 0 where

@@ -2,13 +2,11 @@
 //! written before all rows were read and played.
 ghost use Rattle.std.specs.Prelude.{◌≡◌, ◌≢◌, ◌⊎◌, ◌++◌, IfOk, IfErr, IfSome, IsErrAnd, None, OnOk};
 ghost use Rattle.std.specs.Io.KnownBytes.{Appends, Keeps};
-ghost use Rattle.smq_book.specs.present.Present.{empty};
-ghost use Rattle.smq_book.specs.present.Steps.{steps};
 ghost use Rattle.smq_book.specs.whole.Scratch.{scratch};
 ghost use Rattle.smq_load.specs.Settings.{settings_of};
 ghost use Rattle.smq_report.specs.Report.{report_text};
 ghost use Rattle.smq.specs.IsRun.{IsRun, TellsRun, WasRead, run_fault, unwritten_fault};
-ghost use Rattle.smq.specs.Play.{after_rows, edits_from, refused_from};
+ghost use Rattle.smq.specs.Play.{present_of, refused_of};
 
 use crate::orders::Query;
 use crate::play::play;
@@ -17,6 +15,7 @@ use smq_kit::Refusal;
 use smq_load::{LoadFault, Row, read_script, read_settings};
 use smq_report::{ReportFault, write_report};
 use std::alloc::{AllocError, Global};
+use std::fmt;
 use std::io::{Read, Write};
 use std::mem::forget;
 
@@ -66,6 +65,23 @@ impl From<ReportFault> for RunFault {
     }
 }
 
+impl fmt::Display for RunFault {
+    ghost use Rattle.std.specs.Prelude.{Some};
+    ghost use Rattle.smq.specs.Statuses.{fault_text};
+
+    ghost output = { λ fault. Some (fault_text fault) };
+
+    fn fmt<W: fmt::Write>(&self, f: &mut fmt::Formatter<W>) -> fmt::Result {
+        match self {
+            RunFault::BadRow { row } => write!(f, "row {row}: bad row"),
+            RunFault::BadSettings => write!(f, "settings: bad settings"),
+            RunFault::Read => write!(f, "read failed"),
+            RunFault::Write => write!(f, "write failed"),
+            RunFault::Memory => write!(f, "out of memory"),
+        }
+    }
+}
+
 /// Checks settings, then reads a script and checks all its rows, plays both in order on a new book, and writes what the
 /// query asks of the report. A refused row is skipped. Nothing is written before all rows were read and played; some of the
 /// report may have gone out where the writer failed, or memory ran out, while it was written. After a run that is done the
@@ -93,9 +109,9 @@ pub fn run<RT: AllocGlobal, R: Read, W: Write>(
     ensures read_first { IfErr result (λ fault. IfSome (R.remaining reader.old) (λ text.
         Keeps (W.contents writer.old) (W.contents writer.new) ⊎ WasRead settings.now text)) }
 {
-    let forms = read_settings(rt.alloc(), settings)?;
+    let settings_rows = read_settings(rt.alloc(), settings)?;
     let rows = read_script(rt.alloc(), reader)?;
-    let Ok((tables, refused)) = play_all(rt.alloc(), forms, rows) else {
+    let Ok((tables, refused)) = play_all(rt.alloc(), settings_rows, rows) else {
         return Err(RunFault::Memory);
     };
     write_query(rt.alloc(), &tables, query, writer)?;
@@ -106,16 +122,16 @@ pub fn run<RT: AllocGlobal, R: Read, W: Write>(
 /// The tables of what settings and a script leave present, and the rows of the script that are refused.
 fn play_all(
     alloc: Global,
-    forms: Vec<Row>,
+    settings_rows: Vec<Row>,
     rows: Vec<Row>,
 ) -> Result<(Tables, Vec<(u64, Refusal)>), AllocError>
     ensures tables { IfOk result (λ made. made.0
-        ≡ scratch (steps empty (edits_from empty (forms.items ++ rows.items)))) }
+        ≡ scratch (present_of settings_rows.items rows.items)) }
     ensures refused { IfOk result (λ made.
-        made.1.items ≡ refused_from 1 (after_rows empty forms.items) rows.items) }
+        made.1.items ≡ refused_of settings_rows.items rows.items) }
 {
     let mut book = Book::new(alloc);
-    play(alloc, &mut book, forms)?;
+    play(alloc, &mut book, settings_rows)?;
     let refused = play(alloc, &mut book, rows)?;
     let tables = book.tables()?;
     forget(book);

@@ -1,9 +1,14 @@
 //! Known values of the definitions: each is the contract of a function with no body.
-ghost use Rattle.smq.specs.Known.{KnowsPlay, KnowsStatuses, KnowsWords};
+ghost use Rattle.smq.specs.Known.{KnowsFaults, KnowsPlay, KnowsStatuses, KnowsWords};
 
 /// The statuses with which the program ends.
 pub fn known_statuses()
     ensures { KnowsStatuses }
+{}
+
+/// What is told of faults.
+pub fn known_faults()
+    ensures { KnowsFaults }
 {}
 
 /// The words of orders.
@@ -11,7 +16,7 @@ pub fn known_words()
     ensures { KnowsWords }
 {}
 
-/// What known rows come to: their edits, the refused ones, and the clock that they leave.
+/// What known rows come to: the refused ones, what they leave present, and their edits after those of settings.
 pub fn known_play()
     ensures { KnowsPlay }
 {}

@@ -5,7 +5,7 @@ ghost use Rattle.std.specs.IoError.{error_kind};
 ghost use Rattle.std.specs.Prelude.{◌≡◌, ◌≢◌, ◌⊎◌};
 ghost use Rattle.std.specs.declared.io.ErrorKind.TheVariants as io_kind;
 ghost use Rattle.clap.specs.Words.{kind_of};
-ghost use Rattle.smq.specs.Statuses.{fault_status};
+ghost use Rattle.smq.specs.Statuses.{bad_words_status, fault_status};
 
 mod engine;
 mod laws;
@@ -19,7 +19,7 @@ use clap::error::ErrorKind;
 use engine::{RunFault, run};
 use orders::{Order, Query};
 use smq_load::MOST_SETTINGS;
-use status::{BAD_INPUT, DONE, FAULT, NO_MEMORY, ran_status};
+use status::{BAD_INPUT, DONE, FAULT, fault_status, ran_status};
 use std::io::Read;
 use std::process::ExitCode;
 use std::rt::{Env, Files};
@@ -47,27 +47,31 @@ fn obey<R: Env + Files + Input + Print + Eprint + AllocGlobal>(rt: &R) -> u8 {
 
 /// Tells why the program's words weren't read.
 fn no_words<R: Eprint>(rt: &R, error: &io::Error) -> u8
-    ensures memory { error_kind error.now ≡ io_kind.OutOfMemory → result ≡ 4 }
-    ensures bad_words { error_kind error.now ≢ io_kind.OutOfMemory → result ≡ 2 }
+    ensures memory { error_kind error.now ≡ io_kind.OutOfMemory
+        → result ≡ fault_status RunFault.Memory }
+    ensures bad_words { error_kind error.now ≢ io_kind.OutOfMemory → result ≡ bad_words_status }
 {
     if error.kind() == io::ErrorKind::OutOfMemory {
-        return no_memory(rt);
+        return fail(rt, RunFault::Memory);
     }
     let _ = eprintln!(rt; "{error}");
     BAD_INPUT
 }
 
-/// Tells help where the words ask for it, or why they are refused, and gives the status.
+/// Tells help or the version where the words ask for it, or why they are refused, and gives the status.
 fn refuse<R: Print + Eprint>(rt: &R, error: &clap::Error) -> u8
     ensures help { kind_of error.now ≡ ErrorKind.DisplayHelp
         → (result ≡ DONE) ⊎ (result ≡ FAULT) }
-    ensures memory { kind_of error.now ≡ ErrorKind.OutOfMemory → result ≡ NO_MEMORY }
+    ensures version { kind_of error.now ≡ ErrorKind.DisplayVersion
+        → (result ≡ DONE) ⊎ (result ≡ FAULT) }
+    ensures memory { kind_of error.now ≡ ErrorKind.OutOfMemory
+        → result ≡ fault_status RunFault.Memory }
     ensures bad_words { kind_of error.now ≢ ErrorKind.OutOfMemory
         → kind_of error.now ≢ ErrorKind.DisplayHelp
-        → kind_of error.now ≢ ErrorKind.DisplayVersion → result ≡ BAD_INPUT }
+        → kind_of error.now ≢ ErrorKind.DisplayVersion → result ≡ bad_words_status }
 {
     if error.kind() == ErrorKind::OutOfMemory {
-        return no_memory(rt);
+        return fail(rt, RunFault::Memory);
     }
     let printed = error.print(rt);
     if error.use_stderr() {
@@ -120,30 +124,6 @@ fn tell<R: Input + Print + Eprint + AllocGlobal>(rt: &R, query: Query, settings:
 fn fail<R: Eprint>(rt: &R, fault: RunFault) -> u8
     ensures { result ≡ fault_status fault }
 {
-    match fault {
-        RunFault::BadRow { row } => {
-            let _ = eprintln!(rt; "row {row}: bad row");
-            BAD_INPUT
-        }
-        RunFault::BadSettings => {
-            let _ = eprintln!(rt; "settings: bad settings");
-            BAD_INPUT
-        }
-        RunFault::Read => {
-            let _ = eprintln!(rt; "read failed");
-            FAULT
-        }
-        RunFault::Write => {
-            let _ = eprintln!(rt; "write failed");
-            FAULT
-        }
-        RunFault::Memory => no_memory(rt),
-    }
-}
-
-fn no_memory<R: Eprint>(rt: &R) -> u8
-    ensures { result ≡ NO_MEMORY }
-{
-    let _ = eprintln!(rt; "out of memory");
-    NO_MEMORY
+    let _ = eprintln!(rt; "{fault}");
+    fault_status(fault)
 }

@@ -2,7 +2,7 @@
 ghost use Rattle.std.specs.Prelude.{◌≡◌, ◌≢◌, ◌++◌, IfOk, OnOk, Some};
 ghost use Rattle.smq_book.specs.present.Replies.{reply};
 ghost use Rattle.smq_book.specs.present.Steps.{step};
-ghost use Rattle.smq.specs.Play.{after_row, after_rows, refusal_of, refused_from, told};
+ghost use Rattle.smq.specs.Play.{after_row, after_rows, refusal_of, refused_rows, told};
 ghost use Rattle.smq_load.specs.declared.row.Row.TheVariants.{Piece};
 
 use smq_book::{Book, Edit, PieceRow, prepare};
@@ -19,7 +19,7 @@ pub fn play(
     ensures present { OnOk result
         (book.new.present ≡ after_rows book.old.present rows.items) }
     ensures refused { IfOk result (λ refused.
-        refused.items ≡ refused_from 1 book.old.present rows.items) }
+        refused.items ≡ refused_rows book.old.present rows.items) }
 {
     let mut refused = Vec::new(alloc);
     let mut number = 0u64;

@@ -1,35 +1,16 @@
 //! The rules by which `clap` takes the program's words, and its help. Who adds a subcommand adds its rules here and in
 //! specs/Words.antt.
-ghost use Rattle.std.specs.Prelude.{◌≡◌, IfOk, false};
+ghost use Rattle.std.specs.Prelude.{◌≡◌, ◌++◌, IfOk, Some, false, map, option_map};
 ghost use Rattle.clap.specs.Words.{app_of, new_app};
 ghost use Rattle.clap.specs.declared.builder.command.Command.TheViews.{out-Command as fields_of};
 ghost use Rattle.clap.specs.declared.builder.value_parser.ValueParser.TheVariants.{Names};
-ghost use Rattle.smq.specs.Words.{IsArgument, IsProgram, add_options, format_rule, name_rule};
-ghost use Rattle.smq.specs.Words.{query_app, report_app, settings_rule};
+ghost use Rattle.smq_tally.specs.Names.{list_name, view_name};
+ghost use Rattle.smq.specs.Words.{IsArgument, IsProgram, add_options, bare_program, format_rule, name_rule};
+ghost use Rattle.smq.specs.Words.{pick_names, query_app, report_app, settings_rule, texts_of, version_text};
 
 use clap::{Arg, ArgAction, Command};
+use smq_tally::{List, View};
 use std::alloc::{AllocError, Global};
-
-/// The names of views and lists, in the order of reports.
-static NAMES: [&str; 17] = [
-    "link",
-    "route",
-    "network",
-    "error",
-    "link-delay",
-    "centre-delay",
-    "waiting",
-    "stray-answers",
-    "mismatched",
-    "stray-receipts",
-    "ambiguous-receipts",
-    "extra-receipts",
-    "unreadable",
-    "undecodable",
-    "broken",
-    "open",
-    "lapsed",
-];
 
 static FORMATS: [&str; 2] = ["csv", "table"];
 
@@ -38,14 +19,17 @@ const ABOUT: &str =
 
 const USAGE: &str = "smq report [OPTIONS] < SCRIPT\n       smq query [OPTIONS] <NAME> < SCRIPT";
 
-/// What stands below each help.
-const MORE: &str = "\
+/// The version that `--version` prints.
+const VERSION: &str = "0.8.0";
+
+/// The first part of what stands below each help, before the names of views and lists.
+const SCRIPT: &str = "\
 SCRIPT is CSV records, one a line, as `piece,LINK,SESSION,DIR,MOMENT,HEX`, where DIR is client or centre and
 MOMENT is in ms since 1970 or YYYY-MM-DDTHH:MM:SSZ. docs/FORMATS.md tells all records, the settings and the report.
+";
 
-Views count messages: link, route, network, error, link-delay, centre-delay.
-Lists have places: waiting, stray-answers, mismatched, stray-receipts, ambiguous-receipts, extra-receipts,
-unreadable, undecodable, broken, open, lapsed.
+/// The last part.
+const STATUS: &str = "
 
 Status:
   0  each row was taken
@@ -54,29 +38,112 @@ Status:
   3  a read or a write failed
   4  out of memory";
 
-/// The rules of the program's words.
-pub fn command<'a>(alloc: Global) -> Result<Command<'a>, AllocError>
+/// How many columns a line of names may have.
+const COLUMNS: usize = 105;
+
+/// What stands below each help, with the names of views and lists.
+pub fn more_help(alloc: Global) -> Result<String, AllocError> {
+    let views = with_views(Vec::new(alloc), View::all())?;
+    let lists = with_lists(Vec::new(alloc), List::all())?;
+    let mut text = String::from_str(alloc, SCRIPT)?;
+    push_sentence(&mut text, "Views count messages:", views.as_slice())?;
+    push_sentence(&mut text, "Lists have places:", lists.as_slice())?;
+    text.push_str(STATUS)?;
+    Ok(text)
+}
+
+/// Puts a sentence with names after the text, as a paragraph's next lines.
+fn push_sentence(text: &mut String, heading: &str, names: &[&str]) -> Result<(), AllocError> {
+    text.push('\n')?;
+    text.push_str(heading)?;
+    let mut room = COLUMNS.saturating_sub(heading.len());
+    let mut mark = "";
+    for name in names {
+        let columns = name.len().saturating_add(2);
+        text.push_str(mark)?;
+        text.push(if columns > room { '\n' } else { ' ' })?;
+        text.push_str(name)?;
+        room = if columns > room { COLUMNS } else { room }.saturating_sub(columns);
+        mark = ",";
+    }
+    text.push('.')
+}
+
+/// The names of views and lists, in the order of reports.
+pub fn pick_names(alloc: Global) -> Result<Vec<&'static str>, AllocError>
+    ensures { IfOk result (λ names. texts_of names.items ≡ pick_names) }
+{
+    let names = with_views(Vec::new(alloc), View::all())?;
+    with_lists(names, List::all())
+}
+
+/// The names, and then those of views.
+fn with_views(mut names: Vec<&'static str>, views: &[View]) -> Result<Vec<&'static str>, AllocError>
+    ensures { IfOk result (λ made.
+        texts_of made.items ≡ texts_of names.entry.items ++ map view_name views.now) }
+{
+    for view in views {
+        names.push(view.name())?;
+    }
+    Ok(names)
+}
+
+/// The names, and then those of lists.
+fn with_lists(mut names: Vec<&'static str>, lists: &[List]) -> Result<Vec<&'static str>, AllocError>
+    ensures { IfOk result (λ made.
+        texts_of made.items ≡ texts_of names.entry.items ++ map list_name lists.now) }
+{
+    for list in lists {
+        names.push(list.name())?;
+    }
+    Ok(names)
+}
+
+/// The rules of the program's words, where `names` are those of views and lists, and `more` stands below each help.
+pub fn command<'a>(
+    alloc: Global,
+    names: &'a [&'a str],
+    more: &'a str,
+) -> Result<Command<'a>, AllocError>
+    requires { texts_of names.now ≡ pick_names }
     ensures { IfOk result (λ command. IsProgram (app_of command)) }
 {
     let formats = FORMATS.as_slice();
-    let report = report_command(alloc, formats)?;
-    let query = query_command(alloc, NAMES.as_slice(), formats)?;
-    let smq = Command::new(alloc, "smq").bin_name("smq")?;
-    smq.about(ABOUT)
-        .override_usage(USAGE)
-        .after_help(MORE)
-        .no_binary_name(true)
-        .subcommand_required(true)
+    let report = report_command(alloc, formats, more)?;
+    let query = query_command(alloc, names, formats, more)?;
+    bare_command(alloc, more)?
         .subcommand(report)?
         .subcommand(query)
 }
 
-fn report_command<'a>(alloc: Global, formats: &'a [&'a str]) -> Result<Command<'a>, AllocError>
+/// The program without its subcommands.
+fn bare_command<'a>(alloc: Global, more: &'a str) -> Result<Command<'a>, AllocError>
+    ensures rules { IfOk result (λ command. app_of command ≡ bare_program) }
+    ensures version { IfOk result (λ command.
+        option_map (λ version. version.now) (fields_of command).version ≡ Some version_text) }
+{
+    let smq = Command::new(alloc, "smq").bin_name("smq")?;
+    Ok(
+        smq.about(ABOUT)
+            .version(VERSION)
+            .override_usage(USAGE)
+            .after_help(more)
+            .no_binary_name(true)
+            .subcommand_required(true),
+    )
+}
+
+fn report_command<'a>(
+    alloc: Global,
+    formats: &'a [&'a str],
+    more: &'a str,
+) -> Result<Command<'a>, AllocError>
     ensures rules { IfOk result (λ command. app_of command ≡ report_app (Names formats.entry)) }
     ensures local { IfOk result (λ command. (fields_of command).has_globals ≡ false) }
 {
     let about = "Writes the whole report of a script: all views, then all lists";
-    let report = subcommand(alloc, "report", about, "smq report [OPTIONS] < SCRIPT");
+    let usage = "smq report [OPTIONS] < SCRIPT";
+    let report = subcommand(alloc, "report", about, usage, more);
     add_options(alloc, formats, report)
 }
 
@@ -84,25 +151,33 @@ fn query_command<'a>(
     alloc: Global,
     names: &'a [&'a str],
     formats: &'a [&'a str],
+    more: &'a str,
 ) -> Result<Command<'a>, AllocError>
     ensures rules { IfOk result (λ command.
         app_of command ≡ query_app (Names names.entry) (Names formats.entry)) }
     ensures local { IfOk result (λ command. (fields_of command).has_globals ≡ false) }
 {
     let about = "Writes one view or one list of a script's report";
-    let query = subcommand(alloc, "query", about, "smq query [OPTIONS] <NAME> < SCRIPT");
+    let usage = "smq query [OPTIONS] <NAME> < SCRIPT";
+    let query = subcommand(alloc, "query", about, usage, more);
     add_options(alloc, formats, query.arg(name_argument(alloc, names))?)
 }
 
 /// A subcommand with no argument yet, and its help.
-fn subcommand<'a>(alloc: Global, name: &'a str, about: &'a str, usage: &'a str) -> Command<'a>
+fn subcommand<'a>(
+    alloc: Global,
+    name: &'a str,
+    about: &'a str,
+    usage: &'a str,
+    more: &'a str,
+) -> Command<'a>
     ensures rules { app_of result ≡ new_app name.entry.now }
     ensures local { (fields_of result).has_globals ≡ false }
 {
     Command::new(alloc, name)
         .about(about)
         .override_usage(usage)
-        .after_help(MORE)
+        .after_help(more)
 }
 
 /// A subcommand with the options that each has.

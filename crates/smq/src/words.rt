@@ -1,11 +1,15 @@
 //! The words of the program, and what they ask for.
 ghost use Rattle.std.specs.Prelude.{◌≡◌, Option, Some, IfOk, find, map, option_map, string_bytes, unwrap_or, codes};
+ghost use Rattle.std.specs.Str.{bytes_eq};
 ghost use Rattle.clap.specs.Words.{Text, first_of, found_of, rows_of, subcommand_rows_of};
+ghost use Rattle.smq_tally.specs.Lists.{lists};
+ghost use Rattle.smq_tally.specs.Names.{list_name, view_name};
+ghost use Rattle.smq_tally.specs.Rows.{views};
 ghost use Rattle.smq.specs.Words.{AsksFor, HasOrder, TakesWords, format_name, is_named, path_of, pick_name};
 ghost use Rattle.smq.specs.Words.{picks, query_of};
 
 use crate::orders::{Order, Query};
-use crate::rules::command;
+use crate::rules::{command, more_help, pick_names};
 use clap::{ArgMatches, Error};
 use smq_report::{Format, Pick};
 use smq_tally::{List, View};
@@ -14,34 +18,15 @@ use std::convert::AsStr;
 use std::rt::Env;
 use std::{env, io};
 
-/// The views and lists, in the order of reports.
-static PICKS: [Pick; 17] = [
-    Pick::View(View::Link),
-    Pick::View(View::Route),
-    Pick::View(View::Network),
-    Pick::View(View::Error),
-    Pick::View(View::LinkDelay),
-    Pick::View(View::CentreDelay),
-    Pick::List(List::Waiting),
-    Pick::List(List::StrayAnswers),
-    Pick::List(List::Mismatched),
-    Pick::List(List::StrayReceipts),
-    Pick::List(List::AmbiguousReceipts),
-    Pick::List(List::ExtraReceipts),
-    Pick::List(List::Unreadable),
-    Pick::List(List::Undecodable),
-    Pick::List(List::Broken),
-    Pick::List(List::Open),
-    Pick::List(List::Lapsed),
-];
-
 /// What the program's words, without its own name, ask for. Where they ask for nothing that it does, the error has
-/// `clap`'s text; a request for help is an error of its own kind.
+/// `clap`'s text; a request for help or the version is an error of its own kind.
 pub fn order<S: AsStr>(alloc: Global, words: &[S]) -> Result<Order, Error>
     ensures words { TakesWords result (map S.text words.now) }
     ensures order { IfOk result (HasOrder (map S.text words.now)) }
 {
-    let command = command(alloc)?;
+    let names = pick_names(alloc)?;
+    let more = more_help(alloc)?;
+    let command = command(alloc, names.as_slice(), more.as_str())?;
     let matches = command.try_get_matches_from(words)?;
     Ok(order_in(alloc, &matches)?)
 }
@@ -110,27 +95,27 @@ fn named_pick(name: Option<&str>) -> Pick
 fn find_pick(text: &str) -> Option<Pick>
     ensures { result ≡ find (is_named text.now) picks }
 {
-    PICKS.iter().copied().find(|pick| is_named(*pick, text))
-}
-
-fn is_named(pick: Pick, text: &str) -> bool
-    ensures { result ≡ is_named text.now pick }
-{
-    match name_of(pick) {
-        Some(name) => name == text,
-        None => false,
+    match find_view(text) {
+        Some(view) => Some(Pick::View(view)),
+        None => match find_list(text) {
+            Some(list) => Some(Pick::List(list)),
+            None => None,
+        },
     }
 }
 
-/// The name of a view or a list.
-fn name_of(pick: Pick) -> Option<&'static str>
-    ensures { option_map (λ name. name.now) result ≡ pick_name pick }
+/// The view of a name.
+fn find_view(text: &str) -> Option<View>
+    ensures { result ≡ find (λ view. bytes_eq (view_name view) text.now) views }
 {
-    match pick {
-        Pick::All => None,
-        Pick::View(view) => Some(view.name()),
-        Pick::List(list) => Some(list.name()),
-    }
+    View::all().iter().copied().find(|view| view.name() == text)
+}
+
+/// The list of a name.
+fn find_list(text: &str) -> Option<List>
+    ensures { result ≡ find (λ list. bytes_eq (list_name list) text.now) lists }
+{
+    List::all().iter().copied().find(|list| list.name() == text)
 }
 
 /// The format of a name, and CSV where none is given. `clap` lets no name through but those of formats.

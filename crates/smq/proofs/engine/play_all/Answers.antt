@@ -12,5 +12,5 @@ returns-clause-tables c =
     let new = c.new-book.result.present in
     let set = c.play.new.book.present in
     let all = c.play-2.new.book.present in
-    let present = rows-played new set all c.args.forms.items c.args.rows.items c.in_ok-play.ensures.present c.in_ok-refused.ensures.present in
+    let present = rows-played new set all c.args.settings_rows.items c.args.rows.items c.in_ok-play.ensures.present c.in_ok-refused.ensures.present in
     of_same scratch c.in_ok-tables.ensures (rw c.new-book.ensures at present)
