@@ -1,5 +1,6 @@
-//! Many PDUs of one number.
-use crate::tests::pair::{CENTRE, CLIENT, SUBMIT_SM, SUBMIT_SM_RESP, add, first_alone, place};
+//! Many PDUs of one sequence number.
+use crate::tests::pair::added::{add, first_alone, place};
+use crate::tests::pair::known::{CENTRE, CLIENT, SUBMIT_SM, SUBMIT_SM_RESP};
 use smq_pair::{Pair, Pairing};
 use std::process::Abort;
 

@@ -1,6 +1,13 @@
 //! Whole PDUs.
-use crate::tests::pdu::{Row, Says, assert_pdu};
-use smq_pdu::{Deliver, Submit};
+use crate::tests::pdu::said::{Header, Says, assert_pdu};
+use smq_pdu::Deliver;
+
+struct Row {
+    pub message: &'static str,
+    pub octets: &'static [u8],
+    pub header: Header,
+    pub says: Says,
+}
 
 const PDUS: &[Row] = &[
     Row {
