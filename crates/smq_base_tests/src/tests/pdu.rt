@@ -1,6 +1,136 @@
 //! Octets whose meaning is known, and bodies at the edges of the standard.
 mod bodies;
 mod commands;
-mod numbers;
-mod said;
+mod destinations;
 mod whole;
+
+use bytes::Bytes;
+use smq_frame::{Frame, Tail, frames};
+use smq_kit::{Digits, MessageId, Moment};
+use smq_pdu::{Body, Deliver, Pdu, Submit, SubmitAnswer, decode};
+use std::alloc::{AllocError, Global};
+use std::process::Abort;
+
+pub const SUBMIT_SM: u32 = 0x0000_0004;
+
+pub const DELIVER_SM: u32 = 0x0000_0005;
+
+pub const SUBMIT_SM_RESP: u32 = 0x8000_0004;
+
+/// What a body is to say.
+#[derive(Clone, Copy)]
+pub enum Says {
+    /// A submit_sm with this registered_delivery and this number, or no number where it is empty.
+    Submit(u8, &'static [u8]),
+    /// A submit_sm_resp with this id, or none where it is empty.
+    Response(&'static [u8]),
+    Deliver(Deliver<'static>),
+    /// A deliver_sm with esm_class 4, an empty message, and of the parameters receipted_message_id, message_payload and
+    /// message_state these.
+    Parameters(Option<&'static [u8]>, Option<&'static [u8]>, Option<&'static [u8]>),
+    Other,
+    Undecodable,
+}
+
+/// sequence_number, command_id and command_status.
+type Header = (u32, u32, u32);
+
+pub struct Row {
+    message: &'static str,
+    octets: &'static [u8],
+    header: Header,
+    says: Says,
+}
+
+fn body_of(says: &Says) -> Body<'static> {
+    match says {
+        Says::Submit(registered_delivery, number) => Body::Submit(Submit {
+            registered_delivery: *registered_delivery,
+            number: Digits::parse(number).ok(),
+        }),
+        Says::Response(id) => Body::SubmitAnswer(SubmitAnswer {
+            message_id: MessageId::new(id).ok(),
+        }),
+        Says::Deliver(deliver) => Body::Deliver(*deliver),
+        Says::Parameters(id, payload, state) => Body::Deliver(Deliver {
+            esm_class: 4,
+            short_message: b"",
+            receipted_message_id: *id,
+            network_error_code: None,
+            message_payload: *payload,
+            message_state: *state,
+        }),
+        Says::Other => Body::Other,
+        Says::Undecodable => Body::Undecodable,
+    }
+}
+
+/// Whether a body's copy, where it is a submit_sm, is the same.
+fn is_copied(body: &Body<'_>) -> bool {
+    match body {
+        Body::Submit(submit) => submit.copy() == *submit,
+        _ => true,
+    }
+}
+
+fn is_pdu(pdu: &Pdu<'_>, (seq, command, status): Header, says: &Says) -> bool {
+    let wanted = Pdu {
+        seq,
+        command,
+        status,
+        body: body_of(says),
+    };
+    *pdu == wanted && is_copied(&pdu.body)
+}
+
+/// The frame that these octets are.
+fn frame_of(rt: &impl Abort, alloc: Global, octets: &[u8]) -> Frame {
+    assert!(rt; octets.len() <= 1000, "few octets");
+    let piece = Bytes::copy_from_slice(alloc, octets).expect(rt, "a piece");
+    let (mut found, _) = frames(alloc, &Tail::at(0), Moment::epoch(), &piece).expect(rt, "frames");
+    assert!(rt; found.len() == 1, "one frame");
+    found.pop().expect(rt, "a frame")
+}
+
+/// Asserts what the octets of a PDU say.
+pub fn assert_pdu(
+    rt: &impl Abort,
+    alloc: Global,
+    octets: &[u8],
+    header: Header,
+    says: &Says,
+    message: &str,
+) {
+    let frame = frame_of(rt, alloc, octets);
+    assert!(rt; is_pdu(&decode(&frame), header, says), "{message}");
+}
+
+/// The octets of a PDU of this length with this body (SMPP 3.4, 3.2).
+fn pdu_of(
+    alloc: Global,
+    length: u32,
+    (seq, command, status): Header,
+    body: &[u8],
+) -> Result<Vec<u8>, AllocError> {
+    let mut octets = length.to_be_bytes().to_vec(alloc)?;
+    octets.extend_from_slice(&command.to_be_bytes())?;
+    octets.extend_from_slice(&status.to_be_bytes())?;
+    octets.extend_from_slice(&seq.to_be_bytes())?;
+    octets.extend_from_slice(body)?;
+    Ok(octets)
+}
+
+/// Asserts what a PDU with this body says.
+pub fn assert_body(
+    rt: &impl Abort,
+    alloc: Global,
+    header: Header,
+    body: &[u8],
+    says: &Says,
+    message: &str,
+) {
+    assert!(rt; body.len() <= 200, "a short body");
+    let length = 16 + body.len() as u32;
+    let octets = pdu_of(alloc, length, header, body).expect(rt, "a PDU");
+    assert_pdu(rt, alloc, octets.as_slice(), header, says, message);
+}

@@ -1,6 +1,5 @@
-//! Many PDUs of one sequence number.
-use crate::tests::pair::added::{add, first_alone, place};
-use crate::tests::pair::known::{CENTRE, CLIENT, SUBMIT_SM, SUBMIT_SM_RESP};
+//! Many PDUs of one number.
+use crate::tests::pair::{CENTRE, CLIENT, SUBMIT_SM, SUBMIT_SM_RESP, add, first_alone, place};
 use smq_pair::{Pair, Pairing};
 use std::process::Abort;
 

@@ -1,5 +1,5 @@
-//! Bodies at the edges of the standard.
-use crate::tests::pdu::said::{DELIVER_SM, SUBMIT_SM, SUBMIT_SM_RESP, Says, assert_body};
+//! Bodies, field by field.
+use crate::tests::pdu::{DELIVER_SM, SUBMIT_SM, SUBMIT_SM_RESP, Says, assert_body};
 use smq_pdu::Submit;
 
 /// A body: what it is, its command_id and command_status, its octets, and what they say.

@@ -1,5 +1,5 @@
-//! Commands: requests, responses, and which agree.
-use crate::tests::pdu::said::SUBMIT_SM;
+//! Which commands are requests and responses, and which response agrees with which request.
+use crate::tests::pdu::SUBMIT_SM;
 use smq_pdu::{agrees, is_request, is_response};
 
 /// A command_id, whether it is a request, and whether it is a response.

@@ -1,13 +1,6 @@
 //! Whole PDUs.
-use crate::tests::pdu::said::{Header, Says, assert_pdu};
-use smq_pdu::Deliver;
-
-struct Row {
-    pub message: &'static str,
-    pub octets: &'static [u8],
-    pub header: Header,
-    pub says: Says,
-}
+use crate::tests::pdu::{Row, Says, assert_pdu};
+use smq_pdu::{Deliver, Submit};
 
 const PDUS: &[Row] = &[
     Row {

@@ -1,6 +1,5 @@
-//! What parameters say beside the text, and the states by their numbers.
-use crate::tests::receipt::expected::{Expected, says, with_id_and_state};
-use crate::tests::receipt::texts::{ID_OF_64, ID_OF_65};
+//! Optional parameters beside texts.
+use crate::tests::receipt::{Expected, ID_OF_64, ID_OF_65, says, with_id_and_state};
 use smq_receipt::MessageState;
 
 /// A text, receipted_message_id, message_state and what they say together.
@@ -148,24 +147,5 @@ fn parameters_come_before_the_text(rt: HostRuntime) {
             says(&rt, &deliver, *expected, false),
             "{text} {id:?} {state:?}"
         );
-    }
-}
-
-/// A number, its state, and whether that is final.
-const STATES: &[(u8, MessageState, bool)] = &[
-    (1, MessageState::Enroute, false),
-    (2, MessageState::Delivered, true),
-    (6, MessageState::Accepted, false),
-    (7, MessageState::Unknown, true),
-];
-
-fn is_state(number: u8, state: MessageState, is_final: bool) -> bool {
-    MessageState::from_number(number) == Some(state) && state.is_final() == is_final
-}
-
-#[test]
-fn states_have_their_numbers(rt: HostRuntime) {
-    for (number, state, is_final) in STATES {
-        assert!(rt; is_state(*number, *state, *is_final), "{number}");
     }
 }

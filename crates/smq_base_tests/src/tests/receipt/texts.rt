@@ -1,10 +1,6 @@
-//! What the texts of receipts say.
-use crate::tests::receipt::expected::{Expected, saying, says};
-use smq_receipt::MessageState;
-
-pub const ID_OF_64: &[u8] = b"0123456789012345678901234567890123456789012345678901234567890123";
-
-pub const ID_OF_65: &[u8] = b"01234567890123456789012345678901234567890123456789012345678901234";
+//! What texts say of ids and states.
+use crate::tests::receipt::{Expected, ID_OF_64, saying, says};
+use smq_receipt::{MessageState, read};
 
 /// What texts say without any optional parameter.
 const TEXTS: &[(&str, Expected)] = &[

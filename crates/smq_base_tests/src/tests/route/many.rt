@@ -1,5 +1,5 @@
 //! Many versions of many prefixes.
-use crate::tests::route::plans::{assert_route, digits, is_version, moment, network};
+use crate::tests::route::{assert_route, digits, is_version, moment, network};
 use smq_kit::{Refusal, RouteId};
 use smq_route::{Routes, Version, VersionKey};
 use std::process::Abort;
