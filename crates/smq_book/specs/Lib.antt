@@ -2,6 +2,5 @@ pub mod present
 pub mod pairing
 pub mod join
 pub mod whole
-pub mod Known
-pub mod KnownEdits
+pub mod known
 pub mod within

@@ -7,7 +7,7 @@ mod pairing;
 mod present;
 mod whole;
 
-pub use join::submits::LAPSE_WINDOW;
+pub use join::circumstances::LAPSE_WINDOW;
 pub use laws::join::{
     clock_lapses_open_messages_alone, deciding_receipts_are_earliest,
     delays_are_of_decided_messages, each_message_has_its_fact, facts_rest_on_circumstances,

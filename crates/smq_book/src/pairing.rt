@@ -1,3 +1,7 @@
-//! Which response belongs to which request, and which places want looking at.
+//! What the octets that are present say: messages with their responses, receipts, and the places that want looking at.
 pub mod notes;
 pub mod pairs;
+pub mod receipts;
+pub mod source;
+pub mod submits;
+pub mod traffic;

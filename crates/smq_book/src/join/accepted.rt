@@ -6,7 +6,7 @@ ghost use Rattle.smq_book.specs.within.Accepted as among;
 ghost use Rattle.smq_book.specs.within.Accepted.{HasNumbers, number_kept};
 ghost use Rattle.smq_book.specs.within.Messages.{SubmittedMessage as Submit};
 
-use crate::join::submits::SubmittedMessage;
+use crate::pairing::submits::SubmittedMessage;
 use smq_kit::LinkKey;
 use std::alloc::{AllocError, Global};
 use std::collections::BTreeMap;

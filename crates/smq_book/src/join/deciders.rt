@@ -7,8 +7,8 @@ ghost use Rattle.smq_book.specs.within.Accepted.{HasDeciders, decider_kept, deci
 ghost use Rattle.smq_book.specs.within.Lists.{receipts_of};
 ghost use Rattle.smq_book.specs.within.Receipts.{KeyedReceipt, receipts_among};
 
-use crate::join::receipts::{PlacedReceipt, receipt_at};
-use crate::join::source::Source;
+use crate::pairing::receipts::{PlacedReceipt, receipt_at};
+use crate::pairing::source::Source;
 use crate::{KeptPdu, Present};
 use smq_kit::LinkKey;
 use std::alloc::{AllocError, Global};

@@ -18,8 +18,8 @@ ghost use Rattle.smq_book.specs.within.Receipts.{KeyedReceipt};
 
 use crate::join::accepted::Accepted;
 use crate::join::deciders::Deciders;
-use crate::join::receipts::PlacedReceipt;
-use crate::join::submits::SubmittedMessage;
+use crate::pairing::receipts::PlacedReceipt;
+use crate::pairing::submits::SubmittedMessage;
 use crate::present::settings::Settings;
 use crate::{Band, Fact, Outcome, Present, SubmitError};
 use smq_kit::{Network, RouteId};

@@ -8,8 +8,8 @@ ghost use Rattle.smq_book.specs.within.Receipts.{receipt_by, receipts_among};
 
 use crate::join::accepted::Accepted;
 use crate::join::deciders::Deciders;
-use crate::join::receipts::{PlacedReceipt, receipt_at};
-use crate::join::source::Source;
+use crate::pairing::receipts::{PlacedReceipt, receipt_at};
+use crate::pairing::source::Source;
 use crate::{KeptPdu, List, Listed, Present};
 use smq_kit::LinkKey;
 use std::alloc::AllocError;

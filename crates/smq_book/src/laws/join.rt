@@ -5,7 +5,7 @@ ghost use Rattle.std.specs.FinMap as fin;
 ghost use Rattle.smq_kit.specs.Maps.{SameOutside, patched};
 ghost use Rattle.smq_kit.specs.declared.link_key.LinkKey.{LinkKey};
 ghost use Rattle.smq_route.specs.Versions.{Versions, route_at};
-ghost use Rattle.smq_book.specs.Known.{KnownOutcomes, KnownReceipts};
+ghost use Rattle.smq_book.specs.known.Join.{KnownOutcomes, KnownReceipts};
 ghost use Rattle.smq_tally.specs.Bands.{band_of};
 ghost use Rattle.smq_tally.specs.Rows.{outcome_rank};
 ghost use Rattle.smq_book.specs.present.Settings.{SettingsValue, with_versions, with_clock, forms_of};
@@ -171,14 +171,14 @@ pub fn outcomes_are_in_order()
 {}
 
 /// What became of messages that are written out.
-#[tactic(auto, unfolding(smq_pdu::specs::Pairing::nth_index), using(crate::proofs::KnownFacts::known))]
+#[tactic(auto, unfolding(smq_pdu::specs::Pairing::nth_index), using(crate::proofs::lemmas::join::KnownFacts::known))]
 pub fn outcomes_of_known_submits()
     ensures { KnownOutcomes }
 {}
 
 /// What receipts that are written out make of messages. Each receipt is of the id `1`, which `accepted` gives, but for those
 /// under forms.
-#[tactic(auto, unfolding(smq_pdu::specs::Pairing::nth_index), using(crate::proofs::KnownFacts::known))]
+#[tactic(auto, unfolding(smq_pdu::specs::Pairing::nth_index), using(crate::proofs::lemmas::join::KnownFacts::known))]
 pub fn receipts_decide_known_submits()
     ensures { KnownReceipts }
 {}

@@ -15,7 +15,7 @@ ghost use Rattle.smq_pdu.specs.declared.body.Submit.{Submit};
 ghost use Rattle.smq_tally.specs.declared.list.List.TheVariants as list;
 ghost use Rattle.smq_tally.specs.Lists.{listed};
 ghost use Rattle.smq_book.specs.declared.present.session.Session.{Session as SessionValue};
-ghost use Rattle.smq_book.specs.Known.{InTurn, KnownNotes};
+ghost use Rattle.smq_book.specs.known.Pairing.{InTurn, KnownNotes};
 ghost use Rattle.smq_book.specs.present.Kept.{header_of, headers_of, kept_pdus, submit_in};
 ghost use Rattle.smq_book.specs.pairing.Places.{octets_at, StandsAt};
 ghost use Rattle.smq_book.specs.pairing.Pushes.{requests_of};

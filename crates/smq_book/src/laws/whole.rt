@@ -1,7 +1,8 @@
 //! Laws of the whole: two statements of the same figures, the delivery receipts that are listed, and a known book.
 ghost use Rattle.std.specs.Prelude.{◌≡◌, ◌↔◌, Contains};
 ghost use Rattle.std.specs.FinMap as fin;
-ghost use Rattle.smq_book.specs.Known.{KnownFigures, KnownListings};
+ghost use Rattle.smq_book.specs.known.Join.{KnownListings};
+ghost use Rattle.smq_book.specs.known.Whole.{KnownFigures};
 ghost use Rattle.smq_book.specs.present.Present.{PresentValue};
 ghost use Rattle.smq_book.specs.pairing.Traffic.{traffic_of};
 ghost use Rattle.smq_tally.specs.Lists.{listed};
@@ -53,7 +54,7 @@ pub fn tables_list_receipts_by_their_matches()
 {}
 
 /// Delivery receipts that are written out, in their lists. Each is of the id `1`, but for those under forms.
-#[tactic(auto, unfolding(smq_pdu::specs::Pairing::nth_index), using(crate::proofs::KnownListings::listings_known))]
+#[tactic(auto, unfolding(smq_pdu::specs::Pairing::nth_index), using(crate::proofs::lemmas::join::KnownListings::listings_known))]
 pub fn known_receipts_are_listed()
     ensures { KnownListings }
 {}

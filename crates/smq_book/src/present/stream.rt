@@ -112,7 +112,7 @@ impl Direction {
     }
 
     /// Puts a batch after the octets. A refusal changes nothing.
-    #[tactic(auto, using(crate::proofs::Growth::offset_facts))]
+    #[tactic(auto, using(crate::proofs::lemmas::present::Growth::offset_facts))]
     pub(crate) fn append(&mut self, batch: Batch) -> Result<(), Refusal>
         ensures { IsReply (first_of (stream_refusals self.old batch)) result
             (self.new ≡ self.old ++ handed_in batch.moment batch.octets) (self.new ≡ self.old) }

@@ -15,7 +15,7 @@ use crate::join::accepted::Accepted;
 use crate::join::deciders::Deciders;
 use crate::join::facts::facts_with;
 use crate::join::listings::push_receipt_notes;
-use crate::join::traffic::{Traffic, read_sessions};
+use crate::pairing::traffic::{Traffic, read_sessions};
 use crate::{Edit, Fact, Forms, Listed, Present, Tables};
 use smq_frame::Tail;
 use smq_kit::{Dir, Refusal, SessionId};

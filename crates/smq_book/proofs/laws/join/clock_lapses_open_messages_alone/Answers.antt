@@ -1,4 +1,4 @@
-use Rattle.smq_book.proofs.Lapsing.{lapsed, others, same}
+use Rattle.smq_book.proofs.lemmas.join.Lapsing.{lapsed, others, same}
 use Rattle.smq_book.proofs.laws.join.clock_lapses_open_messages_alone.Goals as goal
 
 pub returns-clause-lapsed : goal.returns-clause-lapsed

@@ -1,4 +1,4 @@
-use Rattle.smq_book.proofs.MatchingLemmas.{earliest, none-can}
+use Rattle.smq_book.proofs.lemmas.join.MatchingLemmas.{earliest, none-can}
 use Rattle.smq_book.proofs.laws.join.deciding_receipts_are_earliest.Goals as goal
 
 pub returns-clause-found : goal.returns-clause-found

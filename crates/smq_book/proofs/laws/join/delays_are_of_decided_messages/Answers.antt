@@ -1,4 +1,4 @@
-use Rattle.smq_book.proofs.Delays.{exactly, values, centre}
+use Rattle.smq_book.proofs.lemmas.join.Delays.{exactly, values, centre}
 use Rattle.smq_book.proofs.laws.join.delays_are_of_decided_messages.Goals as goal
 
 pub returns-clause-exactly : goal.returns-clause-exactly

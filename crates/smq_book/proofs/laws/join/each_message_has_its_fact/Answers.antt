@@ -1,4 +1,4 @@
-use Rattle.smq_book.proofs.MoveLemmas.{fact-at, fact-place}
+use Rattle.smq_book.proofs.lemmas.join.MoveLemmas.{fact-at, fact-place}
 use Rattle.smq_book.proofs.laws.join.each_message_has_its_fact.Goals as goal
 
 pub returns-clause-each : goal.returns-clause-each

@@ -1,4 +1,4 @@
-use Rattle.smq_book.proofs.Lapsing.{past-end, before-end}
+use Rattle.smq_book.proofs.lemmas.join.Lapsing.{past-end, before-end}
 use Rattle.smq_book.proofs.laws.join.messages_lapse_at_the_end_of_their_window.Goals as goal
 
 pub returns-clause-lapsed : goal.returns-clause-lapsed

@@ -1,4 +1,4 @@
-use Rattle.smq_book.proofs.MoveLemmas.{moved-facts, changes-cover, put_message-moves, take_message-moves, put_receipt-moves, take_receipt-moves}
+use Rattle.smq_book.proofs.lemmas.join.MoveLemmas.{moved-facts, changes-cover, put_message-moves, take_message-moves, put_receipt-moves, take_receipt-moves}
 use Rattle.smq_book.proofs.laws.join.moves_leave_other_facts.Goals as goal
 
 pub returns : goal.returns

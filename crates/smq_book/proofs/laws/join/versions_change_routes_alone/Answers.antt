@@ -1,4 +1,4 @@
-use Rattle.smq_book.proofs.Routed.{routed, rest, same}
+use Rattle.smq_book.proofs.lemmas.join.Routed.{routed, rest, same}
 use Rattle.smq_book.proofs.laws.join.versions_change_routes_alone.Goals as goal
 
 pub returns-clause-routed : goal.returns-clause-routed

@@ -1,4 +1,4 @@
-use Rattle.smq_book.proofs.PushLemmas.{client-push, centre-push}
+use Rattle.smq_book.proofs.lemmas.pairing.PushLemmas.{client-push, centre-push}
 use Rattle.smq_book.proofs.laws.pairing.pushes_change_few_messages.Goals as goal
 
 pub returns-clause-client : goal.returns-clause-client

@@ -1,4 +1,4 @@
-use Rattle.smq_book.proofs.PairLemmas.{pair-each, pair-found}
+use Rattle.smq_book.proofs.lemmas.pairing.PairLemmas.{pair-each, pair-found}
 use Rattle.smq_book.proofs.laws.pairing.responses_are_those_of_pairs.Goals as goal
 
 pub returns-clause-each : goal.returns-clause-each

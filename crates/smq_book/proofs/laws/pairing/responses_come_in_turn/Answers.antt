@@ -1,4 +1,4 @@
-use Rattle.smq_book.proofs.PairLemmas.{first-response, second-response}
+use Rattle.smq_book.proofs.lemmas.pairing.PairLemmas.{first-response, second-response}
 use Rattle.smq_book.proofs.laws.pairing.responses_come_in_turn.Goals as goal
 
 pub returns-clause-first : goal.returns-clause-first

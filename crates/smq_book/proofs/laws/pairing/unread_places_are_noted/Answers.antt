@@ -1,4 +1,4 @@
-use Rattle.smq_book.proofs.UnreadPlaces.{unreadable-places, undecodable-places, broken-places, broken-stays}
+use Rattle.smq_book.proofs.lemmas.pairing.UnreadPlaces.{unreadable-places, undecodable-places, broken-places, broken-stays}
 use Rattle.smq_book.proofs.laws.pairing.unread_places_are_noted.Goals as goal
 
 pub returns-clause-unreadable : goal.returns-clause-unreadable

@@ -1,4 +1,4 @@
-use Rattle.smq_book.proofs.Changes.{appends_commute}
+use Rattle.smq_book.proofs.lemmas.present.Changes.{appends_commute}
 use Rattle.smq_book.proofs.laws.present.appends_of_sessions_commute.Goals as goal
 
 pub returns : goal.returns

@@ -1,4 +1,4 @@
-use Rattle.smq_book.proofs.Cutting.{same-tail, second-made, same-left}
+use Rattle.smq_book.proofs.lemmas.present.Cutting.{same-tail, second-made, same-left}
 use Rattle.smq_book.proofs.laws.present.cutting_changes_nothing.Goals as goal
 
 pub returns-clause-made : goal.returns-clause-made

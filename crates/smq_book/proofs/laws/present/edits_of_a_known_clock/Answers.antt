@@ -9,11 +9,11 @@ use Rattle.smq_frame.specs.Stream.{handed_in}
 use Rattle.smq_book.specs.declared.present.edit.Edit.TheVariants.{Withdraw}
 use Rattle.smq_book.specs.declared.present.forms.Forms.{Forms}
 use Rattle.smq_book.specs.declared.present.session.Session.{Session}
-use Rattle.smq_book.specs.Known.{known_versions, at_five}
+use Rattle.smq_book.specs.known.Present.{known_versions, at_five}
 use Rattle.smq_book.specs.present.Present.{PresentValue, session_of, octets_in}
 use Rattle.smq_book.specs.present.Replies.{no_session}
 use Rattle.smq_book.specs.present.Settings.{opening_forms}
-use Rattle.smq_book.proofs.Changes.{step-made}
+use Rattle.smq_book.proofs.lemmas.present.Changes.{step-made}
 use Rattle.smq_route.proofs.VersionOrders.{versions_total, versions_exact}
 use Rattle.smq_book.proofs.laws.present.edits_of_a_known_clock.Goals as goal
 

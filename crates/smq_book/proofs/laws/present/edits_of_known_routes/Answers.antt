@@ -17,12 +17,12 @@ use Rattle.smq_book.specs.declared.present.edit.Edit.{Edit}
 use Rattle.smq_book.specs.declared.present.edit.Edit.TheVariants.{Withdraw, EndRoute}
 use Rattle.smq_book.specs.declared.present.forms.Forms.{Forms}
 use Rattle.smq_book.specs.declared.present.session.Session.{Session}
-use Rattle.smq_book.specs.Known.{known_versions, routed, adding, correcting, versions_of}
+use Rattle.smq_book.specs.known.Present.{known_versions, routed, adding, correcting, versions_of}
 use Rattle.smq_book.specs.present.Present.{PresentValue, session_of, octets_in, octets_of}
 use Rattle.smq_book.specs.present.Replies.{no_session, reply}
 use Rattle.smq_book.specs.present.Settings.{opening_settings, opening_forms, forms_of}
 use Rattle.smq_book.specs.present.Steps.{change, step}
-use Rattle.smq_book.proofs.Changes.{step-made, step-refused}
+use Rattle.smq_book.proofs.lemmas.present.Changes.{step-made, step-refused}
 use Rattle.smq_route.proofs.VersionOrders.{versions_total, versions_exact}
 use Rattle.smq_book.proofs.laws.present.edits_of_known_routes.Goals as goal
 
@@ -43,10 +43,12 @@ adds prefix from = ap (overlap_among prefix from) there
 at : (prefix : List ℕ) (from : ℕ) → version_of routed.settings.versions prefix from ≡ find version_cmp (key_at prefix from) known_versions
 at prefix from = get-entries (from_entries known_versions) (key_at prefix from) ∙ ap (find version_cmp (key_at prefix from)) there
 
-ends : (prefix : List ℕ) (from until : ℕ) → reply routed (EndRoute prefix from until) ≡ first_of (end_refusals (find version_cmp (key_at prefix from) known_versions) from until)
+ends : (prefix : List ℕ) (from until : ℕ) → reply routed (EndRoute prefix from until)
+    ≡ first_of (end_refusals (find version_cmp (key_at prefix from) known_versions) from until)
 ends prefix from until = ap (λ (o : Option Version). first_of (end_refusals o from until)) (at prefix from)
 
-corrects : (prefix : List ℕ) (from : ℕ) → reply routed (correcting prefix from) ≡ first_of (correct_refusals (find version_cmp (key_at prefix from) known_versions))
+corrects : (prefix : List ℕ) (from : ℕ) → reply routed (correcting prefix from)
+    ≡ first_of (correct_refusals (find version_cmp (key_at prefix from) known_versions))
 corrects prefix from = ap (λ (o : Option Version). first_of (correct_refusals o)) (at prefix from)
 
 pub returns-clause-replies : goal.returns-clause-replies
@@ -97,9 +99,11 @@ put-in k v = entries-insert versions_total (from_entries known_versions) k v ∙
 
 -- the entries once a version is changed
 changes : (prefix : List ℕ) (from : ℕ) (f : Version → Version) (v : Version) → find version_cmp (key_at prefix from) known_versions ≡ Some v
-    → entries (changed_where (version_of routed.settings.versions prefix from) routed.settings.versions prefix from f) ≡ put version_cmp (key_at prefix from) (f v) known_versions
+    → entries (changed_where (version_of routed.settings.versions prefix from) routed.settings.versions prefix from f)
+    ≡ put version_cmp (key_at prefix from) (f v) known_versions
 changes prefix from f v is =
-    ap (λ (o : Option Version). entries (changed_where o routed.settings.versions prefix from f)) (at prefix from ∙ is) ∙ put-in (key_at prefix from) (f v)
+    ap (λ (o : Option Version). entries (changed_where o routed.settings.versions prefix from f)) (at prefix from ∙ is)
+    ∙ put-in (key_at prefix from) (f v)
 
 ended : Edit
 ended = EndRoute (codes "447") 30000 30001
@@ -114,7 +118,8 @@ returns-clause-left c = record {
   there = there;
   added = ap versions_of added ∙ put-in (key_at (codes "446") 70000) (record { until = None; route = record { 0 = 5 }; network = codes "234330" });
   ended = ap versions_of (step-made routed ended (ends (codes "447") 30000 30001)) ∙ changes (codes "447") 30000 (ending 30001) _ refl;
-  corrected = ap versions_of (step-made routed corrected_one (corrects (codes "447") 10000)) ∙ changes (codes "447") 10000 (corrected (record { 0 = 5 }) (codes "234330")) _ refl;
+  corrected = ap versions_of (step-made routed corrected_one (corrects (codes "447") 10000))
+      ∙ changes (codes "447") 10000 (corrected (record { 0 = 5 }) (codes "234330")) _ refl;
   refused = step-refused routed (EndRoute (codes "447") 30000 30000) r.BadEnd (ends (codes "447") 30000 30000);
   octets = ap (λ (p : PresentValue). octets_of p 10 FromCentre) added ∙ ap (octets_in FromCentre) at_ten;
   forms = ap (λ (p : PresentValue). forms_of p.settings (record { 0 = 1 })) added ∙ set_of_one;

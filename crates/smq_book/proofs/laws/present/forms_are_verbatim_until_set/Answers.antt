@@ -11,13 +11,13 @@ use Rattle.smq_frame.specs.Tail.{tail_from}
 use Rattle.smq_book.specs.declared.present.edit.Edit.{Edit}
 use Rattle.smq_book.specs.declared.present.forms.Forms.{Forms}
 use Rattle.smq_book.specs.declared.present.session.Session.{Session}
-use Rattle.smq_book.specs.Known.{with_forms, with_forms_and_octets, waiting, one_more}
+use Rattle.smq_book.specs.known.Present.{with_forms, with_forms_and_octets, waiting, one_more}
 use Rattle.smq_book.specs.present.Present.{PresentValue, octets_in, octets_of}
 use Rattle.smq_book.specs.present.Settings.{opening_forms, set_forms_of, forms_of}
 use Rattle.smq_book.specs.present.Steps.{change}
 use Rattle.smq_book.specs.present.Stream.{last_moment}
-use Rattle.smq_book.proofs.Changes.{appends-change, step-made}
-use Rattle.smq_book.proofs.Worked.{batch, at_ten, reply_at_ten}
+use Rattle.smq_book.proofs.lemmas.present.Changes.{appends-change, step-made}
+use Rattle.smq_book.proofs.lemmas.present.OneOctet.{batch, at_ten, reply_at_ten}
 use Rattle.smq_book.proofs.laws.present.forms_are_verbatim_until_set.Goals as goal
 
 known : Forms

@@ -1,6 +1,6 @@
 use Rattle.std.proofs.Common.{◌≤◌, arith}
 use Rattle.smq_kit.specs.declared.refusal.Refusal.TheVariants.{Memory}
-use Rattle.smq_book.proofs.Replied.{replies_of_edits}
+use Rattle.smq_book.proofs.lemmas.present.Replied.{replies_of_edits}
 use Rattle.smq_book.proofs.laws.present.replies_are_of_edits.Goals as goal
 
 pub returns-clause-numbers : goal.returns-clause-numbers

@@ -2,9 +2,9 @@ use Rattle.std.proofs.Common.{[], ◌∷◌}
 use Rattle.smq_kit.specs.declared.place.Dir.TheVariants.{FromClient, FromCentre}
 use Rattle.smq_frame.specs.Framing.{rest_of, rest_within}
 use Rattle.smq_frame.specs.Tail.{tail_from}
-use Rattle.smq_book.specs.Known.{waiting}
+use Rattle.smq_book.specs.known.Present.{waiting}
 use Rattle.smq_book.specs.present.Stream.{last_moment}
-use Rattle.smq_book.proofs.Worked.{reply_at_ten, reply_at_eleven}
+use Rattle.smq_book.proofs.lemmas.present.OneOctet.{reply_at_ten, reply_at_eleven}
 use Rattle.smq_book.proofs.laws.present.replies_stand_in_order.Goals as goal
 
 pub returns : goal.returns

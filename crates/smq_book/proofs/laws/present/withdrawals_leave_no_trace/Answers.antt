@@ -1,4 +1,4 @@
-use Rattle.smq_book.proofs.Changes.{leaves_no_trace, as_never_there, appended_again}
+use Rattle.smq_book.proofs.lemmas.present.Changes.{leaves_no_trace, as_never_there, appended_again}
 use Rattle.smq_book.proofs.laws.present.withdrawals_leave_no_trace.Goals as goal
 
 pub returns-clause-trace : goal.returns-clause-trace

@@ -13,15 +13,15 @@ use Rattle.smq_frame.specs.Tail.{tail_from}
 use Rattle.smq_book.specs.declared.present.forms.Forms.{Forms}
 use Rattle.smq_book.specs.declared.present.session.Session.{Session}
 use Rattle.smq_book.specs.declared.present.edit.Edit.TheVariants.{Withdraw}
-use Rattle.smq_book.specs.Known.{two_directions, withdrawn, anew, waiting}
+use Rattle.smq_book.specs.known.Present.{two_directions, withdrawn, anew, waiting}
 use Rattle.smq_book.specs.present.Present.{PresentValue, session_of, link_of, octets_in, octets_of}
 use Rattle.smq_book.specs.present.Batch.{BatchValue}
 use Rattle.smq_book.specs.present.Replies.{no_session, reply}
 use Rattle.smq_book.specs.present.Settings.{opening_forms, forms_of}
 use Rattle.smq_book.specs.present.Steps.{step, change}
 use Rattle.smq_book.specs.present.Stream.{last_moment}
-use Rattle.smq_book.proofs.Changes.{appends-change, withdraws-change, step-made}
-use Rattle.smq_book.proofs.Worked.{batch, refusal}
+use Rattle.smq_book.proofs.lemmas.present.Changes.{appends-change, withdraws-change, step-made}
+use Rattle.smq_book.proofs.lemmas.present.OneOctet.{batch, refusal}
 use Rattle.smq_book.proofs.laws.present.withdrawals_of_a_known_book.Goals as goal
 
 both : Session
@@ -69,9 +69,12 @@ returns c =
       made = ap no_session at_ten;
       client = none_from FromClient;
       centre = none_from FromCentre;
-      forms = ap (λ (p : PresentValue). forms_of p.settings (record { 0 = 1 })) withdrawn_is ∙ ap (λ (o : Option Forms). unwrap_or o opening_forms) (get-insert nat_cmp_total empty 1 set 1);
+      forms = ap (λ (p : PresentValue). forms_of p.settings (record { 0 = 1 })) withdrawn_is
+          ∙ ap (λ (o : Option Forms). unwrap_or o opening_forms) (get-insert nat_cmp_total empty 1 set 1);
       anew_made = taken;
-      anew_link = ap (λ (p : PresentValue). link_of p 10) made ∙ appends.link ∙ ap (λ (o : Option Session). linked (option_map (λ (s : Session). s.link) o)) gone;
+      anew_link = ap (λ (p : PresentValue). link_of p 10) made ∙ appends.link
+          ∙ ap (λ (o : Option Session). linked (option_map (λ (s : Session). s.link) o)) gone;
       anew_client = ap (λ (p : PresentValue). octets_of p 10 FromClient) made ∙ appends.other_direction FromClient (λ h. cc) ∙ none_from FromClient;
-      anew_centre = ap (λ (p : PresentValue). octets_of p 10 FromCentre) made ∙ appends.grown ∙ ap (λ (o : List Octet). o ++ handed_in 500 (0 ∷ [])) (none_from FromCentre);
+      anew_centre = ap (λ (p : PresentValue). octets_of p 10 FromCentre) made ∙ appends.grown
+          ∙ ap (λ (o : List Octet). o ++ handed_in 500 (0 ∷ [])) (none_from FromCentre);
     }

@@ -10,7 +10,7 @@ use Rattle.smq_tally.specs.declared.outcome.Outcome.TheVariants as o
 use Rattle.smq_tally.specs.declared.value.SubmitError.TheVariants.{Failed}
 use Rattle.smq_tally.specs.declared.value.Value.TheVariants.{Link, Route, NoRoute, Network, NoNetwork, Error, Band}
 use Rattle.smq_tally.specs.declared.view.View.TheVariants as v
-use Rattle.smq_book.specs.Known.{known_book}
+use Rattle.smq_book.specs.known.Whole.{known_book}
 use Rattle.smq_book.specs.pairing.Traffic.{traffic_of}
 use Rattle.smq_book.specs.join.Facts.{facts_of}
 use Rattle.smq_book.specs.join.Listings.{notes_of}
@@ -18,7 +18,7 @@ use Rattle.smq_book.specs.whole.Scratch.{scratch}
 use Rattle.smq_tally.specs.declared.fact.CountKey.{CountKey}
 use Rattle.smq_tally.specs.Rows.{count_key, stands_in}
 use Rattle.smq_tally.specs.within.Counting.{count_of}
-use Rattle.smq_book.proofs.KnownBook.{facts-of-book, lists-of-book}
+use Rattle.smq_book.proofs.lemmas.whole.KnownBook.{facts-of-book, lists-of-book}
 use Rattle.smq_tally.proofs.Tallies.{count-tables}
 use Rattle.smq_book.proofs.laws.whole.figures_of_a_known_book.Goals as goal
 

@@ -1,4 +1,4 @@
-use Rattle.smq_book.proofs.AgreePresent.{facts-are, receipts-listed, tables-are}
+use Rattle.smq_book.proofs.lemmas.whole.AgreePresent.{facts-are, receipts-listed, tables-are}
 use Rattle.smq_book.proofs.laws.whole.lists_say_the_same.Goals as goal
 
 pub returns-clause-facts : goal.returns-clause-facts

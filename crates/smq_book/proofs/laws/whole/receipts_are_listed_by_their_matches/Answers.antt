@@ -1,4 +1,4 @@
-use Rattle.smq_book.proofs.ListedReceipts.{listed-stray, listed-several, listed-extra}
+use Rattle.smq_book.proofs.lemmas.join.ListedReceipts.{listed-stray, listed-several, listed-extra}
 use Rattle.smq_book.proofs.laws.whole.receipts_are_listed_by_their_matches.Goals as goal
 
 pub returns-clause-stray : goal.returns-clause-stray

@@ -1,4 +1,4 @@
-use Rattle.smq_book.proofs.ListedTables.{shown-stray, shown-several, shown-extra}
+use Rattle.smq_book.proofs.lemmas.whole.ListedTables.{shown-stray, shown-several, shown-extra}
 use Rattle.smq_book.proofs.laws.whole.tables_list_receipts_by_their_matches.Goals as goal
 
 pub returns-clause-stray : goal.returns-clause-stray

@@ -1,6 +1,6 @@
 use Rattle.std.proofs.Common.{◌≡◌, ◌++◌}
 use Rattle.smq_book.specs.within.Pairs.{from_session}
-use Rattle.smq_book.proofs.Noted.{noted_left}
+use Rattle.smq_book.proofs.lemmas.pairing.PushedNotes.{noted_left}
 use Rattle.smq_book.proofs.pairing.notes.push_mismatched.Given as goal
 
 abbrev pub invariant-loop-pdu : goal.invariant-loop-pdu

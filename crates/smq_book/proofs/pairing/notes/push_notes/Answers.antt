@@ -11,7 +11,7 @@ use Rattle.smq_book.specs.declared.present.kept.KeptPdu.{KeptPdu}
 use Rattle.smq_book.specs.present.Kept.{kept_pdus, is_undecodable, is_unreadable}
 use Rattle.smq_book.specs.pairing.Traffic.{broken_at, pairing_notes, places_where, session_pairing}
 use Rattle.smq_book.specs.within.Pairs.{from_session}
-use Rattle.smq_book.proofs.Noted.{notes-are}
+use Rattle.smq_book.proofs.lemmas.pairing.PushedNotes.{notes-are}
 use Rattle.smq_book.proofs.pairing.notes.push_notes.Goals as goal
 
 on-ok : {X E P Q : Type 0} (r : Result X E) → (P → Q) → OnOk r P → OnOk r Q
@@ -31,16 +31,25 @@ returns c =
     ∙ (λ i. (c.in_ok-push_undecodable-2.ensures i ++ map (listed list.Broken) (broken FromClient (c.tail.ensures i)))
     ++ map (listed list.Broken) (broken FromCentre (tail_of (values centre))))
     ∙ (λ i. ((c.in_ok-push_undecodable.ensures i ++ map (listed list.Undecodable) (undecodables FromCentre (c.pdus-centre.ensures i)))
-    ++ map (listed list.Broken) (broken FromClient (tail_of (values client)))) ++ map (listed list.Broken) (broken FromCentre (tail_of (values centre))))
+    ++ map (listed list.Broken) (broken FromClient (tail_of (values client))))
+    ++ map (listed list.Broken) (broken FromCentre (tail_of (values centre))))
     ∙ (λ i. (((c.in_ok-push_unreadable.ensures i ++ map (listed list.Undecodable) (undecodables FromClient (c.pdus-client.ensures i)))
     ++ map (listed list.Undecodable) (undecodables FromCentre (kept_pdus centre)))
-    ++ map (listed list.Broken) (broken FromClient (tail_of (values client)))) ++ map (listed list.Broken) (broken FromCentre (tail_of (values centre))))
-    ∙ (λ i. ((((c.in_ok-push_pairing_notes.ensures i ++ map (listed list.Unreadable) (places_where is_unreadable o FromCentre (c.pdus-centre.ensures i)))
-    ++ map (listed list.Undecodable) (undecodables FromClient (kept_pdus client))) ++ map (listed list.Undecodable) (undecodables FromCentre (kept_pdus centre)))
-    ++ map (listed list.Broken) (broken FromClient (tail_of (values client)))) ++ map (listed list.Broken) (broken FromCentre (tail_of (values centre))))
-    ∙ (λ i. (((((c.args.notes.now.items ++ pairing_notes (c.requires i)) ++ map (listed list.Unreadable) (places_where is_unreadable o FromCentre (kept_pdus centre)))
-    ++ map (listed list.Undecodable) (undecodables FromClient (kept_pdus client))) ++ map (listed list.Undecodable) (undecodables FromCentre (kept_pdus centre)))
-    ++ map (listed list.Broken) (broken FromClient (tail_of (values client)))) ++ map (listed list.Broken) (broken FromCentre (tail_of (values centre))))
-    ∙ notes-are c.args.notes.now.items (pairing_notes (session_pairing (c.args.number.0, c.args.session.now))) (places_where is_unreadable o FromCentre (kept_pdus centre))
+    ++ map (listed list.Broken) (broken FromClient (tail_of (values client))))
+    ++ map (listed list.Broken) (broken FromCentre (tail_of (values centre))))
+    ∙ (λ i. ((((c.in_ok-push_pairing_notes.ensures i
+    ++ map (listed list.Unreadable) (places_where is_unreadable o FromCentre (c.pdus-centre.ensures i)))
+    ++ map (listed list.Undecodable) (undecodables FromClient (kept_pdus client)))
+    ++ map (listed list.Undecodable) (undecodables FromCentre (kept_pdus centre)))
+    ++ map (listed list.Broken) (broken FromClient (tail_of (values client))))
+    ++ map (listed list.Broken) (broken FromCentre (tail_of (values centre))))
+    ∙ (λ i. (((((c.args.notes.now.items ++ pairing_notes (c.requires i))
+    ++ map (listed list.Unreadable) (places_where is_unreadable o FromCentre (kept_pdus centre)))
+    ++ map (listed list.Undecodable) (undecodables FromClient (kept_pdus client)))
+    ++ map (listed list.Undecodable) (undecodables FromCentre (kept_pdus centre)))
+    ++ map (listed list.Broken) (broken FromClient (tail_of (values client))))
+    ++ map (listed list.Broken) (broken FromCentre (tail_of (values centre))))
+    ∙ notes-are c.args.notes.now.items (pairing_notes (session_pairing (c.args.number.0, c.args.session.now)))
+    (places_where is_unreadable o FromCentre (kept_pdus centre))
     (undecodables FromClient (kept_pdus client)) (undecodables FromCentre (kept_pdus centre))
     (broken FromClient (tail_of (values client))) (broken FromCentre (tail_of (values centre)))) c.push_broken-2.ensures

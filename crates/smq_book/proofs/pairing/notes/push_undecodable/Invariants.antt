@@ -2,7 +2,7 @@ use Rattle.std.proofs.Common.{◌≡◌, ◌++◌}
 use Rattle.smq_tally.specs.declared.list.List.TheVariants as list
 use Rattle.smq_book.specs.present.Kept.{is_undecodable}
 use Rattle.smq_book.specs.within.Pairs.{from_session}
-use Rattle.smq_book.proofs.Noted.{passing_left}
+use Rattle.smq_book.proofs.lemmas.pairing.PushedNotes.{passing_left}
 use Rattle.smq_book.proofs.pairing.notes.push_undecodable.Given as goal
 
 abbrev pub invariant-loop-pdu : goal.invariant-loop-pdu

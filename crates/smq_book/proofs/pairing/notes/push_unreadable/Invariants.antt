@@ -3,7 +3,7 @@ use Rattle.smq_kit.specs.declared.place.Dir.TheVariants.{FromCentre}
 use Rattle.smq_tally.specs.declared.list.List.TheVariants as list
 use Rattle.smq_book.specs.present.Kept.{is_unreadable}
 use Rattle.smq_book.specs.within.Pairs.{from_session}
-use Rattle.smq_book.proofs.Noted.{passing_left}
+use Rattle.smq_book.proofs.lemmas.pairing.PushedNotes.{passing_left}
 use Rattle.smq_book.proofs.pairing.notes.push_unreadable.Given as goal
 
 abbrev pub invariant-loop-pdu : goal.invariant-loop-pdu

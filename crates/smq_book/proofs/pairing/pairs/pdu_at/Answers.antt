@@ -1,7 +1,7 @@
 use Rattle.std.proofs.Common.{Some, ap, sym, ◌∙◌, rules}
 use Rattle.std.proofs.lemmas.List.Sorted.{answers_always}
 use Rattle.smq_book.specs.declared.present.kept.KeptPdu.{KeptPdu}
-use Rattle.smq_book.proofs.Searched.{found, not_found}
+use Rattle.smq_book.proofs.lemmas.pairing.Searched.{found, not_found}
 use Rattle.smq_book.proofs.pairing.pairs.pdu_at.Goals as goal
 
 pub returns-in-Ok : goal.returns-in-Ok

@@ -1,5 +1,5 @@
 use Rattle.std.proofs.Common.{refl}
-use Rattle.smq_book.proofs.BatchReplies.{refused_new}
+use Rattle.smq_book.proofs.lemmas.present.BatchReplies.{refused_new}
 use Rattle.smq_book.proofs.present.present.append_new.Goals as goal
 
 pub returns-in-Err : goal.returns-in-Err

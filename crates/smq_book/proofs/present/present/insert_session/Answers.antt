@@ -1,4 +1,4 @@
-use Rattle.smq_book.proofs.Maps.{insert-seen}
+use Rattle.smq_book.proofs.lemmas.present.NumberMaps.{insert-seen}
 use Rattle.smq_book.proofs.present.present.insert_session.Goals as goal
 
 pub returns-in-Ok : goal.returns-in-Ok

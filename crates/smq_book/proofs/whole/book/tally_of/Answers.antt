@@ -6,7 +6,7 @@ use Rattle.smq_kit.specs.Orders.{place_cmp}
 use Rattle.smq_tally.specs.declared.fact.Fact.{Fact}
 use Rattle.smq_tally.specs.Tally.{TallyValue}
 use Rattle.smq_book.specs.within.Lists.{placed_fact}
-use Rattle.smq_book.proofs.Tallied.{place-free, fact-more, note-more}
+use Rattle.smq_book.proofs.lemmas.whole.Tallied.{place-free, fact-more, note-more}
 use Rattle.smq_book.proofs.whole.book.tally_of.Goals as goal
 
 -- all that is left behind a first one
@@ -22,29 +22,35 @@ all_seen seen left all is none = sym (append-nil seen) ∙ ap (λ ys. seen ++ ys
 
 pub add-requires : goal.add-requires
 add-requires c =
-    let all = split c.loop-fact.yielded _ (into_iter_items c.next.new.self) c.args.facts.items c.in-Some.fact c.loop-fact.invariant.items c.in-Some.ensures.steps.0 in
+    let all = split c.loop-fact.yielded _ (into_iter_items c.next.new.self) c.args.facts.items c.in-Some.fact
+    c.loop-fact.invariant.items c.in-Some.ensures.steps.0 in
     record {
       absent = ap (λ m. get m c.in-Some.fact.place) c.loop-fact.invariant.facts
-          ∙ place-free c.loop-fact.yielded c.in-Some.fact (into_iter_items c.next.new.self) (subst T (sym (ap (λ (fs : List Fact). is_sorted place_cmp (map placed_fact fs)) all ∙ c.requires)) tt);
+          ∙ place-free c.loop-fact.yielded c.in-Some.fact (into_iter_items c.next.new.self)
+          (subst T (sym (ap (λ (fs : List Fact). is_sorted place_cmp (map placed_fact fs)) all ∙ c.requires)) tt);
     }
 
 pub loop-fact-preserved : goal.loop-fact-preserved
 loop-fact-preserved c =
-    let all = split c.loop-fact.yielded _ (into_iter_items c.next.new.self) c.args.facts.items c.in-Some.fact c.loop-fact.invariant.items c.in-Some.ensures.steps.0 in
+    let all = split c.loop-fact.yielded _ (into_iter_items c.next.new.self) c.args.facts.items c.in-Some.fact
+    c.loop-fact.invariant.items c.in-Some.ensures.steps.0 in
     let was = c.loop-fact.invariant.number in
     let gone = c.in-Some.ensures.steps.1 in
     let short = ap length c.in-Some.ensures.steps.0 in
     record {
       items = append_assoc c.loop-fact.yielded (c.in-Some.fact ∷ []) (into_iter_items c.next.new.self) ∙ all;
       number = omega arith;
-      facts = ap (λ (t : TallyValue). t.facts) c.in_ok-add.ensures.ok ∙ ap (λ m. insert m c.in-Some.fact.place c.in-Some.fact) c.loop-fact.invariant.facts
-          ∙ sym (fact-more c.loop-fact.yielded c.in-Some.fact (into_iter_items c.next.new.self) (subst T (sym (ap (λ (fs : List Fact). is_sorted place_cmp (map placed_fact fs)) all ∙ c.requires)) tt));
+      facts = ap (λ (t : TallyValue). t.facts) c.in_ok-add.ensures.ok
+          ∙ ap (λ m. insert m c.in-Some.fact.place c.in-Some.fact) c.loop-fact.invariant.facts
+          ∙ sym (fact-more c.loop-fact.yielded c.in-Some.fact (into_iter_items c.next.new.self)
+          (subst T (sym (ap (λ (fs : List Fact). is_sorted place_cmp (map placed_fact fs)) all ∙ c.requires)) tt));
       notes = ap (λ (t : TallyValue). t.notes) c.in_ok-add.ensures.ok ∙ c.loop-fact.invariant.notes;
     }
 
 pub loop-note-preserved : goal.loop-note-preserved
 loop-note-preserved c =
-    let all = split c.loop-note.yielded _ (into_iter_items c.next-in-loop-note.new.self) c.args.notes.items c.in-Some-note.note c.loop-note.invariant.items c.in-Some-note.ensures.steps.0 in
+    let all = split c.loop-note.yielded _ (into_iter_items c.next-in-loop-note.new.self) c.args.notes.items c.in-Some-note.note
+    c.loop-note.invariant.items c.in-Some-note.ensures.steps.0 in
     let was = c.loop-note.invariant.number in
     let gone = c.in-Some-note.ensures.steps.1 in
     let short = ap length c.in-Some-note.ensures.steps.0 in
@@ -52,5 +58,7 @@ loop-note-preserved c =
       items = append_assoc c.loop-note.yielded (c.in-Some-note.note ∷ []) (into_iter_items c.next-in-loop-note.new.self) ∙ all;
       number = omega arith;
       facts = ap (λ (t : TallyValue). t.facts) c.in_ok-note.ensures.ok ∙ c.loop-note.invariant.facts;
-      notes = ap (λ (t : TallyValue). t.notes) c.in_ok-note.ensures.ok ∙ ap (λ s. insert s c.in-Some-note.note tt) c.loop-note.invariant.notes ∙ sym (note-more c.loop-note.yielded c.in-Some-note.note);
+      notes = ap (λ (t : TallyValue). t.notes) c.in_ok-note.ensures.ok
+          ∙ ap (λ s. insert s c.in-Some-note.note tt) c.loop-note.invariant.notes
+          ∙ sym (note-more c.loop-note.yielded c.in-Some-note.note);
     }

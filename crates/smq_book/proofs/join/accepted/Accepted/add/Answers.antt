@@ -1,7 +1,7 @@
 use Rattle.std.proofs.Common.{ℕ, ◌+◌, ap, ◌∙◌}
 use Rattle.std.specs.FinMap.{insert}
 use Rattle.smq_kit.specs.LinkKeys.{by_key}
-use Rattle.smq_book.proofs.Keyed.{put-key}
+use Rattle.smq_book.proofs.lemmas.join.KeyMaps.{put-key}
 use Rattle.smq_book.proofs.join.accepted.Accepted.add.Goals as goal
 
 pub returns : goal.returns

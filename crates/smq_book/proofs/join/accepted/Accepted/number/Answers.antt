@@ -1,4 +1,4 @@
-use Rattle.smq_book.proofs.Keyed.{number-found, number-missed}
+use Rattle.smq_book.proofs.lemmas.join.KeyMaps.{number-found, number-missed}
 use Rattle.smq_book.proofs.join.accepted.Accepted.number.Goals as goal
 
 pub returns-in-Some : goal.returns-in-Some

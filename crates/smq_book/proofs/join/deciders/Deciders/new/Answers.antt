@@ -1,4 +1,4 @@
-use Rattle.smq_book.proofs.Deciding.{deciders-none}
+use Rattle.smq_book.proofs.lemmas.join.Deciding.{deciders-none}
 use Rattle.smq_book.proofs.join.deciders.Deciders.new.Goals as goal
 
 pub returns : goal.returns

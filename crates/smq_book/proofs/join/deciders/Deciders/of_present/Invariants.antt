@@ -8,4 +8,5 @@ use Rattle.smq_book.proofs.join.deciders.Deciders.of_present.Given as goal
 
 abbrev pub invariant-loop-number : goal.invariant-loop-number
 invariant-loop-number l = (receipts : List KeyedReceipt)
-    × HasDeciders l.deciders.receipts receipts × (receipts ++ flat_map (session_receipts l.present.settings) l.number-iterator ≡ receipts_of l.present)
+    × HasDeciders l.deciders.receipts receipts × (receipts ++ flat_map (session_receipts l.present.settings) l.number-iterator
+    ≡ receipts_of l.present)

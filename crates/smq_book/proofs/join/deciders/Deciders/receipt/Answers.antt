@@ -1,5 +1,5 @@
 use Rattle.std.proofs.Common.{sym, ◌∙◌}
-use Rattle.smq_book.proofs.Keyed.{get-key}
+use Rattle.smq_book.proofs.lemmas.join.KeyMaps.{get-key}
 use Rattle.smq_book.proofs.join.deciders.Deciders.receipt.Goals as goal
 
 pub returns : goal.returns

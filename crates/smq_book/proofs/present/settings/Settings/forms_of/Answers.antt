@@ -2,7 +2,7 @@ use Rattle.std.proofs.Common.{Option, sym, ap, ◌∙◌}
 use Rattle.std.specs.Prelude.{unwrap_or}
 use Rattle.smq_book.specs.declared.present.forms.Forms.{Forms}
 use Rattle.smq_book.specs.present.Settings.{SettingsValue, opening_forms, forms_of}
-use Rattle.smq_book.proofs.Maps.{get-seen}
+use Rattle.smq_book.proofs.lemmas.present.NumberMaps.{get-seen}
 use Rattle.smq_book.proofs.present.settings.Settings.forms_of.Goals as goal
 
 pub returns-in-Some : goal.returns-in-Some

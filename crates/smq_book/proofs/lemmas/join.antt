@@ -1,0 +1,18 @@
+-- Lemmas of keys, matching, outcomes and facts.
+pub mod KeyMaps
+pub mod Numbers
+pub mod Deciding
+pub mod Least
+pub mod Listings
+pub mod AgreeLists
+pub mod AgreeFacts
+pub mod AgreeListings
+pub mod MatchingLemmas
+pub mod ListedReceipts
+pub mod MoveLemmas
+pub mod OtherForms
+pub mod Routed
+pub mod Lapsing
+pub mod Delays
+pub mod KnownFacts
+pub mod KnownListings

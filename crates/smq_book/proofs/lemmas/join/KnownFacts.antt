@@ -1,0 +1,110 @@
+-- What is known of written-out messages by place is what is known of them as lists, which the prover computes.
+use Rattle.std.proofs.Common.{◌≡◌, ℕ, List, [], ◌∷◌, ◌++◌, refl, ap, ◌∙◌, subst}
+use Rattle.std.specs.Prelude.{T, map, unwrap_or}
+use Rattle.std.specs.List.{enumerate_from, flat_map}
+use Rattle.std.specs.Cmp.{nat_cmp_total}
+use Rattle.std.specs.FinMap.{is_sorted, values, get-insert, empty}
+use Rattle.smq_kit.specs.declared.form.Form.{Form}
+use Rattle.smq_kit.specs.declared.form.Form.TheVariants.{Verbatim}
+use Rattle.smq_kit.specs.declared.place.Place.{Place}
+use Rattle.smq_kit.specs.Orders.{place_cmp}
+use Rattle.smq_tally.specs.declared.fact.Fact.{Fact}
+use Rattle.smq_tally.specs.declared.outcome.Outcome.{Outcome}
+use Rattle.smq_book.specs.declared.pairing.source.Source.{Source}
+use Rattle.smq_book.specs.declared.present.kept.KeptPdu.{KeptPdu}
+use Rattle.smq_book.specs.known.Pairing.{known_origin, submit}
+use Rattle.smq_book.specs.known.Join.{settings_with, known_facts, outcomes_among, errors_among, outcomes_at, delays_among, outcomes_under, outcomes_by_delivery, responded_and_reported}
+use Rattle.smq_book.specs.present.Settings.{opening_forms, forms_of, with_clock}
+use Rattle.smq_book.specs.pairing.Traffic.{Message, ReceivedReceipt, messages_among, receipts_among, notes_among, traffic_among}
+use Rattle.smq_book.specs.join.Facts.{facts_of}
+use Rattle.smq_book.specs.within.Messages.{submits_among}
+use Rattle.smq_book.specs.within.Outcomes.{facts_among}
+use Rattle.smq_book.specs.within.Receipts as receipts
+use Rattle.smq_book.proofs.lemmas.join.AgreeLists.{message_entry, receipt_entry, keyed-among, receipts-keyed, messages-map, receipts-map}
+use Rattle.smq_book.proofs.lemmas.join.AgreeFacts.{facts-agree}
+
+-- session 10 of link 1, with these forms
+abbrev pub source_with : Form → Form → Source
+source_with response receipt =
+    record { session = record { 0 = 10 }; link = record { 0 = 1 }; forms = record { response = response; receipt = receipt } }
+
+-- what lists say of it
+abbrev pub listed : ℕ → Form → Form → List KeptPdu → List KeptPdu → List Fact
+listed clock response receipt client centre =
+    facts_among (with_clock (settings_with response receipt) clock) (submits_among (source_with response receipt) client centre)
+    (receipts.receipts_among (source_with response receipt) centre)
+
+abbrev pub listed_outcomes : List KeptPdu → List KeptPdu → List Outcome
+listed_outcomes client centre = map (λ fact. fact.outcome) (listed 0 Verbatim Verbatim client centre)
+
+pub forms-set : (response receipt : Form) → forms_of (settings_with response receipt) (record { 0 = 1 })
+    ≡ record { response = response; receipt = receipt }
+forms-set response receipt = ap (λ f. unwrap_or f opening_forms)
+    (get-insert nat_cmp_total empty 1 (record { response = response; receipt = receipt }) 1)
+
+-- where the places rise, as they do in any stream
+pub facts-are-listed : (clock : ℕ) (response receipt : Form) (client centre : List KeptPdu)
+    → T (is_sorted place_cmp (messages_among known_origin client centre)) → T (is_sorted place_cmp (receipts_among known_origin centre))
+    → known_facts (with_clock (settings_with response receipt) clock) client centre ≡ listed clock response receipt client centre
+unfolding known_facts
+facts-are-listed clock response receipt client centre rise receipts_rise =
+    let s = with_clock (settings_with response receipt) clock in
+    let source : Source = source_with response receipt in
+    let messages : messages_among known_origin client centre ≡ map message_entry (submits_among source client centre) =
+    messages-map source client centre [] client 0 refl refl in
+    let received : receipts_among known_origin centre ≡ map receipt_entry (receipts.receipts_among source centre) = receipts-map source centre in
+    let notes = notes_among known_origin client centre in
+    (λ i. values (facts_of s (traffic_among (messages i) (received i) notes)))
+    ∙ facts-agree s (submits_among source client centre) (receipts.receipts_among source centre) notes
+    (keyed-among s source client centre (enumerate_from 0 client) (forms-set response receipt))
+    (receipts-keyed s source centre (forms-set response receipt))
+    (subst (λ (es : List (Place × Message)). T (is_sorted place_cmp es)) messages rise)
+    (subst (λ (es : List (Place × ReceivedReceipt)). T (is_sorted place_cmp es)) received receipts_rise)
+
+pub facts_known : (client centre : List KeptPdu)
+    → T (is_sorted place_cmp (messages_among known_origin client centre)) → T (is_sorted place_cmp (receipts_among known_origin centre))
+    → known_facts (settings_with Verbatim Verbatim) client centre ≡ listed 0 Verbatim Verbatim client centre
+facts_known client centre rise receipts_rise = facts-are-listed 0 Verbatim Verbatim client centre rise receipts_rise
+
+pub outcomes_known : (client centre : List KeptPdu)
+    → T (is_sorted place_cmp (messages_among known_origin client centre)) → T (is_sorted place_cmp (receipts_among known_origin centre))
+    → outcomes_among client centre ≡ listed_outcomes client centre
+unfolding outcomes_among
+outcomes_known client centre rise receipts_rise =
+    ap (map (λ fact. fact.outcome)) (facts-are-listed 0 Verbatim Verbatim client centre rise receipts_rise)
+
+pub errors_known : (client centre : List KeptPdu)
+    → T (is_sorted place_cmp (messages_among known_origin client centre)) → T (is_sorted place_cmp (receipts_among known_origin centre))
+    → errors_among client centre ≡ map (λ fact. fact.error) (listed 0 Verbatim Verbatim client centre)
+unfolding errors_among
+errors_known client centre rise receipts_rise = ap (map (λ fact. fact.error)) (facts-are-listed 0 Verbatim Verbatim client centre rise receipts_rise)
+
+pub at_known : (clock : ℕ) (client centre : List KeptPdu)
+    → T (is_sorted place_cmp (messages_among known_origin client centre)) → T (is_sorted place_cmp (receipts_among known_origin centre))
+    → outcomes_at clock client centre ≡ map (λ fact. fact.outcome) (listed clock Verbatim Verbatim client centre)
+unfolding outcomes_at
+at_known clock client centre rise receipts_rise =
+    ap (map (λ fact. fact.outcome)) (facts-are-listed clock Verbatim Verbatim client centre rise receipts_rise)
+
+pub delays_known : (client centre : List KeptPdu)
+    → T (is_sorted place_cmp (messages_among known_origin client centre)) → T (is_sorted place_cmp (receipts_among known_origin centre))
+    → delays_among client centre ≡ map (λ fact. (fact.link_delay, fact.centre_delay)) (listed 0 Verbatim Verbatim client centre)
+unfolding delays_among
+delays_known client centre rise receipts_rise =
+    ap (map (λ fact. (fact.link_delay, fact.centre_delay))) (facts-are-listed 0 Verbatim Verbatim client centre rise receipts_rise)
+
+pub under_known : (response receipt : Form) (given reported : List ℕ)
+    → outcomes_under response receipt given reported
+    ≡ map (λ fact. fact.outcome) (listed 0 response receipt (submit 0 1 1 ∷ []) (responded_and_reported given reported))
+unfolding outcomes_under
+under_known response receipt given reported =
+    ap (map (λ fact. fact.outcome)) (facts-are-listed 0 response receipt (submit 0 1 1 ∷ []) (responded_and_reported given reported) tt tt)
+
+pub deliveries_known : (centre : List KeptPdu) (deliveries : List ℕ) → T (is_sorted place_cmp (receipts_among known_origin centre))
+    → outcomes_by_delivery centre deliveries
+    ≡ flat_map (λ registered_delivery. listed_outcomes (submit 0 1 registered_delivery ∷ []) centre) deliveries
+unfolding outcomes_by_delivery
+deliveries_known centre [] rise = refl
+deliveries_known centre (d ∷ ds) rise = λ i. outcomes_known (submit 0 1 d ∷ []) centre tt rise i ++ deliveries_known centre ds rise i
+
+pub ruleset known = (facts_known, outcomes_known, errors_known, at_known, delays_known, under_known, deliveries_known)

@@ -1,0 +1,13 @@
+-- Lemmas of pairs, of messages and receipts by place, and of notes.
+pub mod PushedMessages
+pub mod PlacesRise
+pub mod Requests
+pub mod Searched
+pub mod Paired
+pub mod PushedNotes
+pub mod Members
+pub mod SessionNotes
+pub mod UnreadPlaces
+pub mod PairLemmas
+pub mod PushLemmas
+pub mod KnownNotes

@@ -1,0 +1,55 @@
+-- The submitted messages of a session, one PDU at a time.
+use Rattle.std.proofs.Common.{◌≡◌, ℕ, ◌+◌, ◌<◌, ◌≤◌, List, [], ◌∷◌, ◌++◌, length, drop, get_or, append_assoc, Option, Some, None, refl, sym, ap, ◌∙◌}
+use Rattle.std.specs.List.{enumerate_from, flat_map}
+use Rattle.std.proofs.lemmas.List.{drop_more, drop_all}
+use Rattle.smq_kit.specs.declared.place.Dir.TheVariants.{FromClient}
+use Rattle.smq_pdu.specs.declared.body.Submit.{Submit}
+use Rattle.smq_pair.specs.Pairing.{PairingValue}
+use Rattle.smq_book.specs.declared.present.kept.KeptPdu.{KeptPdu}
+use Rattle.smq_book.specs.declared.pairing.source.Source.{Source}
+use Rattle.smq_book.specs.present.Kept.{submit_in}
+use Rattle.smq_book.specs.pairing.Traffic.{place_of, pairing_among}
+use Rattle.smq_book.specs.within.Messages.{SubmittedMessage, message_of, response_of, submit_by, submit_with}
+use Rattle.smq_book.specs.within.Pairs.{Rises, SubmitsAreRequests, from_session, response_at}
+use Rattle.smq_book.proofs.lemmas.pairing.Paired.{response-at}
+
+-- the submitted messages from the i-th PDU on
+abbrev pub submits_left : Source → List KeptPdu → List KeptPdu → ℕ → List SubmittedMessage
+submits_left source client centre i = flat_map (λ e. submit_by (submit_in e.1.content) source client centre e.0 e.1)
+    (enumerate_from i (drop i client))
+
+pub submits-step : (source : Source) (client centre : List KeptPdu) (i : ℕ) (x : KeptPdu) → i < length client → x ≡ get_or client i x
+    → submits_left source client centre i ≡ submit_by (submit_in x.content) source client centre i x ++ submits_left source client centre (i + 1)
+submits-step source client centre i x h is =
+    let at : drop i client ≡ x ∷ drop (i + 1) client = drop_more client i x h ∙ ap (λ (y : KeptPdu). y ∷ drop (i + 1) client) (sym is) in
+    ap (λ (ps : List KeptPdu). flat_map (λ e. submit_by (submit_in e.1.content) source client centre e.0 e.1) (enumerate_from i ps)) at
+
+pub submits-none : (source : Source) (client centre : List KeptPdu) (i : ℕ) → length client ≤ i → submits_left source client centre i ≡ []
+submits-none source client centre i h = rw (drop_all i client h) refl
+
+-- one PDU more is looked at
+pub submits-next : (source : Source) (client centre : List KeptPdu) (i : ℕ) (x : KeptPdu) (before after all : List SubmittedMessage)
+    → i < length client → x ≡ get_or client i x
+    → after ≡ before ++ submit_by (submit_in x.content) source client centre i x → before ++ submits_left source client centre i
+    ≡ all → after ++ submits_left source client centre (i + 1) ≡ all
+submits-next source client centre i x before after all h is more so =
+    ap (λ (ys : List SubmittedMessage). ys ++ submits_left source client centre (i + 1)) more
+    ∙ append_assoc before (submit_by (submit_in x.content) source client centre i x) (submits_left source client centre (i + 1))
+    ∙ ap (λ (ys : List SubmittedMessage). before ++ ys) (sym (submits-step source client centre i x h is)) ∙ so
+
+-- the response in the pair of the i-th PDU is its own
+pub submit-is : (source : Source) (client centre : List KeptPdu) (i : ℕ) (x : KeptPdu) (v : PairingValue)
+    → v ≡ pairing_among (from_session source.session) client centre
+    → i < length client → x ≡ get_or client i x → Rises 0 client → Rises 0 centre → SubmitsAreRequests client
+    → submit_with (submit_in x.content) source x (response_at v centre (place_of (from_session source.session) FromClient x))
+    ≡ submit_by (submit_in x.content) source client centre i x
+submit-is source client centre i x v pairs h is rises centre_rises ask = by_content (submit_in x.content) refl
+  where
+    by_content : (submit : Option Submit) → submit_in x.content ≡ submit
+        → submit_with submit source x (response_at v centre (place_of (from_session source.session) FromClient x))
+        ≡ submit_with submit source x (response_of client centre i x)
+    by_content None said = refl
+    by_content (Some submit) said =
+        ap (λ (r : Option KeptPdu). message_of source x submit r ∷ [])
+        (ap (λ w. response_at w centre (place_of (from_session source.session) FromClient x)) pairs
+        ∙ response-at (from_session source.session) client centre i x submit h is rises centre_rises ask said)

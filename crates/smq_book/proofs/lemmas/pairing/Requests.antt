@@ -1,0 +1,66 @@
+-- Each submit_sm of a stream is a request.
+use Rattle.std.proofs.Common.{◌≡◌, ℕ, Bool, true, false, cond, List, drop, Option, Some, None, refl, sym, ap, ◌∙◌, arith}
+use Rattle.std.specs.Prelude.{◌==◌, map, slice_get, option_map}
+use Rattle.std.proofs.lemmas.Bool.Decides.{nat_tests}
+use Rattle.std.proofs.lemmas.Option.{slice_get-map}
+use Rattle.smq_frame.specs.Frame.{FrameValue}
+use Rattle.smq_frame.specs.Stream.{Octet, stream_frames}
+use Rattle.smq_pdu.specs.Bodies.{SubmitAnswerBody, DeliverBody, OtherBody, UndecodableBody, deliver_said}
+use Rattle.smq_pdu.specs.Commands.{submit_sm, submit_sm_resp, deliver_sm}
+use Rattle.smq_pdu.specs.Fields.{Mandatory}
+use Rattle.smq_pdu.specs.Header.{header_at}
+use Rattle.smq_pdu.specs.Pairing.{is_request}
+use Rattle.smq_pdu.specs.Pdu.{body_of, submit_of, deliver_of, id_of}
+use Rattle.smq_pdu.specs.Placed.{placed_pdu}
+use Rattle.smq_pdu.specs.Readers.{mandatory_at, tlvs_of}
+use Rattle.smq_pdu.specs.declared.body.Submit.{Submit}
+use Rattle.smq_book.specs.declared.present.kept.KeptPdu.{KeptPdu}
+use Rattle.smq_book.specs.present.Kept.{content_of_body, kept_pdu, kept_pdus, header_of, submit_in}
+use Rattle.smq_book.specs.within.Pairs.{SubmitsAreRequests}
+
+no_submit : (submit : Submit) → None ≡ Some submit → ⊥
+no_submit submit e = absurd cc
+
+no_delivery : (fields : Option (Mandatory × List ℕ)) (submit : Submit)
+    → submit_in (content_of_body (elim fields [ None ↦ UndecodableBody | Some p ↦ DeliverBody (deliver_said p.0 (tlvs_of p.1)) ])) ≡ Some submit → ⊥
+no_delivery None submit e = no_submit submit e
+no_delivery (Some p) submit e = no_submit submit e
+
+no_other : (b : Bool) (octets : List ℕ) (submit : Submit) → submit_in (content_of_body (cond b (deliver_of octets) OtherBody)) ≡ Some submit → ⊥
+unfolding deliver_of
+no_other true octets submit e = no_delivery (mandatory_at octets) submit e
+no_other false octets submit e = no_submit submit e
+
+no_answer : (b : Bool) (command : ℕ) (octets : List ℕ) (submit : Submit)
+    → submit_in (content_of_body (cond b (SubmitAnswerBody (id_of octets))
+    (cond (command == deliver_sm) (deliver_of octets) OtherBody))) ≡ Some submit → ⊥
+no_answer true command octets submit e = no_submit submit e
+no_answer false command octets submit e = no_other (command == deliver_sm) octets submit e
+
+by_command : (b : Bool) (command : ℕ) (octets : List ℕ) (submit : Submit) → (command == submit_sm) ≡ b
+    → submit_in (content_of_body (cond b (submit_of octets) (cond (command == submit_sm_resp) (SubmitAnswerBody (id_of octets))
+    (cond (command == deliver_sm) (deliver_of octets) OtherBody)))) ≡ Some submit
+    → command ≡ submit_sm
+by_command true command octets submit same e = grind (arith, nat_tests, same)
+by_command false command octets submit same e = absurd (no_answer (command == submit_sm_resp) command octets submit e)
+
+frame-asks : (f : FrameValue) (submit : Submit) → submit_in (kept_pdu (placed_pdu f)).content ≡ Some submit
+    → is_request (header_of (kept_pdu (placed_pdu f))) ≡ true
+unfolding body_of
+frame-asks f submit e =
+    let same = by_command ((header_at f.octets).command == submit_sm) (header_at f.octets).command (drop 16 f.octets) submit refl e in
+    ap (λ command. is_request (record { command = command; status = (header_at f.octets).status; seq = (header_at f.octets).seq })) same
+
+frames-ask : (fs : List FrameValue) (i : ℕ) (p : KeptPdu) (submit : Submit) → slice_get (map kept_pdu (map placed_pdu fs)) i
+    ≡ Some p → submit_in p.content ≡ Some submit → is_request (header_of p) ≡ true
+frames-ask fs i p submit at said =
+    of_frame (slice_get fs i) (sym (slice_get-map kept_pdu (map placed_pdu fs) i ∙ ap (option_map kept_pdu) (slice_get-map placed_pdu fs i)) ∙ at)
+  where
+    of_frame : (f : Option FrameValue) → option_map kept_pdu (option_map placed_pdu f) ≡ Some p → is_request (header_of p) ≡ true
+    of_frame None e = absurd cc
+    of_frame (Some f) e =
+        let one : kept_pdu (placed_pdu f) ≡ p = cc in
+        ap (λ (q : KeptPdu). is_request (header_of q)) (sym one) ∙ frame-asks f submit (ap (λ (q : KeptPdu). submit_in q.content) one ∙ said)
+
+pub kept-ask : (stream : List Octet) → SubmitsAreRequests (kept_pdus stream)
+kept-ask stream = record { each = frames-ask (stream_frames stream) }

@@ -1,0 +1,5 @@
+-- Lemmas of tables from nothing.
+pub mod Tallied
+pub mod AgreePresent
+pub mod ListedTables
+pub mod KnownBook
