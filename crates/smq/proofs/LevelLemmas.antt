@@ -67,11 +67,13 @@ at_row_fit : (P : Text → Text → Type 0) (id : Text) (change : Row → List R
 at_row_fit P id change missing [] f m a = m
 at_row_fit P id change missing (r ∷ rs) f m a = first (bytes_eq r.id id) refl (at_row_fit P id change missing rs f m a.1)
   where
-    first : (b : Bool) → bytes_eq r.id id ≡ b → Fit P (at_row id change missing rs) → Fit P (cond b (change r ++ rs) (r ∷ at_row id change missing rs))
+    first : (b : Bool) → bytes_eq r.id id ≡ b → Fit P (at_row id change missing rs)
+        → Fit P (cond b (change r ++ rs) (r ∷ at_row id change missing rs))
     first true e more = fit_append P (change r) rs (f r ((bytes_eq-Decides r.id id).0 e) a.0) a.1
     first false e more = (a.0, more)
 
-with_values_fit : (P : Text → Text → Type 0) (id : Text) (how : Reading) (s : ValueSource) (vs : List Text) (rows : List Row) → SomeEach (P id) vs → Fit P rows
+with_values_fit : (P : Text → Text → Type 0) (id : Text) (how : Reading) (s : ValueSource) (vs : List Text) (rows : List Row)
+    → SomeEach (P id) vs → Fit P rows
     → Fit P (with_values id how s vs rows)
 with_values_fit P id how s vs rows given a =
     at_row_fit P id (more_values s vs) _ rows
@@ -105,7 +107,8 @@ values_pass P ignore_case parser f (v ∷ vs) h =
     let parts = neither (value_kinds ignore_case parser v) _ h in
     (f v parts.0, values_pass P ignore_case parser f vs parts.1)
 
-pub set_keeps : (P : Text → Text → Type 0) (a : Rule) → ((v : Text) → value_kinds a.ignore_case (parser_of_value a.parser) v ≡ [] → P a.id v) → Keeps P (set_once a)
+pub set_keeps : (P : Text → Text → Type 0) (a : Rule) → ((v : Text) → value_kinds a.ignore_case (parser_of_value a.parser) v ≡ []
+    → P a.id v) → Keeps P (set_once a)
 set_keeps P a f again [] rows h fit = absurd (some_kind h)
 set_keeps P a f again (v ∷ vs) rows h fit =
     let reacts = (neither _ _ h).1 in
@@ -132,14 +135,17 @@ find_keeps P p (a ∷ rest) all = first (p a) (find_keeps P p rest all.1)
     first true more = all.0
     first false more = more
 
-settle_fit : (P : Text → Text → Type 0) (c : List Rule) → AllKeep P c → (again : Bool) (h : Held) → settle_fault c again h ≡ [] → Fit P h.rows → Fit P (settled c h).rows
+settle_fit : (P : Text → Text → Type 0) (c : List Rule) → AllKeep P c → (again : Bool) (h : Held) → settle_fault c again h ≡ []
+    → Fit P h.rows → Fit P (settled c h).rows
 settle_fit P c all again h clean fit = by_pending h.pending clean
   where
-    by_rule : (o : Option Rule) → IfKeeps P o → (vs : List Text) → option_map_or (λ a. use_fault again a vs h.rows) o [] ≡ [] → Fit P (used_by_id o vs h.rows)
+    by_rule : (o : Option Rule) → IfKeeps P o → (vs : List Text) → option_map_or (λ a. use_fault again a vs h.rows) o [] ≡ []
+        → Fit P (used_by_id o vs h.rows)
     by_rule None k vs clean = fit
     by_rule (Some a) k vs clean = k again vs h.rows clean fit
 
-    by_pending : (o : Option (Text × List Text)) → option_map_or (λ p. option_map_or (λ a. use_fault again a p.1 h.rows) (arg_by_id c p.0) []) o [] ≡ []
+    by_pending : (o : Option (Text × List Text))
+        → option_map_or (λ p. option_map_or (λ a. use_fault again a p.1 h.rows) (arg_by_id c p.0) []) o [] ≡ []
         → Fit P (settled_rows c o h.rows)
     by_pending None clean = fit
     by_pending (Some p) clean = by_rule (arg_by_id c p.0) (find_keeps P (λ a. bytes_eq a.id p.0) c all) p.1 clean
@@ -178,7 +184,8 @@ short_fit : (P : Text → Text → Type 0) (c : List Rule) → AllKeep P c → (
 short_fit P c all again None k rest h fault go more clean fit = fit
 short_fit P c all again (Some a) k rest h fault go more clean fit = takes (takes_values a) clean
   where
-    takes : (b : Bool) → cond b (option_fault c again a (attached_value rest) h) (or_else (react_fault c again a [] h) (fault (reacted c a [] h))) ≡ []
+    takes : (b : Bool) → cond b (option_fault c again a (attached_value rest) h)
+        (or_else (react_fault c again a [] h) (fault (reacted c a [] h))) ≡ []
         → Fit P (cond b (option_met c a (attached_value rest) h) (go (reacted c a [] h))).0.rows
     takes true clean = option_fit P c all again a k (attached_value rest) h clean fit
     takes false clean =
@@ -192,7 +199,8 @@ bundle_fit P c all again zero flags skip so_far h clean fit = fit
 bundle_fit P c all again (suc k) flags skip so_far h clean fit = by_octet (slice_get (chars flags) 0) skip clean (bundle_fit P c all again k)
   where
     by_octet : (o : Option ℕ) (skip : ℕ) → bundle_step_fault c again o flags skip h (flags_fault c again k) ≡ []
-        → ((flags : Text) (skip : ℕ) (so_far : Outcome) (g : Held) → flags_fault c again k flags skip g ≡ [] → Fit P g.rows → Fit P (bundle_met c k flags skip so_far g).0.rows)
+        → ((flags : Text) (skip : ℕ) (so_far : Outcome) (g : Held) → flags_fault c again k flags skip g ≡ [] → Fit P g.rows
+        → Fit P (bundle_met c k flags skip so_far g).0.rows)
         → Fit P (bundle_step c o flags skip so_far h (bundle_met c k)).0.rows
     by_octet None skip clean more = fit
     by_octet (Some x) zero clean more =
@@ -212,7 +220,8 @@ plain_fit P c (option id) word h fit = by_rule (arg_by_id c id)
     by_rule None = fit
     by_rule (Some a) = fit
 
-after_fit : (P : Text → Text → Type 0) (c : List Rule) (w : Waiting) (word : Text) (h : Held) (o : Outcome) → Fit P h.rows → Fit P (after_flag c w word h o).0.rows
+after_fit : (P : Text → Text → Type 0) (c : List Rule) (w : Waiting) (word : Text) (h : Held) (o : Outcome) → Fit P h.rows
+    → Fit P (after_flag c w word h o).0.rows
 after_fit P c w word h done fit = fit
 after_fit P c w word h (waits id) fit = fit
 after_fit P c w word h plain fit = plain_fit P c w word h fit
@@ -224,7 +233,8 @@ short_word_fit P c all again w word None h clean fit = plain_fit P c w word h fi
 short_word_fit P c all again w word (Some flags) h clean fit =
     after_fit P c w word _ _ (bundle_fit P c all again (length flags) flags h.skip plain (record h { skip = 0 }) clean fit)
 
-flag_word_fit : (P : Text → Text → Type 0) (c : List Rule) → AllKeep P c → (again : Bool) (w : Waiting) (word : Text) (o : Option (Text × Option Text)) (h : Held)
+flag_word_fit : (P : Text → Text → Type 0) (c : List Rule) → AllKeep P c
+    → (again : Bool) (w : Waiting) (word : Text) (o : Option (Text × Option Text)) (h : Held)
     → flag_word_fault c again o word h ≡ [] → Fit P h.rows → Fit P (long_or_other c w word o h).0.rows
 flag_word_fit P c all again w word (Some p) h clean fit =
     after_fit P c w word _ _ (long_fit P c all again (arg_by_long c p.0) (find_keeps P _ c all) p.1 h clean fit)
@@ -243,12 +253,14 @@ other_fit P s all w position word None h clean fit = by_dashes (bytes_eq word da
     by_dashes true clean = fit
     by_dashes false clean = flag_word_fit P s.rules all s.args_override_self w word (long_of word) h clean fit
 
-met_fit : (P : Text → Text → Type 0) (s : Shape) → AllKeep P s.rules → (names : Names) (t : Bool) (w : Waiting) (position : ℕ) (word : Text) (h : Held)
+met_fit : (P : Text → Text → Type 0) (s : Shape) → AllKeep P s.rules
+    → (names : Names) (t : Bool) (w : Waiting) (position : ℕ) (word : Text) (h : Held)
     → word_fault s names t w word h ≡ [] → Fit P h.rows → Fit P (word_met s.rules names t w position word h).0.rows
 met_fit P s all names true w position word h clean fit = fit
 met_fit P s all names false w position word h clean fit = other_fit P s all w position word (subcommand_met names w word) h clean fit
 
-step_fit : (P : Text → Text → Type 0) (s : Shape) → AllKeep P s.rules → (w : Walk) (word : Text) (h : Held) (x : Step) → step_fault s w.position h x ≡ []
+step_fit : (P : Text → Text → Type 0) (s : Shape) → AllKeep P s.rules → (w : Walk) (word : Text) (h : Held) (x : Step)
+    → step_fault s w.position h x ≡ []
     → Fit P h.rows → Fit P (after_step s.rules word w h x).held.rows
 step_fit P s all w word h (next after) clean fit = fit
 step_fit P s all w word h (trailing position) clean fit = fit
@@ -274,14 +286,16 @@ turn_fit P s all names w word clean fit = by_stop w.stopped clean
 
     by_stop : (o : Option (Text × List Text))
         → cond (is_some o) [] (or_else (word_fault s names w.is_trailing w.waiting word w.held)
-        (step_fault s w.position (word_met s.rules names w.is_trailing w.waiting w.position word w.held).0 (word_met s.rules names w.is_trailing w.waiting w.position word w.held).1)) ≡ []
+        (step_fault s w.position (word_met s.rules names w.is_trailing w.waiting w.position word w.held).0
+        (word_met s.rules names w.is_trailing w.waiting w.position word w.held).1)) ≡ []
         → Fit P (walked_from s.rules names o w word).held.rows
     by_stop (Some p) clean = fit
     by_stop None clean =
         let parts = neither (word_fault s names w.is_trailing w.waiting word w.held) _ clean in
         step_fit P s all w word _ _ parts.1 (met_fit P s all names w.is_trailing w.waiting w.position word w.held parts.0 fit)
 
-walk_fit : (P : Text → Text → Type 0) (s : Shape) → AllKeep P s.rules → (names : Names) (words : List Text) (w : Walk) → walk_fault s names w words ≡ []
+walk_fit : (P : Text → Text → Type 0) (s : Shape) → AllKeep P s.rules → (names : Names) (words : List Text) (w : Walk)
+    → walk_fault s names w words ≡ []
     → Fit P w.held.rows → Fit P (fold (walked s.rules names) w words).held.rows
 unfolding walk_fault
 walk_fit P s all names [] w clean fit = fit
@@ -328,7 +342,8 @@ found_fit : (P : Text → Text → Type 0) (id : Text) (rows : List Row) → Fit
 found_fit P id [] fit = tt
 found_fit P id (r ∷ rs) fit = first (bytes_eq r.id id) refl (found_fit P id rs fit.1)
   where
-    first : (b : Bool) → bytes_eq r.id id ≡ b → IfFit (P id) (find (λ r. bytes_eq r.id id) rs) → IfFit (P id) (cond b (Some r) (find (λ r. bytes_eq r.id id) rs))
+    first : (b : Bool) → bytes_eq r.id id ≡ b → IfFit (P id) (find (λ r. bytes_eq r.id id) rs)
+        → IfFit (P id) (cond b (Some r) (find (λ r. bytes_eq r.id id) rs))
     first true e more = subst (λ i. SomeEach (P i) r.values) ((bytes_eq-Decides r.id id).0 e) fit.0
     first false e more = more
 
@@ -350,7 +365,8 @@ first_fit P id rows fit = of_row (find (λ r. bytes_eq r.id id) rows) (found_fit
     of_row (Some r) h = of_values r.values h
 
 -- an argument that is given has a first value
-pub given_fit : (P : Text → Text → Type 0) (id : Text) (rows : List Row) → Fit P rows → is_given id rows ≡ true → (v : Text) × (first_of id rows ≡ Some v)
+pub given_fit : (P : Text → Text → Type 0) (id : Text) (rows : List Row) → Fit P rows → is_given id rows ≡ true
+    → (v : Text) × (first_of id rows ≡ Some v)
 given_fit P id rows fit given = of_row (find (λ r. bytes_eq r.id id) rows) (found_fit P id rows fit) given
   where
     of_values : (vs : List Text) → SomeEach (P id) vs → (v : Text) × (slice_get vs 0 ≡ Some v)

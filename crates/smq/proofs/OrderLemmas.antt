@@ -33,7 +33,8 @@ use Rattle.smq.proofs.LevelLemmas.{IfHas, Keeps, first_fit, given_fit, help_keep
 -- ---- names
 
 -- a text that a parser of these names takes is one of them
-taken_name : (texts : List Text) (parser : ValueParser) → TakesNames texts parser → (v : Text) → accepts false parser v ≡ true → list_any (λ text. bytes_eq text v) texts ≡ true
+taken_name : (texts : List Text) (parser : ValueParser) → TakesNames texts parser → (v : Text) → accepts false parser v ≡ true
+    → list_any (λ text. bytes_eq text v) texts ≡ true
 taken_name texts (vp.Names names) takes v h =
     subst (λ ts. list_any (λ text. bytes_eq text v) ts ≡ true) takes
     (sym (list_any-map (λ text. bytes_eq text v) (λ (name : Bor Text). name.now) names.now) ∙ h)
@@ -49,7 +50,8 @@ taken_name texts vp.Char takes v h = elim takes [ ]
 taken_name texts (vp.Values _) takes v h = elim takes [ ]
 
 -- what has one of the names
-named_among : {X : Type 0} (name : X → Text) (xs : List X) (v : Text) → list_any (λ text. bytes_eq text v) (map name xs) ≡ true → (x : X) × (name x ≡ v)
+named_among : {X : Type 0} (name : X → Text) (xs : List X) (v : Text) → list_any (λ text. bytes_eq text v) (map name xs) ≡ true
+    → (x : X) × (name x ≡ v)
 named_among name [] v h = cc
 named_among name (x ∷ xs) v h = first (bytes_eq (name x) v) refl h (named_among name xs v)
   where
@@ -83,13 +85,15 @@ abbrev IsFormatName : Text → Type 0
 IsFormatName v = (x : Format) × (format_name x ≡ v)
 
 taken_pick : (parser : ValueParser) → TakesNames pick_names parser → (v : Text) → value_kinds false parser v ≡ [] → IsPickName v
-taken_pick parser takes v h = elim (either_any (λ text. bytes_eq text v) (map view_name views) (map list_name lists) (taken_name pick_names parser takes v (accepted parser v h))) [
-  | inl a ↦ let named = named_among view_name views v a in (pick.View named.0, ap (λ (t : Text). Some t) named.1)
-  | inr a ↦ let named = named_among list_name lists v a in (pick.List named.0, ap (λ (t : Text). Some t) named.1)
-]
+taken_pick parser takes v h = elim (either_any (λ text. bytes_eq text v) (map view_name views) (map list_name lists)
+    (taken_name pick_names parser takes v (accepted parser v h))) [
+      | inl a ↦ let named = named_among view_name views v a in (pick.View named.0, ap (λ (t : Text). Some t) named.1)
+      | inr a ↦ let named = named_among list_name lists v a in (pick.List named.0, ap (λ (t : Text). Some t) named.1)
+    ]
 
 taken_format : (parser : ValueParser) → TakesNames format_names parser → (v : Text) → value_kinds false parser v ≡ [] → IsFormatName v
-taken_format parser takes v h = named_among format_name (format.Csv ∷ format.Table ∷ []) v (taken_name format_names parser takes v (accepted parser v h))
+taken_format parser takes v h = named_among format_name (format.Csv ∷ format.Table ∷ []) v
+    (taken_name format_names parser takes v (accepted parser v h))
 
 -- ---- the words after a subcommand
 
@@ -144,14 +148,19 @@ report_asked : (formats : ValueParser) → TakesNames format_names formats → (
     → level_fault (report_built formats) [] nothing_held words false [] ≡ [] → Asked (Some (rows_at (report_built formats) words))
 report_asked formats takes words clean =
     let rows = rows_after (report_built formats).rules [] words in
-    let fit = (level_fit (Known (λ v. ⊥)) (report_built formats) (format_keeps _ formats takes, (settings_keeps _, (help_keeps _ (filled help_rule), tt))) (refl, (refl, (refl, tt))) words clean).0 in
-    let shape = format_known (first_of (codes "format") rows) (of_known (Known (λ v. ⊥) (codes "format")) IsFormatName (λ v h. h.1 refl) _ (first_fit (Known (λ v. ⊥)) (codes "format") rows fit)) in (
+    let fit = (level_fit (Known (λ v. ⊥)) (report_built formats)
+    (format_keeps _ formats takes, (settings_keeps _, (help_keeps _ (filled help_rule), tt))) (refl, (refl, (refl, tt))) words
+    clean).0 in
+    let shape = format_known (first_of (codes "format") rows)
+    (of_known (Known (λ v. ⊥) (codes "format")) IsFormatName (λ v h. h.1 refl) _
+    (first_fit (Known (λ v. ⊥)) (codes "format") rows fit)) in (
       record { pick = pick.All; format = shape.0 },
       first_of (codes "settings") rows,
       record {
         rows = rows;
         enters = refl;
-        is_named = none_known _ (of_known (Known (λ v. ⊥) (codes "NAME")) (λ v. ⊥) (λ v h. h.0 refl) _ (first_fit (Known (λ v. ⊥)) (codes "NAME") rows fit));
+        is_named = none_known _ (of_known (Known (λ v. ⊥) (codes "NAME")) (λ v. ⊥) (λ v h. h.0 refl) _
+            (first_fit (Known (λ v. ⊥)) (codes "NAME") rows fit));
         has_format = shape.1;
         has_path = refl;
       },
@@ -171,8 +180,16 @@ query_asked : (names formats : ValueParser) → TakesNames pick_names names → 
 query_asked names formats takes_names takes_formats words clean =
     let s = query_built names formats in
     let rows = rows_after s.rules [] words in
-    let level = level_fit (Known IsPickName) s (name_keeps names takes_names, (format_keeps _ formats takes_formats, (settings_keeps _, (help_keeps _ (filled help_rule), tt)))) (refl, (refl, (refl, (refl, tt)))) words clean in
-    let shape = format_known (first_of (codes "format") rows) (of_known (Known IsPickName (codes "format")) IsFormatName (λ v h. h.1 refl) _ (first_fit (Known IsPickName) (codes "format") rows level.0)) in
+    let level = level_fit (Known IsPickName) s (
+      name_keeps names takes_names,
+      (
+        format_keeps _ formats takes_formats,
+        (settings_keeps _, (help_keeps _ (filled help_rule), tt)),
+      ),
+    ) (refl, (refl, (refl, (refl, tt)))) words clean in
+    let shape = format_known (first_of (codes "format") rows)
+    (of_known (Known IsPickName (codes "format")) IsFormatName (λ v h. h.1 refl) _
+    (first_fit (Known IsPickName) (codes "format") rows level.0)) in
     let given = given_fit (Known IsPickName) (codes "NAME") rows level.0 (is_required (is_given (codes "NAME") rows) level.1) in
     let named = (subst (IfHas (Known IsPickName (codes "NAME"))) given.1 (first_fit (Known IsPickName) (codes "NAME") rows level.0)).0 refl in (
       record { pick = named.0; format = shape.0 },
@@ -223,7 +240,8 @@ long_enters : (c : List Rule) (w : Waiting) (word : Text) (o : Option (Text × O
 long_enters c w word (Some p) h = after_enters c w word _ _
 long_enters c w word None h = short_enters c w word (short_of word) h
 
-other_enters : (names formats : ValueParser) (o : Option Text) (w : Waiting) (position : ℕ) (word : Text) (h : Held) → other_fault (top_built names formats) o word h ≡ []
+other_enters : (names formats : ValueParser) (o : Option Text) (w : Waiting) (position : ℕ) (word : Text) (h : Held)
+    → other_fault (top_built names formats) o word h ≡ []
     → EntersNoHelp (subcommand_or_other (top_built names formats).rules o w position word h).1
 other_enters names formats (Some name) w position word h clean = no_help (bytes_eq name (codes "help")) clean
   where
@@ -236,12 +254,14 @@ other_enters names formats None w position word h clean = by_dashes (bytes_eq wo
     by_dashes true = tt
     by_dashes false = long_enters (top_built names formats).rules w word (long_of word) h
 
-met_enters : (names formats : ValueParser) (ns : Names) (t : Bool) (w : Waiting) (position : ℕ) (word : Text) (h : Held) → word_fault (top_built names formats) ns t w word h ≡ []
+met_enters : (names formats : ValueParser) (ns : Names) (t : Bool) (w : Waiting) (position : ℕ) (word : Text) (h : Held)
+    → word_fault (top_built names formats) ns t w word h ≡ []
     → EntersNoHelp (word_met (top_built names formats).rules ns t w position word h).1
 met_enters names formats ns true w position word h clean = tt
 met_enters names formats ns false w position word h clean = other_enters names formats (subcommand_met ns w word) w position word h clean
 
-step_stops : (c : List Rule) (w : Walk) (word : Text) (h : Held) (x : Step) → EntersNoHelp x → NoHelp w.stopped → NoHelp (after_step c word w h x).stopped
+step_stops : (c : List Rule) (w : Walk) (word : Text) (h : Held) (x : Step) → EntersNoHelp x → NoHelp w.stopped
+    → NoHelp (after_step c word w h x).stopped
 step_stops c w word h (next after) enters stops = stops
 step_stops c w word h (trailing position) enters stops = stops
 step_stops c w word h (subcommand name) enters stops = enters
@@ -251,22 +271,27 @@ step_stops c w word h value enters stops = by_rule (arg_by_index c w.position)
     by_rule None = stops
     by_rule (Some a) = tt
 
-turn_stops : (names formats : ValueParser) (ns : Names) (w : Walk) (word : Text) → turn_fault (top_built names formats) ns w word ≡ [] → NoHelp w.stopped
+turn_stops : (names formats : ValueParser) (ns : Names) (w : Walk) (word : Text) → turn_fault (top_built names formats) ns w word
+    ≡ [] → NoHelp w.stopped
     → NoHelp (walked (top_built names formats).rules ns w word).stopped
 unfolding walked
 turn_stops names formats ns w word clean stops = by_stop w.stopped clean stops
   where
     by_stop : (o : Option (Text × List Text))
         → cond (is_some o) [] (or_else (word_fault (top_built names formats) ns w.is_trailing w.waiting word w.held)
-        (step_fault (top_built names formats) w.position (word_met (top_built names formats).rules ns w.is_trailing w.waiting w.position word w.held).0 (word_met (top_built names formats).rules ns w.is_trailing w.waiting w.position word w.held).1)) ≡ []
+        (step_fault (top_built names formats) w.position (word_met (top_built names formats).rules ns w.is_trailing w.waiting
+        w.position word w.held).0 (word_met (top_built names formats).rules ns w.is_trailing w.waiting w.position word
+        w.held).1)) ≡ []
         → NoHelp o → NoHelp (walked_from (top_built names formats).rules ns o w word).stopped
     by_stop (Some p) clean enters = enters
     by_stop None clean enters =
         step_stops (top_built names formats).rules w word _ _
-        (met_enters names formats ns w.is_trailing w.waiting w.position word w.held (neither (word_fault (top_built names formats) ns w.is_trailing w.waiting word w.held) _ clean).0)
+        (met_enters names formats ns w.is_trailing w.waiting w.position word w.held
+        (neither (word_fault (top_built names formats) ns w.is_trailing w.waiting word w.held) _ clean).0)
         stops
 
-walk_stops : (names formats : ValueParser) (ns : Names) (words : List Text) (w : Walk) → walk_fault (top_built names formats) ns w words ≡ [] → NoHelp w.stopped
+walk_stops : (names formats : ValueParser) (ns : Names) (words : List Text) (w : Walk)
+    → walk_fault (top_built names formats) ns w words ≡ [] → NoHelp w.stopped
     → NoHelp (fold (walked (top_built names formats).rules ns) w words).stopped
 unfolding walk_fault
 walk_stops names formats ns [] w clean stops = stops
@@ -292,21 +317,25 @@ below_fault words o = option_map_or (λ s. level_fault s [] nothing_held words f
 missing : (names formats : ValueParser) (rows : List Row) → check_fault (top_built names formats) rows false ≡ [] → ⊥
 missing names formats rows clean = some_kind {k = kind.MissingSubcommand} {ks = []} clean
 
-by_name : (names formats : ValueParser) → TakesNames pick_names names → TakesNames format_names formats → (words : List Text) (rows : List Row) (report query help : Bool)
+by_name : (names formats : ValueParser) → TakesNames pick_names names → TakesNames format_names formats
+    → (words : List Text) (rows : List Row) (report query help : Bool)
     → help ≡ false → below_fault words (named_by names formats report query help) ≡ []
     → check_fault (top_built names formats) rows (is_some (entered_at words (named_by names formats report query help))) ≡ []
     → Asked (entered_at words (named_by names formats report query help))
 by_name names formats takes_names takes_formats words rows true query help h clean checks = report_asked formats takes_formats words clean
-by_name names formats takes_names takes_formats words rows false true help h clean checks = query_asked names formats takes_names takes_formats words clean
+by_name names formats takes_names takes_formats words rows false true help h clean checks =
+    query_asked names formats takes_names takes_formats words clean
 by_name names formats takes_names takes_formats words rows false false true h clean checks = cc
 by_name names formats takes_names takes_formats words rows false false false h clean checks = absurd (missing names formats rows checks)
 
-by_stop : (names formats : ValueParser) → TakesNames pick_names names → TakesNames format_names formats → (rows : List Row) (o : Option (Text × List Text)) → NoHelp o
+by_stop : (names formats : ValueParser) → TakesNames pick_names names → TakesNames format_names formats
+    → (rows : List Row) (o : Option (Text × List Text)) → NoHelp o
     → entered_fault (app_built names formats) o ≡ [] → check_fault (top_built names formats) rows (is_some (entered (app_built names formats) o)) ≡ []
     → Asked (entered (app_built names formats) o)
 by_stop names formats takes_names takes_formats rows None no_help clean checks = absurd (missing names formats rows checks)
 by_stop names formats takes_names takes_formats rows (Some p) no_help clean checks =
-    by_name names formats takes_names takes_formats p.1 rows (bytes_eq (codes "report") p.0) (bytes_eq (codes "query") p.0) (bytes_eq (codes "help") p.0)
+    by_name names formats takes_names takes_formats p.1 rows (bytes_eq (codes "report") p.0) (bytes_eq (codes "query") p.0)
+    (bytes_eq (codes "help") p.0)
     (not_named (bytes_eq (codes "help") p.0) refl) clean checks
   where
     not_named : (b : Bool) → bytes_eq (codes "help") p.0 ≡ b → b ≡ false
@@ -327,4 +356,5 @@ words_ask names formats takes_names takes_formats words clean =
     let below = neither (entered_fault (app_built names formats) end.stopped) _ walks.1 in
     let settles = neither (settle_fault s.rules s.args_override_self end.held) _ below.1 in
     let checks = neither (defaults_fault (settled s.rules end.held).rows s.rules) _ settles.1 in
-    by_stop names formats takes_names takes_formats (finished s.rules end.held) end.stopped (walk_stops names formats ns words (walk_from nothing_held) walks.0 tt) below.0 checks.1
+    by_stop names formats takes_names takes_formats (finished s.rules end.held) end.stopped
+    (walk_stops names formats ns words (walk_from nothing_held) walks.0 tt) below.0 checks.1

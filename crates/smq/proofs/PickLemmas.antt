@@ -25,7 +25,8 @@ find-views : (text : Text) (all : List View) (others : List Pick) → find (is_n
 find-views text [] others = refl
 find-views text (view ∷ all) others = by (bytes_eq (view_name view) text) (find-views text all others)
   where
-    by : (b : Bool) → find (is_named text) (map pick.View all ++ others) ≡ option_or (option_map pick.View (view_of text all)) (find (is_named text) others)
+    by : (b : Bool) → find (is_named text) (map pick.View all ++ others)
+        ≡ option_or (option_map pick.View (view_of text all)) (find (is_named text) others)
         → cond b (Some (pick.View view)) (find (is_named text) (map pick.View all ++ others))
         ≡ option_or (option_map pick.View (cond b (Some view) (view_of text all))) (find (is_named text) others)
     by true more = refl
@@ -45,11 +46,13 @@ find-lists text (list ∷ all) = by (bytes_eq (list_name list) text) (find-lists
 pub pick-of-view : (text : Text) (found : Option View) (view : View) → found ≡ view_of text views → found ≡ Some view
     → Some (pick.View view) ≡ find (is_named text) picks
 pick-of-view text found view is found_is =
-    sym (find-views text views (map pick.List lists) ∙ ap (λ o. option_or (option_map pick.View o) (find (is_named text) (map pick.List lists))) (sym is ∙ found_is))
+    sym (find-views text views (map pick.List lists)
+    ∙ ap (λ o. option_or (option_map pick.View o) (find (is_named text) (map pick.List lists))) (sym is ∙ found_is))
 
 -- where none has it
 pub pick-of-list : (text : Text) (found : Option View) (listed : Option l.List) → found ≡ view_of text views → found ≡ None
     → listed ≡ list_of text lists → option_map pick.List listed ≡ find (is_named text) picks
 pick-of-list text found listed is found_is listed_is =
     ap (option_map pick.List) listed_is ∙ sym (find-lists text lists)
-    ∙ sym (find-views text views (map pick.List lists) ∙ ap (λ o. option_or (option_map pick.View o) (find (is_named text) (map pick.List lists))) (sym is ∙ found_is))
+    ∙ sym (find-views text views (map pick.List lists)
+    ∙ ap (λ o. option_or (option_map pick.View o) (find (is_named text) (map pick.List lists))) (sym is ∙ found_is))

@@ -12,18 +12,21 @@ use Rattle.smq_book.specs.present.Steps.{step, step_unless, steps}
 use Rattle.smq_load.specs.declared.row.Row.{Row}
 use Rattle.smq.specs.Play.{after_row, after_rows, edits_from, refusal_of, refused_from, row_edits, told}
 
-refused_by : (T : Type 0) (o : Option Refusal) (e : Refusal) (p new : PresentValue) (edit : Edit) → IsReply {T = T} o (Err e) (new ≡ step_unless o p edit) (new ≡ p)
+refused_by : (T : Type 0) (o : Option Refusal) (e : Refusal) (p new : PresentValue) (edit : Edit)
+    → IsReply {T = T} o (Err e) (new ≡ step_unless o p edit) (new ≡ p)
     → (refusal : Option Refusal) → refusal ≡ Some e → e ≢ Memory → (refusal ≡ o) × (new ≡ step_unless o p edit)
 refused_by T None e p new edit a refusal is other = absurd (other a.0)
 refused_by T (Some r) e p new edit a refusal is other = (is ∙ ap Some a.0, a.1)
 
 -- an edit that answers something else than want of memory answers its refusal
-pub refused_edit : (T : Type 0) {E : Type 0} (e : Refusal) (p new : PresentValue) (edit : Edit) (r : Result (Option Refusal) E) → IsReply {T = T} (reply p edit) (Err e) (new ≡ step p edit) (new ≡ p)
+pub refused_edit : (T : Type 0) {E : Type 0} (e : Refusal) (p new : PresentValue) (edit : Edit) (r : Result (Option Refusal) E)
+    → IsReply {T = T} (reply p edit) (Err e) (new ≡ step p edit) (new ≡ p)
     → IfOk r (λ noted. (noted ≡ Some e) × (e ≢ Memory)) → IfOk r (λ refusal. (refusal ≡ reply p edit) × (new ≡ step p edit))
 refused_edit T e p new edit (Ok noted) a h = refused_by T (reply p edit) e p new edit a noted h.0 h.1
 refused_edit T e p new edit (Err f) a h = tt
 
-made_by : (T : Type 0) (x : T) (o : Option Refusal) (p new : PresentValue) (edit : Edit) → IsReply {T = T} o (Ok x) (new ≡ step_unless o p edit) (new ≡ p)
+made_by : (T : Type 0) (x : T) (o : Option Refusal) (p new : PresentValue) (edit : Edit)
+    → IsReply {T = T} o (Ok x) (new ≡ step_unless o p edit) (new ≡ p)
     → (None ≡ o) × (new ≡ step_unless o p edit)
 made_by T x None p new edit a = (refl, a)
 made_by T x (Some r) p new edit a = absurd a
@@ -40,7 +43,8 @@ present-step p row left rows new all e made h =
     rw made (sym (fold-append step p (row_edits p row) (edits_from (after_row p row) left)))
     ∙ ap (λ (rs : List Row). steps p (edits_from p rs)) (sym e) ∙ h
 
-pub refused-step : (p : PresentValue) (row : Row) (left rows : List Row) (new : PresentValue) (n m : ℕ) (old noted all : List (ℕ × Refusal)) → rows ≡ row ∷ left → new ≡ after_row p row
+pub refused-step : (p : PresentValue) (row : Row) (left rows : List Row) (new : PresentValue) (n m : ℕ)
+    (old noted all : List (ℕ × Refusal)) → rows ≡ row ∷ left → new ≡ after_row p row
     → m ≡ suc n → noted ≡ old ++ told m (refusal_of p row) → old ++ refused_from (suc n) p rows ≡ all → noted ++ refused_from (suc m) new left ≡ all
 refused-step p row left rows new n m old noted all e made next told_is h =
     rw (told_is, made, next) (append_assoc old (told (suc n) (refusal_of p row)) (refused_from (suc (suc n)) (after_row p row) left))
@@ -61,5 +65,6 @@ rows-then p rows more =
     sym (fold-append step p (edits_from p rows) (edits_from (after_rows p rows) more)) ∙ ap (steps p) (sym (edits-append p rows more))
 
 -- what is present after rows, and then after more rows, is what the edits of all of them leave
-pub rows-played : (p q r : PresentValue) (rows more : List Row) → q ≡ after_rows p rows → r ≡ after_rows q more → r ≡ steps p (edits_from p (rows ++ more))
+pub rows-played : (p q r : PresentValue) (rows more : List Row) → q ≡ after_rows p rows → r ≡ after_rows q more
+    → r ≡ steps p (edits_from p (rows ++ more))
 rows-played p q r rows more first then = then ∙ ap (λ present. after_rows present more) first ∙ rows-then p rows more

@@ -32,7 +32,8 @@ octets_by_place (x ∷ o) h = (h 0, octets_by_place o (λ i. h (suc i)))
 
 -- ---- frames
 
-stamped-octets : (s : List Octet) (o : ℕ) (fs : List (List ℕ)) (r : List ℕ) → AreOctets (concat fs ++ r) → AllByRecursion (λ (f : FrameValue). AreOctets f.octets) (stamped s o fs)
+stamped-octets : (s : List Octet) (o : ℕ) (fs : List (List ℕ)) (r : List ℕ) → AreOctets (concat fs ++ r)
+    → AllByRecursion (λ (f : FrameValue). AreOctets f.octets) (stamped s o fs)
 unfolding stamped
 stamped-octets s o [] r h = tt
 stamped-octets s o (f ∷ fs) r h =

@@ -23,7 +23,8 @@ rest_ends o = let s = split_stands o in s.ends
 pub rest_short : (o : List ℕ) → length (rest_of o) ≤ length o
 rest_short o = omega (arith, rest_of-short o)
 
-pub frames_after-whole : (t : TailValue) (m : ℕ) (p : List ℕ) → t.broken ≡ None → frames_after t m p ≡ placed m (t.offset - length t.rest) (frames_of (t.rest ++ p))
+pub frames_after-whole : (t : TailValue) (m : ℕ) (p : List ℕ) → t.broken ≡ None
+    → frames_after t m p ≡ placed m (t.offset - length t.rest) (frames_of (t.rest ++ p))
 unfolding frames_after
 frames_after-whole t m p e = rw e refl
 
@@ -31,11 +32,13 @@ pub frames_after-broken : (t : TailValue) (m : ℕ) (p : List ℕ) → is_some t
 unfolding frames_after
 frames_after-broken t m p e = rw e refl
 
-pub tail_after-whole : (t : TailValue) (p : List ℕ) → t.broken ≡ None → tail_after t p ≡ tail_with (t.offset - length t.rest + length (t.rest ++ p)) (rest_of (t.rest ++ p))
+pub tail_after-whole : (t : TailValue) (p : List ℕ) → t.broken ≡ None
+    → tail_after t p ≡ tail_with (t.offset - length t.rest + length (t.rest ++ p)) (rest_of (t.rest ++ p))
 unfolding tail_after tail_from
 tail_after-whole t p e = rw e refl
 
-pub tail_after-broken : (t : TailValue) (p : List ℕ) → is_some t.broken ≡ true → tail_after t p ≡ (record { offset = t.offset + length p; rest = []; broken = t.broken })
+pub tail_after-broken : (t : TailValue) (p : List ℕ) → is_some t.broken ≡ true
+    → tail_after t p ≡ (record { offset = t.offset + length p; rest = []; broken = t.broken })
 unfolding tail_after
 tail_after-broken t p e = rw e refl
 
@@ -46,7 +49,8 @@ split_octets m at o = rw (octets-placed m at (frames_of o)) (split_stands o)
 pub moments-placed : (m at : ℕ) (fs : List (List ℕ)) → All (λ (f : FrameValue). f.moment ≡ m) (placed m at fs)
 unfolding placed
 moments-placed m at [] = All-nil (λ (f : FrameValue). f.moment ≡ m)
-moments-placed m at (f ∷ fs) = All-cons (λ (g : FrameValue). g.moment ≡ m) (record { offset = at; moment = m; octets = f }) (placed m (at + length f) fs) refl (moments-placed m (at + length f) fs)
+moments-placed m at (f ∷ fs) = All-cons (λ (g : FrameValue). g.moment ≡ m) (record { offset = at; moment = m; octets = f })
+    (placed m (at + length f) fs) refl (moments-placed m (at + length f) fs)
 
 -- ---- the relation tells the tail
 
@@ -68,4 +72,13 @@ tail_follows o fs r s =
       breaks = λ b. is ∙ tail_with-bad (length o) r (is_bad_from r b);
     }
 
-pub ruleset frames_facts = (rest_ends, rest_short, frames_after-whole, frames_after-broken, tail_after-whole, tail_after-broken, split_octets, length-append)
+pub ruleset frames_facts = (
+  rest_ends,
+  rest_short,
+  frames_after-whole,
+  frames_after-broken,
+  tail_after-whole,
+  tail_after-broken,
+  split_octets,
+  length-append,
+)

@@ -35,14 +35,19 @@ module _ {A K : Type 0} {R : K → K → Ordering} (o : IsTotalOrder R) (exact :
   find_at : (n : K → ℕ) (ks : List K) (q : K) → find R q (map (λ k. (k, n k)) ks) ≡ cond (list_any (eq_by_cmp R q) ks) (Some (n q)) None
   find_at n [] q = refl
   find_at n (k ∷ ks) q =
-      elim (eq_by_cmp R q k) as (λ b. eq_by_cmp R q k ≡ b → cond b (Some (n k)) (find R q (map (λ k. (k, n k)) ks)) ≡ cond (b || list_any (eq_by_cmp R q) ks) (Some (n q)) None) [
+      elim (eq_by_cmp R q k) as (λ b. eq_by_cmp R q k ≡ b → cond b (Some (n k)) (find R q (map (λ k. (k, n k)) ks))
+      ≡ cond (b || list_any (eq_by_cmp R q) ks) (Some (n q)) None) [
         | true ↦ λ e. ap (λ (x : K). Some (n x)) (sym (exact q k (is_equal (R q k) e)))
         | false ↦ λ e. find_at n ks q
       ] refl
 
   any-append : (p : K → Bool) (xs ys : List K) → list_any p (xs ++ ys) ≡ (list_any p xs || list_any p ys)
   any-append p [] ys = refl
-  any-append p (x ∷ xs) ys = elim (p x) as (λ b. (b || list_any p (xs ++ ys)) ≡ ((b || list_any p xs) || list_any p ys)) [ true ↦ refl | false ↦ any-append p xs ys ]
+  any-append p (x ∷ xs) ys = elim (p x) as (λ b. (b || list_any p (xs ++ ys)) ≡ ((b || list_any p xs) || list_any p ys)) [
+    | true ↦
+        refl
+    | false ↦ any-append p xs ys
+  ]
 
   pub number-cons : (k : K) (x : A) (xs : List A) → number k (x ∷ xs) ≡ cond (stands k x) 1 0 + number k xs
   number-cons k x xs = sum_by-cons (λ y. cond (stands k y) 1 0) x xs

@@ -21,4 +21,8 @@ pub link_keys_exact : IsAntisymmetric link_key_cmp
 link_keys_exact a b e =
     let links : Ordering = nat_cmp a.link.0 b.link.0 in
     let keys : Ordering = key_cmp a.key b.key in
-    λ i. record { link = record { 0 = nat_cmp-IsAntisymmetric a.link.0 b.link.0 (then_first links keys e) i }; key = keys_exact a.key b.key (then_second links keys e) i }
+    λ i. record {
+      link = record { 0 = nat_cmp-IsAntisymmetric a.link.0 b.link.0 (then_first links keys e) i };
+      key =
+          keys_exact a.key b.key (then_second links keys e) i;
+    }

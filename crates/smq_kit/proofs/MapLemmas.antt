@@ -31,14 +31,20 @@ module _ {K : Type 0} {R : K → K → Ordering} (o : IsTotalOrder R) (exact : I
   -- a test passes somewhere in two lists where it does in one of them
   any-append : (p : K → Bool) (xs ys : List K) → list_any p (xs ++ ys) ≡ (list_any p xs || list_any p ys)
   any-append p [] ys = refl
-  any-append p (x ∷ xs) ys = elim (p x) as (λ b. (b || list_any p (xs ++ ys)) ≡ ((b || list_any p xs) || list_any p ys)) [ true ↦ refl | false ↦ any-append p xs ys ]
+  any-append p (x ∷ xs) ys = elim (p x) as (λ b. (b || list_any p (xs ++ ys)) ≡ ((b || list_any p xs) || list_any p ys)) [
+    | true ↦
+        refl
+    | false ↦ any-append p xs ys
+  ]
 
   -- a key that passes a test is in a list where it is among those of the list that pass
   any-filter : (q : K) (p : K → Bool) (ks : List K) → p q ≡ true → list_any (eq_by_cmp R q) (filter p ks) ≡ list_any (eq_by_cmp R q) ks
   any-filter q p [] h = refl
   any-filter q p (k ∷ ks) h =
-      elim (eq_by_cmp R q k) as (λ b. eq_by_cmp R q k ≡ b → list_any (eq_by_cmp R q) (cond (p k) (k ∷ filter p ks) (filter p ks)) ≡ (b || list_any (eq_by_cmp R q) ks)) [
-        | true ↦ λ t. ap (λ b. list_any (eq_by_cmp R q) (cond b (k ∷ filter p ks) (filter p ks))) (ap p (sym (same_key q k t)) ∙ h) ∙ ap (λ b. b || list_any (eq_by_cmp R q) (filter p ks)) t
+      elim (eq_by_cmp R q k) as (λ b. eq_by_cmp R q k ≡ b → list_any (eq_by_cmp R q) (cond (p k) (k ∷ filter p ks) (filter p ks))
+      ≡ (b || list_any (eq_by_cmp R q) ks)) [
+        | true ↦ λ t. ap (λ b. list_any (eq_by_cmp R q) (cond b (k ∷ filter p ks) (filter p ks))) (ap p (sym (same_key q k t)) ∙ h)
+            ∙ ap (λ b. b || list_any (eq_by_cmp R q) (filter p ks)) t
         | false ↦ λ t. elim (p k) as (λ b. list_any (eq_by_cmp R q) (cond b (k ∷ filter p ks) (filter p ks)) ≡ list_any (eq_by_cmp R q) ks) [
           | true ↦ ap (λ b. b || list_any (eq_by_cmp R q) (filter p ks)) t ∙ any-filter q p ks h
           | false ↦ any-filter q p ks h
@@ -74,7 +80,8 @@ module _ {K : Type 0} {R : K → K → Ordering} (o : IsTotalOrder R) (exact : I
     -- a map that is made of entries in order has these entries
     pub entries-from_entries : (es : List (K × X)) → T (is_sorted R es) → entries (from_entries {R = R} es) ≡ es
     entries-from_entries es h =
-        ap entries (same_map o exact (from_entries es) (from_sorted es) (λ q. get-from_entries o es q ∙ sym (get-from_sorted R es q h))) ∙ entries-from_sorted R es h
+        ap entries (same_map o exact (from_entries es) (from_sorted es) (λ q. get-from_entries o es q
+        ∙ sym (get-from_sorted R es q h))) ∙ entries-from_sorted R es h
 
     -- ---- a map that is changed at keys
 
@@ -96,7 +103,8 @@ module _ {K : Type 0} {R : K → K → Ordering} (o : IsTotalOrder R) (exact : I
     shadowed false false x y = refl
 
     -- what a map has after some keys are set: there what g gives, elsewhere what it had
-    pub get-patched : (m : FinMap R X) (g : K → Option X) (ks : List K) (q : K) → get (patched m g ks) q ≡ cond (list_any (eq_by_cmp R q) ks) (g q) (get m q)
+    pub get-patched : (m : FinMap R X) (g : K → Option X) (ks : List K) (q : K)
+        → get (patched m g ks) q ≡ cond (list_any (eq_by_cmp R q) ks) (g q) (get m q)
     get-patched m g [] q = refl
     get-patched m g (k ∷ ks) q =
         get-patched (set_at m k (g k)) g ks q
@@ -119,11 +127,13 @@ module _ {K : Type 0} {R : K → K → Ordering} (o : IsTotalOrder R) (exact : I
     entries-there [] h = tt
     entries-there (e ∷ es) h = (find-first e es, later e es es h (entries-there es (sorted-behind e es h)))
       where
-        later : (e : K × X) (es fs : List (K × X)) → T (is_sorted R (e ∷ es)) → AllByRecursion (λ x. find R x.0 es ≡ Some x.1) fs → AllByRecursion (λ x. find R x.0 (e ∷ es) ≡ Some x.1) fs
+        later : (e : K × X) (es fs : List (K × X)) → T (is_sorted R (e ∷ es)) → AllByRecursion (λ x. find R x.0 es ≡ Some x.1) fs
+            → AllByRecursion (λ x. find R x.0 (e ∷ es) ≡ Some x.1) fs
         later e es [] h a = tt
         later e es (f ∷ fs) h a = (find-later f.0 f.1 e es h a.0, later e es fs h a.1)
 
-    all-there : (m : FinMap R X) (es : List (K × X)) → AllByRecursion (λ e. find R e.0 (entries m) ≡ Some e.1) es → AllByRecursion (λ e. get m e.0 ≡ Some e.1) es
+    all-there : (m : FinMap R X) (es : List (K × X)) → AllByRecursion (λ e. find R e.0 (entries m) ≡ Some e.1) es
+        → AllByRecursion (λ e. get m e.0 ≡ Some e.1) es
     all-there m [] a = tt
     all-there m (e ∷ es) a = (get-entries m e.0 ∙ a.0, all-there m es a.1)
 
@@ -144,12 +154,16 @@ module _ {K : Type 0} {R : K → K → Ordering} (o : IsTotalOrder R) (exact : I
       same_options (Some x) None e = absurd (false≢true e)
       same_options (Some x) (Some y) e = ap Some (decides x y e)
 
-      differ_by : (m n : FinMap R X) (q : K) (b : Bool) → same_option same (get m q) (get n q) ≡ b → list_any (eq_by_cmp R q) (differing same m n) ≡ false → get m q ≡ get n q
+      differ_by : (m n : FinMap R X) (q : K) (b : Bool) → same_option same (get m q) (get n q) ≡ b
+          → list_any (eq_by_cmp R q) (differing same m n) ≡ false → get m q ≡ get n q
       differ_by m n q true e h = same_options (get m q) (get n q) e
       differ_by m n q false e h =
-          let among : list_any (eq_by_cmp R q) (keys m ++ keys n) ≡ false = sym (any-filter q (λ k. not (same_option same (get m k) (get n k))) (keys m ++ keys n) (ap not e)) ∙ h in
-          let parts : (list_any (eq_by_cmp R q) (keys m) || list_any (eq_by_cmp R q) (keys n)) ≡ false = sym (any-append (eq_by_cmp R q) (keys m) (keys n)) ∙ among in
-          none_unless (get m q) (contains_key-keys m q ∙ or_first _ _ parts) ∙ sym (none_unless (get n q) (contains_key-keys n q ∙ or_second (list_any (eq_by_cmp R q) (keys m)) _ parts))
+          let among : list_any (eq_by_cmp R q) (keys m ++ keys n) ≡ false =
+          sym (any-filter q (λ k. not (same_option same (get m k) (get n k))) (keys m ++ keys n) (ap not e)) ∙ h in
+          let parts : (list_any (eq_by_cmp R q) (keys m) || list_any (eq_by_cmp R q) (keys n)) ≡ false =
+          sym (any-append (eq_by_cmp R q) (keys m) (keys n)) ∙ among in
+          none_unless (get m q) (contains_key-keys m q ∙ or_first _ _ parts)
+          ∙ sym (none_unless (get n q) (contains_key-keys n q ∙ or_second (list_any (eq_by_cmp R q) (keys m)) _ parts))
 
       -- two maps have the same outside the keys at which a test tells them apart, where values that it calls the same
       -- are one
@@ -171,7 +185,9 @@ module _ {K : Type 0} {R : K → K → Ordering} (o : IsTotalOrder R) (exact : I
         → count_by test (map (λ e. e.1) (put R k v es)) ≡ cond (test v) 1 0 + count_by test (map (λ e. e.1) es)
     number-put test k v [] h = sum_by-cons (λ x. cond (test x) 1 0) v []
     number-put test k v (e ∷ es) h =
-        elim (R k e.0) as (λ r. R k e.0 ≡ r → count_by test (map (λ e. e.1) (by_order r ((k, v) ∷ e ∷ es) ((e.0, v) ∷ es) (e ∷ put R k v es))) ≡ cond (test v) 1 0 + count_by test (e.1 ∷ map (λ e. e.1) es)) [
+        elim (R k e.0) as (λ r. R k e.0 ≡ r → count_by test
+        (map (λ e. e.1) (by_order r ((k, v) ∷ e ∷ es) ((e.0, v) ∷ es) (e ∷ put R k v es)))
+        ≡ cond (test v) 1 0 + count_by test (e.1 ∷ map (λ e. e.1) es)) [
           | Less ↦ λ r. sum_by-cons (λ x. cond (test x) 1 0) v (e.1 ∷ map (λ e. e.1) es)
           | Equal ↦ λ r. not_none (eq_by_cmp R k e.0) e.1 (find R k es) (ap is_eq r) h
           | Greater ↦ λ r.
@@ -182,7 +198,8 @@ module _ {K : Type 0} {R : K → K → Ordering} (o : IsTotalOrder R) (exact : I
         ] refl
 
     -- setting a key that was absent adds its value's share
-    number-set-absent : (test : X → Bool) (m : FinMap R X) (k : K) (v : Option X) → get m k ≡ None → number_of test (set_at m k v) ≡ share test v + number_of test m
+    number-set-absent : (test : X → Bool) (m : FinMap R X) (k : K) (v : Option X) → get m k ≡ None → number_of test (set_at m k v)
+        ≡ share test v + number_of test m
     number-set-absent test m k None h =
         ap (number_of test) (same_map o exact (remove m k) m (λ q. get-remove o m k q ∙ absent q (eq_by_cmp R q k) refl)) ∙ omega arith
       where
@@ -202,7 +219,8 @@ module _ {K : Type 0} {R : K → K → Ordering} (o : IsTotalOrder R) (exact : I
     -- taking a key out before it is set changes nothing
     set_removed : (m : FinMap R X) (k : K) (v : Option X) → set_at (remove m k) k v ≡ set_at m k v
     set_removed m k v = same_map o exact _ _ (λ q.
-        get-set_at (remove m k) k v q ∙ ap (cond (eq_by_cmp R q k) v) (get-remove o m k q) ∙ hidden (eq_by_cmp R q k) (get m q) ∙ sym (get-set_at m k v q))
+        get-set_at (remove m k) k v q ∙ ap (cond (eq_by_cmp R q k) v) (get-remove o m k q) ∙ hidden (eq_by_cmp R q k) (get m q)
+        ∙ sym (get-set_at m k v q))
       where
         hidden : (b : Bool) (x : Option X) → cond b v (cond b None x) ≡ cond b v x
         hidden true x = refl
@@ -217,7 +235,8 @@ module _ {K : Type 0} {R : K → K → Ordering} (o : IsTotalOrder R) (exact : I
         there q false e = refl
 
     -- the number after with the old value's share is the number before with the new value's
-    pub count-set : (test : X → Bool) (m : FinMap R X) (k : K) (v : Option X) → number_of test (set_at m k v) + share test (get m k) ≡ number_of test m + share test v
+    pub count-set : (test : X → Bool) (m : FinMap R X) (k : K) (v : Option X) → number_of test (set_at m k v) + share test (get m k)
+        ≡ number_of test m + share test v
     count-set test m k v =
         let none = get-removed m k in
         let after : number_of test (set_at m k v) ≡ share test v + number_of test (remove m k) =
@@ -235,7 +254,8 @@ module _ {K : Type 0} {R : K → K → Ordering} (o : IsTotalOrder R) (exact : I
     chosen-below q (e ∷ es) h =
         elim (f e.0 e.1) as (λ y. find R q (map (λ z. (e.0, z)) (option_to_list y) ++ flat_map (kept_of f) es) ≡ None) [
           | None ↦ chosen-below q es (second_test _ _ h)
-          | Some z ↦ ap (λ r. cond (is_eq r) (Some z) (find R q (flat_map (kept_of f) es))) (is_less (R q e.0) (first_test _ _ h)) ∙ chosen-below q es (second_test _ _ h)
+          | Some z ↦ ap (λ r. cond (is_eq r) (Some z) (find R q (flat_map (kept_of f) es))) (is_less (R q e.0) (first_test _ _ h))
+              ∙ chosen-below q es (second_test _ _ h)
         ]
 
     below_same : (q k : K) (es : List (K × X)) → q ≡ k → T (below_all R k es) → T (below_all R q es)
@@ -246,7 +266,9 @@ module _ {K : Type 0} {R : K → K → Ordering} (o : IsTotalOrder R) (exact : I
     find-chosen q [] h = refl
     find-chosen q (e ∷ es) h =
         let ih = find-chosen q es (second_test _ _ h) in
-        elim (eq_by_cmp R q e.0) as (λ b. eq_by_cmp R q e.0 ≡ b → find R q (map (λ z. (e.0, z)) (option_to_list (f e.0 e.1)) ++ flat_map (kept_of f) es) ≡ option_and_then (f q) (cond b (Some e.1) (find R q es))) [
+        elim (eq_by_cmp R q e.0) as (λ b. eq_by_cmp R q e.0 ≡ b
+        → find R q (map (λ z. (e.0, z)) (option_to_list (f e.0 e.1)) ++ flat_map (kept_of f) es)
+        ≡ option_and_then (f q) (cond b (Some e.1) (find R q es))) [
           | true ↦ λ t.
               let same = same_key q e.0 t in
               let none = chosen-below q es (below_same q e.0 es same (first_test _ _ h)) in
@@ -254,17 +276,19 @@ module _ {K : Type 0} {R : K → K → Ordering} (o : IsTotalOrder R) (exact : I
                 | None ↦ none
                 | Some z ↦ ap (λ b. cond b (Some z) (find R q (flat_map (kept_of f) es))) t
               ] ∙ ap (λ k. f k e.1) (sym same)
-          | false ↦ λ t. elim (f e.0 e.1) as (λ y. find R q (map (λ z. (e.0, z)) (option_to_list y) ++ flat_map (kept_of f) es) ≡ option_and_then (f q) (find R q es)) [
-            | None ↦ ih
-            | Some z ↦ ap (λ b. cond b (Some z) (find R q (flat_map (kept_of f) es))) t ∙ ih
-          ]
+          | false ↦ λ t. elim (f e.0 e.1) as (λ y. find R q (map (λ z. (e.0, z)) (option_to_list y) ++ flat_map (kept_of f) es)
+              ≡ option_and_then (f q) (find R q es)) [
+                | None ↦ ih
+                | Some z ↦ ap (λ b. cond b (Some z) (find R q (flat_map (kept_of f) es))) t ∙ ih
+              ]
         ] refl
 
     -- what the map of what f makes has at a key is what f makes of what the map has there
     pub get-chosen : (m : FinMap R X) (q : K) → get (chosen f m) q ≡ option_and_then (f q) (get m q)
     unfolding chosen
     get-chosen m q =
-        get-from_entries o (flat_map (kept_of f) (entries m)) q ∙ find-chosen q (entries m) (entries_sorted m) ∙ ap (option_and_then (f q)) (sym (get-entries m q))
+        get-from_entries o (flat_map (kept_of f) (entries m)) q ∙ find-chosen q (entries m) (entries_sorted m)
+        ∙ ap (option_and_then (f q)) (sym (get-entries m q))
 
     -- ---- what is made of entries in order stands in order
 
@@ -291,7 +315,8 @@ module _ {K : Type 0} {R : K → K → Ordering} (o : IsTotalOrder R) (exact : I
 
   -- where f and g make the same of each entry of a map, the maps of what they make are one
   module _ {X Y : Type 0} where
-    kept_alike : (f g : K → X → Option Y) (q : K) (x : Option X) → ((v : X) → x ≡ Some v → f q v ≡ g q v) → option_and_then (f q) x ≡ option_and_then (g q) x
+    kept_alike : (f g : K → X → Option Y) (q : K) (x : Option X) → ((v : X) → x ≡ Some v → f q v ≡ g q v)
+        → option_and_then (f q) x ≡ option_and_then (g q) x
     kept_alike f g q None h = refl
     kept_alike f g q (Some v) h = h v refl
 
@@ -308,7 +333,8 @@ module _ {K : Type 0} {R : K → K → Ordering} (o : IsTotalOrder R) (exact : I
         ∙ ap (cond (eq_by_cmp R q k) (option_and_then (f k) v)) (sym (get-chosen f m q))
         ∙ sym (get-set_at (chosen f m) k (option_and_then (f k) v) q))
       where
-        by_key : (q : K) (b : Bool) → eq_by_cmp R q k ≡ b → option_and_then (f q) (cond b v (get m q)) ≡ cond b (option_and_then (f k) v) (option_and_then (f q) (get m q))
+        by_key : (q : K) (b : Bool) → eq_by_cmp R q k ≡ b → option_and_then (f q) (cond b v (get m q))
+            ≡ cond b (option_and_then (f k) v) (option_and_then (f q) (get m q))
         by_key q true e = ap (λ (x : K). option_and_then (f x) v) (same_key q k e)
         by_key q false e = refl
 
@@ -320,8 +346,10 @@ module _ {K : Type 0} {R : K → K → Ordering} (o : IsTotalOrder R) (exact : I
         elim (R k x.0) as (λ r. R k x.0 ≡ r → filter p (by_order r ((k, v) ∷ x ∷ es) ((x.0, v) ∷ es) (x ∷ put R k v es)) ≡ filter p (x ∷ es)) [
           | Less ↦ λ r. ap (λ b. cond b ((k, v) ∷ filter p (x ∷ es)) (filter p (x ∷ es))) e
           | Equal ↦ λ r. not_none (eq_by_cmp R k x.0) x.1 (find R k es) (ap is_eq r) h
-          | Greater ↦ λ r. ap (λ (rest : List (K × X)). cond (p x) (x ∷ rest) rest) (filter-put k v es (rest_none (eq_by_cmp R k x.0) x.1 (find R k es) h) e)
+          | Greater ↦ λ r. ap (λ (rest : List (K × X)). cond (p x) (x ∷ rest) rest)
+              (filter-put k v es (rest_none (eq_by_cmp R k x.0) x.1 (find R k es) h) e)
         ] refl
 
-    pub filter-insert : (m : FinMap R X) (k : K) (v : X) → get m k ≡ None → p (k, v) ≡ false → filter p (entries (insert m k v)) ≡ filter p (entries m)
+    pub filter-insert : (m : FinMap R X) (k : K) (v : X) → get m k ≡ None → p (k, v) ≡ false → filter p (entries (insert m k v))
+        ≡ filter p (entries m)
     filter-insert m k v h e = ap (filter p) (entries-insert o m k v) ∙ filter-put k v (entries m) (sym (get-entries m k) ∙ h) e

@@ -34,7 +34,8 @@ module _ {K : Type 0} {R kept : K → K → Ordering} (o : IsTotalOrder R) (exac
     get-kept es q = get-from_entries o es q ∙ find-lookup es q ∙ (λ i. lookup (is_at (sym same i q)) es)
 
     -- where entries are as before but for one, which was put in, so are the finite maps
-    pub put-kept : (es fs : List (K × X)) (k : K) (v : X) → ((q : K) → lookup (is_at (kept q)) fs ≡ cond (is_at (kept k) q) (Some v) (lookup (is_at (kept q)) es))
+    pub put-kept : (es fs : List (K × X)) (k : K) (v : X)
+        → ((q : K) → lookup (is_at (kept q)) fs ≡ cond (is_at (kept k) q) (Some v) (lookup (is_at (kept q)) es))
         → from_entries {R = R} fs ≡ insert (from_entries es) k v
     put-kept es fs k v h = same_map o exact _ _ (λ q.
         get-kept fs q ∙ h q ∙ (λ i. cond (tied k q i) (Some v) (sym (get-kept es q) i)) ∙ sym (get-insert o (from_entries es) k v q))
@@ -49,10 +50,12 @@ module _ {K : Type 0} {R kept : K → K → Ordering} (o : IsTotalOrder R) (exac
 
     -- ---- entries in order
 
-    sorted-more : (e : K × X) (es : List (K × X)) → AllByRecursion (λ y. R e.0 y ≡ Less) (keys_of es) → IsStrictlySortedBy R (keys_of es) → is_sorted R (e ∷ es) ≡ true
+    sorted-more : (e : K × X) (es : List (K × X)) → AllByRecursion (λ y. R e.0 y ≡ Less) (keys_of es)
+        → IsStrictlySortedBy R (keys_of es) → is_sorted R (e ∷ es) ≡ true
     sorted-more e [] a s = refl
     sorted-more e (f ∷ es) a s =
-        join_tests _ _ _ _ (ap is_lt a.0) (sorted-more e es a.1 (sorted_tail R f.0 (keys_of es) s)) (sorted-more f es (sorted_head R f.0 (keys_of es) s) (sorted_tail R f.0 (keys_of es) s))
+        join_tests _ _ _ _ (ap is_lt a.0) (sorted-more e es a.1 (sorted_tail R f.0 (keys_of es) s))
+        (sorted-more f es (sorted_head R f.0 (keys_of es) s) (sorted_tail R f.0 (keys_of es) s))
 
     sorted-test : (es : List (K × X)) → IsStrictlySortedBy R (keys_of es) → T (is_sorted R es)
     sorted-test [] s = tt
@@ -62,4 +65,5 @@ module _ {K : Type 0} {R kept : K → K → Ordering} (o : IsTotalOrder R) (exac
     pub entries-kept : (es : List (K × X)) → IsStrictlySortedBy kept (keys_of es) → entries (from_entries {R = R} es) ≡ es
     entries-kept es s =
         let h : T (is_sorted R es) = sorted-test es (subst (λ (S : K → K → Ordering). IsStrictlySortedBy S (keys_of es)) same s) in
-        ap entries (same_map o exact (from_entries es) (from_sorted es) (λ q. get-from_entries o es q ∙ sym (get-from_sorted R es q h))) ∙ entries-from_sorted R es h
+        ap entries (same_map o exact (from_entries es) (from_sorted es) (λ q. get-from_entries o es q
+        ∙ sym (get-from_sorted R es q h))) ∙ entries-from_sorted R es h

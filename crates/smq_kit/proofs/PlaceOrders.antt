@@ -26,7 +26,8 @@ dirs_total : IsTotalOrder dir_cmp
 dirs_total = subst IsTotalOrder (sym (λ i a b. dirs_by_number a b i)) (on_total dir_number nat_cmp_total)
 
 pub places_total : IsTotalOrder place_cmp
-places_total = then_total (on_total (λ p. p.session.0) nat_cmp_total) (then_total (on_total (λ p. p.dir) dirs_total) (on_total (λ p. p.offset) nat_cmp_total))
+places_total = then_total (on_total (λ p. p.session.0) nat_cmp_total)
+    (then_total (on_total (λ p. p.dir) dirs_total) (on_total (λ p. p.offset) nat_cmp_total))
 
 same_dir : (a b : Dir) → dir_cmp a b ≡ Equal → a ≡ b
 same_dir FromClient FromClient e = refl

@@ -45,7 +45,8 @@ are_distinct-again : (xs : List ℕ) (x : ℕ) (ys : List ℕ) → list_any (nat
 are_distinct-again [] x ys h = cc
 are_distinct-again (y ∷ rest) x ys h = by_head (nat_eq x y) refl h (are_distinct-again rest x ys)
   where
-    by_head : (b : Bool) → nat_eq x y ≡ b → (b || list_any (nat_eq x) rest) ≡ true → (list_any (nat_eq x) rest ≡ true → are_distinct (rest ++ x ∷ ys) ≡ false)
+    by_head : (b : Bool) → nat_eq x y ≡ b → (b || list_any (nat_eq x) rest) ≡ true
+        → (list_any (nat_eq x) rest ≡ true → are_distinct (rest ++ x ∷ ys) ≡ false)
         → (not (list_any (nat_eq y) (rest ++ x ∷ ys)) && are_distinct (rest ++ x ∷ ys)) ≡ false
     by_head true e h more =
         let same : y ≡ x = grind (arith, nat_tests) in
@@ -59,14 +60,16 @@ are_distinct-again (y ∷ rest) x ys h = by_head (nat_eq x y) refl h (are_distin
 -- ---- links one by one, and the set of their numbers
 
 -- the number of one more link
-numbers_of-more : (links : List LinkForms) (i : ℕ) (d : LinkForms) → i < length links → numbers_of (take (i + 1) links) ≡ numbers_of (take i links) ++ (get_or links i d).link.0 ∷ []
+numbers_of-more : (links : List LinkForms) (i : ℕ) (d : LinkForms) → i < length links → numbers_of (take (i + 1) links)
+    ≡ numbers_of (take i links) ++ (get_or links i d).link.0 ∷ []
 numbers_of-more links i d h = rw (take_more links i d h) (map-append (λ (forms : LinkForms). forms.link.0) (take i links) (get_or links i d ∷ []))
 
 -- the numbers round a link
 numbers_of-around : (links : List LinkForms) (i : ℕ) (d : LinkForms) → i < length links
     → numbers_of links ≡ numbers_of (take i links) ++ (get_or links i d).link.0 ∷ numbers_of (drop (i + 1) links)
 numbers_of-around links i d h =
-    let parts : links ≡ take i links ++ get_or links i d ∷ drop (i + 1) links = sym (take-append-drop i links) ∙ ap (λ (rest : List LinkForms). take i links ++ rest) (drop_more links i d h) in
+    let parts : links ≡ take i links ++ get_or links i d ∷ drop (i + 1) links = sym (take-append-drop i links)
+    ∙ ap (λ (rest : List LinkForms). take i links ++ rest) (drop_more links i d h) in
     ap numbers_of parts ∙ map-append (λ (forms : LinkForms). forms.link.0) (take i links) (get_or links i d ∷ drop (i + 1) links)
 
 -- a number that is in the set stands twice
@@ -74,8 +77,10 @@ pub again_at : (links : List LinkForms) (i : ℕ) (d : LinkForms) (numbers : BTr
     → ((q : ℕ) → contains nat_cmp numbers q ≡ list_any (nat_eq q) (numbers_of (take i links)))
     → added ≡ not (contains nat_cmp numbers (get_or links i d).link.0) → added ≡ false → false ≡ are_distinct (numbers_of links)
 again_at links i d numbers added h members e old =
-    let known : list_any (nat_eq (get_or links i d).link.0) (numbers_of (take i links)) ≡ true = grind (arith, e, old, members (get_or links i d).link.0) in
-    rw (numbers_of-around links i d h) (sym (are_distinct-again (numbers_of (take i links)) (get_or links i d).link.0 (numbers_of (drop (i + 1) links)) known))
+    let known : list_any (nat_eq (get_or links i d).link.0) (numbers_of (take i links)) ≡ true =
+    grind (arith, e, old, members (get_or links i d).link.0) in
+    rw (numbers_of-around links i d h) (sym (are_distinct-again (numbers_of (take i links)) (get_or links i d).link.0
+    (numbers_of (drop (i + 1) links)) known))
 
 -- a number that is not in the set leaves those so far distinct
 pub distinct_more : (links : List LinkForms) (i : ℕ) (d : LinkForms) (numbers : BTreeSet ℕ) (added : Bool) → i < length links
@@ -83,7 +88,8 @@ pub distinct_more : (links : List LinkForms) (i : ℕ) (d : LinkForms) (numbers 
     → ((q : ℕ) → contains nat_cmp numbers q ≡ list_any (nat_eq q) (numbers_of (take i links)))
     → added ≡ not (contains nat_cmp numbers (get_or links i d).link.0) → added ≡ true → are_distinct (numbers_of (take (i + 1) links)) ≡ true
 distinct_more links i d numbers added h distinct members e fresh =
-    let new : list_any (nat_eq (get_or links i d).link.0) (numbers_of (take i links)) ≡ false = grind (arith, e, fresh, members (get_or links i d).link.0) in
+    let new : list_any (nat_eq (get_or links i d).link.0) (numbers_of (take i links)) ≡ false =
+    grind (arith, e, fresh, members (get_or links i d).link.0) in
     rw (numbers_of-more links i d h) (are_distinct-push (numbers_of (take i links)) (get_or links i d).link.0 distinct new)
 
 -- the set has the numbers so far

@@ -25,7 +25,8 @@ digits_of-is least most field h =
 digits_of-none : (least most : ℕ) (field : List ℕ) → (HasDigits least most field → ⊥) → digits_of least most field ≡ None
 digits_of-none least most field h = go (nat_le least (length field) && nat_le (length field) most && list_all is_ascii_digit field) refl
   where
-    go : (b : Bool) → b ≡ (nat_le least (length field) && nat_le (length field) most && list_all is_ascii_digit field) → cond b (Some field) None ≡ None
+    go : (b : Bool) → b ≡ (nat_le least (length field) && nat_le (length field) most && list_all is_ascii_digit field)
+        → cond b (Some field) None ≡ None
     go true e =
         let low : least ≤ length field = grind (arith, nat_tests, e) in
         let high : length field ≤ most = grind (arith, nat_tests, e) in
@@ -34,9 +35,11 @@ digits_of-none least most field h = go (nat_le least (length field) && nat_le (l
     go false e = refl
 
 -- what a parser of digits takes
-pub digits_of-parsed : {P E : Type 0} (least most : ℕ) (field : List ℕ) (r : Result (List ℕ) E) → (P → HasDigits least most field) → (HasDigits least most field → P)
+pub digits_of-parsed : {P E : Type 0} (least most : ℕ) (field : List ℕ) (r : Result (List ℕ) E) → (P → HasDigits least most field)
+    → (HasDigits least most field → P)
     → (IsOk r ↔ P) → IfOk r (λ digits. digits ≡ field) → result_ok r ≡ digits_of least most field
-digits_of-parsed least most field (Ok digits) to from h value = ap (λ (d : List ℕ). Some d) value ∙ sym (digits_of-is least most field (to (h.0 refl)))
+digits_of-parsed least most field (Ok digits) to from h value = ap (λ (d : List ℕ). Some d) value
+    ∙ sym (digits_of-is least most field (to (h.0 refl)))
 digits_of-parsed least most field (Err e) to from h value =
     let none : HasDigits least most field → ⊥ = λ is. let ok = h.1 (from is) in cc in
     sym (digits_of-none least most field none)

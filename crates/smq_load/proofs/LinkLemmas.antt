@@ -9,6 +9,7 @@ after done None = None
 after done (Some links) = Some (done ++ links)
 
 -- one more link
-pub after-more : (done : List LinkForms) (link : LinkForms) (rest : Option (List LinkForms)) → after (done ++ link ∷ []) rest ≡ after done (link_before (Some link) rest)
+pub after-more : (done : List LinkForms) (link : LinkForms) (rest : Option (List LinkForms)) → after (done ++ link ∷ []) rest
+    ≡ after done (link_before (Some link) rest)
 after-more done link None = refl
 after-more done link (Some links) = rw append_assoc refl

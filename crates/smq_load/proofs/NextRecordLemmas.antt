@@ -17,7 +17,8 @@ pub length-SayRows : (records : List (List (List ℕ))) (rows : List Row) → Sa
 length-SayRows records rows h = sym (simp length-map at (ap length h))
 
 -- the row of one more record
-pub SayRows-append : (records : List (List (List ℕ))) (old new : List Row) (fields : List (List ℕ)) → SayRows records old → AddsRow old new fields → SayRows (records ++ fields ∷ []) new
+pub SayRows-append : (records : List (List (List ℕ))) (old new : List Row) (fields : List (List ℕ)) → SayRows records old
+    → AddsRow old new fields → SayRows (records ++ fields ∷ []) new
 SayRows-append records old new fields h adds =
     let same : row_of fields ≡ Some adds.0 = adds.1 in
     let some : Row → Option Row = λ row. Some row in
@@ -32,15 +33,18 @@ rest_of_given remaining reader text records h =
     (after, AreRecords-append st.StartRecord (strip_bom text) records after (reader_state reader) h.rest h.reached more)
 
 -- a record after the ones that were read, with those after it
-pub AreRecords-around : {R : Type 0} (remaining : R → Option (List ℕ)) (reader : Reader R) (text : List ℕ) (before : List (List (List ℕ))) (fields : List (List ℕ))
+pub AreRecords-around : {R : Type 0} (remaining : R → Option (List ℕ)) (reader : Reader R) (text : List ℕ)
+    (before : List (List (List ℕ))) (fields : List (List ℕ))
     → HasGiven remaining reader text (before ++ fields ∷ []) → (after : List (List (List ℕ))) × AreRecordsOf text (before ++ fields ∷ after)
 AreRecords-around remaining reader text before fields h =
     let (after, all) = rest_of_given remaining reader text (before ++ fields ∷ []) h in
     (after, rw append_assoc at all)
 
 -- a row more
-pub HasRead-more : {R : Type 0} (remaining : R → Option (List ℕ)) (reader after : Reader R) (text : List ℕ) (old new : List Row) (fields : List (List ℕ))
-    → (h : HasRead remaining reader text old) → HasGiven remaining after text (h.records ++ fields ∷ []) → AddsRow old new fields → HasRead remaining after text new
+pub HasRead-more : {R : Type 0} (remaining : R → Option (List ℕ)) (reader after : Reader R) (text : List ℕ) (old new : List Row)
+    (fields : List (List ℕ))
+    → (h : HasRead remaining reader text old) → HasGiven remaining after text (h.records ++ fields ∷ []) → AddsRow old new fields
+    → HasRead remaining after text new
 HasRead-more remaining reader after text old new fields h given adds = record {
   records = h.records ++ fields ∷ [];
   given = given;
@@ -55,7 +59,8 @@ HasRead-ends remaining reader text rows h all low =
     record { records = h.records; are_records = all; say_rows = h.say_rows; in_range = omega (arith, count) }
 
 -- the next record is bad
-pub first_bad-next : {R : Type 0} (remaining : R → Option (List ℕ)) (reader after : Reader R) (text : List ℕ) (rows : List Row) (fields : List (List ℕ))
+pub first_bad-next : {R : Type 0} (remaining : R → Option (List ℕ)) (reader after : Reader R) (text : List ℕ) (rows : List Row)
+    (fields : List (List ℕ))
     → (h : HasRead remaining reader text rows) → HasGiven remaining after text (h.records ++ fields ∷ []) → length rows ≤ most_records
     → (row_of fields ≡ None) ⊎ (length rows ≡ most_records) → IsFirstBad text (length rows + 1)
 first_bad-next remaining reader after text rows fields h given low bad =
@@ -74,7 +79,8 @@ first_bad-next remaining reader after text rows fields h given low bad =
     }
 
 -- what a fault at the next record tells of the text
-pub Tells-next : {R : Type 0} (remaining : R → Option (List ℕ)) (reader after : Reader R) (text : List ℕ) (rows : List Row) (fields : List (List ℕ)) (fault : LoadFault)
+pub Tells-next : {R : Type 0} (remaining : R → Option (List ℕ)) (reader after : Reader R) (text : List ℕ) (rows : List Row)
+    (fields : List (List ℕ)) (fault : LoadFault)
     → (h : HasRead remaining reader text rows) → HasGiven remaining after text (h.records ++ fields ∷ []) → length rows < most_records
     → TellsNext fault rows fields → Tells fault text
 Tells-next remaining reader after text rows fields (BadRow row) h given low told =

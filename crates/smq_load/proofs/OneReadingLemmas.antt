@@ -16,7 +16,8 @@ first_says fields records [] h = cc
 first_says fields records (row ∷ rows) h = (row, cc, (rows, cc))
 
 -- one that says a row, and is not past the limit, is not bad
-says_and_bad : (count more : ℕ) (fields : List (List ℕ)) (row : Row) → row_of fields ≡ Some row → count + 1 + more ≤ most_records → IsBadAfter count fields → ⊥
+says_and_bad : (count more : ℕ) (fields : List (List ℕ)) (row : Row) → row_of fields ≡ Some row → count + 1 + more ≤ most_records
+    → IsBadAfter count fields → ⊥
 says_and_bad count more fields row h low (inl none) = cc
 says_and_bad count more fields row h low (inr full) = omega arith
 
@@ -49,7 +50,8 @@ first-unique k (w ∷ ws) (z ∷ zs) x y after later rows others e p q low small
     let tails : ws ++ x ∷ after ≡ zs ++ y ∷ later = cc in
     let bad_left : IsBadAfter (k + 1 + length ws) x = subst (λ n. IsBadAfter n x) (omega arith) bad in
     let bad_right : IsBadAfter (k + 1 + length zs) y = subst (λ n. IsBadAfter n y) (omega arith) ill in
-    let same = first-unique (k + 1) ws zs x y after later left.2.0 right.2.0 tails left.2.1 right.2.1 (omega arith) (omega arith) bad_left bad_right in
+    let same = first-unique (k + 1) ws zs x y after later left.2.0 right.2.0 tails left.2.1 right.2.1 (omega arith) (omega arith)
+    bad_left bad_right in
     omega (arith, same)
 
 pub script_and_bad : (k : ℕ) (a : List (List (List ℕ))) (x : List (List ℕ)) (after : List (List (List ℕ))) (rows : List Row)
@@ -92,10 +94,12 @@ bad_here k fields records low bad = record {
 }
 
 -- a record that says a row stands before records of which all say rows, or one is bad
-say_more : (k : ℕ) (fields : List (List ℕ)) (records : List (List (List ℕ))) (row : Row) → row_of fields ≡ Some row → AllSay (k + 1) records → AllSay k (fields ∷ records)
+say_more : (k : ℕ) (fields : List (List ℕ)) (records : List (List (List ℕ))) (row : Row) → row_of fields ≡ Some row
+    → AllSay (k + 1) records → AllSay k (fields ∷ records)
 say_more k fields records row says h = record { rows = row ∷ h.rows; say_rows = rw (says, h.say_rows) refl; in_range = omega (arith, h.in_range) }
 
-bad_later : (k : ℕ) (fields : List (List ℕ)) (records : List (List (List ℕ))) (row : Row) → row_of fields ≡ Some row → HasBad (k + 1) records → HasBad k (fields ∷ records)
+bad_later : (k : ℕ) (fields : List (List ℕ)) (records : List (List (List ℕ))) (row : Row) → row_of fields ≡ Some row
+    → HasBad (k + 1) records → HasBad k (fields ∷ records)
 bad_later k fields records row says h = record {
   before = fields ∷ h.before;
   bad = h.bad;
@@ -115,7 +119,8 @@ judged k (fields ∷ records) low = elim (cases_lt k most_records) [
   | inr full ↦ inr (bad_here k fields records low (inr (omega arith)))
 ]
   where
-    by_row : (o : Option Row) → row_of fields ≡ o → AllSay (k + 1) records ⊎ HasBad (k + 1) records → AllSay k (fields ∷ records) ⊎ HasBad k (fields ∷ records)
+    by_row : (o : Option Row) → row_of fields ≡ o → AllSay (k + 1) records ⊎ HasBad (k + 1) records → AllSay k (fields ∷ records)
+        ⊎ HasBad k (fields ∷ records)
     by_row None none later = inr (bad_here k fields records low (inl none))
     by_row (Some row) says (inl all) = inl (say_more k fields records row says all)
     by_row (Some row) says (inr bad) = inr (bad_later k fields records row says bad)

@@ -40,7 +40,8 @@ drop-four (r ∷ s ∷ t ∷ u ∷ []) a b c n h k l = cc
 drop-four (r ∷ s ∷ t ∷ u ∷ v ∷ rest) a b c n h k l = absurd (omega arith)
 
 pub drop-five : (fields : List (List ℕ)) (a b c d : List ℕ) → length fields ≡ 5
-    → field_at fields 1 ≡ Some a → field_at fields 2 ≡ Some b → field_at fields 3 ≡ Some c → field_at fields 4 ≡ Some d → drop 1 fields ≡ a ∷ b ∷ c ∷ d ∷ []
+    → field_at fields 1 ≡ Some a → field_at fields 2 ≡ Some b → field_at fields 3 ≡ Some c → field_at fields 4 ≡ Some d
+    → drop 1 fields ≡ a ∷ b ∷ c ∷ d ∷ []
 unfolding field_at
 drop-five [] a b c d n h k l m = absurd (omega arith)
 drop-five (r ∷ []) a b c d n h k l m = absurd (omega arith)
@@ -51,7 +52,8 @@ drop-five (r ∷ s ∷ t ∷ u ∷ v ∷ []) a b c d n h k l m = cc
 drop-five (r ∷ s ∷ t ∷ u ∷ v ∷ w ∷ rest) a b c d n h k l m = absurd (omega arith)
 
 pub drop-six : (fields : List (List ℕ)) (a b c d e : List ℕ) → length fields ≡ 6
-    → field_at fields 1 ≡ Some a → field_at fields 2 ≡ Some b → field_at fields 3 ≡ Some c → field_at fields 4 ≡ Some d → field_at fields 5 ≡ Some e → drop 1 fields ≡ a ∷ b ∷ c ∷ d ∷ e ∷ []
+    → field_at fields 1 ≡ Some a → field_at fields 2 ≡ Some b → field_at fields 3 ≡ Some c → field_at fields 4 ≡ Some d
+    → field_at fields 5 ≡ Some e → drop 1 fields ≡ a ∷ b ∷ c ∷ d ∷ e ∷ []
 unfolding field_at
 drop-six [] a b c d e n h k l m p = absurd (omega arith)
 drop-six (r ∷ []) a b c d e n h k l m p = absurd (omega arith)
@@ -75,7 +77,8 @@ row_of-none (first ∷ rest) h = by_kind (kind_of first) h
     by_kind (Some k) h = cc
 
 -- a record that names a kind says the row of that kind
-pub row_of-some : (fields : List (List ℕ)) (k : Kind) → option_and_then kind_of (field_at fields 0) ≡ Some k → row_of fields ≡ row_of_kind k (drop 1 fields)
+pub row_of-some : (fields : List (List ℕ)) (k : Kind) → option_and_then kind_of (field_at fields 0) ≡ Some k
+    → row_of fields ≡ row_of_kind k (drop 1 fields)
 unfolding field_at
 row_of-some [] k h = cc
 row_of-some (first ∷ rest) k h = rw h refl

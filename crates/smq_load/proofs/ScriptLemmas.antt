@@ -41,7 +41,8 @@ settles-start_field : (c : ℕ) → Settles (start_field default_config c)
 settles-start_field c = choice (c == 34) (st.InQuoted, act.Skip) (in_field default_config c) (skips st.InQuoted) (settles-in_field c)
 
 settles-start_record : (c : ℕ) → Settles (start_record default_config c)
-settles-start_record c = choice (ends_with term.CRLF c) (st.StartRecord, act.Skip) (start_field default_config c) (skips st.StartRecord) (settles-start_field c)
+settles-start_record c = choice (ends_with term.CRLF c) (st.StartRecord, act.Skip) (start_field default_config c)
+    (skips st.StartRecord) (settles-start_field c)
 
 pub settles-step : (s : State) (c : ℕ) → Settles (step default_config s c)
 settles-step st.StartRecord c = settles-start_record c
@@ -51,13 +52,15 @@ settles-step st.InQuoted c = choice (c == 34) (st.AfterQuote, act.Skip) (st.InQu
 settles-step st.InEscape c = copies st.InQuoted
 settles-step st.AfterQuote c = choice (c == 34) (st.InQuoted, act.Copy) (in_field default_config c) (copies st.InQuoted) (settles-in_field c)
 settles-step st.InComment c = choice (c == 10) (st.StartRecord, act.Skip) (st.InComment, act.Skip) (skips st.StartRecord) (skips st.InComment)
-settles-step st.AfterCr c = choice (c == 10) (st.StartRecord, act.Skip) (start_record default_config c) (skips st.StartRecord) (settles-start_record c)
+settles-step st.AfterCr c = choice (c == 10) (st.StartRecord, act.Skip) (start_record default_config c) (skips st.StartRecord)
+    (settles-start_record c)
 
 -- a record takes some of the text, and where it ends the text may end
 abbrev pub Takes : List ℕ → Read → Type 0
 Takes xs p = (length p.2 ≤ length xs - 1) × (ends_at_end p.1 ≡ false)
 
-pub next_record-takes : (s : State) (fields : List (List ℕ)) (field xs : List ℕ) (p : Read) → next_record default_config s fields field xs ≡ Some p → Takes xs p
+pub next_record-takes : (s : State) (fields : List (List ℕ)) (field xs : List ℕ) (p : Read)
+    → next_record default_config s fields field xs ≡ Some p → Takes xs p
 unfolding next_record
 next_record-takes s fields field [] p e = at_end (ends_at_end s) e
   where
@@ -66,12 +69,15 @@ next_record-takes s fields field [] p e = at_end (ends_at_end s) e
     at_end false h = cc h
 next_record-takes s fields field (c ∷ rest) p e =
     within (is_end (step default_config s c).1) refl e
-    (next_record-takes (step default_config s c).0 (fields_after (step default_config s c).1 fields field) (field_after (step default_config s c).1 c field) rest p)
+    (next_record-takes (step default_config s c).0 (fields_after (step default_config s c).1 fields field)
+    (field_after (step default_config s c).1 c field) rest p)
   where
     within : (b : Bool) → is_end (step default_config s c).1 ≡ b
         → cond b (Some (fields_after (step default_config s c).1 fields field, (step default_config s c).0, rest))
-        (next_record default_config (step default_config s c).0 (fields_after (step default_config s c).1 fields field) (field_after (step default_config s c).1 c field) rest) ≡ Some p
-        → (next_record default_config (step default_config s c).0 (fields_after (step default_config s c).1 fields field) (field_after (step default_config s c).1 c field) rest ≡ Some p
+        (next_record default_config (step default_config s c).0 (fields_after (step default_config s c).1 fields field)
+        (field_after (step default_config s c).1 c field) rest) ≡ Some p
+        → (next_record default_config (step default_config s c).0 (fields_after (step default_config s c).1 fields field)
+        (field_after (step default_config s c).1 c field) rest ≡ Some p
         → Takes rest p)
         → Takes (c ∷ rest) p
     within true b h more = subst (Takes (c ∷ rest)) (same_Some _ _ h) (omega arith, settles-step s c b)
@@ -91,7 +97,8 @@ AreRecords-exist zero s (c ∷ xs) h e = absurd (omega arith)
 AreRecords-exist (suc n) s (c ∷ xs) h e = go (next_record default_config s [] [] (c ∷ xs)) refl (AreRecords-exist n)
   where
     go : (o : Option Read) → next_record default_config s [] [] (c ∷ xs) ≡ o
-        → ((s2 : State) (ys : List ℕ) → length ys ≤ n → ends_at_end s2 ≡ false → (records : List (List (List ℕ))) × AreRecords default_config s2 ys records)
+        → ((s2 : State) (ys : List ℕ) → length ys ≤ n → ends_at_end s2 ≡ false → (records : List (List (List ℕ)))
+        × AreRecords default_config s2 ys records)
         → (records : List (List (List ℕ))) × AreRecords default_config s (c ∷ xs) records
     go None none more = ([], (s, c ∷ xs, (refl, refl), none))
     go (Some p) some more =
@@ -116,7 +123,8 @@ AreRecords-append s xs (r ∷ rs) after s2 ys h more =
     (rest.0, rest.1, (h.0, h.1, h.2, rest.2), rest.3)
 
 -- a text has no other records
-pub AreRecords-unique : (s : State) (xs : List ℕ) (a b : List (List (List ℕ))) → AreRecords default_config s xs a → AreRecords default_config s xs b → a ≡ b
+pub AreRecords-unique : (s : State) (xs : List ℕ) (a b : List (List (List ℕ))) → AreRecords default_config s xs a
+    → AreRecords default_config s xs b → a ≡ b
 unfolding Reached
 AreRecords-unique s xs [] [] h k = refl
 AreRecords-unique s xs [] (q ∷ qs) h k =

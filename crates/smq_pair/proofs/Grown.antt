@@ -23,18 +23,20 @@ use Rattle.smq_pair.proofs.Lists.{some-is, get-last, get-front, get-either, one_
 use Rattle.smq_pair.proofs.Turned.{by_dir, opposite-back, partner-back, pushed-apart, pushed-by, turn-found, next_turn, next-dir, not-request}
 use Rattle.smq_pair.proofs.Standing.{IsNowhere, there-or-not, same-place, here-place, other-place, pair_with, pair_either, pair-here, pair-nowhere, standing-here, dir-of, dir-ascends}
 use Rattle.smq_pair.proofs.Order.{in-order-next, next-is-free, get-append}
-use Rattle.smq_pair.proofs.Steps.{partner-stays, partner-next}
+use Rattle.smq_pair.proofs.Entered.{partner-stays, partner-next}
 use Rattle.smq_pair.proofs.Searched.{partner-pdu}
 use Rattle.smq_pair.proofs.Ranked.{finds-pairs, has-two-places, header-at}
 
 -- two PDUs at one place are one
-unique-at : (v : PairingValue) (d f : Dir) (i j : ℕ) (x y : PlacedHeader) → AreInOrder v → slice_get (pdus_from d v) i ≡ Some x → slice_get (pdus_from f v) j ≡ Some y → x.place ≡ y.place → x ≡ y
+unique-at : (v : PairingValue) (d f : Dir) (i j : ℕ) (x y : PlacedHeader) → AreInOrder v → slice_get (pdus_from d v) i ≡ Some x
+    → slice_get (pdus_from f v) j ≡ Some y → x.place ≡ y.place → x ≡ y
 unique-at v d f i j x y o at to same =
     let dirs : d ≡ f = sym (dir-of v d i x o at) ∙ ap (λ (q : Place). q.dir) same ∙ dir-of v f j y o to in
     let there : slice_get (pdus_from d v) j ≡ Some y = ap (λ (e : Dir). slice_get (pdus_from e v) j) dirs ∙ to in
     ap (λ (e : List PlacedHeader × PlacedHeader). e.1) (one_of _ (take i (pdus_from d v), x) (take j (pdus_from d v), y)
     (standing-here [] (pdus_from d v) i x (dir-ascends v d o) at)
-    (ap (λ (q : Place). slice_get (filter (λ e. eq_by_cmp place_cmp q e.1.place) (with_earlier [] (pdus_from d v))) 0) same ∙ standing-here [] (pdus_from d v) j y (dir-ascends v d o) there))
+    (ap (λ (q : Place). slice_get (filter (λ e. eq_by_cmp place_cmp q e.1.place) (with_earlier [] (pdus_from d v))) 0) same
+    ∙ standing-here [] (pdus_from d v) j y (dir-ascends v d o) there))
 
 or_false : (a : Bool) → (a || false) ≡ a
 or_false true = refl
@@ -66,7 +68,8 @@ module _ (v : PairingValue) (p : PlacedHeader) (o : AreInOrder v) (n : IsNext v 
       (λ same. ap (λ ps. slice_get ps i) (pushed-by d v p same) ∙ get-front (pdus_from d v) (p ∷ []) i x at)
       (λ apart. ap (λ ps. slice_get ps i) (pushed-apart d p.place.dir v p apart) ∙ at)
 
-  get-before : {A : Type 0} (d : Dir) (i : ℕ) (x : PlacedHeader) → slice_get (pdus_from d after) i ≡ Some x → (slice_get (pdus_from d v) i ≡ Some x → A) → (d ≡ p.place.dir → x ≡ p → A) → A
+  get-before : {A : Type 0} (d : Dir) (i : ℕ) (x : PlacedHeader) → slice_get (pdus_from d after) i ≡ Some x
+      → (slice_get (pdus_from d v) i ≡ Some x → A) → (d ≡ p.place.dir → x ≡ p → A) → A
   get-before d i x at old new = by_dir d p.place.dir
       (λ same. get-either (pdus_from d v) p i x (ap (λ ps. slice_get ps i) (sym (pushed-by d v p same)) ∙ at) old (λ last. new same))
       (λ apart. old (ap (λ ps. slice_get ps i) (sym (pushed-apart d p.place.dir v p apart)) ∙ at))
@@ -80,7 +83,8 @@ module _ (v : PairingValue) (p : PlacedHeader) (o : AreInOrder v) (n : IsNext v 
   makes pair e = has-two-places after p.place pair after-order e
 
   -- a PDU whose partner is the new one stands in the pair that is made
-  touched-by : (d : Dir) (i : ℕ) (x : PlacedHeader) (u : Turn) → slice_get (pdus_from d v) i ≡ Some x → turn_of v d i x.header ≡ Some u → next_turn v p ≡ Some (partner u)
+  touched-by : (d : Dir) (i : ℕ) (x : PlacedHeader) (u : Turn) → slice_get (pdus_from d v) i ≡ Some x
+      → turn_of v d i x.header ≡ Some u → next_turn v p ≡ Some (partner u)
       → made ≡ Some (pair_either p x)
   touched-by d i x u at turn next =
       let there = turn-found v d i x.header u (header-at (pdus_from d v) i x at) turn in
@@ -89,7 +93,8 @@ module _ (v : PairingValue) (p : PlacedHeader) (o : AreInOrder v) (n : IsNext v 
       ∙ ap (pair_with after p.place.dir p) (partner-next v p (partner u) next ∙ ap (index_at v) (partner-back u) ∙ there.1)
       ∙ ap (option_map (pair_either p)) (ap (λ (e : Dir). slice_get (pdus_from e after) i) dir ∙ get-after d i x at)
 
-  among_made : (q : Place) (m : Option Pair) → is_among q (touched p.place m) ≡ false → (pair : Pair) → m ≡ Some pair → (q ≢ pair.request) × (q ≢ pair.response)
+  among_made : (q : Place) (m : Option Pair) → is_among q (touched p.place m) ≡ false → (pair : Pair) → m ≡ Some pair
+      → (q ≢ pair.request) × (q ≢ pair.response)
   among_made q None h pair e = absurd cc
   among_made q (Some made') h pair e =
       let same : made' ≡ pair = some-is made' pair e in
@@ -120,7 +125,8 @@ module _ (v : PairingValue) (p : PlacedHeader) (o : AreInOrder v) (n : IsNext v 
       let r = partner-pdu v d i x.header j e in
       ap (option_map (pair_either x)) (get-after (opposite d) j r.0 r.1 ∙ sym r.1)
 
-  here-stays : (d : Dir) (i : ℕ) (x : PlacedHeader) → slice_get (pdus_from d v) i ≡ Some x → is_among x.place (touched p.place made) ≡ false → pair_at after x.place ≡ pair_at v x.place
+  here-stays : (d : Dir) (i : ℕ) (x : PlacedHeader) → slice_get (pdus_from d v) i ≡ Some x → is_among x.place (touched p.place made)
+      ≡ false → pair_at after x.place ≡ pair_at v x.place
   here-stays d i x at h =
       pair-here after d i x after-order (get-after d i x at)
       ∙ ap (pair_with after d x) (partner-stays v p d i x.header (header-at (pdus_from d v) i x at) (λ u turn next.
@@ -131,7 +137,8 @@ module _ (v : PairingValue) (p : PlacedHeader) (o : AreInOrder v) (n : IsNext v 
       ∙ sym (pair-here v d i x o at)
 
   nowhere-after : (q : Place) → p.place ≢ q → IsNowhere (pdus_from q.dir v) q → IsNowhere (pdus_from q.dir after) q
-  nowhere-after q h none i x at same = get-before q.dir i x at (λ old. none i x old same) (λ dir is. h (ap (λ (y : PlacedHeader). y.place) (sym is) ∙ same))
+  nowhere-after q h none i x at same = get-before q.dir i x at (λ old. none i x old same)
+      (λ dir is. h (ap (λ (y : PlacedHeader). y.place) (sym is) ∙ same))
 
   pub others-stay : (q : Place) → is_among q (touched p.place made) ≡ false → pair_at after q ≡ pair_at v q
   others-stay q h = elim (there-or-not (pdus_from q.dir v) q) [
@@ -150,17 +157,21 @@ module _ (v : PairingValue) (p : PlacedHeader) (o : AreInOrder v) (n : IsNext v 
 
     any-append : (q : Place) (xs ys : List PlacedHeader) → any_in q (xs ++ ys) ≡ (any_in q xs || any_in q ys)
     any-append q xs ys =
-        ap (λ zs. list_any (eq_by_cmp place_cmp q) (map (λ (x : PlacedHeader). x.place) zs)) (filter-append (λ (x : PlacedHeader). test x.header) xs ys)
-        ∙ ap (list_any (eq_by_cmp place_cmp q)) (map-append (λ (x : PlacedHeader). x.place) (filter (λ (x : PlacedHeader). test x.header) xs) (filter (λ (x : PlacedHeader). test x.header) ys))
+        ap (λ zs. list_any (eq_by_cmp place_cmp q) (map (λ (x : PlacedHeader). x.place) zs))
+        (filter-append (λ (x : PlacedHeader). test x.header) xs ys)
+        ∙ ap (list_any (eq_by_cmp place_cmp q)) (map-append (λ (x : PlacedHeader). x.place)
+        (filter (λ (x : PlacedHeader). test x.header) xs) (filter (λ (x : PlacedHeader). test x.header) ys))
         ∙ list_any-append (eq_by_cmp place_cmp q) _ _
 
     any_own : (q : Place) (b : Bool) → test p.header ≡ b → any_in q (p ∷ []) ≡ (eq_by_cmp place_cmp q p.place && b)
-    any_own q true e = ap (λ b. list_any (eq_by_cmp place_cmp q) (map (λ (x : PlacedHeader). x.place) (cond b (p ∷ []) []))) e ∙ by_test (eq_by_cmp place_cmp q p.place)
+    any_own q true e = ap (λ b. list_any (eq_by_cmp place_cmp q) (map (λ (x : PlacedHeader). x.place) (cond b (p ∷ []) []))) e
+        ∙ by_test (eq_by_cmp place_cmp q p.place)
       where
         by_test : (b : Bool) → (b || false) ≡ (b && true)
         by_test true = refl
         by_test false = refl
-    any_own q false e = ap (λ b. list_any (eq_by_cmp place_cmp q) (map (λ (x : PlacedHeader). x.place) (cond b (p ∷ []) []))) e ∙ by_test (eq_by_cmp place_cmp q p.place)
+    any_own q false e = ap (λ b. list_any (eq_by_cmp place_cmp q) (map (λ (x : PlacedHeader). x.place) (cond b (p ∷ []) []))) e
+        ∙ by_test (eq_by_cmp place_cmp q p.place)
       where
         by_test : (b : Bool) → false ≡ (b && false)
         by_test true = refl
@@ -177,7 +188,8 @@ module _ (v : PairingValue) (p : PlacedHeader) (o : AreInOrder v) (n : IsNext v 
     assoc true b c = refl
     assoc false b c = refl
 
-    any_in_dir : (d : Dir) (q : Place) → any_in q ((pushed_in d v p).client ++ (pushed_in d v p).centre) ≡ (any_in q (v.client ++ v.centre) || any_in q (p ∷ []))
+    any_in_dir : (d : Dir) (q : Place) → any_in q ((pushed_in d v p).client ++ (pushed_in d v p).centre)
+        ≡ (any_in q (v.client ++ v.centre) || any_in q (p ∷ []))
     any_in_dir FromClient q =
         any-append q (v.client ++ p ∷ []) v.centre ∙ ap (λ b. b || any_in q v.centre) (any-append q v.client (p ∷ []))
         ∙ between (any_in q v.client) (any_in q v.centre) (any_in q (p ∷ []))
@@ -192,22 +204,27 @@ module _ (v : PairingValue) (p : PlacedHeader) (o : AreInOrder v) (n : IsNext v 
 
     alone-among : (w : PairingValue) (q : Place) → is_among q (alone w) ≡ (is_none (pair_at w q) && any_in q (w.client ++ w.centre))
     alone-among w q =
-        any-filter_same (eq_by_cmp place_cmp q) (λ r. is_none (pair_at w r)) (is_none (pair_at w q)) (λ r h. ap (λ r. is_none (pair_at w r)) (sym (same-place q r h))) (places_of test w)
+        any-filter_same (eq_by_cmp place_cmp q) (λ r. is_none (pair_at w r)) (is_none (pair_at w q))
+        (λ r h. ap (λ r. is_none (pair_at w r)) (sym (same-place q r h))) (places_of test w)
 
     -- what passes at a place
-    any-there : (q : Place) (ps : List PlacedHeader) → any_in q ps ≡ true → (i : ℕ) × (x : PlacedHeader) × (slice_get ps i ≡ Some x) × (x.place ≡ q) × (test x.header ≡ true)
+    any-there : (q : Place) (ps : List PlacedHeader) → any_in q ps ≡ true → (i : ℕ) × (x : PlacedHeader) × (slice_get ps i ≡ Some x)
+        × (x.place ≡ q) × (test x.header ≡ true)
     any-there q [] h = absurd (false≢true h)
     any-there q (x ∷ xs) h = by_test (test x.header) (eq_by_cmp place_cmp q x.place) refl refl (any-there q xs) h
       where
         by_test : (a b : Bool) → test x.header ≡ a → eq_by_cmp place_cmp q x.place ≡ b
             → (any_in q xs ≡ true → (i : ℕ) × (y : PlacedHeader) × (slice_get xs i ≡ Some y) × (y.place ≡ q) × (test y.header ≡ true))
-            → list_any (eq_by_cmp place_cmp q) (map (λ (x : PlacedHeader). x.place) (cond a (x ∷ filter (λ (x : PlacedHeader). test x.header) xs) (filter (λ (x : PlacedHeader). test x.header) xs))) ≡ true
+            → list_any (eq_by_cmp place_cmp q) (map (λ (x : PlacedHeader). x.place)
+            (cond a (x ∷ filter (λ (x : PlacedHeader). test x.header) xs) (filter (λ (x : PlacedHeader). test x.header) xs)))
+            ≡ true
             → (i : ℕ) × (y : PlacedHeader) × (slice_get (x ∷ xs) i ≡ Some y) × (y.place ≡ q) × (test y.header ≡ true)
         by_test true true e f more h = (0, x, refl, sym (same-place q x.place f), e)
         by_test true false e f more h = let r = more (ap (λ b. b || any_in q xs) (sym f) ∙ h) in (suc r.0, r.1, r.2, r.3, r.4)
         by_test false b e f more h = let r = more h in (suc r.0, r.1, r.2, r.3, r.4)
 
-    any-of-two : (q : Place) → any_in q (v.client ++ v.centre) ≡ true → (d : Dir) × (i : ℕ) × (x : PlacedHeader) × (slice_get (pdus_from d v) i ≡ Some x) × (x.place ≡ q) × (test x.header ≡ true)
+    any-of-two : (q : Place) → any_in q (v.client ++ v.centre) ≡ true → (d : Dir) × (i : ℕ) × (x : PlacedHeader)
+        × (slice_get (pdus_from d v) i ≡ Some x) × (x.place ≡ q) × (test x.header ≡ true)
     any-of-two q h =
         let r = any-there q (v.client ++ v.centre) h in
         elim (get-append v.client v.centre r.0 r.1 r.2) [
@@ -251,9 +268,11 @@ module _ (v : PairingValue) (p : PlacedHeader) (o : AreInOrder v) (n : IsNext v 
     there_case false t true false m e = refl
     there_case false t false r m e = refl
 
-    module _ (part : Pair → Place) (q : Place) (is_part : Option Pair → Bool) (no_part : is_part None ≡ false) (some_part : (pair : Pair) → is_part (Some pair) ≡ eq_by_cmp place_cmp q (part pair))
+    module _ (part : Pair → Place) (q : Place) (is_part : Option Pair → Bool) (no_part : is_part None ≡ false)
+        (some_part : (pair : Pair) → is_part (Some pair) ≡ eq_by_cmp place_cmp q (part pair))
         (part-among : (pair : Pair) → q ≢ pair.request → q ≢ pair.response → q ≢ part pair)
-        (part-is : (pair : Pair) → made ≡ Some pair → (d : Dir) (i : ℕ) (x : PlacedHeader) → slice_get (pdus_from d v) i ≡ Some x → test x.header ≡ true → x.place ≡ q
+        (part-is : (pair : Pair) → made ≡ Some pair → (d : Dir) (i : ℕ) (x : PlacedHeader) → slice_get (pdus_from d v) i ≡ Some x
+        → test x.header ≡ true → x.place ≡ q
         → (q ≡ pair.request) ⊎ (q ≡ pair.response) → q ≡ part pair) where
       part-apart : (m : Option Pair) → made ≡ m → is_among q (touched p.place m) ≡ false → is_part m ≡ false
       part-apart None e h = no_part
@@ -265,13 +284,15 @@ module _ (v : PairingValue) (p : PlacedHeader) (o : AreInOrder v) (n : IsNext v 
       own_first true h = refl
       own_first false h = h
 
-      either_place : (pair : Pair) (a b : Bool) → eq_by_cmp place_cmp q pair.request ≡ a → eq_by_cmp place_cmp q pair.response ≡ b → (a || (b || false)) ≡ true → (q ≡ pair.request) ⊎ (q ≡ pair.response)
+      either_place : (pair : Pair) (a b : Bool) → eq_by_cmp place_cmp q pair.request ≡ a → eq_by_cmp place_cmp q pair.response ≡ b
+          → (a || (b || false)) ≡ true → (q ≡ pair.request) ⊎ (q ≡ pair.response)
       either_place pair true b e f h = inl (same-place q pair.request e)
       either_place pair false true e f h = inr (same-place q pair.response f)
       either_place pair false false e f h = absurd (false≢true h)
 
       -- where there was one that passes, it stands alone as before, if it isn't the pair's part
-      there-alone : (m : Option Pair) → made ≡ m → eq_by_cmp place_cmp q p.place ≡ false → (d : Dir) (i : ℕ) (x : PlacedHeader) → slice_get (pdus_from d v) i ≡ Some x → x.place ≡ q → test x.header ≡ true
+      there-alone : (m : Option Pair) → made ≡ m → eq_by_cmp place_cmp q p.place ≡ false → (d : Dir) (i : ℕ) (x : PlacedHeader)
+          → slice_get (pdus_from d v) i ≡ Some x → x.place ≡ q → test x.header ≡ true
           → (b : Bool) → is_among q (touched p.place m) ≡ b → is_none (pair_at after q) ≡ (is_none (pair_at v q) && not (is_part m))
       there-alone m e h d i x at is passes false out =
           ap is_none (others-stay q (ap (λ m. is_among q (touched p.place m)) e ∙ out))
@@ -285,8 +306,12 @@ module _ (v : PairingValue) (p : PlacedHeader) (o : AreInOrder v) (n : IsNext v 
           let where' = either_place pair (eq_by_cmp place_cmp q pair.request) (eq_by_cmp place_cmp q pair.response) refl refl in' in
           let part_is : q ≡ part pair = part-is pair e d i x at passes is where' in
           let stands = makes pair e in
-          let here : pair_at after q ≡ Some pair = elim where' [ inl r ↦ ap (pair_at after) r ∙ stands.at_request | inr r ↦ ap (pair_at after) r ∙ stands.at_response ] in
-          ap is_none here ∙ nothing (is_none (pair_at v q)) ∙ ap (λ b. is_none (pair_at v q) && not b) (sym (some_part pair ∙ here-place q (part pair) part_is))
+          let here : pair_at after q ≡ Some pair = elim where' [
+            | inl r ↦ ap (pair_at after) r ∙ stands.at_request
+            | inr r ↦ ap (pair_at after) r ∙ stands.at_response
+          ] in
+          ap is_none here ∙ nothing (is_none (pair_at v q))
+          ∙ ap (λ b. is_none (pair_at v q) && not b) (sym (some_part pair ∙ here-place q (part pair) part_is))
         where
           nothing : (b : Bool) → false ≡ (b && false)
           nothing true = refl
@@ -294,7 +319,8 @@ module _ (v : PairingValue) (p : PlacedHeader) (o : AreInOrder v) (n : IsNext v 
 
       by_place : (b a : Bool) → eq_by_cmp place_cmp q p.place ≡ b → any_in q (v.client ++ v.centre) ≡ a
           → (is_none (pair_at after q) && (any_in q (v.client ++ v.centre) || (eq_by_cmp place_cmp q p.place && test p.header)))
-          ≡ (((is_none (pair_at v q) && any_in q (v.client ++ v.centre)) && not (is_part made)) || (eq_by_cmp place_cmp q p.place && (test p.header && is_none made)))
+          ≡ (((is_none (pair_at v q) && any_in q (v.client ++ v.centre)) && not (is_part made)) ||
+          (eq_by_cmp place_cmp q p.place && (test p.header && is_none made)))
       by_place true a e h =
           let none = own-is-new q e in
           (λ i. is_none (pair_at after (same-place q p.place e i)) && (none i || (e i && test p.header)))
@@ -314,24 +340,32 @@ module _ (v : PairingValue) (p : PlacedHeader) (o : AreInOrder v) (n : IsNext v 
       alone-grows : is_among q (alone after) ≡ ((is_among q (alone v) && not (is_part made)) || is_alone_at test q p made)
       alone-grows =
           alone-among after q
-          ∙ ap (λ b. is_none (pair_at after q) && b) (any_in_dir p.place.dir q ∙ ap (λ b. any_in q (v.client ++ v.centre) || b) (any_own q (test p.header) refl))
+          ∙ ap (λ b. is_none (pair_at after q) && b) (any_in_dir p.place.dir q
+          ∙ ap (λ b. any_in q (v.client ++ v.centre) || b) (any_own q (test p.header) refl))
           ∙ by_place (eq_by_cmp place_cmp q p.place) (any_in q (v.client ++ v.centre)) refl refl
           ∙ ap (λ b. (b && not (is_part made)) || is_alone_at test q p made) (sym (alone-among v q))
 
   -- a request is no response of the pair that is made, and the other way round
-  part-request : (pair : Pair) → made ≡ Some pair → (d : Dir) (i : ℕ) (x : PlacedHeader) → slice_get (pdus_from d v) i ≡ Some x → is_request x.header ≡ true → x.place ≢ pair.response
+  part-request : (pair : Pair) → made ≡ Some pair → (d : Dir) (i : ℕ) (x : PlacedHeader) → slice_get (pdus_from d v) i ≡ Some x
+      → is_request x.header ≡ true → x.place ≢ pair.response
   part-request pair e d i x at passes same =
       let f = finds-pairs after p.place pair after-order e in
-      let one : x ≡ f.response = unique-at after d (opposite f.dir) i f.j x f.response after-order (get-after d i x at) f.by_rank.response_at (same ∙ ap (λ (y : Pair). y.response) f.is) in
-      absurd (false≢true (sym (not-request f.response.header f.by_rank.by_rank.is_response) ∙ ap (λ (y : PlacedHeader). is_request y.header) (sym one) ∙ passes))
+      let one : x ≡ f.response = unique-at after d (opposite f.dir) i f.j x f.response after-order (get-after d i x at)
+      f.by_rank.response_at (same ∙ ap (λ (y : Pair). y.response) f.is) in
+      absurd (false≢true (sym (not-request f.response.header f.by_rank.by_rank.is_response)
+      ∙ ap (λ (y : PlacedHeader). is_request y.header) (sym one) ∙ passes))
 
-  part-response : (pair : Pair) → made ≡ Some pair → (d : Dir) (i : ℕ) (x : PlacedHeader) → slice_get (pdus_from d v) i ≡ Some x → is_response x.header ≡ true → x.place ≢ pair.request
+  part-response : (pair : Pair) → made ≡ Some pair → (d : Dir) (i : ℕ) (x : PlacedHeader) → slice_get (pdus_from d v) i ≡ Some x
+      → is_response x.header ≡ true → x.place ≢ pair.request
   part-response pair e d i x at passes same =
       let f = finds-pairs after p.place pair after-order e in
-      let one : x ≡ f.request = unique-at after d f.dir i f.i x f.request after-order (get-after d i x at) f.by_rank.request_at (same ∙ ap (λ (y : Pair). y.request) f.is) in
-      absurd (false≢true (sym (not-request f.request.header (ap (λ (y : PlacedHeader). is_response y.header) (sym one) ∙ passes)) ∙ f.by_rank.by_rank.is_request))
+      let one : x ≡ f.request = unique-at after d f.dir i f.i x f.request after-order (get-after d i x at) f.by_rank.request_at
+      (same ∙ ap (λ (y : Pair). y.request) f.is) in
+      absurd (false≢true (sym (not-request f.request.header (ap (λ (y : PlacedHeader). is_response y.header) (sym one) ∙ passes))
+      ∙ f.by_rank.by_rank.is_request))
 
-  waiting-grows : (q : Place) → is_among q (waiting after) ≡ ((is_among q (waiting v) && not (is_request_in q made)) || is_alone_at is_request q p made)
+  waiting-grows : (q : Place) → is_among q (waiting after)
+      ≡ ((is_among q (waiting v) && not (is_request_in q made)) || is_alone_at is_request q p made)
   waiting-grows q =
       alone-grows is_request (λ (pair : Pair). pair.request) q (is_request_in q) refl (λ pair. refl) (λ pair r s. r)
       (λ pair e d i x at passes is either. elim either [ inl r ↦ r | inr r ↦ absurd (part-request pair e d i x at passes (is ∙ r)) ])

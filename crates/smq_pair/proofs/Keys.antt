@@ -82,7 +82,8 @@ series_exact a b e =
     let all = sym (series_order a b) ∙ e in
     let rest = then_second (nat_cmp a.seq b.seq) (ordering_then (dir_cmp a.dir b.dir) (side_order a.side b.side)) all in
     λ i. record {
-      seq = nat_cmp-IsAntisymmetric a.seq b.seq (then_first (nat_cmp a.seq b.seq) (ordering_then (dir_cmp a.dir b.dir) (side_order a.side b.side)) all) i;
+      seq = nat_cmp-IsAntisymmetric a.seq b.seq
+          (then_first (nat_cmp a.seq b.seq) (ordering_then (dir_cmp a.dir b.dir) (side_order a.side b.side)) all) i;
       dir = same_dir a.dir b.dir (then_first (dir_cmp a.dir b.dir) (side_order a.side b.side) rest) i;
       side = same_side_of a.side b.side (then_second (dir_cmp a.dir b.dir) (side_order a.side b.side) rest) i;
     }

@@ -3,6 +3,8 @@ pub mod Lists
 pub mod Turned
 pub mod Standing
 pub mod Order
+pub mod Entries
+pub mod Entered
 pub mod Steps
 pub mod Searched
 pub mod Ranked

@@ -37,19 +37,23 @@ module _ {X : Type 0} (p : X → Bool) where
       ap (option_map suc) ih ∙ mapped (a && 0 == c) n found ∙ ap (λ t. cond (a && t) (Some (suc n)) (option_map suc found)) same
 
   suc-last : (b a : Bool) (rank n c : ℕ) (xs ys : List X) → ((r : ℕ) → nth_index p ys r ≡ with_last a r c n (nth_index p xs r))
-      → option_map suc (nth_index p ys (cond b rank (suc rank))) ≡ with_last a (suc rank) (cond b 1 0 + c) (suc n) (option_map suc (nth_index p xs (cond b rank (suc rank))))
+      → option_map suc (nth_index p ys (cond b rank (suc rank)))
+      ≡ with_last a (suc rank) (cond b 1 0 + c) (suc n) (option_map suc (nth_index p xs (cond b rank (suc rank))))
   suc-last true a rank n c xs ys ih =
       let same : (rank == c) ≡ (suc rank == 1 + c) = grind (arith, nat_tests) in
-      ap (option_map suc) (ih rank) ∙ mapped (a && rank == c) n (nth_index p xs rank) ∙ ap (λ t. cond (a && t) (Some (suc n)) (option_map suc (nth_index p xs rank))) same
+      ap (option_map suc) (ih rank) ∙ mapped (a && rank == c) n (nth_index p xs rank)
+      ∙ ap (λ t. cond (a && t) (Some (suc n)) (option_map suc (nth_index p xs rank))) same
   suc-last false a rank n c xs ys ih =
       let same : (suc rank == c) ≡ (suc rank == 0 + c) = ap (λ m. suc rank == m) (sym (zero-add c)) in
-      ap (option_map suc) (ih (suc rank)) ∙ mapped (a && suc rank == c) n (nth_index p xs (suc rank)) ∙ ap (λ t. cond (a && t) (Some (suc n)) (option_map suc (nth_index p xs (suc rank)))) same
+      ap (option_map suc) (ih (suc rank)) ∙ mapped (a && suc rank == c) n (nth_index p xs (suc rank))
+      ∙ ap (λ t. cond (a && t) (Some (suc n)) (option_map suc (nth_index p xs (suc rank)))) same
 
   count-cons : (x : X) (xs : List X) → count_by p (x ∷ xs) ≡ cond (p x) 1 0 + count_by p xs
   count-cons x xs = sum_by-cons (λ y. cond (p y) 1 0) x xs
 
   -- one element more at the end adds its own place alone, at the rank that so many before it make
-  pub place-last : (xs : List X) (x : X) (rank : ℕ) → nth_index p (xs ++ x ∷ []) rank ≡ with_last (p x) rank (count_by p xs) (length xs) (nth_index p xs rank)
+  pub place-last : (xs : List X) (x : X) (rank : ℕ) → nth_index p (xs ++ x ∷ []) rank
+      ≡ with_last (p x) rank (count_by p xs) (length xs) (nth_index p xs rank)
   unfolding nth_index
   place-last [] x rank = first-last x rank (p x) refl
   place-last (y ∷ ys) x zero =
@@ -57,7 +61,8 @@ module _ {X : Type 0} (p : X → Bool) where
       ∙ ap (λ n. with_last (p x) 0 n (suc (length ys)) (cond (p y) (Some 0) (option_map suc (nth_index p ys 0)))) (sym (count-cons y ys))
   place-last (y ∷ ys) x (suc rank) =
       suc-last (p y) (p x) rank (length ys) (count_by p ys) ys (ys ++ x ∷ []) (λ r. place-last ys x r)
-      ∙ ap (λ n. with_last (p x) (suc rank) n (suc (length ys)) (option_map suc (nth_index p ys (cond (p y) rank (suc rank))))) (sym (count-cons y ys))
+      ∙ ap (λ n. with_last (p x) (suc rank) n (suc (length ys)) (option_map suc (nth_index p ys (cond (p y) rank (suc rank)))))
+      (sym (count-cons y ys))
 
   -- no element has the rank that is next
   skipped : (x : X) (xs : List X) (k : ℕ) → p x ≡ false → nth_index p (x ∷ xs) k ≡ option_map suc (nth_index p xs k)
@@ -69,7 +74,8 @@ module _ {X : Type 0} (p : X → Bool) where
   unfolding nth_index
   taken x xs k e = rw e refl
 
-  none_by : (x : X) (xs : List X) (b : Bool) → p x ≡ b → nth_index p xs (count_by p xs) ≡ None → nth_index p (x ∷ xs) (cond b 1 0 + count_by p xs) ≡ None
+  none_by : (x : X) (xs : List X) (b : Bool) → p x ≡ b → nth_index p xs (count_by p xs) ≡ None
+      → nth_index p (x ∷ xs) (cond b 1 0 + count_by p xs) ≡ None
   none_by x xs true e h =
       let more : 1 + count_by p xs ≡ suc (count_by p xs) = omega arith in
       ap (λ n. nth_index p (x ∷ xs) n) more ∙ taken x xs (count_by p xs) e ∙ ap (option_map suc) h
@@ -96,7 +102,8 @@ module _ {X : Type 0} where
   get-front (z ∷ xs) ys (suc i) x h = get-front xs ys i x h
 
   -- what stands in a list with one more at the end
-  pub get-either : {A : Type 0} (xs : List X) (y : X) (i : ℕ) (x : X) → slice_get (xs ++ y ∷ []) i ≡ Some x → (slice_get xs i ≡ Some x → A) → (i ≡ length xs → x ≡ y → A) → A
+  pub get-either : {A : Type 0} (xs : List X) (y : X) (i : ℕ) (x : X) → slice_get (xs ++ y ∷ []) i ≡ Some x
+      → (slice_get xs i ≡ Some x → A) → (i ≡ length xs → x ≡ y → A) → A
   get-either [] y zero x h f g = g refl (sym (some-is y x h))
   get-either [] y (suc i) x h f g = absurd cc
   get-either (z ∷ xs) y zero x h f g = f h

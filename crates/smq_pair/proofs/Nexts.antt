@@ -26,7 +26,7 @@ use Rattle.smq_pair.specs.within.Maps.{Holds}
 use Rattle.smq_pair.proofs.Keys.{dir_itself}
 use Rattle.smq_pair.proofs.Lists.{some-is}
 use Rattle.smq_pair.proofs.Standing.{all-test, dir-of}
-use Rattle.smq_pair.proofs.Steps.{pdus-kept, pdu-kept}
+use Rattle.smq_pair.proofs.Entries.{pdus-kept, pdu-kept}
 use Rattle.smq_pair.proofs.Searched.{kept_cmp, place_order, less-from}
 
 abbrev Ascend : List Entry → Type 0
@@ -60,7 +60,8 @@ second false b e = absurd (false≢true e)
 session-le : (a b : Place) → place_cmp a b ≡ Less → a.session.0 ≤ b.session.0
 session-le a b h = by_rank (nat_cmp a.session.0 b.session.0) refl h
   where
-    by_rank : (r : Ordering) → nat_cmp a.session.0 b.session.0 ≡ r → ordering_then r (ordering_then (dir_cmp a.dir b.dir) (nat_cmp a.offset b.offset)) ≡ Less → a.session.0 ≤ b.session.0
+    by_rank : (r : Ordering) → nat_cmp a.session.0 b.session.0 ≡ r
+        → ordering_then r (ordering_then (dir_cmp a.dir b.dir) (nat_cmp a.offset b.offset)) ≡ Less → a.session.0 ≤ b.session.0
     by_rank Less e h = let less : a.session.0 < b.session.0 = ranked a.session.0 b.session.0 Less (sym e) in omega (arith, less)
     by_rank Equal e h = let same : a.session.0 ≡ b.session.0 = ranked a.session.0 b.session.0 Equal (sym e) in omega (arith, same)
     by_rank Greater e h = absurd cc
@@ -73,7 +74,10 @@ last_or : (i n : ℕ) → i < n → (i ≡ n - 1) ⊎ (i < n - 1)
 last_or i zero h = absurd (omega (arith, h))
 last_or zero (suc zero) h = inl refl
 last_or zero (suc (suc n)) h = inr (omega arith)
-last_or (suc i) (suc n) h = elim (last_or i n (let less : i < n = omega (arith, h) in less)) [ inl e ↦ inl (omega (arith, e, h)) | inr l ↦ inr (omega (arith, l, h)) ]
+last_or (suc i) (suc n) h = elim (last_or i n (let less : i < n = omega (arith, h) in less)) [
+  | inl e ↦ inl (omega (arith, e, h))
+  | inr l ↦ inr (omega (arith, l, h))
+]
 
 module _ (es : List Entry) (s : Ascend es) (b : Entry) (last : slice_get es (length es - 1) ≡ Some b) where
   before-last : (i : ℕ) (e : Entry) → slice_get es i ≡ Some e → (e ≡ b) ⊎ (place_cmp e.place b.place ≡ Less)
@@ -126,7 +130,8 @@ module _ (es : List Entry) (s : Ascend es) (b : Entry) (last : slice_get es (len
         let m : b.place.session.0 ≡ session.0 = grind (arith, nat_tests, two) in
         let same : e.place.session.0 ≡ session.0 = omega (arith, l, g, n, m) in
         grind (arith, nat_tests, same)))
-        (λ h. both _ _ (all-test (λ (e : Entry). e.place.session.0 == session.0) es 0 a h start) (all-test (λ (e : Entry). e.place.session.0 == session.0) es (length es - 1) b h last))
+        (λ h. both _ _ (all-test (λ (e : Entry). e.place.session.0 == session.0) es 0 a h start)
+        (all-test (λ (e : Entry). e.place.session.0 == session.0) es (length es - 1) b h last))
 
 -- ---- what is next
 
@@ -137,23 +142,31 @@ module _ (es : Entries) (place : Place) (o : AreInOrder (pdus_in es)) where
   sessions-in : (d : Dir) → list_all is_session (pdus_from d (pdus_in es)) ≡ are_of_session place.session (entries_from d es)
   sessions-in d = ap (list_all is_session) (pdus-kept d es) ∙ list_all-map is_session placed (entries_from d es)
 
-  offsets-in : list_all (λ (p : PlacedHeader). nat_lt p.place.offset place.offset) (pdus_from place.dir (pdus_in es)) ≡ list_all (λ (e : Entry). nat_lt e.place.offset place.offset) (entries_from place.dir es)
-  offsets-in = ap (list_all (λ (p : PlacedHeader). nat_lt p.place.offset place.offset)) (pdus-kept place.dir es) ∙ list_all-map (λ (p : PlacedHeader). nat_lt p.place.offset place.offset) placed (entries_from place.dir es)
+  offsets-in : list_all (λ (p : PlacedHeader). nat_lt p.place.offset place.offset) (pdus_from place.dir (pdus_in es))
+      ≡ list_all (λ (e : Entry). nat_lt e.place.offset place.offset) (entries_from place.dir es)
+  offsets-in = ap (list_all (λ (p : PlacedHeader). nat_lt p.place.offset place.offset)) (pdus-kept place.dir es)
+      ∙ list_all-map (λ (p : PlacedHeader). nat_lt p.place.offset place.offset) placed (entries_from place.dir es)
 
-  less-by-offset : (i : ℕ) (e : Entry) → slice_get (entries_from place.dir es) i ≡ Some e → are_of_session place.session (entries_from place.dir es) ≡ true
+  less-by-offset : (i : ℕ) (e : Entry) → slice_get (entries_from place.dir es) i ≡ Some e
+      → are_of_session place.session (entries_from place.dir es) ≡ true
       → is_lt (place_cmp e.place place) ≡ nat_lt e.place.offset place.offset
   less-by-offset i e at all =
-      let one : (e.place.session.0 == place.session.0) ≡ true = all-test (λ (e : Entry). e.place.session.0 == place.session.0) (entries_from place.dir es) i e all at in
+      let one : (e.place.session.0 == place.session.0) ≡ true = all-test (λ (e : Entry). e.place.session.0 == place.session.0)
+      (entries_from place.dir es) i e all at in
       let session : e.place.session.0 ≡ place.session.0 = grind (arith, nat_tests, one) in
       let dir : e.place.dir ≡ place.dir = dir-of (pdus_in es) place.dir i (placed e) o (pdu-kept place.dir es i e at) in
-      (λ i. is_lt (ordering_then (nat_cmp (session i) place.session.0) (ordering_then (dir_cmp (dir i) place.dir) (nat_cmp e.place.offset place.offset))))
-      ∙ (λ i. is_lt (ordering_then (sym (nat_cmp_is place.session.0 place.session.0 Equal refl) i) (ordering_then (dir_itself place.dir i) (nat_cmp e.place.offset place.offset))))
+      (λ i. is_lt (ordering_then (nat_cmp (session i) place.session.0)
+      (ordering_then (dir_cmp (dir i) place.dir) (nat_cmp e.place.offset place.offset))))
+      ∙ (λ i. is_lt (ordering_then (sym (nat_cmp_is place.session.0 place.session.0 Equal refl) i)
+      (ordering_then (dir_itself place.dir i) (nat_cmp e.place.offset place.offset))))
       ∙ by_offset (nat_cmp e.place.offset place.offset) refl
     where
-      by_offset : (r : Ordering) → nat_cmp e.place.offset place.offset ≡ r → is_lt (nat_cmp e.place.offset place.offset) ≡ nat_lt e.place.offset place.offset
+      by_offset : (r : Ordering) → nat_cmp e.place.offset place.offset ≡ r → is_lt (nat_cmp e.place.offset place.offset)
+          ≡ nat_lt e.place.offset place.offset
       by_offset r h = grind (arith, nat_tests)
 
-  in-dir : (d : Dir) → are_of_session place.session (entries_from FromClient es) ≡ true → are_of_session place.session (entries_from FromCentre es) ≡ true → are_of_session place.session (entries_from d es) ≡ true
+  in-dir : (d : Dir) → are_of_session place.session (entries_from FromClient es) ≡ true
+      → are_of_session place.session (entries_from FromCentre es) ≡ true → are_of_session place.session (entries_from d es) ≡ true
   in-dir FromClient h k = h
   in-dir FromCentre h k = k
 
@@ -163,7 +176,8 @@ module _ (es : Entries) (place : Place) (o : AreInOrder (pdus_in es)) where
       let centre = second (are_of_session place.session es.client) _ h in
       let all = in-dir place.dir client centre in
       record {
-        session = list_all-append is_session (pdus_in es).client (pdus_in es).centre ∙ both _ _ (sessions-in FromClient ∙ client) (sessions-in FromCentre ∙ centre);
+        session = list_all-append is_session (pdus_in es).client (pdus_in es).centre
+            ∙ both _ _ (sessions-in FromClient ∙ client) (sessions-in FromCentre ∙ centre);
         offset = offsets-in ∙ all-from (λ (e : Entry). nat_lt e.place.offset place.offset) (entries_from place.dir es) (λ i e at.
             sym (less-by-offset i e at all) ∙ all-test (λ (e : Entry). is_lt (place_cmp e.place place)) (entries_from place.dir es) i e below at);
       }
@@ -178,10 +192,12 @@ module _ (es : Entries) (place : Place) (o : AreInOrder (pdus_in es)) where
       let both_dirs = sessions-by-next n in
       let all = in-dir place.dir (first _ _ both_dirs) (second (are_of_session place.session es.client) _ both_dirs) in
       all-from (λ (e : Entry). is_lt (place_cmp e.place place)) (entries_from place.dir es) (λ i e at.
-      less-by-offset i e at all ∙ all-test (λ (e : Entry). nat_lt e.place.offset place.offset) (entries_from place.dir es) i e (sym offsets-in ∙ n.offset) at)
+      less-by-offset i e at all ∙ all-test (λ (e : Entry). nat_lt e.place.offset place.offset) (entries_from place.dir es) i e
+      (sym offsets-in ∙ n.offset) at)
 
 -- where all are of its session, a place is next where it is above those of its direction
-pub next-then : (m : Turns) (es : Entries) (v : PairingValue) (place : Place) (a b : Bool) → Holds m es → pdus_in es ≡ v → a ≡ are_all_of_session place.session es → a ≡ true
+pub next-then : (m : Turns) (es : Entries) (v : PairingValue) (place : Place) (a b : Bool) → Holds m es → pdus_in es ≡ v
+    → a ≡ are_all_of_session place.session es → a ≡ true
     → b ≡ are_below place (entries_from place.dir es) → (b ≡ true → IsNext v place) × (IsNext v place → b ≡ true)
 next-then m es v place a b h view is yes' below = (
   (λ e. subst (λ (v : PairingValue). IsNext v place) view (next-by-ends es place h.in_order (sym is ∙ yes') (sym below ∙ e))),
@@ -189,7 +205,8 @@ next-then m es v place a b h view is yes' below = (
 )
 
 -- and elsewhere it isn't
-pub next-else : (m : Turns) (es : Entries) (v : PairingValue) (place : Place) (a : Bool) → Holds m es → pdus_in es ≡ v → a ≡ are_all_of_session place.session es → a ≡ false
+pub next-else : (m : Turns) (es : Entries) (v : PairingValue) (place : Place) (a : Bool) → Holds m es → pdus_in es ≡ v
+    → a ≡ are_all_of_session place.session es → a ≡ false
     → (a ≡ true → IsNext v place) × (IsNext v place → a ≡ true)
 next-else m es v place a h view is no' = (
   (λ e. absurd (false≢true (sym no' ∙ e))),
@@ -201,12 +218,14 @@ pub read-ascends : (xs es : List Entry) → xs ≡ es → Ascend es → Ascend x
 read-ascends xs es is s = subst Ascend (sym is) s
 
 -- what the ends that were read say
-pub session-of-ends : (es : List Entry) (a b : Entry) (session : SessionId) → Ascend es → slice_get es 0 ≡ Some a → slice_get es (length es - 1) ≡ Some b
+pub session-of-ends : (es : List Entry) (a b : Entry) (session : SessionId) → Ascend es → slice_get es 0 ≡ Some a
+    → slice_get es (length es - 1) ≡ Some b
     → a.place.session.0 ≡ session.0 → (b.place.session.0 == session.0) ≡ are_of_session session es
 session-of-ends es a b session s start last same =
     let one : (a.place.session.0 == session.0) ≡ true = grind (arith, nat_tests, same) in
     ap (λ t. t && b.place.session.0 == session.0) (sym one) ∙ session-by-ends es s b last a start session
 
-pub below-of-last : (xs es : List Entry) (b : Entry) (place : Place) → xs ≡ es → Ascend es → slice_get xs (length xs - 1) ≡ Some b → is_lt (kept_cmp b.place place) ≡ are_below place es
+pub below-of-last : (xs es : List Entry) (b : Entry) (place : Place) → xs ≡ es → Ascend es → slice_get xs (length xs - 1) ≡ Some b
+    → is_lt (kept_cmp b.place place) ≡ are_below place es
 below-of-last xs es b place is s last =
     ap is_lt (place_order b.place place) ∙ below-by-last es s b (ap (λ ys. slice_get ys (length ys - 1)) (sym is) ∙ last) place

@@ -45,7 +45,8 @@ one_all : {X : Type 0} (test : X → Bool) (xs : List X) (x : X) → list_all te
 one_all test xs x h k = list_all-append test xs (x ∷ []) ∙ both (list_all test xs) (list_all test (x ∷ [])) h (both (test x) true k refl)
 
 -- what stands in two lists stands in one of them
-pub get-append : {X : Type 0} (xs ys : List X) (i : ℕ) (x : X) → slice_get (xs ++ ys) i ≡ Some x → (slice_get xs i ≡ Some x) ⊎ ((j : ℕ) × (slice_get ys j ≡ Some x))
+pub get-append : {X : Type 0} (xs ys : List X) (i : ℕ) (x : X) → slice_get (xs ++ ys) i ≡ Some x
+    → (slice_get xs i ≡ Some x) ⊎ ((j : ℕ) × (slice_get ys j ≡ Some x))
 get-append [] ys i x at = inr (i, at)
 get-append (z ∷ xs) ys zero x at = inl at
 get-append (z ∷ xs) ys (suc i) x at = get-append xs ys i x at
@@ -55,19 +56,22 @@ Ascends xs = IsStrictlySortedBy place_cmp (map (λ (x : PlacedHeader). x.place) 
 
 module _ (v : PairingValue) (p : PlacedHeader) (o : AreInOrder v) (n : IsNext v p.place) where
   sessions_of : (d : Dir) → list_all (λ (x : PlacedHeader). x.place.session.0 == p.place.session.0) (pdus_from d v) ≡ true
-  sessions_of FromClient = first _ _ (sym (list_all-append (λ (x : PlacedHeader). x.place.session.0 == p.place.session.0) v.client v.centre) ∙ n.session)
+  sessions_of FromClient = first _ _ (sym (list_all-append (λ (x : PlacedHeader). x.place.session.0 == p.place.session.0) v.client
+      v.centre) ∙ n.session)
   sessions_of FromCentre =
       second (list_all (λ (x : PlacedHeader). x.place.session.0 == p.place.session.0) v.client) _
       (sym (list_all-append (λ (x : PlacedHeader). x.place.session.0 == p.place.session.0) v.client v.centre) ∙ n.session)
 
   session_of : (d : Dir) (i : ℕ) (x : PlacedHeader) → slice_get (pdus_from d v) i ≡ Some x → x.place.session.0 ≡ p.place.session.0
   session_of d i x at =
-      let e : (x.place.session.0 == p.place.session.0) ≡ true = all-test (λ (x : PlacedHeader). x.place.session.0 == p.place.session.0) (pdus_from d v) i x (sessions_of d) at in
+      let e : (x.place.session.0 == p.place.session.0) ≡ true =
+      all-test (λ (x : PlacedHeader). x.place.session.0 == p.place.session.0) (pdus_from d v) i x (sessions_of d) at in
       grind (arith, nat_tests, e)
 
   offset_of : (i : ℕ) (x : PlacedHeader) → slice_get (pdus_from p.place.dir v) i ≡ Some x → x.place.offset < p.place.offset
   offset_of i x at =
-      let e : nat_lt x.place.offset p.place.offset ≡ true = all-test (λ (x : PlacedHeader). nat_lt x.place.offset p.place.offset) (pdus_from p.place.dir v) i x n.offset at in
+      let e : nat_lt x.place.offset p.place.offset ≡ true = all-test (λ (x : PlacedHeader). nat_lt x.place.offset p.place.offset)
+      (pdus_from p.place.dir v) i x n.offset at in
       grind (arith, nat_tests, e)
 
   below_in : (d : Dir) → p.place.dir ≡ d → (i : ℕ) (x : PlacedHeader) → slice_get (pdus_from d v) i ≡ Some x → place_cmp x.place p.place ≡ Less

@@ -27,30 +27,39 @@ header-at ps i p at = slice_get-map (λ (p : PlacedHeader). p.header) ps i ∙ a
 pub partner-request : (v : PairingValue) (d : Dir) (i : ℕ) (h : Header) → is_request h ≡ true
     → partner_of v d i h ≡ response_index (headers_from (opposite d) v) h.seq (request_rank (headers_from d v) i h.seq)
 partner-request v d i h e =
-    ap (λ s. option_and_then (λ t. index_at v (partner t)) (option_map (turn_after (take i (headers_from d v))) (option_map (λ side. record { dir = d; side = side; seq = h.seq }) s))) (side-request h e)
+    ap (λ s. option_and_then (λ t. index_at v (partner t))
+    (option_map (turn_after (take i (headers_from d v))) (option_map (λ side. record { dir = d; side = side; seq = h.seq }) s)))
+    (side-request h e)
 
 -- and the index of a response's is that of its request
 pub partner-response : (v : PairingValue) (d : Dir) (i : ℕ) (h : Header) → is_response h ≡ true
     → partner_of v d i h ≡ nth_index (is_request_of h.seq) (headers_from (opposite d) v) (response_rank (headers_from d v) i h.seq)
 partner-response v d i h e =
-    ap (λ s. option_and_then (λ t. index_at v (partner t)) (option_map (turn_after (take i (headers_from d v))) (option_map (λ side. record { dir = d; side = side; seq = h.seq }) s))) (side-response h e)
+    ap (λ s. option_and_then (λ t. index_at v (partner t))
+    (option_map (turn_after (take i (headers_from d v))) (option_map (λ side. record { dir = d; side = side; seq = h.seq }) s)))
+    (side-response h e)
 
 -- what is neither has none
 partner-neither : (v : PairingValue) (d : Dir) (i : ℕ) (h : Header) → is_request h ≡ false → is_response h ≡ false → partner_of v d i h ≡ None
 partner-neither v d i h e f =
-    (λ x. option_and_then (λ t. index_at v (partner t)) (option_map (turn_after (take i (headers_from d v))) (option_map (λ side. record { dir = d; side = side; seq = h.seq }) (cond (e x) (Some Request) (cond (f x) (Some Response) None)))))
+    (λ x. option_and_then (λ t. index_at v (partner t))
+    (option_map (turn_after (take i (headers_from d v))) (option_map (λ side. record { dir = d; side = side; seq = h.seq })
+    (cond (e x) (Some Request) (cond (f x) (Some Response) None)))))
 
 -- ---- each pair by rank is found
 
-module _ (v : PairingValue) (d : Dir) (i j : ℕ) (request response : PlacedHeader) (o : AreInOrder v) (by : IsPairByRank v d i j request response) where
+module _ (v : PairingValue) (d : Dir) (i j : ℕ) (request response : PlacedHeader) (o : AreInOrder v)
+    (by : IsPairByRank v d i j request response) where
   at-request : pair_at v request.place ≡ Some (pair_of request response)
   at-request =
       pair-here v d i request o by.request_at
-      ∙ ap (pair_with v d request) (partner-request v d i request.header by.by_rank.is_request ∙ finds_each (headers_from d v) (headers_from (opposite d) v) i j request.header response.header by.by_rank)
+      ∙ ap (pair_with v d request) (partner-request v d i request.header by.by_rank.is_request
+      ∙ finds_each (headers_from d v) (headers_from (opposite d) v) i j request.header response.header by.by_rank)
       ∙ ap (option_map (pair_either request)) by.response_at
       ∙ ap (λ b. Some (cond b (pair_of request response) (pair_of response request))) by.by_rank.is_request
 
-  request_found : nth_index (is_request_of response.header.seq) (headers_from d v) (response_rank (headers_from (opposite d) v) j response.header.seq) ≡ Some i
+  request_found : nth_index (is_request_of response.header.seq) (headers_from d v)
+      (response_rank (headers_from (opposite d) v) j response.header.seq) ≡ Some i
   request_found =
       let same : request.header.seq ≡ response.header.seq = by.by_rank.seq in
       let itself : (request.header.seq == request.header.seq) ≡ true = grind (arith, nat_tests) in
@@ -63,7 +72,8 @@ module _ (v : PairingValue) (d : Dir) (i j : ℕ) (request response : PlacedHead
       pair-here v (opposite d) j response o by.response_at
       ∙ ap (pair_with v (opposite d) response) (
       partner-response v (opposite d) j response.header by.by_rank.is_response
-      ∙ ap (λ (d' : Dir). nth_index (is_request_of response.header.seq) (headers_from d' v) (response_rank (headers_from (opposite d) v) j response.header.seq)) (opposite-back d)
+      ∙ ap (λ (d' : Dir). nth_index (is_request_of response.header.seq) (headers_from d' v)
+      (response_rank (headers_from (opposite d) v) j response.header.seq)) (opposite-back d)
       ∙ request_found)
       ∙ ap (λ (d' : Dir). option_map (pair_either response) (slice_get (pdus_from d' v) i)) (opposite-back d)
       ∙ ap (option_map (pair_either response)) by.request_at
@@ -76,20 +86,32 @@ finds-each-pair v d i j request response o by = (at-request v d i j request resp
 
 module _ (v : PairingValue) (d : Dir) (i : ℕ) (p : PlacedHeader) (at : slice_get (pdus_from d v) i ≡ Some p) where
   -- the PDU is the request
-  of-request : (j : ℕ) (r : PlacedHeader) → is_request p.header ≡ true → partner_of v d i p.header ≡ Some j → slice_get (pdus_from (opposite d) v) j ≡ Some r → IsPairByRank v d i j p r
+  of-request : (j : ℕ) (r : PlacedHeader) → is_request p.header ≡ true → partner_of v d i p.header ≡ Some j
+      → slice_get (pdus_from (opposite d) v) j ≡ Some r → IsPairByRank v d i j p r
   of-request j r e is there =
-      let pair = finds_pairs (headers_from d v) (headers_from (opposite d) v) i j p.header (header-at (pdus_from d v) i p at) e (sym (partner-request v d i p.header e) ∙ is) in
-      let same : pair.0 ≡ r.header = one_of (slice_get (headers_from (opposite d) v) j) pair.0 r.header (pair.1).response_at (header-at (pdus_from (opposite d) v) j r there) in
-      record { request_at = at; response_at = there; by_rank = subst (λ (h : Header). IsPair (headers_from d v) (headers_from (opposite d) v) i j p.header h) same pair.1 }
+      let pair = finds_pairs (headers_from d v) (headers_from (opposite d) v) i j p.header (header-at (pdus_from d v) i p at) e
+      (sym (partner-request v d i p.header e) ∙ is) in
+      let same : pair.0 ≡ r.header = one_of (slice_get (headers_from (opposite d) v) j) pair.0 r.header (pair.1).response_at
+      (header-at (pdus_from (opposite d) v) j r there) in
+      record {
+        request_at = at;
+        response_at = there;
+        by_rank =
+            subst (λ (h : Header). IsPair (headers_from d v) (headers_from (opposite d) v) i j p.header h) same pair.1;
+      }
 
   -- the PDU is the response
-  of-response : (j : ℕ) (r : PlacedHeader) → is_response p.header ≡ true → partner_of v d i p.header ≡ Some j → slice_get (pdus_from (opposite d) v) j ≡ Some r → IsPairByRank v (opposite d) j i r p
+  of-response : (j : ℕ) (r : PlacedHeader) → is_response p.header ≡ true → partner_of v d i p.header ≡ Some j
+      → slice_get (pdus_from (opposite d) v) j ≡ Some r → IsPairByRank v (opposite d) j i r p
   of-response j r e is there =
-      let s = stands (is_request_of p.header.seq) (headers_from (opposite d) v) (response_rank (headers_from d v) i p.header.seq) j (sym (partner-response v d i p.header e) ∙ is) in
-      let same : s.element ≡ r.header = one_of (slice_get (headers_from (opposite d) v) j) s.element r.header s.there (header-at (pdus_from (opposite d) v) j r there) in
+      let s = stands (is_request_of p.header.seq) (headers_from (opposite d) v) (response_rank (headers_from d v) i p.header.seq) j
+      (sym (partner-response v d i p.header e) ∙ is) in
+      let same : s.element ≡ r.header = one_of (slice_get (headers_from (opposite d) v) j) s.element r.header s.there
+      (header-at (pdus_from (opposite d) v) j r there) in
       let passes : is_request_of p.header.seq r.header ≡ true = ap (is_request_of p.header.seq) (sym same) ∙ s.passes in
       let seq : r.header.seq ≡ p.header.seq = equal_is r.header.seq p.header.seq (and_second (is_request r.header) _ passes) in
-      let back : slice_get (pdus_from (opposite (opposite d)) v) i ≡ Some p = ap (λ (d' : Dir). slice_get (pdus_from d' v) i) (opposite-back d) ∙ at in
+      let back : slice_get (pdus_from (opposite (opposite d)) v) i ≡ Some p =
+      ap (λ (d' : Dir). slice_get (pdus_from d' v) i) (opposite-back d) ∙ at in
       record {
         request_at = there;
         response_at = back;
@@ -105,11 +127,13 @@ module _ (v : PairingValue) (d : Dir) (i : ℕ) (p : PlacedHeader) (at : slice_g
         };
       }
 
-  by_partner : (pair : Pair) (a b : Bool) → is_request p.header ≡ a → is_response p.header ≡ b → (q : Option ℕ) → partner_of v d i p.header ≡ q → pair_with v d p q ≡ Some pair → IsFoundByRank v p.place pair
+  by_partner : (pair : Pair) (a b : Bool) → is_request p.header ≡ a → is_response p.header ≡ b → (q : Option ℕ)
+      → partner_of v d i p.header ≡ q → pair_with v d p q ≡ Some pair → IsFoundByRank v p.place pair
   by_partner pair a b e f None is h = absurd cc
   by_partner pair a b e f (Some j) is h = by_other (slice_get (pdus_from (opposite d) v) j) refl a b e f h
     where
-      by_other : (x : Option PlacedHeader) → slice_get (pdus_from (opposite d) v) j ≡ x → (a b : Bool) → is_request p.header ≡ a → is_response p.header ≡ b
+      by_other : (x : Option PlacedHeader) → slice_get (pdus_from (opposite d) v) j ≡ x → (a b : Bool) → is_request p.header ≡ a
+          → is_response p.header ≡ b
           → option_map (pair_either p) x ≡ Some pair → IsFoundByRank v p.place pair
       by_other None there a b e f h = absurd cc
       by_other (Some r) there true b e f h = record {

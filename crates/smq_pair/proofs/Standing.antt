@@ -42,7 +42,8 @@ all-test test (y ∷ ys) (suc i) x h at = all-test test ys i x (right (test y) (
     right true b e = e
     right false b e = absurd (false≢true e)
 
-pub all-at : {X Y : Type 0} (P : Y → Type 0) (f : X → Y) (xs : List X) (i : ℕ) (x : X) → AllByRecursion P (map f xs) → slice_get xs i ≡ Some x → P (f x)
+pub all-at : {X Y : Type 0} (P : Y → Type 0) (f : X → Y) (xs : List X) (i : ℕ) (x : X) → AllByRecursion P (map f xs)
+    → slice_get xs i ≡ Some x → P (f x)
 all-at P f [] i x a at = absurd cc
 all-at P f (y ∷ ys) zero x a at = subst (λ z. P (f z)) (some-is y x at) a.0
 all-at P f (y ∷ ys) (suc i) x a at = all-at P f ys i x a.1 at
@@ -119,7 +120,8 @@ pub here-place : (p q : Place) → p ≡ q → eq_by_cmp place_cmp p q ≡ true
 here-place p q e = ap (λ x. eq_by_cmp place_cmp p x) (sym e) ∙ ap is_eq (tied_itself places_total p)
 
 pub other-place : (p q : Place) → (p ≡ q → ⊥) → eq_by_cmp place_cmp p q ≡ false
-other-place p q h = elim (eq_by_cmp place_cmp p q) as (λ b. eq_by_cmp place_cmp p q ≡ b → b ≡ false) [ true ↦ λ e. absurd (h (same-place p q e)) | false ↦ λ e. refl ] refl
+other-place p q h = elim (eq_by_cmp place_cmp p q) as (λ b. eq_by_cmp place_cmp p q ≡ b
+    → b ≡ false) [ true ↦ λ e. absurd (h (same-place p q e)) | false ↦ λ e. refl ] refl
 
 -- ---- the PDU at a place
 
@@ -135,34 +137,46 @@ IsNowhere ps q = (i : ℕ) (p : PlacedHeader) → slice_get ps i ≡ Some p → 
 -- a place is that of a PDU, or of none
 pub there-or-not : (ps : List PlacedHeader) (q : Place) → IsThere ps q ⊎ IsNowhere ps q
 there-or-not [] q = inr (λ i p at. absurd cc)
-there-or-not (x ∷ xs) q = elim (eq_by_cmp place_cmp x.place q) as (λ b. eq_by_cmp place_cmp x.place q ≡ b → IsThere (x ∷ xs) q ⊎ IsNowhere (x ∷ xs) q) [
-  | true ↦ λ e. inl (record { index = 0; pdu = x; at = refl; is = same-place x.place q e })
-  | false ↦ λ e. elim (there-or-not xs q) [
-    | inl t ↦ inl (record { index = suc t.index; pdu = t.pdu; at = t.at; is = t.is })
-    | inr h ↦ inr (λ i. elim i as (λ k. (p : PlacedHeader) → slice_get (x ∷ xs) k ≡ Some p → p.place ≢ q) [
-      | zero ↦ λ p at same. false≢true (sym e ∙ here-place x.place q (ap (λ (y : PlacedHeader). y.place) (some-is x p at) ∙ same))
-      | suc k ↦ λ p at same. h k p at same
-    ])
-  ]
-] refl
+there-or-not (x ∷ xs) q = elim (eq_by_cmp place_cmp x.place q) as (λ b. eq_by_cmp place_cmp x.place q ≡ b
+    → IsThere (x ∷ xs) q ⊎ IsNowhere (x ∷ xs) q) [
+      | true ↦ λ e. inl (record { index = 0; pdu = x; at = refl; is = same-place x.place q e })
+      | false ↦ λ e. elim (there-or-not xs q) [
+        | inl t ↦ inl (record { index = suc t.index; pdu = t.pdu; at = t.at; is = t.is })
+        | inr h ↦ inr (λ i. elim i as (λ k. (p : PlacedHeader) → slice_get (x ∷ xs) k ≡ Some p → p.place ≢ q) [
+          | zero ↦ λ p at same. false≢true (sym e ∙ here-place x.place q (ap (λ (y : PlacedHeader). y.place) (some-is x p at) ∙ same))
+          | suc k ↦ λ p at same. h k p at same
+        ])
+      ]
+    ] refl
 
-pub standing-here : (earlier ps : List PlacedHeader) (i : ℕ) (p : PlacedHeader) → IsStrictlySortedBy place_cmp (map (λ (x : PlacedHeader). x.place) ps) → slice_get ps i ≡ Some p
+pub standing-here : (earlier ps : List PlacedHeader) (i : ℕ) (p : PlacedHeader)
+    → IsStrictlySortedBy place_cmp (map (λ (x : PlacedHeader). x.place) ps) → slice_get ps i ≡ Some p
     → slice_get (filter (λ e. eq_by_cmp place_cmp p.place e.1.place) (with_earlier earlier ps)) 0 ≡ Some (earlier ++ take i ps, p)
 standing-here earlier [] i p s at = absurd cc
 standing-here earlier (x ∷ xs) zero p s at =
     let same : x ≡ p = some-is x p at in
-    ap (λ b. slice_get (cond b ((earlier, x) ∷ filter (λ e. eq_by_cmp place_cmp p.place e.1.place) (with_earlier (earlier ++ x ∷ []) xs)) (filter (λ e. eq_by_cmp place_cmp p.place e.1.place) (with_earlier (earlier ++ x ∷ []) xs))) 0) (here-place p.place x.place (ap (λ (y : PlacedHeader). y.place) (sym same)))
+    ap (λ b. slice_get (cond b ((earlier, x)
+    ∷ filter (λ e. eq_by_cmp place_cmp p.place e.1.place) (with_earlier (earlier ++ x ∷ []) xs))
+    (filter (λ e. eq_by_cmp place_cmp p.place e.1.place) (with_earlier (earlier ++ x ∷ []) xs))) 0)
+    (here-place p.place x.place (ap (λ (y : PlacedHeader). y.place) (sym same)))
     ∙ (λ i. Some (sym (append-nil earlier) i, same i))
 standing-here earlier (x ∷ xs) (suc i) p s at =
-    let less : place_cmp x.place p.place ≡ Less = all-at (λ y. place_cmp x.place y ≡ Less) (λ (y : PlacedHeader). y.place) xs i p (sorted_head place_cmp x.place (map (λ (y : PlacedHeader). y.place) xs) s) at in
-    ap (λ b. slice_get (cond b ((earlier, x) ∷ filter (λ e. eq_by_cmp place_cmp p.place e.1.place) (with_earlier (earlier ++ x ∷ []) xs)) (filter (λ e. eq_by_cmp place_cmp p.place e.1.place) (with_earlier (earlier ++ x ∷ []) xs))) 0) (other-place p.place x.place (λ e. not-less p.place (ap (λ y. place_cmp y p.place) e ∙ less)))
+    let less : place_cmp x.place p.place ≡ Less = all-at (λ y. place_cmp x.place y ≡ Less) (λ (y : PlacedHeader). y.place) xs i p
+    (sorted_head place_cmp x.place (map (λ (y : PlacedHeader). y.place) xs) s) at in
+    ap (λ b. slice_get (cond b ((earlier, x)
+    ∷ filter (λ e. eq_by_cmp place_cmp p.place e.1.place) (with_earlier (earlier ++ x ∷ []) xs))
+    (filter (λ e. eq_by_cmp place_cmp p.place e.1.place) (with_earlier (earlier ++ x ∷ []) xs))) 0)
+    (other-place p.place x.place (λ e. not-less p.place (ap (λ y. place_cmp y p.place) e ∙ less)))
     ∙ standing-here (earlier ++ x ∷ []) xs i p (sorted_tail place_cmp x.place (map (λ (y : PlacedHeader). y.place) xs) s) at
     ∙ ap (λ ys. Some (ys, p)) (append_assoc earlier (x ∷ []) (take i xs))
 
-standing-nowhere : (earlier ps : List PlacedHeader) (q : Place) → IsNowhere ps q → slice_get (filter (λ e. eq_by_cmp place_cmp q e.1.place) (with_earlier earlier ps)) 0 ≡ None
+standing-nowhere : (earlier ps : List PlacedHeader) (q : Place) → IsNowhere ps q
+    → slice_get (filter (λ e. eq_by_cmp place_cmp q e.1.place) (with_earlier earlier ps)) 0 ≡ None
 standing-nowhere earlier [] q h = refl
 standing-nowhere earlier (x ∷ xs) q h =
-    ap (λ b. slice_get (cond b ((earlier, x) ∷ filter (λ e. eq_by_cmp place_cmp q e.1.place) (with_earlier (earlier ++ x ∷ []) xs)) (filter (λ e. eq_by_cmp place_cmp q e.1.place) (with_earlier (earlier ++ x ∷ []) xs))) 0) (other-place q x.place (λ e. h 0 x refl (sym e)))
+    ap (λ b. slice_get (cond b ((earlier, x) ∷ filter (λ e. eq_by_cmp place_cmp q e.1.place) (with_earlier (earlier ++ x ∷ []) xs))
+    (filter (λ e. eq_by_cmp place_cmp q e.1.place) (with_earlier (earlier ++ x ∷ []) xs))) 0)
+    (other-place q x.place (λ e. h 0 x refl (sym e)))
     ∙ standing-nowhere (earlier ++ x ∷ []) xs q (λ i. h (suc i))
 
 -- ---- its pair
@@ -174,7 +188,8 @@ pair_either p r = cond (is_request p.header) (pair_of p r) (pair_of r p)
 abbrev pub pair_with : PairingValue → Dir → PlacedHeader → Option ℕ → Option Pair
 pair_with v d p o = option_and_then (λ j. option_map (pair_either p) (slice_get (pdus_from (opposite d) v) j)) o
 
-joined : {X Y : Type 0} (f : X → Y) (xs : List X) (o : Option ℕ) → option_map f (option_and_then (slice_get xs) o) ≡ option_and_then (λ j. option_map f (slice_get xs j)) o
+joined : {X Y : Type 0} (f : X → Y) (xs : List X) (o : Option ℕ) → option_map f (option_and_then (slice_get xs) o)
+    ≡ option_and_then (λ j. option_map f (slice_get xs j)) o
 joined f xs None = refl
 joined f xs (Some j) = refl
 
@@ -193,26 +208,40 @@ module _ (v : PairingValue) (d : Dir) (i : ℕ) (p : PlacedHeader) where
       ∙ in_turn (λ (r : PlacedHeader). g r.header) other (count_by k (take i (headers mine)))
       ∙ ap (option_and_then (slice_get other)) (sym (nth_index-map g (λ (r : PlacedHeader). r.header) other (count_by k (take i (headers mine)))))
 
-  by_kind : (a b : Bool) → is_request p.header ≡ a → is_response p.header ≡ b → pair_after other (take i mine) p ≡ pair_with v d p (partner_of v d i p.header)
+  by_kind : (a b : Bool) → is_request p.header ≡ a → is_response p.header ≡ b → pair_after other (take i mine) p
+      ≡ pair_with v d p (partner_of v d i p.header)
   by_kind true b e f =
-      let at : partner_of v d i p.header ≡ nth_index (is_response_of p.header.seq) (headers other) (count_by (is_request_of p.header.seq) (take i (headers mine))) =
-      ap (λ s. option_and_then (λ t. index_at v (partner t)) (option_map (turn_after (take i (headers mine))) (option_map (λ side. record { dir = d; side = side; seq = p.header.seq }) s))) (side-request p.header e) in
-      ap (λ c. cond c (option_map (λ r. pair_of p r) (response_to other (take i mine) p)) (cond (is_response p.header) (option_map (λ r. pair_of r p) (request_of other (take i mine) p)) None)) e
+      let at : partner_of v d i p.header ≡ nth_index (is_response_of p.header.seq) (headers other)
+      (count_by (is_request_of p.header.seq) (take i (headers mine))) =
+      ap (λ s. option_and_then (λ t. index_at v (partner t))
+      (option_map (turn_after (take i (headers mine))) (option_map (λ side. record { dir = d; side = side; seq = p.header.seq })
+      s))) (side-request p.header e) in
+      ap (λ c. cond c (option_map (λ r. pair_of p r) (response_to other (take i mine) p))
+      (cond (is_response p.header) (option_map (λ r. pair_of r p) (request_of other (take i mine) p)) None)) e
       ∙ ap (option_map (λ r. pair_of p r)) (by_rank (is_response_of p.header.seq) (is_request_of p.header.seq))
-      ∙ joined (λ r. pair_of p r) other (nth_index (is_response_of p.header.seq) (headers other) (count_by (is_request_of p.header.seq) (take i (headers mine))))
+      ∙ joined (λ r. pair_of p r) other (nth_index (is_response_of p.header.seq) (headers other)
+      (count_by (is_request_of p.header.seq) (take i (headers mine))))
       ∙ (λ x. option_and_then (λ j. option_map (λ r. cond (sym e x) (pair_of p r) (pair_of r p)) (slice_get other j)) (sym at x))
   by_kind false true e f =
-      let at : partner_of v d i p.header ≡ nth_index (is_request_of p.header.seq) (headers other) (count_by (is_response_of p.header.seq) (take i (headers mine))) =
-      ap (λ s. option_and_then (λ t. index_at v (partner t)) (option_map (turn_after (take i (headers mine))) (option_map (λ side. record { dir = d; side = side; seq = p.header.seq }) s))) (side-response p.header f) in
-      ap (λ c. cond c (option_map (λ r. pair_of p r) (response_to other (take i mine) p)) (cond (is_response p.header) (option_map (λ r. pair_of r p) (request_of other (take i mine) p)) None)) e
+      let at : partner_of v d i p.header ≡ nth_index (is_request_of p.header.seq) (headers other)
+      (count_by (is_response_of p.header.seq) (take i (headers mine))) =
+      ap (λ s. option_and_then (λ t. index_at v (partner t))
+      (option_map (turn_after (take i (headers mine))) (option_map (λ side. record { dir = d; side = side; seq = p.header.seq })
+      s))) (side-response p.header f) in
+      ap (λ c. cond c (option_map (λ r. pair_of p r) (response_to other (take i mine) p))
+      (cond (is_response p.header) (option_map (λ r. pair_of r p) (request_of other (take i mine) p)) None)) e
       ∙ ap (λ c. cond c (option_map (λ r. pair_of r p) (request_of other (take i mine) p)) None) f
       ∙ ap (option_map (λ r. pair_of r p)) (by_rank (is_request_of p.header.seq) (is_response_of p.header.seq))
-      ∙ joined (λ r. pair_of r p) other (nth_index (is_request_of p.header.seq) (headers other) (count_by (is_response_of p.header.seq) (take i (headers mine))))
+      ∙ joined (λ r. pair_of r p) other (nth_index (is_request_of p.header.seq) (headers other)
+      (count_by (is_response_of p.header.seq) (take i (headers mine))))
       ∙ (λ x. option_and_then (λ j. option_map (λ r. cond (sym e x) (pair_of p r) (pair_of r p)) (slice_get other j)) (sym at x))
   by_kind false false e f =
       let none : side_of p.header ≡ None = (λ x. cond (e x) (Some Request) (cond (f x) (Some Response) None)) in
-      (λ x. cond (e x) (option_map (λ r. pair_of p r) (response_to other (take i mine) p)) (cond (f x) (option_map (λ r. pair_of r p) (request_of other (take i mine) p)) None))
-      ∙ sym (ap (λ s. pair_with v d p (option_and_then (λ t. index_at v (partner t)) (option_map (turn_after (take i (headers mine))) (option_map (λ side. record { dir = d; side = side; seq = p.header.seq }) s)))) none)
+      (λ x. cond (e x) (option_map (λ r. pair_of p r) (response_to other (take i mine) p))
+      (cond (f x) (option_map (λ r. pair_of r p) (request_of other (take i mine) p)) None))
+      ∙ sym (ap (λ s. pair_with v d p (option_and_then (λ t. index_at v (partner t))
+      (option_map (turn_after (take i (headers mine))) (option_map (λ side. record { dir = d; side = side; seq = p.header.seq })
+      s)))) none)
 
 -- ---- directions in order
 
@@ -225,9 +254,11 @@ dir-ascends v FromClient o = ascend-front (λ (x : PlacedHeader). x.place) v.cli
 dir-ascends v FromCentre o = ascend-back (λ (x : PlacedHeader). x.place) v.client v.centre o.ascend
 
 -- the pair of the PDU at an index of a direction is that with its partner
-pub pair-here : (v : PairingValue) (d : Dir) (i : ℕ) (p : PlacedHeader) → AreInOrder v → slice_get (pdus_from d v) i ≡ Some p → pair_at v p.place ≡ pair_with v d p (partner_of v d i p.header)
+pub pair-here : (v : PairingValue) (d : Dir) (i : ℕ) (p : PlacedHeader) → AreInOrder v → slice_get (pdus_from d v) i ≡ Some p
+    → pair_at v p.place ≡ pair_with v d p (partner_of v d i p.header)
 pair-here v d i p o at =
-    ap (λ (e : Dir). option_and_then (λ e'. pair_after (pdus_from (opposite e) v) e'.0 e'.1) (standing_at p.place (pdus_from e v))) (dir-of v d i p o at)
+    ap (λ (e : Dir). option_and_then (λ e'. pair_after (pdus_from (opposite e) v) e'.0 e'.1) (standing_at p.place (pdus_from e v)))
+    (dir-of v d i p o at)
     ∙ ap (option_and_then (λ e'. pair_after (pdus_from (opposite d) v) e'.0 e'.1)) (standing-here [] (pdus_from d v) i p (dir-ascends v d o) at)
     ∙ by_kind v d i p (is_request p.header) (is_response p.header) refl refl
 

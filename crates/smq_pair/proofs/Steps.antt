@@ -1,257 +1,48 @@
 -- What the code keeps, with one PDU more.
-use Rattle.std.proofs.Common.{◌≡◌, ◌≢◌, ℕ, zero, suc, ◌+◌, ◌<◌, ◌^◌, Bool, true, false, cond, List, [], ◌∷◌, ◌++◌, length, Option, Some, None, refl, sym, ap, ◌∙◌, subst, arith}
-use Rattle.std.specs.Prelude.{IfSome, MatchOption, count_by, map, option_map, option_and_then, slice_get, slice_set, is_none}
+use Rattle.std.proofs.Common.{◌≡◌, ◌≢◌, ℕ, ◌+◌, ◌<◌, ◌^◌, true, false, cond, List, length, Option, Some, None, refl, sym, ap, ◌∙◌, subst, arith}
+use Rattle.std.specs.Prelude.{IfSome, MatchOption, count_by, option_map, option_and_then, slice_get}
 use Rattle.std.specs.BTreeMap.{is_at}
-use Rattle.std.proofs.lemmas.List.{map-append, length-map}
-use Rattle.std.proofs.lemmas.List.Sums.{sum_by-cons, sum_by-append, count_by-le-length}
+use Rattle.std.proofs.lemmas.List.{length-map}
+use Rattle.std.proofs.lemmas.List.Sums.{count_by-le-length}
 use Rattle.std.proofs.lemmas.Option.{slice_get-map, slice_get_within}
 use Rattle.smq_kit.specs.declared.place.Dir.{Dir}
 use Rattle.smq_kit.specs.declared.place.Dir.TheVariants.{FromClient, FromCentre}
-use Rattle.smq_pdu.specs.Header.{Header}
 use Rattle.smq_pair.specs.declared.entry.Entry.{Entry}
 use Rattle.smq_pair.specs.declared.entry.Series.{Series}
 use Rattle.smq_pair.specs.declared.entry.Turn.{Turn}
 use Rattle.smq_pair.specs.declared.turns.Turns.{Turns}
-use Rattle.smq_pair.specs.Pairing.{PlacedHeader, PairingValue, pdus_from, opposite, headers, pair_at}
-use Rattle.smq_pair.specs.Growth.{AreInOrder, IsNext, pushed, pushed_in}
-use Rattle.smq_pair.specs.within.Turns.{is_of, headers_from, count_in, index_at, unpaired_at, partner, series_of, turn_after, turn_of, partner_of}
-use Rattle.smq_pair.specs.within.Kept.{Entries, HasPartnerIn, IsAdded, IsLinked, appended, entries_from, header_of, placed, pair_by, pair_kept, pdus_in, with_partner}
-use Rattle.smq_pair.specs.within.Maps.{Enters, Holds, IsEntered, count_kept, next_kept, series_cmp, turn_cmp, unpaired_after, unpaired_kept}
-use Rattle.smq_pair.proofs.Keys.{turn-same, turn-other, series-same, series-other}
-use Rattle.smq_pair.proofs.Lists.{some-is, get-last, get-either, never, one_of}
+use Rattle.smq_pair.specs.Pairing.{PlacedHeader, PairingValue, pdus_from, opposite, pair_at}
+use Rattle.smq_pair.specs.Growth.{AreInOrder, IsNext, pushed}
+use Rattle.smq_pair.specs.within.Turns.{is_of, headers_from, count_in, index_at, unpaired_at, partner, series_of, turn_after, partner_of}
+use Rattle.smq_pair.specs.within.Kept.{Entries, HasPartnerIn, IsAdded, IsLinked, appended, entries_from, header_of, placed, pair_by, pair_kept, pdus_in}
+use Rattle.smq_pair.specs.within.Maps.{Enters, Holds, IsEntered, count_kept, next_kept, series_cmp, unpaired_after, unpaired_kept}
+use Rattle.smq_pair.proofs.Keys.{series-same, series-other}
+use Rattle.smq_pair.proofs.Lists.{some-is, get-last, never}
 use Rattle.smq_pair.proofs.Turned
-use Rattle.smq_pair.proofs.Turned.{StandsAt, by_dir, opposite-back, opposite-apart, partner-back, partner-apart, pushed-apart, pushed-by, headers-by, series-of, turn-found, turn-stands, next_turn, next-dir, next-rank, index-free, index-next, index-others, turn-stays, turn-last}
+use Rattle.smq_pair.proofs.Turned.{opposite-back, opposite-apart, partner-back, pushed-apart, pushed-by, turn-found, turn-stands, next_turn, next-dir, index-others}
 use Rattle.smq_pair.proofs.Standing.{pair_either, pair_with, pair-here}
 use Rattle.smq_pair.proofs.Order.{in-order-next}
-
--- ---- entries and what they say
-
-pub pdus-kept : (d : Dir) (es : Entries) → pdus_from d (pdus_in es) ≡ map placed (entries_from d es)
-pdus-kept FromClient es = refl
-pdus-kept FromCentre es = refl
-
--- the header of an entry stands at its index
-pub header-kept : (d : Dir) (es : Entries) (i : ℕ) (e : Entry) → slice_get (entries_from d es) i ≡ Some e → slice_get (headers_from d (pdus_in es)) i ≡ Some (header_of e)
-header-kept d es i e at =
-    ap (λ ps. slice_get (headers ps) i) (pdus-kept d es)
-    ∙ slice_get-map (λ (p : PlacedHeader). p.header) (map placed (entries_from d es)) i
-    ∙ ap (option_map (λ (p : PlacedHeader). p.header)) (slice_get-map placed (entries_from d es) i ∙ ap (option_map placed) at)
-
-pub pdu-kept : (d : Dir) (es : Entries) (i : ℕ) (e : Entry) → slice_get (entries_from d es) i ≡ Some e → slice_get (pdus_from d (pdus_in es)) i ≡ Some (placed e)
-pdu-kept d es i e at = ap (λ ps. slice_get ps i) (pdus-kept d es) ∙ slice_get-map placed (entries_from d es) i ∙ ap (option_map placed) at
-
--- what has a header has an entry
-entry-of : (xs : List Entry) (i : ℕ) (h : Header) → slice_get (headers (map placed xs)) i ≡ Some h → (e : Entry) × (slice_get xs i ≡ Some e)
-entry-of [] i h at = absurd cc
-entry-of (x ∷ xs) zero h at = (x, refl)
-entry-of (x ∷ xs) (suc i) h at = entry-of xs i h at
-
-pub entry-kept : (d : Dir) (es : Entries) (i : ℕ) (h : Header) → slice_get (headers_from d (pdus_in es)) i ≡ Some h → (e : Entry) × (slice_get (entries_from d es) i ≡ Some e)
-entry-kept d es i h at = entry-of (entries_from d es) i h (ap (λ ps. slice_get (headers ps) i) (sym (pdus-kept d es)) ∙ at)
-
-appended-in : (d : Dir) (e : Entry) (es : Entries) → pdus_in (appended d e es) ≡ pushed_in d (pdus_in es) (placed e)
-appended-in FromClient e es = λ i. record { client = map-append placed es.client (e ∷ []) i; centre = map placed es.centre }
-appended-in FromCentre e es = λ i. record { client = map placed es.client; centre = map-append placed es.centre (e ∷ []) i }
-
-appended-same : (d : Dir) (e : Entry) (es : Entries) → entries_from d (appended d e es) ≡ entries_from d es ++ e ∷ []
-appended-same FromClient e es = refl
-appended-same FromCentre e es = refl
-
-appended-apart : (d f : Dir) (e : Entry) (es : Entries) → d ≢ f → entries_from d (appended f e es) ≡ entries_from d es
-appended-apart FromClient FromClient e es h = absurd (h refl)
-appended-apart FromClient FromCentre e es h = refl
-appended-apart FromCentre FromClient e es h = refl
-appended-apart FromCentre FromCentre e es h = absurd (h refl)
-
-length-kept : (d : Dir) (es : Entries) → length (pdus_from d (pdus_in es)) ≡ length (entries_from d es)
-length-kept d es = ap length (pdus-kept d es) ∙ length-map (entries_from d es) placed
-
--- an entry of a direction with one more is an old one or the new one
-appended-get : {A : Type 0} (d f : Dir) (e : Entry) (es : Entries) (i : ℕ) (x : Entry) → slice_get (entries_from d (appended f e es)) i ≡ Some x
-    → (slice_get (entries_from d es) i ≡ Some x → A) → (d ≡ f → i ≡ length (entries_from f es) → x ≡ e → A) → A
-appended-get d f e es i x at old new = by_dir d f
-    (λ same.
-    get-either (entries_from f es) e i x (ap (λ xs. slice_get xs i) (sym (appended-same f e es)) ∙ subst (λ (d' : Dir). slice_get (entries_from d' (appended f e es)) i ≡ Some x) same at)
-    (λ at'. old (subst (λ (d' : Dir). slice_get (entries_from d' es) i ≡ Some x) (sym same) at'))
-    (new same))
-    (λ apart. old (ap (λ xs. slice_get xs i) (sym (appended-apart d f e es apart)) ∙ at))
-
--- ---- an entry that is given its partner
-
-placed-set : (xs : List Entry) (j k : ℕ) (e : Entry) → slice_get xs j ≡ Some e → map placed (slice_set xs j (with_partner k e)) ≡ map placed xs
-placed-set [] j k e at = refl
-placed-set (x ∷ xs) zero k e at = let same : x ≡ e = some-is x e at in ap (λ (y : Entry). placed y ∷ map placed xs) (sym same)
-placed-set (x ∷ xs) (suc j) k e at = ap (λ ps. placed x ∷ ps) (placed-set xs j k e at)
-
-set-get : {A : Type 0} (xs : List Entry) (j k : ℕ) (e : Entry) (i : ℕ) (x : Entry) → slice_get xs j ≡ Some e → slice_get (slice_set xs j (with_partner k e)) i ≡ Some x
-    → (i ≢ j → slice_get xs i ≡ Some x → A) → (i ≡ j → x ≡ with_partner k e → A) → A
-set-get [] j k e i x at h old new = absurd cc
-set-get (y ∷ ys) zero k e zero x at h old new = new refl (sym (some-is _ x h))
-set-get (y ∷ ys) zero k e (suc i) x at h old new = old (λ same. absurd (omega (arith, same))) h
-set-get (y ∷ ys) (suc j) k e zero x at h old new = old (λ same. absurd (omega (arith, same))) h
-set-get (y ∷ ys) (suc j) k e (suc i) x at h old new = set-get ys j k e i x at h (λ apart. old (λ same. apart (let one : i ≡ j = omega (arith, same) in one))) (λ same. new (ap suc same))
-
-by_opposite : {A : Type 0} (d f : Dir) → (f ≡ d → A) → (f ≡ opposite d → A) → A
-by_opposite FromClient FromClient f g = f refl
-by_opposite FromClient FromCentre f g = g refl
-by_opposite FromCentre FromClient f g = g refl
-by_opposite FromCentre FromCentre f g = f refl
-
-same_pdus : (es fs : Entries) → map placed fs.client ≡ map placed es.client → map placed fs.centre ≡ map placed es.centre → pdus_in fs ≡ pdus_in es
-same_pdus es fs h k = λ i. record { client = h i; centre = k i }
-
-pub linked-pdus : (d : Dir) (j k : ℕ) (es fs : Entries) → IsLinked d j k es fs → pdus_in fs ≡ pdus_in es
-linked-pdus FromClient j k es fs l = same_pdus es fs (ap (map placed) l.set ∙ placed-set es.client j k l.entry l.at) (ap (map placed) l.other)
-linked-pdus FromCentre j k es fs l = same_pdus es fs (ap (map placed) l.other) (ap (map placed) l.set ∙ placed-set es.centre j k l.entry l.at)
-
--- an entry after the link is as before, or is the linked one
-linked-get : {A : Type 0} (d : Dir) (j k : ℕ) (es fs : Entries) → IsLinked d j k es fs → (f : Dir) (i : ℕ) (x : Entry) → slice_get (entries_from f fs) i ≡ Some x
-    → ((f ≡ d → i ≢ j) → slice_get (entries_from f es) i ≡ Some x → A) → ((e : Entry) → slice_get (entries_from f es) i ≡ Some e → f ≡ d → i ≡ j → x ≡ with_partner k e → A) → A
-linked-get d j k es fs l f i x at old new = by_opposite d f
-    (λ same.
-    set-get (entries_from d es) j k l.entry i x l.at (ap (λ xs. slice_get xs i) (sym l.set) ∙ subst (λ (f' : Dir). slice_get (entries_from f' fs) i ≡ Some x) same at)
-    (λ apart at'. old (λ _. apart) (subst (λ (f' : Dir). slice_get (entries_from f' es) i ≡ Some x) (sym same) at'))
-    (λ here is. new l.entry (subst (λ (f' : Dir). slice_get (entries_from f' es) i ≡ Some l.entry) (sym same) (ap (slice_get (entries_from d es)) here ∙ l.at)) same here is))
-    (λ same.
-    old (λ back. absurd (opposite-apart d (sym same ∙ back)))
-    (ap (λ (f' : Dir). slice_get (entries_from f' es) i) same ∙ ap (λ xs. slice_get xs i) (sym l.other) ∙ subst (λ (f' : Dir). slice_get (entries_from f' fs) i ≡ Some x) same at))
-
--- ---- counts
-
-count-last : {X : Type 0} (p : X → Bool) (xs : List X) (x : X) → count_by p (xs ++ x ∷ []) ≡ count_by p xs + cond (p x) 1 0
-count-last p xs x = omega (arith, sum_by-append (λ y. cond (p y) 1 0) xs (x ∷ []), sum_by-cons (λ y. cond (p y) 1 0) x [])
-
-module _ (v : PairingValue) (p : PlacedHeader) where
-  count_by_dir : (s : Series) → s.dir ≡ p.place.dir → count_in (pushed v p) s ≡ count_in v s + cond (is_of s.side s.seq p.header) 1 0
-  count_by_dir s e = ap (count_by (is_of s.side s.seq)) (headers-by s.dir v p e) ∙ count-last (is_of s.side s.seq) (headers_from s.dir v) p.header
-
-  count-next : (s : Series) → series_of p.place.dir p.header ≡ Some s → count_in (pushed v p) s ≡ count_in v s + 1
-  count-next s e =
-      let has = Turned.series-has p.place.dir p.header s e in
-      count_by_dir s has.dir ∙ ap (λ b. count_in v s + cond b 1 0) has.passes
-
-  count-others : (s : Series) → series_of p.place.dir p.header ≢ Some s → count_in (pushed v p) s ≡ count_in v s
-  count-others s h = by_dir s.dir p.place.dir
-      (λ same. count_by_dir s same ∙ left same (is_of s.side s.seq p.header) refl)
-      (λ apart. ap (λ ps. count_by (is_of s.side s.seq) (headers ps)) (pushed-apart s.dir p.place.dir v p apart))
-    where
-      left : s.dir ≡ p.place.dir → (b : Bool) → is_of s.side s.seq p.header ≡ b → count_in v s + cond b 1 0 ≡ count_in v s
-      left same true e = absurd (h (series-of p.place.dir s.side s.seq p.header e ∙ (λ i. Some (record { dir = sym same i; side = s.side; seq = s.seq }))))
-      left same false e = omega arith
-
-  -- ---- partners
-
-  -- the partner of what was there stays, where it isn't the new one
-  pub partner-stays : (d : Dir) (i : ℕ) (h : Header) → slice_get (headers_from d v) i ≡ Some h
-      → ((u : Turn) → turn_of v d i h ≡ Some u → next_turn v p ≢ Some (partner u)) → partner_of (pushed v p) d i h ≡ partner_of v d i h
-  partner-stays d i h at apart =
-      ap (option_and_then (λ t. index_at (pushed v p) (partner t))) (turn-stays v p d i h at)
-      ∙ by_turn (turn_of v d i h) apart
-    where
-      by_turn : (o : Option Turn) → ((u : Turn) → o ≡ Some u → next_turn v p ≢ Some (partner u))
-          → option_and_then (λ t. index_at (pushed v p) (partner t)) o ≡ option_and_then (λ t. index_at v (partner t)) o
-      by_turn None h = refl
-      by_turn (Some u) h = index-others v p (partner u) (h u refl)
-
-  -- the new one's is the one of its partner's turn
-  pub partner-next : (t : Turn) → next_turn v p ≡ Some t → partner_of (pushed v p) p.place.dir (length (pdus_from p.place.dir v)) p.header ≡ index_at v (partner t)
-  partner-next t e =
-      ap (option_and_then (λ t. index_at (pushed v p) (partner t))) (turn-last v p ∙ e)
-      ∙ index-others v p (partner t) (λ same. partner-apart t (sym (some-is t (partner t) (sym e ∙ same))))
-
-  pub partner-none : next_turn v p ≡ None → partner_of (pushed v p) p.place.dir (length (pdus_from p.place.dir v)) p.header ≡ None
-  partner-none e = ap (option_and_then (λ t. index_at (pushed v p) (partner t))) (turn-last v p ∙ e)
-
-  -- and it is the partner of that one
-  pub partner-linked : (t : Turn) (j : ℕ) (h : Header) → next_turn v p ≡ Some t → index_at v (partner t) ≡ Some j → slice_get (headers_from (opposite p.place.dir) v) j ≡ Some h
-      → partner_of (pushed v p) (opposite p.place.dir) j h ≡ Some (length (pdus_from p.place.dir v))
-  partner-linked t j h e at there =
-      let s = turn-stands v (partner t) j at in
-      let dir : (partner t).series.dir ≡ opposite p.place.dir = ap opposite (next-dir v p t e) in
-      let same : s.header ≡ h = one_of (slice_get (headers_from (opposite p.place.dir) v) j) s.header h (ap (λ (d : Dir). slice_get (headers_from d v) j) (sym dir) ∙ s.at) there in
-      ap (option_and_then (λ t. index_at (pushed v p) (partner t))) (
-      turn-stays v p (opposite p.place.dir) j h there
-      ∙ (λ i. turn_of v (sym dir i) j (sym same i))
-      ∙ s.turn)
-      ∙ ap (index_at (pushed v p)) (partner-back t)
-      ∙ index-next v p t e
-
--- ---- the maps
-
-unpaired_by : (a b c d : Option ℕ) → a ≡ b → c ≡ d → cond (is_none a) c None ≡ cond (is_none b) d None
-unpaired_by a b c d e f = λ i. cond (is_none (e i)) (f i) None
-
-nothing : (b : Bool) (o : Option ℕ) → o ≡ None → cond b o None ≡ None
-nothing true o e = e
-nothing false o e = refl
-
-module _ (v : PairingValue) (p : PlacedHeader) (t : Turn) (next : next_turn v p ≡ Some t) where
-  no_other : (u : Turn) → u ≢ t → next_turn v p ≢ Some u
-  no_other u h e = h (some-is u t (sym e ∙ next))
-
-  unpaired-free : unpaired_at v t ≡ None
-  unpaired-free = nothing (is_none (index_at v (partner t))) (index_at v t) (index-free v p t next)
-
-  -- the partner's turn has no partner yet
-  pub unpaired-partner : unpaired_at v (partner t) ≡ index_at v (partner t)
-  unpaired-partner = ap (λ (u : Turn). cond (is_none (index_at v u)) (index_at v (partner t)) None) (partner-back t) ∙ ap (λ o. cond (is_none o) (index_at v (partner t)) None) (index-free v p t next)
-
-  -- turns that aren't the new one's or its partner's are as before
-  unpaired-others : (u : Turn) → u ≢ t → u ≢ partner t → unpaired_at (pushed v p) u ≡ unpaired_at v u
-  unpaired-others u h k = unpaired_by _ _ _ _
-      (index-others v p (partner u) (no_other (partner u) (λ e. k (sym (partner-back u) ∙ ap partner e))))
-      (index-others v p u (no_other u h))
-
-  unpaired-own : unpaired_at (pushed v p) t ≡ cond (is_none (index_at v (partner t))) (Some (length (pdus_from p.place.dir v))) None
-  unpaired-own = unpaired_by _ _ _ _ (index-others v p (partner t) (no_other (partner t) (partner-apart t))) (index-next v p t next)
-
-  unpaired-met : unpaired_at (pushed v p) (partner t) ≡ None
-  unpaired-met =
-      ap (λ (u : Turn). cond (is_none (index_at (pushed v p) u)) (index_at (pushed v p) (partner t)) None) (partner-back t)
-      ∙ ap (λ o. cond (is_none o) (index_at (pushed v p) (partner t)) None) (index-next v p t next)
-
-  unpaired_next : (m : Turns) (o : Option ℕ) → ((u : Turn) → unpaired_kept m u ≡ unpaired_at v u) → index_at v (partner t) ≡ o
-      → (u : Turn) → unpaired_after o m t (length (pdus_from p.place.dir v)) u ≡ unpaired_at (pushed v p) u
-  unpaired_next m None kept e u = elim (is_at (turn_cmp t) u) as (λ b. is_at (turn_cmp t) u ≡ b → cond b (Some (length (pdus_from p.place.dir v))) (unpaired_kept m u) ≡ unpaired_at (pushed v p) u) [
-    | true ↦ λ here.
-        sym (ap (unpaired_at (pushed v p)) (sym (turn-same t u here)) ∙ unpaired-own ∙ ap (λ o. cond (is_none o) (Some (length (pdus_from p.place.dir v))) None) e)
-    | false ↦ λ other. kept u ∙ by_partner u (λ same. turn-other t u other (sym same))
-  ] refl
-    where
-      by_partner : (u : Turn) → u ≢ t → unpaired_at v u ≡ unpaired_at (pushed v p) u
-      by_partner u h = elim (is_at (turn_cmp (partner t)) u) as (λ b. is_at (turn_cmp (partner t)) u ≡ b → unpaired_at v u ≡ unpaired_at (pushed v p) u) [
-        | true ↦ λ here.
-            let same : partner t ≡ u = turn-same (partner t) u here in
-            ap (unpaired_at v) (sym same) ∙ unpaired-partner ∙ e ∙ sym unpaired-met ∙ ap (unpaired_at (pushed v p)) same
-        | false ↦ λ other. sym (unpaired-others u h (λ same. turn-other (partner t) u other (sym same)))
-      ] refl
-  unpaired_next m (Some j) kept e u = elim (is_at (turn_cmp (partner t)) u) as (λ b. is_at (turn_cmp (partner t)) u ≡ b → cond b None (unpaired_kept m u) ≡ unpaired_at (pushed v p) u) [
-    | true ↦ λ here. sym (ap (unpaired_at (pushed v p)) (sym (turn-same (partner t) u here)) ∙ unpaired-met)
-    | false ↦ λ other. kept u ∙ by_own u (λ same. turn-other (partner t) u other (sym same))
-  ] refl
-    where
-      by_own : (u : Turn) → u ≢ partner t → unpaired_at v u ≡ unpaired_at (pushed v p) u
-      by_own u h = elim (is_at (turn_cmp t) u) as (λ b. is_at (turn_cmp t) u ≡ b → unpaired_at v u ≡ unpaired_at (pushed v p) u) [
-        | true ↦ λ here.
-            let same : t ≡ u = turn-same t u here in
-            ap (unpaired_at v) (sym same) ∙ unpaired-free ∙ sym (ap (λ o. cond (is_none o) (Some (length (pdus_from p.place.dir v))) None) e) ∙ sym unpaired-own ∙ ap (unpaired_at (pushed v p)) same
-        | false ↦ λ other. sym (unpaired-others u (λ same. turn-other t u other (sym same)) h)
-      ] refl
+use Rattle.smq_pair.proofs.Entries.{pdus-kept, header-kept, pdu-kept, entry-kept, appended-in, length-kept, appended-get, linked-pdus, linked-get}
+use Rattle.smq_pair.proofs.Entered.{count-next, count-others, partner-stays, partner-next, partner-none, partner-linked, unpaired_by, unpaired-partner, unpaired_next}
 
 -- ---- a pair, by the entries
 
-pair_same : (d : Dir) (es : Entries) (e : Entry) (o : Option ℕ) → option_and_then (λ j. option_map (pair_by e) (slice_get (entries_from (opposite d) es) j)) o ≡ pair_with (pdus_in es) d (placed e) o
+pair_same : (d : Dir) (es : Entries) (e : Entry) (o : Option ℕ)
+    → option_and_then (λ j. option_map (pair_by e) (slice_get (entries_from (opposite d) es) j)) o
+    ≡ pair_with (pdus_in es) d (placed e) o
 pair_same d es e None = refl
 pair_same d es e (Some j) =
     sym (joined (slice_get (entries_from (opposite d) es) j))
-    ∙ ap (option_map (pair_either (placed e))) (sym (slice_get-map placed (entries_from (opposite d) es) j) ∙ ap (λ ps. slice_get ps j) (sym (pdus-kept (opposite d) es)))
+    ∙ ap (option_map (pair_either (placed e))) (sym (slice_get-map placed (entries_from (opposite d) es) j)
+    ∙ ap (λ ps. slice_get ps j) (sym (pdus-kept (opposite d) es)))
   where
     joined : (o : Option Entry) → option_map (pair_either (placed e)) (option_map placed o) ≡ option_map (pair_by e) o
     joined None = refl
     joined (Some x) = refl
 
 -- what an entry says is its pair is the pair at its place
-pub pair-found : (m : Turns) (es : Entries) (d : Dir) (i : ℕ) (e : Entry) → Holds m es → e.place.dir ≡ d → slice_get (entries_from d es) i ≡ Some e → pair_kept es e ≡ pair_at (pdus_in es) e.place
+pub pair-found : (m : Turns) (es : Entries) (d : Dir) (i : ℕ) (e : Entry) → Holds m es → e.place.dir ≡ d
+    → slice_get (entries_from d es) i ≡ Some e → pair_kept es e ≡ pair_at (pdus_in es) e.place
 pair-found m es d i e h dir at =
     ap (λ (d' : Dir). option_and_then (λ j. option_map (pair_by e) (slice_get (entries_from (opposite d') es) j)) e.partner) dir
     ∙ pair_same d es e e.partner
@@ -268,7 +59,8 @@ pair-made es e o next is =
     let at : slice_get (pdus_from e.place.dir (pushed v p)) (length (pdus_from e.place.dir v)) ≡ Some p =
     ap (λ ps. slice_get ps (length (pdus_from e.place.dir v))) (pushed-by e.place.dir v p refl) ∙ get-last (pdus_from e.place.dir v) p in
     pair_same e.place.dir es e e.partner
-    ∙ ap (λ ps. option_and_then (λ j. option_map (pair_either p) (slice_get ps j)) e.partner) (sym (pushed-apart (opposite e.place.dir) e.place.dir v p (opposite-apart e.place.dir)))
+    ∙ ap (λ ps. option_and_then (λ j. option_map (pair_either p) (slice_get ps j)) e.partner)
+    (sym (pushed-apart (opposite e.place.dir) e.place.dir v p (opposite-apart e.place.dir)))
     ∙ ap (pair_with (pushed v p) e.place.dir p) is
     ∙ sym (pair-here (pushed v p) e.place.dir (length (pdus_from e.place.dir v)) p (in-order-next v p o next) at)
 
@@ -293,7 +85,8 @@ module _ (m n : Turns) (es : Entries) (e : Entry) (h : Holds m es) (next : IsNex
   abbrev after : PairingValue
   after = pushed before (placed e)
 
-  counted : (s : Series) → series_of e.place.dir (header_of e) ≡ Some s → ((q : Series) → count_kept n q ≡ cond (is_at (series_cmp s) q) (count_kept m s + 1) (count_kept m q))
+  counted : (s : Series) → series_of e.place.dir (header_of e) ≡ Some s
+      → ((q : Series) → count_kept n q ≡ cond (is_at (series_cmp s) q) (count_kept m s + 1) (count_kept m q))
       → (q : Series) → count_kept n q ≡ count_in after q
   counted s is put q =
       put q
@@ -312,11 +105,13 @@ module _ (m n : Turns) (es : Entries) (e : Entry) (h : Holds m es) (next : IsNex
       ap (option_map (turn_after (headers_from e.place.dir before))) is
       ∙ (λ i. Some (record {
         series = s;
-        rank = (ap (λ (d : Dir). count_by (is_of s.side s.seq) (headers_from d before)) (sym (Turned.series-has e.place.dir (header_of e) s is).dir) ∙ sym (h.counts s)) i;
+        rank = (ap (λ (d : Dir). count_by (is_of s.side s.seq) (headers_from d before))
+            (sym (Turned.series-has e.place.dir (header_of e) s is).dir) ∙ sym (h.counts s)) i;
       }))
 
   -- the index that is found is that of the partner
-  pub found-is : (s : Series) (o : Option ℕ) → series_of e.place.dir (header_of e) ≡ Some s → o ≡ unpaired_kept m (partner (next_kept m s)) → index_at before (partner (next_kept m s)) ≡ o
+  pub found-is : (s : Series) (o : Option ℕ) → series_of e.place.dir (header_of e) ≡ Some s
+      → o ≡ unpaired_kept m (partner (next_kept m s)) → index_at before (partner (next_kept m s)) ≡ o
   found-is s o is found =
       sym (unpaired-partner before (placed e) (next_kept m s) (next-is s is)) ∙ sym (h.unpaired (partner (next_kept m s))) ∙ sym found
 
@@ -325,9 +120,11 @@ module _ (m n : Turns) (es : Entries) (e : Entry) (h : Holds m es) (next : IsNex
   holds-passed none alone =
       let free : next_turn before (placed e) ≡ None = ap (option_map (turn_after (headers_from e.place.dir before))) none in
       let no_turn : (u : Turn) → next_turn before (placed e) ≢ Some u = λ u same. never (next_turn before (placed e)) u free same in
-      let partners : (d : Dir) (i : ℕ) (x : Entry) → slice_get (entries_from d (appended e.place.dir e es)) i ≡ Some x → x.partner ≡ partner_of after d i (header_of x) =
+      let partners : (d : Dir) (i : ℕ) (x : Entry) → slice_get (entries_from d (appended e.place.dir e es)) i ≡ Some x
+      → x.partner ≡ partner_of after d i (header_of x) =
       λ d i x at. appended-get d e.place.dir e es i x at
-      (λ old. h.partners d i x old ∙ sym (partner-stays before (placed e) d i (header_of x) (header-kept d es i x old) (λ u turn. no_turn (partner u))))
+      (λ old. h.partners d i x old ∙ sym (partner-stays before (placed e) d i (header_of x) (header-kept d es i x old)
+      (λ u turn. no_turn (partner u))))
       (λ dir last is.
       ap (λ (y : Entry). y.partner) is ∙ alone
       ∙ sym (partner-none before (placed e) free)
@@ -335,11 +132,13 @@ module _ (m n : Turns) (es : Entries) (e : Entry) (h : Holds m es) (next : IsNex
       holds-now m after (appended e.place.dir e es) (sym (appended-in e.place.dir e es)) (record {
         in_order = in-order-next before (placed e) h.in_order next;
         counts = λ q. h.counts q ∙ sym (count-others before (placed e) q (λ same. never (series_of e.place.dir (header_of e)) q none same));
-        unpaired = λ u. h.unpaired u ∙ sym (unpaired_by _ _ _ _ (index-others before (placed e) (partner u) (no_turn (partner u))) (index-others before (placed e) u (no_turn u)));
+        unpaired = λ u. h.unpaired u ∙ sym (unpaired_by _ _ _ _ (index-others before (placed e) (partner u) (no_turn (partner u)))
+            (index-others before (placed e) u (no_turn u)));
         partners = partners;
       })
 
-  module _ (s : Series) (is : series_of e.place.dir (header_of e) ≡ Some s) (put : IsEntered m n s (length (entries_from e.place.dir es)) e.partner) where
+  module _ (s : Series) (is : series_of e.place.dir (header_of e) ≡ Some s)
+      (put : IsEntered m n s (length (entries_from e.place.dir es)) e.partner) where
     abbrev turn : Turn
     turn = next_kept m s
 
@@ -347,7 +146,8 @@ module _ (m n : Turns) (es : Entries) (e : Entry) (h : Holds m es) (next : IsNex
     partner_is = found-is s e.partner is put.met.found
 
     -- what isn't its partner keeps the partner that it has
-    kept-partner : (d : Dir) (i : ℕ) (x : Entry) → slice_get (entries_from d es) i ≡ Some x → (d ≡ opposite e.place.dir → Some i ≢ e.partner) → x.partner ≡ partner_of after d i (header_of x)
+    kept-partner : (d : Dir) (i : ℕ) (x : Entry) → slice_get (entries_from d es) i ≡ Some x
+        → (d ≡ opposite e.place.dir → Some i ≢ e.partner) → x.partner ≡ partner_of after d i (header_of x)
     kept-partner d i x at apart =
         h.partners d i x at
         ∙ sym (partner-stays before (placed e) d i (header_of x) (header-kept d es i x at) (λ u is_turn same.
@@ -361,7 +161,8 @@ module _ (m n : Turns) (es : Entries) (e : Entry) (h : Holds m es) (next : IsNex
         → length (entries_from e.place.dir fs) ≡ length (entries_from e.place.dir es) → Holds n (appended e.place.dir e fs)
     holds-by fs same old long =
         let pdus : pdus_in (appended e.place.dir e fs) ≡ after = appended-in e.place.dir e fs ∙ ap (λ (v : PairingValue). pushed v (placed e)) same in
-        let partners : (d : Dir) (i : ℕ) (x : Entry) → slice_get (entries_from d (appended e.place.dir e fs)) i ≡ Some x → x.partner ≡ partner_of after d i (header_of x) =
+        let partners : (d : Dir) (i : ℕ) (x : Entry) → slice_get (entries_from d (appended e.place.dir e fs)) i ≡ Some x
+        → x.partner ≡ partner_of after d i (header_of x) =
         λ d i x at. appended-get d e.place.dir e fs i x at (old d i x)
         (λ dir last new.
         ap (λ (y : Entry). y.partner) new ∙ sym partner_is
@@ -384,10 +185,12 @@ module _ (m n : Turns) (es : Entries) (e : Entry) (h : Holds m es) (next : IsNex
         refl
 
     -- it has one, whose partner it is
-    pub holds-paired : (j : ℕ) → e.partner ≡ Some j → (fs : Entries) → IsLinked (opposite e.place.dir) j (length (entries_from e.place.dir es)) es fs → Holds n (appended e.place.dir e fs)
+    pub holds-paired : (j : ℕ) → e.partner ≡ Some j → (fs : Entries)
+        → IsLinked (opposite e.place.dir) j (length (entries_from e.place.dir es)) es fs → Holds n (appended e.place.dir e fs)
     holds-paired j some fs link =
         let long : length (entries_from e.place.dir fs) ≡ length (entries_from e.place.dir es) =
-        ap (λ (d : Dir). length (entries_from d fs)) (sym (opposite-back e.place.dir)) ∙ ap length link.other ∙ ap (λ (d : Dir). length (entries_from d es)) (opposite-back e.place.dir) in
+        ap (λ (d : Dir). length (entries_from d fs)) (sym (opposite-back e.place.dir)) ∙ ap length link.other
+        ∙ ap (λ (d : Dir). length (entries_from d es)) (opposite-back e.place.dir) in
         holds-by fs (linked-pdus (opposite e.place.dir) j (length (entries_from e.place.dir es)) es fs link)
         (λ d i x at. linked-get (opposite e.place.dir) j (length (entries_from e.place.dir es)) es fs link d i x at
         (λ apart old. kept-partner d i x old (λ dir same. apart dir (some-is i j (same ∙ some))))
@@ -395,19 +198,29 @@ module _ (m n : Turns) (es : Entries) (e : Entry) (h : Holds m es) (next : IsNex
         ap (λ (z : Entry). z.partner) is_linked
         ∙ ap Some (sym (length-kept e.place.dir es))
         ∙ sym (partner-linked before (placed e) turn j (header_of y) (next-is s is) (partner_is ∙ some)
-        (ap (λ (d : Dir). slice_get (headers_from d before) j) (sym dir) ∙ ap (slice_get (headers_from d before)) (sym here) ∙ header-kept d es i y old))
+        (ap (λ (d : Dir). slice_get (headers_from d before) j) (sym dir) ∙ ap (slice_get (headers_from d before)) (sym here)
+        ∙ header-kept d es i y old))
         ∙ (λ k. partner_of after (sym dir k) (sym here k) (header_of (sym is_linked k)))))
         long
 
     -- the same, where the partner is linked after
-    linked_after : (d : Dir) (j k : ℕ) (fs : Entries) → IsLinked (opposite d) j k (appended d e es) fs → (gs : Entries) × IsLinked (opposite d) j k es gs × (appended d e gs ≡ fs)
-    linked_after FromClient j k fs l =
-        (record { client = es.client; centre = fs.centre }, record { entry = l.entry; at = l.at; set = l.set; other = refl }, (λ i. record { client = sym l.other i; centre = fs.centre }))
-    linked_after FromCentre j k fs l =
-        (record { client = fs.client; centre = es.centre }, record { entry = l.entry; at = l.at; set = l.set; other = refl }, (λ i. record { client = fs.client; centre = sym l.other i }))
+    linked_after : (d : Dir) (j k : ℕ) (fs : Entries) → IsLinked (opposite d) j k (appended d e es) fs
+        → (gs : Entries) × IsLinked (opposite d) j k es gs × (appended d e gs ≡ fs)
+    linked_after FromClient j k fs l = (
+      record { client = es.client; centre = fs.centre },
+      record { entry = l.entry; at = l.at; set = l.set; other = refl },
+      (λ i. record { client = sym l.other i; centre = fs.centre }),
+    )
+    linked_after FromCentre j k fs l = (
+      record { client = fs.client; centre = es.centre },
+      record { entry = l.entry; at = l.at; set = l.set; other = refl },
+      (λ i. record { client = fs.client; centre = sym l.other i }),
+    )
 
     holds-in : (o : Option ℕ) (fs : Entries) → e.partner ≡ o
-        → MatchOption o (fs ≡ appended e.place.dir e es) (λ j. IsLinked (opposite e.place.dir) j (length (entries_from e.place.dir es)) (appended e.place.dir e es) fs) → Holds n fs
+        → MatchOption o (fs ≡ appended e.place.dir e es)
+        (λ j. IsLinked (opposite e.place.dir) j (length (entries_from e.place.dir es)) (appended e.place.dir e es) fs)
+        → Holds n fs
     holds-in None fs none added = subst (λ (fs : Entries). Holds n fs) (sym added) (holds-alone none)
     holds-in (Some j) fs some added =
         let l = linked_after e.place.dir j (length (entries_from e.place.dir es)) fs added in
@@ -421,7 +234,8 @@ module _ (m n : Turns) (es : Entries) (e : Entry) (h : Holds m es) (next : IsNex
         let there = entry-kept (opposite e.place.dir) es j s'.header (ap (λ (d : Dir). slice_get (headers_from d before) j) (sym dir) ∙ s'.at) in
         slice_get_within (entries_from (opposite e.place.dir) es) j there.0 there.1
 
-  partner-in : (s : Series) → series_of e.place.dir (header_of e) ≡ Some s → IsEntered m n s (length (entries_from e.place.dir es)) e.partner → (o : Option ℕ) → e.partner ≡ o
+  partner-in : (s : Series) → series_of e.place.dir (header_of e) ≡ Some s
+      → IsEntered m n s (length (entries_from e.place.dir es)) e.partner → (o : Option ℕ) → e.partner ≡ o
       → IfSome o (λ j. j < length (entries_from (opposite e.place.dir) es))
   partner-in s is put None none = tt
   partner-in s is put (Some j) some = partner-within s is put j some
@@ -431,16 +245,20 @@ module _ (m n : Turns) (es : Entries) (e : Entry) (h : Holds m es) (next : IsNex
       → (fs : Entries) → IsAdded e es fs → Holds n fs
   holds-added None none put fs added =
       let is : fs ≡ appended e.place.dir e es =
-      subst (λ (o : Option ℕ). MatchOption o (fs ≡ appended e.place.dir e es) (λ j. IsLinked (opposite e.place.dir) j (length (entries_from e.place.dir es)) (appended e.place.dir e es) fs)) put.1 added in
+      subst (λ (o : Option ℕ). MatchOption o (fs ≡ appended e.place.dir e es)
+      (λ j. IsLinked (opposite e.place.dir) j (length (entries_from e.place.dir es)) (appended e.place.dir e es) fs)) put.1
+      added in
       subst (λ (m' : Turns). Holds m' fs) (sym put.0) (subst (λ (fs' : Entries). Holds m fs') (sym is) (holds-passed none put.1))
   holds-added (Some s) is put fs added = holds-in s is put e.partner fs refl added
 
-  pub has-partner : (o : Option Series) → series_of e.place.dir (header_of e) ≡ o → Enters m n o (length (entries_from e.place.dir es)) e.partner → HasPartnerIn es e
+  pub has-partner : (o : Option Series) → series_of e.place.dir (header_of e) ≡ o
+      → Enters m n o (length (entries_from e.place.dir es)) e.partner → HasPartnerIn es e
   has-partner None none put = subst (λ (o : Option ℕ). IfSome o (λ j. j < length (entries_from (opposite e.place.dir) es))) (sym put.1) tt
   has-partner (Some s) is put = partner-in s is put e.partner refl
 
   -- its pair is the one at its place
-  pub made-is : (o : Option Series) → series_of e.place.dir (header_of e) ≡ o → Enters m n o (length (entries_from e.place.dir es)) e.partner → pair_kept es e ≡ pair_at after e.place
+  pub made-is : (o : Option Series) → series_of e.place.dir (header_of e) ≡ o
+      → Enters m n o (length (entries_from e.place.dir es)) e.partner → pair_kept es e ≡ pair_at after e.place
   made-is None none put =
       pair-made es e h.in_order next
       (put.1 ∙ sym (partner-none before (placed e) (ap (option_map (turn_after (headers_from e.place.dir before))) none)))
@@ -449,7 +267,8 @@ module _ (m n : Turns) (es : Entries) (e : Entry) (h : Holds m es) (next : IsNex
       (sym (partner_is s is put) ∙ sym (partner-next before (placed e) (next_kept m s) (next-is s is)))
 
   -- there is room for the count
-  pub room : (o : Option Series) → series_of e.place.dir (header_of e) ≡ o → length (entries_from e.place.dir es) + 1 < 2 ^ 64 → IfSome o (λ s. count_kept m s + 1 < 2 ^ 64)
+  pub room : (o : Option Series) → series_of e.place.dir (header_of e) ≡ o → length (entries_from e.place.dir es) + 1 < 2 ^ 64
+      → IfSome o (λ s. count_kept m s + 1 < 2 ^ 64)
   room None none few = tt
   room (Some s) is few =
       let bound = count_by-le-length (is_of s.side s.seq) (headers_from s.dir before) in
@@ -462,14 +281,19 @@ module _ (m n : Turns) (es : Entries) (e : Entry) (h : Holds m es) (next : IsNex
 pub added-in : (e : Entry) (es fs : Entries) → IsAdded e es fs → pdus_in fs ≡ pushed (pdus_in es) (placed e)
 added-in e es fs added = by_partner e.partner added
   where
-    by_partner : (o : Option ℕ) → MatchOption o (fs ≡ appended e.place.dir e es) (λ j. IsLinked (opposite e.place.dir) j (length (entries_from e.place.dir es)) (appended e.place.dir e es) fs) → pdus_in fs ≡ pushed (pdus_in es) (placed e)
+    by_partner : (o : Option ℕ) → MatchOption o (fs ≡ appended e.place.dir e es)
+        (λ j. IsLinked (opposite e.place.dir) j (length (entries_from e.place.dir es)) (appended e.place.dir e es) fs)
+        → pdus_in fs ≡ pushed (pdus_in es) (placed e)
     by_partner None is = ap pdus_in is ∙ appended-in e.place.dir e es
-    by_partner (Some j) link = linked-pdus (opposite e.place.dir) j (length (entries_from e.place.dir es)) (appended e.place.dir e es) fs link ∙ appended-in e.place.dir e es
+    by_partner (Some j) link = linked-pdus (opposite e.place.dir) j (length (entries_from e.place.dir es))
+        (appended e.place.dir e es) fs link ∙ appended-in e.place.dir e es
 
 -- ---- a call of add, by what its steps say
 
-module _ (m n : Turns) (es read : Entries) (v : PairingValue) (e : Entry) (xs : List Entry) (o : Option Series) (h : Holds m es) (view : pdus_in es ≡ v) (next : IsNext v e.place)
-    (stays : read ≡ es) (is : xs ≡ entries_from e.place.dir read) (series : o ≡ series_of e.place.dir (header_of e)) (put : Enters m n o (length xs) e.partner) where
+module _ (m n : Turns) (es read : Entries) (v : PairingValue) (e : Entry) (xs : List Entry) (o : Option Series) (h : Holds m es)
+    (view : pdus_in es ≡ v) (next : IsNext v e.place)
+    (stays : read ≡ es) (is : xs ≡ entries_from e.place.dir read) (series : o ≡ series_of e.place.dir (header_of e))
+    (put : Enters m n o (length xs) e.partner) where
   next_in : IsNext (pdus_in es) e.place
   next_in = subst (λ (v : PairingValue). IsNext v e.place) (sym view) next
 

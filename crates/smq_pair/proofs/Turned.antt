@@ -86,8 +86,10 @@ equal_itself n = grind (arith, nat_tests)
 pub not-request : (h : Header) → is_response h ≡ true → is_request h ≡ false
 not-request h e = ap (λ b. (not b && not (h.command == 0x0000_000b)) && not (h.command == 0x0000_0102)) e
 
-series_by : (d : Dir) (h : Header) (side : Side) → side_of h ≡ Some side → (seq : ℕ) → h.seq ≡ seq → series_of d h ≡ Some (record { dir = d; side = side; seq = seq })
-series_by d h side e seq s = ap (option_map (λ side. record { dir = d; side = side; seq = h.seq })) e ∙ ap (λ n. Some (record { dir = d; side = side; seq = n })) s
+series_by : (d : Dir) (h : Header) (side : Side) → side_of h ≡ Some side → (seq : ℕ) → h.seq ≡ seq
+    → series_of d h ≡ Some (record { dir = d; side = side; seq = seq })
+series_by d h side e seq s = ap (option_map (λ side. record { dir = d; side = side; seq = h.seq })) e
+    ∙ ap (λ n. Some (record { dir = d; side = side; seq = n })) s
 
 pub side-request : (h : Header) → is_request h ≡ true → side_of h ≡ Some Request
 side-request h e = ap (λ b. cond b (Some Request) (cond (is_response h) (Some Response) None)) e
@@ -98,7 +100,8 @@ side-response h e =
     ∙ ap (λ b. cond b (Some Response) None) e
 
 -- a header of a side and a sequence number is of that series
-pub series-of : (d : Dir) (side : Side) (seq : ℕ) (h : Header) → is_of side seq h ≡ true → series_of d h ≡ Some (record { dir = d; side = side; seq = seq })
+pub series-of : (d : Dir) (side : Side) (seq : ℕ) (h : Header) → is_of side seq h ≡ true
+    → series_of d h ≡ Some (record { dir = d; side = side; seq = seq })
 series-of d Request seq h e = series_by d h Request (side-request h (and_first _ _ e)) seq (equal_is h.seq seq (and_second (is_request h) _ e))
 series-of d Response seq h e = series_by d h Response (side-response h (and_first _ _ e)) seq (equal_is h.seq seq (and_second (is_response h) _ e))
 
@@ -108,7 +111,8 @@ pub record IsOfSeries (d : Dir) (h : Header) (s : Series) : Type 0 where
   pub passes : is_of s.side s.seq h ≡ true
 
 sided : (d : Dir) (h : Header) (a b : Bool) → is_request h ≡ a → is_response h ≡ b → (s : Series)
-    → option_map (λ side. record { dir = d; side = side; seq = h.seq }) (cond a (Some Request) (cond b (Some Response) None)) ≡ Some s → IsOfSeries d h s
+    → option_map (λ side. record { dir = d; side = side; seq = h.seq }) (cond a (Some Request) (cond b (Some Response) None))
+    ≡ Some s → IsOfSeries d h s
 sided d h true b e f s is = subst (IsOfSeries d h) (some-is _ s is) (record { dir = refl; passes = and_both _ _ e (equal_itself h.seq) })
 sided d h false true e f s is = subst (IsOfSeries d h) (some-is _ s is) (record { dir = refl; passes = and_both _ _ f (equal_itself h.seq) })
 sided d h false false e f s is = absurd cc
@@ -116,7 +120,8 @@ sided d h false false e f s is = absurd cc
 pub series-has : (d : Dir) (h : Header) (s : Series) → series_of d h ≡ Some s → IsOfSeries d h s
 series-has d h s e = sided d h (is_request h) (is_response h) refl refl s e
 
-turn_parts : (earlier : List Header) (o : Option Series) (t : Turn) → option_map (turn_after earlier) o ≡ Some t → (o ≡ Some t.series) × (t.rank ≡ count_by (is_of t.series.side t.series.seq) earlier)
+turn_parts : (earlier : List Header) (o : Option Series) (t : Turn) → option_map (turn_after earlier) o ≡ Some t
+    → (o ≡ Some t.series) × (t.rank ≡ count_by (is_of t.series.side t.series.seq) earlier)
 turn_parts earlier None t e = absurd cc
 turn_parts earlier (Some s) t e =
     let same : turn_after earlier s ≡ t = some-is _ t e in
@@ -125,13 +130,15 @@ turn_parts earlier (Some s) t e =
 -- ---- the PDU of a turn
 
 -- the PDU at an index is the one of its turn
-pub turn-found : (v : PairingValue) (d : Dir) (i : ℕ) (h : Header) (t : Turn) → slice_get (headers_from d v) i ≡ Some h → turn_of v d i h ≡ Some t → (t.series.dir ≡ d) × (index_at v t ≡ Some i)
+pub turn-found : (v : PairingValue) (d : Dir) (i : ℕ) (h : Header) (t : Turn) → slice_get (headers_from d v) i ≡ Some h
+    → turn_of v d i h ≡ Some t → (t.series.dir ≡ d) × (index_at v t ≡ Some i)
 turn-found v d i h t at e =
     let parts = turn_parts (take i (headers_from d v)) (series_of d h) t e in
     let has = series-has d h t.series parts.0 in (
       has.dir,
       ap (λ n. nth_index (is_of t.series.side t.series.seq) (headers_from t.series.dir v) n) parts.1
-          ∙ ap (λ (d' : Dir). nth_index (is_of t.series.side t.series.seq) (headers_from d' v) (count_by (is_of t.series.side t.series.seq) (take i (headers_from d v)))) has.dir
+          ∙ ap (λ (d' : Dir). nth_index (is_of t.series.side t.series.seq) (headers_from d' v)
+          (count_by (is_of t.series.side t.series.seq) (take i (headers_from d v)))) has.dir
           ∙ found (is_of t.series.side t.series.seq) (headers_from d v) i h at has.passes,
     )
 
@@ -166,7 +173,8 @@ module _ (v : PairingValue) (p : PlacedHeader) where
 
   -- where there is one more in a direction, the index of a turn is as before or is the new one's
   index_by : (t : Turn) → t.series.dir ≡ p.place.dir
-      → index_at (pushed v p) t ≡ cond (is_of t.series.side t.series.seq p.header && t.rank == count_in v t.series) (Some (length (headers_from t.series.dir v))) (index_at v t)
+      → index_at (pushed v p) t ≡ cond (is_of t.series.side t.series.seq p.header && t.rank == count_in v t.series)
+      (Some (length (headers_from t.series.dir v))) (index_at v t)
   index_by t e =
       ap (λ hs. nth_index (is_of t.series.side t.series.seq) hs t.rank) (headers-by t.series.dir v p e)
       ∙ place-last (is_of t.series.side t.series.seq) (headers_from t.series.dir v) p.header t.rank
@@ -228,6 +236,7 @@ module _ (v : PairingValue) (p : PlacedHeader) where
   pub turn-last : turn_of (pushed v p) p.place.dir (length (pdus_from p.place.dir v)) p.header ≡ next_turn
   turn-last =
       let hs = headers_from p.place.dir v in
-      ap (λ n. option_map (turn_after (take n (headers_from p.place.dir (pushed v p)))) (series_of p.place.dir p.header)) (sym (length-map (pdus_from p.place.dir v) (λ (x : PlacedHeader). x.header)))
+      ap (λ n. option_map (turn_after (take n (headers_from p.place.dir (pushed v p)))) (series_of p.place.dir p.header))
+      (sym (length-map (pdus_from p.place.dir v) (λ (x : PlacedHeader). x.header)))
       ∙ ap (λ hs'. option_map (turn_after (take (length hs) hs')) (series_of p.place.dir p.header)) (headers-by p.place.dir v p refl)
       ∙ ap (λ hs'. option_map (turn_after hs') (series_of p.place.dir p.header)) (take-all hs (p.header ∷ []))

@@ -26,7 +26,8 @@ after tlvs rest = flat_map tlv_spelling tlvs ++ rest
 body_reads : (b rest : List ℕ) (m : Mandatory) (tlvs : List Tlv) → IsBody b m tlvs rest → mandatory_at b ≡ Some (m, after tlvs rest)
 body_reads b rest m tlvs h = mandatory_again b (after tlvs rest) m (record { parts = h.parts; texts = h.texts })
 
-body_tlvs : (b rest : List ℕ) (m : Mandatory) (tlvs : List Tlv) → IsBody b m tlvs rest → (tlvs ≡ tlvs_of (after tlvs rest)) × (rest ≡ rest_of (after tlvs rest))
+body_tlvs : (b rest : List ℕ) (m : Mandatory) (tlvs : List Tlv) → IsBody b m tlvs rest → (tlvs ≡ tlvs_of (after tlvs rest))
+    × (rest ≡ rest_of (after tlvs rest))
 body_tlvs b rest m tlvs h = parameters_again (after tlvs rest) rest tlvs (record { parts = refl; each = h.each; ends = h.ends })
 
 body_stands : (b r : List ℕ) (m : Mandatory) → AreOctets b → mandatory_at b ≡ Some (m, r) → IsBody b m (tlvs_of r) (rest_of r)
@@ -34,7 +35,13 @@ body_stands b r m h e =
     let begins = mandatory_found b r m e in
     let left : AreOctets r = octets_right (spelling m) r (subst AreOctets begins.parts h) in
     let parameters = parameters_stand r left in
-    record { parts = begins.parts ∙ ap (λ (a : List ℕ). spelling m ++ a) parameters.parts; texts = begins.texts; each = parameters.each; ends = parameters.ends }
+    record {
+      parts = begins.parts ∙ ap (λ (a : List ℕ). spelling m ++ a) parameters.parts;
+      texts = begins.texts;
+      each =
+          parameters.each;
+      ends = parameters.ends;
+    }
 
 pub body_unique : (b : List ℕ) (m n : Mandatory) (ts us : List Tlv) (r s : List ℕ) → IsBody b m ts r → IsBody b n us s → (m ≡ n) × (ts ≡ us) × (r ≡ s)
 body_unique b m n ts us r s h k =
@@ -102,8 +109,10 @@ deliver_some b r m e = rw (e, deliver_of) refl
 
 -- the bodies, in the order of their cases
 data Read (o : List ℕ) : Type 0 where
-  a_submit : command_at o ≡ submit_sm → (m : Mandatory) (r : List ℕ) → mandatory_at (body_at o) ≡ Some (m, r) → said o ≡ SubmitBody (submit_said m) → Read o
-  a_deliver : command_at o ≡ deliver_sm → (m : Mandatory) (r : List ℕ) → mandatory_at (body_at o) ≡ Some (m, r) → said o ≡ DeliverBody (deliver_said m (tlvs_of r)) → Read o
+  a_submit : command_at o ≡ submit_sm → (m : Mandatory) (r : List ℕ) → mandatory_at (body_at o) ≡ Some (m, r)
+      → said o ≡ SubmitBody (submit_said m) → Read o
+  a_deliver : command_at o ≡ deliver_sm → (m : Mandatory) (r : List ℕ) → mandatory_at (body_at o) ≡ Some (m, r)
+      → said o ≡ DeliverBody (deliver_said m (tlvs_of r)) → Read o
   undecodable : (command_at o ≡ submit_sm) ⊎ (command_at o ≡ deliver_sm) → mandatory_at (body_at o) ≡ None → said o ≡ UndecodableBody → Read o
   a_response : command_at o ≡ submit_sm_resp → said o ≡ SubmitAnswerBody (id_of (body_at o)) → Read o
   another : command_at o ≢ submit_sm → command_at o ≢ submit_sm_resp → command_at o ≢ deliver_sm → said o ≡ OtherBody → Read o
@@ -159,7 +168,8 @@ says_submit o v h s =
 
 pub submit_says : (o : List ℕ) (v : SubmitValue) → IsSubmit o v → said o ≡ SubmitBody v
 submit_says o v h =
-    of_submit (command_at o) (body_at o) h.command ∙ submit_some (body_at o) (after h.tlvs h.rest) h.fields (body_reads (body_at o) h.rest h.fields h.tlvs h.body)
+    of_submit (command_at o) (body_at o) h.command
+    ∙ submit_some (body_at o) (after h.tlvs h.rest) h.fields (body_reads (body_at o) h.rest h.fields h.tlvs h.body)
     ∙ ap SubmitBody (both v h.fields h.registered_delivery (has_again h.fields.destination v.number h.number))
 
 pub says_deliver : (o : List ℕ) (v : DeliverValue) → AreOctets o → said o ≡ DeliverBody v → IsDeliver o v
@@ -182,7 +192,8 @@ says_deliver o v h s =
 pub deliver_says : (o : List ℕ) (v : DeliverValue) → IsDeliver o v → said o ≡ DeliverBody v
 deliver_says o v h =
     let tlvs = body_tlvs (body_at o) h.rest h.fields h.tlvs h.body in
-    of_deliver (command_at o) (body_at o) h.command ∙ deliver_some (body_at o) (after h.tlvs h.rest) h.fields (body_reads (body_at o) h.rest h.fields h.tlvs h.body)
+    of_deliver (command_at o) (body_at o) h.command
+    ∙ deliver_some (body_at o) (after h.tlvs h.rest) h.fields (body_reads (body_at o) h.rest h.fields h.tlvs h.body)
     ∙ ap (λ (ts : List Tlv). DeliverBody (deliver_said h.fields ts)) (sym tlvs.0) ∙ ap DeliverBody (sym h.value)
 
 pub says_undecodable : (o : List ℕ) → said o ≡ UndecodableBody → IsUndecodable o
@@ -201,7 +212,10 @@ undecodable_says o h u =
       | a_submit e m r found is ↦ absurd (u.none m (tlvs_of r) (rest_of r) (body_stands (body_at o) r m (body_octets o h) found))
       | a_deliver e m r found is ↦ absurd (u.none m (tlvs_of r) (rest_of r) (body_stands (body_at o) r m (body_octets o h) found))
       | undecodable e none is ↦ is
-      | a_response e is ↦ elim u.command [ inl c ↦ absurd (let differ = sym e ∙ c in omega arith) | inr c ↦ absurd (let differ = sym e ∙ c in omega arith) ]
+      | a_response e is ↦ elim u.command [
+        | inl c ↦ absurd (let differ = sym e ∙ c in omega arith)
+        | inr c ↦ absurd (let differ = sym e ∙ c in omega arith)
+      ]
       | another x y z is ↦ elim u.command [ inl c ↦ absurd (x c) | inr c ↦ absurd (z c) ]
     ]
 

@@ -15,9 +15,14 @@ use Rattle.smq_pdu.proofs.Texts.{chosen, zero_at, c_octet_by}
 read_cases : (o : List ℕ) → ((r : List ℕ) × (c_octet_at o ≡ Some (before_zero o, r))) ⊎ ((c_octet_at o ≡ None) × (before_zero o ≡ o))
 read_cases o = by_test (ltb (zero_at o) (length o)) refl
   where
-    by_test : (b : Bool) → ltb (zero_at o) (length o) ≡ b → ((r : List ℕ) × (c_octet_at o ≡ Some (before_zero o, r))) ⊎ ((c_octet_at o ≡ None) × (before_zero o ≡ o))
+    by_test : (b : Bool) → ltb (zero_at o) (length o) ≡ b → ((r : List ℕ) × (c_octet_at o ≡ Some (before_zero o, r)))
+        ⊎ ((c_octet_at o ≡ None) × (before_zero o ≡ o))
     by_test true e = inl (drop (suc (zero_at o)) o, c_octet_by o ∙ ap (λ b. chosen b (take (zero_at o) o, drop (suc (zero_at o)) o)) e)
-    by_test false e = inr (c_octet_by o ∙ ap (λ b. chosen b (take (zero_at o) o, drop (suc (zero_at o)) o)) e, take_all (zero_at o) o (ltb-false (zero_at o) (length o) e))
+    by_test false e = inr (
+      c_octet_by o ∙ ap (λ b. chosen b (take (zero_at o) o, drop (suc (zero_at o)) o)) e,
+      take_all (zero_at o)
+          o (ltb-false (zero_at o) (length o) e),
+    )
 
 put_none : (x : ℕ) (f : Option (List ℕ × List ℕ)) → option_map (put x) f ≡ None → f ≡ None
 put_none x None e = refl
@@ -58,7 +63,8 @@ first_again o t h =
             absurd (ended (before_zero o) found.0 (subst IsText is.parts (subst IsText (sym all) h.no_zero)))
       ]
       | inr none ↦ elim h.parts [
-        | inl ends ↦ absurd (let again : c_octet_at o ≡ Some (t, ends.0) = ap c_octet_at ends.1 ∙ text_again t ends.0 h.no_zero in let differ = sym none.0 ∙ again in cc)
+        | inl ends ↦ absurd (let again : c_octet_at o ≡ Some (t, ends.0) = ap c_octet_at ends.1 ∙ text_again t ends.0 h.no_zero in
+            let differ = sym none.0 ∙ again in cc)
         | inr all ↦ sym all ∙ sym none.1
       ]
     ]
@@ -86,7 +92,8 @@ id_long o long =
 pub id_again : (o id : List ℕ) → IsMessageId o id → id_of o ≡ Some id
 id_again o id h =
     let same = first_again o id h.first in
-    id_some o (subst (λ (t : List ℕ). 1 ≤ length t) same h.not_empty) (subst (λ (t : List ℕ). length t ≤ 64) same h.in_range) ∙ ap (λ (t : List ℕ). Some t) (sym same)
+    id_some o (subst (λ (t : List ℕ). 1 ≤ length t) same h.not_empty) (subst (λ (t : List ℕ). length t ≤ 64) same h.in_range)
+    ∙ ap (λ (t : List ℕ). Some t) (sym same)
 
 -- there is an id, or none
 pub id_cases : (o : List ℕ) → ((id_of o ≡ Some (before_zero o)) × IsMessageId o (before_zero o)) ⊎ (id_of o ≡ None)

@@ -31,7 +31,15 @@ digits_cases text =
             | inr most ↦
                 let high : nat_le (length text) 15 ≡ true = grind (arith, nat_tests) in
                 elim (cases_Bool (list_all is_ascii_digit text)) [
-                  | inl all ↦ inl (rw (low, high, all) refl, record { not_empty = some; in_range = most; digits = AllPass-from_list_all is_ascii_digit text all })
+                  | inl all ↦ inl (
+                    rw (low, high, all) refl,
+                    record {
+                      not_empty = some;
+                      in_range = most;
+                      digits =
+                          AllPass-from_list_all is_ascii_digit text all;
+                    },
+                  )
                   | inr other ↦ inr (rw (low, high, other) refl)
                 ]
           ]
@@ -62,7 +70,9 @@ plain : (number : List ℕ) → list_all is_ascii_digit number ≡ true → with
 plain [] e = refl
 plain (x ∷ rest) e =
     elim (cases_Bool (x == plus)) [
-      | inl is ↦ absurd (let digit : (is_ascii_digit plus && list_all is_ascii_digit rest) ≡ true = subst (λ (y : ℕ). (is_ascii_digit y && list_all is_ascii_digit rest) ≡ true) (eqb-true x plus is) e in cc)
+      | inl is ↦ absurd (let digit : (is_ascii_digit plus && list_all is_ascii_digit rest) ≡ true =
+          subst (λ (y : ℕ). (is_ascii_digit y && list_all is_ascii_digit rest) ≡ true) (eqb-true x plus is)
+          e in cc)
       | inr other ↦ rw other refl
     ]
 

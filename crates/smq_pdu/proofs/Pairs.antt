@@ -86,7 +86,8 @@ module _ {X : Type 0} (p : X → Bool) where
 
   -- ---- in turn
 
-  moved : {Y : Type 0} (y : Y) (ys : List Y) (f : Option ℕ) → option_and_then (slice_get (y ∷ ys)) (option_map suc f) ≡ option_and_then (slice_get ys) f
+  moved : {Y : Type 0} (y : Y) (ys : List Y) (f : Option ℕ) → option_and_then (slice_get (y ∷ ys)) (option_map suc f)
+      ≡ option_and_then (slice_get ys) f
   moved y ys None = refl
   moved y ys (Some i) = refl
 
@@ -95,14 +96,16 @@ module _ {X : Type 0} (p : X → Bool) where
   in_turn [] k = refl
   in_turn (x ∷ xs) k = turn_at x xs k (p x) refl (in_turn xs)
     where
-      turn_at : (x : X) (xs : List X) (k : ℕ) (b : Bool) → p x ≡ b → ((n : ℕ) → slice_get (filter p xs) n ≡ option_and_then (slice_get xs) (nth_index p xs n))
+      turn_at : (x : X) (xs : List X) (k : ℕ) (b : Bool) → p x ≡ b
+          → ((n : ℕ) → slice_get (filter p xs) n ≡ option_and_then (slice_get xs) (nth_index p xs n))
           → slice_get (filter p (x ∷ xs)) k ≡ option_and_then (slice_get (x ∷ xs)) (nth_index p (x ∷ xs) k)
       turn_at x xs k false e ih = rw (skipped x xs k e, e) (ih k ∙ sym (moved x xs (nth_index p xs k)))
       turn_at x xs zero true e ih = rw (first x xs e, e) refl
       turn_at x xs (suc k) true e ih = rw (taken x xs k e, e) (ih k ∙ sym (moved x xs (nth_index p xs k)))
 
 -- a test of what stands beside each item finds the same places
-pub nth_index-map : {A X : Type 0} (p : X → Bool) (of : A → X) (items : List A) (k : ℕ) → nth_index p (map of items) k ≡ nth_index (λ a. p (of a)) items k
+pub nth_index-map : {A X : Type 0} (p : X → Bool) (of : A → X) (items : List A) (k : ℕ) → nth_index p (map of items) k
+    ≡ nth_index (λ a. p (of a)) items k
 unfolding nth_index
 nth_index-map p of [] k = refl
 nth_index-map p of (a ∷ items) zero = ap (λ (f : Option ℕ). cond (p (of a)) (Some 0) (option_map suc f)) (nth_index-map p of items zero)
@@ -147,8 +150,10 @@ request_found : (mine other : List Header) (i j : ℕ) (request response : Heade
 request_found mine other i j request response pair =
     let same : request.seq == request.seq ≡ true = grind (arith, nat_tests) in
     let passes : is_request_of request.seq request ≡ true = and_of _ _ pair.is_request same in
-    let here : nth_index (is_request_of request.seq) mine (request_rank mine i request.seq) ≡ Some i = found (is_request_of request.seq) mine i request pair.request_at passes in
-    let by_response : nth_index (is_request_of request.seq) mine (response_rank other j response.seq) ≡ Some i = ap (λ n. nth_index (is_request_of request.seq) mine n) (sym pair.rank) ∙ here in
+    let here : nth_index (is_request_of request.seq) mine (request_rank mine i request.seq) ≡ Some i =
+    found (is_request_of request.seq) mine i request pair.request_at passes in
+    let by_response : nth_index (is_request_of request.seq) mine (response_rank other j response.seq) ≡ Some i =
+    ap (λ n. nth_index (is_request_of request.seq) mine n) (sym pair.rank) ∙ here in
     ap (λ n. nth_index (is_request_of n) mine (response_rank other j response.seq)) (sym pair.seq) ∙ by_response
 
 pub has_one_request : HasOneRequest
@@ -160,6 +165,8 @@ finds_in_turn other seq rank = in_turn (is_response_of seq) other rank
 
 -- the same of items that each have a header
 pub response-in-turn : {A : Type 0} (header_of : A → Header) (items : List A) (seq rank : ℕ)
-    → slice_get (filter (λ x. is_response_of seq (header_of x)) items) rank ≡ option_and_then (slice_get items) (response_index (map header_of items) seq rank)
+    → slice_get (filter (λ x. is_response_of seq (header_of x)) items) rank
+    ≡ option_and_then (slice_get items) (response_index (map header_of items) seq rank)
 response-in-turn header_of items seq rank =
-    in_turn (λ x. is_response_of seq (header_of x)) items rank ∙ ap (option_and_then (slice_get items)) (sym (nth_index-map (is_response_of seq) header_of items rank))
+    in_turn (λ x. is_response_of seq (header_of x)) items rank
+    ∙ ap (option_and_then (slice_get items)) (sym (nth_index-map (is_response_of seq) header_of items rank))

@@ -31,7 +31,8 @@ pub record NumberIs (o : List ℕ) (n : ℕ) (r : List ℕ) : Type 0 where
 number_found : (o : List ℕ) (n : ℕ) (r : List ℕ) → number_at o ≡ Some (n, r) → NumberIs o n r
 unfolding number_at
 number_found o n r e =
-    elim (ltb (length o) 2) as (λ b. ltb (length o) 2 ≡ b → cond b None (some_pair (from_be_bytes w16 (take 2 o)) (drop 2 o)) ≡ some_pair n r → NumberIs o n r) [
+    elim (ltb (length o) 2) as (λ b. ltb (length o) 2 ≡ b → cond b None (some_pair (from_be_bytes w16 (take 2 o)) (drop 2 o))
+    ≡ some_pair n r → NumberIs o n r) [
       | true ↦ λ z h. absurd cc
       | false ↦ λ z h.
           let q = pair_is (from_be_bytes w16 (take 2 o), drop 2 o) (n, r) h in
@@ -76,7 +77,8 @@ steps_of o r t e =
     let is = octets_found len.0.0 len.0.1 value.0.0 value.0.1 value.1 in
     let read : Tlv = record { tag = tag.0.0; value = value.0.0 } in
     let first = number_found o tag.0.0 tag.0.1 tag.1 in
-    let second : NumberIs tag.0.1 (length value.0.0) len.0.1 = subst (λ (n : ℕ). NumberIs tag.0.1 n len.0.1) (sym is.1) (number_found tag.0.1 len.0.0 len.0.1 len.1) in
+    let second : NumberIs tag.0.1 (length value.0.0) len.0.1 =
+    subst (λ (n : ℕ). NumberIs tag.0.1 n len.0.1) (sym is.1) (number_found tag.0.1 len.0.0 len.0.1 len.1) in
     let steps : Steps o read value.0.1 = record { after_tag = tag.0.1; after_len = len.0.1; tag = first; len = second; parts = is.0 } in
     subst (λ (p : Tlv × List ℕ). Steps o p.0 p.1) (some_is (read, value.0.1) (t, r) value.2) steps
 
@@ -149,7 +151,8 @@ none_begins o e =
 
 -- ---- all parameters
 
-within-some : (n : ℕ) (o r : List ℕ) (t : Tlv) → tlv_at o ≡ Some (t, r) → (tlvs_within (suc n) o ≡ t ∷ tlvs_within n r) × (rest_within (suc n) o ≡ rest_within n r)
+within-some : (n : ℕ) (o r : List ℕ) (t : Tlv) → tlv_at o ≡ Some (t, r) → (tlvs_within (suc n) o ≡ t ∷ tlvs_within n r)
+    × (rest_within (suc n) o ≡ rest_within n r)
 unfolding tlvs_within rest_within
 within-some n o r t e = (rw (e, tlvs_within) refl, rw (e, rest_within) refl)
 
@@ -161,7 +164,9 @@ within-none (suc n) o e = (rw (e, tlvs_within) refl, rw (e, rest_within) refl)
 none_left : (o : List ℕ) → length o ≤ 0 → tlv_at o ≡ None
 none_left o h = tlv_none o (inl (omega arith))
 
-enough_at : (n m : ℕ) (o : List ℕ) (f : Option (Tlv × List ℕ)) → tlv_at o ≡ f → ((r : List ℕ) → length r ≤ n → length r ≤ m → tlvs_within n r ≡ tlvs_within m r) → length o ≤ suc n → length o ≤ suc m → tlvs_within (suc n) o ≡ tlvs_within (suc m) o
+enough_at : (n m : ℕ) (o : List ℕ) (f : Option (Tlv × List ℕ)) → tlv_at o ≡ f
+    → ((r : List ℕ) → length r ≤ n → length r ≤ m → tlvs_within n r ≡ tlvs_within m r) → length o ≤ suc n → length o ≤ suc m
+    → tlvs_within (suc n) o ≡ tlvs_within (suc m) o
 enough_at n m o None e again h k = (within-none (suc n) o e).0 ∙ sym (within-none (suc m) o e).0
 enough_at n m o (Some p) e again h k =
     let is = tlv_found o p.1 p.0 e in
@@ -180,7 +185,8 @@ tlvs_of-step o r t e =
     let is = tlv_found o r t e in
     let n : ℕ = 3 + (length t.value + length r) in
     let more : length o ≡ suc n = omega (arith, is.len) in
-    ap (λ (k : ℕ). tlvs_within k o) more ∙ (within-some n o r t e).0 ∙ ap (λ (ts : List Tlv). t ∷ ts) (within_enough n (length r) r (omega arith) (omega arith))
+    ap (λ (k : ℕ). tlvs_within k o) more ∙ (within-some n o r t e).0
+    ∙ ap (λ (ts : List Tlv). t ∷ ts) (within_enough n (length r) r (omega arith) (omega arith))
 
 pub tlvs_of-none : (o : List ℕ) → tlv_at o ≡ None → tlvs_of o ≡ []
 unfolding tlvs_of
@@ -194,7 +200,8 @@ tlv-shorter o r t e = let is = tlv_found o r t e in omega (arith, is.len)
 pub first_value-here : (tag : ℕ) (o r : List ℕ) (t : Tlv) → tlv_at o ≡ Some (t, r) → t.tag ≡ tag → first_value tag (tlvs_of o) ≡ Some t.value
 first_value-here tag o r t e same = let test : (t.tag == tag) ≡ true = eq-eqb t.tag tag same in rw (tlvs_of-step o r t e, test) refl
 
-pub first_value-other : (tag : ℕ) (o r : List ℕ) (t : Tlv) → tlv_at o ≡ Some (t, r) → t.tag ≢ tag → first_value tag (tlvs_of o) ≡ first_value tag (tlvs_of r)
+pub first_value-other : (tag : ℕ) (o r : List ℕ) (t : Tlv) → tlv_at o ≡ Some (t, r) → t.tag ≢ tag → first_value tag (tlvs_of o)
+    ≡ first_value tag (tlvs_of r)
 first_value-other tag o r t e other = let test : (t.tag == tag) ≡ false = ne_eqb t.tag tag other in rw (tlvs_of-step o r t e, test) refl
 
 pub first_value-none : (tag : ℕ) (o : List ℕ) → tlv_at o ≡ None → first_value tag (tlvs_of o) ≡ None
@@ -207,15 +214,19 @@ none_stands n o e =
     let none = within-none n o e in
     rw (none.0, none.1) (record { parts = refl; each = tt; ends = none_begins o e })
 
-some_stands : (n : ℕ) (o r : List ℕ) (t : Tlv) → tlv_at o ≡ Some (t, r) → AreOctets o → AreParameters r (tlvs_within n r) (rest_within n r) → AreParameters o (tlvs_within (suc n) o) (rest_within (suc n) o)
+some_stands : (n : ℕ) (o r : List ℕ) (t : Tlv) → tlv_at o ≡ Some (t, r) → AreOctets o
+    → AreParameters r (tlvs_within n r) (rest_within n r) → AreParameters o (tlvs_within (suc n) o) (rest_within (suc n) o)
 some_stands n o r t e h later =
     let some = within-some n o r t e in
     let is = tlv_spelled o r t h e in
     let parts : o ≡ flat_map tlv_spelling (t ∷ tlvs_within n r) ++ rest_within n r =
-    is.1 ∙ ap (λ (a : List ℕ). tlv_spelling t ++ a) later.parts ∙ sym (append_assoc (tlv_spelling t) (flat_map tlv_spelling (tlvs_within n r)) (rest_within n r)) in
+    is.1 ∙ ap (λ (a : List ℕ). tlv_spelling t ++ a) later.parts
+    ∙ sym (append_assoc (tlv_spelling t) (flat_map tlv_spelling (tlvs_within n r)) (rest_within n r)) in
     rw (some.0, some.1) (record { parts = parts; each = (is.0, later.each); ends = later.ends })
 
-stands_at : (n : ℕ) (o : List ℕ) (f : Option (Tlv × List ℕ)) → tlv_at o ≡ f → ((r : List ℕ) → length r ≤ n → AreOctets r → AreParameters r (tlvs_within n r) (rest_within n r)) → length o ≤ suc n → AreOctets o → AreParameters o (tlvs_within (suc n) o) (rest_within (suc n) o)
+stands_at : (n : ℕ) (o : List ℕ) (f : Option (Tlv × List ℕ)) → tlv_at o ≡ f
+    → ((r : List ℕ) → length r ≤ n → AreOctets r → AreParameters r (tlvs_within n r) (rest_within n r)) → length o ≤ suc n
+    → AreOctets o → AreParameters o (tlvs_within (suc n) o) (rest_within (suc n) o)
 stands_at n o None e later k h = none_stands (suc n) o e
 stands_at n o (Some p) e later k h =
     let len = tlv_found o p.1 p.0 e in
@@ -227,7 +238,8 @@ within_stand : (n : ℕ) (o : List ℕ) → length o ≤ n → AreOctets o → A
 within_stand zero o k h = none_stands zero o (none_left o k)
 within_stand (suc n) o k h = stands_at n o (tlv_at o) refl (λ r. within_stand n r) k h
 
-within_again : (tlvs : List Tlv) (n : ℕ) (o rest : List ℕ) → length o ≤ n → AreParameters o tlvs rest → (tlvs ≡ tlvs_within n o) × (rest ≡ rest_within n o)
+within_again : (tlvs : List Tlv) (n : ℕ) (o rest : List ℕ) → length o ≤ n → AreParameters o tlvs rest
+    → (tlvs ≡ tlvs_within n o) × (rest ≡ rest_within n o)
 within_again [] n o rest k h =
     let none = within-none n o (tlv_none o (subst BeginsWithNoTlv (sym h.parts) h.ends)) in
     (sym none.0, sym h.parts ∙ sym none.1)
@@ -238,7 +250,8 @@ within_again (t ∷ tlvs) n o rest k h =
     again_at n k e (λ m j. within_again tlvs m after rest j (record { parts = refl; each = h.each.1; ends = h.ends }))
   where
     again_at : (n : ℕ) → length o ≤ n → tlv_at o ≡ Some (t, flat_map tlv_spelling tlvs ++ rest)
-        → ((m : ℕ) → length (flat_map tlv_spelling tlvs ++ rest) ≤ m → (tlvs ≡ tlvs_within m (flat_map tlv_spelling tlvs ++ rest)) × (rest ≡ rest_within m (flat_map tlv_spelling tlvs ++ rest)))
+        → ((m : ℕ) → length (flat_map tlv_spelling tlvs ++ rest) ≤ m → (tlvs ≡ tlvs_within m (flat_map tlv_spelling tlvs ++ rest))
+        × (rest ≡ rest_within m (flat_map tlv_spelling tlvs ++ rest)))
         → ((t ∷ tlvs) ≡ tlvs_within n o) × (rest ≡ rest_within n o)
     again_at zero k e later = let short = tlv-shorter o (flat_map tlv_spelling tlvs ++ rest) t e in absurd (omega arith)
     again_at (suc m) k e later =
@@ -256,12 +269,14 @@ unfolding tlvs_of rest_of
 parameters_again octets rest tlvs h = within_again tlvs (length octets) octets rest (omega arith) h
 
 -- octets that begin with no whole parameter are not a parameter and what follows it
-pub no_tlv : (octets : List ℕ) → AreOctets octets → BeginsWithNoTlv octets ↔ ((tlv : Tlv) (rest : List ℕ) → IsTlv tlv → octets ≡ tlv_spelling tlv ++ rest → ⊥)
+pub no_tlv : (octets : List ℕ) → AreOctets octets → BeginsWithNoTlv octets
+    ↔ ((tlv : Tlv) (rest : List ℕ) → IsTlv tlv → octets ≡ tlv_spelling tlv ++ rest → ⊥)
 no_tlv o h = (
   λ none t r is e. let differ : None ≡ Some (t, r) = sym (tlv_none o none) ∙ ap tlv_at e ∙ tlv_again t r is in cc,
   λ never. at_front (tlv_at o) refl never,
 )
   where
-    at_front : (f : Option (Tlv × List ℕ)) → tlv_at o ≡ f → ((tlv : Tlv) (rest : List ℕ) → IsTlv tlv → o ≡ tlv_spelling tlv ++ rest → ⊥) → BeginsWithNoTlv o
+    at_front : (f : Option (Tlv × List ℕ)) → tlv_at o ≡ f → ((tlv : Tlv) (rest : List ℕ) → IsTlv tlv → o ≡ tlv_spelling tlv ++ rest
+        → ⊥) → BeginsWithNoTlv o
     at_front None e never = none_begins o e
     at_front (Some p) e never = let is = tlv_spelled o p.1 p.0 h e in absurd (never p.0 p.1 is.0 is.1)

@@ -106,7 +106,8 @@ submit_parts a b e = (ap (λ d. d.registered_delivery) e, ap (λ d. d.number) e)
 
 pub submits_decide : (a b : Submit) → Decides (is_same_submit a b) (submit_view a ≡ submit_view b)
 submits_decide a b =
-    Decides-like (is_same_submit a b) (one_submit (submit_view a) (submit_view b)) (submit_parts (submit_view a) (submit_view b)) (submit_parts_decide a b)
+    Decides-like (is_same_submit a b) (one_submit (submit_view a) (submit_view b)) (submit_parts (submit_view a) (submit_view b))
+    (submit_parts_decide a b)
 
 -- ---- bodies, command by command
 

@@ -47,16 +47,20 @@ first_or-is : (b : Bool) (x : ℕ) (o : List ℕ) (f : Found) → cond b (Some (
 first_or-is true x o f = refl
 first_or-is false x o f = put_front-is x f
 
-by_test : (b : Bool) (x : ℕ) (o : List ℕ) → first_or b x o (chosen (ltb (zero_at o) (length o)) (take (zero_at o) o, drop (suc (zero_at o)) o)) ≡ chosen (ltb (place b o) (suc (length o))) (take (place b o) (x ∷ o), drop (suc (place b o)) (x ∷ o))
+by_test : (b : Bool) (x : ℕ) (o : List ℕ)
+    → first_or b x o (chosen (ltb (zero_at o) (length o)) (take (zero_at o) o, drop (suc (zero_at o)) o))
+    ≡ chosen (ltb (place b o) (suc (length o))) (take (place b o) (x ∷ o), drop (suc (place b o)) (x ∷ o))
 by_test true x o = rw (ltb-zero (length o)) refl
-by_test false x o = let e : 1 + zero_at o ≡ suc (zero_at o) = omega arith in rw (e, ltb-suc (zero_at o) (length o)) (pushed x o (zero_at o) (ltb (zero_at o) (length o)))
+by_test false x o = let e : 1 + zero_at o ≡ suc (zero_at o) = omega arith in
+    rw (e, ltb-suc (zero_at o) (length o)) (pushed x o (zero_at o) (ltb (zero_at o) (length o)))
 
 pub c_octet_by : (o : List ℕ) → c_octet_at o ≡ chosen (ltb (zero_at o) (length o)) (take (zero_at o) o, drop (suc (zero_at o)) o)
 unfolding c_octet_at
 c_octet_by [] = refl
 c_octet_by (x ∷ o) = first_or-is (x == 0) x o (c_octet_at o) ∙ ap (first_or (x == 0) x o) (c_octet_by o) ∙ by_test (x == 0) x o
 
-some_from : (o : List ℕ) (n : ℕ) (b : Bool) → ltb (zero_at o) (length o) ≡ b → cond b (Some (zero_at o)) None ≡ Some n → (n < length o) × (chosen b (take (zero_at o) o, drop (suc (zero_at o)) o) ≡ Some (take n o, drop (n + 1) o))
+some_from : (o : List ℕ) (n : ℕ) (b : Bool) → ltb (zero_at o) (length o) ≡ b → cond b (Some (zero_at o)) None ≡ Some n
+    → (n < length o) × (chosen b (take (zero_at o) o, drop (suc (zero_at o)) o) ≡ Some (take n o, drop (n + 1) o))
 some_from o n true t h = let is : zero_at o ≡ n = cc in (rw (← is) (ltb-true (zero_at o) (length o) t), rw (add-one, is) refl)
 some_from o n false t h = absurd cc
 
@@ -71,7 +75,8 @@ c_octet-some o n e = let s = some_from o n (ltb (zero_at o) (length o)) refl e i
 pub c_octet-none : (o : List ℕ) → position (λ x. x == 0) o ≡ None → c_octet_at o ≡ None
 c_octet-none o e = c_octet_by o ∙ none_from o _ (ltb (zero_at o) (length o)) e
 
-before_from : (o : List ℕ) (n : ℕ) (b : Bool) → ltb (zero_at o) (length o) ≡ b → cond b (Some (zero_at o)) None ≡ Some n → (n ≤ length o) × (before_zero o ≡ take n o)
+before_from : (o : List ℕ) (n : ℕ) (b : Bool) → ltb (zero_at o) (length o) ≡ b → cond b (Some (zero_at o)) None ≡ Some n
+    → (n ≤ length o) × (before_zero o ≡ take n o)
 before_from o n true t h = let is : zero_at o ≡ n = cc in (rw (← is) (omega (arith, ltb-true (zero_at o) (length o) t)), ap (λ (k : ℕ). take k o) is)
 before_from o n false t h = absurd cc
 

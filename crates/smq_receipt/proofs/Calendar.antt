@@ -25,13 +25,16 @@ calendar-from_is_date year month day h is =
     let day_high : day ≤ days_in_month (pos (2000 + year)) month = grind (arith, nat_tests) in
     ((omega (arith, ints), omega (arith, ints)), (omega (arith, ints), omega (arith, ints)), (omega (arith, ints), omega (arith, ints)))
 
-day_is : (year month day : ℕ) (z : ℤ) (b : Bool) → b ≡ true → z ≡ days_from_civil (pos (2000 + year)) month day → cond b (Some (days_from_civil (pos (2000 + year)) month day)) None ≡ Some z
+day_is : (year month day : ℕ) (z : ℤ) (b : Bool) → b ≡ true → z ≡ days_from_civil (pos (2000 + year)) month day
+    → cond b (Some (days_from_civil (pos (2000 + year)) month day)) None ≡ Some z
 day_is year month day z true t e = ap (λ (d : ℤ). Some d) (sym e)
 day_is year month day z false t e = absurd cc
 
-days : (year : ℕ) (date : Date) → IsYmd (pos (2000 + year)) (pos date.month) (pos date.day) date → IsTrue (is_date year date.month date.day) → day_number_of year date.month date.day ≡ Some (epoch_day date)
+days : (year : ℕ) (date : Date) → IsYmd (pos (2000 + year)) (pos date.month) (pos date.day) date
+    → IsTrue (is_date year date.month date.day) → day_number_of year date.month date.day ≡ Some (epoch_day date)
 unfolding day_number_of
-days year date ymd is = day_is year date.month date.day (epoch_day date) (is_date year date.month date.day) is (ap (λ (y : ℤ). days_from_civil y date.month date.day) ymd.0)
+days year date ymd is = day_is year date.month date.day (epoch_day date) (is_date year date.month date.day) is
+    (ap (λ (y : ℤ). days_from_civil y date.month date.day) ymd.0)
 
 pub calendar : DatesAreOfTheCalendar
 calendar = record { dates = λ year month day h. (calendar-from_is_date year month day h, is_date-from_calendar year month day); days = days }

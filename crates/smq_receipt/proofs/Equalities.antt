@@ -47,7 +47,10 @@ Parts a b = (a.id ≡ b.id) × ((a.state ≡ b.state) × ((a.interim ≡ b.inter
 
 parts_decide : (a b : Receipt) → Decides (is_same_receipt a b) (Parts a b)
 parts_decide a b =
-    Decides-and _ _ (ids a.id b.id) (Decides-and _ _ (states a.state b.state) (Decides-and {P = a.interim ≡ b.interim} {Q = (a.error ≡ b.error) × (a.centre_delay ≡ b.centre_delay)} _ _ (flags a.interim b.interim) (Decides-and {Q = a.centre_delay ≡ b.centre_delay} _ _ (errors a.error b.error) (delays a.centre_delay b.centre_delay))))
+    Decides-and _ _ (ids a.id b.id) (Decides-and _ _ (states a.state b.state)
+    (Decides-and {P = a.interim ≡ b.interim} {Q = (a.error ≡ b.error) × (a.centre_delay ≡ b.centre_delay)} _ _
+    (flags a.interim b.interim) (Decides-and {Q = a.centre_delay ≡ b.centre_delay} _ _ (errors a.error b.error)
+    (delays a.centre_delay b.centre_delay))))
 
 one : (a b : Receipt) → Parts a b → a ≡ b
 one a b p = λ i. record { id = p.0 i; state = p.1.0 i; interim = p.1.1.0 i; error = p.1.1.1.0 i; centre_delay = p.1.1.1.1 i }

@@ -10,7 +10,9 @@ use Rattle.smq_receipt.specs.Readings.{text_of, usable_id, receipted_id, state_i
 use Rattle.smq_receipt.specs.Known.{KnownLimits, ReadingsOfKnownReceipts}
 
 pub known : ReadingsOfKnownReceipts
-unfolding least_below same_letters stands_at labels_at header_of value_at value_of state_of_number state_of_word network_code_in text_code_in two_digits_at is_date day_number_of second_of_day_of moment_of centre_delay_of text_of usable_id receipted_id state_in id_of state_of error_of receipt_of reading_of days_from_civil day_count days_of_years days_of_months
+unfolding least_below same_letters stands_at labels_at header_of value_at value_of state_of_number state_of_word network_code_in
+    text_code_in two_digits_at is_date day_number_of second_of_day_of moment_of centre_delay_of text_of usable_id receipted_id
+    state_in id_of state_of error_of receipt_of reading_of days_from_civil day_count days_of_years days_of_months
 known = record {
   typical = refl;
   short = refl;
@@ -37,7 +39,8 @@ known = record {
 }
 
 pub limits : KnownLimits
-unfolding least_below same_letters state_of_number network_code_in two_digits_at is_date day_number_of second_of_day_of moment_of usable_id receipted_id state_in days_from_civil day_count days_of_years days_of_months
+unfolding least_below same_letters state_of_number network_code_in two_digits_at is_date day_number_of second_of_day_of moment_of
+    usable_id receipted_id state_in days_from_civil day_count days_of_years days_of_months
 limits = record {
   receipts = refl;
   interims = refl;

@@ -12,7 +12,12 @@ abbrev Tells : (ℕ → Bool) → ℕ → Option ℕ → Type 0
 Tells test bound r = MatchOption r (AllFail test bound) (λ p. IsLeast test bound p)
 
 pub all_fail-more : (test : ℕ → Bool) (n : ℕ) → ((k : ℕ) → k < n → test k ≡ false) → test n ≡ false → (k : ℕ) → k < n + 1 → test k ≡ false
-all_fail-more test n h here k l = elim (cases_lt k n) [ inl low ↦ h k low | inr high ↦ let e : n ≡ k = omega arith in let P : ℕ → Type 0 = λ i. test i ≡ false in subst P e here ]
+all_fail-more test n h here k l = elim (cases_lt k n) [
+  | inl low ↦ h k low
+  | inr high ↦ let e : n ≡ k = omega arith in let P : ℕ
+      → Type 0 = λ i. test i
+      ≡ false in subst P e here
+]
 
 step : (test : ℕ → Bool) (n : ℕ) (r : Option ℕ) (b : Bool) → test n ≡ b → Tells test n r → Tells test (suc n) (option_or r (cond b (Some n) None))
 step test n (Some p) b e h = record { within = omega (arith, h.within); passes = h.passes; least = h.least }
@@ -27,7 +32,13 @@ least_tells test (suc n) = step test n (least_below test n) (test n) refl (least
 only_by : (test : ℕ → Bool) (bound place : ℕ) (r : Option ℕ) → Tells test bound r → IsLeast test bound place → r ≡ Some place
 only_by test bound place None h is = absurd (false≢true (sym (h place is.within) ∙ is.passes))
 only_by test bound place (Some p) h is =
-    elim (cases_lt p place) [ inl low ↦ absurd (false≢true (sym (is.least p low) ∙ h.passes)) | inr high ↦ elim (cases_lt place p) [ inl low ↦ absurd (false≢true (sym (h.least place low) ∙ is.passes)) | inr same ↦ let e : p ≡ place = omega arith in ap (λ (i : ℕ). Some i) e ] ]
+    elim (cases_lt p place) [
+      | inl low ↦ absurd (false≢true (sym (is.least p low) ∙ h.passes))
+      | inr high ↦ elim (cases_lt place p) [
+        | inl low ↦ absurd (false≢true (sym (h.least place low) ∙ is.passes))
+        | inr same ↦ let e : p ≡ place = omega arith in ap (λ (i : ℕ). Some i) e
+      ]
+    ]
 
 none_by : (test : ℕ → Bool) (bound : ℕ) (r : Option ℕ) → Tells test bound r → AllFail test bound → r ≡ None
 none_by test bound None h fails = refl
@@ -47,7 +58,8 @@ pub no_place : (test : ℕ → Bool) (bound : ℕ) → ((k : ℕ) → k < bound 
 no_place test bound fails = none_by test bound (least_below test bound) (least_tells test bound) fails
 
 -- where one passes after those that fail
-pub first_place : (test : ℕ → Bool) (bound place : ℕ) → place < bound → test place ≡ true → ((k : ℕ) → k < place → test k ≡ false) → least_below test bound ≡ Some place
+pub first_place : (test : ℕ → Bool) (bound place : ℕ) → place < bound → test place ≡ true → ((k : ℕ) → k < place → test k ≡ false)
+    → least_below test bound ≡ Some place
 first_place test bound place l p fails = only test bound place (record { within = l; passes = p; least = fails })
 
 pub finds_the_least : FindsTheLeast

@@ -19,9 +19,12 @@ stands_from pattern text place within is = record {
 is_standing : (pattern text : List ℕ) (place : ℕ) → Stands pattern text place → stands_at pattern text place ≡ true
 unfolding stands_at same_letters
 is_standing pattern text place s =
-    let as_long : length s.found ≡ length pattern = sym (length-map s.found to_ascii_lowercase) ∙ ap length s.same ∙ length-map pattern to_ascii_lowercase in
-    let from_place : drop place text ≡ s.found ++ s.rest = ap (λ (t : List ℕ). drop place t) s.parts ∙ drop_at s.front (s.found ++ s.rest) place s.starts in
-    let there : take (length pattern) (drop place text) ≡ s.found = ap (λ (t : List ℕ). take (length pattern) t) from_place ∙ take_at s.found s.rest (length pattern) as_long in
+    let as_long : length s.found ≡ length pattern = sym (length-map s.found to_ascii_lowercase) ∙ ap length s.same
+    ∙ length-map pattern to_ascii_lowercase in
+    let from_place : drop place text ≡ s.found ++ s.rest = ap (λ (t : List ℕ). drop place t) s.parts
+    ∙ drop_at s.front (s.found ++ s.rest) place s.starts in
+    let there : take (length pattern) (drop place text) ≡ s.found = ap (λ (t : List ℕ). take (length pattern) t) from_place
+    ∙ take_at s.found s.rest (length pattern) as_long in
     rw there ((bytes_eq-Decides (map to_ascii_lowercase s.found) (map to_ascii_lowercase pattern)).1 s.same)
 
 pub finds_patterns : FindsPatterns

@@ -29,7 +29,8 @@ by_word Accepted = refl
 by_word Unknown = refl
 by_word Rejected = refl
 
-passes_by : {X : Type 0} (test : X → Bool) (y x : X) (rest : Option X) (b : Bool) → test y ≡ b → cond b (Some y) rest ≡ Some x → (rest ≡ Some x → test x ≡ true) → test x ≡ true
+passes_by : {X : Type 0} (test : X → Bool) (y x : X) (rest : Option X) (b : Bool) → test y ≡ b → cond b (Some y) rest ≡ Some x
+    → (rest ≡ Some x → test x ≡ true) → test x ≡ true
 passes_by test y x rest true t e later = let is : y ≡ x = cc in ap test (sym is) ∙ t
 passes_by test y x rest false t e later = later e
 

@@ -12,7 +12,8 @@ use Rattle.smq_receipt.specs.Texts.{same_letters, stands_at}
 -- texts that are the same are as long
 same_letters-long : (xs ys : List ℕ) → same_letters xs ys ≡ true → length xs ≡ length ys
 unfolding same_letters
-same_letters-long xs ys h = sym (length-map xs to_ascii_lowercase) ∙ pointwise_long eqb (map to_ascii_lowercase xs) (map to_ascii_lowercase ys) h ∙ length-map ys to_ascii_lowercase
+same_letters-long xs ys h = sym (length-map xs to_ascii_lowercase)
+    ∙ pointwise_long eqb (map to_ascii_lowercase xs) (map to_ascii_lowercase ys) h ∙ length-map ys to_ascii_lowercase
 
 unless_true : (b : Bool) → (b ≡ true → ⊥) → b ≡ false
 unless_true true h = absurd (h refl)
@@ -22,13 +23,17 @@ unless_true false h = refl
 pub stands_at_past : (pattern text : List ℕ) (place : ℕ) → length text - place < length pattern → stands_at pattern text place ≡ false
 unfolding stands_at
 stands_at_past pattern text place h =
-    unless_true _ (λ t. let e : length (take (length pattern) (drop place text)) ≡ length pattern = same_letters-long _ _ t in omega (arith, e, length-take (length pattern) (drop place text), length-drop place text))
+    unless_true _ (λ t. let e : length (take (length pattern) (drop place text)) ≡ length pattern = same_letters-long _ _ t in
+    omega (arith, e, length-take (length pattern) (drop place text), length-drop place text))
 
-before_from : (p : ℕ → Bool) (o : List ℕ) (n : ℕ) (b : Bool) → ltb (position_or_len p o) (length o) ≡ b → cond b (Some (position_or_len p o)) None ≡ Some n → (n ≤ length o) × (before_first p o ≡ take n o)
-before_from p o n true t h = let is : position_or_len p o ≡ n = cc in (rw (← is) (omega (arith, ltb-true (position_or_len p o) (length o) t)), ap (λ (k : ℕ). take k o) is)
+before_from : (p : ℕ → Bool) (o : List ℕ) (n : ℕ) (b : Bool) → ltb (position_or_len p o) (length o) ≡ b
+    → cond b (Some (position_or_len p o)) None ≡ Some n → (n ≤ length o) × (before_first p o ≡ take n o)
+before_from p o n true t h = let is : position_or_len p o ≡ n = cc in
+    (rw (← is) (omega (arith, ltb-true (position_or_len p o) (length o) t)), ap (λ (k : ℕ). take k o) is)
 before_from p o n false t h = absurd cc
 
-before_none : (p : ℕ → Bool) (o : List ℕ) (b : Bool) → ltb (position_or_len p o) (length o) ≡ b → cond b (Some (position_or_len p o)) None ≡ None → before_first p o ≡ o
+before_none : (p : ℕ → Bool) (o : List ℕ) (b : Bool) → ltb (position_or_len p o) (length o) ≡ b
+    → cond b (Some (position_or_len p o)) None ≡ None → before_first p o ≡ o
 before_none p o true t h = absurd cc
 before_none p o false t h = take_all (position_or_len p o) o (ltb-false (position_or_len p o) (length o) t)
 

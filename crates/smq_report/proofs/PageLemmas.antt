@@ -35,14 +35,16 @@ pub gathers-more : {X : Type 0} (text : X → List ℕ) (all list left : List X)
     → list ≡ item ∷ left → new ≡ old ++ text item
     → Gathers text all list start (append_known written old) → Gathers text all left start (append_known written new)
 gathers-more text all list left item start written old new first grown gathered =
-    gathers-next text all list left item start (append_known written old) (append_known written new) first (page-grown written old new (text item) grown) gathered
+    gathers-next text all list left item start (append_known written old) (append_known written new) first
+    (page-grown written old new (text item) grown) gathered
 
 -- what is held grew by the text of the one at an index
 pub gathers-at : {X : Type 0} (text : X → List ℕ) (all : List X) (index : ℕ) (default : X) (start held new : Option (List ℕ))
     → index < length all → Appends held new (text (get_or all index default))
     → Gathers text all (drop index all) start held → Gathers text all (drop (index + 1) all) start new
 gathers-at text all index default start held new inside grown gathered =
-    gathers-next text all (drop index all) (drop (index + 1) all) (get_or all index default) start held new (rw add-one (drop-cons all index default inside)) grown gathered
+    gathers-next text all (drop index all) (drop (index + 1) all) (get_or all index default) start held new
+    (rw add-one (drop-cons all index default inside)) grown gathered
 
 -- what is held is written in part
 pub gathers-kept : {X : Type 0} (text : X → List ℕ) (all left : List X) (start held new : Option (List ℕ))

@@ -45,7 +45,9 @@ digit_octet : (octet : ℕ) → is_ascii_digit octet ≡ true → is_error_octet
 digit_octet octet h = grind (arith, nat_tests, h)
 
 plain_digits : (octets : List ℕ) → AllPass is_ascii_digit octets → IsPlain octets
-plain_digits octets h = list_any_none (needs_byte default_writer) octets (All-weaker (λ octet. is_ascii_digit octet ≡ true) (λ octet. needs_byte default_writer octet ≡ false) (λ octet digit. plain_octet octet (digit_octet octet digit)) octets h)
+plain_digits octets h = list_any_none (needs_byte default_writer) octets
+    (All-weaker (λ octet. is_ascii_digit octet ≡ true) (λ octet. needs_byte default_writer octet ≡ false)
+    (λ octet digit. plain_octet octet (digit_octet octet digit)) octets h)
 
 -- the digits of a network's code
 pub plain_network : (octets : List ℕ) → IsNetwork octets → IsPlain octets
@@ -62,7 +64,8 @@ plain_onto : (places number : ℕ) (after : List ℕ) → IsPlain after → IsPl
 plain_onto zero number after h = h
 plain_onto (suc places) number after h =
     let more : IsPlain (digit_glyph false (number % 10) ∷ after) = rw (plain_glyph number) h in
-    elim (number / 10 == 0) as (λ last. IsPlain (if last then digit_glyph false (number % 10) ∷ after else digits_onto places 10 false (number / 10) (digit_glyph false (number % 10) ∷ after))) [
+    elim (number / 10 == 0) as (λ last. IsPlain (if last then digit_glyph false (number % 10)
+    ∷ after else digits_onto places 10 false (number / 10) (digit_glyph false (number % 10) ∷ after))) [
       | true ↦ more
       | false ↦ plain_onto places (number / 10) (digit_glyph false (number % 10) ∷ after) more
     ]

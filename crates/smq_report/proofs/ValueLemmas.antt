@@ -32,4 +32,5 @@ digit_below_128 octet h = grind (arith, nat_tests, h)
 -- the digits of a network's code are text
 pub networks_are_text : (octets : List ℕ) → IsNetwork octets → IsUtf8 octets
 networks_are_text octets h =
-    IsUtf8-from_ascii octets (IsAscii-from_all octets (All-weaker (λ octet. is_ascii_digit octet ≡ true) (λ octet. octet < 128) digit_below_128 octets h.digits))
+    IsUtf8-from_ascii octets (IsAscii-from_all octets (All-weaker (λ octet. is_ascii_digit octet ≡ true) (λ octet. octet < 128)
+    digit_below_128 octets h.digits))

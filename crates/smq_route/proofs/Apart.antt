@@ -76,13 +76,15 @@ fails-at p t f v h = ap (λ (b : Bool). b && lasts_past t v.until) (sym (same-oc
 
 passing : (p : List ℕ) (t : ℕ) (e : Entry) → passes p t e ≡ true → (e.0.prefix ≡ p) × (lasts_past t e.1.until ≡ true)
 passing p t e h =
-    elim (pointwise Rattle.std.specs.Prelude.nat_eq e.0.prefix p) as (λ b. pointwise Rattle.std.specs.Prelude.nat_eq e.0.prefix p ≡ b → (b && lasts_past t e.1.until) ≡ true → (e.0.prefix ≡ p) × (lasts_past t e.1.until ≡ true)) [
+    elim (pointwise Rattle.std.specs.Prelude.nat_eq e.0.prefix p) as (λ b. pointwise Rattle.std.specs.Prelude.nat_eq e.0.prefix p
+    ≡ b → (b && lasts_past t e.1.until) ≡ true → (e.0.prefix ≡ p) × (lasts_past t e.1.until ≡ true)) [
       | true ↦ λ same g. ((bytes_decides e.0.prefix p).0 same, g)
       | false ↦ λ same g. absurd (false≢true g)
     ] refl h
 
 -- what is so of each version of the prefix that is open or ends later is so of each entry that passes
-all-passing : (m : Versions) (p : List ℕ) (t : ℕ) (P : ℕ → Type 0) → ((f : ℕ) (v : Version) → version_of m p f ≡ Some v → lasts_past t v.until ≡ true → P f)
+all-passing : (m : Versions) (p : List ℕ) (t : ℕ) (P : ℕ → Type 0)
+    → ((f : ℕ) (v : Version) → version_of m p f ≡ Some v → lasts_past t v.until ≡ true → P f)
     → (es : List Entry) → AllByRecursion (λ e. get m e.0 ≡ Some e.1) es → AllPassing (passes p t) (λ e. P e.0.from) es
 all-passing m p t P h [] a = tt
 all-passing m p t P h (e ∷ es) a = (
@@ -106,17 +108,21 @@ none-passing p t (e ∷ es) a = (
   none-passing p t es a.1,
 )
 
-pub overlap-none : (m : Versions) (p : List ℕ) (t : ℕ) → ((g : ℕ) (w : Version) → version_of m p g ≡ Some w → lasts_past t w.until ≡ true → ⊥) → overlap m p t ≡ None
+pub overlap-none : (m : Versions) (p : List ℕ) (t : ℕ)
+    → ((g : ℕ) (w : Version) → version_of m p g ≡ Some w → lasts_past t w.until ≡ true → ⊥) → overlap m p t ≡ None
 overlap-none m p t none =
-    least-none (passes p t) (entries m) (none-passing p t (entries m) (all-passing m p t (λ _. ⊥) none (entries m) (maps.get-entry versions_total versions_exact m)))
+    least-none (passes p t) (entries m) (none-passing p t (entries m)
+    (all-passing m p t (λ _. ⊥) none (entries m) (maps.get-entry versions_total versions_exact m)))
 
 -- where there is no overlap, each version of the prefix has ended
-pub all-ended : (m : Versions) (p : List ℕ) (t : ℕ) → overlap m p t ≡ None → (g : ℕ) (w : Version) → version_of m p g ≡ Some w → lasts_past t w.until ≡ false
+pub all-ended : (m : Versions) (p : List ℕ) (t : ℕ) → overlap m p t ≡ None → (g : ℕ) (w : Version) → version_of m p g ≡ Some w
+    → lasts_past t w.until ≡ false
 all-ended m p t none g w there =
     fails-at p t g w (none-pass (passes p t) (entries m) none (key_at p g) w (sym (get-entries m (key_at p g)) ∙ there))
 
 -- the version that holds is the least overlap
-pub overlap-holding : (m : Versions) (p : List ℕ) (t f : ℕ) (v : Version) → AreApart m → f ≤ t → version_of m p f ≡ Some v → lasts_past t v.until ≡ true → overlap m p t ≡ Some f
+pub overlap-holding : (m : Versions) (p : List ℕ) (t f : ℕ) (v : Version) → AreApart m → f ≤ t → version_of m p f ≡ Some v
+    → lasts_past t v.until ≡ true → overlap m p t ≡ Some f
 overlap-holding m p t f v a below there lasts =
     overlap-found m p t f v there lasts (λ g w w_there w_lasts.
     elim (nat_lt g f) as (λ b. nat_lt g f ≡ b → f ≤ g) [
@@ -133,18 +139,22 @@ later m p t g w none there lasts =
 
 -- where none holds, the first version from then on is the least overlap
 pub overlap-first : (m : Versions) (p : List ℕ) (t : ℕ) (r : Option ℕ) → AreApart m → NoneHolds m p t
-    → MatchOption r ((g : ℕ) → t ≤ g → version_of m p g ≡ None) (λ f. (t ≤ f) × IsSome (version_of m p f) × ((g : ℕ) → t ≤ g → IsSome (version_of m p g) → f ≤ g)) → r ≡ overlap m p t
+    → MatchOption r ((g : ℕ) → t ≤ g → version_of m p g ≡ None) (λ f. (t ≤ f) × IsSome (version_of m p f)
+    × ((g : ℕ) → t ≤ g → IsSome (version_of m p g) → f ≤ g)) → r ≡ overlap m p t
 overlap-first m p t None a none h =
-    sym (overlap-none m p t (λ g w there lasts. let no : ◌≡◌ {A = Option Version} None (Some w) = sym (h g (later m p t g w none there lasts)) ∙ there in absurd cc))
+    sym (overlap-none m p t (λ g w there lasts. let no : ◌≡◌ {A = Option Version} None (Some w) =
+    sym (h g (later m p t g w none there lasts)) ∙ there in absurd cc))
 overlap-first m p t (Some f) a none h =
     elim (version_of m p f) as (λ o. version_of m p f ≡ o → IsSome o → Some f ≡ overlap m p t) [
       | None ↦ λ e s. absurd cc
-      | Some v ↦ λ e s. sym (overlap-found m p t f v e (lasts-before f t v.until (a.forward p f v e) h.0) (λ g w there lasts. h.2 g (later m p t g w none there lasts) (some-of (version_of m p g) w there)))
+      | Some v ↦ λ e s. sym (overlap-found m p t f v e (lasts-before f t v.until (a.forward p f v e) h.0)
+          (λ g w there lasts. h.2 g (later m p t g w none there lasts) (some-of (version_of m p g) w there)))
     ] refl h.1
 
 -- ---- edits
 
-pub IsReplyInPlace-weaker : {T P P' Q Q' : Type 0} (o : Option Refusal) (r : Result T Refusal) → (P → P') → (Q → Q') → IsReplyInPlace o r P Q → IsReplyInPlace o r P' Q'
+pub IsReplyInPlace-weaker : {T P P' Q Q' : Type 0} (o : Option Refusal) (r : Result T Refusal) → (P → P') → (Q → Q')
+    → IsReplyInPlace o r P Q → IsReplyInPlace o r P' Q'
 IsReplyInPlace-weaker None (Ok x) f g a = f a
 IsReplyInPlace-weaker None (Err e) f g a = a
 IsReplyInPlace-weaker (Some q) (Ok x) f g a = a
@@ -178,7 +188,8 @@ put-apart m p f v a digits forward before after = record {
       ];
   forward = λ q g w there.
       elim (at-insert m (key_at p f) v (key_at q g) w there) [
-        | inl is ↦ subst (λ (n : ℕ). LastsPast n w.until) (sym (from-is q p g f is.0)) (subst (λ (x : Version). LastsPast f x.until) (sym is.1) forward)
+        | inl is ↦ subst (λ (n : ℕ). LastsPast n w.until) (sym (from-is q p g f is.0))
+            (subst (λ (x : Version). LastsPast f x.until) (sym is.1) forward)
         | inr old ↦ a.forward q g w old
       ];
   apart = λ q g h w x there there_too less.
@@ -205,25 +216,30 @@ put-apart m p f v a digits forward before after = record {
 }
 
 -- an open version that overlaps none
-pub added-apart : (m : Versions) (p : List ℕ) (f : ℕ) (route : RouteId) (network : List ℕ) → AreApart m → IsDigits p → overlap m p f ≡ None → AreApart (added m p f route network)
+pub added-apart : (m : Versions) (p : List ℕ) (f : ℕ) (route : RouteId) (network : List ℕ) → AreApart m → IsDigits p
+    → overlap m p f ≡ None → AreApart (added m p f route network)
 added-apart m p f route network a digits none =
     put-apart m p f (record { until = None; route = route; network = network }) a digits tt
     (λ g w there less. ends-by f w.until (all-ended m p f none g w there))
-    (λ g w there more. absurd (false≢true (sym (all-ended m p f none g w there) ∙ lasts-before g f w.until (a.forward p g w there) (omega (arith, more)))))
+    (λ g w there more. absurd (false≢true (sym (all-ended m p f none g w there)
+    ∙ lasts-before g f w.until (a.forward p g w there) (omega (arith, more)))))
 
-pub add-apart : {T : Type 0} (m n : Versions) (p : List ℕ) (f : ℕ) (route : RouteId) (network : List ℕ) (r : Result T Refusal) → AreApart m → IsDigits p
+pub add-apart : {T : Type 0} (m n : Versions) (p : List ℕ) (f : ℕ) (route : RouteId) (network : List ℕ) (r : Result T Refusal)
+    → AreApart m → IsDigits p
     → IsReply (first_of (add_refusals m p f)) r (n ≡ added m p f route network) (n ≡ m) → AreApart n
 add-apart {T} m n p f route network r a digits h =
     by (overlap m p f) r refl h
   where
-    by : (o : Option ℕ) (s : Result T Refusal) → overlap m p f ≡ o → IsReply (first_of (option_map Overlap o ∷ [])) s (n ≡ added m p f route network) (n ≡ m) → AreApart n
+    by : (o : Option ℕ) (s : Result T Refusal) → overlap m p f ≡ o
+        → IsReply (first_of (option_map Overlap o ∷ [])) s (n ≡ added m p f route network) (n ≡ m) → AreApart n
     by None (Ok x) e g = subst AreApart (sym g) (added-apart m p f route network a digits e)
     by None (Err x) e g = subst AreApart (sym g.1) a
     by (Some y) (Ok x) e g = absurd g
     by (Some y) (Err x) e g = subst AreApart (sym g.1) a
 
 -- a version's end is set
-ending-apart : (m : Versions) (p : List ℕ) (f until : ℕ) (v : Version) → AreApart m → version_of m p f ≡ Some v → v.until ≡ None → f < until → AreApart (insert m (key_at p f) (ending until v))
+ending-apart : (m : Versions) (p : List ℕ) (f until : ℕ) (v : Version) → AreApart m → version_of m p f ≡ Some v → v.until ≡ None
+    → f < until → AreApart (insert m (key_at p f) (ending until v))
 ending-apart m p f until v a there is_open forward =
     put-apart m p f (ending until v) a (a.digits p f v there) forward
     (λ g w w_there less. a.apart p g f w v w_there there less)
@@ -235,7 +251,8 @@ end-apart {T} m n p f until r a h =
     by (version_of m p f) r refl h
   where
     ends : (v : Version) (o : Option ℕ) (b : Bool) (s : Result T Refusal) → version_of m p f ≡ Some v → v.until ≡ o → nat_le until f ≡ b
-        → IsReplyInPlace (first_of (None ∷ option_map Ended o ∷ cond b (Some BadEnd) None ∷ [])) s (n ≡ insert m (key_at p f) (ending until v)) (n ≡ m) → AreApart n
+        → IsReplyInPlace (first_of (None ∷ option_map Ended o ∷ cond b (Some BadEnd) None ∷ [])) s (n
+        ≡ insert m (key_at p f) (ending until v)) (n ≡ m) → AreApart n
     ends v None true (Ok x) e u c g = absurd g
     ends v None true (Err x) e u c g = subst AreApart (sym g.1) a
     ends v None false (Ok x) e u c g = subst AreApart (sym g) (ending-apart m p f until v a e u (grind (arith, nat_tests, c)))
@@ -243,7 +260,8 @@ end-apart {T} m n p f until r a h =
     ends v (Some t) b (Ok x) e u c g = absurd g
     ends v (Some t) b (Err x) e u c g = subst AreApart (sym g.1) a
 
-    by : (o : Option Version) (s : Result T Refusal) → version_of m p f ≡ o → IsReplyInPlace (first_of (end_refusals o f until)) s (n ≡ changed_where o m p f (ending until)) (n ≡ m) → AreApart n
+    by : (o : Option Version) (s : Result T Refusal) → version_of m p f ≡ o
+        → IsReplyInPlace (first_of (end_refusals o f until)) s (n ≡ changed_where o m p f (ending until)) (n ≡ m) → AreApart n
     by None (Ok x) e g = absurd g
     by None (Err x) e g = subst AreApart (sym g.1) a
     by (Some v) s e g = ends v v.until (nat_le until f) s e refl refl g
@@ -254,7 +272,9 @@ pub correct-apart : {T : Type 0} (m n : Versions) (p : List ℕ) (f : ℕ) (rout
 correct-apart {T} m n p f route network r a h =
     by (version_of m p f) r refl h
   where
-    by : (o : Option Version) (s : Result T Refusal) → version_of m p f ≡ o → IsReplyInPlace (first_of (correct_refusals o)) s (n ≡ changed_where o m p f (corrected route network)) (n ≡ m) → AreApart n
+    by : (o : Option Version) (s : Result T Refusal) → version_of m p f ≡ o
+        → IsReplyInPlace (first_of (correct_refusals o)) s (n ≡ changed_where o m p f (corrected route network)) (n ≡ m)
+        → AreApart n
     by None (Ok x) e g = absurd g
     by None (Err x) e g = subst AreApart (sym g.1) a
     by (Some v) (Ok x) e g =

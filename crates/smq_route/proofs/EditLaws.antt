@@ -31,13 +31,16 @@ accepted o e = ap (λ (x : Option ℕ). first_of (option_map Overlap x ∷ [])) 
 
 -- ---- apart
 
-pub adds-apart : (m : Versions) (p : List ℕ) (f : ℕ) (r : RouteId) (n : List ℕ) → AreApart m → IsDigits p → IsAccepted (add_refusals m p f) → AreApart (added m p f r n)
+pub adds-apart : (m : Versions) (p : List ℕ) (f : ℕ) (r : RouteId) (n : List ℕ) → AreApart m → IsDigits p
+    → IsAccepted (add_refusals m p f) → AreApart (added m p f r n)
 adds-apart m p f r n a digits accept = added-apart m p f r n a digits (no-overlap (overlap m p f) accept)
 
-pub ends-apart : (m : Versions) (p : List ℕ) (f until : ℕ) → AreApart m → IsAccepted (end_refusals (version_of m p f) f until) → AreApart (changed m p f (ending until))
+pub ends-apart : (m : Versions) (p : List ℕ) (f until : ℕ) → AreApart m → IsAccepted (end_refusals (version_of m p f) f until)
+    → AreApart (changed m p f (ending until))
 ends-apart m p f until a accept =
     let new : Versions = changed m p f (ending until) in
-    end-apart {T = ⊤} m new p f until (Ok tt) a (subst (λ (o : Option Refusal). IsReplyInPlace {T = ⊤} o (Ok tt) (new ≡ new) (new ≡ m)) (sym accept) refl)
+    end-apart {T = ⊤} m new p f until (Ok tt) a
+    (subst (λ (o : Option Refusal). IsReplyInPlace {T = ⊤} o (Ok tt) (new ≡ new) (new ≡ m)) (sym accept) refl)
 
 pub corrects-apart : (m : Versions) (p : List ℕ) (f : ℕ) (r : RouteId) (n : List ℕ) → AreApart m → AreApart (changed m p f (corrected r n))
 corrects-apart m p f r n a = by (version_of m p f) refl
@@ -56,14 +59,16 @@ open-then-after None true a = absurd cc
 open-then-after None false a = (refl, refl)
 open-then-after (Some u) b a = absurd cc
 
-pub ends-first : (k : VersionKey) (v : Version) (until : ℕ) → IsAccepted (end_refusals (Some v) k.from until) → holds k.from (k, ending until v) ≡ true
+pub ends-first : (k : VersionKey) (v : Version) (until : ℕ) → IsAccepted (end_refusals (Some v) k.from until)
+    → holds k.from (k, ending until v) ≡ true
 ends-first k v until a =
     let late = (open-then-after v.until (nat_le until k.from) a).1 in
     let starts : nat_le k.from k.from ≡ true = grind (arith, nat_tests) in
     let lasts : nat_lt k.from until ≡ true = grind (arith, nat_tests, late) in
     rw (starts, lasts) refl
 
-pub ends-before : (k : VersionKey) (v : Version) (until t : ℕ) → IsAccepted (end_refusals (Some v) k.from until) → t < until → holds t (k, ending until v) ≡ holds t (k, v)
+pub ends-before : (k : VersionKey) (v : Version) (until t : ℕ) → IsAccepted (end_refusals (Some v) k.from until) → t < until
+    → holds t (k, ending until v) ≡ holds t (k, v)
 ends-before k v until t a less =
     let is_open = (open-then-after v.until (nat_le until k.from) a).0 in
     let lasts : nat_lt t until ≡ true = grind (arith, nat_tests, less) in
@@ -82,11 +87,13 @@ pub dates-stay : (m : Versions) (p : List ℕ) (f : ℕ) (r : RouteId) (n : List
     → option_map (λ v. v.until) (get (changed m p f (corrected r n)) k) ≡ option_map (λ v. v.until) (get m k)
 dates-stay m p f r n k = by (version_of m p f) refl
   where
-    by : (o : Option Version) → version_of m p f ≡ o → option_map (λ v. v.until) (get (changed_where o m p f (corrected r n)) k) ≡ option_map (λ v. v.until) (get m k)
+    by : (o : Option Version) → version_of m p f ≡ o → option_map (λ v. v.until) (get (changed_where o m p f (corrected r n)) k)
+        ≡ option_map (λ v. v.until) (get m k)
     by None e = refl
     by (Some v) e =
         ap (option_map (λ (x : Version). x.until)) (get-insert versions_total m (key_at p f) (corrected r n v) k)
-        ∙ elim (eq_by_cmp version_cmp k (key_at p f)) as (λ b. eq_by_cmp version_cmp k (key_at p f) ≡ b → option_map (λ x. x.until) (cond b (Some (corrected r n v)) (get m k)) ≡ option_map (λ x. x.until) (get m k)) [
+        ∙ elim (eq_by_cmp version_cmp k (key_at p f)) as (λ b. eq_by_cmp version_cmp k (key_at p f) ≡ b
+        → option_map (λ x. x.until) (cond b (Some (corrected r n v)) (get m k)) ≡ option_map (λ x. x.until) (get m k)) [
           | true ↦ λ same.
               let key : k ≡ key_at p f = versions_exact k (key_at p f) (is_equal (version_cmp k (key_at p f)) same) in
               ap (option_map (λ (x : Version). x.until)) (sym (ap (get m) key ∙ e))
@@ -99,12 +106,25 @@ dates-stay m p f r n k = by (version_of m p f) refl
 still-lasts : (m : Versions) (k q : VersionKey) (t : ℕ) (r : RouteId) (n : List ℕ) (w : Version) → get m q ≡ Some w → lasts_past t w.until ≡ true
     → (x : Version) × (get (insert m k (record { until = None; route = r; network = n })) q ≡ Some x) × (lasts_past t x.until ≡ true)
 still-lasts m k q t r n w there lasts =
-    elim (eq_by_cmp version_cmp q k) as (λ b. eq_by_cmp version_cmp q k ≡ b → (x : Version) × (get (insert m k (record { until = None; route = r; network = n })) q ≡ Some x) × (lasts_past t x.until ≡ true)) [
-      | true ↦ λ e. (record { until = None; route = r; network = n }, get-insert versions_total m k _ q ∙ ap (λ (b : Bool). cond b (Some (record { until = None; route = r; network = n })) (get m q)) e, refl)
-      | false ↦ λ e. (w, get-insert versions_total m k _ q ∙ ap (λ (b : Bool). cond b (Some (record { until = None; route = r; network = n })) (get m q)) e ∙ there, lasts)
+    elim (eq_by_cmp version_cmp q k) as (λ b. eq_by_cmp version_cmp q k ≡ b
+    → (x : Version) × (get (insert m k (record { until = None; route = r; network = n })) q ≡ Some x)
+    × (lasts_past t x.until ≡ true)) [
+      | true ↦ λ e. (
+        record { until = None; route = r; network = n },
+        get-insert versions_total m k _ q
+            ∙ ap (λ (b : Bool). cond b (Some (record { until = None; route = r; network = n })) (get m q)) e,
+        refl,
+      )
+      | false ↦ λ e. (
+        w,
+        get-insert versions_total m k _ q
+            ∙ ap (λ (b : Bool). cond b (Some (record { until = None; route = r; network = n })) (get m q)) e ∙ there,
+        lasts,
+      )
     ] refl
 
-pub second-alone : (m : Versions) (p q : List ℕ) (f g : ℕ) (r : RouteId) (n : List ℕ) → IsAccepted (add_refusals m p f) → IsAccepted (add_refusals (added m p f r n) q g) → IsAccepted (add_refusals m q g)
+pub second-alone : (m : Versions) (p q : List ℕ) (f g : ℕ) (r : RouteId) (n : List ℕ) → IsAccepted (add_refusals m p f)
+    → IsAccepted (add_refusals (added m p f r n) q g) → IsAccepted (add_refusals m q g)
 second-alone m p q f g r n one two =
     accepted (overlap m q g)
     (overlap-none m q g (λ h w there lasts.
@@ -114,10 +134,13 @@ second-alone m p q f g r n one two =
 -- two that are accepted one after the other are of two prefixes
 prefixes-differ : (m : Versions) (p q : List ℕ) (f g : ℕ) (r : RouteId) (n : List ℕ) → IsAccepted (add_refusals (added m p f r n) q g) → p ≢ q
 prefixes-differ m p q f g r n two same =
-    absurd (false≢true (sym (all-ended (added m p f r n) q g (no-overlap (overlap (added m p f r n) q g) two) f (record { until = None; route = r; network = n })
-    (subst (λ (x : List ℕ). version_of (added m p f r n) x f ≡ Some (record { until = None; route = r; network = n })) same (put-there m (key_at p f) (record { until = None; route = r; network = n }))))))
+    absurd (false≢true (sym (all-ended (added m p f r n) q g (no-overlap (overlap (added m p f r n) q g) two) f
+    (record { until = None; route = r; network = n })
+    (subst (λ (x : List ℕ). version_of (added m p f r n) x f ≡ Some (record { until = None; route = r; network = n })) same
+    (put-there m (key_at p f) (record { until = None; route = r; network = n }))))))
 
-pub first-after : (m : Versions) (p q : List ℕ) (f g : ℕ) (r s : RouteId) (n o : List ℕ) → IsAccepted (add_refusals m p f) → IsAccepted (add_refusals (added m p f r n) q g)
+pub first-after : (m : Versions) (p q : List ℕ) (f g : ℕ) (r s : RouteId) (n o : List ℕ) → IsAccepted (add_refusals m p f)
+    → IsAccepted (add_refusals (added m p f r n) q g)
     → IsAccepted (add_refusals (added m q g s o) p f)
 first-after m p q f g r s n o one two =
     accepted (overlap (added m q g s o) p f)
@@ -127,14 +150,16 @@ first-after m p q f g r s n o one two =
       | inr old ↦ absurd (false≢true (sym (all-ended m p f (no-overlap (overlap m p f) one) h w old) ∙ lasts))
     ]))
 
-swapped : (m : Versions) (k l : VersionKey) (v w : Version) → k ≢ l → (q : VersionKey) → get (insert (insert m k v) l w) q ≡ get (insert (insert m l w) k v) q
+swapped : (m : Versions) (k l : VersionKey) (v w : Version) → k ≢ l → (q : VersionKey) → get (insert (insert m k v) l w) q
+    ≡ get (insert (insert m l w) k v) q
 swapped m k l v w other q =
     get-insert versions_total (insert m k v) l w q
     ∙ ap (cond (eq_by_cmp version_cmp q l) (Some w)) (get-insert versions_total m k v q)
     ∙ by (eq_by_cmp version_cmp q l) (eq_by_cmp version_cmp q k) refl refl
     ∙ sym (get-insert versions_total (insert m l w) k v q ∙ ap (cond (eq_by_cmp version_cmp q k) (Some v)) (get-insert versions_total m l w q))
   where
-    by : (b c : Bool) → eq_by_cmp version_cmp q l ≡ b → eq_by_cmp version_cmp q k ≡ c → cond b (Some w) (cond c (Some v) (get m q)) ≡ cond c (Some v) (cond b (Some w) (get m q))
+    by : (b c : Bool) → eq_by_cmp version_cmp q l ≡ b → eq_by_cmp version_cmp q k ≡ c → cond b (Some w) (cond c (Some v) (get m q))
+        ≡ cond c (Some v) (cond b (Some w) (get m q))
     by true true x y =
         absurd (other (sym (versions_exact q k (is_equal (version_cmp q k) y)) ∙ versions_exact q l (is_equal (version_cmp q l) x)))
     by true false x y = refl
@@ -144,5 +169,7 @@ swapped m k l v w other q =
 pub one-set : (m : Versions) (p q : List ℕ) (f g : ℕ) (r s : RouteId) (n o : List ℕ) → IsAccepted (add_refusals (added m p f r n) q g)
     → added (added m p f r n) q g s o ≡ added (added m q g s o) p f r n
 one-set m p q f g r s n o two =
-    same_map versions_total versions_exact _ _ (swapped m (key_at p f) (key_at q g) (record { until = None; route = r; network = n }) (record { until = None; route = s; network = o })
+    same_map versions_total versions_exact _ _
+    (swapped m (key_at p f) (key_at q g) (record { until = None; route = r; network = n })
+    (record { until = None; route = s; network = o })
     (λ same. prefixes-differ m p q f g r n two (ap (λ (k : VersionKey). k.prefix) same)))

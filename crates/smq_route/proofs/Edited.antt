@@ -26,30 +26,37 @@ module _ {T : Type 0} (refusals : Option Version → List (Option Refusal)) (cha
   Becomes old new p f r = IsReplyInPlace (first_of (refusals (version_of old p f))) r (new ≡ changed old p f change) (new ≡ old)
 
   -- the version is there
-  pub at_known : (es fs : List (VersionKey × Version)) (k p : List ℕ) (f : ℕ) (v v' : Version) (r : Result T Refusal) → k ≡ p → Some v ≡ lookup (is_at (kept_version_cmp (key_at k f))) es
-      → ((q : VersionKey) → lookup (is_at (kept_version_cmp q)) fs ≡ cond (is_at (kept_version_cmp (key_at k f)) q) (Some v') (lookup (is_at (kept_version_cmp q)) es))
+  pub at_known : (es fs : List (VersionKey × Version)) (k p : List ℕ) (f : ℕ) (v v' : Version) (r : Result T Refusal) → k ≡ p
+      → Some v ≡ lookup (is_at (kept_version_cmp (key_at k f))) es
+      → ((q : VersionKey) → lookup (is_at (kept_version_cmp q)) fs
+      ≡ cond (is_at (kept_version_cmp (key_at k f)) q) (Some v') (lookup (is_at (kept_version_cmp q)) es))
       → IsReplyInPlace (first_of (refusals (Some v))) r (v' ≡ change v) (v' ≡ v) → Becomes (seen es) (seen fs) p f r
   at_known es fs k p f v v' r same there h a =
       let found : get (seen es) (key_at k f) ≡ Some v = get-seen es (key_at k f) ∙ sym there in
       let put : seen fs ≡ insert (seen es) (key_at k f) v' = insert-seen es fs (key_at k f) v' h in
       let at_k : Becomes (seen es) (seen fs) k f r =
-      subst (λ (o : Option Version). IsReplyInPlace (first_of (refusals o)) r (seen fs ≡ changed_where o (seen es) k f change) (seen fs ≡ seen es)) (sym found)
-      (IsReplyInPlace-weaker (first_of (refusals (Some v))) r (λ e. put ∙ ap (λ (x : Version). insert (seen es) (key_at k f) x) e) (λ e. put ∙ ap (λ (x : Version). insert (seen es) (key_at k f) x) e ∙ insert-same (seen es) (key_at k f) v found) a) in
+      subst (λ (o : Option Version). IsReplyInPlace (first_of (refusals o)) r (seen fs ≡ changed_where o (seen es) k f change)
+      (seen fs ≡ seen es)) (sym found)
+      (IsReplyInPlace-weaker (first_of (refusals (Some v))) r (λ e. put ∙ ap (λ (x : Version). insert (seen es) (key_at k f) x) e)
+      (λ e. put ∙ ap (λ (x : Version). insert (seen es) (key_at k f) x) e ∙ insert-same (seen es) (key_at k f) v found) a) in
       subst (λ (q : List ℕ). Becomes (seen es) (seen fs) q f r) same at_k
 
   -- the version is absent
-  pub at_absent : (es gs : List (VersionKey × Version)) (k p : List ℕ) (f : ℕ) (r : Result T Refusal) → k ≡ p → None ≡ lookup (is_at (kept_version_cmp (key_at k f))) es → gs ≡ es
+  pub at_absent : (es gs : List (VersionKey × Version)) (k p : List ℕ) (f : ℕ) (r : Result T Refusal) → k ≡ p
+      → None ≡ lookup (is_at (kept_version_cmp (key_at k f))) es → gs ≡ es
       → IsReplyInPlace (first_of (refusals None)) r (seen gs ≡ seen es) (seen gs ≡ seen es) → Becomes (seen es) (seen gs) p f r
   at_absent es gs k p f r same missing left a =
       let none : get (seen es) (key_at k f) ≡ None = get-seen es (key_at k f) ∙ sym missing in
       let at_k : Becomes (seen es) (seen gs) k f r =
-      subst (λ (o : Option Version). IsReplyInPlace (first_of (refusals o)) r (seen gs ≡ changed_where o (seen es) k f change) (seen gs ≡ seen es)) (sym none) a in
+      subst (λ (o : Option Version). IsReplyInPlace (first_of (refusals o)) r (seen gs ≡ changed_where o (seen es) k f change)
+      (seen gs ≡ seen es)) (sym none) a in
       subst (λ (q : List ℕ). Becomes (seen es) (seen gs) q f r) same at_k
 
 -- ---- one version is changed, and no other
 
 pub put-there : (m : Versions) (k : VersionKey) (v : Version) → get (insert m k v) k ≡ Some v
-put-there m k v = let same : eq_by_cmp version_cmp k k ≡ true = ap is_eq (tied_itself versions_total k) in get-insert versions_total m k v k ∙ ap (λ (b : Bool). cond b (Some v) (get m k)) same
+put-there m k v = let same : eq_by_cmp version_cmp k k ≡ true = ap is_eq (tied_itself versions_total k) in
+    get-insert versions_total m k v k ∙ ap (λ (b : Bool). cond b (Some v) (get m k)) same
 
 pub put-elsewhere : (m : Versions) (k : VersionKey) (v : Version) (q : VersionKey) → q ≢ k → get (insert m k v) q ≡ get m q
 put-elsewhere m k v q other =
@@ -59,11 +66,13 @@ put-elsewhere m k v q other =
       | false ↦ λ e. refl
     ] refl
 
-pub changed-there : (m : Versions) (p : List ℕ) (f : ℕ) (g : Version → Version) (v : Version) → version_of m p f ≡ Some v → version_of (changed m p f g) p f ≡ Some (g v)
+pub changed-there : (m : Versions) (p : List ℕ) (f : ℕ) (g : Version → Version) (v : Version) → version_of m p f ≡ Some v
+    → version_of (changed m p f g) p f ≡ Some (g v)
 changed-there m p f g v there =
     ap (λ (o : Option Version). version_of (changed_where o m p f g) p f) there ∙ put-there m (key_at p f) (g v)
 
-pub changed-elsewhere : (m : Versions) (p : List ℕ) (f : ℕ) (g : Version → Version) (q : VersionKey) → q ≢ key_at p f → get (changed m p f g) q ≡ get m q
+pub changed-elsewhere : (m : Versions) (p : List ℕ) (f : ℕ) (g : Version → Version) (q : VersionKey) → q ≢ key_at p f
+    → get (changed m p f g) q ≡ get m q
 changed-elsewhere m p f g q other = by (version_of m p f)
   where
     by : (o : Option Version) → get (changed_where o m p f g) q ≡ get m q

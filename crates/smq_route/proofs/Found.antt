@@ -46,7 +46,8 @@ pub no_longer-all : (m : Versions) (number : List ℕ) (t : ℕ) → NoLonger m 
 no_longer-all m number t k v there h = short k number (serving number t k v h).0
 
 -- none of this many digits holds
-pub no_longer-next : (m : Versions) (number : List ℕ) (t n : ℕ) → NoLonger m number t (n + 1) → NoneHolds m (take (n + 1) number) t → NoLonger m number t n
+pub no_longer-next : (m : Versions) (number : List ℕ) (t n : ℕ) → NoLonger m number t (n + 1) → NoneHolds m (take (n + 1) number) t
+    → NoLonger m number t n
 no_longer-next m number t n all none k v there h =
     let is = serving number t k v h in
     let most = all k v there h in
@@ -64,10 +65,12 @@ pub one-holds : (m : Versions) (p : List ℕ) (t f g : ℕ) (v w : Version) → 
     → f ≤ t → lasts_past t v.until ≡ true → g ≤ t → lasts_past t w.until ≡ true → f ≡ g
 one-holds m p t f g v w a there there_too f_below f_lasts g_below g_lasts =
     elim (nat_lt f g) as (λ b. nat_lt f g ≡ b → f ≡ g) [
-      | true ↦ λ e. absurd (false≢true (sym (ended-then g t v.until (a.apart p f g v w there there_too (grind (arith, nat_tests, e))) g_below) ∙ f_lasts))
+      | true ↦ λ e. absurd (false≢true (sym (ended-then g t v.until
+          (a.apart p f g v w there there_too (grind (arith, nat_tests, e))) g_below) ∙ f_lasts))
       | false ↦ λ e.
           elim (nat_lt g f) as (λ b. nat_lt g f ≡ b → f ≡ g) [
-            | true ↦ λ d. absurd (false≢true (sym (ended-then f t w.until (a.apart p g f w v there_too there (grind (arith, nat_tests, d))) f_below) ∙ g_lasts))
+            | true ↦ λ d. absurd (false≢true (sym (ended-then f t w.until
+                (a.apart p g f w v there_too there (grind (arith, nat_tests, d))) f_below) ∙ g_lasts))
             | false ↦ λ d. grind (arith, nat_tests, e, d)
           ] refl
     ] refl
@@ -75,12 +78,15 @@ one-holds m p t f g v w a there there_too f_below f_lasts g_below g_lasts =
 value-is : (v w : Version) (o : Option Version) → o ≡ Some v → o ≡ Some w → v ≡ w
 value-is v w o p q = cc
 
-at_most : (m : Versions) (number : List ℕ) (t n f : ℕ) (v : Version) → AreApart m → NoLonger m number t n → length (take n number) ≡ n → version_of m (take n number) f ≡ Some v → f ≤ t → lasts_past t v.until ≡ true
-    → (k : VersionKey) (w : Version) → get m k ≡ Some w → serves number t (k, w) ≡ true → (length k.prefix < length (take n number)) ⊎ ◌≡◌ {A = Entry} (k, w) (key_at (take n number) f, v)
+at_most : (m : Versions) (number : List ℕ) (t n f : ℕ) (v : Version) → AreApart m → NoLonger m number t n
+    → length (take n number) ≡ n → version_of m (take n number) f ≡ Some v → f ≤ t → lasts_past t v.until ≡ true
+    → (k : VersionKey) (w : Version) → get m k ≡ Some w → serves number t (k, w) ≡ true → (length k.prefix < length (take n number))
+    ⊎ ◌≡◌ {A = Entry} (k, w) (key_at (take n number) f, v)
 at_most m number t n f v a longer len there below lasts k w w_there serves_w =
     let is = serving number t k w serves_w in
     let most = longer k w w_there serves_w in
-    elim (nat_lt (length k.prefix) n) as (λ b. nat_lt (length k.prefix) n ≡ b → (length k.prefix < length (take n number)) ⊎ ◌≡◌ {A = Entry} (k, w) (key_at (take n number) f, v)) [
+    elim (nat_lt (length k.prefix) n) as (λ b. nat_lt (length k.prefix) n ≡ b → (length k.prefix < length (take n number))
+    ⊎ ◌≡◌ {A = Entry} (k, w) (key_at (take n number) f, v)) [
       | true ↦ λ e. inl (let less : length k.prefix < n = grind (arith, nat_tests, e) in omega (arith, less, len))
       | false ↦ λ e.
           let same : length k.prefix ≡ n = grind (arith, nat_tests, e, most) in
@@ -93,24 +99,30 @@ at_most m number t n f v a longer len there below lasts k w w_there serves_w =
           inr (λ i. (at_f i, value i))
     ] refl
 
-all-shorter : (m : Versions) (test : Entry → Bool) (x : Entry) → ((k : VersionKey) (w : Version) → get m k ≡ Some w → test (k, w) ≡ true → (length k.prefix < length x.0.prefix) ⊎ ◌≡◌ {A = Entry} (k, w) x)
+all-shorter : (m : Versions) (test : Entry → Bool) (x : Entry)
+    → ((k : VersionKey) (w : Version) → get m k ≡ Some w → test (k, w) ≡ true → (length k.prefix < length x.0.prefix)
+    ⊎ ◌≡◌ {A = Entry} (k, w) x)
     → (es : List Entry) → AllByRecursion (λ e. get m e.0 ≡ Some e.1) es → AllPassing test (IsShorter test x) es
 all-shorter m test x h [] a = tt
 all-shorter m test x h (e ∷ es) a = (λ p. h e.0 e.1 a.0 p, all-shorter m test x h es a.1)
 
 -- what is found first, from the longest prefix on, is the version
-pub route-found : (m : Versions) (number : List ℕ) (t n f : ℕ) (v : Version) → AreApart m → NoLonger m number t n → n ≤ length number → version_of m (take n number) f ≡ Some v → f ≤ t → lasts_past t v.until ≡ true
+pub route-found : (m : Versions) (number : List ℕ) (t n f : ℕ) (v : Version) → AreApart m → NoLonger m number t n
+    → n ≤ length number → version_of m (take n number) f ≡ Some v → f ≤ t → lasts_past t v.until ≡ true
     → route_at m number t ≡ Some (v.route, v.network)
 route-found m number t n f v a longer fits there below lasts =
     let len : length (take n number) ≡ n = length-take-le n number fits in
-    let first : begins number (take n number) ≡ true = (bytes_decides (take n number) (take (length (take n number)) number)).1 (ap (λ (i : ℕ). take i number) (sym len)) in
+    let first : begins number (take n number) ≡ true = (bytes_decides (take n number) (take (length (take n number)) number)).1
+    (ap (λ (i : ℕ). take i number) (sym len)) in
     let starts : nat_le f t ≡ true = grind (arith, nat_tests, below) in
     let this : serves number t (key_at (take n number) f, v) ≡ true = rw (first, starts, lasts) refl in
     ap (option_map (λ (e : Entry). (e.1.route, e.1.network)))
     (longest-found (serves number t) (entries m) (key_at (take n number) f) v (sym (get-entries m (key_at (take n number) f)) ∙ there) this
-    (all-shorter m (serves number t) (key_at (take n number) f, v) (at_most m number t n f v a longer len there below lasts) (entries m) (maps.get-entry versions_total versions_exact m)))
+    (all-shorter m (serves number t) (key_at (take n number) f, v) (at_most m number t n f v a longer len there below lasts)
+    (entries m) (maps.get-entry versions_total versions_exact m)))
 
-all-fail : (m : Versions) (test : Entry → Bool) → ((k : VersionKey) (w : Version) → get m k ≡ Some w → test (k, w) ≡ true → ⊥) → (es : List Entry) → AllByRecursion (λ e. get m e.0 ≡ Some e.1) es → AllByRecursion (λ e. test e ≡ false) es
+all-fail : (m : Versions) (test : Entry → Bool) → ((k : VersionKey) (w : Version) → get m k ≡ Some w → test (k, w) ≡ true → ⊥)
+    → (es : List Entry) → AllByRecursion (λ e. get m e.0 ≡ Some e.1) es → AllByRecursion (λ e. test e ≡ false) es
 all-fail m test h [] a = tt
 all-fail m test h (e ∷ es) a = (
   elim (test e) as (λ b. test e ≡ b → b ≡ false) [ true ↦ λ p. absurd (h e.0 e.1 a.0 p) | false ↦ λ p. refl ] refl,
@@ -129,17 +141,22 @@ route-none m number t a longer =
     (entries m) (maps.get-entry versions_total versions_exact m)))
 
 -- a version that serves with the longest prefix gives the route
-pub route-longest : (m : Versions) (number p : List ℕ) (t f : ℕ) (v : Version) → AreApart m → version_of m p f ≡ Some v → serves number t (key_at p f, v) ≡ true
-    → ((q : List ℕ) (g : ℕ) (w : Version) → version_of m q g ≡ Some w → serves number t (key_at q g, w) ≡ true → length q ≤ length p) → route_at m number t ≡ Some (v.route, v.network)
+pub route-longest : (m : Versions) (number p : List ℕ) (t f : ℕ) (v : Version) → AreApart m → version_of m p f ≡ Some v
+    → serves number t (key_at p f, v) ≡ true
+    → ((q : List ℕ) (g : ℕ) (w : Version) → version_of m q g ≡ Some w → serves number t (key_at q g, w) ≡ true
+    → length q ≤ length p) → route_at m number t ≡ Some (v.route, v.network)
 route-longest m number p t f v a there serves_v most =
     let is = serving number t (key_at p f) v serves_v in
     route-found m number t (length p) f v a (λ k w w_there serves_w. most k.prefix k.from w w_there serves_w) (short (key_at p f) number is.0)
     (subst (λ (q : List ℕ). version_of m q f ≡ Some v) is.0 there) is.1 is.2
 
-pub route-absent : (m : Versions) (number : List ℕ) (t : ℕ) → ((q : List ℕ) (g : ℕ) (w : Version) → version_of m q g ≡ Some w → serves number t (key_at q g, w) ≡ false) → route_at m number t ≡ None
+pub route-absent : (m : Versions) (number : List ℕ) (t : ℕ) → ((q : List ℕ) (g : ℕ) (w : Version) → version_of m q g ≡ Some w
+    → serves number t (key_at q g, w) ≡ false) → route_at m number t ≡ None
 route-absent m number t none =
     ap (option_map (λ (e : Entry). (e.1.route, e.1.network)))
-    (longest-none (serves number t) (entries m) (all-fail m (serves number t) (λ k w there passes. absurd (false≢true (sym (none k.prefix k.from w there) ∙ passes))) (entries m) (maps.get-entry versions_total versions_exact m)))
+    (longest-none (serves number t) (entries m)
+    (all-fail m (serves number t) (λ k w there passes. absurd (false≢true (sym (none k.prefix k.from w there) ∙ passes)))
+    (entries m) (maps.get-entry versions_total versions_exact m)))
 
 pub holding : (t : ℕ) (k : VersionKey) (v : Version) → holds t (k, v) ≡ true → (k.from ≤ t) × (lasts_past t v.until ≡ true)
 holding t k v h =
@@ -150,13 +167,17 @@ none-before None n = refl
 none-before (Some e) n = absurd cc
 
 -- where there is no route no version serves
-pub absent-route : (m : Versions) (number p : List ℕ) (t f : ℕ) (v : Version) → route_at m number t ≡ None → version_of m p f ≡ Some v → serves number t (key_at p f, v) ≡ false
+pub absent-route : (m : Versions) (number p : List ℕ) (t f : ℕ) (v : Version) → route_at m number t ≡ None
+    → version_of m p f ≡ Some v → serves number t (key_at p f, v) ≡ false
 absent-route m number p t f v none there =
-    let empty : filter (serves number t) (entries m) ≡ [] = no-longest (filter (serves number t) (entries m)) (none-before (version_at m number t) none) in
-    none-pass (serves number t) (entries m) (ap (λ (es : List Entry). least (map (λ e. e.0.from) es)) empty) (key_at p f) v (sym (get-entries m (key_at p f)) ∙ there)
+    let empty : filter (serves number t) (entries m) ≡ [] =
+    no-longest (filter (serves number t) (entries m)) (none-before (version_at m number t) none) in
+    none-pass (serves number t) (entries m) (ap (λ (es : List Entry). least (map (λ e. e.0.from) es)) empty) (key_at p f) v
+    (sym (get-entries m (key_at p f)) ∙ there)
 
 -- what passes a test is of the list
-passing : (P : Entry → Type 0) (test : Entry → Bool) (es : List Entry) → AllByRecursion P es → AllByRecursion (λ e. P e × (test e ≡ true)) (filter test es)
+passing : (P : Entry → Type 0) (test : Entry → Bool) (es : List Entry) → AllByRecursion P es
+    → AllByRecursion (λ e. P e × (test e ≡ true)) (filter test es)
 passing P test [] a = tt
 passing P test (e ∷ es) a =
     elim (test e) as (λ b. test e ≡ b → AllByRecursion (λ e. P e × (test e ≡ true)) (cond b (e ∷ filter test es) (filter test es))) [
@@ -184,6 +205,7 @@ pub route-witness : (m : Versions) (number : List ℕ) (t : ℕ) (told : RouteId
 route-witness m number t told h =
     let one = told-of (version_at m number t) told h in
     let e = one.0 in
-    let is = found-in (λ e. (get m e.0 ≡ Some e.1) × (serves number t e ≡ true)) (is_longest (filter (serves number t) (entries m))) (filter (serves number t) (entries m)) e
+    let is = found-in (λ e. (get m e.0 ≡ Some e.1) × (serves number t e ≡ true)) (is_longest (filter (serves number t) (entries m)))
+    (filter (serves number t) (entries m)) e
     (passing (λ e. get m e.0 ≡ Some e.1) (serves number t) (entries m) (maps.get-entry versions_total versions_exact m)) one.1 in
     (e.0.prefix, e.0.from, e.1, is.0, is.1, one.2)

@@ -25,10 +25,13 @@ none-of-both false b e = refl
 
 -- ---- there is a longest
 
-raised : (n m : ℕ) (es : List Entry) → n ≤ m → list_all (λ o. nat_le (length o.0.prefix) n) es ≡ true → list_all (λ o. nat_le (length o.0.prefix) m) es ≡ true
+raised : (n m : ℕ) (es : List Entry) → n ≤ m → list_all (λ o. nat_le (length o.0.prefix) n) es ≡ true
+    → list_all (λ o. nat_le (length o.0.prefix) m) es ≡ true
 raised n m [] le h = refl
 raised n m (e ∷ es) le h =
-    elim (nat_le (length e.0.prefix) n) as (λ b. nat_le (length e.0.prefix) n ≡ b → (b && list_all (λ o. nat_le (length o.0.prefix) n) es) ≡ true → list_all (λ o. nat_le (length o.0.prefix) m) (e ∷ es) ≡ true) [
+    elim (nat_le (length e.0.prefix) n) as (λ b. nat_le (length e.0.prefix) n ≡ b
+    → (b && list_all (λ o. nat_le (length o.0.prefix) n) es) ≡ true → list_all (λ o. nat_le (length o.0.prefix) m) (e ∷ es)
+    ≡ true) [
       | true ↦ λ first rest. let yes : nat_le (length e.0.prefix) m ≡ true = grind (arith, nat_tests, first, le) in rw yes (raised n m es le rest)
       | false ↦ λ first rest. absurd (false≢true rest)
     ] refl h
@@ -38,7 +41,8 @@ one-of-longest : (P : Entry → Type 0) (e : Entry) (es : List Entry) → AllByR
 one-of-longest P e [] a = (e, a.0, let yes : nat_le (length e.0.prefix) (length e.0.prefix) ≡ true = grind (arith, nat_tests) in rw yes refl)
 one-of-longest P e (f ∷ fs) a =
     let top = one-of-longest P f fs a.1 in
-    elim (nat_le (length e.0.prefix) (length top.0.0.prefix)) as (λ b. nat_le (length e.0.prefix) (length top.0.0.prefix) ≡ b → (x : Entry) × P x × (is_longest (e ∷ f ∷ fs) x ≡ true)) [
+    elim (nat_le (length e.0.prefix) (length top.0.0.prefix)) as (λ b. nat_le (length e.0.prefix) (length top.0.0.prefix) ≡ b
+    → (x : Entry) × P x × (is_longest (e ∷ f ∷ fs) x ≡ true)) [
       | true ↦ λ le. (top.0, top.1, rw le top.2)
       | false ↦ λ gt.
           let below : length top.0.0.prefix ≤ length e.0.prefix = grind (arith, nat_tests, gt) in
@@ -84,7 +88,8 @@ module _ (test : Entry → Bool) where
   at-most x e (inr s) = let same = ap (λ (y : Entry). length y.0.prefix) s in omega (arith, same)
 
   -- where none that passes is longer, the test says so
-  all-within : (n : ℕ) (es : List Entry) → AllPassing test (λ e. length e.0.prefix ≤ n) es → list_all (λ o. nat_le (length o.0.prefix) n) (filter test es) ≡ true
+  all-within : (n : ℕ) (es : List Entry) → AllPassing test (λ e. length e.0.prefix ≤ n) es
+      → list_all (λ o. nat_le (length o.0.prefix) n) (filter test es) ≡ true
   all-within n [] a = refl
   all-within n (e ∷ es) a =
       elim (test e) as (λ b. test e ≡ b → list_all (λ o. nat_le (length o.0.prefix) n) (cond b (e ∷ filter test es) (filter test es)) ≡ true) [
@@ -93,16 +98,19 @@ module _ (test : Entry → Bool) where
       ] refl
 
   -- where one that passes is longer, the test says so
-  one-longer : (n : ℕ) (es : List Entry) (k : VersionKey) (v : Version) → map_find version_cmp k es ≡ Some v → test (k, v) ≡ true → n < length k.prefix
+  one-longer : (n : ℕ) (es : List Entry) (k : VersionKey) (v : Version) → map_find version_cmp k es ≡ Some v → test (k, v) ≡ true
+      → n < length k.prefix
       → list_all (λ o. nat_le (length o.0.prefix) n) (filter test es) ≡ false
   one-longer n [] k v f t less = absurd cc
   one-longer n (e ∷ es) k v f t less =
-      elim (eq_by_cmp version_cmp k e.0) as (λ b. eq_by_cmp version_cmp k e.0 ≡ b → cond b (Some e.1) (map_find version_cmp k es) ≡ Some v → list_all (λ o. nat_le (length o.0.prefix) n) (filter test (e ∷ es)) ≡ false) [
+      elim (eq_by_cmp version_cmp k e.0) as (λ b. eq_by_cmp version_cmp k e.0 ≡ b → cond b (Some e.1) (map_find version_cmp k es)
+      ≡ Some v → list_all (λ o. nat_le (length o.0.prefix) n) (filter test (e ∷ es)) ≡ false) [
         | true ↦ λ same g.
             let key : k ≡ e.0 = versions_exact k e.0 (is_equal (version_cmp k e.0) same) in
             let value : v ≡ e.1 = cc in
             let passes : test e ≡ true = sym (λ i. test (key i, value i)) ∙ t in
-            let no : nat_le (length e.0.prefix) n ≡ false = let len = ap (λ (x : VersionKey). length x.prefix) key in grind (arith, nat_tests, less, len) in
+            let no : nat_le (length e.0.prefix) n ≡ false = let len = ap (λ (x : VersionKey). length x.prefix) key in
+            grind (arith, nat_tests, less, len) in
             rw (passes, no) refl
         | false ↦ λ other g.
             let rest = one-longer n es k v g t less in
@@ -113,11 +121,13 @@ module _ (test : Entry → Bool) where
       ] refl f
 
   -- the one that is good among those that pass is found
-  first-good : (good : Entry → Bool) (es : List Entry) (k : VersionKey) (v : Version) → map_find version_cmp k es ≡ Some v → test (k, v) ≡ true → good (k, v) ≡ true
+  first-good : (good : Entry → Bool) (es : List Entry) (k : VersionKey) (v : Version) → map_find version_cmp k es ≡ Some v
+      → test (k, v) ≡ true → good (k, v) ≡ true
       → AllPassing test (λ e. (good e ≡ false) ⊎ (e ≡ (k, v))) es → find good (filter test es) ≡ Some (k, v)
   first-good good [] k v f t g a = absurd cc
   first-good good (e ∷ es) k v f t g a =
-      elim (eq_by_cmp version_cmp k e.0) as (λ b. eq_by_cmp version_cmp k e.0 ≡ b → cond b (Some e.1) (map_find version_cmp k es) ≡ Some v → find good (filter test (e ∷ es)) ≡ Some (k, v)) [
+      elim (eq_by_cmp version_cmp k e.0) as (λ b. eq_by_cmp version_cmp k e.0 ≡ b → cond b (Some e.1) (map_find version_cmp k es)
+      ≡ Some v → find good (filter test (e ∷ es)) ≡ Some (k, v)) [
         | true ↦ λ same h.
             let key : k ≡ e.0 = versions_exact k e.0 (is_equal (version_cmp k e.0) same) in
             let value : v ≡ e.1 = cc in
@@ -137,9 +147,12 @@ module _ (test : Entry → Bool) where
             ] refl
       ] refl f
 
-  pub longest-found : (es : List Entry) (k : VersionKey) (v : Version) → map_find version_cmp k es ≡ Some v → test (k, v) ≡ true → AllPassing test (IsShorter (k, v)) es → longest (filter test es) ≡ Some (k, v)
+  pub longest-found : (es : List Entry) (k : VersionKey) (v : Version) → map_find version_cmp k es ≡ Some v → test (k, v) ≡ true
+      → AllPassing test (IsShorter (k, v)) es → longest (filter test es) ≡ Some (k, v)
   longest-found es k v f t a =
-      first-good (is_longest (filter test es)) es k v f t (all-within (length k.prefix) es (passing-map (IsShorter (k, v)) (λ e. length e.0.prefix ≤ length k.prefix) (at-most (k, v)) es a))
+      first-good (is_longest (filter test es)) es k v f t
+      (all-within (length k.prefix) es (passing-map (IsShorter (k, v)) (λ e. length e.0.prefix ≤ length k.prefix) (at-most (k, v))
+      es a))
       (passing-map (IsShorter (k, v)) (λ e. (is_longest (filter test es) e ≡ false) ⊎ (e ≡ (k, v))) (λ e s.
       elim s [
         | inl less ↦ inl (one-longer (length e.0.prefix) es k v f t less)
@@ -159,7 +172,10 @@ module _ (test : Entry → Bool) where
   lower-same n x (Some m) e h = let no : nat_lt m n ≡ false = grind (arith, nat_tests, e, h) in rw no e
 
   lower-other : (n x : ℕ) → x ≤ n → lower n (Some x) ≡ x
-  lower-other n x h = elim (nat_lt x n) as (λ b. nat_lt x n ≡ b → cond b x n ≡ x) [ true ↦ λ e. refl | false ↦ λ e. grind (arith, nat_tests, e, h) ] refl
+  lower-other n x h = elim (nat_lt x n) as (λ b. nat_lt x n ≡ b → cond b x n ≡ x) [
+    | true ↦ λ e. refl
+    | false ↦ λ e. grind (arith, nat_tests, e, h)
+  ] refl
 
   lower-more : (n x : ℕ) (o : Option ℕ) → x ≤ n → IfSome o (λ m. x ≤ m) → x ≤ lower n o
   lower-more n x None e h = e
@@ -177,10 +193,12 @@ module _ (test : Entry → Bool) where
   least-none [] a = refl
   least-none (e ∷ es) a = rw a.0 (least-none es a.1)
 
-  pub least-found : (es : List Entry) (k : VersionKey) (v : Version) → map_find version_cmp k es ≡ Some v → test (k, v) ≡ true → AllPassing test (λ e. k.from ≤ e.0.from) es → least_of es ≡ Some k.from
+  pub least-found : (es : List Entry) (k : VersionKey) (v : Version) → map_find version_cmp k es ≡ Some v → test (k, v) ≡ true
+      → AllPassing test (λ e. k.from ≤ e.0.from) es → least_of es ≡ Some k.from
   least-found [] k v f t a = absurd cc
   least-found (e ∷ es) k v f t a =
-      elim (eq_by_cmp version_cmp k e.0) as (λ b. eq_by_cmp version_cmp k e.0 ≡ b → cond b (Some e.1) (map_find version_cmp k es) ≡ Some v → least_of (e ∷ es) ≡ Some k.from) [
+      elim (eq_by_cmp version_cmp k e.0) as (λ b. eq_by_cmp version_cmp k e.0 ≡ b → cond b (Some e.1) (map_find version_cmp k es)
+      ≡ Some v → least_of (e ∷ es) ≡ Some k.from) [
         | true ↦ λ same g.
             let key : k ≡ e.0 = versions_exact k e.0 (is_equal (version_cmp k e.0) same) in
             let value : v ≡ e.1 = cc in
@@ -188,7 +206,8 @@ module _ (test : Entry → Bool) where
             rw passes (ap Some (lower-same e.0.from k.from (least_of es) (ap (λ (x : VersionKey). x.from) (sym key)) (least-low es k.from a.1)))
         | false ↦ λ other g.
             elim (test e) as (λ b. test e ≡ b → least (map (λ y. y.0.from) (cond b (e ∷ filter test es) (filter test es))) ≡ Some k.from) [
-              | true ↦ λ p. ap (λ (o : Option ℕ). Some (lower e.0.from o)) (least-found es k v g t a.1) ∙ ap Some (lower-other e.0.from k.from (a.0 p))
+              | true ↦ λ p. ap (λ (o : Option ℕ). Some (lower e.0.from o)) (least-found es k v g t a.1)
+                  ∙ ap Some (lower-other e.0.from k.from (a.0 p))
               | false ↦ λ p. least-found es k v g t a.1
             ] refl
       ] refl f
@@ -200,7 +219,8 @@ module _ (test : Entry → Bool) where
       elim (test e) as (λ b. test e ≡ b → least (map (λ y. y.0.from) (cond b (e ∷ filter test es) (filter test es))) ≡ None → test (k, v) ≡ false) [
         | true ↦ λ p m. absurd cc
         | false ↦ λ p m.
-            elim (eq_by_cmp version_cmp k e.0) as (λ b. eq_by_cmp version_cmp k e.0 ≡ b → cond b (Some e.1) (map_find version_cmp k es) ≡ Some v → test (k, v) ≡ false) [
+            elim (eq_by_cmp version_cmp k e.0) as (λ b. eq_by_cmp version_cmp k e.0 ≡ b
+            → cond b (Some e.1) (map_find version_cmp k es) ≡ Some v → test (k, v) ≡ false) [
               | true ↦ λ same g.
                   let key : k ≡ e.0 = versions_exact k e.0 (is_equal (version_cmp k e.0) same) in
                   let value : v ≡ e.1 = cc in

@@ -31,7 +31,9 @@ seen es = from_entries es
 pub get-seen : (es : List (VersionKey × Version)) (q : VersionKey) → get (seen es) q ≡ lookup (is_at (kept_version_cmp q)) es
 get-seen es q = ordered.get-kept versions_total versions_exact version-order es q
 
-pub insert-seen : (es fs : List (VersionKey × Version)) (k : VersionKey) (v : Version) → ((q : VersionKey) → lookup (is_at (kept_version_cmp q)) fs ≡ cond (is_at (kept_version_cmp k) q) (Some v) (lookup (is_at (kept_version_cmp q)) es))
+pub insert-seen : (es fs : List (VersionKey × Version)) (k : VersionKey) (v : Version)
+    → ((q : VersionKey) → lookup (is_at (kept_version_cmp q)) fs
+    ≡ cond (is_at (kept_version_cmp k) q) (Some v) (lookup (is_at (kept_version_cmp q)) es))
     → seen fs ≡ insert (seen es) k v
 insert-seen es fs k v h = ordered.put-kept versions_total versions_exact version-order es fs k v h
 
@@ -78,16 +80,19 @@ abbrev pub is_after : VersionKey → VersionKey → Bool
 is_after a b = is_gt (version_cmp a b)
 
 -- the last entry up to a key, where it is one of the key's prefix
-last-at : (m : BTreeMap VersionKey Version) (p : List ℕ) (t f : ℕ) (v : Version) → is_after (key_at p f) (key_at p t) ≡ false → tree.get kept_version_cmp m (key_at p f) ≡ Some v
+last-at : (m : BTreeMap VersionKey Version) (p : List ℕ) (t f : ℕ) (v : Version) → is_after (key_at p f) (key_at p t) ≡ false
+    → tree.get kept_version_cmp m (key_at p f) ≡ Some v
     → ((q : VersionKey) → is_after q (key_at p t) ≡ false → IsSome (tree.get kept_version_cmp m q) → is_lt (version_cmp (key_at p f) q) ≡ false)
     → (f ≤ t) × (version_of (versions_in m) p f ≡ Some v) × ((g : ℕ) → g ≤ t → IsSome (version_of (versions_in m) p g) → g ≤ f)
 last-at m p t f v le found most = (
   le_from_not_gt f t (ap is_gt (sym (in-prefix p f t)) ∙ le),
   get-seen m.entries (key_at p f) ∙ found,
-  λ g below there. ge_from_not_lt f g (ap is_lt (sym (in-prefix p f g)) ∙ most (key_at p g) (ap is_gt (in-prefix p g t) ∙ not-gt g t below) (some-there m (key_at p g) there)),
+  λ g below there. ge_from_not_lt f g (ap is_lt (sym (in-prefix p f g))
+      ∙ most (key_at p g) (ap is_gt (in-prefix p g t) ∙ not-gt g t below) (some-there m (key_at p g) there)),
 )
 
-pub last-same : (m : BTreeMap VersionKey Version) (p : List ℕ) (t : ℕ) (k : VersionKey) (v : Version) → is_after k (key_at p t) ≡ false → tree.get kept_version_cmp m k ≡ Some v
+pub last-same : (m : BTreeMap VersionKey Version) (p : List ℕ) (t : ℕ) (k : VersionKey) (v : Version)
+    → is_after k (key_at p t) ≡ false → tree.get kept_version_cmp m k ≡ Some v
     → ((q : VersionKey) → is_after q (key_at p t) ≡ false → IsSome (tree.get kept_version_cmp m q) → is_lt (version_cmp k q) ≡ false) → k.prefix ≡ p
     → (k.from ≤ t) × (version_of (versions_in m) p k.from ≡ Some v) × ((g : ℕ) → g ≤ t → IsSome (version_of (versions_in m) p g) → g ≤ k.from)
 last-same m p t k v le found most same =
@@ -95,33 +100,41 @@ last-same m p t k v le found most same =
     last-at m p t k.from v
     (subst (λ (x : VersionKey). is_after x (key_at p t) ≡ false) is le)
     (subst (λ (x : VersionKey). tree.get kept_version_cmp m x ≡ Some v) is found)
-    (subst (λ (x : VersionKey). (q : VersionKey) → is_after q (key_at p t) ≡ false → IsSome (tree.get kept_version_cmp m q) → is_lt (version_cmp x q) ≡ false) is most)
+    (subst (λ (x : VersionKey). (q : VersionKey) → is_after q (key_at p t) ≡ false → IsSome (tree.get kept_version_cmp m q)
+    → is_lt (version_cmp x q) ≡ false) is most)
 
 -- where it is another prefix's, the prefix has none
 pub last-other : (m : BTreeMap VersionKey Version) (p : List ℕ) (t : ℕ) (k : VersionKey) → is_after k (key_at p t) ≡ false
-    → ((q : VersionKey) → is_after q (key_at p t) ≡ false → IsSome (tree.get kept_version_cmp m q) → is_lt (version_cmp k q) ≡ false) → (k.prefix ≡ p → ⊥)
+    → ((q : VersionKey) → is_after q (key_at p t) ≡ false → IsSome (tree.get kept_version_cmp m q)
+    → is_lt (version_cmp k q) ≡ false) → (k.prefix ≡ p → ⊥)
     → (g : ℕ) → g ≤ t → version_of (versions_in m) p g ≡ None
 last-other m p t k le most other g below =
     none-of (version_of (versions_in m) p g) (λ there.
-    let before : is_lt (version_cmp k (key_at p g)) ≡ false = most (key_at p g) (ap is_gt (in-prefix p g t) ∙ not-gt g t below) (some-there m (key_at p g) there) in
-    other (same-prefix k.prefix p (octets_cmp k.prefix p) refl (not-less (octets_cmp k.prefix p) (nat_cmp k.from g) before) (not-greater (octets_cmp k.prefix p) (nat_cmp k.from t) le)))
+    let before : is_lt (version_cmp k (key_at p g)) ≡ false = most (key_at p g) (ap is_gt (in-prefix p g t)
+    ∙ not-gt g t below) (some-there m (key_at p g) there) in
+    other (same-prefix k.prefix p (octets_cmp k.prefix p) refl (not-less (octets_cmp k.prefix p) (nat_cmp k.from g) before)
+    (not-greater (octets_cmp k.prefix p) (nat_cmp k.from t) le)))
 
-pub last-none : (m : BTreeMap VersionKey Version) (p : List ℕ) (t : ℕ) → ((q : VersionKey) → is_after q (key_at p t) ≡ false → tree.get kept_version_cmp m q ≡ None)
+pub last-none : (m : BTreeMap VersionKey Version) (p : List ℕ) (t : ℕ)
+    → ((q : VersionKey) → is_after q (key_at p t) ≡ false → tree.get kept_version_cmp m q ≡ None)
     → (g : ℕ) → g ≤ t → version_of (versions_in m) p g ≡ None
 last-none m p t none g below = get-seen m.entries (key_at p g) ∙ none (key_at p g) (ap is_gt (in-prefix p g t) ∙ not-gt g t below)
 
 -- ---- the first from a key
 
-first-at : (m : BTreeMap VersionKey Version) (p : List ℕ) (t f : ℕ) (v : Version) → is_after (key_at p t) (key_at p f) ≡ false → tree.get kept_version_cmp m (key_at p f) ≡ Some v
+first-at : (m : BTreeMap VersionKey Version) (p : List ℕ) (t f : ℕ) (v : Version) → is_after (key_at p t) (key_at p f) ≡ false
+    → tree.get kept_version_cmp m (key_at p f) ≡ Some v
     → ((q : VersionKey) → is_after (key_at p t) q ≡ false → IsSome (tree.get kept_version_cmp m q) → is_after (key_at p f) q ≡ false)
     → (t ≤ f) × IsSome (version_of (versions_in m) p f) × ((g : ℕ) → t ≤ g → IsSome (version_of (versions_in m) p g) → f ≤ g)
 first-at m p t f v le found least = (
   le_from_not_gt t f (ap is_gt (sym (in-prefix p t f)) ∙ le),
   subst IsSome (sym (get-seen m.entries (key_at p f) ∙ found)) refl,
-  λ g above there. le_from_not_gt f g (ap is_gt (sym (in-prefix p f g)) ∙ least (key_at p g) (ap is_gt (in-prefix p t g) ∙ not-gt t g above) (some-there m (key_at p g) there)),
+  λ g above there. le_from_not_gt f g (ap is_gt (sym (in-prefix p f g))
+      ∙ least (key_at p g) (ap is_gt (in-prefix p t g) ∙ not-gt t g above) (some-there m (key_at p g) there)),
 )
 
-pub first-same : (m : BTreeMap VersionKey Version) (p : List ℕ) (t : ℕ) (k : VersionKey) (v : Version) → is_after (key_at p t) k ≡ false → tree.get kept_version_cmp m k ≡ Some v
+pub first-same : (m : BTreeMap VersionKey Version) (p : List ℕ) (t : ℕ) (k : VersionKey) (v : Version)
+    → is_after (key_at p t) k ≡ false → tree.get kept_version_cmp m k ≡ Some v
     → ((q : VersionKey) → is_after (key_at p t) q ≡ false → IsSome (tree.get kept_version_cmp m q) → is_after k q ≡ false) → k.prefix ≡ p
     → (t ≤ k.from) × IsSome (version_of (versions_in m) p k.from) × ((g : ℕ) → t ≤ g → IsSome (version_of (versions_in m) p g) → k.from ≤ g)
 first-same m p t k v le found least same =
@@ -129,27 +142,32 @@ first-same m p t k v le found least same =
     first-at m p t k.from v
     (subst (λ (x : VersionKey). is_after (key_at p t) x ≡ false) is le)
     (subst (λ (x : VersionKey). tree.get kept_version_cmp m x ≡ Some v) is found)
-    (subst (λ (x : VersionKey). (q : VersionKey) → is_after (key_at p t) q ≡ false → IsSome (tree.get kept_version_cmp m q) → is_after x q ≡ false) is least)
+    (subst (λ (x : VersionKey). (q : VersionKey) → is_after (key_at p t) q ≡ false → IsSome (tree.get kept_version_cmp m q)
+    → is_after x q ≡ false) is least)
 
 pub first-other : (m : BTreeMap VersionKey Version) (p : List ℕ) (t : ℕ) (k : VersionKey) → is_after (key_at p t) k ≡ false
     → ((q : VersionKey) → is_after (key_at p t) q ≡ false → IsSome (tree.get kept_version_cmp m q) → is_after k q ≡ false) → (k.prefix ≡ p → ⊥)
     → (g : ℕ) → t ≤ g → version_of (versions_in m) p g ≡ None
 first-other m p t k le least other g above =
     none-of (version_of (versions_in m) p g) (λ there.
-    let after : is_after k (key_at p g) ≡ false = least (key_at p g) (ap is_gt (in-prefix p t g) ∙ not-gt t g above) (some-there m (key_at p g) there) in
+    let after : is_after k (key_at p g) ≡ false = least (key_at p g) (ap is_gt (in-prefix p t g)
+    ∙ not-gt t g above) (some-there m (key_at p g) there) in
     other (sym (same-prefix p k.prefix (octets_cmp p k.prefix) refl
     (λ e. not-greater (octets_cmp k.prefix p) (nat_cmp k.from g) after (nat_list_cmp_total.antisymm k.prefix p ∙ ap ordering_reverse e))
     (not-greater (octets_cmp p k.prefix) (nat_cmp t k.from) le))))
 
-pub first-none : (m : BTreeMap VersionKey Version) (p : List ℕ) (t : ℕ) → ((q : VersionKey) → is_after (key_at p t) q ≡ false → tree.get kept_version_cmp m q ≡ None)
+pub first-none : (m : BTreeMap VersionKey Version) (p : List ℕ) (t : ℕ)
+    → ((q : VersionKey) → is_after (key_at p t) q ≡ false → tree.get kept_version_cmp m q ≡ None)
     → (g : ℕ) → t ≤ g → version_of (versions_in m) p g ≡ None
 first-none m p t none g above = get-seen m.entries (key_at p g) ∙ none (key_at p g) (ap is_gt (in-prefix p t g) ∙ not-gt t g above)
 
 -- ---- an entry that is put in
 
-pub at-insert : (m : Versions) (k : VersionKey) (v : Version) (q : VersionKey) (w : Version) → get (insert m k v) q ≡ Some w → ((q ≡ k) × (w ≡ v)) ⊎ (get m q ≡ Some w)
+pub at-insert : (m : Versions) (k : VersionKey) (v : Version) (q : VersionKey) (w : Version) → get (insert m k v) q ≡ Some w
+    → ((q ≡ k) × (w ≡ v)) ⊎ (get m q ≡ Some w)
 at-insert m k v q w h =
-    elim (eq_by_cmp version_cmp q k) as (λ b. eq_by_cmp version_cmp q k ≡ b → cond b (Some v) (get m q) ≡ Some w → ((q ≡ k) × (w ≡ v)) ⊎ (get m q ≡ Some w)) [
+    elim (eq_by_cmp version_cmp q k) as (λ b. eq_by_cmp version_cmp q k ≡ b → cond b (Some v) (get m q) ≡ Some w
+    → ((q ≡ k) × (w ≡ v)) ⊎ (get m q ≡ Some w)) [
       | true ↦ λ e g. inl (versions_exact q k (is_equal (version_cmp q k) e), cc)
       | false ↦ λ e g. inr g
     ] refl (sym (get-insert versions_total m k v q) ∙ h)

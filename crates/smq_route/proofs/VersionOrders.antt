@@ -20,7 +20,10 @@ pub versions_exact : IsAntisymmetric version_cmp
 versions_exact a b e =
     let prefixes : Ordering = octets_cmp a.prefix b.prefix in
     let moments : Ordering = nat_cmp a.from b.from in
-    λ i. record { prefix = slice_cmp-IsAntisymmetric nat_cmp-IsAntisymmetric a.prefix b.prefix (then_first prefixes moments e) i; from = nat_cmp-IsAntisymmetric a.from b.from (then_second prefixes moments e) i }
+    λ i. record {
+      prefix = slice_cmp-IsAntisymmetric nat_cmp-IsAntisymmetric a.prefix b.prefix (then_first prefixes moments e) i;
+      from = nat_cmp-IsAntisymmetric a.from b.from (then_second prefixes moments e) i;
+    }
 
 -- of one prefix versions are ordered by their beginnings
 pub in-prefix : (p : List ℕ) (a b : ℕ) → version_cmp (key_at p a) (key_at p b) ≡ nat_cmp a b

@@ -17,14 +17,16 @@ pub none-within : (most : ℕ) (m : Versions) → ((k : VersionKey) → get m k 
 none-within most m none k v there = let no : ◌≡◌ {A = Option Version} None (Some v) = sym (none k) ∙ there in absurd cc
 
 -- a version is put in
-put-within : (most : ℕ) (m : Versions) (p : List ℕ) (f : ℕ) (v : Version) → AreWithin most m → length p ≤ most → AreWithin most (insert m (key_at p f) v)
+put-within : (most : ℕ) (m : Versions) (p : List ℕ) (f : ℕ) (v : Version) → AreWithin most m → length p ≤ most
+    → AreWithin most (insert m (key_at p f) v)
 put-within most m p f v within bound k w there =
     elim (at-insert m (key_at p f) v k w there) [
       | inl is ↦ subst (λ (x : VersionKey). length x.prefix ≤ most) (sym is.0) bound
       | inr old ↦ within k w old
     ]
 
-pub add-within : {T : Type 0} (most : ℕ) (m n : Versions) (p : List ℕ) (f : ℕ) (route : RouteId) (network : List ℕ) (o : Option Refusal) (r : Result T Refusal)
+pub add-within : {T : Type 0} (most : ℕ) (m n : Versions) (p : List ℕ) (f : ℕ) (route : RouteId) (network : List ℕ)
+    (o : Option Refusal) (r : Result T Refusal)
     → AreWithin most m → length p ≤ most → IsReply o r (n ≡ added m p f route network) (n ≡ m) → AreWithin most n
 add-within most m n p f route network None (Ok x) within bound h =
     subst (AreWithin most) (sym h) (put-within most m p f (record { until = None; route = route; network = network }) within bound)

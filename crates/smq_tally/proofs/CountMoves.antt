@@ -17,8 +17,10 @@ use Rattle.smq_tally.proofs.Tallies.{count-tables}
 
 -- a fact that is set at a place counts at its keys, and the one that was there does no more
 pub counts-move : (facts : FinMap place_cmp Fact) (notes : FinSet listed_cmp) (q : Place) (fact : Option Fact) (key : CountKey)
-    → count_of (tables_of (set_at facts q fact) notes) key + share (stands_in key) (get facts q) ≡ count_of (tables_of facts notes) key + share (stands_in key) fact
+    → count_of (tables_of (set_at facts q fact) notes) key + share (stands_in key) (get facts q)
+    ≡ count_of (tables_of facts notes) key + share (stands_in key) fact
 counts-move facts notes q fact key =
-    let after : count_of (tables_of (set_at facts q fact) notes) key ≡ number_at key (set_at facts q fact) = count-tables (set_at facts q fact) notes key in
+    let after : count_of (tables_of (set_at facts q fact) notes) key ≡ number_at key (set_at facts q fact) =
+    count-tables (set_at facts q fact) notes key in
     let before : count_of (tables_of facts notes) key ≡ number_at key facts = count-tables facts notes key in
     omega (arith, after, before, maps.count-set places_total places_exact (stands_in key) facts q fact)

@@ -76,13 +76,15 @@ pub value-order : (a b : Value) → kept_value_cmp a b ≡ value_cmp a b
 value-order a b = search (rules, then_tied, error-order, band_tied)
 
 pub count_key-order : kept_cmp ≡ count_cmp
-count_key-order = λ i a b. ordering_then (view-order a.view b.view i) (ordering_then (value-order a.value b.value i) (outcome-order a.outcome b.outcome i))
+count_key-order = λ i a b. ordering_then (view-order a.view b.view i)
+    (ordering_then (value-order a.value b.value i) (outcome-order a.outcome b.outcome i))
 
 -- ---- keys that compare equal are one
 
 -- the outcome of a place
 abbrev outcome_at : ℕ → Outcome
-outcome_at n = get_or (o.Waiting ∷ o.Mismatched ∷ o.Refused ∷ o.NoId ∷ o.Ambiguous ∷ o.Delivered ∷ o.Failed ∷ o.Unasked ∷ o.Lapsed ∷ o.Open ∷ []) n o.Waiting
+outcome_at n = get_or (o.Waiting ∷ o.Mismatched ∷ o.Refused ∷ o.NoId ∷ o.Ambiguous ∷ o.Delivered ∷ o.Failed ∷ o.Unasked ∷ o.Lapsed
+    ∷ o.Open ∷ []) n o.Waiting
 
 outcome_again : (a : Outcome) → outcome_at (outcome_rank a) ≡ a
 outcome_again a = search rules
@@ -153,7 +155,8 @@ value_again (w.Band a) = ap w.Band (band_again a)
 
 -- two values that compare equal are one
 pub same_value : IsAntisymmetric value_cmp
-same_value a b e = sym (value_again a) ∙ ap value_from (slice_cmp-IsAntisymmetric nat_cmp-IsAntisymmetric (value_numbers a) (value_numbers b) e) ∙ value_again b
+same_value a b e = sym (value_again a) ∙ ap value_from (slice_cmp-IsAntisymmetric nat_cmp-IsAntisymmetric (value_numbers a)
+    (value_numbers b) e) ∙ value_again b
 
 -- two keys that compare equal are one
 pub count_keys_exact : IsAntisymmetric count_cmp
@@ -162,7 +165,13 @@ count_keys_exact a b e =
     let values : Ordering = value_cmp a.value b.value in
     let outcomes : Ordering = nat_cmp (outcome_rank a.outcome) (outcome_rank b.outcome) in
     let later : ordering_then values outcomes ≡ Equal = then_second views (ordering_then values outcomes) e in
-    λ i. record { view = same_view a.view b.view (then_first views (ordering_then values outcomes) e) i; value = same_value a.value b.value (then_first values outcomes later) i; outcome = same_outcome a.outcome b.outcome (then_second values outcomes later) i }
+    λ i. record {
+      view = same_view a.view b.view (then_first views (ordering_then values outcomes) e) i;
+      value =
+          same_value a.value b.value (then_first values outcomes later) i;
+      outcome =
+          same_outcome a.outcome b.outcome (then_second values outcomes later) i;
+    }
 
 -- ---- entries that stand in order are those of the finite map that they make
 
@@ -186,29 +195,38 @@ is_less Greater h = absurd h
 
 above-first : (e : CountKey × ℕ) (es : List (CountKey × ℕ)) → T (below_all count_cmp e.0 es) → AllByRecursion (λ f. entry_cmp e f ≡ Less) es
 above-first e [] h = tt
-above-first e (f ∷ fs) h = let b = both_true (is_lt (count_cmp e.0 f.0)) (below_all count_cmp e.0 fs) h in (is_less (count_cmp e.0 f.0) b.0, above-first e fs b.1)
+above-first e (f ∷ fs) h = let b = both_true (is_lt (count_cmp e.0 f.0)) (below_all count_cmp e.0 fs) h in
+    (is_less (count_cmp e.0 f.0) b.0, above-first e fs b.1)
 
-same_view_less : (view : View) (e f : CountKey × ℕ) → in_view view e ≡ true → in_view view f ≡ true → entry_cmp e f ≡ Less → shown_cmp (shown_row e) (shown_row f) ≡ Less
+same_view_less : (view : View) (e f : CountKey × ℕ) → in_view view e ≡ true → in_view view f ≡ true → entry_cmp e f ≡ Less
+    → shown_cmp (shown_row e) (shown_row f) ≡ Less
 same_view_less view e f h k less =
     let one : view_rank e.0.view ≡ view_rank view = eqb-true _ _ h in
     let two : view_rank f.0.view ≡ view_rank view = eqb-true _ _ k in
-    let tied : nat_cmp (view_rank e.0.view) (view_rank f.0.view) ≡ Equal = rw (one, two) (sym (nat_cmp_is (view_rank view) (view_rank view) Equal refl)) in
+    let tied : nat_cmp (view_rank e.0.view) (view_rank f.0.view) ≡ Equal =
+    rw (one, two) (sym (nat_cmp_is (view_rank view) (view_rank view) Equal refl)) in
     rw tied at less
 
-shown-above : (view : View) (e : CountKey × ℕ) (es : List (CountKey × ℕ)) → in_view view e ≡ true → AllByRecursion (λ f. entry_cmp e f ≡ Less) es → AllByRecursion (λ y. shown_cmp (shown_row e) y ≡ Less) (map shown_row (filter (in_view view) es))
+shown-above : (view : View) (e : CountKey × ℕ) (es : List (CountKey × ℕ)) → in_view view e ≡ true
+    → AllByRecursion (λ f. entry_cmp e f ≡ Less) es
+    → AllByRecursion (λ y. shown_cmp (shown_row e) y ≡ Less) (map shown_row (filter (in_view view) es))
 shown-above view e [] h a = tt
 shown-above view e (f ∷ fs) h a =
-    elim (in_view view f) as (λ b. in_view view f ≡ b → AllByRecursion (λ y. shown_cmp (shown_row e) y ≡ Less) (map shown_row (cond b (f ∷ filter (in_view view) fs) (filter (in_view view) fs)))) [
+    elim (in_view view f) as (λ b. in_view view f ≡ b
+    → AllByRecursion (λ y. shown_cmp (shown_row e) y ≡ Less)
+    (map shown_row (cond b (f ∷ filter (in_view view) fs) (filter (in_view view) fs)))) [
       | true ↦ λ k. (same_view_less view e f h k a.0, shown-above view e fs h a.1)
       | false ↦ λ k. shown-above view e fs h a.1
     ] refl
 
-shown-sorted : (view : View) (es : List (CountKey × ℕ)) → T (is_sorted count_cmp es) → IsStrictlySortedBy shown_cmp (map shown_row (filter (in_view view) es))
+shown-sorted : (view : View) (es : List (CountKey × ℕ)) → T (is_sorted count_cmp es)
+    → IsStrictlySortedBy shown_cmp (map shown_row (filter (in_view view) es))
 unfolding IsStrictlySortedBy
 shown-sorted view [] h = tt
 shown-sorted view (e ∷ es) h =
     let b = both_true (below_all count_cmp e.0 es) (is_sorted count_cmp es) h in
-    elim (in_view view e) as (λ b. in_view view e ≡ b → IsStrictlySortedBy shown_cmp (map shown_row (cond b (e ∷ filter (in_view view) es) (filter (in_view view) es)))) [
+    elim (in_view view e) as (λ b. in_view view e ≡ b
+    → IsStrictlySortedBy shown_cmp (map shown_row (cond b (e ∷ filter (in_view view) es) (filter (in_view view) es)))) [
       | true ↦ λ k. (shown-above view e es k (above-first e es b.0), shown-sorted view es b.1)
       | false ↦ λ k. shown-sorted view es b.1
     ] refl

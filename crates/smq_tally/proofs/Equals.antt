@@ -45,12 +45,15 @@ value-same a b = (
   λ e. value-equal a b ∙ ap (λ (x : Value). is_eq (value_cmp a x)) (sym e) ∙ (eq_by_cmp_equiv values_total).refl a,
 )
 
-pub eq-seen : (es fs : List (CountKey × ℕ)) (ks ls : List Listed) → IsStrictlySortedBy kept_cmp (keys_of es) → IsStrictlySortedBy kept_cmp (keys_of fs)
+pub eq-seen : (es fs : List (CountKey × ℕ)) (ks ls : List Listed) → IsStrictlySortedBy kept_cmp (keys_of es)
+    → IsStrictlySortedBy kept_cmp (keys_of fs)
     → IsStrictlySortedBy kept_listed_cmp ks → IsStrictlySortedBy kept_listed_cmp ls
-    → (pointwise (λ (p q : CountKey × ℕ). (key_eq.ghosts).eq p.0 q.0 && nat_eq p.1 q.1) es fs && pointwise (listed_eq.ghosts).eq ks ls) ≡ tables_eq (seen es ks) (seen fs ls)
+    → (pointwise (λ (p q : CountKey × ℕ). (key_eq.ghosts).eq p.0 q.0 && nat_eq p.1 q.1) es fs && pointwise (listed_eq.ghosts).eq ks
+    ls) ≡ tables_eq (seen es ks) (seen fs ls)
 eq-seen es fs ks ls s t u v =
     (λ i. pointwise (λ (p q : CountKey × ℕ). key-equal p.0 q.0 i && nat_eq p.1 q.1) es fs && pointwise (λ (p q : Listed). listed-equal p q i) ks ls)
-    ∙ (λ i. pointwise same_entry (sym (entries-seen es s) i) (sym (entries-seen fs t) i) && pointwise same_listed (sym (keys-seen ks u) i) (sym (keys-seen ls v) i))
+    ∙ (λ i. pointwise same_entry (sym (entries-seen es s) i) (sym (entries-seen fs t) i) && pointwise same_listed
+    (sym (keys-seen ks u) i) (sym (keys-seen ls v) i))
 
 both_true : (a b : Bool) → (a && b) ≡ true → (a ≡ true) × (b ≡ true)
 both_true true b e = (refl, e)
@@ -85,7 +88,8 @@ with_nothing (e ∷ es) = ap (λ (fs : Entries). e ∷ fs) (with_nothing es)
 
 -- sets with the same listed places are one
 same_places : (s t : FinSet listed_cmp) → keys s ≡ keys t → s ≡ t
-same_places s t e = same_entries_map s t (sym (with_nothing (entries s)) ∙ ap (λ (ks : List Listed). map (λ k. (k, tt)) ks) e ∙ with_nothing (entries t))
+same_places s t e = same_entries_map s t (sym (with_nothing (entries s)) ∙ ap (λ (ks : List Listed). map (λ k. (k, tt)) ks) e
+    ∙ with_nothing (entries t))
 
 pub equal-same : (t u : TablesValue) → IsTrue (tables_eq t u) ↔ (t ≡ u)
 equal-same t u =

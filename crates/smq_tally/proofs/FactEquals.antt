@@ -55,16 +55,37 @@ options {X} eq decides (Some x) (Some y) = Decides-like (eq x y) (λ h. ap (λ (
 
 -- each part of two facts is one
 abbrev Parts : Fact → Fact → Type 0
-Parts a b = (a.place ≡ b.place) × ((a.link ≡ b.link) × ((a.route ≡ b.route) × ((a.outcome ≡ b.outcome) × ((a.error ≡ b.error) × ((a.link_delay ≡ b.link_delay) × (a.centre_delay ≡ b.centre_delay))))))
+Parts a b = (a.place ≡ b.place) × ((a.link ≡ b.link)
+    × ((a.route ≡ b.route) × ((a.outcome ≡ b.outcome)
+    × ((a.error ≡ b.error) × ((a.link_delay ≡ b.link_delay) × (a.centre_delay ≡ b.centre_delay))))))
 
 parts_decide : (a b : Fact) → Decides (fact_eq a b) (Parts a b)
-parts_decide a b = Decides-and _ _ (places a.place b.place) (Decides-and _ _ (links a.link b.link) (Decides-and _ _ (options _ routed a.route b.route) (Decides-and _ _ (outcomes a.outcome b.outcome) (Decides-and _ _ (options _ errors a.error b.error) (Decides-and _ _ (options _ bands a.link_delay b.link_delay) (options _ bands a.centre_delay b.centre_delay))))))
+parts_decide a b = Decides-and _ _ (places a.place b.place)
+    (Decides-and _ _ (links a.link b.link) (Decides-and _ _ (options _ routed a.route b.route)
+    (Decides-and _ _ (outcomes a.outcome b.outcome)
+    (Decides-and _ _ (options _ errors a.error b.error) (Decides-and _ _ (options _ bands a.link_delay b.link_delay)
+    (options _ bands a.centre_delay b.centre_delay))))))
 
 one : (a b : Fact) → Parts a b → a ≡ b
-one a b p = λ i. record { place = p.0 i; link = p.1.0 i; route = p.1.1.0 i; outcome = p.1.1.1.0 i; error = p.1.1.1.1.0 i; link_delay = p.1.1.1.1.1.0 i; centre_delay = p.1.1.1.1.1.1 i }
+one a b p = λ i. record {
+  place = p.0 i;
+  link = p.1.0 i;
+  route = p.1.1.0 i;
+  outcome = p.1.1.1.0 i;
+  error =
+      p.1.1.1.1.0 i;
+  link_delay = p.1.1.1.1.1.0 i;
+  centre_delay = p.1.1.1.1.1.1 i;
+}
 
 parts : (a b : Fact) → a ≡ b → Parts a b
-parts a b e = (ap (λ f. f.place) e, (ap (λ f. f.link) e, (ap (λ f. f.route) e, (ap (λ f. f.outcome) e, (ap (λ f. f.error) e, (ap (λ f. f.link_delay) e, ap (λ f. f.centre_delay) e))))))
+parts a b e = (
+  ap (λ f. f.place) e,
+  (
+    ap (λ f. f.link) e,
+    (ap (λ f. f.route) e, (ap (λ f. f.outcome) e, (ap (λ f. f.error) e, (ap (λ f. f.link_delay) e, ap (λ f. f.centre_delay) e)))),
+  ),
+)
 
 pub facts_decide : (a b : Fact) → Decides (fact_eq a b) (a ≡ b)
 facts_decide a b = Decides-like (fact_eq a b) (one a b) (parts a b) (parts_decide a b)

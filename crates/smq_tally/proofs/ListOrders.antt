@@ -34,7 +34,8 @@ use Rattle.smq_tally.specs.within.ListOrder.{kept_listed_cmp, listed_total, firs
 
 -- ---- the derived orders are those of the definitions
 
-each_list : (P : l.List → Type 0) → P v.Waiting → P v.StrayAnswers → P v.Mismatched → P v.StrayReceipts → P v.AmbiguousReceipts → P v.ExtraReceipts → P v.Unreadable → P v.Undecodable → P v.Broken → P v.Open → P v.Lapsed → (a : l.List) → P a
+each_list : (P : l.List → Type 0) → P v.Waiting → P v.StrayAnswers → P v.Mismatched → P v.StrayReceipts → P v.AmbiguousReceipts
+    → P v.ExtraReceipts → P v.Unreadable → P v.Undecodable → P v.Broken → P v.Open → P v.Lapsed → (a : l.List) → P a
 each_list P p0 p1 p2 p3 p4 p5 p6 p7 p8 p9 p10 v.Waiting = p0
 each_list P p0 p1 p2 p3 p4 p5 p6 p7 p8 p9 p10 v.StrayAnswers = p1
 each_list P p0 p1 p2 p3 p4 p5 p6 p7 p8 p9 p10 v.Mismatched = p2
@@ -119,44 +120,57 @@ keys-entries (e ∷ es) = ap (λ xs. e ∷ xs) (keys-entries es)
 pub keys-seen : (es : List Listed) → IsStrictlySortedBy kept_listed_cmp es → keys (listed_set es) ≡ es
 keys-seen es s =
     ap (λ (fs : Entries). keys_of fs)
-    (ordered.entries-kept listed_total listed_exact listed-order (map (λ e. (e, tt)) es) (subst (IsStrictlySortedBy kept_listed_cmp) (sym (keys-entries es)) s))
+    (ordered.entries-kept listed_total listed_exact listed-order (map (λ e. (e, tt)) es)
+    (subst (IsStrictlySortedBy kept_listed_cmp) (sym (keys-entries es)) s))
     ∙ keys-entries es
 
 -- ---- the places of a list stand in order
 
 above-first : (e : Listed) (es : Entries) → T (below_all listed_cmp e es) → AllByRecursion (λ y. listed_cmp e y ≡ Less) (keys_of es)
 above-first e [] h = tt
-above-first e (f ∷ fs) h =
-    (is_less (listed_cmp e f.0) (first_test (is_lt (listed_cmp e f.0)) (below_all listed_cmp e fs) h), above-first e fs (second_test (is_lt (listed_cmp e f.0)) (below_all listed_cmp e fs) h))
+above-first e (f ∷ fs) h = (
+  is_less (listed_cmp e f.0) (first_test (is_lt (listed_cmp e f.0)) (below_all listed_cmp e fs) h),
+  above-first e fs
+      (second_test (is_lt (listed_cmp e f.0)) (below_all listed_cmp e fs) h),
+)
 
 keys-sorted : (es : Entries) → T (is_sorted listed_cmp es) → IsStrictlySortedBy listed_cmp (keys_of es)
 unfolding IsStrictlySortedBy
 keys-sorted [] h = tt
-keys-sorted (e ∷ es) h =
-    (above-first e.0 es (first_test (below_all listed_cmp e.0 es) (is_sorted listed_cmp es) h), keys-sorted es (second_test (below_all listed_cmp e.0 es) (is_sorted listed_cmp es) h))
+keys-sorted (e ∷ es) h = (
+  above-first e.0 es (first_test (below_all listed_cmp e.0 es) (is_sorted listed_cmp es) h),
+  keys-sorted es
+      (second_test (below_all listed_cmp e.0 es) (is_sorted listed_cmp es) h),
+)
 
 -- of two in one list the place decides
-same_list_less : (list : l.List) (a b : Listed) → in_list list a ≡ true → in_list list b ≡ true → listed_cmp a b ≡ Less → place_cmp a.place b.place ≡ Less
+same_list_less : (list : l.List) (a b : Listed) → in_list list a ≡ true → in_list list b ≡ true → listed_cmp a b ≡ Less
+    → place_cmp a.place b.place ≡ Less
 same_list_less list a b h k less =
     let one : list_rank a.list ≡ list_rank list = eqb-true _ _ h in
     let two : list_rank b.list ≡ list_rank list = eqb-true _ _ k in
-    let tied : nat_cmp (list_rank a.list) (list_rank b.list) ≡ Equal = rw (one, two) (sym (nat_cmp_is (list_rank list) (list_rank list) Equal refl)) in
+    let tied : nat_cmp (list_rank a.list) (list_rank b.list) ≡ Equal =
+    rw (one, two) (sym (nat_cmp_is (list_rank list) (list_rank list) Equal refl)) in
     rw tied at less
 
 places-above : (list : l.List) (e : Listed) (es : List Listed) → in_list list e ≡ true → AllByRecursion (λ y. listed_cmp e y ≡ Less) es
     → AllByRecursion (λ y. place_cmp e.place y ≡ Less) (map (λ x. x.place) (filter (in_list list) es))
 places-above list e [] h a = tt
 places-above list e (f ∷ fs) h a =
-    elim (in_list list f) as (λ b. in_list list f ≡ b → AllByRecursion (λ y. place_cmp e.place y ≡ Less) (map (λ x. x.place) (cond b (f ∷ filter (in_list list) fs) (filter (in_list list) fs)))) [
+    elim (in_list list f) as (λ b. in_list list f ≡ b
+    → AllByRecursion (λ y. place_cmp e.place y ≡ Less)
+    (map (λ x. x.place) (cond b (f ∷ filter (in_list list) fs) (filter (in_list list) fs)))) [
       | true ↦ λ k. (same_list_less list e f h k a.0, places-above list e fs h a.1)
       | false ↦ λ k. places-above list e fs h a.1
     ] refl
 
-among-sorted : (list : l.List) (es : List Listed) → IsStrictlySortedBy listed_cmp es → IsStrictlySortedBy place_cmp (map (λ x. x.place) (filter (in_list list) es))
+among-sorted : (list : l.List) (es : List Listed) → IsStrictlySortedBy listed_cmp es
+    → IsStrictlySortedBy place_cmp (map (λ x. x.place) (filter (in_list list) es))
 unfolding IsStrictlySortedBy
 among-sorted list [] h = tt
 among-sorted list (e ∷ es) h =
-    elim (in_list list e) as (λ b. in_list list e ≡ b → IsStrictlySortedBy place_cmp (map (λ x. x.place) (cond b (e ∷ filter (in_list list) es) (filter (in_list list) es)))) [
+    elim (in_list list e) as (λ b. in_list list e ≡ b
+    → IsStrictlySortedBy place_cmp (map (λ x. x.place) (cond b (e ∷ filter (in_list list) es) (filter (in_list list) es)))) [
       | true ↦ λ k. (places-above list e es k h.0, among-sorted list es h.1)
       | false ↦ λ k. among-sorted list es h.1
     ] refl
@@ -181,7 +195,8 @@ then_le Greater q h k = h
 -- no place is before the first
 first_le : (p : Place) → is_le (place_cmp first_place p) ≡ true
 first_le p =
-    let within : is_le (ordering_then (dir_cmp FromClient p.dir) (nat_cmp 0 p.offset)) ≡ true = then_le (dir_cmp FromClient p.dir) (nat_cmp 0 p.offset) (le_client p.dir) (le_zero p.offset) in
+    let within : is_le (ordering_then (dir_cmp FromClient p.dir) (nat_cmp 0 p.offset)) ≡ true =
+    then_le (dir_cmp FromClient p.dir) (nat_cmp 0 p.offset) (le_client p.dir) (le_zero p.offset) in
     then_le (nat_cmp 0 p.session.0) (ordering_then (dir_cmp FromClient p.dir) (nat_cmp 0 p.offset)) (le_zero p.session.0) within
 
 pub then_least : (p q : Ordering) → is_le q ≡ true → is_le (ordering_then p q) ≡ is_le p
@@ -200,7 +215,8 @@ pub last_number : (a b : ℕ) → b ≤ a → (is_le (nat_cmp a b) && not false)
 last_number a b h = grind (arith, nat_tests)
 
 -- of a list are those from its first possible one up to the next list's
-up_to_next : (list next : l.List) → list_rank next ≡ list_rank list + 1 → (q : Listed) → range_contains kept_listed_cmp (Included (first_in list)) (Excluded (first_in next)) q ≡ in_list list q
+up_to_next : (list next : l.List) → list_rank next ≡ list_rank list + 1 → (q : Listed)
+    → range_contains kept_listed_cmp (Included (first_in list)) (Excluded (first_in next)) q ≡ in_list list q
 up_to_next list next e q =
     ap (λ (R : Listed → Listed → Ordering). range_contains R (Included (first_in list)) (Excluded (first_in next)) q) listed-order
     ∙ (λ i. begins list q i && not (begins next q i))
@@ -208,7 +224,8 @@ up_to_next list next e q =
     ∙ one_number (list_rank list) (list_rank q.list)
 
 -- of the last list are all from its first possible one
-up_to_end : (list : l.List) → ((other : l.List) → list_rank other ≤ list_rank list) → (q : Listed) → range_contains kept_listed_cmp (Included (first_in list)) Unbounded q ≡ in_list list q
+up_to_end : (list : l.List) → ((other : l.List) → list_rank other ≤ list_rank list) → (q : Listed)
+    → range_contains kept_listed_cmp (Included (first_in list)) Unbounded q ≡ in_list list q
 up_to_end list most q =
     ap (λ (R : Listed → Listed → Ordering). range_contains R (Included (first_in list)) Unbounded q) listed-order
     ∙ (λ i. begins list q i && not false)
@@ -238,28 +255,34 @@ last_place v.Unreadable e = absurd cc
 last_place v.Undecodable e = absurd cc
 last_place v.Broken e = absurd cc
 last_place v.Open e = absurd cc
-last_place v.Lapsed e = each_list (λ other. list_rank other ≤ 10) (omega arith) (omega arith) (omega arith) (omega arith) (omega arith) (omega arith) (omega arith) (omega arith) (omega arith) (omega arith) (omega arith)
+last_place v.Lapsed e = each_list (λ other. list_rank other ≤ 10) (omega arith) (omega arith) (omega arith) (omega arith)
+    (omega arith) (omega arith) (omega arith) (omega arith) (omega arith) (omega arith) (omega arith)
 
 -- a list begins before the next one does
-pub list-forward : (list next : l.List) (first limit : Listed) → first ≡ first_in list → limit ≡ first_in next → Some next ≡ slice_get lists (list_rank list + 1) → is_gt (kept_listed_cmp first limit) ≡ false
+pub list-forward : (list next : l.List) (first limit : Listed) → first ≡ first_in list → limit ≡ first_in next
+    → Some next ≡ slice_get lists (list_rank list + 1) → is_gt (kept_listed_cmp first limit) ≡ false
 list-forward list next first limit one other e =
-    (λ i. is_gt (listed-order i (one i) (other i))) ∙ ap (λ n. is_gt (ordering_then (nat_cmp (list_rank list) n) Equal)) (next_place list next e) ∙ before (list_rank list)
+    (λ i. is_gt (listed-order i (one i) (other i)))
+    ∙ ap (λ n. is_gt (ordering_then (nat_cmp (list_rank list) n) Equal)) (next_place list next e) ∙ before (list_rank list)
   where
     before : (n : ℕ) → is_gt (ordering_then (nat_cmp n (n + 1)) Equal) ≡ false
     before n = ap (λ r. is_gt (ordering_then r Equal)) (sym (nat_cmp_is n (n + 1) Less (omega arith)))
 
 -- the code's part of the set, which is a run of it, has the places of the list
-ranged : (t : TablesValue) (list : l.List) (es left : List Listed) (inside : Listed → Bool) → listed_set es ≡ t.places → IsStrictlySortedBy kept_listed_cmp es
+ranged : (t : TablesValue) (list : l.List) (es left : List Listed) (inside : Listed → Bool) → listed_set es ≡ t.places
+    → IsStrictlySortedBy kept_listed_cmp es
     → ((q : Listed) → inside q ≡ in_list list q) → left ≡ filter inside es → map (λ e. e.place) left ≡ listed_in t list
 ranged t list es left inside is sorted same taken =
     ap (λ (xs : List Listed). map (λ e. e.place) xs) (taken ∙ (λ i. filter (λ q. same q i) (sym (keys-seen es sorted) i)))
     ∙ ap (λ (s : FinSet listed_cmp). map (λ e. e.place) (filter (in_list list) (keys s))) is
 
-pub ranged-next : (t : TablesValue) (list next : l.List) (first limit : Listed) (es left : List Listed) → first ≡ first_in list → limit ≡ first_in next → listed_set es ≡ t.places
+pub ranged-next : (t : TablesValue) (list next : l.List) (first limit : Listed) (es left : List Listed) → first ≡ first_in list
+    → limit ≡ first_in next → listed_set es ≡ t.places
     → IsStrictlySortedBy kept_listed_cmp es → Some next ≡ slice_get lists (list_rank list + 1)
     → left ≡ filter (range_contains kept_listed_cmp (Included first) (Excluded limit)) es → map (λ e. e.place) left ≡ listed_in t list
 ranged-next t list next first limit es left one other is sorted e taken =
-    ranged t list es left (range_contains kept_listed_cmp (Included (first_in list)) (Excluded (first_in next))) is sorted (up_to_next list next (next_place list next e))
+    ranged t list es left (range_contains kept_listed_cmp (Included (first_in list)) (Excluded (first_in next))) is sorted
+    (up_to_next list next (next_place list next e))
     (taken ∙ (λ i. filter (range_contains kept_listed_cmp (Included (one i)) (Excluded (other i))) es))
 
 pub ranged-end : (t : TablesValue) (list : l.List) (first : Listed) (es left : List Listed) → first ≡ first_in list → listed_set es ≡ t.places

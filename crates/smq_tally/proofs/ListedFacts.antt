@@ -75,7 +75,8 @@ places-have facts notes q =
     ∙ any-append (same_listed q) (keys notes) (flat_map listings_of_fact (values facts))
     ∙ (λ i. sym (contains_key-keys notes q) i || any-flat q (values facts) i)
 
-with-have : (t : TablesValue) (es : List Listed) (q : Listed) → contains_key (with_listed t es).places q ≡ (list_any (same_listed q) es || contains_key t.places q)
+with-have : (t : TablesValue) (es : List Listed) (q : Listed) → contains_key (with_listed t es).places q
+    ≡ (list_any (same_listed q) es || contains_key t.places q)
 with-have t [] q = refl
 with-have t (e ∷ es) q =
     with-have (one_listed t e) es q
@@ -99,7 +100,8 @@ any-count p (f ∷ fs) =
     ap (λ b. p f || b) (any-count p fs)
     ∙ sym (above-one (p f) (count_by p fs) (count_by p (f ∷ fs)) (let e = sum_by-cons (λ g. cond (p g) 1 0) f fs in omega (arith, e)))
 
-any-more : (p : Fact → Bool) (facts : FinMap place_cmp Fact) (f : Fact) → get facts f.place ≡ None → list_any p (values (insert facts f.place f)) ≡ (p f || list_any p (values facts))
+any-more : (p : Fact → Bool) (facts : FinMap place_cmp Fact) (f : Fact) → get facts f.place ≡ None
+    → list_any p (values (insert facts f.place f)) ≡ (p f || list_any p (values facts))
 any-more p facts f none =
     let moved = maps.count-set places_total places_exact p facts f.place (Some f) in
     let one = sum_by-cons (λ g. cond (p g) 1 0) f [] in
@@ -143,7 +145,8 @@ nothing None e = refl
 nothing (Some u) e = absurd cc
 
 -- what is listed anew is taken out again
-pub unlisted-again : (t : TablesValue) (e : Listed) (is_new : Bool) → is_new ≡ not (contains_key t.places e) → is_new ≡ true → one_unlisted (one_listed t e) e ≡ t
+pub unlisted-again : (t : TablesValue) (e : Listed) (is_new : Bool) → is_new ≡ not (contains_key t.places e) → is_new ≡ true
+    → one_unlisted (one_listed t e) e ≡ t
 unlisted-again t e is_new told new =
     let none : get t.places e ≡ None = nothing (get t.places e) (not-new (contains_key t.places e) (sym new ∙ told)) in
     λ i. record { counts = t.counts; places = take-out listed_total listed_exact t.places e tt none i }
@@ -152,4 +155,8 @@ unlisted-again t e is_new told new =
 pub listed-already : (t : TablesValue) (e : Listed) (is_new : Bool) → is_new ≡ not (contains_key t.places e) → is_new ≡ false → one_listed t e ≡ t
 listed-already t e is_new told old =
     let there : contains_key t.places e ≡ true = is-old (contains_key t.places e) (sym old ∙ told) in
-    λ i. record { counts = t.counts; places = ordered.insert-same listed_total listed_exact refl t.places e tt (mark (get t.places e) ∙ ap marked there) i }
+    λ i. record {
+      counts = t.counts;
+      places = ordered.insert-same listed_total listed_exact refl t.places e tt
+          (mark (get t.places e) ∙ ap marked there) i;
+    }

@@ -38,7 +38,9 @@ places-stand : (s : FinSet listed_cmp) (list : l.List) (es : Entries) → AllByR
     → AllByRecursion (λ place. contains_key s (listed list place) ≡ true) (places_among list es)
 places-stand s list [] a = tt
 places-stand s list (e ∷ es) a =
-    elim (in_list list e.0) as (λ b. in_list list e.0 ≡ b → AllByRecursion (λ place. contains_key s (listed list place) ≡ true) (map (λ x. x.place) (cond b (e.0 ∷ filter (in_list list) (map (λ x. x.0) es)) (filter (in_list list) (map (λ x. x.0) es))))) [
+    elim (in_list list e.0) as (λ b. in_list list e.0 ≡ b
+    → AllByRecursion (λ place. contains_key s (listed list place) ≡ true)
+    (map (λ x. x.place) (cond b (e.0 ∷ filter (in_list list) (map (λ x. x.0) es)) (filter (in_list list) (map (λ x. x.0) es))))) [
       | true ↦ λ h. (ap (contains_key s) (listed-shown list e.0 h) ∙ ap is_some a.0, places-stand s list es a.1)
       | false ↦ λ h. places-stand s list es a.1
     ] refl
@@ -57,20 +59,25 @@ first-listed v.Broken place es = (0, omega arith, refl)
 first-listed v.Open place es = (0, omega arith, refl)
 first-listed v.Lapsed place es = (0, omega arith, refl)
 
-found-listed : (list : l.List) (place : Place) (es : Entries) → is_some (find listed_cmp (listed list place) es) ≡ true → Contains (places_among list es) place
+found-listed : (list : l.List) (place : Place) (es : Entries) → is_some (find listed_cmp (listed list place) es) ≡ true
+    → Contains (places_among list es) place
 found-listed list place [] found = absurd cc
 found-listed list place (e ∷ es) found =
-    elim (same_listed (listed list place) e.0) as (λ b. same_listed (listed list place) e.0 ≡ b → is_some (cond b (Some e.1) (find listed_cmp (listed list place) es)) ≡ true → Contains (places_among list (e ∷ es)) place) [
+    elim (same_listed (listed list place) e.0) as (λ b. same_listed (listed list place) e.0 ≡ b
+    → is_some (cond b (Some e.1) (find listed_cmp (listed list place) es)) ≡ true → Contains (places_among list (e ∷ es)) place) [
       | true ↦ λ same first.
           let key : listed list place ≡ e.0 = tells_apart listed_exact _ _ same in
           subst (λ (x : Listed). Contains (places_among list ((x, e.1) ∷ es)) place) key (first-listed list place es)
-      | false ↦ λ same later. elim (in_list list e.0) as (λ b. Contains (map (λ x. x.place) (cond b (e.0 ∷ filter (in_list list) (map (λ x. x.0) es)) (filter (in_list list) (map (λ x. x.0) es)))) place) [
-        | true ↦ Contains-append_right (e.0.place ∷ []) (places_among list es) place (found-listed list place es later)
-        | false ↦ found-listed list place es later
-      ]
+      | false ↦ λ same later. elim (in_list list e.0) as (λ b. Contains
+          (map (λ x. x.place) (cond b (e.0 ∷ filter (in_list list) (map (λ x. x.0) es)) (filter (in_list list) (map (λ x. x.0) es))))
+          place) [
+            | true ↦ Contains-append_right (e.0.place ∷ []) (places_among list es) place (found-listed list place es later)
+            | false ↦ found-listed list place es later
+          ]
     ] refl found
 
-pub listed-iff : (t : TablesValue) (list : l.List) (place : Place) → Contains (listed_in t list) place ↔ IsTrue (contains_key t.places (listed list place))
+pub listed-iff : (t : TablesValue) (list : l.List) (place : Place) → Contains (listed_in t list) place
+    ↔ IsTrue (contains_key t.places (listed list place))
 listed-iff t list place = (
   λ h. All-contains (λ p. contains_key t.places (listed list p) ≡ true) (listed_in t list) place
       (All-from_recursion _ _ (places-stand t.places list (entries t.places) (get-entry listed_total listed_exact t.places))) h,
@@ -83,10 +90,12 @@ listed-iff t list place = (
 abbrev pub marked : Bool → Option (Unit {0})
 marked b = cond b (Some tt) None
 
-pub marked-any : (test : Listed → Bool) (es : List Listed) → lookup {K = Listed} {X = Unit {0}} test (map (λ e. (e, tt)) es) ≡ marked (list_any test es)
+pub marked-any : (test : Listed → Bool) (es : List Listed) → lookup {K = Listed} {X = Unit {0}} test (map (λ e. (e, tt)) es)
+    ≡ marked (list_any test es)
 marked-any test [] = refl
 marked-any test (e ∷ es) =
-    elim (test e) as (λ b. cond b (Some (tt {0})) (lookup {K = Listed} {X = Unit {0}} test (map (λ e. (e, tt)) es)) ≡ marked (b || list_any test es)) [
+    elim (test e) as (λ b. cond b (Some (tt {0})) (lookup {K = Listed} {X = Unit {0}} test (map (λ e. (e, tt)) es))
+    ≡ marked (b || list_any test es)) [
       | true ↦ refl
       | false ↦ marked-any test es
     ]
@@ -96,7 +105,9 @@ one_mark true c = refl
 one_mark false c = refl
 
 -- one listed place more in the code's set
-pub note-seen : (es fs : List Listed) (note : Listed) → ((q : Listed) → list_any (is_at (kept_listed_cmp q)) fs ≡ cond (is_at (kept_listed_cmp note) q) true (list_any (is_at (kept_listed_cmp q)) es))
+pub note-seen : (es fs : List Listed) (note : Listed)
+    → ((q : Listed) → list_any (is_at (kept_listed_cmp q)) fs
+    ≡ cond (is_at (kept_listed_cmp note) q) true (list_any (is_at (kept_listed_cmp q)) es))
     → listed_set fs ≡ insert (listed_set es) note tt
 note-seen es fs note h =
     ordered.put-kept listed_total listed_exact listed-order (map (λ e. (e, tt)) es) (map (λ e. (e, tt)) fs) note tt (λ q.
@@ -105,10 +116,12 @@ note-seen es fs note h =
     ∙ one_mark (is_at (kept_listed_cmp note) q) (list_any (is_at (kept_listed_cmp q)) es)
     ∙ ap (λ (o : Option (Unit {0})). cond (is_at (kept_listed_cmp note) q) (Some (tt {0})) o) (sym (marked-any (is_at (kept_listed_cmp q)) es)))
 
-find-marked : (q : Listed) (es : List Listed) → find {K = Listed} {X = Unit {0}} listed_cmp q (map (λ e. (e, tt)) es) ≡ marked (list_any (same_listed q) es)
+find-marked : (q : Listed) (es : List Listed) → find {K = Listed} {X = Unit {0}} listed_cmp q (map (λ e. (e, tt)) es)
+    ≡ marked (list_any (same_listed q) es)
 find-marked q [] = refl
 find-marked q (e ∷ es) =
-    elim (same_listed q e) as (λ b. cond b (Some (tt {0})) (find {K = Listed} {X = Unit {0}} listed_cmp q (map (λ e. (e, tt)) es)) ≡ marked (b || list_any (same_listed q) es)) [
+    elim (same_listed q e) as (λ b. cond b (Some (tt {0})) (find {K = Listed} {X = Unit {0}} listed_cmp q (map (λ e. (e, tt)) es))
+    ≡ marked (b || list_any (same_listed q) es)) [
       | true ↦ refl
       | false ↦ find-marked q es
     ]

@@ -40,7 +40,9 @@ rows-stand : (m : FinMap count_cmp ℕ) (view : View) (es : List (CountKey × �
     → AllByRecursion (λ row. get m (key_of view row) ≡ Some row.2) (rows_among view es)
 rows-stand m view [] a = tt
 rows-stand m view (e ∷ es) a =
-    elim (in_view view e) as (λ b. in_view view e ≡ b → AllByRecursion (λ row. get m (key_of view row) ≡ Some row.2) (map shown_row (cond b (e ∷ filter (in_view view) es) (filter (in_view view) es)))) [
+    elim (in_view view e) as (λ b. in_view view e ≡ b
+    → AllByRecursion (λ row. get m (key_of view row) ≡ Some row.2)
+    (map shown_row (cond b (e ∷ filter (in_view view) es) (filter (in_view view) es)))) [
       | true ↦ λ h. (ap (get m) (key-shown view e h) ∙ a.0, rows-stand m view es a.1)
       | false ↦ λ h. rows-stand m view es a.1
     ] refl
@@ -49,25 +51,32 @@ same_number : (n : ℕ) → (n == n) ≡ true
 same_number n = grind (arith, nat_tests)
 
 -- a count that stands first is shown
-first-shown : (view : View) (value : Value) (outcome : Outcome) (n : ℕ) (es : List (CountKey × ℕ)) → Contains (rows_among view ((count_key view value outcome, n) ∷ es)) (value, outcome, n)
+first-shown : (view : View) (value : Value) (outcome : Outcome) (n : ℕ) (es : List (CountKey × ℕ))
+    → Contains (rows_among view ((count_key view value outcome, n) ∷ es)) (value, outcome, n)
 first-shown view value outcome n es =
     let e : CountKey × ℕ = (count_key view value outcome, n) in
-    subst (λ (b : Bool). Contains (map shown_row (cond b (e ∷ filter (in_view view) es) (filter (in_view view) es))) (value, outcome, n)) (sym (same_number (view_rank view))) (0, omega arith, refl)
+    subst (λ (b : Bool). Contains (map shown_row (cond b (e ∷ filter (in_view view) es) (filter (in_view view) es)))
+    (value, outcome, n)) (sym (same_number (view_rank view))) (0, omega arith, refl)
 
 -- each count that stands in the view is shown
-found-shown : (view : View) (value : Value) (outcome : Outcome) (n : ℕ) (es : List (CountKey × ℕ)) → find count_cmp (count_key view value outcome) es ≡ Some n
+found-shown : (view : View) (value : Value) (outcome : Outcome) (n : ℕ) (es : List (CountKey × ℕ))
+    → find count_cmp (count_key view value outcome) es ≡ Some n
     → Contains (rows_among view es) (value, outcome, n)
 found-shown view value outcome n [] found = absurd cc
 found-shown view value outcome n (e ∷ es) found =
-    elim (same_count_key (count_key view value outcome) e.0) as (λ b. same_count_key (count_key view value outcome) e.0 ≡ b → cond b (Some e.1) (find count_cmp (count_key view value outcome) es) ≡ Some n → Contains (rows_among view (e ∷ es)) (value, outcome, n)) [
+    elim (same_count_key (count_key view value outcome) e.0) as (λ b. same_count_key (count_key view value outcome) e.0 ≡ b
+    → cond b (Some e.1) (find count_cmp (count_key view value outcome) es) ≡ Some n
+    → Contains (rows_among view (e ∷ es)) (value, outcome, n)) [
       | true ↦ λ same first.
           let key : count_key view value outcome ≡ e.0 = tells_apart count_keys_exact _ _ same in
           let count : n ≡ e.1 = cc in
-          subst (λ (x : CountKey × ℕ). Contains (rows_among view (x ∷ es)) (value, outcome, n)) (λ i. (key i, count i)) (first-shown view value outcome n es)
-      | false ↦ λ same later. elim (in_view view e) as (λ b. Contains (map shown_row (cond b (e ∷ filter (in_view view) es) (filter (in_view view) es))) (value, outcome, n)) [
-        | true ↦ Contains-append_right (shown_row e ∷ []) (rows_among view es) (value, outcome, n) (found-shown view value outcome n es later)
-        | false ↦ found-shown view value outcome n es later
-      ]
+          subst (λ (x : CountKey × ℕ). Contains (rows_among view (x ∷ es)) (value, outcome, n)) (λ i. (key i, count i))
+          (first-shown view value outcome n es)
+      | false ↦ λ same later. elim (in_view view e) as (λ b. Contains
+          (map shown_row (cond b (e ∷ filter (in_view view) es) (filter (in_view view) es))) (value, outcome, n)) [
+            | true ↦ Contains-append_right (shown_row e ∷ []) (rows_among view es) (value, outcome, n) (found-shown view value outcome n es later)
+            | false ↦ found-shown view value outcome n es later
+          ]
     ] refl found
 
 -- a view shows a row exactly where its count stands in the tables

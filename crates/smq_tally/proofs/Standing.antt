@@ -45,23 +45,31 @@ at-own q f (w ∷ ws) view after h k =
     ∙ (λ i. none i || at-own q f ws view after h.1 k i)
   where
     none : list_any (same_count_key q) (option_to_list (key_in w f)) ≡ false
-    none = sym (any-append (same_count_key q) (option_to_list (key_in w f)) [] ∙ or-false (list_any (same_count_key q) (option_to_list (key_in w f)))) ∙ (others-none q f (w ∷ []) (h.0, tt)).1
+    none = sym (any-append (same_count_key q) (option_to_list (key_in w f)) []
+        ∙ or-false (list_any (same_count_key q) (option_to_list (key_in w f)))) ∙ (others-none q f (w ∷ []) (h.0, tt)).1
 
-stands-own : (f : Fact) (view : View) (value : Value) (outcome : Outcome) → stands_in (count_key view value outcome) f ≡ list_any (same_count_key (count_key view value outcome)) (option_to_list (key_in view f))
+stands-own : (f : Fact) (view : View) (value : Value) (outcome : Outcome) → stands_in (count_key view value outcome) f
+    ≡ list_any (same_count_key (count_key view value outcome)) (option_to_list (key_in view f))
 stands-own f v.Link value outcome = at-own (count_key v.Link value outcome) f [] v.Link (drop 1 views) (search rules) (search rules)
 stands-own f v.Route value outcome = at-own (count_key v.Route value outcome) f (take 1 views) v.Route (drop 2 views) (search rules) (search rules)
-stands-own f v.Network value outcome = at-own (count_key v.Network value outcome) f (take 2 views) v.Network (drop 3 views) (search rules) (search rules)
+stands-own f v.Network value outcome = at-own (count_key v.Network value outcome) f (take 2 views) v.Network (drop 3 views)
+    (search rules) (search rules)
 stands-own f v.Error value outcome = at-own (count_key v.Error value outcome) f (take 3 views) v.Error (drop 4 views) (search rules) (search rules)
-stands-own f v.LinkDelay value outcome = at-own (count_key v.LinkDelay value outcome) f (take 4 views) v.LinkDelay (drop 5 views) (search rules) (search rules)
-stands-own f v.CentreDelay value outcome = at-own (count_key v.CentreDelay value outcome) f (take 5 views) v.CentreDelay (drop 6 views) (search rules) (search rules)
+stands-own f v.LinkDelay value outcome = at-own (count_key v.LinkDelay value outcome) f (take 4 views) v.LinkDelay (drop 5 views)
+    (search rules) (search rules)
+stands-own f v.CentreDelay value outcome = at-own (count_key v.CentreDelay value outcome) f (take 5 views) v.CentreDelay
+    (drop 6 views) (search rules) (search rules)
 
 -- a test of one key, where there is one
 by-value : (view : View) (own : Option Value) (at : Outcome) (value : Value) (outcome : Outcome)
-    → IsTrue (list_any (same_count_key (count_key view value outcome)) (option_to_list (option_map (λ x. count_key view x at) own))) ↔ ((own ≡ Some value) × (at ≡ outcome))
+    → IsTrue (list_any (same_count_key (count_key view value outcome)) (option_to_list (option_map (λ x. count_key view x at) own)))
+    ↔ ((own ≡ Some value) × (at ≡ outcome))
 by-value view None at value outcome = (λ h. absurd (false≢true h), λ e. absurd (let none : None ≡ Some value = e.0 in cc))
 by-value view (Some x) at value outcome = (
   λ h.
-      let same : count_key view value outcome ≡ count_key view x at = tells_apart count_keys_exact _ _ (sym (any-one (same_count_key (count_key view value outcome)) (count_key view x at)) ∙ h) in
+      let same : count_key view value outcome ≡ count_key view x at =
+      tells_apart count_keys_exact _ _ (sym (any-one (same_count_key (count_key view value outcome)) (count_key view x at))
+      ∙ h) in
       (λ i. Some ((sym same i).value), λ i. (sym same i).outcome),
   λ e.
       let own : x ≡ value = let s : Some x ≡ Some value = e.0 in cc in
@@ -71,7 +79,8 @@ by-value view (Some x) at value outcome = (
 )
 
 -- a message stands at the key of its own value in a view and its own outcome
-pub stands-once : (f : Fact) (view : View) (value : Value) (outcome : Outcome) → IsTrue (stands_in (count_key view value outcome) f) ↔ ((value_in view f ≡ Some value) × (f.outcome ≡ outcome))
+pub stands-once : (f : Fact) (view : View) (value : Value) (outcome : Outcome) → IsTrue (stands_in (count_key view value outcome) f)
+    ↔ ((value_in view f ≡ Some value) × (f.outcome ≡ outcome))
 stands-once f view value outcome =
     let one = by-value view (value_in view f) f.outcome value outcome in
     (λ h. one.0 (sym (stands-own f view value outcome) ∙ h), λ e. stands-own f view value outcome ∙ one.1 e)
@@ -97,12 +106,15 @@ or-true false = refl
 abbrev Fits : l.List → Outcome → Type 0
 Fits list outcome = ((list ≡ lists_of.Open) × (outcome ≡ o.Open)) ⊎ ((list ≡ lists_of.Lapsed) × (outcome ≡ o.Lapsed))
 
-one-place : (list : l.List) (place : Place) (own : l.List) (at : Place) → list_any (same_listed (listed list place)) (listed own at ∷ []) ≡ true → (list ≡ own) × (at ≡ place)
+one-place : (list : l.List) (place : Place) (own : l.List) (at : Place)
+    → list_any (same_listed (listed list place)) (listed own at ∷ []) ≡ true → (list ≡ own) × (at ≡ place)
 one-place list place own at h =
-    let same : listed list place ≡ listed own at = tells_apart listed_exact _ _ (sym (or-false (same_listed (listed list place) (listed own at))) ∙ h) in
+    let same : listed list place ≡ listed own at =
+    tells_apart listed_exact _ _ (sym (or-false (same_listed (listed list place) (listed own at))) ∙ h) in
     (λ i. (same i).list, λ i. (sym same i).place)
 
-by-outcome : (list : l.List) (place : Place) (outcome : Outcome) (at : Place) → list_any (same_listed (listed list place)) (listings_by outcome at) ≡ true → Fits list outcome × (at ≡ place)
+by-outcome : (list : l.List) (place : Place) (outcome : Outcome) (at : Place)
+    → list_any (same_listed (listed list place)) (listings_by outcome at) ≡ true → Fits list outcome × (at ≡ place)
 by-outcome list place o.Open at h = let e = one-place list place lists_of.Open at h in (inl (e.0, refl), e.1)
 by-outcome list place o.Lapsed at h = let e = one-place list place lists_of.Lapsed at h in (inr (e.0, refl), e.1)
 by-outcome list place o.Waiting at h = absurd (false≢true h)
@@ -127,12 +139,14 @@ is-neither list outcome other never (inl h) = absurd (other h.0)
 is-neither list outcome other never (inr h) = absurd (never h.0)
 
 -- a place in a list is noted there, or a message's
-in-list : (facts : FinMap place_cmp Fact) (notes : FinSet listed_cmp) (list : l.List) (place : Place) → Contains (listed_in (tables_of facts notes) list) place
+in-list : (facts : FinMap place_cmp Fact) (notes : FinSet listed_cmp) (list : l.List) (place : Place)
+    → Contains (listed_in (tables_of facts notes) list) place
     → IsTrue (contains_key notes (listed list place)) ⊎ ((f : Fact) × (Contains (values facts) f × (Fits list f.outcome × (f.place ≡ place))))
 in-list facts notes list place h =
     let either : (contains_key notes (listed list place) || list_any (lists (listed list place)) (values facts)) ≡ true =
     sym (places-have facts notes (listed list place)) ∙ (listed-iff (tables_of facts notes) list place).0 h in
-    elim (contains_key notes (listed list place)) as (λ b. (b || list_any (lists (listed list place)) (values facts)) ≡ true → IsTrue b ⊎ ((f : Fact) × (Contains (values facts) f × (Fits list f.outcome × (f.place ≡ place))))) [
+    elim (contains_key notes (listed list place)) as (λ b. (b || list_any (lists (listed list place)) (values facts)) ≡ true
+    → IsTrue b ⊎ ((f : Fact) × (Contains (values facts) f × (Fits list f.outcome × (f.place ≡ place))))) [
       | true ↦ λ _. inl refl
       | false ↦ λ some.
           let one = some-passes (lists (listed list place)) (values facts) some in
@@ -140,59 +154,80 @@ in-list facts notes list place h =
     ] either
 
 -- what is noted is in its list
-pub noted-in : (facts : FinMap place_cmp Fact) (notes : FinSet listed_cmp) (list : l.List) (place : Place) → IsTrue (contains_key notes (listed list place)) → Contains (listed_in (tables_of facts notes) list) place
+pub noted-in : (facts : FinMap place_cmp Fact) (notes : FinSet listed_cmp) (list : l.List) (place : Place)
+    → IsTrue (contains_key notes (listed list place)) → Contains (listed_in (tables_of facts notes) list) place
 noted-in facts notes list place h =
-    (listed-iff (tables_of facts notes) list place).1 (places-have facts notes (listed list place) ∙ ap (λ b. b || list_any (lists (listed list place)) (values facts)) h)
+    (listed-iff (tables_of facts notes) list place).1 (places-have facts notes (listed list place)
+    ∙ ap (λ b. b || list_any (lists (listed list place)) (values facts)) h)
 
 -- a test passes somewhere where it passes at an element
 passes-at : (p : Fact → Bool) (fs : List Fact) (f : Fact) → Contains fs f → p f ≡ true → list_any p fs ≡ true
 passes-at p fs f h e = list_any_at p fs h.0 f h.1 (ap p h.2 ∙ e)
 
 -- a message's place is in the list of its outcome
-message-in : (facts : FinMap place_cmp Fact) (notes : FinSet listed_cmp) (list : l.List) (f : Fact) → Contains (values facts) f → lists (listed list f.place) f ≡ true → Contains (listed_in (tables_of facts notes) list) f.place
+message-in : (facts : FinMap place_cmp Fact) (notes : FinSet listed_cmp) (list : l.List) (f : Fact) → Contains (values facts) f
+    → lists (listed list f.place) f ≡ true → Contains (listed_in (tables_of facts notes) list) f.place
 message-in facts notes list f h e =
     (listed-iff (tables_of facts notes) list f.place).1
-    (places-have facts notes (listed list f.place) ∙ ap (λ b. contains_key notes (listed list f.place) || b) (passes-at (lists (listed list f.place)) (values facts) f h e) ∙ or-true (contains_key notes (listed list f.place)))
+    (places-have facts notes (listed list f.place)
+    ∙ ap (λ b. contains_key notes (listed list f.place) || b) (passes-at (lists (listed list f.place)) (values facts) f h e)
+    ∙ or-true (contains_key notes (listed list f.place)))
 
 -- one of an outcome stands at its place
-stands-at : (list : l.List) (outcome : Outcome) → (f : Fact) → f.outcome ≡ outcome → list_any (same_listed (listed list f.place)) (listings_by outcome f.place) ≡ true → lists (listed list f.place) f ≡ true
+stands-at : (list : l.List) (outcome : Outcome) → (f : Fact) → f.outcome ≡ outcome
+    → list_any (same_listed (listed list f.place)) (listings_by outcome f.place) ≡ true → lists (listed list f.place) f ≡ true
 stands-at list outcome f e h = ap (λ (x : Outcome). list_any (same_listed (listed list f.place)) (listings_by x f.place)) e ∙ h
 
 found-in : (facts : FinMap place_cmp Fact) (notes : FinSet listed_cmp) (list : l.List) (outcome : Outcome) (place : Place)
-    → ((at : Place) → list_any (same_listed (listed list at)) (listings_by outcome at) ≡ true) → HasOutcomeAt facts outcome place → Contains (listed_in (tables_of facts notes) list) place
+    → ((at : Place) → list_any (same_listed (listed list at)) (listings_by outcome at) ≡ true) → HasOutcomeAt facts outcome place
+    → Contains (listed_in (tables_of facts notes) list) place
 found-in facts notes list outcome place h has =
     let f = has.0 in
-    subst (λ (p : Place). Contains (listed_in (tables_of facts notes) list) p) has.2 (message-in facts notes list f has.1 (stands-at list outcome f has.3 (h f.place)))
+    subst (λ (p : Place). Contains (listed_in (tables_of facts notes) list) p) has.2
+    (message-in facts notes list f has.1 (stands-at list outcome f has.3 (h f.place)))
 
 itself : (list : l.List) (place : Place) → list_any (same_listed (listed list place)) (listed list place ∷ []) ≡ true
 itself list place = or-false (same_listed (listed list place) (listed list place)) ∙ (eq_by_cmp_equiv listed_total).refl (listed list place)
 
-pub open-listed : (facts : FinMap place_cmp Fact) (notes : FinSet listed_cmp) (place : Place) → Contains (listed_in (tables_of facts notes) lists_of.Open) place ↔ (IsTrue (contains_key notes (listed lists_of.Open place)) ⊎ HasOutcomeAt facts o.Open place)
+pub open-listed : (facts : FinMap place_cmp Fact) (notes : FinSet listed_cmp) (place : Place)
+    → Contains (listed_in (tables_of facts notes) lists_of.Open) place
+    ↔ (IsTrue (contains_key notes (listed lists_of.Open place)) ⊎ HasOutcomeAt facts o.Open place)
 open-listed facts notes place = (λ h. to (in-list facts notes lists_of.Open place h), from)
   where
-    to : IsTrue (contains_key notes (listed lists_of.Open place)) ⊎ ((f : Fact) × (Contains (values facts) f × (Fits lists_of.Open f.outcome × (f.place ≡ place)))) → IsTrue (contains_key notes (listed lists_of.Open place)) ⊎ HasOutcomeAt facts o.Open place
+    to : IsTrue (contains_key notes (listed lists_of.Open place))
+        ⊎ ((f : Fact) × (Contains (values facts) f × (Fits lists_of.Open f.outcome × (f.place ≡ place))))
+        → IsTrue (contains_key notes (listed lists_of.Open place)) ⊎ HasOutcomeAt facts o.Open place
     to (inl h) = inl h
     to (inr h) = inr (h.0, h.1.0, h.1.1.1, is-open lists_of.Open h.0.outcome refl h.1.1.0)
 
-    from : IsTrue (contains_key notes (listed lists_of.Open place)) ⊎ HasOutcomeAt facts o.Open place → Contains (listed_in (tables_of facts notes) lists_of.Open) place
+    from : IsTrue (contains_key notes (listed lists_of.Open place)) ⊎ HasOutcomeAt facts o.Open place
+        → Contains (listed_in (tables_of facts notes) lists_of.Open) place
     from (inl h) = noted-in facts notes lists_of.Open place h
     from (inr h) = found-in facts notes lists_of.Open o.Open place (itself lists_of.Open) h
 
-pub lapsed-listed : (facts : FinMap place_cmp Fact) (notes : FinSet listed_cmp) (place : Place) → Contains (listed_in (tables_of facts notes) lists_of.Lapsed) place ↔ (IsTrue (contains_key notes (listed lists_of.Lapsed place)) ⊎ HasOutcomeAt facts o.Lapsed place)
+pub lapsed-listed : (facts : FinMap place_cmp Fact) (notes : FinSet listed_cmp) (place : Place)
+    → Contains (listed_in (tables_of facts notes) lists_of.Lapsed) place
+    ↔ (IsTrue (contains_key notes (listed lists_of.Lapsed place)) ⊎ HasOutcomeAt facts o.Lapsed place)
 lapsed-listed facts notes place = (λ h. to (in-list facts notes lists_of.Lapsed place h), from)
   where
-    to : IsTrue (contains_key notes (listed lists_of.Lapsed place)) ⊎ ((f : Fact) × (Contains (values facts) f × (Fits lists_of.Lapsed f.outcome × (f.place ≡ place)))) → IsTrue (contains_key notes (listed lists_of.Lapsed place)) ⊎ HasOutcomeAt facts o.Lapsed place
+    to : IsTrue (contains_key notes (listed lists_of.Lapsed place))
+        ⊎ ((f : Fact) × (Contains (values facts) f × (Fits lists_of.Lapsed f.outcome × (f.place ≡ place))))
+        → IsTrue (contains_key notes (listed lists_of.Lapsed place)) ⊎ HasOutcomeAt facts o.Lapsed place
     to (inl h) = inl h
     to (inr h) = inr (h.0, h.1.0, h.1.1.1, is-lapsed lists_of.Lapsed h.0.outcome refl h.1.1.0)
 
-    from : IsTrue (contains_key notes (listed lists_of.Lapsed place)) ⊎ HasOutcomeAt facts o.Lapsed place → Contains (listed_in (tables_of facts notes) lists_of.Lapsed) place
+    from : IsTrue (contains_key notes (listed lists_of.Lapsed place)) ⊎ HasOutcomeAt facts o.Lapsed place
+        → Contains (listed_in (tables_of facts notes) lists_of.Lapsed) place
     from (inl h) = noted-in facts notes lists_of.Lapsed place h
     from (inr h) = found-in facts notes lists_of.Lapsed o.Lapsed place (itself lists_of.Lapsed) h
 
-pub others-listed : (facts : FinMap place_cmp Fact) (notes : FinSet listed_cmp) (list : l.List) (place : Place) → list ≢ lists_of.Open → list ≢ lists_of.Lapsed
+pub others-listed : (facts : FinMap place_cmp Fact) (notes : FinSet listed_cmp) (list : l.List) (place : Place)
+    → list ≢ lists_of.Open → list ≢ lists_of.Lapsed
     → Contains (listed_in (tables_of facts notes) list) place ↔ IsTrue (contains_key notes (listed list place))
 others-listed facts notes list place other never = (λ h. to (in-list facts notes list place h), noted-in facts notes list place)
   where
-    to : IsTrue (contains_key notes (listed list place)) ⊎ ((f : Fact) × (Contains (values facts) f × (Fits list f.outcome × (f.place ≡ place)))) → IsTrue (contains_key notes (listed list place))
+    to : IsTrue (contains_key notes (listed list place))
+        ⊎ ((f : Fact) × (Contains (values facts) f × (Fits list f.outcome × (f.place ≡ place))))
+        → IsTrue (contains_key notes (listed list place))
     to (inl h) = h
     to (inr h) = is-neither list h.0.outcome other never h.1.1.0

@@ -31,27 +31,33 @@ get-count : (es : List (CountKey × ℕ)) (q : CountKey) → get (from_entries {
 get-count es q = ordered.get-kept count_keys_total count_keys_exact count_key-order es q
 
 -- the count that a look-up gives
-pub count-found : (es : List (CountKey × ℕ)) (ks : List Listed) (t : TablesValue) (q : CountKey) (n : ℕ) → seen es ks ≡ t → Some n ≡ lookup (is_at (kept_cmp q)) es → n ≡ count_of t q
+pub count-found : (es : List (CountKey × ℕ)) (ks : List Listed) (t : TablesValue) (q : CountKey) (n : ℕ) → seen es ks ≡ t
+    → Some n ≡ lookup (is_at (kept_cmp q)) es → n ≡ count_of t q
 count-found es ks t q n is found = ap (λ c. unwrap_or c 0) (found ∙ sym (get-count es q)) ∙ ap (λ (u : TablesValue). count_of u q) is
 
-pub count-missed : (es : List (CountKey × ℕ)) (ks : List Listed) (t : TablesValue) (q : CountKey) → seen es ks ≡ t → None ≡ lookup (is_at (kept_cmp q)) es → 0 ≡ count_of t q
+pub count-missed : (es : List (CountKey × ℕ)) (ks : List Listed) (t : TablesValue) (q : CountKey) → seen es ks ≡ t
+    → None ≡ lookup (is_at (kept_cmp q)) es → 0 ≡ count_of t q
 count-missed es ks t q is found = ap (λ (c : Option ℕ). unwrap_or c 0) (found ∙ sym (get-count es q)) ∙ ap (λ (u : TablesValue). count_of u q) is
 
 -- one entry differs
-pub put-seen : (es fs : List (CountKey × ℕ)) (k : CountKey) (n : ℕ) → ((q : CountKey) → lookup (is_at (kept_cmp q)) fs ≡ cond (is_at (kept_cmp k) q) (Some n) (lookup (is_at (kept_cmp q)) es))
+pub put-seen : (es fs : List (CountKey × ℕ)) (k : CountKey) (n : ℕ)
+    → ((q : CountKey) → lookup (is_at (kept_cmp q)) fs ≡ cond (is_at (kept_cmp k) q) (Some n) (lookup (is_at (kept_cmp q)) es))
     → from_entries {R = count_cmp} fs ≡ insert (from_entries es) k n
 put-seen es fs k n h = ordered.put-kept count_keys_total count_keys_exact count_key-order es fs k n h
 
 pub more-seen : (es fs : List (CountKey × ℕ)) (ks : List Listed) (t : TablesValue) (k : CountKey) (n : ℕ) → seen es ks ≡ t → n ≡ count_of t k
-    → ((q : CountKey) → lookup (is_at (kept_cmp q)) fs ≡ cond (is_at (kept_cmp k) q) (Some (n + 1)) (lookup (is_at (kept_cmp q)) es)) → seen fs ks ≡ one_more t k
+    → ((q : CountKey) → lookup (is_at (kept_cmp q)) fs
+    ≡ cond (is_at (kept_cmp k) q) (Some (n + 1)) (lookup (is_at (kept_cmp q)) es)) → seen fs ks ≡ one_more t k
 more-seen es fs ks t k n is count h =
     ap (λ (m : FinMap count_cmp ℕ). record { counts = m; places = listed_set ks }) (put-seen es fs k (n + 1) h)
     ∙ (λ i. record { counts = insert (is i).counts k (count i + 1); places = (is i).places })
 
 pub more-listed : (es : List (CountKey × ℕ)) (ks ls : List Listed) (t : TablesValue) (note : Listed) → seen es ks ≡ t
-    → ((q : Listed) → list_any (is_at (kept_listed_cmp q)) ls ≡ cond (is_at (kept_listed_cmp note) q) true (list_any (is_at (kept_listed_cmp q)) ks)) → seen es ls ≡ one_listed t note
+    → ((q : Listed) → list_any (is_at (kept_listed_cmp q)) ls
+    ≡ cond (is_at (kept_listed_cmp note) q) true (list_any (is_at (kept_listed_cmp q)) ks)) → seen es ls ≡ one_listed t note
 more-listed es ks ls t note is h =
-    ap (λ (s : FinSet listed_cmp). record { counts = from_entries es; places = s }) (note-seen ks ls note h) ∙ ap (λ (u : TablesValue). one_listed u note) is
+    ap (λ (s : FinSet listed_cmp). record { counts = from_entries es; places = s }) (note-seen ks ls note h)
+    ∙ ap (λ (u : TablesValue). one_listed u note) is
 
 -- ---- one fewer
 
@@ -61,7 +67,8 @@ some-positive (suc n) h = refl
 
 -- a count above 1 goes back by one
 pub less-seen : (es fs : List (CountKey × ℕ)) (ks : List Listed) (t : TablesValue) (k : CountKey) (n : ℕ) → seen es ks ≡ t → n ≡ count_of t k → 1 < n
-    → ((q : CountKey) → lookup (is_at (kept_cmp q)) fs ≡ cond (is_at (kept_cmp k) q) (Some (n - 1)) (lookup (is_at (kept_cmp q)) es)) → seen fs ks ≡ one_less t k
+    → ((q : CountKey) → lookup (is_at (kept_cmp q)) fs
+    ≡ cond (is_at (kept_cmp k) q) (Some (n - 1)) (lookup (is_at (kept_cmp q)) es)) → seen fs ks ≡ one_less t k
 less-seen es fs ks t k n is count above h =
     let left : positive (count_of t k - 1) ≡ Some (n - 1) = ap (λ m. positive (m - 1)) (sym count) ∙ some-positive (n - 1) (omega (arith, above)) in
     ap (λ (m : FinMap count_cmp ℕ). record { counts = m; places = listed_set ks }) (put-seen es fs k (n - 1) h)
@@ -70,10 +77,12 @@ less-seen es fs ks t k n is count above h =
 
 -- a count of 1 is taken out
 pub gone-seen : (es fs : List (CountKey × ℕ)) (ks : List Listed) (t : TablesValue) (k : CountKey) (n : ℕ) → seen es ks ≡ t → n ≡ count_of t k → n < 2
-    → ((q : CountKey) → lookup (is_at (kept_cmp q)) fs ≡ cond (is_at (kept_cmp k) q) None (lookup (is_at (kept_cmp q)) es)) → seen fs ks ≡ one_less t k
+    → ((q : CountKey) → lookup (is_at (kept_cmp q)) fs ≡ cond (is_at (kept_cmp k) q) None (lookup (is_at (kept_cmp q)) es))
+    → seen fs ks ≡ one_less t k
 gone-seen es fs ks t k n is count below h =
     let none : count_of t k - 1 ≡ 0 = omega (arith, count, below) in
-    ap (λ (m : FinMap count_cmp ℕ). record { counts = m; places = listed_set ks }) (remove-kept count_keys_total count_keys_exact count_key-order es fs k h)
+    ap (λ (m : FinMap count_cmp ℕ). record { counts = m; places = listed_set ks })
+    (remove-kept count_keys_total count_keys_exact count_key-order es fs k h)
     ∙ ap (λ (o : Option ℕ). record { counts = set_at (from_entries {R = count_cmp} es) k o; places = listed_set ks }) (sym (ap positive none))
     ∙ (λ i. record { counts = set_at (is i).counts k (positive (count_of t k - 1)); places = (is i).places })
 
@@ -82,13 +91,17 @@ gone-seen es fs ks t k n is count below h =
 -- whether a place is listed, by the code's set
 pub has-seen : (ks : List Listed) (q : Listed) → contains_key (listed_set ks) q ≡ list_any (is_at (kept_listed_cmp q)) ks
 has-seen ks q =
-    ap is_some (ordered.get-kept listed_total listed_exact listed-order (map (λ e. (e, tt)) ks) q ∙ marked-any (is_at (kept_listed_cmp q)) ks) ∙ is-marked (list_any (is_at (kept_listed_cmp q)) ks)
+    ap is_some (ordered.get-kept listed_total listed_exact listed-order (map (λ e. (e, tt)) ks) q
+    ∙ marked-any (is_at (kept_listed_cmp q)) ks) ∙ is-marked (list_any (is_at (kept_listed_cmp q)) ks)
 
-pub has-listed : (es : List (CountKey × ℕ)) (ks : List Listed) (t : TablesValue) (q : Listed) → seen es ks ≡ t → list_any (is_at (kept_listed_cmp q)) ks ≡ contains_key t.places q
+pub has-listed : (es : List (CountKey × ℕ)) (ks : List Listed) (t : TablesValue) (q : Listed) → seen es ks ≡ t
+    → list_any (is_at (kept_listed_cmp q)) ks ≡ contains_key t.places q
 has-listed es ks t q is = sym (has-seen ks q) ∙ ap (λ (u : TablesValue). contains_key u.places q) is
 
 pub unlisted-seen : (ks ls : List Listed) (note : Listed)
-    → ((q : Listed) → list_any (is_at (kept_listed_cmp q)) ls ≡ cond (is_at (kept_listed_cmp note) q) false (list_any (is_at (kept_listed_cmp q)) ks)) → listed_set ls ≡ remove (listed_set ks) note
+    → ((q : Listed) → list_any (is_at (kept_listed_cmp q)) ls
+    ≡ cond (is_at (kept_listed_cmp note) q) false (list_any (is_at (kept_listed_cmp q)) ks))
+    → listed_set ls ≡ remove (listed_set ks) note
 unlisted-seen ks ls note h =
     remove-kept listed_total listed_exact listed-order (map (λ e. (e, tt)) ks) (map (λ e. (e, tt)) ls) note (λ q.
     marked-any (is_at (kept_listed_cmp q)) ls
@@ -101,9 +114,11 @@ unlisted-seen ks ls note h =
     no-mark false c = refl
 
 pub less-listed : (es : List (CountKey × ℕ)) (ks ls : List Listed) (t : TablesValue) (note : Listed) → seen es ks ≡ t
-    → ((q : Listed) → list_any (is_at (kept_listed_cmp q)) ls ≡ cond (is_at (kept_listed_cmp note) q) false (list_any (is_at (kept_listed_cmp q)) ks)) → seen es ls ≡ one_unlisted t note
+    → ((q : Listed) → list_any (is_at (kept_listed_cmp q)) ls
+    ≡ cond (is_at (kept_listed_cmp note) q) false (list_any (is_at (kept_listed_cmp q)) ks)) → seen es ls ≡ one_unlisted t note
 less-listed es ks ls t note is h =
-    ap (λ (s : FinSet listed_cmp). record { counts = from_entries es; places = s }) (unlisted-seen ks ls note h) ∙ ap (λ (u : TablesValue). one_unlisted u note) is
+    ap (λ (s : FinSet listed_cmp). record { counts = from_entries es; places = s }) (unlisted-seen ks ls note h)
+    ∙ ap (λ (u : TablesValue). one_unlisted u note) is
 
 -- ---- nothing yet
 
@@ -113,6 +128,7 @@ nothing-seen es ks none no-places =
     let notes : entries (empty {X = Unit {0}} {R = listed_cmp}) ≡ [] = no-entries listed_cmp (Unit {0}) in
     (λ i. seen (none i) (no-places i))
     ∙ (λ i. record {
-      counts = from_entries (map (λ key. (key, count_by (stands_in key) (map (λ e. e.1) (sym facts i)))) (flat_map keys_of_fact (map (λ e. e.1) (sym facts i))));
+      counts = from_entries (map (λ key. (key, count_by (stands_in key) (map (λ e. e.1) (sym facts i))))
+          (flat_map keys_of_fact (map (λ e. e.1) (sym facts i))));
       places = listed_set (map (λ e. e.0) (sym notes i) ++ flat_map listings_of_fact (map (λ e. e.1) (sym facts i)));
     })

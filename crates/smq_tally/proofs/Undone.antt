@@ -14,7 +14,8 @@ module _ {K X : Type 0} {R : K → K → Ordering} (o : IsTotalOrder R) (exact :
   -- a key that has again what it had
   pub put-back : (m : FinMap R X) (k : K) (v : X) → set_at (insert m k v) k (get m k) ≡ m
   put-back m k v = same_map o exact _ _ (λ q.
-      maps.get-set_at o exact (insert m k v) k (get m k) q ∙ ap (cond (eq_by_cmp R q k) (get m k)) (get-insert o m k v q) ∙ there q (eq_by_cmp R q k) refl)
+      maps.get-set_at o exact (insert m k v) k (get m k) q ∙ ap (cond (eq_by_cmp R q k) (get m k)) (get-insert o m k v q)
+      ∙ there q (eq_by_cmp R q k) refl)
     where
       there : (q : K) (b : Bool) → eq_by_cmp R q k ≡ b → cond b (get m k) (cond b (Some v) (get m q)) ≡ get m q
       there q true e = ap (get m) (sym (maps.same_key o exact q k e))
@@ -26,10 +27,12 @@ module _ {K X : Type 0} {R : K → K → Ordering} (o : IsTotalOrder R) (exact :
 
   module _ {kept : K → K → Ordering} (same : kept ≡ R) where
     -- an entry is taken out of the code's map
-    pub remove-kept : (es fs : List (K × X)) (k : K) → ((q : K) → lookup (is_at (kept q)) fs ≡ cond (is_at (kept k) q) None (lookup (is_at (kept q)) es))
+    pub remove-kept : (es fs : List (K × X)) (k : K)
+        → ((q : K) → lookup (is_at (kept q)) fs ≡ cond (is_at (kept k) q) None (lookup (is_at (kept q)) es))
         → from_entries {R = R} fs ≡ remove (from_entries es) k
     remove-kept es fs k h = same_map o exact _ _ (λ q.
-        ordered.get-kept o exact same fs q ∙ h q ∙ (λ i. cond (tied q i) None (sym (ordered.get-kept o exact same es q) i)) ∙ sym (get-remove o (from_entries es) k q))
+        ordered.get-kept o exact same fs q ∙ h q ∙ (λ i. cond (tied q i) None (sym (ordered.get-kept o exact same es q) i))
+        ∙ sym (get-remove o (from_entries es) k q))
       where
         tied : (q : K) → is_at (kept k) q ≡ eq_by_cmp R q k
         tied q = (λ i. is_eq (same i k q)) ∙ (eq_by_cmp_equiv o).symm k q

@@ -72,10 +72,12 @@ begins : (view : View) (q : CountKey) → is_le (count_cmp (first_key view) q) �
 begins view q =
     let within : is_le (ordering_then (value_cmp first_value q.value) (nat_cmp 0 (outcome_rank q.outcome))) ≡ true =
     then_le (value_cmp first_value q.value) (nat_cmp 0 (outcome_rank q.outcome)) (first_le q.value) (le_zero (outcome_rank q.outcome)) in
-    then_least (nat_cmp (view_rank view) (view_rank q.view)) (ordering_then (value_cmp first_value q.value) (nat_cmp 0 (outcome_rank q.outcome))) within
+    then_least (nat_cmp (view_rank view) (view_rank q.view))
+    (ordering_then (value_cmp first_value q.value) (nat_cmp 0 (outcome_rank q.outcome))) within
 
 -- of a view are the keys from its first possible one up to the next view's
-up_to_next : (view next : View) → view_rank next ≡ view_rank view + 1 → (q : CountKey) → range_contains kept_cmp (Included (first_key view)) (Excluded (first_key next)) q ≡ (view_rank q.view == view_rank view)
+up_to_next : (view next : View) → view_rank next ≡ view_rank view + 1 → (q : CountKey)
+    → range_contains kept_cmp (Included (first_key view)) (Excluded (first_key next)) q ≡ (view_rank q.view == view_rank view)
 up_to_next view next e q =
     ap (λ (R : CountKey → CountKey → Ordering). range_contains R (Included (first_key view)) (Excluded (first_key next)) q) count_key-order
     ∙ (λ i. begins view q i && not (begins next q i))
@@ -83,36 +85,43 @@ up_to_next view next e q =
     ∙ one_number (view_rank view) (view_rank q.view)
 
 -- of the last view are all from its first possible one
-up_to_end : (view : View) → ((other : View) → view_rank other ≤ view_rank view) → (q : CountKey) → range_contains kept_cmp (Included (first_key view)) Unbounded q ≡ (view_rank q.view == view_rank view)
+up_to_end : (view : View) → ((other : View) → view_rank other ≤ view_rank view) → (q : CountKey)
+    → range_contains kept_cmp (Included (first_key view)) Unbounded q ≡ (view_rank q.view == view_rank view)
 up_to_end view most q =
     ap (λ (R : CountKey → CountKey → Ordering). range_contains R (Included (first_key view)) Unbounded q) count_key-order
     ∙ (λ i. begins view q i && not false)
     ∙ last_number (view_rank view) (view_rank q.view) (most q.view)
 
 -- a view begins before the next one does
-pub view-forward : (view next : View) (first limit : CountKey) → first ≡ first_key view → limit ≡ first_key next → Some next ≡ slice_get views (view_rank view + 1) → is_gt (kept_cmp first limit) ≡ false
+pub view-forward : (view next : View) (first limit : CountKey) → first ≡ first_key view → limit ≡ first_key next
+    → Some next ≡ slice_get views (view_rank view + 1) → is_gt (kept_cmp first limit) ≡ false
 view-forward view next first limit one other e =
-    (λ i. is_gt (count_key-order i (one i) (other i))) ∙ ap (λ n. is_gt (ordering_then (nat_cmp (view_rank view) n) Equal)) (view_next view next e) ∙ before (view_rank view)
+    (λ i. is_gt (count_key-order i (one i) (other i)))
+    ∙ ap (λ n. is_gt (ordering_then (nat_cmp (view_rank view) n) Equal)) (view_next view next e) ∙ before (view_rank view)
   where
     before : (n : ℕ) → is_gt (ordering_then (nat_cmp n (n + 1)) Equal) ≡ false
     before n = ap (λ r. is_gt (ordering_then r Equal)) (sym (nat_cmp_is n (n + 1) Less (omega arith)))
 
 -- ---- the code's part of the map, which is a run of it, has the rows of the view
 
-ranged : (t : TablesValue) (view : View) (es left : List (CountKey × ℕ)) (inside : CountKey → Bool) → from_entries es ≡ t.counts → IsStrictlySortedBy kept_cmp (keys_of es)
+ranged : (t : TablesValue) (view : View) (es left : List (CountKey × ℕ)) (inside : CountKey → Bool) → from_entries es ≡ t.counts
+    → IsStrictlySortedBy kept_cmp (keys_of es)
     → ((q : CountKey) → inside q ≡ (view_rank q.view == view_rank view)) → left ≡ filter (λ e. inside e.0) es → map shown_row left ≡ rows_of t view
 ranged t view es left inside is sorted same taken =
     ap (λ (xs : List (CountKey × ℕ)). map shown_row xs) (taken ∙ (λ i. filter (λ e. same e.0 i) (sym (entries-seen es sorted) i)))
     ∙ ap (λ (m : FinMap count_cmp ℕ). map shown_row (filter (in_view view) (entries m))) is
 
-pub rows-next : (t : TablesValue) (view next : View) (first limit : CountKey) (es left : List (CountKey × ℕ)) → first ≡ first_key view → limit ≡ first_key next → from_entries es ≡ t.counts
+pub rows-next : (t : TablesValue) (view next : View) (first limit : CountKey) (es left : List (CountKey × ℕ))
+    → first ≡ first_key view → limit ≡ first_key next → from_entries es ≡ t.counts
     → IsStrictlySortedBy kept_cmp (keys_of es) → Some next ≡ slice_get views (view_rank view + 1)
     → left ≡ filter (λ e. range_contains kept_cmp (Included first) (Excluded limit) e.0) es → map shown_row left ≡ rows_of t view
 rows-next t view next first limit es left one other is sorted e taken =
-    ranged t view es left (range_contains kept_cmp (Included (first_key view)) (Excluded (first_key next))) is sorted (up_to_next view next (view_next view next e))
+    ranged t view es left (range_contains kept_cmp (Included (first_key view)) (Excluded (first_key next))) is sorted
+    (up_to_next view next (view_next view next e))
     (taken ∙ (λ i. filter (λ x. range_contains kept_cmp (Included (one i)) (Excluded (other i)) x.0) es))
 
-pub rows-end : (t : TablesValue) (view : View) (first : CountKey) (es left : List (CountKey × ℕ)) → first ≡ first_key view → from_entries es ≡ t.counts
+pub rows-end : (t : TablesValue) (view : View) (first : CountKey) (es left : List (CountKey × ℕ)) → first ≡ first_key view
+    → from_entries es ≡ t.counts
     → IsStrictlySortedBy kept_cmp (keys_of es) → None ≡ slice_get views (view_rank view + 1)
     → left ≡ filter (λ e. range_contains kept_cmp (Included first) Unbounded e.0) es → map shown_row left ≡ rows_of t view
 rows-end t view first es left one is sorted e taken =

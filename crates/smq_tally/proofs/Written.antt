@@ -51,9 +51,13 @@ module _ (es : List (Place × Fact)) (notes : List Listed) where
       ≡ map (λ e. e.place) (filter (in_list list) (places_in_order (places_in_order notes ++ flat_map listings_of_fact facts)))
   listed-at list =
       ap (λ xs. map (λ e. e.place) (filter (in_list list) (map (λ x. x.0) xs)))
-      (entries-in_order listed_total (map (λ e. (e, tt)) (map (λ x. x.0) (entries (listed_set notes)) ++ flat_map listings_of_fact (values (from_entries {R = place_cmp} es)))))
-      ∙ (λ i. map (λ e. e.place) (filter (in_list list) (places_in_order (map (λ x. x.0) (entries-in_order listed_total (map (λ (e : Listed). (e, tt)) notes) i) ++ flat_map listings_of_fact (have i)))))
+      (entries-in_order listed_total (map (λ e. (e, tt)) (map (λ x. x.0) (entries (listed_set notes))
+      ++ flat_map listings_of_fact (values (from_entries {R = place_cmp} es)))))
+      ∙ (λ i. map (λ e. e.place) (filter (in_list list)
+      (places_in_order (map (λ x. x.0) (entries-in_order listed_total (map (λ (e : Listed). (e, tt)) notes) i)
+      ++ flat_map listings_of_fact (have i)))))
 
 -- the same without facts
-pub listed-without : (notes : List Listed) (list : l.List) → listed_in (tables_of empty (listed_set notes)) list ≡ map (λ e. e.place) (filter (in_list list) (places_in_order (places_in_order notes ++ [])))
+pub listed-without : (notes : List Listed) (list : l.List) → listed_in (tables_of empty (listed_set notes)) list
+    ≡ map (λ e. e.place) (filter (in_list list) (places_in_order (places_in_order notes ++ [])))
 listed-without notes list = listed-at [] notes list

@@ -1,5 +1,5 @@
 //! What wants looking at: places, in lists. Lists are declared in the order in which reports print them. Who adds one
-//! gives it its place here and in specs/Lists.antt, and its name in Names.antt; the law of their order says whether
+//! gives it its rank here and in specs/Lists.antt, and its name in Names.antt; the law of their order says whether
 //! they agree.
 ghost use Rattle.std.specs.Prelude.{◌≡◌};
 

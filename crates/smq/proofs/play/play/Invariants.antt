@@ -7,6 +7,7 @@ use Rattle.smq.proofs.play.play.Given as goal
 abbrev pub invariant-loop-row : goal.invariant-loop-row
 invariant-loop-row l = record {
   present : after_rows l.book.present (into_iter_items l.row-iterator) ≡ after_rows l.fn.book.present l.fn.rows.items;
-  refused : l.refused.items ++ refused_from (suc l.number) l.book.present (into_iter_items l.row-iterator) ≡ refused_from 1 l.fn.book.present l.fn.rows.items;
+  refused : l.refused.items ++ refused_from (suc l.number) l.book.present (into_iter_items l.row-iterator)
+      ≡ refused_from 1 l.fn.book.present l.fn.rows.items;
   numbered : l.number + length (into_iter_items l.row-iterator) ≡ length l.fn.rows.items;
 }

@@ -8,7 +8,8 @@ returns-clause-rules c =
     let (format_is, format_local) = c.format_option.ensures in
     let (settings_is, settings_local) = c.settings_option.ensures in
     IfOk-weaker c.arg-2.result _ _
-    (λ made h. h.shape settings_local ∙ ap₂ with_rule (c.in_ok-arg.ensures.shape format_local ∙ ap (with_rule _) format_is) settings_is) c.arg-2.ensures
+    (λ made h. h.shape settings_local ∙ ap₂ with_rule (c.in_ok-arg.ensures.shape format_local ∙ ap (with_rule _) format_is)
+    settings_is) c.arg-2.ensures
 
 or_none : (a b : Bool) → b ≡ false → (a || b) ≡ a
 or_none true b h = refl
@@ -17,4 +18,5 @@ or_none false b h = h
 pub returns-clause-local : goal.returns-clause-local
 returns-clause-local c =
     IfOk-weaker c.arg-2.result _ _
-    (λ made h. h.globals ∙ or_none _ _ c.settings_option.ensures.1 ∙ c.in_ok-arg.ensures.globals ∙ or_none _ _ c.format_option.ensures.1) c.arg-2.ensures
+    (λ made h. h.globals ∙ or_none _ _ c.settings_option.ensures.1 ∙ c.in_ok-arg.ensures.globals
+    ∙ or_none _ _ c.format_option.ensures.1) c.arg-2.ensures

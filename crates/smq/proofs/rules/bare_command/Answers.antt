@@ -1,6 +1,5 @@
-use Rattle.std.proofs.Common.{◌≡◌, ◌∙◌, ap, codes, true}
+use Rattle.std.proofs.Common.{◌∙◌, ap, true}
 use Rattle.clap.specs.Simple.{App, app_of_fields, on_top}
-use Rattle.clap.specs.Words.{new_app}
 use Rattle.clap.specs.declared.builder.command.Command.{Command}
 use Rattle.clap.specs.declared.builder.command.Command.TheOpen.{Command-F}
 use Rattle.smq.proofs.rules.bare_command.Goals as goal

@@ -18,9 +18,12 @@ returns c = record {
       rows-unique a b (sym h.say_rows ∙ ap (map row_of) same ∙ k.say_rows);
   one_bad = λ text a b h k.
       let same = AreRecords-unique st.StartRecord (strip_bom text) _ _ h.are_records k.are_records in
-      let length_same = first-unique 0 h.before k.before h.bad k.bad h.after k.after h.rows k.rows same h.say_rows k.say_rows (omega (arith, h.in_range)) (omega (arith, k.in_range)) (subst (λ n. IsBadAfter n h.bad) (omega arith) h.is_bad) (subst (λ n. IsBadAfter n k.bad) (omega arith) k.is_bad) in
+      let length_same = first-unique 0 h.before k.before h.bad k.bad h.after k.after h.rows k.rows same h.say_rows k.say_rows
+      (omega (arith, h.in_range)) (omega (arith, k.in_range)) (subst (λ n. IsBadAfter n h.bad) (omega arith) h.is_bad)
+      (subst (λ n. IsBadAfter n k.bad) (omega arith) k.is_bad) in
       h.numbered ∙ ap (λ n. n + 1) length_same ∙ sym k.numbered;
   apart = λ text rows number h k.
       let same = AreRecords-unique st.StartRecord (strip_bom text) _ _ h.are_records k.are_records in
-      script_and_bad 0 k.before k.bad k.after rows (rw (← same) h.say_rows) (omega (arith, ap length same, h.in_range)) (subst (λ n. IsBadAfter n k.bad) (omega arith) k.is_bad);
+      script_and_bad 0 k.before k.bad k.after rows (rw (← same) h.say_rows) (omega (arith, ap length same, h.in_range))
+      (subst (λ n. IsBadAfter n k.bad) (omega arith) k.is_bad);
 }

@@ -4,12 +4,15 @@ use Rattle.smq_load.proofs.link_forms.are_distinct.Goals as goal
 pub returns-then-not-branch : goal.returns-then-not-branch
 returns-then-not-branch c =
     let so_far = c.loop-forms.invariant in
-    again_at c.args.links.now c.loop-forms.forms-index _ c.loop-forms.numbers c.in_ok-insert.field-0 c.loop-forms-test.true so_far.members c.in_ok-insert.ensures.added c.if-not-branch.true
+    again_at c.args.links.now c.loop-forms.forms-index _ c.loop-forms.numbers c.in_ok-insert.field-0 c.loop-forms-test.true
+    so_far.members c.in_ok-insert.ensures.added c.if-not-branch.true
 
 pub loop-forms-preserved : goal.loop-forms-preserved
 loop-forms-preserved c =
     let so_far = c.loop-forms.invariant in
     record {
-      distinct = distinct_more c.args.links.now c.loop-forms.forms-index _ c.loop-forms.numbers c.in_ok-insert.field-0 c.loop-forms-test.true so_far.distinct so_far.members c.in_ok-insert.ensures.added c.if-not-branch.false;
-      members = members_more c.args.links.now c.loop-forms.forms-index _ c.loop-forms.numbers c.insert.new.self c.loop-forms-test.true so_far.members c.in_ok-insert.ensures.updates;
+      distinct = distinct_more c.args.links.now c.loop-forms.forms-index _ c.loop-forms.numbers c.in_ok-insert.field-0
+          c.loop-forms-test.true so_far.distinct so_far.members c.in_ok-insert.ensures.added c.if-not-branch.false;
+      members = members_more c.args.links.now c.loop-forms.forms-index _ c.loop-forms.numbers c.insert.new.self
+          c.loop-forms-test.true so_far.members c.in_ok-insert.ensures.updates;
     }

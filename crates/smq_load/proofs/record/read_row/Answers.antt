@@ -11,7 +11,8 @@ pub returns-then-len-field_count : goal.returns-then-len-field_count
 returns-then-len-field_count c =
     let fields = fields_of c.args.fields.now in
     let named = row_of-some fields c.in-Some.kind (sym c.read_kind.ensures ∙ c.in-Some.is) in
-    let other : length fields ≡ field_count_of c.in-Some.kind → ⊥ = λ same. c.if-len-field_count.true (c.len.ensures ∙ same ∙ sym c.field_count.ensures) in
+    let other : length fields ≡ field_count_of c.in-Some.kind → ⊥ = λ same. c.if-len-field_count.true (c.len.ensures ∙ same
+    ∙ sym c.field_count.ensures) in
     sym (named ∙ row_of_kind-other c.in-Some.kind fields other)
 
 pub returns : goal.returns

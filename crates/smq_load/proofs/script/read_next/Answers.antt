@@ -9,7 +9,8 @@ returns-in_err-push_row-clause-err g c text read =
     let given = c.in_ok-read_record.ensures.found text read.records read.given (search rules) in
     let told = Tells-next g.R.Read.remaining c.args.reader.now c.read_record.new.reader text c.args.rows.now.items
     (fields_of c.read_record.new.fields) c.in_err-push_row.field-0.0 read given c.requires c.in_err-push_row.ensures.bad_row in
-    passed_on (λ fault. Tells fault text) c.from_residual-in_err-push_row.result c.in_err-push_row.field-0.0 c.from_residual-in_err-push_row.ensures.1 told
+    passed_on (λ fault. Tells fault text) c.from_residual-in_err-push_row.result c.in_err-push_row.field-0.0
+    c.from_residual-in_err-push_row.ensures.1 told
 
 pub returns-clause-more : goal.returns-clause-more
 returns-clause-more g c text read found =

@@ -11,7 +11,8 @@ returns-in-Ok-clause-found g c text records given found =
     let new = c.read_byte_record.new.self in
     let fields = fields_of c.read_byte_record.new.row in
     let read = rw found at (c.in-Ok.ensures.reads given.untrimmed given.ready) in
-    let more = rows-more g.R.Read.remaining old new fields default_config st.StartRecord (strip_bom text) given.rest records given.config given.source given.reached read in
+    let more = rows-more g.R.Read.remaining old new fields default_config st.StartRecord (strip_bom text) given.rest records
+    given.config given.source given.reached read in
     record {
       untrimmed = read.3 ∙ given.untrimmed;
       ready = inl (c.in-Ok.ensures.ready given.untrimmed);

@@ -22,7 +22,8 @@ pub returns-in_err-expect_end-clause-bad_row : goal.returns-in_err-expect_end-cl
 returns-in_err-expect_end-clause-bad_row g c text begins =
     let full : length c.loop.rows.items ≡ 1000000 = omega (arith, c.loop.invariant.counted) in
     let told = c.in_err-expect_end.ensures.bad_row text c.loop.rows.items (c.loop.invariant.read text begins) full in
-    passed_on (λ fault. Tells fault text) c.from_residual-in_err-expect_end.result c.in_err-expect_end.field-0.0 c.from_residual-in_err-expect_end.ensures.1 told
+    passed_on (λ fault. Tells fault text) c.from_residual-in_err-expect_end.result c.in_err-expect_end.field-0.0
+    c.from_residual-in_err-expect_end.ensures.1 told
 
 pub returns-clause-ok : goal.returns-clause-ok
 returns-clause-ok g c text begins =

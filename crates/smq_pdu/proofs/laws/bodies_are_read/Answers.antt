@@ -4,13 +4,25 @@ use Rattle.smq_pdu.proofs.BodyLaws.{says_submit, submit_says, says_deliver, deli
 use Rattle.smq_pdu.proofs.laws.bodies_are_read.Goals as goal
 
 pub returns-clause-submit : goal.returns-clause-submit
-returns-clause-submit c = λ submit. (says_submit c.args.octets.now submit (octets_by_place c.args.octets.now (λ i. omega (arith, c.type_inv.octets i))), submit_says c.args.octets.now submit)
+returns-clause-submit c = λ submit. (
+  says_submit c.args.octets.now submit
+      (octets_by_place c.args.octets.now (λ i. omega (arith, c.type_inv.octets i))),
+  submit_says c.args.octets.now submit,
+)
 
 pub returns-clause-deliver : goal.returns-clause-deliver
-returns-clause-deliver c = λ deliver. (says_deliver c.args.octets.now deliver (octets_by_place c.args.octets.now (λ i. omega (arith, c.type_inv.octets i))), deliver_says c.args.octets.now deliver)
+returns-clause-deliver c = λ deliver. (
+  says_deliver c.args.octets.now deliver
+      (octets_by_place c.args.octets.now (λ i. omega (arith, c.type_inv.octets i))),
+  deliver_says c.args.octets.now deliver,
+)
 
 pub returns-clause-undecodable : goal.returns-clause-undecodable
-returns-clause-undecodable c = (says_undecodable c.args.octets.now, undecodable_says c.args.octets.now (octets_by_place c.args.octets.now (λ i. omega (arith, c.type_inv.octets i))))
+returns-clause-undecodable c = (
+  says_undecodable c.args.octets.now,
+  undecodable_says c.args.octets.now
+      (octets_by_place c.args.octets.now (λ i. omega (arith, c.type_inv.octets i))),
+)
 
 pub returns-clause-other : goal.returns-clause-other
 returns-clause-other c = λ octets. (says_other octets, other_says octets)

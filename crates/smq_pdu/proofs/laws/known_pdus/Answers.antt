@@ -16,7 +16,8 @@ octet_sum OtherBody = 0
 octet_sum UndecodableBody = 0
 
 pub returns-clause-submit : goal.returns-clause-submit
-unfolding word_at body_of submit_of deliver_of id_of number_of digits_of mandatory_at address_at c_octet_at octets_at number_at tlv_at tlvs_within tlvs_of
+unfolding word_at body_of submit_of deliver_of id_of number_of digits_of mandatory_at address_at c_octet_at octets_at number_at
+    tlv_at tlvs_within tlvs_of
 returns-clause-submit c = refl
 
 pub returns-clause-response : goal.returns-clause-response
@@ -40,19 +41,23 @@ unfolding word_at body_of submit_of deliver_of id_of mandatory_at address_at c_o
 returns-clause-parameters c = refl
 
 pub returns-clause-plus : goal.returns-clause-plus
-unfolding word_at body_of submit_of deliver_of id_of number_of digits_of mandatory_at address_at c_octet_at octets_at number_at tlv_at tlvs_within tlvs_of
+unfolding word_at body_of submit_of deliver_of id_of number_of digits_of mandatory_at address_at c_octet_at octets_at number_at
+    tlv_at tlvs_within tlvs_of
 returns-clause-plus c = refl
 
 pub returns-clause-national : goal.returns-clause-national
-unfolding word_at body_of submit_of deliver_of id_of number_of digits_of mandatory_at address_at c_octet_at octets_at number_at tlv_at tlvs_within tlvs_of
+unfolding word_at body_of submit_of deliver_of id_of number_of digits_of mandatory_at address_at c_octet_at octets_at number_at
+    tlv_at tlvs_within tlvs_of
 returns-clause-national c = refl
 
 pub returns-clause-too_long : goal.returns-clause-too_long
-unfolding word_at body_of submit_of deliver_of id_of number_of digits_of mandatory_at address_at c_octet_at octets_at number_at tlv_at tlvs_within tlvs_of
+unfolding word_at body_of submit_of deliver_of id_of number_of digits_of mandatory_at address_at c_octet_at octets_at number_at
+    tlv_at tlvs_within tlvs_of
 returns-clause-too_long c = refl
 
 pub returns-clause-apart : goal.returns-clause-apart
-unfolding word_at body_of submit_of deliver_of id_of number_of digits_of mandatory_at address_at c_octet_at octets_at number_at tlv_at tlvs_within tlvs_of
+unfolding word_at body_of submit_of deliver_of id_of number_of digits_of mandatory_at address_at c_octet_at octets_at number_at
+    tlv_at tlvs_within tlvs_of
 returns-clause-apart c = λ same. let differ : 613 ≡ 614 = ap (λ (p : PduValue). octet_sum p.body) same in omega (arith, differ)
 
 pub returns-clause-words : goal.returns-clause-words

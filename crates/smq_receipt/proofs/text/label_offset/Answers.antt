@@ -5,7 +5,8 @@ use Rattle.smq_receipt.proofs.text.label_offset.Goals as goal
 
 pub returns-then-labels_at-clause-value : goal.returns-then-labels_at-clause-value
 returns-then-labels_at-clause-value c =
-    sym (first_place (labels_at c.args.label.now c.args.header.now) (length c.args.header.now) c.loop-place.place c.loop-place-test.true (sym c.if-labels_at.ensures.value) c.loop-place.invariant)
+    sym (first_place (labels_at c.args.label.now c.args.header.now) (length c.args.header.now) c.loop-place.place
+    c.loop-place-test.true (sym c.if-labels_at.ensures.value) c.loop-place.invariant)
 
 pub returns-clause-value : goal.returns-clause-value
 returns-clause-value c =

@@ -13,7 +13,15 @@ returns-clause-ok c =
     elim c.match-write_fields.branch [
       | in-Ok w ↦
           let bytes = w.in-Ok.ensures.bytes start.fields start.written plain in
-          let written = rw (start.setup, c.as_bytes.ensures.value, c.as_bytes-2.ensures.value, c.as_bytes-3.ensures.value, c.as_bytes-4.ensures.value, c.as_bytes-5.ensures.value) at bytes in
-          rw w.result-is (written ∙ ap (λ text. waiting c.args.records.now ++ text) (plain-record _ _ _ _ _ c.requires.first c.requires.second c.requires.third c.requires.fourth c.requires.fifth))
+          let written = rw (
+            start.setup,
+            c.as_bytes.ensures.value,
+            c.as_bytes-2.ensures.value,
+            c.as_bytes-3.ensures.value,
+            c.as_bytes-4.ensures.value,
+            c.as_bytes-5.ensures.value,
+          ) at bytes in
+          rw w.result-is (written ∙ ap (λ text. waiting c.args.records.now ++ text)
+          (plain-record _ _ _ _ _ c.requires.first c.requires.second c.requires.third c.requires.fourth c.requires.fifth))
       | in-Err w ↦ rw w.result-is tt
     ]

@@ -53,7 +53,8 @@ pub returns-clause-ended_too : goal.returns-clause-ended_too
 returns-clause-ended_too c = plan-correct (codes "44") 1000
 
 pub returns-clause-correction : goal.returns-clause-correction
-returns-clause-correction c = changed-there plan (codes "44") 1000 (corrected (route 9) (codes "23433")) (version (Some 2000) 2 (codes "23410")) (plan-version (codes "44") 1000)
+returns-clause-correction c = changed-there plan (codes "44") 1000 (corrected (route 9) (codes "23433"))
+    (version (Some 2000) 2 (codes "23410")) (plan-version (codes "44") 1000)
 
 pub returns-clause-order : goal.returns-clause-order
 returns-clause-order c = ap (λ (es : List Entry). map (λ e. e.0) es) unsorted-entries

@@ -66,4 +66,5 @@ pub returns-clause-stranger : goal.returns-clause-stranger
 returns-clause-stranger c = plan-route (codes "15") 1500
 
 pub returns-clause-no_version : goal.returns-clause-no_version
-returns-clause-no_version c = ap (λ (es : List Entry). option_map (λ e. (e.1.route, e.1.network)) (longest (filter (serves (codes "44") 1500) es))) none-there
+returns-clause-no_version c = ap (λ (es : List Entry). option_map (λ e. (e.1.route, e.1.network))
+    (longest (filter (serves (codes "44") 1500) es))) none-there

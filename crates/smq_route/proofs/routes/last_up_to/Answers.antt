@@ -9,8 +9,12 @@ returns-then-eq c =
     let part = c.range.ensures.in_range tt in
     let found = part.3 _ _ c.in-Some.ensures.steps in
     let most = part.4 _ _ c.in-Some.ensures.steps in
-    subst (λ (p : List ℕ). (c.in-Some.found.now.from ≤ c.args.at) × (version_of (versions_in c.args.versions.now) p c.in-Some.found.now.from ≡ Some c.in-Some.version.now) × ((g : ℕ) → g ≤ c.args.at → IsSome (version_of (versions_in c.args.versions.now) p g) → g ≤ c.in-Some.found.now.from)) c.copy.ensures.value
-    (last-same c.args.versions.now c.copy.result c.args.at c.in-Some.found.now c.in-Some.version.now found.0.1 found.1 (λ q le there. most q (tt, le) there)
+    subst (λ (p : List ℕ). (c.in-Some.found.now.from ≤ c.args.at)
+    × (version_of (versions_in c.args.versions.now) p c.in-Some.found.now.from ≡ Some c.in-Some.version.now)
+    × ((g : ℕ) → g ≤ c.args.at → IsSome (version_of (versions_in c.args.versions.now) p g) → g ≤ c.in-Some.found.now.from))
+    c.copy.ensures.value
+    (last-same c.args.versions.now c.copy.result c.args.at c.in-Some.found.now c.in-Some.version.now found.0.1 found.1
+    (λ q le there. most q (tt, le) there)
     (same-digits c.in-Some.found.now.prefix c.args.prefix.now c.eq.result c.eq.ensures c.if-eq.true ∙ sym c.copy.ensures.value))
 
 pub returns-else-eq : goal.returns-else-eq

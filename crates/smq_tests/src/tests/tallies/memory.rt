@@ -20,8 +20,7 @@ fn one_of_many(number: u32) -> Result<Fact, Refusal> {
     Ok(Fact {
         place: place_of((u64::from(number % 5), CLIENT, u64::from(number))),
         link: LinkId(number % 7),
-        route: Some(RouteId(number)),
-        network: Some(network("20801")?),
+        route: Some((RouteId(number), network("20801")?)),
         outcome: TURNS[number as usize % 4],
         error: Some(SubmitError::Refused { status: number % 3 }),
         link_delay: Some(Band::Over),

@@ -20,7 +20,6 @@ fn plain(at: At, outcome: Outcome) -> Fact {
         place: place_of(at),
         link: LinkId(7),
         route: None,
-        network: None,
         outcome,
         error: None,
         link_delay: None,
@@ -35,11 +34,7 @@ pub fn network(code: &str) -> Result<Network, Refusal> {
 impl Known {
     fn fact(&self) -> Result<Fact, Refusal> {
         let route = match self.route {
-            Some((number, _)) => Some(RouteId(number)),
-            None => None,
-        };
-        let network = match self.route {
-            Some((_, code)) => Some(network(code)?),
+            Some((number, code)) => Some((RouteId(number), network(code)?)),
             None => None,
         };
         let error = match self.status {
@@ -50,7 +45,6 @@ impl Known {
             place: place_of(self.at),
             link: LinkId(self.link),
             route,
-            network,
             outcome: self.outcome,
             error,
             link_delay: self.delays.0,

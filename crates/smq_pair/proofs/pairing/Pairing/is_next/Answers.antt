@@ -10,7 +10,9 @@ pub are_below-requires : goal.are_below-requires
 are_below-requires c = entries-ascend c.self.inside.turns (entries_in c.self.inside.streams) c.args.place.dir c.self.invariant
 
 pub returns-then-are_of : goal.returns-then-are_of
-returns-then-are_of c = next-then c.self.inside.turns (entries_in c.self.inside.streams) c.args.self.now c.args.place _ _ c.self.invariant c.self.view_is c.are_of.ensures c.if-are_of.true c.are_below.ensures
+returns-then-are_of c = next-then c.self.inside.turns (entries_in c.self.inside.streams) c.args.self.now c.args.place _ _
+    c.self.invariant c.self.view_is c.are_of.ensures c.if-are_of.true c.are_below.ensures
 
 pub returns-else-are_of : goal.returns-else-are_of
-returns-else-are_of c = next-else c.self.inside.turns (entries_in c.self.inside.streams) c.args.self.now c.args.place _ c.self.invariant c.self.view_is c.are_of.ensures c.if-are_of.false
+returns-else-are_of c = next-else c.self.inside.turns (entries_in c.self.inside.streams) c.args.self.now c.args.place _
+    c.self.invariant c.self.view_is c.are_of.ensures c.if-are_of.false

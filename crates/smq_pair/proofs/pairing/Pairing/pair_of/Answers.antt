@@ -13,7 +13,8 @@ at-requires c = entries-ascend c.self.inside.turns (entries_in c.self.inside.str
 pub returns-in_err-at-clause-found : goal.returns-in_err-at-clause-found
 returns-in_err-at-clause-found c =
     c.from_residual.ensures
-    ∙ sym (pair-nowhere (pdus_in (entries_in c.self.inside.streams)) c.args.place (nowhere-kept (entries_in c.self.inside.streams) c.args.place c.in_err-at.ensures))
+    ∙ sym (pair-nowhere (pdus_in (entries_in c.self.inside.streams)) c.args.place
+    (nowhere-kept (entries_in c.self.inside.streams) c.args.place c.in_err-at.ensures))
     ∙ ap (λ (v : PairingValue). pair_at v c.args.place) c.self.view_is
 
 pub returns-clause-found : goal.returns-clause-found

@@ -9,7 +9,8 @@ use Rattle.smq_pair.proofs.turns.Turns.enter.Goals as goal
 
 -- a count that is set back is what it was
 set_back : (old counted undone : Turns) (s q : Series) (rank : ℕ) (b : Bool) → is_at (series_cmp s) q ≡ b → rank ≡ count_kept old s
-    → count_kept counted q ≡ cond b (count_kept old s + 1) (count_kept old q) → count_kept undone q ≡ cond b rank (count_kept counted q) → count_kept undone q ≡ count_kept old q
+    → count_kept counted q ≡ cond b (count_kept old s + 1) (count_kept old q)
+    → count_kept undone q ≡ cond b rank (count_kept counted q) → count_kept undone q ≡ count_kept old q
 set_back old counted undone s q rank true e is more back = back ∙ is ∙ ap (count_kept old) (series-same s q e)
 set_back old counted undone s q rank false e is more back = back ∙ more
 
@@ -27,6 +28,7 @@ returns-then-is_err-clause-err c =
     on_err c.meet-found.result (λ unpaired. record {
       counts = λ q.
           set_back old counted undone s q c.in_ok-rank.rank (is_at (series_cmp s) q) refl c.in_ok-rank.ensures.rank (c.in_ok-rank.ensures.counts q)
-          (c.set_count.ensures.counts q ∙ ap (λ m. cond (is_at (series_cmp s) q) c.in_ok-rank.rank (unwrap_or (get series_cmp m q) 0)) c.meet-found.ensures.others);
+          (c.set_count.ensures.counts q ∙ ap (λ m. cond (is_at (series_cmp s) q) c.in_ok-rank.rank
+          (unwrap_or (get series_cmp m q) 0)) c.meet-found.ensures.others);
       unpaired = λ t. ap (λ m. get turn_cmp m t) c.set_count.ensures.others ∙ unpaired t ∙ ap (λ m. get turn_cmp m t) c.in_ok-rank.ensures.others;
     }) c.meet-found.ensures.err

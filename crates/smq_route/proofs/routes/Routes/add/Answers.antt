@@ -11,8 +11,10 @@ invariant_of-self c =
     let old = versions_in c.self.inside.versions in
     let new = versions_in c.add_in.new.versions in
     let most = c.greater-self-inside.result in (
-      add-apart old new c.args.prefix c.args.from c.args.route c.args.network c.add_in.result c.self.invariant.0 c.add_in.ensures.digits c.add_in.ensures.answer,
-      add-within most old new c.args.prefix c.args.from c.args.route c.args.network (first_of (add_refusals old c.args.prefix c.args.from)) c.add_in.result
+      add-apart old new c.args.prefix c.args.from c.args.route c.args.network c.add_in.result c.self.invariant.0
+          c.add_in.ensures.digits c.add_in.ensures.answer,
+      add-within most old new c.args.prefix c.args.from c.args.route c.args.network
+          (first_of (add_refusals old c.args.prefix c.args.from)) c.add_in.result
           (within-more c.self.inside.most_digits most old c.greater-self-inside.ensures.first c.self.invariant.1)
           (subst (λ (d : List ℕ). length d ≤ most) c.as_slice.ensures.value c.greater-self-inside.ensures.second) c.add_in.ensures.answer,
     )

@@ -38,9 +38,12 @@ returns-in-Some c =
     let there : version_of c.args.self.now.versions (take c.loop-last.last c.args.number.now) c.in-Some.field-0-0 ≡ Some c.in-Some.version.now =
     subst (λ (n : ℕ). version_of c.args.self.now.versions (take n c.args.number.now) c.in-Some.field-0-0 ≡ Some c.in-Some.version.now) next
     (subst (λ (d : List ℕ). version_of c.args.self.now.versions d c.in-Some.field-0-0 ≡ Some c.in-Some.version.now) c.first_digits-prefix.ensures
-    (subst (λ (m : Versions). version_of m c.first_digits-prefix.result c.in-Some.field-0-0 ≡ Some c.in-Some.version.now) same c.in-Some.ensures.1)) in
+    (subst (λ (m : Versions). version_of m c.first_digits-prefix.result c.in-Some.field-0-0 ≡ Some c.in-Some.version.now) same
+    c.in-Some.ensures.1)) in
     ap (λ (n : List ℕ). pairing c.in-Some.version.now.route n) c.copy.ensures
-    ∙ sym (route-found c.args.self.now.versions c.args.number.now c.args.at c.loop-last.last c.in-Some.field-0-0 c.in-Some.version.now (subst AreApart same c.self.invariant.0) c.loop-last.invariant.1 c.loop-last.invariant.0 there c.in-Some.ensures.0 c.in-Some.ensures.2)
+    ∙ sym (route-found c.args.self.now.versions c.args.number.now c.args.at c.loop-last.last c.in-Some.field-0-0
+    c.in-Some.version.now (subst AreApart same c.self.invariant.0) c.loop-last.invariant.1 c.loop-last.invariant.0 there
+    c.in-Some.ensures.0 c.in-Some.ensures.2)
 
 pub returns : goal.returns
 returns c =

@@ -12,5 +12,6 @@ invariant_of-self c =
     let new = versions_in c.end_in.new.versions in (
       end-apart old new c.args.prefix.now c.args.from c.args.until c.end_in.result c.self.invariant.0 c.end_in.ensures,
       change-within c.self.inside.most_digits old new c.args.prefix.now c.args.from (ending c.args.until)
-          (first_of (end_refusals (version_of old c.args.prefix.now c.args.from) c.args.from c.args.until)) c.end_in.result c.self.invariant.1 c.end_in.ensures,
+          (first_of (end_refusals (version_of old c.args.prefix.now c.args.from) c.args.from c.args.until)) c.end_in.result
+          c.self.invariant.1 c.end_in.ensures,
     )

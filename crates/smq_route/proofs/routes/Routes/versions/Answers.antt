@@ -6,7 +6,8 @@ use Rattle.smq_route.proofs.Lookups.{entries-seen}
 use Rattle.smq_route.proofs.routes.Routes.versions.Goals as goal
 
 pub returns-clause-entries : goal.returns-clause-entries
-returns-clause-entries c = c.iter.ensures.rest ∙ sym (entries-seen c.self.inside.versions.entries c.iter.ensures.ordered) ∙ ap (λ (r : RoutesValue). entries r.versions) c.self.view_is
+returns-clause-entries c = c.iter.ensures.rest ∙ sym (entries-seen c.self.inside.versions.entries c.iter.ensures.ordered)
+    ∙ ap (λ (r : RoutesValue). entries r.versions) c.self.view_is
 
 pub returns-clause-apart : goal.returns-clause-apart
 returns-clause-apart c = subst AreApart (ap (λ (r : RoutesValue). r.versions) c.self.view_is) c.self.invariant.0

@@ -13,7 +13,8 @@ add_from-requires t c =
       omega (arith, c.decreases, view_fewer c.args.view c.in-Some.next c.in-Some.ensures),
       (
         subst HasNoZeros (sym c.in_ok-add_in_view.ensures.ok) (plus-no-zeros c.args.self.now here c.requires.no_zeros),
-        later-room c.args.self.now c.add_in_view.new.self c.args.view c.in-Some.next c.args.fact.now (view_next c.args.view c.in-Some.next c.in-Some.ensures) c.in_ok-add_in_view.ensures.ok c.requires.room,
+        later-room c.args.self.now c.add_in_view.new.self c.args.view c.in-Some.next c.args.fact.now
+            (view_next c.args.view c.in-Some.next c.in-Some.ensures) c.in_ok-add_in_view.ensures.ok c.requires.room,
       ),
     )
 
@@ -25,4 +26,5 @@ returns-in-Err-clause-err t c =
 
 pub returns-clause-ok : goal.returns-clause-ok
 returns-clause-ok t c =
-    plus-next c.args.self.now c.add_in_view.new.self c.add_from.new.self c.args.view c.args.fact.now c.in-Some.next c.in-Some.ensures c.in_ok-add_in_view.ensures.ok c.in_default-add_from.ensures.ok
+    plus-next c.args.self.now c.add_in_view.new.self c.add_from.new.self c.args.view c.args.fact.now c.in-Some.next
+    c.in-Some.ensures c.in_ok-add_in_view.ensures.ok c.in_default-add_from.ensures.ok

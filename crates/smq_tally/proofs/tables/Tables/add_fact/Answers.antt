@@ -12,4 +12,5 @@ returns-then-is_new-clause-err c =
 
 pub returns-else-is_new-clause-err : goal.returns-else-is_new-clause-err
 returns-else-is_new-clause-err c =
-    c.in-Err.ensures.err ∙ c.in_ok-is_new.ensures.ok ∙ listed-already c.args.self.now c.in-Some.listed c.in_ok-is_new.is_new c.in_ok-is_new.ensures.is_new c.if-is_new.false
+    c.in-Err.ensures.err ∙ c.in_ok-is_new.ensures.ok
+    ∙ listed-already c.args.self.now c.in-Some.listed c.in_ok-is_new.is_new c.in_ok-is_new.ensures.is_new c.if-is_new.false

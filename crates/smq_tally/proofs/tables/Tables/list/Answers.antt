@@ -7,11 +7,13 @@ use Rattle.smq_tally.proofs.ListOrders.{places-sorted, list-forward, ranged-next
 use Rattle.smq_tally.proofs.tables.Tables.list.Goals as goal
 
 pub range-requires : goal.range-requires
-range-requires c = list-forward c.args.list c.in-Some.next c.first_in-first.result c.first_in.result c.first_in-first.ensures c.first_in.ensures c.in-Some.ensures
+range-requires c = list-forward c.args.list c.in-Some.next c.first_in-first.result c.first_in.result c.first_in-first.ensures
+    c.first_in.ensures c.in-Some.ensures
 
 pub returns-in-Some-clause-places : goal.returns-in-Some-clause-places
 returns-in-Some-clause-places c =
-    ranged-next c.args.self.now c.args.list c.in-Some.next c.first_in-first.result c.first_in.result c.self.inside.places.keys c.range.result c.first_in-first.ensures c.first_in.ensures
+    ranged-next c.args.self.now c.args.list c.in-Some.next c.first_in-first.result c.first_in.result c.self.inside.places.keys
+    c.range.result c.first_in-first.ensures c.first_in.ensures
     (ap (λ (t : TablesValue). t.places) c.self.view_is) c.range.ensures.ordered c.in-Some.ensures (c.range.ensures.between tt)
 
 pub returns-in-Some-clause-in_order : goal.returns-in-Some-clause-in_order

@@ -4,11 +4,13 @@ use Rattle.smq_tally.proofs.ViewRanges.{view-forward, rows-next, rows-end}
 use Rattle.smq_tally.proofs.tables.Tables.rows.Goals as goal
 
 pub range-requires : goal.range-requires
-range-requires c = view-forward c.args.view c.in-Some.next c.first_in-first.result c.first_in.result c.first_in-first.ensures c.first_in.ensures c.in-Some.ensures
+range-requires c = view-forward c.args.view c.in-Some.next c.first_in-first.result c.first_in.result c.first_in-first.ensures
+    c.first_in.ensures c.in-Some.ensures
 
 pub returns-in-Some : goal.returns-in-Some
 returns-in-Some c =
-    rows-next c.args.self.now c.args.view c.in-Some.next c.first_in-first.result c.first_in.result c.self.inside.counts.entries c.range.result c.first_in-first.ensures c.first_in.ensures
+    rows-next c.args.self.now c.args.view c.in-Some.next c.first_in-first.result c.first_in.result c.self.inside.counts.entries
+    c.range.result c.first_in-first.ensures c.first_in.ensures
     (ap (λ (t : TablesValue). t.counts) c.self.view_is) c.range.ensures.ordered c.in-Some.ensures (c.range.ensures.between tt)
 
 pub returns-in-None : goal.returns-in-None
