@@ -1,2 +1,3 @@
 -- The tables of what is present, from nothing.
 pub mod Scratch
+pub mod Links

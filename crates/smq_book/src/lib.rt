@@ -30,7 +30,7 @@ pub use laws::present::{
     withdrawals_of_a_known_book,
 };
 pub use laws::whole::{
-    figures_of_a_known_book, known_receipts_are_listed, lists_say_the_same,
+    counts_split_by_link, figures_of_a_known_book, known_receipts_are_listed, lists_say_the_same,
     receipts_are_listed_by_their_matches, tables_list_receipts_by_their_matches,
 };
 pub use present::batch::{Batch, prepare};

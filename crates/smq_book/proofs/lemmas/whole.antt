@@ -3,3 +3,4 @@ pub mod Tallied
 pub mod AgreePresent
 pub mod ListedTables
 pub mod KnownBook
+pub mod SplitByLink

@@ -1,21 +1,22 @@
 //! Laws of the whole: two statements of the same figures, the delivery receipts that are listed, and a known book.
-ghost use Rattle.std.specs.Prelude.{◌≡◌, ◌↔◌, Contains};
+ghost use Rattle.std.specs.Prelude.{◌≡◌, ◌+◌, ◌↔◌, Bool, Contains};
 ghost use Rattle.std.specs.FinMap as fin;
 ghost use Rattle.smq_book.specs.known.Join.{KnownListings};
 ghost use Rattle.smq_book.specs.known.Whole.{KnownFigures};
 ghost use Rattle.smq_book.specs.present.Present.{PresentValue};
 ghost use Rattle.smq_book.specs.pairing.Traffic.{traffic_of};
 ghost use Rattle.smq_tally.specs.Lists.{listed};
-ghost use Rattle.smq_tally.specs.Tables.{listed_in};
+ghost use Rattle.smq_tally.specs.Tables.{count_at, listed_in};
 ghost use Rattle.smq_book.specs.join.Facts.{facts_of};
 ghost use Rattle.smq_book.specs.join.Keyed.{grouping_of};
 ghost use Rattle.smq_book.specs.join.Listings.{receipt_notes};
 ghost use Rattle.smq_book.specs.join.Matching.{Grouping, IsStray, HasSharedKey, IsExtra};
+ghost use Rattle.smq_book.specs.whole.Links.{of_links, other_links};
 ghost use Rattle.smq_book.specs.whole.Scratch.{scratch};
 ghost use Rattle.smq_book.specs.within.Lists.{facts_listed, receipt_notes_listed, tables_listed};
 
-use crate::List;
-use smq_kit::Place;
+use crate::{List, Outcome, Value, View};
+use smq_kit::{LinkId, Place};
 
 /// What is known of messages by place is what lists over all sessions say, which are stated apart: of responses by their
 /// places in a direction, of single keys by counting in a list, of deciding receipts by the least of a list. So are the
@@ -51,6 +52,16 @@ pub fn tables_list_receipts_by_their_matches()
     ensures extra { (p : PresentValue) (place : Place)
         → Contains (listed_in (scratch p) List.ExtraReceipts) place
         ↔ IsExtra (grouping_of p.settings (traffic_of p.sessions)) place }
+{}
+
+/// Messages of different links never meet: however the links are split in two, each count is the sum of the counts of both
+/// parts, each with all sessions of its links, under the same settings.
+pub fn counts_split_by_link()
+    ensures { (p : PresentValue) (here : LinkId → Bool)
+        (view : View) (value : Value) (outcome : Outcome)
+        → count_at (scratch p) view value outcome
+        ≡ count_at (scratch (of_links here p)) view value outcome
+        + count_at (scratch (of_links (other_links here) p)) view value outcome }
 {}
 
 /// Delivery receipts that are written out, in their lists. Each is of the id `1`, but for those under forms.
