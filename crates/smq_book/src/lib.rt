@@ -31,7 +31,8 @@ pub use laws::present::{
 };
 pub use laws::whole::{
     counts_split_by_link, figures_of_a_known_book, known_receipts_are_listed, lists_say_the_same,
-    receipts_are_listed_by_their_matches, tables_list_receipts_by_their_matches,
+    lists_split_by_link, receipts_are_listed_by_their_matches,
+    tables_list_receipts_by_their_matches,
 };
 pub use present::batch::{Batch, prepare};
 pub use present::edit::Edit;

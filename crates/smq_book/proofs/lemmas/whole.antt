@@ -4,3 +4,4 @@ pub mod AgreePresent
 pub mod ListedTables
 pub mod KnownBook
 pub mod SplitByLink
+pub mod ListsSplitByLink

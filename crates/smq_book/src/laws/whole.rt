@@ -1,5 +1,5 @@
 //! Laws of the whole: two statements of the same figures, the delivery receipts that are listed, and a known book.
-ghost use Rattle.std.specs.Prelude.{◌≡◌, ◌+◌, ◌↔◌, Bool, Contains};
+ghost use Rattle.std.specs.Prelude.{◌≡◌, ◌+◌, ◌↔◌, ◌⊎◌, Bool, Contains};
 ghost use Rattle.std.specs.FinMap as fin;
 ghost use Rattle.smq_book.specs.known.Join.{KnownListings};
 ghost use Rattle.smq_book.specs.known.Whole.{KnownFigures};
@@ -62,6 +62,14 @@ pub fn counts_split_by_link()
         → count_at (scratch p) view value outcome
         ≡ count_at (scratch (of_links here p)) view value outcome
         + count_at (scratch (of_links (other_links here) p)) view value outcome }
+{}
+
+/// Likewise a place is in a list exactly where it is in that of one part or of the other.
+pub fn lists_split_by_link()
+    ensures { (p : PresentValue) (here : LinkId → Bool) (list : List) (place : Place)
+        → Contains (listed_in (scratch p) list) place
+        ↔ (Contains (listed_in (scratch (of_links here p)) list) place
+        ⊎ Contains (listed_in (scratch (of_links (other_links here) p)) list) place) }
 {}
 
 /// Delivery receipts that are written out, in their lists. Each is of the id `1`, but for those under forms.

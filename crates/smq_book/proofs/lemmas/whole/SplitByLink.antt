@@ -48,7 +48,7 @@ use Rattle.smq_book.proofs.lemmas.whole.AgreePresent.{facts-are}
 
 -- ---- lists
 
-all-append : {A : Type 0} (P : A → Type 0) (xs ys : List A) → AllByRecursion P xs → AllByRecursion P ys → AllByRecursion P (xs ++ ys)
+pub all-append : {A : Type 0} (P : A → Type 0) (xs ys : List A) → AllByRecursion P xs → AllByRecursion P ys → AllByRecursion P (xs ++ ys)
 all-append P [] ys h k = k
 all-append P (x ∷ xs) ys h k = (h.0, all-append P xs ys h.1 k)
 
@@ -56,7 +56,7 @@ all-flat : {A B : Type 0} (P : B → Type 0) (f : A → List B) (xs : List A) �
 all-flat P f [] h = tt
 all-flat P f (x ∷ xs) h = all-append P (f x) (flat_map f xs) (h x) (all-flat P f xs h)
 
-all-weaker : {A : Type 0} (P Q : A → Type 0) (xs : List A) → ((x : A) → P x → Q x) → AllByRecursion P xs → AllByRecursion Q xs
+pub all-weaker : {A : Type 0} (P Q : A → Type 0) (xs : List A) → ((x : A) → P x → Q x) → AllByRecursion P xs → AllByRecursion Q xs
 all-weaker P Q [] h a = tt
 all-weaker P Q (x ∷ xs) h a = (h x a.0, all-weaker P Q xs h a.1)
 
@@ -70,11 +70,11 @@ count-append test xs ys = sum_by-append (λ x. cond (test x) 1 0) xs ys
 -- ---- keys are of their link
 
 -- the key of a message, where it has one, is of a link
-abbrev OfLink : LinkId → SubmittedMessage → Type 0
+abbrev pub OfLink : LinkId → SubmittedMessage → Type 0
 OfLink link m = (key : LinkKey) → m.key ≡ Some key → key.link ≡ link
 
 -- so is that of a receipt
-abbrev ReceiptOfLink : LinkId → KeyedReceipt → Type 0
+abbrev pub ReceiptOfLink : LinkId → KeyedReceipt → Type 0
 ReceiptOfLink link e = e.0.link ≡ link
 
 message-of : (source : Source) (p : KeptPdu) (submit : Submit) (response : Option KeptPdu) → OfLink source.link (message_of source p submit response)
@@ -91,7 +91,7 @@ submit-of : (source : Source) (p : KeptPdu) (response : Option KeptPdu) (submit 
 submit-of source p response None = tt
 submit-of source p response (Some submit) = (message-of source p submit response, tt)
 
-submits-of : (s : SettingsValue) (e : ℕ × Session) → AllByRecursion (OfLink e.1.link) (session_submits s e)
+pub submits-of : (s : SettingsValue) (e : ℕ × Session) → AllByRecursion (OfLink e.1.link) (session_submits s e)
 submits-of s e =
     let source = source_of s e in
     let client = kept_pdus e.1.client in
@@ -103,7 +103,7 @@ receipt-of : (source : Source) (p : KeptPdu) (receipt : Option Receipt) → AllB
 receipt-of source p None = tt
 receipt-of source p (Some receipt) = (refl, tt)
 
-receipts-of : (s : SettingsValue) (e : ℕ × Session) → AllByRecursion (ReceiptOfLink e.1.link) (session_receipts s e)
+pub receipts-of : (s : SettingsValue) (e : ℕ × Session) → AllByRecursion (ReceiptOfLink e.1.link) (session_receipts s e)
 receipts-of s e =
     let source = source_of s e in
     all-flat (ReceiptOfLink e.1.link) (λ p. receipt_by (receipt_in p.content) source p) (kept_pdus e.1.centre)
@@ -112,7 +112,7 @@ receipts-of s e =
 -- ---- what is of another link has another key
 
 -- a receipt of a key that can decide
-abbrev decides : LinkKey → KeyedReceipt → Bool
+abbrev pub decides : LinkKey → KeyedReceipt → Bool
 decides key e = same_key key e.0 && can_decide e.1.receipt
 
 module _ (key : LinkKey) (link : LinkId) (other : key.link ≡ link → ⊥) where
@@ -135,11 +135,11 @@ module _ (key : LinkKey) (link : LinkId) (other : key.link ≡ link → ⊥) whe
 -- ---- the sessions of some links
 
 module _ (s : SettingsValue) (here : LinkId → Bool) where
-  abbrev part : List (ℕ × Session) → List (ℕ × Session)
+  abbrev pub part : List (ℕ × Session) → List (ℕ × Session)
   part es = flat_map (kept_of (session_there here)) es
 
   -- what sessions give, where the first is of these links or not
-  parted : {A : Type 0} (g : ℕ × Session → List A) (e : ℕ × Session) (es : List (ℕ × Session)) (b : Bool) → here e.1.link ≡ b
+  pub parted : {A : Type 0} (g : ℕ × Session → List A) (e : ℕ × Session) (es : List (ℕ × Session)) (b : Bool) → here e.1.link ≡ b
       → flat_map g (part (e ∷ es)) ≡ cond b (g e ++ flat_map g (part es)) (flat_map g (part es))
   parted g e es b h =
       ap (λ (b : Bool). flat_map g (map (λ y. (e.0, y)) (option_to_list (cond b (Some e.1) None)) ++ part es)) h ∙ by b
@@ -153,7 +153,7 @@ module _ (s : SettingsValue) (here : LinkId → Bool) where
   apart key link k l same = true≢false (sym k ∙ ap here same ∙ l)
 
   -- as many messages are accepted with a key of these links as in the whole
-  number-part : (key : LinkKey) → here key.link ≡ true → (es : List (ℕ × Session))
+  pub number-part : (key : LinkKey) → here key.link ≡ true → (es : List (ℕ × Session))
       → number_accepted key (flat_map (session_submits s) (part es)) ≡ number_accepted key (flat_map (session_submits s) es)
   number-part key k [] = refl
   number-part key k (e ∷ es) = by (number-part key k es) (here e.1.link) refl
@@ -181,7 +181,7 @@ module _ (s : SettingsValue) (here : LinkId → Bool) where
           omega (arith, there, ih, none, both)
 
   -- the same receipts of such a key can decide
-  candidates-part : (key : LinkKey) → here key.link ≡ true → (es : List (ℕ × Session))
+  pub candidates-part : (key : LinkKey) → here key.link ≡ true → (es : List (ℕ × Session))
       → filter (decides key) (flat_map (session_receipts s) (part es)) ≡ filter (decides key) (flat_map (session_receipts s) es)
   candidates-part key k [] = refl
   candidates-part key k (e ∷ es) = by (candidates-part key k es) (here e.1.link) refl
@@ -207,10 +207,10 @@ module _ (s : SettingsValue) (here : LinkId → Bool) where
   -- ---- the fact of a message of these links
 
   module _ (all : List (ℕ × Session)) where
-    abbrev fact_there : SubmittedMessage → Fact
+    abbrev pub fact_there : SubmittedMessage → Fact
     fact_there m = fact_of s (flat_map (session_submits s) (part all)) (flat_map (session_receipts s) (part all)) m
 
-    abbrev fact_in_all : SubmittedMessage → Fact
+    abbrev pub fact_in_all : SubmittedMessage → Fact
     fact_in_all m = fact_of s (flat_map (session_submits s) all) (flat_map (session_receipts s) all) m
 
     abbrev IsHere : SubmittedMessage → Type 0
