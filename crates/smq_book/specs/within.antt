@@ -7,5 +7,6 @@ pub mod Receipts
 pub mod Accepted
 pub mod Outcomes
 pub mod Listings
+pub mod EqualBatches
 pub mod Equal
 pub mod Lists

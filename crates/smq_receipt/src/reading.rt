@@ -62,6 +62,20 @@ pub enum Reading {
     NotReceipt,
 }
 
+impl Reading {
+    /// An equal reading. It takes no memory.
+    pub fn copy(&self) -> Reading
+        ensures { result ≡ self.now }
+    {
+        match self {
+            Reading::Receipt(receipt) => Reading::Receipt(receipt.copy()),
+            Reading::NoId => Reading::NoId,
+            Reading::NoState => Reading::NoState,
+            Reading::NotReceipt => Reading::NotReceipt,
+        }
+    }
+}
+
 /// What a deliver_sm says as a receipt. It takes no memory, and time linear in the text.
 #[tactic(auto, unfolding(crate::specs::Readings::reading_of))]
 pub fn read(deliver: &Deliver<'_>) -> Reading

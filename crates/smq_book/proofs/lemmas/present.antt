@@ -10,3 +10,4 @@ pub mod Folded
 pub mod RefusedBatches
 pub mod Cutting
 pub mod OneOctet
+pub mod SameEdits

@@ -15,7 +15,8 @@ ghost use Rattle.smq_book.specs.present.Present.{PresentValue, session_of, tail_
 ghost use Rattle.smq_book.specs.present.Replies.{GoesAfter, IsOfEdits, reply};
 ghost use Rattle.smq_book.specs.present.Steps.{Appends, AppendsCommute, AreAppendedAgain, IsAsNeverThere, LeavesNoTrace, SetsForm, AddsRoute, EndsRoute, CorrectsRoute, Advances, Withdraws, change, step};
 ghost use Rattle.smq_book.specs.declared.present.forms.Forms.{Forms};
-ghost use Rattle.smq_book.specs.within.Equal.{forms_eq};
+ghost use Rattle.smq_book.specs.within.Equal.{forms_eq, edits_eq};
+ghost use Rattle.smq_book.specs.within.EqualBatches.{batches_eq};
 
 /// An append changes what `Appends` says, a withdrawal what `Withdraws` says, setting forms what `SetsForm` says, edits of
 /// routes what `AddsRoute`, `EndsRoute` and `CorrectsRoute` say, and advancing the clock what `Advances` says: nothing else.
@@ -170,4 +171,10 @@ pub fn forms_are_verbatim_until_set()
 /// `==` of forms says whether they are one.
 pub fn forms_are_told_apart()
     ensures { (a b : Forms) → IsTrue (forms_eq a b) ↔ (a ≡ b) }
+{}
+
+/// `==` of batches, and of edits, says whether they are one.
+pub fn edits_are_told_apart()
+    ensures batches { (a b : BatchValue) → IsTrue (batches_eq a b) ↔ (a ≡ b) }
+    ensures edits { (a b : Edit) → IsTrue (edits_eq a b) ↔ (a ≡ b) }
 {}

@@ -4,7 +4,7 @@ ghost use Rattle.std.specs.Prelude.{◌≡◌, ◌<◌, ◌+◌, ◌^◌, ◌≤
 ghost use Rattle.smq_book.specs.present.Batch.{batch_of, batch_pdus, next_tail, prepare_refusal};
 
 use crate::KeptPdu;
-use crate::present::kept::pdus_of;
+use crate::present::kept::{copies_of, pdus_of};
 use bytes::Bytes;
 use smq_frame::{Tail, frames};
 use smq_kit::{Dir, LinkId, Moment, Refusal, SessionId};
@@ -34,6 +34,30 @@ impl Model for Batch {
 
     ghost invariant = { λ b. let value = batch_of b.link b.session b.dir b.tail b.moment b.octets in
         (b.pdus.items ≡ batch_pdus value) × (b.next ≡ next_tail value) × (0 < length b.octets) };
+}
+
+impl PartialEq for Batch {
+    ghost use Rattle.smq_book.specs.within.EqualBatches.{batches_eq, batches_eq_laws};
+    ghost use Rattle.std.specs.Cmp.{partial_equiv_from_equiv};
+
+    ghost eq = { batches_eq };
+
+    ghost laws = { partial_equiv_from_equiv batches_eq_laws };
+
+    fn eq(&self, other: &Batch) -> bool {
+        self.link == other.link
+            && self.session == other.session
+            && self.dir == other.dir
+            && self.tail.is_same(&other.tail)
+            && self.moment == other.moment
+            && self.octets == other.octets
+    }
+}
+
+impl Eq for Batch {
+    ghost use Rattle.smq_book.specs.within.EqualBatches.{batches_eq_laws};
+
+    ghost laws = { batches_eq_laws };
 }
 
 impl Batch {
@@ -85,6 +109,22 @@ impl Batch {
         ensures { result.now ≡ batch_pdus self.now }
     {
         self.pdus.as_slice()
+    }
+
+    /// An equal batch. The octets are shared, and what is kept of the PDUs is copied.
+    pub fn copy(&self) -> Result<Batch, AllocError>
+        ensures { IfOk result (λ batch. batch ≡ self.now) }
+    {
+        Ok(Batch {
+            link: self.link,
+            session: self.session,
+            dir: self.dir,
+            tail: self.tail.copy()?,
+            moment: self.moment,
+            octets: self.octets.clone()?,
+            pdus: copies_of(*self.pdus.allocator(), self.pdus.as_slice())?,
+            next: self.next.copy()?,
+        })
     }
 
     /// The tail after the octets.

@@ -1,9 +1,12 @@
 //! The edits of a book. Who adds one gives it a reply and a step in specs/present, and makes it in `Book::apply`.
+ghost use Rattle.std.specs.Prelude.{◌≡◌, IfOk};
+
 use crate::Batch;
 use smq_kit::{Digits, Form, LinkId, Moment, Network, RouteId, SessionId};
+use std::alloc::AllocError;
 
 /// One change of what is present.
-#[derive(Drop)]
+#[derive(PartialEq, Eq, Drop)]
 pub enum Edit {
     /// Puts a batch after its direction. The session is made under the batch's link where it isn't present.
     Append {
@@ -48,4 +51,60 @@ pub enum Edit {
     Advance {
         clock: Moment,
     },
+}
+
+impl Edit {
+    /// An equal edit. Only an `Append` takes memory.
+    pub fn copy(&self) -> Result<Edit, AllocError>
+        ensures { IfOk result (λ edit. edit ≡ self.now) }
+    {
+        let copy = match self {
+            Edit::Append { batch } => Edit::Append {
+                batch: batch.copy()?,
+            },
+            Edit::Withdraw { session } => Edit::Withdraw { session: *session },
+            Edit::SetForm {
+                link,
+                response,
+                receipt,
+            } => Edit::SetForm {
+                link: *link,
+                response: *response,
+                receipt: *receipt,
+            },
+            Edit::AddRoute {
+                prefix,
+                from,
+                route,
+                network,
+            } => Edit::AddRoute {
+                prefix: prefix.copy(),
+                from: *from,
+                route: *route,
+                network: network.copy(),
+            },
+            Edit::EndRoute {
+                prefix,
+                from,
+                until,
+            } => Edit::EndRoute {
+                prefix: prefix.copy(),
+                from: *from,
+                until: *until,
+            },
+            Edit::CorrectRoute {
+                prefix,
+                from,
+                route,
+                network,
+            } => Edit::CorrectRoute {
+                prefix: prefix.copy(),
+                from: *from,
+                route: *route,
+                network: network.copy(),
+            },
+            Edit::Advance { clock } => Edit::Advance { clock: *clock },
+        };
+        Ok(copy)
+    }
 }

@@ -95,6 +95,28 @@ impl Content {
         }
     }
 
+    /// An equal content. It takes no memory.
+    fn copy(&self) -> Content
+        ensures { result ≡ self.now }
+    {
+        match self {
+            Content::Submit(submit) => Content::Submit(submit.copy()),
+            Content::SubmitAnswer { message_id: None } => Content::SubmitAnswer {
+                message_id: None,
+            },
+            Content::SubmitAnswer {
+                message_id: Some(id),
+            } => Content::SubmitAnswer {
+                message_id: Some(id.copy()),
+            },
+            Content::Deliver { reading } => Content::Deliver {
+                reading: reading.copy(),
+            },
+            Content::Other => Content::Other,
+            Content::Undecodable => Content::Undecodable,
+        }
+    }
+
     /// Whether it is a submit_sm or deliver_sm that can't be decoded.
     pub fn is_undecodable(&self) -> bool
         ensures { result ≡ is_undecodable self.now }
@@ -102,6 +124,22 @@ impl Content {
         match self {
             Content::Undecodable => true,
             _ => false,
+        }
+    }
+}
+
+impl KeptPdu {
+    /// An equal value. It takes no memory.
+    fn copy(&self) -> KeptPdu
+        ensures { result ≡ self.now }
+    {
+        KeptPdu {
+            offset: self.offset,
+            moment: self.moment,
+            command: self.command,
+            status: self.status,
+            seq: self.seq,
+            content: self.content.copy(),
         }
     }
 }
@@ -152,4 +190,15 @@ pub(crate) fn pdus_of(alloc: Global, frames: &[Frame]) -> Result<Vec<KeptPdu>, A
         pdus.push(kept_of(frame))?;
     }
     Ok(pdus)
+}
+
+/// Equal values, in order.
+pub(crate) fn copies_of(alloc: Global, pdus: &[KeptPdu]) -> Result<Vec<KeptPdu>, AllocError>
+    ensures { IfOk result (λ copies. copies.items ≡ pdus.now) }
+{
+    let mut copies = Vec::with_capacity(alloc, pdus.len())?;
+    for pdu in pdus {
+        copies.push(pdu.copy())?;
+    }
+    Ok(copies)
 }

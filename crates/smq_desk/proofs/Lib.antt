@@ -1,0 +1,9 @@
+pub mod Histories
+pub mod BookReplies
+pub mod CallsIn
+pub mod Agreement
+pub mod FirstFaults
+pub mod LeastLemmas
+pub mod FirstWith
+pub mod AsMany
+pub mod ToldSeat

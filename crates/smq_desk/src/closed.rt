@@ -1,0 +1,60 @@
+//! A desk that is closed: its history and its book, which nobody changes any more.
+ghost use Rattle.std.specs.Prelude.{◌≡◌};
+ghost use Rattle.std.specs.Slice.Iter.{iter_rest};
+ghost use Rattle.std.specs.Iterator.Adapters.{IterYieldsInOrder};
+ghost use Rattle.smq_desk.specs.declared.entry.Entry.{Entry as EntryOf};
+ghost use Rattle.smq_desk.specs.History.{replay, IsLegal};
+
+use crate::{Entry, Ledger};
+use smq_book::Book;
+use std::marker::Model;
+use std::slice::Iter;
+
+/// Why a desk doesn't close.
+#[derive(Clone, Copy, Debug, PartialEq, Eq)]
+pub enum CloseFault {
+    /// Fewer seats come than were given out.
+    SeatsOut,
+    /// The calls of the seats aren't the history: the least number at which they differ, with the seat of its entry or,
+    /// where there is no such entry, the first seat that has such a call.
+    Torn { seat: u32, number: u64 },
+}
+
+/// The history of a closed desk, and its book. A contract sees the entries.
+#[derive(Drop)]
+pub struct Closed {
+    ledger: Ledger,
+}
+
+impl Model for Closed {
+    ghost use Rattle.smq_desk.specs.Ledger.{ClosedValue};
+
+    ghost Value = { ClosedValue };
+
+    ghost view = { λ c. record { entries = c.ledger.entries } };
+}
+
+impl Closed {
+    /// The history of a ledger, and its book.
+    pub(crate) fn new(ledger: Ledger) -> Closed
+        ensures { result.entries ≡ ledger.entries }
+    {
+        Closed { ledger }
+    }
+
+    /// The entries, in the order of their numbers.
+    pub fn entries(&self) -> Iter<'_, Entry>
+        ensures value { iter_rest result ≡ self.now.entries }
+        ensures runs { IterYieldsInOrder EntryOf }
+        ensures legal { IsLegal self.now.entries }
+    {
+        self.ledger.entries().iter()
+    }
+
+    /// The book that the entries made.
+    pub fn book(&self) -> &Book
+        ensures { result.now.present ≡ replay self.now.entries }
+    {
+        self.ledger.book()
+    }
+}
