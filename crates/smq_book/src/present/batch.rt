@@ -45,9 +45,10 @@ impl PartialEq for Batch {
     ghost laws = { partial_equiv_from_equiv batches_eq_laws };
 
     fn eq(&self, other: &Batch) -> bool {
-        self.link == other.link
+        let is_same_direction = self.link == other.link
             && self.session == other.session
-            && self.dir == other.dir
+            && self.dir == other.dir;
+        is_same_direction
             && self.tail.is_same(&other.tail)
             && self.moment == other.moment
             && self.octets == other.octets
