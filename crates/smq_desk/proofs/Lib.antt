@@ -7,3 +7,4 @@ pub mod LeastLemmas
 pub mod FirstWith
 pub mod AsMany
 pub mod ToldSeat
+pub mod AgreeAtEach

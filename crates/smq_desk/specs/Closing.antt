@@ -1,5 +1,5 @@
 -- When a desk doesn't close, and what is told of it.
-use Rattle.std.specs.Prelude.{◌≡◌, ◌<◌, ◌⊎◌, ◌≤◌, ◌-◌, ◌==◌, ℕ, List, [], ◌∷◌, ◌++◌, if◌then◌else◌, All, Option, Some, None, length, take, slice_get}
+use Rattle.std.specs.Prelude.{◌≡◌, ◌≢◌, ◌<◌, ◌⊎◌, ◌≤◌, ◌-◌, ◌==◌, ℕ, List, [], ◌∷◌, ◌++◌, if◌then◌else◌, All, filter, Option, Some, None, length, take, slice_get}
 use Rattle.std.specs.List.{list_any}
 use Rattle.smq_desk.specs.declared.closed.CloseFault.{CloseFault}
 use Rattle.smq_desk.specs.declared.closed.CloseFault.TheVariants.{SeatsOut, Torn}
@@ -19,6 +19,24 @@ pub record AgreesUpTo (entries : List Entry) (number : ℕ) (seat : SeatValue) :
 pub record AgreeUpTo (seats : List SeatValue) (entries : List Entry) (number : ℕ) : Type 0 where
   pub each_seat : All (AgreesUpTo entries number) seats
   pub each_entry : All (HasOneSeat seats) (take number entries)
+
+-- no call of this number stands after one of a greater number
+abbrev pub NoneAfterGreater : ℕ → List Call → Type 0
+NoneAfterGreater number [] = Unit {0}
+NoneAfterGreater number (c ∷ calls) =
+    (number < c.number → All (λ d. d.number ≢ number) calls) × NoneAfterGreater number calls
+
+-- A seat agrees with a history at a number: of its calls, those with the number are those that its entries are, and none of
+-- them stands after one of a greater number.
+pub record AgreesAt (entries : List Entry) (number : ℕ) (seat : SeatValue) : Type 0 where
+  pub calls : filter (λ c. c.number == number) seat.calls ≡ filter (λ c. c.number == number) (calls_in entries seat.number)
+  pub in_order : NoneAfterGreater number seat.calls
+
+-- Seats agree with a history at a number: each of them does, and the entry of the number, where there is one, is of exactly one
+-- of them.
+pub record AgreeAt (seats : List SeatValue) (entries : List Entry) (number : ℕ) : Type 0 where
+  pub each_seat : All (AgreesAt entries number) seats
+  pub entry : (e : Entry) → 0 < number → slice_get entries (number - 1) ≡ Some e → HasOneSeat seats e
 
 -- what holds of all numbers below this one, and not of this one
 pub record FailsFirstAt (Holds : ℕ → Type 0) (number : ℕ) : Type 0 where

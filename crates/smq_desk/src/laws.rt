@@ -1,7 +1,20 @@
 //! Laws of histories and seats.
-ghost use Rattle.std.specs.Prelude.{◌≡◌};
+ghost use Rattle.std.specs.Prelude.{◌≡◌, ◌≤◌, ◌<◌, ◌↔◌, ℕ, List};
+ghost use Rattle.smq_desk.specs.declared.entry.Entry.{Entry};
+ghost use Rattle.smq_desk.specs.Closing.{AgreeAt, AgreeUpTo, FailsFirstAt};
+ghost use Rattle.smq_desk.specs.Seats.{SeatValue};
 ghost use Rattle.smq_desk.specs.Known.{KnownHistory};
 ghost use Rattle.smq_desk.specs.declared.ledger.TheConstants.{LONGEST_HISTORY, MOST_SEATS};
+
+/// Seats agree with a history up to a number exactly where they agree at each number up to it. So the first number up to which
+/// they don't, by which a desk is told as torn, is the least at which they don't.
+pub fn seats_agree_up_to_where_they_agree_at_each()
+    ensures each { (seats : List SeatValue) (entries : List Entry) (number : ℕ)
+        → AgreeUpTo seats entries number ↔ ((n : ℕ) → n ≤ number → AgreeAt seats entries n) }
+    ensures least { (seats : List SeatValue) (entries : List Entry) (number : ℕ)
+        → FailsFirstAt (AgreeUpTo seats entries) number
+        ↔ (((n : ℕ) → n < number → AgreeAt seats entries n) × (AgreeAt seats entries number → ⊥)) }
+{}
 
 /// A history that is written out: its replies, what it leaves present, and the calls of its seats.
 #[tactic(auto, unfolding(crate::specs::Seats::holders))]

@@ -13,7 +13,7 @@ mod seat;
 pub use closed::{CloseFault, Closed};
 pub use desk::Desk;
 pub use entry::{Call, Entry, Reply};
-pub use laws::{known_history, known_limits};
+pub use laws::{known_history, known_limits, seats_agree_up_to_where_they_agree_at_each};
 pub use ledger::{LONGEST_HISTORY, Ledger, MOST_SEATS};
 pub use matching::fault_of;
 pub use seat::Seat;
