@@ -1,0 +1,533 @@
+-- What a move of one member changes in the standings of a key's members, and that just this is told.
+use Rattle.std.proofs.Common.{◌≡◌, ◌⊎◌, inl, inr, ◌≤◌, Bool, true, false, cond, List, [], ◌∷◌, ◌++◌, Option, Some, None, refl, sym, ap, ◌∙◌, subst, map, filter, arith}
+use Rattle.std.specs.Prelude.{◌&&◌, option_map, is_some}
+use Rattle.std.specs.declared.cmp.Ordering.{Ordering}
+use Rattle.std.specs.declared.cmp.Ordering.TheVariants.{Less, Equal, Greater}
+use Rattle.std.specs.Ordering.{eq_by_cmp, is_eq, is_lt, ordering_reverse}
+use Rattle.std.specs.Cmp.{eq_by_cmp_equiv}
+use Rattle.std.specs.List.{reduce}
+use Rattle.std.specs.List.Sorted.{IsStrictlySortedBy}
+use Rattle.std.specs.Map.{keys_of}
+use Rattle.std.specs.FinMap.{get, get-from_entries}
+use Rattle.std.proofs.lemmas.Bool.{false≢true}
+use Rattle.smq_kit.specs.declared.place.Place.{Place}
+use Rattle.smq_kit.specs.declared.link_key.LinkKey.{LinkKey}
+use Rattle.smq_kit.specs.Orders.{place_cmp}
+use Rattle.smq_kit.specs.Maps.{same_option}
+use Rattle.smq_kit.specs.LinkKeys.{same_key}
+use Rattle.smq_kit.proofs.PlaceOrders.{places_total}
+use Rattle.smq_group.specs.declared.change.Change.{Change}
+use Rattle.smq_group.specs.declared.change.Standing.{Standing}
+use Rattle.smq_group.specs.declared.change.Standing.TheVariants.{Deciding, Extra, Noted}
+use Rattle.smq_group.specs.declared.changes.Added.{Added}
+use Rattle.smq_group.specs.declared.changes.Added.TheVariants as put
+use Rattle.smq_group.specs.declared.changes.Turn.{Turn}
+use Rattle.smq_group.specs.declared.changes.Turn.TheVariants.{Each, Deciders, Newcomer}
+use Rattle.smq_group.specs.declared.member.Member.{Member}
+use Rattle.smq_group.specs.declared.member.Said.{Said}
+use Rattle.smq_group.specs.declared.outlook.Outlook.{Outlook}
+use Rattle.smq_group.specs.Changes.{TellsChanges, changed, told_at, submit_at, receipt_at, same_standing}
+use Rattle.smq_group.specs.Matching as m
+use Rattle.smq_group.specs.Matching.{Grouping, GroupedReceipt, candidates, decider, earlier, is_decider, matches, submit_standing, receipt_standing}
+use Rattle.smq_group.specs.within.Outlooks.{decider_of, submit_standing_of, receipt_standing_of}
+use Rattle.smq_group.specs.within.Stored.{earliest_at, by_place, StandsOnce, submit_value, receipt_value, grouping_in, outlook_in}
+use Rattle.smq_group.specs.within.Told.{SubmitsByPlace, ReceiptsByPlace, members_in, change_at, same_decider, turn_between, submit_changes, receipt_changes, newcomer_submit, newcomer_receipt, rival, decider_changes, told_submits, told_receipts}
+use Rattle.smq_group.specs.within.Walked.{of_key, placed}
+use Rattle.smq_group.proofs.Earliest.{first-is, own_key, one_key}
+use Rattle.smq_group.proofs.Placing.{at, same_place, own_place}
+use Rattle.smq_group.proofs.Storing.{number-less}
+use Rattle.smq_group.proofs.Turning.{anew-is, deciders-after, deciders-before, deciders-submit, each-receipt, each-submit, is_at_place, newcomer-receipt, newcomer-submit, same_at, same_self, standing-itself, told-receipt, told-submit}
+
+-- ---- what the changes of a key's members tell of a place
+
+module _ {V W : Type 0} (value : LinkKey → V → W) (key_of : W → LinkKey) (keyed : (k : LinkKey) (v : V) → key_of (value k v) ≡ k) (key : LinkKey)
+    (standing : Place → V → Standing) (told : Place → W → Standing) (agree : (p : Place) (k : LinkKey) (v : V) → told p (value k v) ≡ standing p v) where
+  -- the change of a member
+  abbrev change : Place × V → Change
+  change m = change_at m.0 (standing m.0 m.1)
+
+  -- what is told of a member of the key, and of no other
+  abbrev pub told_of : Place → Option W → Option Standing
+  told_of q None = None
+  told_of q (Some w) = cond (same_key key (key_of w)) (Some (told q w)) None
+
+  told_at_none : (q : Place) (es : List (Member × V)) → at value q es ≡ None → told_at q (map change (members_in key es)) ≡ None
+  told_at_none q [] n = refl
+  told_at_none q (e ∷ es) n = elim (eq_by_cmp place_cmp q e.0.place) as (λ b. eq_by_cmp place_cmp q e.0.place ≡ b → cond b (Some (value e.0.key e.1)) (at value q es) ≡ None
+      → told_at q (map change (map placed (cond (same_key key e.0.key) (e ∷ filter (of_key key) es) (filter (of_key key) es)))) ≡ None) [
+        | true ↦ λ t n. absurd cc
+        | false ↦ λ t n. past (same_key key e.0.key) t (told_at_none q es n)
+      ] refl n
+    where
+      past : (b : Bool) → eq_by_cmp place_cmp q e.0.place ≡ false → told_at q (map change (members_in key es)) ≡ None
+          → told_at q (map change (map placed (cond b (e ∷ filter (of_key key) es) (filter (of_key key) es)))) ≡ None
+      past true t h = ap (λ b. cond b (Some (standing e.0.place e.1)) (told_at q (map change (members_in key es)))) t ∙ h
+      past false t h = h
+
+  -- the changes of a key's members tell of each of them
+  pub told-members : (q : Place) (es : List (Member × V)) → StandsOnce value es → told_at q (map change (members_in key es)) ≡ told_of q (at value q es)
+  told-members q [] o = refl
+  told-members q (e ∷ es) o = step (eq_by_cmp place_cmp q e.0.place) (same_key key e.0.key) refl refl (told-members q es o.1)
+    where
+      step : (a b : Bool) → eq_by_cmp place_cmp q e.0.place ≡ a → same_key key e.0.key ≡ b → told_at q (map change (members_in key es)) ≡ told_of q (at value q es)
+          → told_at q (map change (map placed (cond b (e ∷ filter (of_key key) es) (filter (of_key key) es)))) ≡ told_of q (cond a (Some (value e.0.key e.1)) (at value q es))
+      step true true t s ih =
+          ap (λ b. cond b (Some (standing e.0.place e.1)) (told_at q (map change (members_in key es)))) t
+          ∙ ap Some (sym (agree e.0.place e.0.key e.1) ∙ ap (λ (p : Place). told p (value e.0.key e.1)) (sym (same_place q e.0.place t)))
+          ∙ sym (ap (λ (k : LinkKey). cond (same_key key k) (Some (told q (value e.0.key e.1))) None) (keyed e.0.key e.1) ∙ ap (λ b. cond b (Some (told q (value e.0.key e.1))) None) s)
+      step true false t s ih =
+          told_at_none q es (ap (λ (p : Place). at value p es) (same_place q e.0.place t) ∙ o.0)
+          ∙ sym (ap (λ (k : LinkKey). cond (same_key key k) (Some (told q (value e.0.key e.1))) None) (keyed e.0.key e.1) ∙ ap (λ b. cond b (Some (told q (value e.0.key e.1))) None) s)
+      step false true t s ih = ap (λ b. cond b (Some (standing e.0.place e.1)) (told_at q (map change (members_in key es)))) t ∙ ih
+      step false false t s ih = ih
+
+-- ---- a move of one member
+
+-- whether the submit that is put in stands at a place
+abbrev pub is_new_submit : Added → Place → Bool
+is_new_submit (put.Submit p) q = eq_by_cmp place_cmp q p
+is_new_submit (put.Receipt _ _) q = false
+is_new_submit put.Nothing q = false
+
+-- whether the receipt that is put in can decide, at its place
+abbrev pub new_receipt : Added → Place → Option Bool
+new_receipt (put.Submit _) q = None
+new_receipt (put.Receipt p can) q = cond (eq_by_cmp place_cmp q p) (Some can) None
+new_receipt put.Nothing q = None
+
+-- at a place a submit of the key comes, or what stood there stays or goes
+abbrev pub SubmitMove : LinkKey → Bool → Option LinkKey → Option LinkKey → Type 0
+SubmitMove key true x y = (x ≡ None) × (y ≡ Some key)
+SubmitMove key false x y = (y ≡ x) ⊎ (y ≡ None)
+
+-- A receipt of the key that can decide or not.
+pub record IsOfKey (key : LinkKey) (can : Bool) (y : Option GroupedReceipt) : Type 0 where
+  pub r : GroupedReceipt
+  pub is : y ≡ Some r
+  pub own : r.key ≡ key
+  pub decides : r.decides ≡ can
+
+abbrev pub ReceiptMove : LinkKey → Option Bool → Option GroupedReceipt → Option GroupedReceipt → Type 0
+ReceiptMove key None x y = (y ≡ x) ⊎ (y ≡ None)
+ReceiptMove key (Some can) x y = (x ≡ None) × IsOfKey key can y
+
+-- Where another receipt decides: one that is put in does, and the one that did is told where it is there still.
+pub record IsRival (g h : Grouping) (key : LinkKey) (added : Added) : Type 0 where
+  pub new : (q : Place) (can : Bool) → new_receipt added q ≡ Some can → is_at_place (decider_of (outlook_in h key)) q ≡ true
+  pub stays : (q : Place) (r : GroupedReceipt) → get h.receipts q ≡ Some r → is_at_place (decider_of (outlook_in g key)) q ≡ true
+      → (rival (outlook_in g key) added ≡ decider_of (outlook_in g key)) × (is_some (decider_of (outlook_in h key)) ≡ true)
+  pub kept : (q : Place) → is_at_place (rival (outlook_in g key) added) q ≡ true → get h.receipts q ≡ get g.receipts q
+
+-- One member more or less.
+pub record Moves (g h : Grouping) (key : LinkKey) (added : Added) : Type 0 where
+  pub submit : (q : Place) → SubmitMove key (is_new_submit added q) (get g.submits q) (get h.submits q)
+  pub receipt : (q : Place) → ReceiptMove key (new_receipt added q) (get g.receipts q) (get h.receipts q)
+  pub elsewhere : (k : LinkKey) → same_key key k ≡ false → outlook_in h k ≡ outlook_in g k
+  pub anew : same_decider (outlook_in g key) (outlook_in h key) ≡ false → IsRival g h key added
+
+-- where a receipt decides, one of the key that can stands
+pub decider-can : (g : Grouping) (key : LinkKey) (q : Place) → is_at_place (decider_of (outlook_in g key)) q ≡ true → IsOfKey key true (get g.receipts q)
+decider-can g key q t = by (reduce earlier (candidates g key)) refl t
+  where
+    by : (o : Option m.Candidate) → reduce earlier (candidates g key) ≡ o → is_at_place (option_map (λ e. e.place) (option_map earliest_at o)) q ≡ true → IsOfKey key true (get g.receipts q)
+    by None e d = absurd (false≢true d)
+    by (Some c) e d = record {
+      r = record { key = key; moment = c.0; decides = true };
+      is = ap (λ (p : Place). get g.receipts p) (sym (same_place c.1 q d)) ∙ ((first-is g key (Some c) e).0).stands;
+      own = refl;
+      decides = refl;
+    }
+
+rival_was : (b : Outlook) (added : Added) (q : Place) → is_at_place (rival b added) q ≡ true → is_at_place (decider_of b) q ≡ true
+rival_was b (put.Submit _) q h = absurd (false≢true h)
+rival_was b (put.Receipt _ _) q h = h
+rival_was b put.Nothing q h = absurd (false≢true h)
+
+nothing : {A : Type 0} (x : A) (y : Option A) → y ≡ None → y ≡ Some x → ⊥
+nothing x y e f = absurd cc
+
+one_of : {A : Type 0} (x z : A) (y : Option A) → y ≡ Some x → y ≡ Some z → x ≡ z
+one_of x z y e f = cc
+
+never : (b : Bool) → (b ≡ true → ⊥) → b ≡ false
+never true h = absurd (h refl)
+never false h = refl
+
+-- ---- submits
+
+module _ (g h : Grouping) (key : LinkKey) (added : Added) (moves : Moves g h key added) (q : Place) where
+  abbrev before : Outlook
+  before = outlook_in g key
+
+  abbrev after : Outlook
+  after = outlook_in h key
+
+  abbrev submits_changed : Option LinkKey → Option LinkKey → Option Standing
+  submits_changed x y = changed (option_map (λ k. submit_standing_of (outlook_in g k)) x) (option_map (λ k. submit_standing_of (outlook_in h k)) y)
+
+  submits_are : changed (submit_at g q) (submit_at h q) ≡ submits_changed (get g.submits q) (get h.submits q)
+  submits_are = λ i. changed (option_map (λ k. told-submit g k i) (get g.submits q)) (option_map (λ k. told-submit h k i) (get h.submits q))
+
+  abbrev submit_now : Standing
+  submit_now = submit_standing_of after
+
+  abbrev submit_then : Standing
+  submit_then = submit_standing_of before
+
+  -- where standings differ, or are one, that of now is told, or nothing is
+  turned : (s t : Standing) (b : Bool) → same_standing s t ≡ b → changed (Some s) (Some t) ≡ cond b None (Some t)
+  turned s t b e = ap (λ b. cond b None (Some t)) e
+
+  other_submit : (k : LinkKey) → same_key key k ≡ false → submits_changed (Some k) (Some k) ≡ None
+  other_submit k n =
+      ap (λ (o : Outlook). changed (Some (submit_standing_of (outlook_in g k))) (Some (submit_standing_of o))) (moves.elsewhere k n)
+      ∙ turned (submit_standing_of (outlook_in g k)) (submit_standing_of (outlook_in g k)) true (standing-itself (submit_standing_of (outlook_in g k)))
+
+  own_submit : (k : LinkKey) (b : Bool) → same_key key k ≡ true → same_standing submit_then submit_now ≡ b → submits_changed (Some k) (Some k) ≡ cond b None (Some submit_now)
+  own_submit k b s e = ap (λ (l : LinkKey). submits_changed (Some l) (Some l)) (sym (one_key key k s)) ∙ turned submit_then submit_now b e
+
+  abbrev of_submits : Option LinkKey → Option Standing
+  of_submits None = None
+  of_submits (Some k) = cond (same_key key k) (Some submit_now) None
+
+  -- all are told
+  all_submits : (x y : Option LinkKey) (n : Bool) → SubmitMove key n x y → (x ≡ Some key → y ≡ Some key → same_standing submit_then submit_now ≡ false) → of_submits y ≡ submits_changed x y
+  all_submits x y true move d =
+      ap of_submits move.1 ∙ ap (λ b. cond b (Some submit_now) None) (own_key key) ∙ sym (λ i. submits_changed (move.0 i) (move.1 i))
+  all_submits x y false (inr gone) d = ap of_submits gone ∙ sym (ap (submits_changed x) gone)
+  all_submits None y false (inl same) d = ap of_submits same ∙ sym (ap (submits_changed None) same)
+  all_submits (Some k) y false (inl same) d = ap of_submits same ∙ by (same_key key k) refl ∙ sym (ap (submits_changed (Some k)) same)
+    where
+      by : (b : Bool) → same_key key k ≡ b → cond (same_key key k) (Some submit_now) None ≡ submits_changed (Some k) (Some k)
+      by true s = ap (λ b. cond b (Some submit_now) None) s ∙ sym (own_submit k false s (let same_one = ap Some (sym (one_key key k s)) in d same_one (same ∙ same_one)))
+      by false s = ap (λ b. cond b (Some submit_now) None) s ∙ sym (other_submit k s)
+
+  -- the newcomer alone is told
+  new_submits : (x y : Option LinkKey) (n : Bool) → SubmitMove key n x y → same_standing submit_then submit_now ≡ true → cond n (Some submit_now) None ≡ submits_changed x y
+  new_submits x y true move d = sym (λ i. submits_changed (move.0 i) (move.1 i))
+  new_submits x y false (inr gone) d = sym (ap (submits_changed x) gone)
+  new_submits None y false (inl same) d = sym (ap (submits_changed None) same)
+  new_submits (Some k) y false (inl same) d = by (same_key key k) refl ∙ sym (ap (submits_changed (Some k)) same)
+    where
+      by : (b : Bool) → same_key key k ≡ b → None ≡ submits_changed (Some k) (Some k)
+      by true s = sym (own_submit k true s d)
+      by false s = sym (other_submit k s)
+
+  newcomer_at : (a : Added) → told_at q (newcomer_submit after a) ≡ cond (is_new_submit a q) (Some submit_now) None
+  newcomer_at (put.Submit p) = refl
+  newcomer_at (put.Receipt _ _) = refl
+  newcomer_at put.Nothing = refl
+
+  -- ---- receipts
+
+  abbrev receipts_changed : Option GroupedReceipt → Option GroupedReceipt → Option Standing
+  receipts_changed x y = changed (option_map (λ r. receipt_standing_of (outlook_in g r.key) q r.decides) x) (option_map (λ r. receipt_standing_of (outlook_in h r.key) q r.decides) y)
+
+  receipts_are : changed (receipt_at g q) (receipt_at h q) ≡ receipts_changed (get g.receipts q) (get h.receipts q)
+  receipts_are = λ i. changed (option_map (λ r. told-receipt g q r i) (get g.receipts q)) (option_map (λ r. told-receipt h q r i) (get h.receipts q))
+
+  abbrev receipt_now : Bool → Standing
+  receipt_now can = receipt_standing_of after q can
+
+  abbrev receipt_then : Bool → Standing
+  receipt_then can = receipt_standing_of before q can
+
+  other_receipt : (r : GroupedReceipt) → same_key key r.key ≡ false → receipts_changed (Some r) (Some r) ≡ None
+  other_receipt r n =
+      ap (λ (o : Outlook). changed (Some (receipt_standing_of (outlook_in g r.key) q r.decides)) (Some (receipt_standing_of o q r.decides))) (moves.elsewhere r.key n)
+      ∙ turned (receipt_standing_of (outlook_in g r.key) q r.decides) (receipt_standing_of (outlook_in g r.key) q r.decides) true (standing-itself (receipt_standing_of (outlook_in g r.key) q r.decides))
+
+  own_receipt : (r : GroupedReceipt) (b : Bool) → same_key key r.key ≡ true → same_standing (receipt_then r.decides) (receipt_now r.decides) ≡ b
+      → receipts_changed (Some r) (Some r) ≡ cond b None (Some (receipt_now r.decides))
+  own_receipt r b s e =
+      ap (λ (l : LinkKey). changed (Some (receipt_standing_of (outlook_in g l) q r.decides)) (Some (receipt_standing_of (outlook_in h l) q r.decides))) (sym (one_key key r.key s))
+      ∙ turned (receipt_then r.decides) (receipt_now r.decides) b e
+
+  new_one : (x y : Option GroupedReceipt) (can : Bool) → x ≡ None → IsOfKey key can y → receipts_changed x y ≡ Some (receipt_now can)
+  new_one x y can none new =
+      (λ i. receipts_changed (none i) (new.is i)) ∙ (λ i. Some (receipt_standing_of (outlook_in h (new.own i)) q (new.decides i)))
+
+  abbrev of_receipts : Option GroupedReceipt → Option Standing
+  of_receipts None = None
+  of_receipts (Some r) = cond (same_key key r.key) (Some (receipt_now r.decides)) None
+
+  -- all are told
+  all_receipts : (x y : Option GroupedReceipt) (n : Option Bool) → ReceiptMove key n x y → ((can : Bool) → same_standing (receipt_then can) (receipt_now can) ≡ false) → of_receipts y ≡ receipts_changed x y
+  all_receipts x y (Some can) move d =
+      ap of_receipts move.1.is ∙ (λ i. cond (same_key key (move.1.own i)) (Some (receipt_now (move.1.decides i))) None) ∙ ap (λ b. cond b (Some (receipt_now can)) None) (own_key key)
+      ∙ sym (new_one x y can move.0 move.1)
+  all_receipts x y None (inr gone) d = ap of_receipts gone ∙ sym (ap (receipts_changed x) gone)
+  all_receipts None y None (inl same) d = ap of_receipts same ∙ sym (ap (receipts_changed None) same)
+  all_receipts (Some r) y None (inl same) d = ap of_receipts same ∙ by (same_key key r.key) refl ∙ sym (ap (receipts_changed (Some r)) same)
+    where
+      by : (b : Bool) → same_key key r.key ≡ b → cond (same_key key r.key) (Some (receipt_now r.decides)) None ≡ receipts_changed (Some r) (Some r)
+      by true s = ap (λ b. cond b (Some (receipt_now r.decides)) None) s ∙ sym (own_receipt r false s (d r.decides))
+      by false s = ap (λ b. cond b (Some (receipt_now r.decides)) None) s ∙ sym (other_receipt r s)
+
+  abbrev of_newcomer : Option Bool → Option Standing
+  of_newcomer None = None
+  of_newcomer (Some can) = Some (receipt_now can)
+
+  -- the newcomer alone is told
+  new_receipts : (x y : Option GroupedReceipt) (n : Option Bool) → ReceiptMove key n x y → ((can : Bool) → same_standing (receipt_then can) (receipt_now can) ≡ true) → of_newcomer n ≡ receipts_changed x y
+  new_receipts x y (Some can) move d = sym (new_one x y can move.0 move.1)
+  new_receipts x y None (inr gone) d = sym (ap (receipts_changed x) gone)
+  new_receipts None y None (inl same) d = sym (ap (receipts_changed None) same)
+  new_receipts (Some r) y None (inl same) d = by (same_key key r.key) refl ∙ sym (ap (receipts_changed (Some r)) same)
+    where
+      by : (b : Bool) → same_key key r.key ≡ b → None ≡ receipts_changed (Some r) (Some r)
+      by true s = sym (own_receipt r true s (d r.decides))
+      by false s = sym (other_receipt r s)
+
+  newcomer_receipt_at : (a : Added) → told_at q (newcomer_receipt after a) ≡ of_newcomer (new_receipt a q)
+  newcomer_receipt_at (put.Submit _) = refl
+  newcomer_receipt_at (put.Receipt p can) = by (eq_by_cmp place_cmp q p) refl
+    where
+      by : (b : Bool) → eq_by_cmp place_cmp q p ≡ b → cond b (Some (receipt_standing_of after p can)) None ≡ of_newcomer (cond b (Some can) None)
+      by true t = ap (λ (x : Place). Some (receipt_standing_of after x can)) (sym (same_place q p t))
+      by false t = refl
+  newcomer_receipt_at put.Nothing = refl
+
+  -- ---- receipts, where another decides
+
+  abbrev now_at : Bool
+  now_at = is_at_place (decider_of after) q
+
+  abbrev then_at : Bool
+  then_at = is_at_place (decider_of before) q
+
+  abbrev rival_at : Bool
+  rival_at = is_at_place (rival before added) q
+
+  -- what the changes of deciding receipts tell of the place
+  abbrev of_deciders : Bool → Bool → Option Standing
+  of_deciders now rival = cond now (Some Deciding) (cond (rival && is_some (decider_of after)) (Some Extra) None)
+
+  module _ (t : turn_between before after ≡ Deciders) (rivals : IsRival g h key added) where
+    not_now : (get h.receipts q ≡ None) → now_at ≡ false
+    not_now gone = never now_at (λ e. let d = decider-can h key q e in nothing d.r (get h.receipts q) gone d.is)
+
+    not_rival : (get h.receipts q ≡ None) → rival_at ≡ false
+    not_rival gone = never rival_at (λ e. let d = decider-can g key q (rival_was before added q e) in nothing d.r (get h.receipts q) gone (rivals.kept q e ∙ d.is))
+
+    foreign_now : (r : GroupedReceipt) → get h.receipts q ≡ Some r → same_key key r.key ≡ false → now_at ≡ false
+    foreign_now r is n = never now_at (λ e. let d = decider-can h key q e in
+        false≢true (sym n ∙ ap (λ (x : GroupedReceipt). same_key key x.key) (one_of r d.r (get h.receipts q) is d.is) ∙ ap (same_key key) d.own ∙ own_key key))
+
+    foreign_rival : (r : GroupedReceipt) → get h.receipts q ≡ Some r → same_key key r.key ≡ false → rival_at ≡ false
+    foreign_rival r is n = never rival_at (λ e. let d = decider-can g key q (rival_was before added q e) in
+        false≢true (sym n ∙ ap (λ (x : GroupedReceipt). same_key key x.key) (one_of r d.r (get h.receipts q) is (rivals.kept q e ∙ d.is)) ∙ ap (same_key key) d.own ∙ own_key key))
+
+    quiet : now_at ≡ false → rival_at ≡ false → of_deciders now_at rival_at ≡ None
+    quiet n r = λ i. of_deciders (n i) (r i)
+
+    -- the receipt that stands there before and now, of the key
+    own_by : (r : GroupedReceipt) → get h.receipts q ≡ Some r → get g.receipts q ≡ Some r → same_key key r.key ≡ true → (now was : Bool) → now_at ≡ now → then_at ≡ was
+        → of_deciders now_at rival_at ≡ receipts_changed (Some r) (Some r)
+    own_by r is was_is s true true n w =
+        absurd (false≢true (sym (anew-is before after t).other ∙ (λ i. same_option (eq_by_cmp place_cmp) (same_at (decider_of before) (Some q) w i) (same_at (decider_of after) (Some q) n i)) ∙ same_self (Some q)))
+    own_by r is was_is s true false n w =
+        ap (λ b. of_deciders b rival_at) n
+        ∙ sym (own_receipt r false s ((λ i. same_standing ((deciders-before before after q r.decides t ∙ ap (λ b. cond b Deciding (cond r.decides Extra Noted)) w) i) ((deciders-after before after q r.decides t ∙ ap (λ b. cond b Deciding (cond r.decides Extra Noted)) n) i)) ∙ not_deciding r.decides)
+        ∙ ap Some (deciders-after before after q r.decides t ∙ ap (λ b. cond b Deciding (cond r.decides Extra Noted)) n))
+      where
+        not_deciding : (c : Bool) → same_standing (cond c Extra Noted) Deciding ≡ false
+        not_deciding true = refl
+        not_deciding false = refl
+    own_by r is was_is s false true n w =
+        let told = rivals.stays q r is w in
+        let d = decider-can g key q w in
+        let can : r.decides ≡ true = ap (λ (x : GroupedReceipt). x.decides) (one_of r d.r (get g.receipts q) was_is d.is) ∙ d.decides in
+        let now : receipt_now r.decides ≡ Extra = deciders-after before after q r.decides t ∙ (λ i. cond (n i) Deciding (cond (can i) Extra Noted)) in
+        (λ i. cond (n i) (Some Deciding) (cond ((ap (λ o. is_at_place o q) told.0 ∙ w) i && told.1 i) (Some Extra) None))
+        ∙ sym (own_receipt r false s (λ i. same_standing ((deciders-before before after q r.decides t ∙ ap (λ b. cond b Deciding (cond r.decides Extra Noted)) w) i) (now i)) ∙ ap Some now)
+    own_by r is was_is s false false n w =
+        let still : rival_at ≡ false = never rival_at (λ e. false≢true (sym w ∙ rival_was before added q e)) in
+        quiet n still
+        ∙ sym (own_receipt r true s ((λ i. same_standing ((deciders-before before after q r.decides t ∙ ap (λ b. cond b Deciding (cond r.decides Extra Noted)) w) i) ((deciders-after before after q r.decides t ∙ ap (λ b. cond b Deciding (cond r.decides Extra Noted)) n) i)) ∙ standing-itself (cond r.decides Extra Noted)))
+
+    anew_receipts : (n : Option Bool) → new_receipt added q ≡ n → ReceiptMove key n (get g.receipts q) (get h.receipts q) → of_deciders now_at rival_at ≡ receipts_changed (get g.receipts q) (get h.receipts q)
+    anew_receipts (Some can) e move =
+        let n = rivals.new q can e in
+        ap (λ b. of_deciders b rival_at) n
+        ∙ sym (new_one (get g.receipts q) (get h.receipts q) can move.0 move.1 ∙ ap Some (deciders-after before after q can t ∙ ap (λ b. cond b Deciding (cond can Extra Noted)) n))
+    anew_receipts None e (inr gone) = quiet (not_now gone) (not_rival gone) ∙ sym (ap (receipts_changed (get g.receipts q)) gone)
+    anew_receipts None e (inl same) = by (get g.receipts q) refl
+      where
+        by : (x : Option GroupedReceipt) → get g.receipts q ≡ x → of_deciders now_at rival_at ≡ receipts_changed (get g.receipts q) (get h.receipts q)
+        by None was = quiet (not_now (same ∙ was)) (not_rival (same ∙ was)) ∙ sym (ap (receipts_changed (get g.receipts q)) (same ∙ was))
+        by (Some r) was = of_key_by (same_key key r.key) refl ∙ sym (λ i. receipts_changed (was i) ((same ∙ was) i))
+          where
+            of_key_by : (b : Bool) → same_key key r.key ≡ b → of_deciders now_at rival_at ≡ receipts_changed (Some r) (Some r)
+            of_key_by true s = own_by r (same ∙ was) was s now_at then_at refl refl
+            of_key_by false s = quiet (foreign_now r (same ∙ was) s) (foreign_rival r (same ∙ was) s) ∙ sym (other_receipt r s)
+
+-- ---- what the changes of deciding receipts tell
+
+turned_test : (p q : Place) → eq_by_cmp place_cmp p q ≡ eq_by_cmp place_cmp q p
+turned_test p q = (eq_by_cmp_equiv places_total).symm p q
+
+crossed : (a b : Bool) (x y : Option Standing) → (a ≡ true → b ≡ true → ⊥) → cond a x (cond b y None) ≡ cond b y (cond a x None)
+crossed true true x y h = absurd (h refl refl)
+crossed true false x y h = refl
+crossed false true x y h = refl
+crossed false false x y h = refl
+
+deciders_tell : (q : Place) (rival now : Option Place) → ((v d : Place) → rival ≡ Some v → now ≡ Some d → eq_by_cmp place_cmp v d ≡ false)
+    → told_at q (decider_changes rival now) ≡ cond (is_at_place now q) (Some Deciding) (cond (is_at_place rival q && is_some now) (Some Extra) None)
+deciders_tell q None None h = refl
+deciders_tell q (Some v) None h = sym (ap (λ b. cond b (Some Extra) None) (none (eq_by_cmp place_cmp v q)))
+  where
+    none : (b : Bool) → (b && false) ≡ false
+    none true = refl
+    none false = refl
+deciders_tell q None (Some d) h = ap (λ b. cond b (Some Deciding) None) (turned_test q d)
+deciders_tell q (Some v) (Some d) h =
+    by (is_lt (place_cmp d v)) ∙ (λ i. cond (turned_test q d i) (Some Deciding) (cond (turned_test q v i) (Some Extra) None)) ∙ ap (λ b. cond (eq_by_cmp place_cmp d q) (Some Deciding) (cond b (Some Extra) None)) (sym (whole (eq_by_cmp place_cmp v q)))
+  where
+    whole : (b : Bool) → (b && true) ≡ b
+    whole true = refl
+    whole false = refl
+
+    by : (b : Bool) → told_at q (cond b (change_at d Deciding ∷ change_at v Extra ∷ []) (change_at v Extra ∷ change_at d Deciding ∷ [])) ≡ cond (eq_by_cmp place_cmp q d) (Some Deciding) (cond (eq_by_cmp place_cmp q v) (Some Extra) None)
+    by true = refl
+    by false = crossed (eq_by_cmp place_cmp q v) (eq_by_cmp place_cmp q d) (Some Extra) (Some Deciding)
+        (λ a b. false≢true (sym (h v d refl refl) ∙ own_place v d (sym (same_place q v a) ∙ same_place q d b)))
+
+rival_apart : (b a : Outlook) (added : Added) → same_decider b a ≡ false → (v d : Place) → rival b added ≡ Some v → decider_of a ≡ Some d → eq_by_cmp place_cmp v d ≡ false
+rival_apart b a (put.Submit _) n v d r e = absurd cc
+rival_apart b a (put.Receipt _ _) n v d r e = sym (λ i. same_option (eq_by_cmp place_cmp) (r i) (e i)) ∙ n
+rival_apart b a put.Nothing n v d r e = absurd cc
+
+-- ---- in the order of places
+
+pub sorted_none : IsStrictlySortedBy place_cmp []
+unfolding IsStrictlySortedBy
+sorted_none = tt
+
+pub sorted_one : (p : Place) → IsStrictlySortedBy place_cmp (p ∷ [])
+unfolding IsStrictlySortedBy
+sorted_one p = (tt, tt)
+
+pub sorted_two : (p q : Place) → place_cmp p q ≡ Less → IsStrictlySortedBy place_cmp (p ∷ q ∷ [])
+unfolding IsStrictlySortedBy
+sorted_two p q l = ((l, tt), (tt, tt))
+
+deciders_sorted : (rival now : Option Place) → ((v d : Place) → rival ≡ Some v → now ≡ Some d → eq_by_cmp place_cmp v d ≡ false) → IsStrictlySortedBy place_cmp (map (λ (c : Change). c.place) (decider_changes rival now))
+deciders_sorted None None h = sorted_none
+deciders_sorted (Some v) None h = sorted_none
+deciders_sorted None (Some d) h = sorted_one d
+deciders_sorted (Some v) (Some d) h = by (place_cmp d v) refl
+  where
+    by : (r : Ordering) → place_cmp d v ≡ r → IsStrictlySortedBy place_cmp (map (λ (c : Change). c.place) (cond (is_lt (place_cmp d v)) (change_at d Deciding ∷ change_at v Extra ∷ []) (change_at v Extra ∷ change_at d Deciding ∷ [])))
+    by Less e = subst (λ b. IsStrictlySortedBy place_cmp (map (λ (c : Change). c.place) (cond b (change_at d Deciding ∷ change_at v Extra ∷ []) (change_at v Extra ∷ change_at d Deciding ∷ [])))) (sym (ap is_lt e)) (sorted_two d v e)
+    by Equal e = absurd (false≢true (sym (h v d refl refl) ∙ turned_test v d ∙ ap is_eq e))
+    by Greater e = subst (λ b. IsStrictlySortedBy place_cmp (map (λ (c : Change). c.place) (cond b (change_at d Deciding ∷ change_at v Extra ∷ []) (change_at v Extra ∷ change_at d Deciding ∷ [])))) (sym (ap is_lt e)) (sorted_two v d (places_total.antisymm v d ∙ ap ordering_reverse e))
+
+-- ---- just this is told
+
+-- a submit of a key counts
+submit-counts : (g : Grouping) (key : LinkKey) (place : Place) → get g.submits place ≡ Some key → 1 ≤ matches g key
+submit-counts g key place there = let one = number-less g.submits key key place true there (own_key key) in omega (arith, one)
+
+module _ (g : Grouping) (s : List (Member × Bool)) (r : List (Member × Said)) (key : LinkKey) (added : Added)
+    (moves : Moves g (grouping_in s r) key added) (submits_once : StandsOnce submit_value s) (receipts_once : StandsOnce receipt_value r) where
+  abbrev h : Grouping
+  h = grouping_in s r
+
+  abbrev b : Outlook
+  b = outlook_in g key
+
+  abbrev a : Outlook
+  a = outlook_in h key
+
+  walked_submits : (q : Place) → told_at q (submit_changes a (members_in key s)) ≡ of_submits g h key added moves q (get h.submits q)
+  walked_submits q =
+      told-members submit_value (λ k. k) (λ k v. refl) key (λ p v. submit_standing_of a) (λ p w. submit_standing_of a) (λ p k v. refl) q s submits_once
+      ∙ by (at submit_value q s)
+      ∙ sym (ap (of_submits g h key added moves q) (get-from_entries places_total (map (by_place submit_value) s) q))
+    where
+      by : (x : Option LinkKey) → told_of submit_value (λ k. k) (λ k v. refl) key (λ p v. submit_standing_of a) (λ p w. submit_standing_of a) (λ p k v. refl) q x ≡ of_submits g h key added moves q x
+      by None = refl
+      by (Some k) = refl
+
+  walked_receipts : (q : Place) → told_at q (receipt_changes a (members_in key r)) ≡ of_receipts g h key added moves q (get h.receipts q)
+  walked_receipts q =
+      told-members receipt_value (λ w. w.key) (λ k v. refl) key (λ p v. receipt_standing_of a p v.decides) (λ p w. receipt_standing_of a p w.decides) (λ p k v. refl) q r receipts_once
+      ∙ by (at receipt_value q r)
+      ∙ sym (ap (of_receipts g h key added moves q) (get-from_entries places_total (map (by_place receipt_value) r) q))
+    where
+      by : (x : Option GroupedReceipt) → told_of receipt_value (λ w. w.key) (λ k v. refl) key (λ p v. receipt_standing_of a p v.decides) (λ p w. receipt_standing_of a p w.decides) (λ p k v. refl) q x ≡ of_receipts g h key added moves q x
+      by None = refl
+      by (Some w) = refl
+
+  submits_told : (t : Turn) → turn_between b a ≡ t → (q : Place) → told_at q (told_submits t a added (members_in key s)) ≡ changed (submit_at g q) (submit_at h q)
+  submits_told Each t q =
+      walked_submits q ∙ all_submits g h key added moves q (get g.submits q) (get h.submits q) (is_new_submit added q) (moves.submit q)
+      (λ x y. each-submit b a (submit-counts g key q x) (submit-counts h key q y) t) ∙ sym (submits_are g h key added moves q)
+  submits_told Deciders t q =
+      walked_submits q ∙ all_submits g h key added moves q (get g.submits q) (get h.submits q) (is_new_submit added q) (moves.submit q)
+      (λ x y. deciders-submit b a t) ∙ sym (submits_are g h key added moves q)
+  submits_told Newcomer t q =
+      newcomer_at g h key added moves q added ∙ new_submits g h key added moves q (get g.submits q) (get h.submits q) (is_new_submit added q) (moves.submit q) (newcomer-submit b a t)
+      ∙ sym (submits_are g h key added moves q)
+
+  receipts_told : (t : Turn) → turn_between b a ≡ t → (q : Place) → told_at q (told_receipts t b a added (members_in key r)) ≡ changed (receipt_at g q) (receipt_at h q)
+  receipts_told Each t q =
+      walked_receipts q ∙ all_receipts g h key added moves q (get g.receipts q) (get h.receipts q) (new_receipt added q) (moves.receipt q) (λ can. each-receipt b a q can t)
+      ∙ sym (receipts_are g h key added moves q)
+  receipts_told Deciders t q =
+      let other = (anew-is b a t).other in
+      deciders_tell q (rival b added) (decider_of a) (rival_apart b a added other)
+      ∙ anew_receipts g h key added moves q t (moves.anew other) (new_receipt added q) refl (moves.receipt q)
+      ∙ sym (receipts_are g h key added moves q)
+  receipts_told Newcomer t q =
+      newcomer_receipt_at g h key added moves q added
+      ∙ new_receipts g h key added moves q (get g.receipts q) (get h.receipts q) (new_receipt added q) (moves.receipt q) (λ can. newcomer-receipt b a q can t)
+      ∙ sym (receipts_are g h key added moves q)
+
+  submit_places : (ms : List (Place × Bool)) → map (λ (c : Change). c.place) (submit_changes a ms) ≡ keys_of ms
+  submit_places [] = refl
+  submit_places (m ∷ ms) = ap (λ (ps : List Place). m.0 ∷ ps) (submit_places ms)
+
+  receipt_places : (ms : List (Place × Said)) → map (λ (c : Change). c.place) (receipt_changes a ms) ≡ keys_of ms
+  receipt_places [] = refl
+  receipt_places (m ∷ ms) = ap (λ (ps : List Place). m.0 ∷ ps) (receipt_places ms)
+
+  submits_sorted : (t : Turn) → SubmitsByPlace t (members_in key s) → IsStrictlySortedBy place_cmp (map (λ (c : Change). c.place) (told_submits t a added (members_in key s)))
+  submits_sorted Each so = subst (IsStrictlySortedBy place_cmp) (sym (submit_places (members_in key s))) so
+  submits_sorted Deciders so = subst (IsStrictlySortedBy place_cmp) (sym (submit_places (members_in key s))) so
+  submits_sorted Newcomer so = by added
+    where
+      by : (x : Added) → IsStrictlySortedBy place_cmp (map (λ (c : Change). c.place) (newcomer_submit a x))
+      by (put.Submit p) = sorted_one p
+      by (put.Receipt _ _) = sorted_none
+      by put.Nothing = sorted_none
+
+  receipts_sorted : (t : Turn) → turn_between b a ≡ t → ReceiptsByPlace t (members_in key r) → IsStrictlySortedBy place_cmp (map (λ (c : Change). c.place) (told_receipts t b a added (members_in key r)))
+  receipts_sorted Each t so = subst (IsStrictlySortedBy place_cmp) (sym (receipt_places (members_in key r))) so
+  receipts_sorted Deciders t so = deciders_sorted (rival b added) (decider_of a) (rival_apart b a added (anew-is b a t).other)
+  receipts_sorted Newcomer t so = by added
+    where
+      by : (x : Added) → IsStrictlySortedBy place_cmp (map (λ (c : Change). c.place) (newcomer_receipt a x))
+      by (put.Submit _) = sorted_none
+      by (put.Receipt p _) = sorted_one p
+      by put.Nothing = sorted_none
+
+  abbrev told_by : Outlook → Outlook → List Change
+  told_by x y = told_submits (turn_between x y) y added (members_in key s) ++ told_receipts (turn_between x y) x y added (members_in key r)
+
+  -- what is told by the outlooks that are kept before and after is what differs
+  pub tells : (x y : Outlook) → x ≡ b → y ≡ a → (changes : List Change) → changes ≡ told_by x y → SubmitsByPlace (turn_between x y) (members_in key s) → ReceiptsByPlace (turn_between x y) (members_in key r)
+      → TellsChanges g h changes
+  tells x y is_b is_a changes told so sr =
+      let turn : turn_between x y ≡ turn_between b a = λ i. turn_between (is_b i) (is_a i) in
+      record {
+        submits = told_submits (turn_between b a) a added (members_in key s);
+        receipts = told_receipts (turn_between b a) b a added (members_in key r);
+        parts = told ∙ (λ i. told_by (is_b i) (is_a i));
+        submits_by_place = submits_sorted (turn_between b a) (subst (λ (t : Turn). SubmitsByPlace t (members_in key s)) turn so);
+        receipts_by_place = receipts_sorted (turn_between b a) refl (subst (λ (t : Turn). ReceiptsByPlace t (members_in key r)) turn sr);
+        each_submit = submits_told (turn_between b a) refl;
+        each_receipt = receipts_told (turn_between b a) refl;
+      }

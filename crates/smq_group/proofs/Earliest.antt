@@ -1,0 +1,413 @@
+-- The earliest receipt of a key that can decide, as receipts come and go: there is one at most, so what comes after none
+-- of those that can is the one that is found.
+use Rattle.std.proofs.Common.{◌≡◌, ◌⊎◌, inl, inr, ℕ, Bool, true, false, cond, ◌||◌, List, [], ◌∷◌, Option, Some, None, refl, sym, ap, ◌∙◌, subst}
+use Rattle.std.specs.Prelude.{◌&&◌, ◌==◌, map, filter, option_map, find}
+use Rattle.std.specs.List.{AllByRecursion, list_any, reduce}
+use Rattle.std.specs.declared.cmp.Ordering.{Ordering}
+use Rattle.std.specs.declared.cmp.Ordering.TheVariants.{Less, Equal, Greater}
+use Rattle.std.specs.Cmp.{IsTotalOrder, tied_itself, upto}
+use Rattle.std.specs.Ordering.{eq_by_cmp, is_eq, is_gt, is_lt, nat_cmp, ordering_then, ordering_reverse}
+use Rattle.std.specs.Map.{keys_of, lookup}
+use Rattle.std.specs.BTreeMap.{is_at}
+use Rattle.std.specs.List.Sorted.{IsStrictlySortedBy}
+use Rattle.std.specs.FinMap as fin
+use Rattle.std.specs.FinMap.{entries, get, get-entries, nat_cmp-IsAntisymmetric}
+use Rattle.std.proofs.lemmas.Bool.{false≢true, eqb-true, eq-eqb}
+use Rattle.std.proofs.lemmas.Cmp.{on_total, then_total, nat_cmp_total}
+use Rattle.smq_kit.specs.declared.place.Place.{Place}
+use Rattle.smq_kit.specs.declared.link_key.LinkKey.{LinkKey}
+use Rattle.smq_kit.specs.Orders.{place_cmp}
+use Rattle.smq_kit.specs.LinkKeys.{link_key_cmp, same_key, kept_key_cmp}
+use Rattle.smq_kit.specs.Maps.{same_option}
+use Rattle.smq_kit.proofs.PlaceOrders.{places_total, places_exact}
+use Rattle.smq_kit.proofs.LinkKeyOrders.{link_keys_total, link_keys_exact}
+use Rattle.smq_kit.proofs.Comparisons.{is_equal, then_first, then_second}
+use Rattle.smq_kit.proofs.MapLemmas as maps
+use Rattle.smq_shelf.specs.within.KeyLaws.{place_order}
+use Rattle.smq_group.specs.Matching as m
+use Rattle.smq_group.specs.Matching.{Grouping, GroupedReceipt, CanDecide, candidates, candidate_cmp, earlier}
+use Rattle.smq_group.specs.declared.member.Candidate.{Candidate}
+use Rattle.smq_group.specs.declared.outlook.Earliest.{Earliest}
+use Rattle.smq_group.specs.within.KeyLaws.{one_candidate}
+use Rattle.smq_group.specs.within.Orders.{kept_candidate_cmp, kept_place_cmp}
+use Rattle.smq_group.specs.within.Outlooks.{is_before}
+use Rattle.smq_group.specs.within.Stored.{earliest_at, is_candidate}
+use Rattle.smq_group.specs.within.Walked.{earliest_of, is_after, first_candidate_after}
+use Rattle.smq_group.proofs.CandidateWalks.{candidates_total, of_candidate}
+use Rattle.smq_group.proofs.Least.{least-found, reduce-all}
+use Rattle.smq_group.proofs.Placing.{same_place, own_place, kept_keys_total}
+use Rattle.smq_group.proofs.Stepping.{both, finds, FindsUpTo, found-there, found-passes}
+
+pub own_key : (key : LinkKey) → same_key key key ≡ true
+own_key key = ap is_eq (tied_itself link_keys_total key)
+
+pub one_key : (a b : LinkKey) → same_key a b ≡ true → a ≡ b
+one_key a b e = link_keys_exact a b (is_equal (link_key_cmp a b) e)
+
+-- by moment, then by place
+pub pairs_total : IsTotalOrder candidate_cmp
+pairs_total = then_total (on_total (λ c. c.0) nat_cmp_total) (on_total (λ c. c.1) places_total)
+
+pub pairs_exact : (a b : m.Candidate) → candidate_cmp a b ≡ Equal → a ≡ b
+pairs_exact a b e =
+    let moments : Ordering = nat_cmp a.0 b.0 in
+    let places : Ordering = place_cmp a.1 b.1 in
+    λ i. (nat_cmp-IsAntisymmetric a.0 b.0 (then_first moments places e) i, places_exact a.1 b.1 (then_second moments places e) i)
+
+-- ---- the candidates of a grouping
+
+module _ (g : Grouping) (key : LinkKey) where
+  abbrev passes : Place × GroupedReceipt → Bool
+  passes e = same_key key e.1.key && e.1.decides
+
+  abbrev candidate : Place × GroupedReceipt → m.Candidate
+  candidate e = (e.1.moment, e.0)
+
+  can : (e : Place × GroupedReceipt) → get g.receipts e.0 ≡ Some e.1 → passes e ≡ true → CanDecide g key e.1.moment e.0
+  can e there h =
+      let parts = both (same_key key e.1.key) e.1.decides h in
+      record { stands = there ∙ (λ i. Some (record { key = sym (one_key key e.1.key parts.0) i; moment = e.1.moment; decides = parts.1 i })) }
+
+  all-can : (es : List (Place × GroupedReceipt)) → AllByRecursion (λ e. get g.receipts e.0 ≡ Some e.1) es
+      → AllByRecursion (λ (c : m.Candidate). CanDecide g key c.0 c.1) (map candidate (filter passes es))
+  all-can [] a = tt
+  all-can (e ∷ es) a =
+      elim (passes e) as (λ b. passes e ≡ b → AllByRecursion (λ (c : m.Candidate). CanDecide g key c.0 c.1)
+      (map candidate (cond b (e ∷ filter passes es) (filter passes es)))) [
+        | true ↦ λ h. (can e a.0 h, all-can es a.1)
+        | false ↦ λ h. all-can es a.1
+      ] refl
+
+  -- a receipt that can decide is among the candidates
+  among : (p : m.Candidate → Bool) (moment : ℕ) (place : Place) (es : List (Place × GroupedReceipt)) (r : GroupedReceipt)
+      → r ≡ (record { key = key; moment = moment; decides = true })
+      → fin.find place_cmp place es ≡ Some r → p (moment, place) ≡ true → list_any p (map candidate (filter passes es)) ≡ true
+  among p moment place [] r is e h = absurd cc
+  among p moment place (x ∷ es) r is e h =
+      elim (eq_by_cmp place_cmp place x.0) as (λ b. eq_by_cmp place_cmp place x.0 ≡ b → cond b (Some x.1) (fin.find place_cmp place es)
+      ≡ Some r → list_any p (map candidate (cond (passes x) (x ∷ filter passes es) (filter passes es))) ≡ true) [
+        | true ↦ λ t found.
+            let same : place ≡ x.0 = maps.same_key places_total places_exact place x.0 t in
+            let value : x.1 ≡ (record { key = key; moment = moment; decides = true }) = some_is x.1 r (Some x.1) refl found ∙ is in
+            let pass : passes x ≡ true = ap (λ (v : GroupedReceipt). same_key key v.key && v.decides) value ∙ ap (λ b. b && true) (own_key key) in
+            let at : p (candidate x) ≡ true = (λ i. p ((value i).moment, sym same i)) ∙ h in
+            ap (λ b. list_any p (map candidate (cond b (x ∷ filter passes es) (filter passes es)))) pass
+            ∙ ap (λ b. b || list_any p (map candidate (filter passes es))) at
+        | false ↦ λ t found. skip (passes x) x es (among p moment place es r is found h)
+      ] refl e
+    where
+      some_is : (x y : GroupedReceipt) (o : Option GroupedReceipt) → o ≡ Some x → o ≡ Some y → x ≡ y
+      some_is x y o e f = cc
+
+      or_true : (a b : Bool) → b ≡ true → (a || b) ≡ true
+      or_true true b e = refl
+      or_true false b e = e
+
+      skip : (b : Bool) (x : Place × GroupedReceipt) (es : List (Place × GroupedReceipt))
+          → list_any p (map candidate (filter passes es)) ≡ true
+          → list_any p (map candidate (cond b (x ∷ filter passes es) (filter passes es))) ≡ true
+      skip true x es e = or_true (p (candidate x)) (list_any p (map candidate (filter passes es))) e
+      skip false x es e = e
+
+  among-candidates : (p : m.Candidate → Bool) (moment : ℕ) (place : Place) → CanDecide g key moment place
+      → p (moment, place) ≡ true → list_any p (candidates g key) ≡ true
+  among-candidates p moment place h e = among p moment place (entries g.receipts)
+      (record { key = key; moment = moment; decides = true }) refl (sym (get-entries g.receipts place) ∙ h.stands) e
+
+-- ---- the earliest: one that can decide and comes after none that can, or none where none can
+
+abbrev pub IsFirst : Grouping → LinkKey → Option m.Candidate → Type 0
+IsFirst g key None = (moment : ℕ) (place : Place) → CanDecide g key moment place → ⊥
+IsFirst g key (Some c) = CanDecide g key c.0 c.1 × ((moment : ℕ) (place : Place) → CanDecide g key moment place → is_gt (candidate_cmp c (moment, place)) ≡ false)
+
+none_gt : (b : Bool) → (b ≡ true → ⊥) → b ≡ false
+none_gt true h = absurd (h refl)
+none_gt false h = refl
+
+no_candidates : (cs : List m.Candidate) → reduce earlier cs ≡ None → list_any (λ c. true) cs ≡ false
+no_candidates [] e = refl
+no_candidates (c ∷ cs) e = absurd cc
+
+pub first-is : (g : Grouping) (key : LinkKey) (o : Option m.Candidate) → reduce earlier (candidates g key) ≡ o → IsFirst g key o
+first-is g key None e = λ moment place can. false≢true (sym (no_candidates (candidates g key) e) ∙ among-candidates g key (λ c. true) moment place can refl)
+first-is g key (Some c) e =
+    let least = least-found candidate_cmp pairs_total (candidates g key) c e in (
+      reduce-all candidate_cmp pairs_total (λ (c : m.Candidate). CanDecide g key c.0 c.1) (candidates g key) c
+          (all-can g key (entries g.receipts) (maps.get-entry places_total places_exact g.receipts)) e,
+      λ moment place other. none_gt (is_gt (candidate_cmp c (moment, place))) (λ after.
+          false≢true (sym least.after_none ∙ among-candidates g key (λ y. is_gt (candidate_cmp c y)) moment place other after)),
+    )
+
+tied_both : (r s : Ordering) → s ≡ ordering_reverse r → is_gt r ≡ false → is_gt s ≡ false → r ≡ Equal
+tied_both Less s e p q = absurd (false≢true (sym q ∙ ap is_gt e))
+tied_both Equal s e p q = refl
+tied_both Greater s e p q = absurd (false≢true (sym p))
+
+one_first : (g : Grouping) (key : LinkKey) (a b : Option m.Candidate) → IsFirst g key a → IsFirst g key b → a ≡ b
+one_first g key None None x y = refl
+one_first g key None (Some d) x y = absurd (x d.0 d.1 y.0)
+one_first g key (Some c) None x y = absurd (y c.0 c.1 x.0)
+one_first g key (Some c) (Some d) x y =
+    ap Some (pairs_exact c d (tied_both (candidate_cmp c d) (candidate_cmp d c) (pairs_total.antisymm d c) (x.1 d.0 d.1 y.0) (y.1 c.0 c.1 x.0)))
+
+-- what is the earliest is the one that is found
+pub first-found : (g : Grouping) (key : LinkKey) (o : Option m.Candidate) → IsFirst g key o → reduce earlier (candidates g key) ≡ o
+first-found g key o f = one_first g key (reduce earlier (candidates g key)) o (first-is g key (reduce earlier (candidates g key)) refl) f
+
+-- ---- one receipt more
+
+-- One receipt more, where none stood.
+pub record HasMore (g h : Grouping) (place : Place) (r : GroupedReceipt) : Type 0 where
+  pub absent : get g.receipts place ≡ None
+  pub each : (q : Place) → get h.receipts q ≡ cond (eq_by_cmp place_cmp q place) (Some r) (get g.receipts q)
+
+some_receipt : (x y : GroupedReceipt) (o : Option GroupedReceipt) → o ≡ Some x → o ≡ Some y → x ≡ y
+some_receipt x y o e f = cc
+
+not_none : {A : Type 0} (x : A) (o : Option A) → o ≡ None → o ≡ Some x → ⊥
+not_none x o e f = absurd cc
+
+abbrev a_candidate : LinkKey → ℕ → GroupedReceipt
+a_candidate key moment = record { key = key; moment = moment; decides = true }
+
+module _ (g h : Grouping) (place : Place) (r : GroupedReceipt) (more : HasMore g h place r) (key : LinkKey) where
+  kept_can : (moment : ℕ) (p : Place) (b : Bool) → eq_by_cmp place_cmp p place ≡ b → CanDecide g key moment p → CanDecide h key moment p
+  kept_can moment p true t c = absurd (not_none (a_candidate key moment) (get g.receipts p) (ap (λ (x : Place). get g.receipts x) (same_place p place t) ∙ more.absent) c.stands)
+  kept_can moment p false t c = record { stands = more.each p ∙ ap (λ b. cond b (Some r) (get g.receipts p)) t ∙ c.stands }
+
+  -- what can decide then is the new one, or could before
+  split_can : (moment : ℕ) (p : Place) (b : Bool) → eq_by_cmp place_cmp p place ≡ b → CanDecide h key moment p → ((p ≡ place) × (r ≡ a_candidate key moment)) ⊎ CanDecide g key moment p
+  split_can moment p true t c =
+      inl (same_place p place t, some_receipt r (a_candidate key moment) (get h.receipts p) (more.each p ∙ ap (λ b. cond b (Some r) (get g.receipts p)) t) c.stands)
+  split_can moment p false t c = inr (record { stands = sym (more.each p ∙ ap (λ b. cond b (Some r) (get g.receipts p)) t) ∙ c.stands })
+
+  new_here : same_key key r.key ≡ true → r.decides ≡ true → CanDecide h key r.moment place
+  new_here s d = record {
+    stands = more.each place ∙ ap (λ b. cond b (Some r) (get g.receipts place)) (own_place place place refl) ∙ (λ i. Some (record { key = sym (one_key key r.key s) i; moment = r.moment; decides = d i }));
+  }
+
+  no_candidate : (moment : ℕ) → (same_key key r.key && r.decides) ≡ false → r ≡ a_candidate key moment → ⊥
+  no_candidate moment n e = false≢true (sym n ∙ ap (λ (x : GroupedReceipt). same_key key x.key && x.decides) e ∙ ap (λ b. b && true) (own_key key))
+
+  -- a receipt of another key, or that can't decide, changes nothing
+  pub more-other : (same_key key r.key && r.decides) ≡ false → (o : Option m.Candidate) → IsFirst g key o → IsFirst h key o
+  more-other n None f = λ moment p c. by (split_can moment p (eq_by_cmp place_cmp p place) refl c)
+    where
+      by : {moment : ℕ} {p : Place} → ((p ≡ place) × (r ≡ a_candidate key moment)) ⊎ CanDecide g key moment p → ⊥
+      by {moment = moment} {p = p} (inl e) = no_candidate moment n e.1
+      by {moment = moment} {p = p} (inr c) = f moment p c
+  more-other n (Some e) f = (kept_can e.0 e.1 (eq_by_cmp place_cmp e.1 place) refl f.0, λ moment p c. by moment p (split_can moment p (eq_by_cmp place_cmp p place) refl c))
+    where
+      by : (moment : ℕ) (p : Place) → ((p ≡ place) × (r ≡ a_candidate key moment)) ⊎ CanDecide g key moment p → is_gt (candidate_cmp e (moment, p)) ≡ false
+      by moment p (inl x) = absurd (no_candidate moment n x.1)
+      by moment p (inr c) = f.1 moment p c
+
+  at_new : (e : m.Candidate) (moment : ℕ) (p : Place) → (p ≡ place) × (r ≡ a_candidate key moment) → is_gt (candidate_cmp e (r.moment, place)) ≡ false → is_gt (candidate_cmp e (moment, p)) ≡ false
+  at_new e moment p x n = (λ i. is_gt (candidate_cmp e (sym (ap (λ (y : GroupedReceipt). y.moment) x.1) i, x.0 i))) ∙ n
+
+  itself : is_gt (candidate_cmp (r.moment, place) (r.moment, place)) ≡ false
+  itself = ap is_gt (tied_itself pairs_total (r.moment, place))
+
+  not_after : (a b : m.Candidate) → is_lt (candidate_cmp a b) ≡ false → is_gt (candidate_cmp b a) ≡ false
+  not_after a b n = turned (candidate_cmp a b) (candidate_cmp b a) (pairs_total.antisymm b a) n
+    where
+      turned : (r s : Ordering) → s ≡ ordering_reverse r → is_lt r ≡ false → is_gt s ≡ false
+      turned Less s e n = absurd (false≢true (sym n))
+      turned Equal s e n = ap is_gt e
+      turned Greater s e n = ap is_gt e
+
+  up_to : (r : Ordering) → is_lt r ≡ true → is_gt r ≡ false
+  up_to Less e = refl
+  up_to Equal e = refl
+  up_to Greater e = absurd (false≢true e)
+
+  -- one that can decide is the earliest where it comes before the one that was
+  pub more-first : same_key key r.key ≡ true → r.decides ≡ true → (o : Option m.Candidate) (b : Bool) → is_before (earliest_at (r.moment, place)) (option_map earliest_at o) ≡ b → IsFirst g key o
+      → IsFirst h key (cond b (Some (r.moment, place)) o)
+  more-first s d None false t f = absurd (false≢true (sym t))
+  more-first s d None true t f = (new_here s d, λ moment p c. by moment p (split_can moment p (eq_by_cmp place_cmp p place) refl c))
+    where
+      by : (moment : ℕ) (p : Place) → ((p ≡ place) × (r ≡ a_candidate key moment)) ⊎ CanDecide g key moment p → is_gt (candidate_cmp (r.moment, place) (moment, p)) ≡ false
+      by moment p (inl x) = at_new (r.moment, place) moment p x itself
+      by moment p (inr c) = absurd (f moment p c)
+  more-first s d (Some e) true t f = (new_here s d, λ moment p c. by moment p (split_can moment p (eq_by_cmp place_cmp p place) refl c))
+    where
+      by : (moment : ℕ) (p : Place) → ((p ≡ place) × (r ≡ a_candidate key moment)) ⊎ CanDecide g key moment p → is_gt (candidate_cmp (r.moment, place) (moment, p)) ≡ false
+      by moment p (inl x) = at_new (r.moment, place) moment p x itself
+      by moment p (inr c) = upto pairs_total (r.moment, place) e (moment, p) (up_to (candidate_cmp (r.moment, place) e) t) (f.1 moment p c)
+  more-first s d (Some e) false t f = (kept_can e.0 e.1 (eq_by_cmp place_cmp e.1 place) refl f.0, λ moment p c. by moment p (split_can moment p (eq_by_cmp place_cmp p place) refl c))
+    where
+      by : (moment : ℕ) (p : Place) → ((p ≡ place) × (r ≡ a_candidate key moment)) ⊎ CanDecide g key moment p → is_gt (candidate_cmp e (moment, p)) ≡ false
+      by moment p (inl x) = at_new e moment p x (not_after (r.moment, place) e t)
+      by moment p (inr c) = f.1 moment p c
+
+-- ---- one receipt less
+
+-- One receipt less.
+pub record HasLess (g h : Grouping) (place : Place) (r : GroupedReceipt) : Type 0 where
+  pub there : get g.receipts place ≡ Some r
+  pub each : (q : Place) → get h.receipts q ≡ cond (eq_by_cmp place_cmp q place) None (get g.receipts q)
+
+-- the moment and place of a receipt
+abbrev pair_of : Earliest → m.Candidate
+pair_of e = (e.moment, e.place)
+
+-- one of a key that can decide, as the index keeps it
+abbrev in_index : LinkKey → m.Candidate → Candidate
+in_index key c = record { key = key; moment = c.0; place = c.1 }
+
+module _ (g h : Grouping) (place : Place) (r : GroupedReceipt) (less : HasLess g h place r) (key : LinkKey) where
+  left_can : (moment : ℕ) (p : Place) (b : Bool) → eq_by_cmp place_cmp p place ≡ b → CanDecide h key moment p → CanDecide g key moment p × (eq_by_cmp place_cmp p place ≡ false)
+  left_can moment p true t c = absurd (not_none (a_candidate key moment) (get h.receipts p) (less.each p ∙ ap (λ b. cond b None (get g.receipts p)) t) c.stands)
+  left_can moment p false t c = (record { stands = sym (less.each p ∙ ap (λ b. cond b None (get g.receipts p)) t) ∙ c.stands }, t)
+
+  stay_can : (moment : ℕ) (p : Place) → eq_by_cmp place_cmp p place ≡ false → CanDecide g key moment p → CanDecide h key moment p
+  stay_can moment p t c = record { stands = less.each p ∙ ap (λ b. cond b None (get g.receipts p)) t ∙ c.stands }
+
+  was_there : (e : m.Candidate) → CanDecide g key e.0 e.1 → eq_by_cmp place_cmp e.1 place ≡ true → r ≡ a_candidate key e.0
+  was_there e c t = some_receipt r (a_candidate key e.0) (get g.receipts place) less.there (ap (λ (x : Place). get g.receipts x) (sym (same_place e.1 place t)) ∙ c.stands)
+
+  -- where another receipt was the earliest, it still is
+  pub less-other : (o : Option m.Candidate) → ((e : m.Candidate) → o ≡ Some e → eq_by_cmp place_cmp e.1 place ≡ false) → IsFirst g key o → IsFirst h key o
+  less-other None n f = λ moment p c. f moment p (left_can moment p (eq_by_cmp place_cmp p place) refl c).0
+  less-other (Some e) n f = (stay_can e.0 e.1 (n e refl) f.0, λ moment p c. f.1 moment p (left_can moment p (eq_by_cmp place_cmp p place) refl c).0)
+
+  -- one that isn't a candidate of the key isn't the earliest of it
+  pub less-stays : (same_key key r.key && r.decides) ≡ false → (o : Option m.Candidate) → IsFirst g key o → IsFirst h key o
+  less-stays n None f = less-other None (λ e x. absurd cc) f
+  less-stays n (Some d) f = less-other (Some d) (λ e x. let s : d ≡ e = cc in subst (λ (y : m.Candidate). eq_by_cmp place_cmp y.1 place ≡ false) s (none_gt (eq_by_cmp place_cmp d.1 place)
+      (λ t. false≢true (sym n ∙ ap (λ (y : GroupedReceipt). same_key key y.key && y.decides) (was_there d f.0 t) ∙ ap (λ b. b && true) (own_key key))))) f
+
+  module _ (index : List (Candidate × Bool)) (so : IsStrictlySortedBy kept_candidate_cmp (keys_of index))
+      (indexed : (c : Candidate) → lookup (is_at (kept_candidate_cmp c)) index ≡ cond (is_candidate c (get h.receipts c.place)) (Some true) None) where
+    in_indexed : (moment : ℕ) (p : Place) → CanDecide h key moment p → lookup (is_at (kept_candidate_cmp (in_index key (moment, p)))) index ≡ Some true
+    in_indexed moment p c =
+        indexed (in_index key (moment, p)) ∙ ap (λ (x : Option GroupedReceipt). cond (is_candidate (in_index key (moment, p)) x) (Some true) None) c.stands
+        ∙ (λ i. cond ((own_key key i && (eq-eqb moment moment refl) i) && true) (Some true) None)
+
+    from_index : (c : Candidate) (x : Option GroupedReceipt) (v : Bool) → same_key key c.key ≡ true → get h.receipts c.place ≡ x → cond (is_candidate c x) (Some true) None ≡ Some v → CanDecide h key c.moment c.place
+    from_index c None v s e l = absurd cc
+    from_index c (Some y) v s e l =
+        let all = both (same_key c.key y.key && (y.moment == c.moment)) y.decides (passed (same_key c.key y.key && (y.moment == c.moment) && y.decides) l) in
+        let parts = both (same_key c.key y.key) (y.moment == c.moment) all.0 in
+        record {
+          stands = e ∙ (λ i. Some (record { key = (sym (one_key c.key y.key parts.0) ∙ sym (one_key key c.key s)) i; moment = eqb-true y.moment c.moment parts.1 i; decides = all.1 i }));
+        }
+      where
+        passed : (b : Bool) → cond b (Some true) None ≡ Some v → b ≡ true
+        passed true l = refl
+        passed false l = absurd cc
+
+    module _ (f : IsFirst g key (Some (r.moment, place))) where
+      abbrev from : Earliest
+      from = earliest_at (r.moment, place)
+
+      less_of : (o : Ordering) → is_gt o ≡ false → (o ≡ Equal → ⊥) → is_lt o ≡ true
+      less_of Less n e = refl
+      less_of Equal n e = absurd (e refl)
+      less_of Greater n e = absurd (false≢true (sym n))
+
+      -- each that can decide comes after the one that did
+      comes_after : (moment : ℕ) (p : Place) → CanDecide h key moment p → is_lt (candidate_cmp (r.moment, place) (moment, p)) ≡ true
+      comes_after moment p c =
+          let before = left_can moment p (eq_by_cmp place_cmp p place) refl c in
+          less_of (candidate_cmp (r.moment, place) (moment, p)) (f.1 moment p before.0)
+          (λ e. false≢true (sym before.1 ∙ own_place p place (sym (ap (λ (x : m.Candidate). x.1) (pairs_exact (r.moment, place) (moment, p) e)))))
+
+      later : (moment : ℕ) (p : Place) → CanDecide h key moment p → FindsUpTo candidates_total (of_candidate key) (is_after key from) index (in_index key (moment, p))
+      later moment p c = finds candidates_total (of_candidate key) one_candidate (is_after key from) index (in_index key (moment, p)) true so (in_indexed moment p c)
+          ((λ i. own_key key i && comes_after moment p c i))
+
+      by_pair : (c : Candidate) (moment : ℕ) (p : Place) → same_key key c.key ≡ true → is_gt (kept_candidate_cmp c (in_index key (moment, p))) ≡ false → is_gt (candidate_cmp (c.moment, c.place) (moment, p)) ≡ false
+      by_pair c moment p s n =
+          let same : key ≡ c.key = one_key key c.key s in
+          let tied : kept_key_cmp c.key key ≡ Equal = ap (kept_key_cmp c.key) same ∙ tied_itself kept_keys_total c.key in
+          sym (ap (λ o. is_gt (ordering_then o (ordering_then (nat_cmp c.moment moment) (kept_place_cmp c.place p)))) tied ∙ ap (λ o. is_gt (ordering_then (nat_cmp c.moment moment) o)) (place_order c.place p)) ∙ n
+
+      next_by : (y : Option (Candidate × Bool)) → find (is_after key from) index ≡ y → IsFirst h key (option_map pair_of (option_map earliest_of y))
+      next_by None e = λ moment p c. (let at = later moment p c in not_none at.at (find (is_after key from) index) e at.is)
+      next_by (Some x) e =
+          let own : same_key key x.0.key ≡ true = (both (same_key key x.0.key) (is_lt (candidate_cmp (r.moment, place) (x.0.moment, x.0.place))) (found-passes (is_after key from) index x e)).0 in (
+            from_index x.0 (get h.receipts x.0.place) x.1 own refl (sym (indexed x.0) ∙ found-there candidates_total (of_candidate key) (is_after key from) index x so e),
+            λ moment p c. (let at = later moment p c in
+                let same : at.at ≡ x = one_found at.at x (find (is_after key from) index) at.is e in
+                by_pair x.0 moment p own (ap (λ (z : Candidate × Bool). is_gt (kept_candidate_cmp z.0 (in_index key (moment, p)))) (sym same) ∙ at.up_to)),
+          )
+        where
+          one_found : (a b : Candidate × Bool) (o : Option (Candidate × Bool)) → o ≡ Some a → o ≡ Some b → a ≡ b
+          one_found a b o s t = cc
+
+      -- after the one that decided is taken out, the next candidate of the index is the earliest
+      pub less-next : IsFirst h key (option_map pair_of (first_candidate_after key from index))
+      less-next = next_by (find (is_after key from) index) refl
+
+-- ---- the deciding receipt of each key's outlook
+
+paired : (o : Option Earliest) → option_map earliest_at (option_map pair_of o) ≡ o
+paired None = refl
+paired (Some e) = refl
+
+chosen : (b : Bool) (c : m.Candidate) (o : Option m.Candidate) → option_map earliest_at (cond b (Some c) o) ≡ cond b (Some (earliest_at c)) (option_map earliest_at o)
+chosen true c o = refl
+chosen false c o = refl
+
+abbrev pub decider_in : Grouping → LinkKey → Option Earliest
+decider_in g key = option_map earliest_at (reduce earlier (candidates g key))
+
+stays_first : (g h : Grouping) (key : LinkKey) → IsFirst h key (reduce earlier (candidates g key)) → decider_in h key ≡ decider_in g key
+stays_first g h key f = ap (option_map earliest_at) (first-found h key (reduce earlier (candidates g key)) f)
+
+-- with one receipt more
+pub decider-more : (g h : Grouping) (place : Place) (r : GroupedReceipt) → HasMore g h place r → (key : LinkKey) (s d : Bool) → same_key key r.key ≡ s → r.decides ≡ d
+    → decider_in h key ≡ cond s (cond (d && is_before (earliest_at (r.moment, place)) (decider_in g key)) (Some (earliest_at (r.moment, place))) (decider_in g key)) (decider_in g key)
+decider-more g h place r more key true true s d =
+    let o : Option m.Candidate = reduce earlier (candidates g key) in
+    let b : Bool = is_before (earliest_at (r.moment, place)) (option_map earliest_at o) in
+    ap (option_map earliest_at) (first-found h key (cond b (Some (r.moment, place)) o) (more-first g h place r more key s d o b refl (first-is g key o refl)))
+    ∙ chosen b (r.moment, place) o
+decider-more g h place r more key true false s d =
+    stays_first g h key (more-other g h place r more key (λ i. s i && d i) (reduce earlier (candidates g key)) (first-is g key (reduce earlier (candidates g key)) refl))
+decider-more g h place r more key false d s e =
+    stays_first g h key (more-other g h place r more key (ap (λ b. b && r.decides) s) (reduce earlier (candidates g key)) (first-is g key (reduce earlier (candidates g key)) refl))
+
+abbrev pub is_decided : Option Earliest → Place → Bool
+is_decided o place = same_option (eq_by_cmp place_cmp) (option_map (λ e. e.place) o) (Some place)
+
+-- with one receipt less of another key
+pub decider-elsewhere : (g h : Grouping) (place : Place) (r : GroupedReceipt) → HasLess g h place r → (key : LinkKey) → same_key key r.key ≡ false → decider_in h key ≡ decider_in g key
+decider-elsewhere g h place r less key s =
+    stays_first g h key (less-stays g h place r less key (ap (λ b. b && r.decides) s) (reduce earlier (candidates g key)) (first-is g key (reduce earlier (candidates g key)) refl))
+
+-- with one receipt less that doesn't decide
+pub decider-stays : (g h : Grouping) (place : Place) (r : GroupedReceipt) → HasLess g h place r → (r.decides && is_decided (decider_in g r.key) place) ≡ false → decider_in h r.key ≡ decider_in g r.key
+decider-stays g h place r less n = by (reduce earlier (candidates g r.key)) refl
+  where
+    not_here : (o : Option m.Candidate) (e : m.Candidate) → reduce earlier (candidates g r.key) ≡ o → o ≡ Some e → IsFirst g r.key (Some e) → eq_by_cmp place_cmp e.1 place ≡ false
+    not_here o e t x f = none_gt (eq_by_cmp place_cmp e.1 place) (λ same.
+        false≢true (sym n ∙ (λ i. (ap (λ (y : GroupedReceipt). y.decides) (was_there g h place r less r.key e f.0 same) i) && is_decided (option_map earliest_at ((t ∙ x) i)) place) ∙ same))
+
+    by : (o : Option m.Candidate) → reduce earlier (candidates g r.key) ≡ o → decider_in h r.key ≡ decider_in g r.key
+    by o t =
+        ap (option_map earliest_at) (first-found h r.key o (less-other g h place r less r.key o (λ e x. not_here o e t x (subst (IsFirst g r.key) x (first-is g r.key o t))) (first-is g r.key o t)))
+        ∙ sym (ap (option_map earliest_at) t)
+
+-- with one receipt less that decided: the next candidate
+pub decider-next : (g h : Grouping) (place : Place) (r : GroupedReceipt) → HasLess g h place r → (index : List (Candidate × Bool)) → IsStrictlySortedBy kept_candidate_cmp (keys_of index)
+    → ((c : Candidate) → lookup (is_at (kept_candidate_cmp c)) index ≡ cond (is_candidate c (get h.receipts c.place)) (Some true) None)
+    → (r.decides && is_decided (decider_in g r.key) place) ≡ true → decider_in h r.key ≡ first_candidate_after r.key (earliest_at (r.moment, place)) index
+decider-next g h place r less index so indexed was = by (reduce earlier (candidates g r.key)) refl
+  where
+    here : (o : Option m.Candidate) → reduce earlier (candidates g r.key) ≡ o → is_decided (option_map earliest_at o) place ≡ true → IsFirst g r.key (Some (r.moment, place))
+    here None t d = absurd (false≢true d)
+    here (Some e) t d =
+        let f = first-is g r.key (Some e) t in
+        let at : r ≡ a_candidate r.key e.0 = was_there g h place r less r.key e f.0 d in
+        let same : e ≡ (r.moment, place) = λ i. (sym (ap (λ (y : GroupedReceipt). y.moment) at) i, same_place e.1 place d i) in
+        subst (λ (c : m.Candidate). IsFirst g r.key (Some c)) same f
+
+    by : (o : Option m.Candidate) → reduce earlier (candidates g r.key) ≡ o → decider_in h r.key ≡ first_candidate_after r.key (earliest_at (r.moment, place)) index
+    by o t =
+        let d : is_decided (option_map earliest_at o) place ≡ true = sym (ap (λ (x : Option m.Candidate). is_decided (option_map earliest_at x) place) t) ∙ (both r.decides (is_decided (decider_in g r.key) place) was).1 in
+        let next : Option Earliest = first_candidate_after r.key (earliest_at (r.moment, place)) index in
+        ap (option_map earliest_at) (first-found h r.key (option_map pair_of next) (less-next g h place r less r.key index so indexed (here o t d)))
+        ∙ paired next

@@ -1,0 +1,16 @@
+pub mod Placing
+pub mod Storing
+pub mod Finding
+pub mod Stepping
+pub mod Walking
+pub mod CandidateWalks
+pub mod Least
+pub mod Earliest
+pub mod StoringReceipts
+pub mod Turning
+pub mod Changing
+pub mod Moving
+pub mod Calling
+pub mod Vacating
+pub mod Lawful
+pub mod KnownGroups

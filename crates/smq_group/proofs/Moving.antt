@@ -1,0 +1,148 @@
+-- Each call moves one member: the grouping after it, and what it tells.
+use Rattle.std.proofs.Common.{◌≡◌, ◌⊎◌, inl, inr, Bool, true, false, cond, Option, Some, None, refl, sym, ap, ◌∙◌, subst, arith}
+use Rattle.std.specs.Prelude.{◌&&◌, is_some, option_map}
+use Rattle.std.specs.Ordering.{eq_by_cmp}
+use Rattle.std.specs.Cmp.{eq_by_cmp_equiv}
+use Rattle.std.specs.FinMap.{FinMap, get, insert, remove, get-insert, get-remove}
+use Rattle.std.proofs.lemmas.Bool.{false≢true}
+use Rattle.smq_kit.specs.declared.place.Place.{Place}
+use Rattle.smq_kit.specs.declared.link_key.LinkKey.{LinkKey}
+use Rattle.smq_kit.specs.Maps.{number_of, same_option}
+use Rattle.smq_kit.specs.Orders.{place_cmp}
+use Rattle.smq_kit.specs.LinkKeys.{same_key}
+use Rattle.smq_kit.proofs.PlaceOrders.{places_total}
+use Rattle.smq_kit.proofs.LinkKeyOrders.{link_keys_total}
+use Rattle.smq_group.specs.declared.changes.Added.TheVariants as put
+use Rattle.smq_group.specs.declared.outlook.Outlook.{Outlook}
+use Rattle.smq_group.specs.declared.outlook.Earliest.{Earliest}
+use Rattle.smq_group.specs.Matching.{Grouping, GroupedReceipt, matches}
+use Rattle.smq_group.specs.Groups.{with_submit, without_submit}
+use Rattle.smq_group.specs.within.Outlooks.{an_outlook, decider_of, is_before}
+use Rattle.smq_group.specs.within.Stored.{earliest_at, outlook_in}
+use Rattle.smq_group.specs.within.Told.{same_decider}
+use Rattle.smq_group.proofs.Changing.{Moves, ReceiptMove, SubmitMove, decider-can}
+use Rattle.smq_group.proofs.Turning.{is_at_place, same_self}
+use Rattle.smq_group.proofs.Earliest.{HasMore, HasLess, decider_in, is_decided, decider-more, decider-elsewhere, decider-stays, own_key}
+use Rattle.smq_group.proofs.Placing.{same_place, own_place}
+use Rattle.smq_group.proofs.Stepping.{both}
+use Rattle.smq_group.proofs.Storing.{number-more, number-less}
+
+flipped : (a b : LinkKey) → same_key a b ≡ false → same_key b a ≡ false
+flipped a b n = (eq_by_cmp_equiv link_keys_total).symm b a ∙ n
+
+nothing : {A : Type 0} (x : A) (y : Option A) → y ≡ None → y ≡ Some x → ⊥
+nothing x y e f = absurd cc
+
+never : (b : Bool) → (b ≡ true → ⊥) → b ≡ false
+never true h = absurd (h refl)
+never false h = refl
+
+-- outlooks of the same deciding receipt have the same decider
+same_deciders : (b a : Outlook) → a.decider ≡ b.decider → same_decider b a ≡ true
+same_deciders b a e = ap (λ (d : Option Earliest). same_option (eq_by_cmp place_cmp) (decider_of b) (option_map (λ x. x.place) d)) e ∙ same_self (decider_of b)
+
+-- ---- a submit
+
+-- one submit more
+pub moves-submit : (g : Grouping) (key : LinkKey) (place : Place) → get g.submits place ≡ None → Moves g (with_submit g key place) key (put.Submit place)
+moves-submit g key place none = record {
+  submit = λ q. by q (eq_by_cmp place_cmp q place) refl;
+  receipt = λ q. inl refl;
+  elsewhere = λ k n.
+      let more = number-more g.submits key k place false none (flipped key k n) in
+      let same : matches (with_submit g key place) k ≡ matches g k = omega (arith, more) in
+      λ i. an_outlook (same i) (decider_in g k);
+  anew = λ n. absurd (false≢true (sym n ∙ same_deciders (outlook_in g key) (outlook_in (with_submit g key place) key) refl));
+}
+  where
+    by : (q : Place) (b : Bool) → eq_by_cmp place_cmp q place ≡ b → SubmitMove key (eq_by_cmp place_cmp q place) (get g.submits q) (get (insert g.submits place key) q)
+    by q true t = subst (λ b. SubmitMove key b (get g.submits q) (get (insert g.submits place key) q)) (sym t)
+        (ap (get g.submits) (same_place q place t) ∙ none, get-insert places_total g.submits place key q ∙ ap (λ b. cond b (Some key) (get g.submits q)) t)
+    by q false t = subst (λ b. SubmitMove key b (get g.submits q) (get (insert g.submits place key) q)) (sym t)
+        (inl (get-insert places_total g.submits place key q ∙ ap (λ b. cond b (Some key) (get g.submits q)) t))
+
+-- one submit less
+pub moves-no_submit : (g : Grouping) (key : LinkKey) (place : Place) → get g.submits place ≡ Some key → Moves g (without_submit g place) key put.Nothing
+moves-no_submit g key place there = record {
+  submit = λ q. by q (eq_by_cmp place_cmp q place) refl;
+  receipt = λ q. inl refl;
+  elsewhere = λ k n.
+      let less = number-less g.submits key k place false there (flipped key k n) in
+      let same : matches (without_submit g place) k ≡ matches g k = omega (arith, less) in
+      λ i. an_outlook (same i) (decider_in g k);
+  anew = λ n. absurd (false≢true (sym n ∙ same_deciders (outlook_in g key) (outlook_in (without_submit g place) key) refl));
+}
+  where
+    by : (q : Place) (b : Bool) → eq_by_cmp place_cmp q place ≡ b → (get (remove g.submits place) q ≡ get g.submits q) ⊎ (get (remove g.submits place) q ≡ None)
+    by q true t = inr (get-remove places_total g.submits place q ∙ ap (λ b. cond b None (get g.submits q)) t)
+    by q false t = inl (get-remove places_total g.submits place q ∙ ap (λ b. cond b None (get g.submits q)) t)
+
+-- ---- a receipt
+
+module _ (g h : Grouping) (place : Place) (r : GroupedReceipt) (same : h.submits ≡ g.submits) where
+  same_matches : (k : LinkKey) → matches h k ≡ matches g k
+  same_matches k = ap (number_of (same_key k)) same
+
+  -- one receipt more
+  pub moves-receipt : HasMore g h place r → Moves g h r.key (put.Receipt place r.decides)
+  moves-receipt more = record {
+    submit = λ q. inl (ap (λ (m : FinMap place_cmp LinkKey). get m q) same);
+    receipt = λ q. by q (eq_by_cmp place_cmp q place) refl;
+    elsewhere = λ k n. λ i. an_outlook (same_matches k i) (decider-more g h place r more k false r.decides (flipped r.key k n) refl i);
+    anew = λ n. let new = chosen n (r.decides && is_before (earliest_at (r.moment, place)) (decider_in g r.key)) refl in record {
+      new = λ q can e. ap (λ (d : Option Earliest). is_at_place (option_map (λ x. x.place) d) q) new ∙ here q (eq_by_cmp place_cmp q place) refl can e;
+      stays = λ q x is at. (refl, ap (λ (d : Option Earliest). is_some (option_map (λ x. x.place) d)) new);
+      kept = λ q at. (let d = decider-can g r.key q at in
+          more.each q ∙ ap (λ b. cond b (Some r) (get g.receipts q)) (never (eq_by_cmp place_cmp q place) (λ t. nothing d.r (get g.receipts q) (ap (get g.receipts) (same_place q place t) ∙ more.absent) d.is)));
+    };
+  }
+    where
+      by : (q : Place) (b : Bool) → eq_by_cmp place_cmp q place ≡ b → ReceiptMove r.key (cond (eq_by_cmp place_cmp q place) (Some r.decides) None) (get g.receipts q) (get h.receipts q)
+      by q true t = subst (λ b. ReceiptMove r.key (cond b (Some r.decides) None) (get g.receipts q) (get h.receipts q)) (sym t) (
+        ap (get g.receipts) (same_place q place t) ∙ more.absent,
+        record { r = r; is = more.each q ∙ ap (λ b. cond b (Some r) (get g.receipts q)) t; own = refl; decides = refl },
+      )
+      by q false t = subst (λ b. ReceiptMove r.key (cond b (Some r.decides) None) (get g.receipts q) (get h.receipts q)) (sym t) (inl (more.each q ∙ ap (λ b. cond b (Some r) (get g.receipts q)) t))
+
+      chosen : same_decider (outlook_in g r.key) (outlook_in h r.key) ≡ false → (b : Bool) → (r.decides && is_before (earliest_at (r.moment, place)) (decider_in g r.key)) ≡ b → decider_in h r.key ≡ Some (earliest_at (r.moment, place))
+      chosen n true t = decider-more g h place r more r.key true r.decides (own_key r.key) refl ∙ ap (λ b. cond b (Some (earliest_at (r.moment, place))) (decider_in g r.key)) t
+      chosen n false t = absurd (false≢true (sym n ∙ same_deciders (outlook_in g r.key) (outlook_in h r.key)
+          (decider-more g h place r more r.key true r.decides (own_key r.key) refl ∙ ap (λ b. cond b (Some (earliest_at (r.moment, place))) (decider_in g r.key)) t)))
+
+      here : (q : Place) (b : Bool) → eq_by_cmp place_cmp q place ≡ b → (can : Bool) → cond (eq_by_cmp place_cmp q place) (Some r.decides) None ≡ Some can → eq_by_cmp place_cmp place q ≡ true
+      here q true t can e = own_place place q (sym (same_place q place t))
+      here q false t can e = absurd (none_some can (sym (ap (λ b. cond b (Some r.decides) None) t) ∙ e))
+        where
+          none_some : (can : Bool) → None ≡ Some can → ⊥
+          none_some can e = absurd cc
+
+  -- one receipt less
+  pub moves-no_receipt : HasLess g h place r → Moves g h r.key put.Nothing
+  moves-no_receipt less = record {
+    submit = λ q. inl (ap (λ (m : FinMap place_cmp LinkKey). get m q) same);
+    receipt = λ q. by q (eq_by_cmp place_cmp q place) refl;
+    elsewhere = λ k n. λ i. an_outlook (same_matches k i) (decider-elsewhere g h place r less k (flipped r.key k n) i);
+    anew = λ n. record {
+      new = λ q can e. absurd (none_some can e);
+      stays = λ q x is at. absurd (gone n q x is at (r.decides && is_decided (decider_in g r.key) place) refl);
+      kept = λ q at. absurd (false≢true at);
+    };
+  }
+    where
+      none_some : (can : Bool) → None ≡ Some can → ⊥
+      none_some can e = absurd cc
+
+      by : (q : Place) (b : Bool) → eq_by_cmp place_cmp q place ≡ b → (get h.receipts q ≡ get g.receipts q) ⊎ (get h.receipts q ≡ None)
+      by q true t = inr (less.each q ∙ ap (λ b. cond b None (get g.receipts q)) t)
+      by q false t = inl (less.each q ∙ ap (λ b. cond b None (get g.receipts q)) t)
+
+      at_one : (o : Option Place) (p q : Place) → is_at_place o p ≡ true → is_at_place o q ≡ true → eq_by_cmp place_cmp q p ≡ true
+      at_one None p q s t = absurd (false≢true s)
+      at_one (Some x) p q s t = own_place q p (sym (same_place x q t) ∙ same_place x p s)
+
+      gone : same_decider (outlook_in g r.key) (outlook_in h r.key) ≡ false → (q : Place) (x : GroupedReceipt) → get h.receipts q ≡ Some x → is_at_place (decider_of (outlook_in g r.key)) q ≡ true
+          → (b : Bool) → (r.decides && is_decided (decider_in g r.key) place) ≡ b → ⊥
+      gone n q x is at true t =
+          let here = (both r.decides (is_decided (decider_in g r.key) place) t).1 in
+          nothing x (get h.receipts q) (less.each q ∙ ap (λ b. cond b None (get g.receipts q)) (at_one (decider_of (outlook_in g r.key)) place q here at)) is
+      gone n q x is at false t = false≢true (sym n ∙ same_deciders (outlook_in g r.key) (outlook_in h r.key) (decider-stays g h place r less t))

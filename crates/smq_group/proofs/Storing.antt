@@ -1,0 +1,244 @@
+-- The four maps hold a grouping: none at first, and with one submit more or less.
+use Rattle.std.proofs.Common.{◌≡◌, ℕ, suc, length, ◌≤◌, ◌+◌, ◌-◌, Bool, true, false, cond, List, [], ◌∷◌, Option, Some, None, refl, sym, ap, ◌∙◌, arith}
+use Rattle.std.specs.Prelude.{map, filter, count_by, option_map, ◌&&◌, IsSome, is_some}
+use Rattle.std.specs.List.{reduce}
+use Rattle.std.specs.Ordering.{is_eq, eq_by_cmp}
+use Rattle.std.specs.Map.{lookup, remove_entry}
+use Rattle.std.specs.BTreeMap.{is_at, insert_entry}
+use Rattle.std.specs.FinMap.{FinMap, entries, get, insert, remove, from_entries, get-from_entries, get-insert, same_map}
+use Rattle.std.proofs.lemmas.List.Sums.{sum_by-cons}
+use Rattle.smq_kit.specs.declared.place.Place.{Place}
+use Rattle.smq_kit.specs.declared.link_key.LinkKey.{LinkKey}
+use Rattle.smq_kit.specs.Orders.{place_cmp}
+use Rattle.smq_kit.specs.Maps.{number_of, share}
+use Rattle.smq_kit.specs.LinkKeys.{same_key, kept_key_cmp, link_key_cmp}
+use Rattle.smq_kit.proofs.PlaceOrders.{places_total, places_exact}
+use Rattle.smq_kit.proofs.LinkKeyOrders.{link_key-order, link_keys_total, link_keys_exact}
+use Rattle.std.specs.Cmp.{tied_itself}
+use Rattle.smq_kit.proofs.Comparisons.{is_equal}
+use Rattle.smq_kit.proofs.MapLemmas as maps
+use Rattle.smq_group.specs.declared.member.Member.{Member}
+use Rattle.smq_group.specs.declared.member.Candidate.{Candidate}
+use Rattle.smq_group.specs.declared.member.Said.{Said}
+use Rattle.smq_group.specs.declared.outlook.Outlook.{Outlook}
+use Rattle.smq_group.specs.declared.outlook.Earliest.{Earliest}
+use Rattle.smq_group.specs.Matching.{GroupedReceipt, matches, candidates, earlier}
+use Rattle.smq_group.specs.Groups.{with_submit, without_submit}
+use Rattle.smq_group.specs.within.Orders.{kept_member_cmp}
+use Rattle.smq_group.specs.within.Outlooks.{an_outlook, outlook_at, no_outlook}
+use Rattle.smq_group.specs.within.Stored.{grouping_in, submit_value, is_candidate, earliest_at, outlook_in, AreStored, by_place}
+use Rattle.smq_group.proofs.Placing.{at, found, with-member, without-member, once-insert, once-remove}
+use Rattle.smq_shelf.specs.Places.{content_of, with_place}
+
+-- ---- nothing
+
+empty_entries : {X : Type 0} → entries (from_entries {X = X} {R = place_cmp} []) ≡ []
+empty_entries = maps.entries-from_entries places_total places_exact [] tt
+
+none_candidate : (c : Candidate) → cond (is_candidate c (get (from_entries {R = place_cmp} []) c.place)) (Some true) None ≡ None
+none_candidate c = ap (λ (r : Option GroupedReceipt). cond (is_candidate c r) (Some true) None) (get-from_entries places_total [] c.place)
+
+pub none-stored : AreStored [] [] [] []
+none-stored = record {
+  submits_once = tt;
+  receipts_once = tt;
+  indexed = record {
+    candidates = λ c. sym (none_candidate c);
+    outlook = λ key. sym (none_outlook key);
+  };
+}
+  where
+    none_outlook : (key : LinkKey) → outlook_in (grouping_in [] []) key ≡ no_outlook
+    none_outlook key =
+        let m : number_of (same_key key) (grouping_in [] []).submits ≡ 0 = ap (λ es. count_by (same_key key) (map (λ e. e.1) es)) empty_entries in
+        let d : option_map earliest_at (reduce earlier (candidates (grouping_in [] []) key)) ≡ None =
+        ap (λ (es : List (Place × GroupedReceipt)). option_map earliest_at (reduce earlier (map (λ e. (e.1.moment, e.0)) (filter (λ e. same_key key e.1.key && e.1.decides) es)))) empty_entries in
+        λ i. an_outlook (m i) (d i)
+
+-- ---- keys
+
+pub tied_key : (a b : LinkKey) → is_at (kept_key_cmp a) b ≡ same_key a b
+tied_key a b = λ i. is_eq (link_key-order i a b)
+
+share_of : (k key : LinkKey) (b : Bool) → same_key k key ≡ b → share (same_key k) (Some key) ≡ cond b 1 0
+share_of k key b e = sum_by-cons (λ x. cond (same_key k x) 1 0) key [] ∙ ap (λ b. cond b 1 0 + count_by (same_key k) []) e ∙ one b
+  where
+    one : (b : Bool) → cond b 1 0 + 0 ≡ cond b 1 0
+    one true = refl
+    one false = refl
+
+-- ---- a submit more
+
+pub number-more : (m : FinMap place_cmp LinkKey) (key k : LinkKey) (place : Place) (b : Bool) → get m place ≡ None → same_key k key ≡ b
+    → number_of (same_key k) (insert m place key) ≡ number_of (same_key k) m + cond b 1 0
+number-more m key k place b none e =
+    let all = maps.count-set places_total places_exact (same_key k) m place (Some key) in
+    let here : share (same_key k) (get m place) ≡ 0 = ap (share (same_key k)) none in
+    let more = share_of k key b e in
+    omega (arith, all, here, more)
+
+pub number-less : (m : FinMap place_cmp LinkKey) (key k : LinkKey) (place : Place) (b : Bool) → get m place ≡ Some key → same_key k key ≡ b
+    → number_of (same_key k) (remove m place) + cond b 1 0 ≡ number_of (same_key k) m
+number-less m key k place b there e =
+    let all = maps.count-set places_total places_exact (same_key k) m place None in
+    let here : share (same_key k) (get m place) ≡ cond b 1 0 = ap (share (same_key k)) there ∙ share_of k key b e in
+    omega (arith, all, here)
+
+module _ (s : List (Member × Bool)) (r : List (Member × Said)) (i : List (Candidate × Bool)) (o o' : List (LinkKey × Outlook)) (key : LinkKey) (place : Place) where
+  abbrev member : Member
+  member = record { key = key; place = place }
+
+  abbrev more : List (Member × Bool)
+  more = insert_entry kept_member_cmp s member true
+
+  abbrev less : List (Member × Bool)
+  less = remove_entry (is_at (kept_member_cmp member)) s
+
+  abbrev earliest : LinkKey → Option Earliest
+  earliest k = option_map earliest_at (reduce earlier (candidates (grouping_in s r) k))
+
+  counted-more : at submit_value place s ≡ None → (k : LinkKey) (b : Bool) → same_key k key ≡ b → matches (grouping_in more r) k ≡ matches (grouping_in s r) k + cond b 1 0
+  counted-more none k b e =
+      ap (number_of (same_key k)) (with-member submit_value member true s none)
+      ∙ number-more (grouping_in s r).submits key k place b (get-from_entries places_total (map (by_place submit_value) s) place ∙ none) e
+
+  -- with one submit more, where its key's outlook counts it and the others stay
+  pub submit-stored : at submit_value place s ≡ None → AreStored s r i o
+      → outlook_at key o' ≡ an_outlook ((outlook_at key o).matches + 1) (outlook_at key o).decider
+      → ((other : LinkKey) → is_at (kept_key_cmp other) key ≡ false → outlook_at other o' ≡ outlook_at other o)
+      → AreStored more r i o'
+  submit-stored none st here elsewhere = record {
+    submits_once = once-insert submit_value member true s none st.submits_once;
+    receipts_once = st.receipts_once;
+    indexed = record {
+      candidates = st.indexed.candidates;
+      outlook = λ k. by_key k (same_key k key) refl;
+    };
+  }
+    where
+      by_key : (k : LinkKey) (b : Bool) → same_key k key ≡ b → outlook_at k o' ≡ outlook_in (grouping_in more r) k
+      by_key k true t =
+          let same : k ≡ key = link_keys_exact k key (is_equal (link_key_cmp k key) t) in
+          let number : matches (grouping_in s r) key + 1 ≡ matches (grouping_in more r) k = ap (λ (x : LinkKey). matches (grouping_in s r) x + 1) (sym same) ∙ sym (counted-more none k true t) in
+          ap (λ (x : LinkKey). outlook_at x o') same ∙ here ∙ ap (λ (x : Outlook). an_outlook (x.matches + 1) x.decider) (st.indexed.outlook key)
+          ∙ (λ j. an_outlook (number j) (earliest (sym same j)))
+      by_key k false t =
+          let number : matches (grouping_in s r) k ≡ matches (grouping_in more r) k = (let z : matches (grouping_in s r) k ≡ matches (grouping_in s r) k + 0 = omega arith in z) ∙ sym (counted-more none k false t) in
+          elsewhere k (tied_key k key ∙ t) ∙ st.indexed.outlook k ∙ (λ j. an_outlook (number j) (earliest k))
+
+  -- a submit that is there is a member
+  held : get (grouping_in s r).submits place ≡ Some key → (v : Bool) × (lookup (is_at (kept_member_cmp member)) s ≡ Some v)
+  held there =
+      let f = found submit_value place key s (sym (get-from_entries places_total (map (by_place submit_value) s) place) ∙ there) in
+      (f.v, ap (λ (k : LinkKey). lookup (is_at (kept_member_cmp (record { key = k; place = place }))) s) (sym f.is) ∙ f.there)
+
+  counted-less : get (grouping_in s r).submits place ≡ Some key → AreStored s r i o → (k : LinkKey) (b : Bool) → same_key k key ≡ b
+      → matches (grouping_in less r) k + cond b 1 0 ≡ matches (grouping_in s r) k
+  counted-less there st k b e =
+      ap (λ (m : FinMap place_cmp LinkKey). number_of (same_key k) m + cond b 1 0) (taken there st)
+      ∙ number-less (grouping_in s r).submits key k place b there e
+    where
+      taken : get (grouping_in s r).submits place ≡ Some key → AreStored s r i o → (grouping_in less r).submits ≡ remove (grouping_in s r).submits place
+      taken there st = without-member submit_value member (held there).0 s st.submits_once (held there).1
+
+  -- with one submit less, where its key's outlook counts it no more and the others stay
+  pub submit-taken : get (grouping_in s r).submits place ≡ Some key → AreStored s r i o
+      → outlook_at key o' ≡ an_outlook ((outlook_at key o).matches - 1) (outlook_at key o).decider
+      → ((other : LinkKey) → is_at (kept_key_cmp other) key ≡ false → outlook_at other o' ≡ outlook_at other o)
+      → AreStored less r i o'
+  submit-taken there st here elsewhere = record {
+    submits_once = once-remove submit_value (is_at (kept_member_cmp member)) s st.submits_once;
+    receipts_once = st.receipts_once;
+    indexed = record {
+      candidates = st.indexed.candidates;
+      outlook = λ k. by_key k (same_key k key) refl;
+    };
+  }
+    where
+      by_key : (k : LinkKey) (b : Bool) → same_key k key ≡ b → outlook_at k o' ≡ outlook_in (grouping_in less r) k
+      by_key k true t =
+          let same : k ≡ key = link_keys_exact k key (is_equal (link_key_cmp k key) t) in
+          let one = counted-less there st k true t in
+          let here_too : matches (grouping_in s r) k ≡ matches (grouping_in s r) key = ap (matches (grouping_in s r)) same in
+          let number : matches (grouping_in s r) key - 1 ≡ matches (grouping_in less r) k = omega (arith, one, here_too) in
+          ap (λ (x : LinkKey). outlook_at x o') same ∙ here ∙ ap (λ (x : Outlook). an_outlook (x.matches - 1) x.decider) (st.indexed.outlook key)
+          ∙ (λ j. an_outlook (number j) (earliest (sym same j)))
+      by_key k false t =
+          let one = counted-less there st k false t in
+          let number : matches (grouping_in s r) k ≡ matches (grouping_in less r) k = omega (arith, one) in
+          elsewhere k (tied_key k key ∙ t) ∙ st.indexed.outlook k ∙ (λ j. an_outlook (number j) (earliest k))
+
+-- ---- the number of submits of a key is at most that of places
+
+from-cons : {X : Type 0} (e : Place × X) (es : List (Place × X)) → from_entries {R = place_cmp} (e ∷ es) ≡ insert (from_entries es) e.0 e.1
+from-cons e es = same_map places_total places_exact _ _ (λ q.
+    get-from_entries places_total (e ∷ es) q ∙ ap (cond (eq_by_cmp place_cmp q e.0) (Some e.1)) (sym (get-from_entries places_total es q)) ∙ sym (get-insert places_total (from_entries es) e.0 e.1 q))
+
+at_most_one : {X : Type 0} (test : X → Bool) (x : X) (b : Bool) → test x ≡ b → share test (Some x) ≤ 1
+at_most_one test x true e = let n : share test (Some x) ≡ 1 = sum_by-cons (λ y. cond (test y) 1 0) x [] ∙ ap (λ b. cond b 1 0 + count_by test []) e in omega (arith, n)
+at_most_one test x false e = let n : share test (Some x) ≡ 0 = sum_by-cons (λ y. cond (test y) 1 0) x [] ∙ ap (λ b. cond b 1 0 + count_by test []) e in omega (arith, n)
+
+number-bound : {X : Type 0} (test : X → Bool) (es : List (Place × X)) → number_of test (from_entries {R = place_cmp} es) ≤ length es
+number-bound test [] = let n : number_of test (from_entries {R = place_cmp} []) ≡ 0 = ap (λ es. count_by test (map (λ e. e.1) es)) empty_entries in omega (arith, n)
+number-bound test (e ∷ es) =
+    let step = maps.count-set places_total places_exact test (from_entries es) e.0 (Some e.1) in
+    let same : number_of test (from_entries (e ∷ es)) ≡ number_of test (insert (from_entries es) e.0 e.1) = ap (number_of test) (from-cons e es) in
+    let ih = number-bound test es in
+    let one = at_most_one test e.1 (test e.1) refl in
+    omega (arith, step, same, ih, one)
+
+placed-length : (s : List (Member × Bool)) → length (map (by_place submit_value) s) ≡ length s
+placed-length [] = refl
+placed-length (e ∷ s) = ap suc (placed-length s)
+
+content-length : (ps : List (Member × Option Bool)) → length (content_of ps) ≤ length ps
+content-length [] = omega arith
+content-length (p ∷ ps) = elim p.1 as (λ x. length (with_place p.0 x (content_of ps)) ≤ length (p ∷ ps)) [
+  | None ↦ omega (arith, content-length ps)
+  | Some v ↦ omega (arith, content-length ps)
+]
+
+pub matches-bound : (s : List (Member × Bool)) (r : List (Member × Said)) (ps : List (Member × Option Bool)) (key : LinkKey) → s ≡ content_of ps → matches (grouping_in s r) key ≤ length ps
+matches-bound s r ps key shown =
+    let n = number-bound (same_key key) (map (by_place submit_value) s) in
+    let l = placed-length s in
+    let c = content-length ps in
+    let e : length s ≡ length (content_of ps) = ap length shown in
+    omega (arith, n, l, c, e)
+
+module _ (s : List (Member × Bool)) (r : List (Member × Said)) (key : LinkKey) (place : Place) where
+  abbrev the_member : Member
+  the_member = record { key = key; place = place }
+
+  pub absent : get (grouping_in s r).submits place ≡ None → at submit_value place s ≡ None
+  absent none = sym (get-from_entries places_total (map (by_place submit_value) s) place) ∙ none
+
+  -- the grouping with one submit more
+  pub grouping-more : get (grouping_in s r).submits place ≡ None → grouping_in (insert_entry kept_member_cmp s the_member true) r ≡ with_submit (grouping_in s r) key place
+  grouping-more none = λ i. record { submits = with-member submit_value the_member true s (absent none) i; receipts = (grouping_in s r).receipts }
+
+  -- the number of its key then, which is that of places at most
+  pub matches-fit : (ps : List (Member × Option Bool)) (most : ℕ) → get (grouping_in s r).submits place ≡ None → insert_entry kept_member_cmp s the_member true ≡ content_of ps → most ≡ length ps
+      → matches (grouping_in s r) key + 1 ≤ most
+  matches-fit ps most none shown count =
+      let bound = matches-bound (insert_entry kept_member_cmp s the_member true) r ps key shown in
+      let more : matches (grouping_in (insert_entry kept_member_cmp s the_member true) r) key ≡ matches (grouping_in s r) key + 1 =
+      ap (number_of (same_key key)) (with-member submit_value the_member true s (absent none)) ∙ number-more (grouping_in s r).submits key key place true none (ap is_eq (tied_itself link_keys_total key)) in
+      omega (arith, bound, more, count)
+
+  -- the grouping with one submit less
+  pub grouping-less : (i : List (Candidate × Bool)) (o : List (LinkKey × Outlook)) → AreStored s r i o → get (grouping_in s r).submits place ≡ Some key
+      → grouping_in (remove_entry (is_at (kept_member_cmp the_member)) s) r ≡ without_submit (grouping_in s r) place
+  grouping-less i o st there =
+      let h = held s r i o o key place there in
+      λ j. record { submits = without-member submit_value the_member h.0 s st.submits_once h.1 j; receipts = (grouping_in s r).receipts }
+
+  -- a submit that is there is found by its key and place
+  pub is_held : get (grouping_in s r).submits place ≡ Some key → IsSome (lookup (is_at (kept_member_cmp the_member)) s)
+  is_held there = ap is_some (held s r [] [] [] key place there).1
+
+  -- a submit that is there counts
+  pub some-match : get (grouping_in s r).submits place ≡ Some key → 1 ≤ matches (grouping_in s r) key
+  some-match there =
+      let one = number-less (grouping_in s r).submits key key place true there (ap is_eq (tied_itself link_keys_total key)) in
+      omega (arith, one)

@@ -1,0 +1,94 @@
+use Rattle.std.proofs.Common.{◌≡◌, ◌-◌, Some, refl, sym, ap, ◌∙◌, subst, arith}
+use Rattle.std.specs.FinMap.{get}
+use Rattle.smq_group.specs.declared.outlook.Outlook.{Outlook}
+use Rattle.smq_group.specs.Groups.{GroupsValue, key_on}
+use Rattle.smq_group.specs.Matching.{Grouping, matches}
+use Rattle.smq_group.specs.declared.changes.Added.TheVariants as put
+use Rattle.smq_group.specs.within.Outlooks.{an_outlook, outlook_at}
+use Rattle.smq_group.specs.within.Stored.{grouping_in, outlook_in}
+use Rattle.smq_group.proofs.Calling.{tells-call}
+use Rattle.smq_group.proofs.Changing.{Moves}
+use Rattle.smq_group.proofs.Moving.{moves-no_submit}
+use Rattle.smq_group.proofs.Storing.{grouping-less, some-match, submit-taken, is_held}
+use Rattle.smq_kit.specs.LinkKeys.{same_key}
+use Rattle.smq_group.specs.within.Walked.{member_key, vacant_of}
+use Rattle.smq_group.proofs.Vacating.{at_most_one, counted-at, counted-vacant, member-emptied, one-at}
+use Rattle.smq_group.proofs.groups.Groups.remove_submit.Goals as goal
+
+pub overflow_sub-after : goal.overflow_sub-after
+overflow_sub-after c =
+    let there : get (grouping_in c.self.inside.submits.content c.self.inside.receipts.content).submits c.args.place ≡ Some (key_on c.args.link c.args.key.now) = ap (λ (v : GroupsValue). get v.members.submits c.args.place) c.self.view_is ∙ c.requires.there in
+    let count : c.outlook_of-before.result.matches ≡ matches (grouping_in c.self.inside.submits.content c.self.inside.receipts.content) (key_on c.args.link c.args.key.now) =
+    ap (λ (o : Outlook). o.matches) (c.outlook_of-before.ensures.value ∙ ap (λ k. outlook_at k c.self.inside.outlooks.content) c.key_of_link-key.ensures ∙ c.self.invariant.0.indexed.outlook (key_on c.args.link c.args.key.now)) in
+    let some = some-match c.self.inside.submits.content c.self.inside.receipts.content (key_on c.args.link c.args.key.now) c.args.place there in
+    omega (arith, some, count)
+
+pub invariant_of-self-in-Ok : goal.invariant_of-self-in-Ok
+invariant_of-self-in-Ok c =
+    let there : get (grouping_in c.self.inside.submits.content c.self.inside.receipts.content).submits c.args.place ≡ Some c.key_of_link-key.result = ap (λ (v : GroupsValue). get v.members.submits c.args.place) c.self.view_is ∙ c.requires.there ∙ ap Some (sym c.key_of_link-key.ensures) in (
+      rw (c.in-Ok.ensures.submits.content, c.in-Ok.ensures.receipts.content, c.in_ok-remove.ensures.content, c.copy.ensures)
+          (submit-taken c.self.inside.submits.content c.self.inside.receipts.content c.self.inside.candidates.content c.self.inside.outlooks.content c.tell.new.outlooks.content c.key_of_link-key.result c.args.place
+          there c.self.invariant.0
+          (c.in-Ok.ensures.here ∙ ap (λ (o : Outlook). an_outlook (o.matches - 1) o.decider) c.outlook_of-before.ensures.value)
+          (λ other h. c.in-Ok.ensures.elsewhere other h ∙ ap (outlook_at other) c.outlook_of-before.ensures.content)),
+      rw (c.in-Ok.ensures.submits.settled, c.in-Ok.ensures.receipts.settled, c.in-Ok.ensures.settled, c.in_ok-remove.ensures.settled, c.outlook_of-before.ensures.settled) c.self.invariant.1,
+    )
+
+pub returns-in-Ok-clause-ok : goal.returns-in-Ok-clause-ok
+returns-in-Ok-clause-ok c =
+    let there : get (grouping_in c.self.inside.submits.content c.self.inside.receipts.content).submits c.args.place ≡ Some c.key_of_link-key.result = ap (λ (v : GroupsValue). get v.members.submits c.args.place) c.self.view_is ∙ c.requires.there ∙ ap Some (sym c.key_of_link-key.ensures) in
+    rw (← c.self.view_is, c.in-Ok.ensures.submits.content, c.in-Ok.ensures.receipts.content, c.in_ok-remove.ensures.content, c.copy.ensures)
+    (grouping-less c.self.inside.submits.content c.self.inside.receipts.content c.key_of_link-key.result c.args.place c.self.inside.candidates.content c.self.inside.outlooks.content c.self.invariant.0 there)
+
+pub returns-in-Err-clause-err : goal.returns-in-Err-clause-err
+returns-in-Err-clause-err c =
+    let there : get (grouping_in c.self.inside.submits.content c.self.inside.receipts.content).submits c.args.place ≡ Some c.key_of_link-key.result = ap (λ (v : GroupsValue). get v.members.submits c.args.place) c.self.view_is ∙ c.requires.there ∙ ap Some (sym c.key_of_link-key.ensures) in
+    let held = is_held c.self.inside.submits.content c.self.inside.receipts.content c.key_of_link-key.result c.args.place there in
+    let back : c.take_back.new.self.content ≡ c.self.inside.submits.content = c.take_back.ensures.content c.self.inside.submits.places c.self.inside.submits.past (c.in-Err.ensures.submits.past ∙ c.in_ok-remove.ensures.past (rw c.copy.ensures held)) ∙ sym c.in_ok-remove.ensures.shown in
+    rw (← c.self.view_is, back, c.in-Err.ensures.receipts.content) refl
+
+pub invariant_of-self-in-Err : goal.invariant_of-self-in-Err
+invariant_of-self-in-Err c =
+    let there : get (grouping_in c.self.inside.submits.content c.self.inside.receipts.content).submits c.args.place ≡ Some c.key_of_link-key.result = ap (λ (v : GroupsValue). get v.members.submits c.args.place) c.self.view_is ∙ c.requires.there ∙ ap Some (sym c.key_of_link-key.ensures) in
+    let held = is_held c.self.inside.submits.content c.self.inside.receipts.content c.key_of_link-key.result c.args.place there in
+    let back : c.take_back.new.self.content ≡ c.self.inside.submits.content = c.take_back.ensures.content c.self.inside.submits.places c.self.inside.submits.past (c.in-Err.ensures.submits.past ∙ c.in_ok-remove.ensures.past (rw c.copy.ensures held)) ∙ sym c.in_ok-remove.ensures.shown in (
+      rw (back, c.in-Err.ensures.receipts.content, c.in-Err.ensures.err, c.outlook_of-before.ensures.content) c.self.invariant.0,
+      rw (c.take_back.ensures.settled, c.in-Err.ensures.submits.settled, c.in-Err.ensures.receipts.settled, c.in-Err.ensures.settled, c.in_ok-remove.ensures.settled, c.outlook_of-before.ensures.settled) c.self.invariant.1,
+    )
+
+pub returns-in-Ok-clause-changes : goal.returns-in-Ok-clause-changes
+returns-in-Ok-clause-changes c =
+    let key = c.key_of_link-key.result in
+    let g = c.args.self.now.members in
+    tells-call g c.tell.new.submits.content c.remove.new.self.content c.tell.new.receipts.content c.self.inside.receipts.content c.self.inside.candidates.content c.tell.new.outlooks.content key put.Nothing
+    c.outlook_of-before.result (an_outlook (c.outlook_of-before.result.matches - 1) c.outlook_of-before.result.decider) c.in-Ok.changes.items
+    c.in-Ok.ensures.submits.content c.in-Ok.ensures.receipts.content
+    (subst (λ (h : Grouping). Moves g h key put.Nothing) (sym (returns-in-Ok-clause-ok c)) (moves-no_submit g key c.args.place (c.requires.there ∙ ap Some (sym c.key_of_link-key.ensures))))
+    (invariant_of-self-in-Ok c).0
+    (c.outlook_of-before.ensures.value ∙ c.self.invariant.0.indexed.outlook key ∙ ap (λ (v : GroupsValue). outlook_in v.members key) c.self.view_is)
+    c.in-Ok.ensures.here c.in-Ok.ensures.told c.in-Ok.ensures.submits_by_place c.in-Ok.ensures.receipts_by_place
+
+pub returns-in-Ok-clause-touches : goal.returns-in-Ok-clause-touches
+returns-in-Ok-clause-touches c =
+    let key = c.key_of_link-key.result in
+    let there : get (grouping_in c.self.inside.submits.content c.self.inside.receipts.content).submits c.args.place ≡ Some key = ap (λ (v : GroupsValue). get v.members.submits c.args.place) c.self.view_is ∙ c.requires.there ∙ ap Some (sym c.key_of_link-key.ensures) in
+    let held = is_held c.self.inside.submits.content c.self.inside.receipts.content key c.args.place there in
+    let was = counted-at key (key_on c.args.link c.args.key.now) c.key_of_link-key.ensures c.self.inside.submits.places c.self.inside.receipts.places c.self.inside.candidates.places in
+    let emptied = member-emptied key key c.args.place c.self.inside.submits.places c.remove.new.self.places (rw (← c.copy.ensures) (c.in_ok-remove.ensures.places (rw c.copy.ensures held))) in
+    let one = at_most_one (same_key key key) in
+    let looked = c.outlook_of-before.ensures.touches in
+    let removed = c.in_ok-remove.ensures.touches in
+    let told = c.in-Ok.ensures.touches in
+    rw (← c.self.view_is) (omega (arith, was, emptied, one, looked, removed, told))
+
+pub returns-in-Ok-clause-vacant : goal.returns-in-Ok-clause-vacant
+returns-in-Ok-clause-vacant c = λ k.
+    let key = c.key_of_link-key.result in
+    let there : get (grouping_in c.self.inside.submits.content c.self.inside.receipts.content).submits c.args.place ≡ Some key = ap (λ (v : GroupsValue). get v.members.submits c.args.place) c.self.view_is ∙ c.requires.there ∙ ap Some (sym c.key_of_link-key.ensures) in
+    let held = is_held c.self.inside.submits.content c.self.inside.receipts.content key c.args.place there in
+    let was = counted-vacant k c.self.inside.submits.places c.self.inside.receipts.places c.self.inside.candidates.places in
+    let is = counted-vacant k c.tell.new.submits.places c.tell.new.receipts.places c.self.inside.candidates.places in
+    let emptied = member-emptied key k c.args.place c.self.inside.submits.places c.tell.new.submits.places (c.in-Ok.ensures.submits.places ∙ rw (← c.copy.ensures) (c.in_ok-remove.ensures.places (rw c.copy.ensures held))) in
+    let same = ap (vacant_of member_key k) c.in-Ok.ensures.receipts.places in
+    let share = one-at k key (key_on c.args.link c.args.key.now) c.key_of_link-key.ensures in
+    rw (← c.self.view_is) (omega (arith, was, is, emptied, same, share))

@@ -1,0 +1,68 @@
+use Rattle.std.proofs.Common.{ap, ◌∙◌, arith, find}
+use Rattle.std.specs.Prelude.{option_map}
+use Rattle.smq_group.specs.within.Walked.{is_past, placed}
+use Rattle.smq_group.proofs.Walking.{members-by_place, start-length, start-gathered, step-length, step-gathered, end-gathered, places-parted}
+use Rattle.smq_group.proofs.walks.members_of.Goals as goal
+
+pub loop-next-init : goal.loop-next-init
+loop-next-init g c =
+    let length = start-length c.args.key.now c.args.kept.now.places c.first_of-next.ensures.ordered c.first_of-next.result c.first_of-next.ensures.value in
+    let walked = c.first_of-next.ensures.walked in
+    let touches = walked.touches in
+    record {
+      walked = record {
+        content = walked.content;
+        settled = walked.settled;
+        places = walked.places;
+        past = walked.past;
+        pending = walked.pending;
+        touches = omega (arith, touches);
+        counted = walked.counted;
+      };
+      touches = omega (arith, length, touches);
+      gathered = start-gathered c.args.key.now c.args.kept.now.places c.first_of-next.ensures.ordered c.new-members.result.items c.first_of-next.result c.new-members.ensures.items c.first_of-next.ensures.value;
+    }
+
+pub loop-next-smaller : goal.loop-next-smaller
+loop-next-smaller g c =
+    let value = c.next_of-next.ensures.value ∙ ap (λ es. option_map placed (find (is_past c.args.key.now c.in-Some.place) es)) c.loop-next.invariant.walked.places in
+    let length = step-length c.args.key.now c.args.kept.now.places c.first_of-next.ensures.ordered c.in-Some.place c.in-Some.value c.loop-next.next c.next_of-next.result c.in-Some.is value in
+    omega (arith, length)
+
+pub loop-next-preserved : goal.loop-next-preserved
+loop-next-preserved g c =
+    let value = c.next_of-next.ensures.value ∙ ap (λ es. option_map placed (find (is_past c.args.key.now c.in-Some.place) es)) c.loop-next.invariant.walked.places in
+    let length = step-length c.args.key.now c.args.kept.now.places c.first_of-next.ensures.ordered c.in-Some.place c.in-Some.value c.loop-next.next c.next_of-next.result c.in-Some.is value in
+    let before = c.loop-next.invariant.walked in
+    let walked = c.next_of-next.ensures.walked in
+    let touches = walked.touches in
+    let left = c.loop-next.invariant.touches in
+    record {
+      walked = record {
+        content = walked.content ∙ before.content;
+        settled = walked.settled ∙ before.settled;
+        places = walked.places ∙ before.places;
+        past = walked.past ∙ before.past;
+        pending = walked.pending ∙ before.pending;
+        touches = omega (arith, touches, left, length);
+        counted = (let a = walked.counted in let b = before.counted in omega (arith, a, b));
+      };
+      touches = omega (arith, touches, left, length);
+      gathered = step-gathered c.args.key.now c.args.kept.now.places c.first_of-next.ensures.ordered c.in-Some.place c.in-Some.value c.loop-next.next c.next_of-next.result c.loop-next.members.items c.push_there.new.members.items _
+          c.in-Some.is value c.loop-next.invariant.gathered c.in_ok-push_there.ensures;
+    }
+
+pub returns-clause-value : goal.returns-clause-value
+returns-clause-value g c = end-gathered c.args.key.now c.args.kept.now.places c.loop-next.next c.loop-next.members.items c.args.kept.now.content c.loop-next.invariant.gathered c.in_default.is c.first_of-next.ensures.content
+
+pub returns-clause-by_place : goal.returns-clause-by_place
+returns-clause-by_place g c =
+    rw (end-gathered c.args.key.now c.args.kept.now.places c.loop-next.next c.loop-next.members.items c.args.kept.now.content c.loop-next.invariant.gathered c.in_default.is c.first_of-next.ensures.content, c.first_of-next.ensures.content)
+    (members-by_place c.args.key.now c.args.kept.now.places c.first_of-next.ensures.ordered)
+
+pub returns-clause-touches : goal.returns-clause-touches
+returns-clause-touches g c =
+    let parted = places-parted c.args.key.now c.args.kept.now.places c.args.kept.now.content c.loop-next.members.items c.first_of-next.ensures.content
+    (end-gathered c.args.key.now c.args.kept.now.places c.loop-next.next c.loop-next.members.items c.args.kept.now.content c.loop-next.invariant.gathered c.in_default.is c.first_of-next.ensures.content) in
+    let touches = c.loop-next.invariant.walked.touches in
+    omega (arith, parted, touches)

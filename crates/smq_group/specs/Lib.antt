@@ -1,0 +1,6 @@
+pub mod Matching
+pub mod Changes
+pub mod Groups
+pub mod within
+pub mod Laws
+pub mod Known

@@ -1,0 +1,56 @@
+-- Outlooks: what all standings of a key's members rest on.
+use Rattle.std.specs.Prelude.{ℕ, ◌==◌, ◌&&◌, Bool, true, not, if◌then◌else◌, List, Option, Some, None, unwrap_or, option_map}
+use Rattle.std.specs.Ordering.{eq_by_cmp, is_lt}
+use Rattle.std.specs.Map.{lookup}
+use Rattle.std.specs.BTreeMap.{is_at}
+use Rattle.smq_kit.specs.declared.place.Place.{Place}
+use Rattle.smq_kit.specs.declared.link_key.LinkKey.{LinkKey}
+use Rattle.smq_kit.specs.Orders.{place_cmp}
+use Rattle.smq_kit.specs.Maps.{same_option}
+use Rattle.smq_kit.specs.LinkKeys.{kept_key_cmp}
+use Rattle.smq_group.specs.declared.change.Standing.{Standing}
+use Rattle.smq_group.specs.declared.change.Standing.TheVariants.{Single, Shared, Stray, Deciding, Extra, Noted}
+use Rattle.smq_group.specs.declared.outlook.Outlook.{Outlook}
+use Rattle.smq_group.specs.declared.outlook.Earliest.{Earliest}
+use Rattle.smq_group.specs.Matching.{candidate_cmp}
+
+-- so many submits, and this receipt the earliest that can decide
+abbrev pub an_outlook : ℕ → Option Earliest → Outlook
+an_outlook matches decider = record { matches = matches; decider = decider }
+
+-- no submits, and no receipt that can decide
+abbrev pub no_outlook : Outlook
+no_outlook = record { matches = 0; decider = None }
+
+-- the outlook that is kept of a key
+abbrev pub outlook_at : LinkKey → List (LinkKey × Outlook) → Outlook
+outlook_at key kept = unwrap_or (lookup (is_at (kept_key_cmp key)) kept) no_outlook
+
+-- the place of the receipt that decides
+abbrev pub decider_of : Outlook → Option Place
+decider_of o = option_map (λ earliest. earliest.place) o.decider
+
+-- the standing of submits
+abbrev pub submit_standing_of : Outlook → Standing
+submit_standing_of o = if o.matches == 1 then Single (decider_of o) else Shared
+
+-- the standing of a receipt
+abbrev pub receipt_standing_of : Outlook → Place → Bool → Standing
+receipt_standing_of o place decides =
+    if o.matches == 0 then Stray
+    else (if not (o.matches == 1) then Shared
+    else (if same_option (eq_by_cmp place_cmp) (decider_of o) (Some place) then Deciding
+    else (if decides then Extra else Noted)))
+
+-- whether a receipt comes before the one that decides, or none decides
+abbrev pub is_before : Earliest → Option Earliest → Bool
+is_before receipt None = true
+is_before receipt (Some earliest) = is_lt (candidate_cmp (receipt.moment, receipt.place) (earliest.moment, earliest.place))
+
+-- with one receipt more
+abbrev pub outlook_with : Outlook → Earliest → Bool → Outlook
+outlook_with o receipt decides = record { matches = o.matches; decider = if decides && is_before receipt o.decider then Some receipt else o.decider }
+
+-- whether the receipt at a place decides
+abbrev pub is_decided_by : Outlook → Place → Bool
+is_decided_by o place = same_option (eq_by_cmp place_cmp) (decider_of o) (Some place)

@@ -1,0 +1,92 @@
+-- What a walk over the members of a key meets.
+use Rattle.std.specs.Prelude.{◌≡◌, ◌≤◌, ◌+◌, ℕ, Bool, ◌&&◌, not, length, List, [], ◌∷◌, map, filter, Option, Some, None, option_map, is_some, find}
+use Rattle.smq_kit.specs.Orders.{place_cmp}
+use Rattle.smq_shelf.specs.Keeping.{Keeping}
+use Rattle.std.specs.Ordering.{is_lt}
+use Rattle.smq_kit.specs.declared.place.Place.{Place}
+use Rattle.smq_kit.specs.declared.link_key.LinkKey.{LinkKey}
+use Rattle.smq_kit.specs.LinkKeys.{same_key}
+use Rattle.smq_group.specs.declared.member.Member.{Member}
+use Rattle.smq_group.specs.declared.member.Candidate.{Candidate}
+use Rattle.smq_group.specs.declared.outlook.Earliest.{Earliest}
+use Rattle.smq_group.specs.Matching.{candidate_cmp}
+
+-- whether a member is of a key
+abbrev pub of_key : {V : Type 0} → LinkKey → Member × V → Bool
+of_key key e = same_key key e.0.key
+
+-- a member's place, and what is kept of it
+abbrev pub placed : {V : Type 0} → Member × V → Place × V
+placed e = (e.0.place, e.1)
+
+-- whether a member is of a key, and past a place
+abbrev pub is_past : {V : Type 0} → LinkKey → Place → Member × V → Bool
+is_past key place e = same_key key e.0.key && is_lt (place_cmp place e.0.place)
+
+-- what is left of a walk: the place that was found, and those of the key past it
+abbrev pub left_after : {V : Type 0} → LinkKey → List (Member × Option V) → Option (Place × Option V) → List (Place × Option V)
+left_after key places None = []
+left_after key places (Some found) = found ∷ map placed (filter (is_past key found.0) places)
+
+-- A map that was read.
+pub record Stays {K V : Type 0} (old new : Keeping K V) : Type 0 where
+  pub content : new.content ≡ old.content
+  pub settled : new.settled ≡ old.settled
+  pub places : new.places ≡ old.places
+  pub past : new.past ≡ old.past
+  pub pending : new.pending ≡ old.pending
+  pub counted : old.touches ≤ new.touches
+
+-- A map that was read, by at most so many calls.
+pub record IsWalked {K V : Type 0} (calls : ℕ) (old new : Keeping K V) : Type 0 where
+  pub content : new.content ≡ old.content
+  pub settled : new.settled ≡ old.settled
+  pub places : new.places ≡ old.places
+  pub past : new.past ≡ old.past
+  pub pending : new.pending ≡ old.pending
+  pub touches : new.touches ≤ old.touches + calls
+  pub counted : old.touches ≤ new.touches
+
+-- the moment and place of a candidate
+abbrev pub earliest_of : {V : Type 0} → Candidate × V → Earliest
+earliest_of e = record { moment = e.0.moment; place = e.0.place }
+
+-- a candidate's place, as a walk meets it: its moment and place, and whether it isn't vacant
+abbrev pub met : Candidate × Option Bool → Earliest × Bool
+met e = (earliest_of e, is_some e.1)
+
+-- whether a candidate is of a key, and after a moment and place
+abbrev pub is_after : {V : Type 0} → LinkKey → Earliest → Candidate × V → Bool
+is_after key from e = same_key key e.0.key && is_lt (candidate_cmp (from.moment, from.place) (e.0.moment, e.0.place))
+
+-- the first candidate of a key after a moment and place
+abbrev pub first_candidate_after : LinkKey → Earliest → List (Candidate × Bool) → Option Earliest
+first_candidate_after key from es = option_map earliest_of (find (is_after key from) es)
+
+-- the places that a walk has left: the one that was found, and those of the key after it
+abbrev pub candidates_left : LinkKey → List (Candidate × Option Bool) → Option (Earliest × Bool) → List (Earliest × Bool)
+candidates_left key places None = []
+candidates_left key places (Some found) = found ∷ map met (filter (is_after key found.0) places)
+
+-- the first of them that isn't vacant
+abbrev pub first_there : List (Earliest × Bool) → Option Earliest
+first_there left = option_map (λ m. m.0) (find (λ m. m.1) left)
+
+-- how many places of a key are vacant
+abbrev pub vacant_of : {K V : Type 0} → (K → LinkKey) → LinkKey → List (K × Option V) → ℕ
+vacant_of key_of key places = length (filter (λ e. same_key key (key_of e.0) && not (is_some e.1)) places)
+
+-- their keys, one for each
+abbrev pub vacant_keys : {K V : Type 0} → (K → LinkKey) → List (K × Option V) → List LinkKey
+vacant_keys key_of places = map (λ e. key_of e.0) (filter (λ e. not (is_some e.1)) places)
+
+-- the key of a member, and of a candidate
+abbrev pub member_key : Member → LinkKey
+member_key m = m.key
+
+abbrev pub candidate_key : Candidate → LinkKey
+candidate_key c = c.key
+
+-- how many of the places that a walk has left are vacant
+abbrev pub vacant_left : List (Earliest × Bool) → ℕ
+vacant_left left = length (filter (λ m. not m.1) left)

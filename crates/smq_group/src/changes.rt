@@ -1,0 +1,310 @@
+//! Which members' standings a change of a group changes.
+ghost use Rattle.std.specs.Prelude.{◌≡◌, ◌≤◌, ◌+◌, length, false, [], ◌∷◌, ◌++◌, IfOk, OnOk, OnErr};
+ghost use Rattle.std.specs.BTreeMap.{is_at};
+ghost use Rattle.smq_kit.specs.LinkKeys.{kept_key_cmp};
+ghost use Rattle.smq_group.specs.within.Outlooks.{decider_of, outlook_at};
+ghost use Rattle.smq_group.specs.within.Told.{ReceiptsByPlace, SubmitsByPlace, change_at, decider_changes, members_in, newcomer_receipt, newcomer_submit, receipt_changes, rival, same_decider, submit_changes, told_receipts, told_submits, turn_between};
+ghost use Rattle.smq_group.specs.within.Walked.{Stays, member_key, vacant_of};
+
+use crate::member::{Member, Said};
+use crate::outlook::{Earliest, Outlook, keep_outlook};
+use crate::walks::members_of;
+use crate::{Change, Standing};
+use smq_kit::{LinkKey, Place};
+use smq_shelf::Kept;
+use std::alloc::{AllocError, Global};
+
+/// Which member was put in, if one was; a receipt with whether it can decide.
+#[derive(Clone, Copy)]
+pub(crate) enum Added {
+    Submit(Place),
+    Receipt(Place, bool),
+    Nothing,
+}
+
+/// Which members of a key have another standing now.
+#[derive(Clone, Copy)]
+pub(crate) enum Turn {
+    /// Each: the number of submits passed between none, one and more.
+    Each,
+    /// The one submit and the receipts that decided and decide: another decides.
+    Deciders,
+    /// The one that was put in, if one was.
+    Newcomer,
+}
+
+/// Keeps the outlook that a key has now, and tells the changes. The members are those after the change. An error changes
+/// nothing.
+pub(crate) fn tell(
+    alloc: Global,
+    submits: &mut Kept<Member, bool>,
+    receipts: &mut Kept<Member, Said>,
+    outlooks: &mut Kept<LinkKey, Outlook>,
+    key: &LinkKey,
+    before: &Outlook,
+    after: &Outlook,
+    added: Added,
+) -> Result<Vec<Change>, AllocError>
+    ensures submits { Stays submits.old submits.new }
+    ensures receipts { Stays receipts.old receipts.new }
+    ensures here { OnOk result (outlook_at key.now outlooks.new.content ≡ after.now) }
+    ensures elsewhere { OnOk result ((other : LinkKey) → is_at (kept_key_cmp other) key.now ≡ false
+        → outlook_at other outlooks.new.content ≡ outlook_at other outlooks.old.content) }
+    ensures told { IfOk result (λ changes. changes.items
+        ≡ told_submits (turn_between before.now after.now) after.now added
+        (members_in key.now submits.old.content)
+        ++ told_receipts (turn_between before.now after.now) before.now after.now added
+        (members_in key.now receipts.old.content)) }
+    ensures submits_by_place { OnOk result (SubmitsByPlace (turn_between before.now after.now)
+        (members_in key.now submits.old.content)) }
+    ensures receipts_by_place { OnOk result (ReceiptsByPlace (turn_between before.now after.now)
+        (members_in key.now receipts.old.content)) }
+    ensures touches { IfOk result (λ changes.
+        submits.new.touches + receipts.new.touches + outlooks.new.touches
+        ≤ submits.old.touches + receipts.old.touches + outlooks.old.touches + 4
+        + vacant_of member_key key.now submits.old.places
+        + vacant_of member_key key.now receipts.old.places + length changes.items) }
+    ensures pending { outlooks.new.pending ≤ outlooks.old.pending + 1 }
+    ensures err { OnErr result (outlooks.new.content ≡ outlooks.old.content) }
+    ensures settled { outlooks.new.settled ≡ outlooks.old.settled }
+    ensures counted { outlooks.old.touches ≤ outlooks.new.touches }
+{
+    let changes = changes_of_key(alloc, submits, receipts, key, before, after, added)?;
+    keep_outlook(outlooks, key, after.matches, after.decider)?;
+    Ok(changes)
+}
+
+// The changes of a key's members: those of submits, then those of receipts.
+fn changes_of_key(
+    alloc: Global,
+    submits: &mut Kept<Member, bool>,
+    receipts: &mut Kept<Member, Said>,
+    key: &LinkKey,
+    before: &Outlook,
+    after: &Outlook,
+    added: Added,
+) -> Result<Vec<Change>, AllocError>
+    ensures submits { Stays submits.old submits.new }
+    ensures receipts { Stays receipts.old receipts.new }
+    ensures told { IfOk result (λ changes. changes.items
+        ≡ told_submits (turn_between before.now after.now) after.now added
+        (members_in key.now submits.old.content)
+        ++ told_receipts (turn_between before.now after.now) before.now after.now added
+        (members_in key.now receipts.old.content)) }
+    ensures submits_by_place { OnOk result (SubmitsByPlace (turn_between before.now after.now)
+        (members_in key.now submits.old.content)) }
+    ensures receipts_by_place { OnOk result (ReceiptsByPlace (turn_between before.now after.now)
+        (members_in key.now receipts.old.content)) }
+    ensures touches { IfOk result (λ changes. submits.new.touches + receipts.new.touches
+        ≤ submits.old.touches + receipts.old.touches + 2
+        + vacant_of member_key key.now submits.old.places
+        + vacant_of member_key key.now receipts.old.places + length changes.items) }
+{
+    let turn = turn_of(before, after);
+    let mut changes = Vec::new(alloc);
+    tell_submits(&mut changes, alloc, submits, key, after, turn, added)?;
+    tell_receipts(
+        &mut changes,
+        alloc,
+        receipts,
+        key,
+        before,
+        after,
+        turn,
+        added,
+    )?;
+    Ok(changes)
+}
+
+// Which members a change of outlook concerns.
+fn turn_of(before: &Outlook, after: &Outlook) -> Turn
+    ensures { result ≡ turn_between before.now after.now }
+{
+    if before.matches.min(2) != after.matches.min(2) {
+        return Turn::Each;
+    }
+    if after.matches == 1 && !is_same_decider(before, after) {
+        return Turn::Deciders;
+    }
+    Turn::Newcomer
+}
+
+fn is_same_decider(before: &Outlook, after: &Outlook) -> bool
+    ensures { result ≡ same_decider before.now after.now }
+{
+    match &after.decider {
+        Some(decider) => before.is_decided_by(decider.place),
+        None => before.decider.is_none(),
+    }
+}
+
+// The changes of submits.
+fn tell_submits(
+    changes: &mut Vec<Change>,
+    alloc: Global,
+    submits: &mut Kept<Member, bool>,
+    key: &LinkKey,
+    after: &Outlook,
+    turn: Turn,
+    added: Added,
+) -> Result<(), AllocError>
+    ensures submits { Stays submits.old submits.new }
+    ensures told { OnOk result (changes.new.items ≡ changes.old.items
+        ++ told_submits turn after.now added (members_in key.now submits.old.content)) }
+    ensures by_place { OnOk result
+        (SubmitsByPlace turn (members_in key.now submits.old.content)) }
+    ensures touches { OnOk result (submits.new.touches ≤ submits.old.touches + 1
+        + vacant_of member_key key.now submits.old.places
+        + length (told_submits turn after.now added (members_in key.now submits.old.content))) }
+{
+    match turn {
+        Turn::Each | Turn::Deciders => {
+            let members = members_of(alloc, submits, key)?;
+            push_submits(changes, &members, after)?;
+        }
+        Turn::Newcomer => push_new_submit(changes, after, added)?,
+    }
+    Ok(())
+}
+
+// The changes of receipts.
+fn tell_receipts(
+    changes: &mut Vec<Change>,
+    alloc: Global,
+    receipts: &mut Kept<Member, Said>,
+    key: &LinkKey,
+    before: &Outlook,
+    after: &Outlook,
+    turn: Turn,
+    added: Added,
+) -> Result<(), AllocError>
+    ensures receipts { Stays receipts.old receipts.new }
+    ensures told { OnOk result (changes.new.items ≡ changes.old.items
+        ++ told_receipts turn before.now after.now added
+        (members_in key.now receipts.old.content)) }
+    ensures by_place { OnOk result
+        (ReceiptsByPlace turn (members_in key.now receipts.old.content)) }
+    ensures touches { OnOk result (receipts.new.touches ≤ receipts.old.touches + 1
+        + vacant_of member_key key.now receipts.old.places
+        + length (told_receipts turn before.now after.now added
+        (members_in key.now receipts.old.content))) }
+{
+    match turn {
+        Turn::Each => {
+            let members = members_of(alloc, receipts, key)?;
+            push_receipts(changes, &members, after)?;
+        }
+        Turn::Deciders => push_deciders(changes, rival_of(before, added), after.decider_place())?,
+        Turn::Newcomer => push_new_receipt(changes, after, added)?,
+    }
+    Ok(())
+}
+
+// Each submit, with its standing.
+fn push_submits(
+    changes: &mut Vec<Change>,
+    members: &[(Place, bool)],
+    outlook: &Outlook,
+) -> Result<(), AllocError>
+    ensures { OnOk result (changes.new.items
+        ≡ changes.old.items ++ submit_changes outlook.now members.now) }
+{
+    for member in members {
+        push(changes, member.0, outlook.of_submits())?;
+    }
+    Ok(())
+}
+
+// Each receipt, with its standing.
+fn push_receipts(
+    changes: &mut Vec<Change>,
+    members: &[(Place, Said)],
+    outlook: &Outlook,
+) -> Result<(), AllocError>
+    ensures { OnOk result (changes.new.items
+        ≡ changes.old.items ++ receipt_changes outlook.now members.now) }
+{
+    for member in members {
+        push(
+            changes,
+            member.0,
+            outlook.of_receipt(member.0, member.1.decides),
+        )?;
+    }
+    Ok(())
+}
+
+// The submit that was put in, if one was.
+fn push_new_submit(
+    changes: &mut Vec<Change>,
+    outlook: &Outlook,
+    added: Added,
+) -> Result<(), AllocError>
+    ensures { OnOk result (changes.new.items
+        ≡ changes.old.items ++ newcomer_submit outlook.now added) }
+{
+    if let Added::Submit(place) = added {
+        push(changes, place, outlook.of_submits())?;
+    }
+    Ok(())
+}
+
+// The receipt that was put in, if one was.
+fn push_new_receipt(
+    changes: &mut Vec<Change>,
+    outlook: &Outlook,
+    added: Added,
+) -> Result<(), AllocError>
+    ensures { OnOk result (changes.new.items
+        ≡ changes.old.items ++ newcomer_receipt outlook.now added) }
+{
+    if let Added::Receipt(place, decides) = added {
+        push(changes, place, outlook.of_receipt(place, decides))?;
+    }
+    Ok(())
+}
+
+// The receipt that decided, where it is there still.
+fn rival_of(before: &Outlook, added: Added) -> Option<Place>
+    ensures { result ≡ rival before.now added }
+{
+    match added {
+        Added::Submit(_) => None,
+        Added::Receipt(_, _) => before.decider_place(),
+        Added::Nothing => None,
+    }
+}
+
+// The receipt that decided, where it is there still, and the one that decides, by place.
+fn push_deciders(
+    changes: &mut Vec<Change>,
+    rival: Option<Place>,
+    decider: Option<Place>,
+) -> Result<(), AllocError>
+    ensures { OnOk result (changes.new.items
+        ≡ changes.old.items ++ decider_changes rival decider) }
+{
+    let Some(decider) = decider else {
+        return Ok(());
+    };
+    let Some(rival) = rival else {
+        push(changes, decider, Standing::Deciding)?;
+        return Ok(());
+    };
+    if decider < rival {
+        push(changes, decider, Standing::Deciding)?;
+        push(changes, rival, Standing::Extra)?;
+    } else {
+        push(changes, rival, Standing::Extra)?;
+        push(changes, decider, Standing::Deciding)?;
+    }
+    Ok(())
+}
+
+fn push(changes: &mut Vec<Change>, place: Place, standing: Standing) -> Result<(), AllocError>
+    ensures { OnOk result (changes.new.items
+        ≡ changes.old.items ++ change_at place standing ∷ []) }
+{
+    changes.push(Change { place, standing })?;
+    Ok(())
+}

@@ -1,0 +1,94 @@
+//! Laws of the definitions that the contracts cite. No code calls these functions.
+ghost use Rattle.std.specs.Prelude.{◌≡◌, ◌∷◌, [], Some, None};
+ghost use Rattle.smq_group.specs.Changes.{TellsChanges, receipt_at, submit_at};
+ghost use Rattle.smq_group.specs.declared.change.Standing.TheVariants.{Deciding, Extra, Noted, Shared, Single, Stray};
+ghost use Rattle.smq_group.specs.Known.{both_links, centre_at, client_at, decided_late, elsewhere, grouped, late, late_and_early, none, one, tied, told, two, undecided};
+ghost use Rattle.smq_group.specs.Laws.{IsToldOneWay, OrderOfReceiptsIsIdle, OrderOfSidesIsIdle, OrderOfSubmitsIsIdle, ReceiptsLeaveNoTrace, SubmitsLeaveNoTrace, SubmitsLeaveOtherKeys, TellsNothingOfTheSame};
+
+/// A member that comes and goes leaves the members that were.
+pub fn moves_leave_no_trace()
+    ensures submits { SubmitsLeaveNoTrace }
+    ensures receipts { ReceiptsLeaveNoTrace }
+{}
+
+/// It doesn't matter in which order members come.
+pub fn order_of_members_is_idle()
+    ensures submits { OrderOfSubmitsIsIdle }
+    ensures receipts { OrderOfReceiptsIsIdle }
+    ensures sides { OrderOfSidesIsIdle }
+{}
+
+/// What differs is told by one list alone, which is empty where no standing differs.
+pub fn changes_are_told_one_way()
+    ensures one { IsToldOneWay }
+    ensures nothing { TellsNothingOfTheSame }
+{}
+
+/// A submit leaves the standings of submits of other keys.
+pub fn keys_are_apart()
+    ensures { SubmitsLeaveOtherKeys }
+{}
+
+/// The standings of groups that are written out.
+pub fn known_standings()
+    // A receipt matches no submit, one, or several.
+    ensures stray { receipt_at (grouped none late) (centre_at 18) ≡ Some Stray }
+    ensures deciding { receipt_at (grouped one late) (centre_at 18) ≡ Some Deciding }
+    ensures several { receipt_at (grouped two late) (centre_at 18) ≡ Some Shared }
+
+    // A submit is alone with its key, with or without a receipt that decides it, or shares it.
+    ensures alone { submit_at (grouped one []) (client_at 0) ≡ Some (Single None) }
+    ensures decided { submit_at (grouped one late) (client_at 0) ≡ Some (Single (Some (centre_at 18))) }
+    ensures shared { submit_at (grouped two late) (client_at 0) ≡ Some Shared }
+    ensures shared_too { submit_at (grouped two late) (client_at 49) ≡ Some Shared }
+
+    // The earliest receipt decides, whatever its place, and the other is extra.
+    ensures earliest { submit_at (grouped one late_and_early) (client_at 0)
+        ≡ Some (Single (Some (centre_at 90))) }
+    ensures earliest_decides { receipt_at (grouped one late_and_early) (centre_at 90)
+        ≡ Some Deciding }
+    ensures later_is_extra { receipt_at (grouped one late_and_early) (centre_at 18) ≡ Some Extra }
+
+    // Of two of one moment, the one at the lower place decides.
+    ensures tie { submit_at (grouped one tied) (client_at 0) ≡ Some (Single (Some (centre_at 18))) }
+    ensures tie_decides { receipt_at (grouped one tied) (centre_at 18) ≡ Some Deciding }
+    ensures tie_is_extra { receipt_at (grouped one tied) (centre_at 90) ≡ Some Extra }
+
+    // A receipt that can't decide is noted, however early.
+    ensures undecided { submit_at (grouped one undecided) (client_at 0) ≡ Some (Single None) }
+    ensures noted { receipt_at (grouped one undecided) (centre_at 18) ≡ Some Noted }
+    ensures later_decides { submit_at (grouped one decided_late) (client_at 0)
+        ≡ Some (Single (Some (centre_at 90))) }
+    ensures noted_still { receipt_at (grouped one decided_late) (centre_at 18) ≡ Some Noted }
+
+    // The same key on another link is another key.
+    ensures other_link { receipt_at (grouped elsewhere late) (centre_at 18) ≡ Some Stray }
+    ensures not_theirs { submit_at (grouped elsewhere late) (client_at 49) ≡ Some (Single None) }
+    ensures not_shared { submit_at (grouped both_links late) (client_at 0)
+        ≡ Some (Single (Some (centre_at 18))) }
+
+    // Nothing stands at a place that is no member's.
+    ensures nowhere { submit_at (grouped one late) (client_at 7) ≡ None }
+{}
+
+/// The changes of groups that are written out.
+pub fn known_changes()
+    // An earlier receipt takes the place of the one that decided.
+    ensures replaced { TellsChanges (grouped one late) (grouped one late_and_early)
+        (told (client_at 0) (Single (Some (centre_at 90)))
+        ∷ told (centre_at 18) Extra ∷ told (centre_at 90) Deciding ∷ []) }
+
+    // Where it goes, the other decides again. What is gone is not told.
+    ensures back { TellsChanges (grouped one late_and_early) (grouped one late)
+        (told (client_at 0) (Single (Some (centre_at 18))) ∷ told (centre_at 18) Deciding ∷ []) }
+
+    // A second submit makes all of the key shared, and where it goes none is.
+    ensures shared { TellsChanges (grouped one late) (grouped two late)
+        (told (client_at 0) Shared ∷ told (client_at 49) Shared ∷ told (centre_at 18) Shared ∷ []) }
+    ensures alone { TellsChanges (grouped two late) (grouped one late)
+        (told (client_at 0) (Single (Some (centre_at 18))) ∷ told (centre_at 18) Deciding ∷ []) }
+
+    // A receipt that can't decide changes no other's standing.
+    ensures noted { TellsChanges (grouped one []) (grouped one undecided)
+        (told (centre_at 18) Noted ∷ []) }
+{}

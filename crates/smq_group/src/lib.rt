@@ -1,0 +1,19 @@
+//! Submits and delivery receipts in groups by link and key: what each member is to its group, as members come and go.
+#![tactic(auto)]
+
+mod candidates;
+mod change;
+mod changes;
+mod groups;
+mod laws;
+mod member;
+mod outlook;
+mod receipts;
+mod walks;
+
+pub use change::{Change, Standing};
+pub use groups::Groups;
+pub use laws::{
+    changes_are_told_one_way, keys_are_apart, known_changes, known_standings, moves_leave_no_trace,
+    order_of_members_is_idle,
+};

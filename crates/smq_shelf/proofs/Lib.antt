@@ -1,0 +1,7 @@
+pub mod Finds
+pub mod Changes
+pub mod Walks
+pub mod Seen
+pub mod Steps
+pub mod Occupied
+pub mod Nearest

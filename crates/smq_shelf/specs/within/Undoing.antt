@@ -1,0 +1,52 @@
+-- A log that takes changes back.
+use Rattle.std.specs.Prelude.{cond, Bool, true, false, List, [], ◌∷◌, Option, Some, None, IsSome, reverse}
+use Rattle.std.specs.declared.cmp.Ordering.{Ordering}
+use Rattle.std.specs.Map.{lookup, remove_entry, keys_of}
+use Rattle.std.specs.List.{AllByRecursion}
+use Rattle.std.specs.List.Sorted.{IsStrictlySortedBy}
+use Rattle.std.specs.BTreeMap.{is_at, insert_entry}
+
+-- the value of a place that is there and not vacant
+abbrev pub flatten : {V : Type 0} → Option (Option V) → Option V
+flatten None = None
+flatten (Some x) = x
+
+-- a place is there, and vacant
+abbrev pub is_vacant : {V : Type 0} → Option (Option V) → Bool
+is_vacant None = false
+is_vacant (Some None) = true
+is_vacant (Some (Some x)) = false
+
+-- a key and its entry's value before a change: `None` where the key had no place
+abbrev pub Logged : Type 0 → Type 0 → Type 0
+Logged K V = K × Option (Option V)
+
+module _ {K V : Type 0} (cmp : K → K → Ordering) where
+  -- the entries before the change
+  abbrev pub reverted : K → Option (Option V) → List (K × Option V) → List (K × Option V)
+  reverted k None es = remove_entry (is_at (cmp k)) es
+  reverted k (Some w) es = insert_entry cmp es k w
+
+  -- the entries without the place of k, where that is vacant
+  abbrev pub cleared : K → List (K × Option V) → List (K × Option V)
+  cleared k es = cond (is_vacant (lookup (is_at (cmp k)) es)) (remove_entry (is_at (cmp k)) es) es
+
+  -- the entries before the changes of a log, the newest first
+  abbrev pub undone : List (Logged K V) → List (K × Option V) → List (K × Option V)
+  undone [] es = es
+  undone (c ∷ cs) es = undone cs (reverted c.0 c.1 es)
+
+  -- the entries before each of the changes of a log, the newest first
+  abbrev pub pasts : List (Logged K V) → List (K × Option V) → List (List (K × Option V))
+  pasts [] es = []
+  pasts (c ∷ cs) es = reverted c.0 c.1 es ∷ pasts cs (reverted c.0 c.1 es)
+
+  -- each change's key has a place when it is taken back, and none is vacant in the end
+  abbrev pub CanUndo : List (Logged K V) → List (K × Option V) → Type 0
+  CanUndo [] es = AllByRecursion (λ e. IsSome e.1) es
+  CanUndo (c ∷ cs) es = IsSome (lookup (is_at (cmp c.0)) es) × CanUndo cs (reverted c.0 c.1 es)
+
+-- the entries of a shelf and its log: the keys ascend, and each change can be taken back
+pub record IsKept {K V : Type 0} (cmp : K → K → Ordering) (log : List (Logged K V)) (es : List (K × Option V)) : Type 0 where
+  pub ordered : IsStrictlySortedBy cmp (keys_of es)
+  pub undoable : CanUndo cmp (reverse log) es
