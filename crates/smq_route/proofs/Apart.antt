@@ -13,8 +13,9 @@ use Rattle.smq_kit.specs.declared.refusal.Refusal.{Refusal}
 use Rattle.smq_kit.specs.declared.refusal.Refusal.TheVariants.{Overlap, Ended, BadEnd}
 use Rattle.smq_route.specs.declared.version.VersionKey.{VersionKey}
 use Rattle.smq_route.specs.declared.version.Version.{Version}
-use Rattle.smq_kit.specs.Replies.{IsReply, IsReplyInPlace, first_of}
+use Rattle.smq_kit.specs.Replies.{IsReply, first_of}
 use Rattle.smq_route.specs.Versions.{Versions, key_at, version_of, lasts_past, is_of, overlap, EndsBy, LastsPast, AreApart}
+use Rattle.smq_route.specs.Routes.{RoutesValue}
 use Rattle.smq_route.specs.within.Kept.{NoneHolds}
 use Rattle.smq_route.specs.Edits.{add_refusals, end_refusals, correct_refusals, added, changed, changed_where, ending, corrected}
 use Rattle.smq_route.proofs.VersionOrders.{versions_total, versions_exact}
@@ -153,12 +154,16 @@ overlap-first m p t (Some f) a none h =
 
 -- ---- edits
 
-pub IsReplyInPlace-weaker : {T P P' Q Q' : Type 0} (o : Option Refusal) (r : Result T Refusal) → (P → P') → (Q → Q')
-    → IsReplyInPlace o r P Q → IsReplyInPlace o r P' Q'
-IsReplyInPlace-weaker None (Ok x) f g a = f a
-IsReplyInPlace-weaker None (Err e) f g a = a
-IsReplyInPlace-weaker (Some q) (Ok x) f g a = a
-IsReplyInPlace-weaker (Some q) (Err e) f g a = (a.0, g a.1)
+-- routes of which nothing changed, where the versions didn't and those that were settled didn't
+pub same-routes : (old new : RoutesValue) → new.versions ≡ old.versions → new.settled ≡ old.settled → new ≡ old
+same-routes old new versions settled = λ i. record { versions = versions i; settled = settled i }
+
+pub reply-whole : {T : Type 0} (Made : Type 0) (o : Option Refusal) (r : Result T Refusal) (old new : RoutesValue) → new.settled ≡ old.settled
+    → IsReply o r Made (new.versions ≡ old.versions) → IsReply o r Made (new ≡ old)
+reply-whole Made None (Ok x) old new settled a = a
+reply-whole Made None (Err e) old new settled a = (a.0, same-routes old new a.1 settled)
+reply-whole Made (Some q) (Ok x) old new settled a = a
+reply-whole Made (Some q) (Err e) old new settled a = (a.0, same-routes old new a.1 settled)
 
 -- the key's prefix and beginning
 prefix-is : (p q : List ℕ) (f g : ℕ) → key_at p f ≡ key_at q g → p ≡ q
@@ -246,34 +251,34 @@ ending-apart m p f until v a there is_open forward =
     (λ g w w_there more. absurd (subst (λ (o : Option ℕ). EndsBy g o) is_open (a.apart p f g v w there w_there more)))
 
 pub end-apart : {T : Type 0} (m n : Versions) (p : List ℕ) (f until : ℕ) (r : Result T Refusal) → AreApart m
-    → IsReplyInPlace (first_of (end_refusals (version_of m p f) f until)) r (n ≡ changed m p f (ending until)) (n ≡ m) → AreApart n
+    → IsReply (first_of (end_refusals (version_of m p f) f until)) r (n ≡ changed m p f (ending until)) (n ≡ m) → AreApart n
 end-apart {T} m n p f until r a h =
     by (version_of m p f) r refl h
   where
     ends : (v : Version) (o : Option ℕ) (b : Bool) (s : Result T Refusal) → version_of m p f ≡ Some v → v.until ≡ o → nat_le until f ≡ b
-        → IsReplyInPlace (first_of (None ∷ option_map Ended o ∷ cond b (Some BadEnd) None ∷ [])) s (n
+        → IsReply (first_of (None ∷ option_map Ended o ∷ cond b (Some BadEnd) None ∷ [])) s (n
         ≡ insert m (key_at p f) (ending until v)) (n ≡ m) → AreApart n
     ends v None true (Ok x) e u c g = absurd g
     ends v None true (Err x) e u c g = subst AreApart (sym g.1) a
     ends v None false (Ok x) e u c g = subst AreApart (sym g) (ending-apart m p f until v a e u (grind (arith, nat_tests, c)))
-    ends v None false (Err x) e u c g = absurd g
+    ends v None false (Err x) e u c g = subst AreApart (sym g.1) a
     ends v (Some t) b (Ok x) e u c g = absurd g
     ends v (Some t) b (Err x) e u c g = subst AreApart (sym g.1) a
 
     by : (o : Option Version) (s : Result T Refusal) → version_of m p f ≡ o
-        → IsReplyInPlace (first_of (end_refusals o f until)) s (n ≡ changed_where o m p f (ending until)) (n ≡ m) → AreApart n
+        → IsReply (first_of (end_refusals o f until)) s (n ≡ changed_where o m p f (ending until)) (n ≡ m) → AreApart n
     by None (Ok x) e g = absurd g
     by None (Err x) e g = subst AreApart (sym g.1) a
     by (Some v) s e g = ends v v.until (nat_le until f) s e refl refl g
 
 -- a version is corrected
 pub correct-apart : {T : Type 0} (m n : Versions) (p : List ℕ) (f : ℕ) (route : RouteId) (network : List ℕ) (r : Result T Refusal) → AreApart m
-    → IsReplyInPlace (first_of (correct_refusals (version_of m p f))) r (n ≡ changed m p f (corrected route network)) (n ≡ m) → AreApart n
+    → IsReply (first_of (correct_refusals (version_of m p f))) r (n ≡ changed m p f (corrected route network)) (n ≡ m) → AreApart n
 correct-apart {T} m n p f route network r a h =
     by (version_of m p f) r refl h
   where
     by : (o : Option Version) (s : Result T Refusal) → version_of m p f ≡ o
-        → IsReplyInPlace (first_of (correct_refusals o)) s (n ≡ changed_where o m p f (corrected route network)) (n ≡ m)
+        → IsReply (first_of (correct_refusals o)) s (n ≡ changed_where o m p f (corrected route network)) (n ≡ m)
         → AreApart n
     by None (Ok x) e g = absurd g
     by None (Err x) e g = subst AreApart (sym g.1) a
@@ -281,4 +286,4 @@ correct-apart {T} m n p f route network r a h =
         subst AreApart (sym g) (put-apart m p f (corrected route network v) a (a.digits p f v e) (a.forward p f v e)
         (λ q w there less. a.apart p q f w v there e less)
         (λ q w there more. a.apart p f q v w e there more))
-    by (Some v) (Err x) e g = absurd g
+    by (Some v) (Err x) e g = subst AreApart (sym g.1) a

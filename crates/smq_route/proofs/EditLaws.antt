@@ -8,7 +8,7 @@ use Rattle.std.specs.Ordering.{eq_by_cmp}
 use Rattle.std.specs.FinMap.{get, insert, get-insert, same_map}
 use Rattle.smq_kit.proofs.Comparisons.{is_equal}
 use Rattle.smq_kit.specs.Numbers.{IsDigits}
-use Rattle.smq_kit.specs.Replies.{IsReplyInPlace, first_of}
+use Rattle.smq_kit.specs.Replies.{IsReply, first_of}
 use Rattle.smq_kit.specs.declared.names.RouteId.{RouteId}
 use Rattle.smq_kit.specs.declared.refusal.Refusal.{Refusal}
 use Rattle.smq_kit.specs.declared.refusal.Refusal.TheVariants.{Overlap, Ended, BadEnd}
@@ -40,7 +40,7 @@ pub ends-apart : (m : Versions) (p : List ℕ) (f until : ℕ) → AreApart m �
 ends-apart m p f until a accept =
     let new : Versions = changed m p f (ending until) in
     end-apart {T = ⊤} m new p f until (Ok tt) a
-    (subst (λ (o : Option Refusal). IsReplyInPlace {T = ⊤} o (Ok tt) (new ≡ new) (new ≡ m)) (sym accept) refl)
+    (subst (λ (o : Option Refusal). IsReply {T = ⊤} o (Ok tt) (new ≡ new) (new ≡ m)) (sym accept) refl)
 
 pub corrects-apart : (m : Versions) (p : List ℕ) (f : ℕ) (r : RouteId) (n : List ℕ) → AreApart m → AreApart (changed m p f (corrected r n))
 corrects-apart m p f r n a = by (version_of m p f) refl

@@ -13,14 +13,13 @@ use Rattle.std.specs.Cmp.{ranked}
 use Rattle.std.proofs.lemmas.Cmp.{nat_list_cmp_total}
 use Rattle.std.proofs.Common.{arith}
 use Rattle.std.proofs.lemmas.Map.Keys.{le_from_not_gt, ge_from_not_lt}
-use Rattle.std.specs.BTreeMap as tree
-use Rattle.std.specs.BTreeMap.{BTreeMap, is_at}
+use Rattle.std.specs.BTreeMap.{is_at}
 use Rattle.std.specs.FinMap.{entries, get, insert, get-insert, from_entries, slice_cmp-IsAntisymmetric, nat_cmp-IsAntisymmetric}
 use Rattle.smq_kit.specs.Orders.{octets_cmp}
 use Rattle.smq_route.specs.declared.version.VersionKey.{VersionKey}
 use Rattle.smq_route.specs.declared.version.Version.{Version}
 use Rattle.smq_route.specs.Versions.{version_cmp, Versions, key_at, version_of}
-use Rattle.smq_route.specs.within.Kept.{kept_version_cmp, versions_in}
+use Rattle.smq_route.specs.within.Kept.{kept_version_cmp}
 use Rattle.smq_route.proofs.VersionOrders.{version-order, versions_total, versions_exact, in-prefix}
 use Rattle.smq_kit.proofs.Comparisons.{is_equal}
 use Rattle.smq_kit.proofs.Ordered as ordered
@@ -45,8 +44,8 @@ entries-seen es s = ordered.entries-kept versions_total versions_exact version-o
 
 -- ---- the last up to a key
 
-some-there : (m : BTreeMap VersionKey Version) (q : VersionKey) → IsSome (get (versions_in m) q) → IsSome (tree.get kept_version_cmp m q)
-some-there m q h = subst IsSome (get-seen m.entries q) h
+some-there : (es : List (VersionKey × Version)) (q : VersionKey) → IsSome (get (seen es) q) → IsSome (lookup (is_at (kept_version_cmp q)) es)
+some-there es q h = subst IsSome (get-seen es q) h
 
 none-of : (o : Option Version) → (IsSome o → ⊥) → o ≡ None
 none-of None h = refl
@@ -80,86 +79,86 @@ abbrev pub is_after : VersionKey → VersionKey → Bool
 is_after a b = is_gt (version_cmp a b)
 
 -- the last entry up to a key, where it is one of the key's prefix
-last-at : (m : BTreeMap VersionKey Version) (p : List ℕ) (t f : ℕ) (v : Version) → is_after (key_at p f) (key_at p t) ≡ false
-    → tree.get kept_version_cmp m (key_at p f) ≡ Some v
-    → ((q : VersionKey) → is_after q (key_at p t) ≡ false → IsSome (tree.get kept_version_cmp m q) → is_lt (version_cmp (key_at p f) q) ≡ false)
-    → (f ≤ t) × (version_of (versions_in m) p f ≡ Some v) × ((g : ℕ) → g ≤ t → IsSome (version_of (versions_in m) p g) → g ≤ f)
-last-at m p t f v le found most = (
+last-at : (es : List (VersionKey × Version)) (p : List ℕ) (t f : ℕ) (v : Version) → is_after (key_at p f) (key_at p t) ≡ false
+    → lookup (is_at (kept_version_cmp (key_at p f))) es ≡ Some v
+    → ((q : VersionKey) → is_after q (key_at p t) ≡ false → IsSome (lookup (is_at (kept_version_cmp q)) es) → is_lt (version_cmp (key_at p f) q) ≡ false)
+    → (f ≤ t) × (version_of (seen es) p f ≡ Some v) × ((g : ℕ) → g ≤ t → IsSome (version_of (seen es) p g) → g ≤ f)
+last-at es p t f v le found most = (
   le_from_not_gt f t (ap is_gt (sym (in-prefix p f t)) ∙ le),
-  get-seen m.entries (key_at p f) ∙ found,
+  get-seen es (key_at p f) ∙ found,
   λ g below there. ge_from_not_lt f g (ap is_lt (sym (in-prefix p f g))
-      ∙ most (key_at p g) (ap is_gt (in-prefix p g t) ∙ not-gt g t below) (some-there m (key_at p g) there)),
+      ∙ most (key_at p g) (ap is_gt (in-prefix p g t) ∙ not-gt g t below) (some-there es (key_at p g) there)),
 )
 
-pub last-same : (m : BTreeMap VersionKey Version) (p : List ℕ) (t : ℕ) (k : VersionKey) (v : Version)
-    → is_after k (key_at p t) ≡ false → tree.get kept_version_cmp m k ≡ Some v
-    → ((q : VersionKey) → is_after q (key_at p t) ≡ false → IsSome (tree.get kept_version_cmp m q) → is_lt (version_cmp k q) ≡ false) → k.prefix ≡ p
-    → (k.from ≤ t) × (version_of (versions_in m) p k.from ≡ Some v) × ((g : ℕ) → g ≤ t → IsSome (version_of (versions_in m) p g) → g ≤ k.from)
-last-same m p t k v le found most same =
+pub last-same : (es : List (VersionKey × Version)) (p : List ℕ) (t : ℕ) (k : VersionKey) (v : Version)
+    → is_after k (key_at p t) ≡ false → lookup (is_at (kept_version_cmp k)) es ≡ Some v
+    → ((q : VersionKey) → is_after q (key_at p t) ≡ false → IsSome (lookup (is_at (kept_version_cmp q)) es) → is_lt (version_cmp k q) ≡ false) → k.prefix ≡ p
+    → (k.from ≤ t) × (version_of (seen es) p k.from ≡ Some v) × ((g : ℕ) → g ≤ t → IsSome (version_of (seen es) p g) → g ≤ k.from)
+last-same es p t k v le found most same =
     let is : k ≡ key_at p k.from = λ i. record { prefix = same i; from = k.from } in
-    last-at m p t k.from v
+    last-at es p t k.from v
     (subst (λ (x : VersionKey). is_after x (key_at p t) ≡ false) is le)
-    (subst (λ (x : VersionKey). tree.get kept_version_cmp m x ≡ Some v) is found)
-    (subst (λ (x : VersionKey). (q : VersionKey) → is_after q (key_at p t) ≡ false → IsSome (tree.get kept_version_cmp m q)
+    (subst (λ (x : VersionKey). lookup (is_at (kept_version_cmp x)) es ≡ Some v) is found)
+    (subst (λ (x : VersionKey). (q : VersionKey) → is_after q (key_at p t) ≡ false → IsSome (lookup (is_at (kept_version_cmp q)) es)
     → is_lt (version_cmp x q) ≡ false) is most)
 
 -- where it is another prefix's, the prefix has none
-pub last-other : (m : BTreeMap VersionKey Version) (p : List ℕ) (t : ℕ) (k : VersionKey) → is_after k (key_at p t) ≡ false
-    → ((q : VersionKey) → is_after q (key_at p t) ≡ false → IsSome (tree.get kept_version_cmp m q)
+pub last-other : (es : List (VersionKey × Version)) (p : List ℕ) (t : ℕ) (k : VersionKey) → is_after k (key_at p t) ≡ false
+    → ((q : VersionKey) → is_after q (key_at p t) ≡ false → IsSome (lookup (is_at (kept_version_cmp q)) es)
     → is_lt (version_cmp k q) ≡ false) → (k.prefix ≡ p → ⊥)
-    → (g : ℕ) → g ≤ t → version_of (versions_in m) p g ≡ None
-last-other m p t k le most other g below =
-    none-of (version_of (versions_in m) p g) (λ there.
+    → (g : ℕ) → g ≤ t → version_of (seen es) p g ≡ None
+last-other es p t k le most other g below =
+    none-of (version_of (seen es) p g) (λ there.
     let before : is_lt (version_cmp k (key_at p g)) ≡ false = most (key_at p g) (ap is_gt (in-prefix p g t)
-    ∙ not-gt g t below) (some-there m (key_at p g) there) in
+    ∙ not-gt g t below) (some-there es (key_at p g) there) in
     other (same-prefix k.prefix p (octets_cmp k.prefix p) refl (not-less (octets_cmp k.prefix p) (nat_cmp k.from g) before)
     (not-greater (octets_cmp k.prefix p) (nat_cmp k.from t) le)))
 
-pub last-none : (m : BTreeMap VersionKey Version) (p : List ℕ) (t : ℕ)
-    → ((q : VersionKey) → is_after q (key_at p t) ≡ false → tree.get kept_version_cmp m q ≡ None)
-    → (g : ℕ) → g ≤ t → version_of (versions_in m) p g ≡ None
-last-none m p t none g below = get-seen m.entries (key_at p g) ∙ none (key_at p g) (ap is_gt (in-prefix p g t) ∙ not-gt g t below)
+pub last-none : (es : List (VersionKey × Version)) (p : List ℕ) (t : ℕ)
+    → ((q : VersionKey) → is_after q (key_at p t) ≡ false → lookup (is_at (kept_version_cmp q)) es ≡ None)
+    → (g : ℕ) → g ≤ t → version_of (seen es) p g ≡ None
+last-none es p t none g below = get-seen es (key_at p g) ∙ none (key_at p g) (ap is_gt (in-prefix p g t) ∙ not-gt g t below)
 
 -- ---- the first from a key
 
-first-at : (m : BTreeMap VersionKey Version) (p : List ℕ) (t f : ℕ) (v : Version) → is_after (key_at p t) (key_at p f) ≡ false
-    → tree.get kept_version_cmp m (key_at p f) ≡ Some v
-    → ((q : VersionKey) → is_after (key_at p t) q ≡ false → IsSome (tree.get kept_version_cmp m q) → is_after (key_at p f) q ≡ false)
-    → (t ≤ f) × IsSome (version_of (versions_in m) p f) × ((g : ℕ) → t ≤ g → IsSome (version_of (versions_in m) p g) → f ≤ g)
-first-at m p t f v le found least = (
+first-at : (es : List (VersionKey × Version)) (p : List ℕ) (t f : ℕ) (v : Version) → is_after (key_at p t) (key_at p f) ≡ false
+    → lookup (is_at (kept_version_cmp (key_at p f))) es ≡ Some v
+    → ((q : VersionKey) → is_after (key_at p t) q ≡ false → IsSome (lookup (is_at (kept_version_cmp q)) es) → is_after (key_at p f) q ≡ false)
+    → (t ≤ f) × IsSome (version_of (seen es) p f) × ((g : ℕ) → t ≤ g → IsSome (version_of (seen es) p g) → f ≤ g)
+first-at es p t f v le found least = (
   le_from_not_gt t f (ap is_gt (sym (in-prefix p t f)) ∙ le),
-  subst IsSome (sym (get-seen m.entries (key_at p f) ∙ found)) refl,
+  subst IsSome (sym (get-seen es (key_at p f) ∙ found)) refl,
   λ g above there. le_from_not_gt f g (ap is_gt (sym (in-prefix p f g))
-      ∙ least (key_at p g) (ap is_gt (in-prefix p t g) ∙ not-gt t g above) (some-there m (key_at p g) there)),
+      ∙ least (key_at p g) (ap is_gt (in-prefix p t g) ∙ not-gt t g above) (some-there es (key_at p g) there)),
 )
 
-pub first-same : (m : BTreeMap VersionKey Version) (p : List ℕ) (t : ℕ) (k : VersionKey) (v : Version)
-    → is_after (key_at p t) k ≡ false → tree.get kept_version_cmp m k ≡ Some v
-    → ((q : VersionKey) → is_after (key_at p t) q ≡ false → IsSome (tree.get kept_version_cmp m q) → is_after k q ≡ false) → k.prefix ≡ p
-    → (t ≤ k.from) × IsSome (version_of (versions_in m) p k.from) × ((g : ℕ) → t ≤ g → IsSome (version_of (versions_in m) p g) → k.from ≤ g)
-first-same m p t k v le found least same =
+pub first-same : (es : List (VersionKey × Version)) (p : List ℕ) (t : ℕ) (k : VersionKey) (v : Version)
+    → is_after (key_at p t) k ≡ false → lookup (is_at (kept_version_cmp k)) es ≡ Some v
+    → ((q : VersionKey) → is_after (key_at p t) q ≡ false → IsSome (lookup (is_at (kept_version_cmp q)) es) → is_after k q ≡ false) → k.prefix ≡ p
+    → (t ≤ k.from) × IsSome (version_of (seen es) p k.from) × ((g : ℕ) → t ≤ g → IsSome (version_of (seen es) p g) → k.from ≤ g)
+first-same es p t k v le found least same =
     let is : k ≡ key_at p k.from = λ i. record { prefix = same i; from = k.from } in
-    first-at m p t k.from v
+    first-at es p t k.from v
     (subst (λ (x : VersionKey). is_after (key_at p t) x ≡ false) is le)
-    (subst (λ (x : VersionKey). tree.get kept_version_cmp m x ≡ Some v) is found)
-    (subst (λ (x : VersionKey). (q : VersionKey) → is_after (key_at p t) q ≡ false → IsSome (tree.get kept_version_cmp m q)
+    (subst (λ (x : VersionKey). lookup (is_at (kept_version_cmp x)) es ≡ Some v) is found)
+    (subst (λ (x : VersionKey). (q : VersionKey) → is_after (key_at p t) q ≡ false → IsSome (lookup (is_at (kept_version_cmp q)) es)
     → is_after x q ≡ false) is least)
 
-pub first-other : (m : BTreeMap VersionKey Version) (p : List ℕ) (t : ℕ) (k : VersionKey) → is_after (key_at p t) k ≡ false
-    → ((q : VersionKey) → is_after (key_at p t) q ≡ false → IsSome (tree.get kept_version_cmp m q) → is_after k q ≡ false) → (k.prefix ≡ p → ⊥)
-    → (g : ℕ) → t ≤ g → version_of (versions_in m) p g ≡ None
-first-other m p t k le least other g above =
-    none-of (version_of (versions_in m) p g) (λ there.
+pub first-other : (es : List (VersionKey × Version)) (p : List ℕ) (t : ℕ) (k : VersionKey) → is_after (key_at p t) k ≡ false
+    → ((q : VersionKey) → is_after (key_at p t) q ≡ false → IsSome (lookup (is_at (kept_version_cmp q)) es) → is_after k q ≡ false) → (k.prefix ≡ p → ⊥)
+    → (g : ℕ) → t ≤ g → version_of (seen es) p g ≡ None
+first-other es p t k le least other g above =
+    none-of (version_of (seen es) p g) (λ there.
     let after : is_after k (key_at p g) ≡ false = least (key_at p g) (ap is_gt (in-prefix p t g)
-    ∙ not-gt t g above) (some-there m (key_at p g) there) in
+    ∙ not-gt t g above) (some-there es (key_at p g) there) in
     other (sym (same-prefix p k.prefix (octets_cmp p k.prefix) refl
     (λ e. not-greater (octets_cmp k.prefix p) (nat_cmp k.from g) after (nat_list_cmp_total.antisymm k.prefix p ∙ ap ordering_reverse e))
     (not-greater (octets_cmp p k.prefix) (nat_cmp t k.from) le))))
 
-pub first-none : (m : BTreeMap VersionKey Version) (p : List ℕ) (t : ℕ)
-    → ((q : VersionKey) → is_after (key_at p t) q ≡ false → tree.get kept_version_cmp m q ≡ None)
-    → (g : ℕ) → t ≤ g → version_of (versions_in m) p g ≡ None
-first-none m p t none g above = get-seen m.entries (key_at p g) ∙ none (key_at p g) (ap is_gt (in-prefix p t g) ∙ not-gt t g above)
+pub first-none : (es : List (VersionKey × Version)) (p : List ℕ) (t : ℕ)
+    → ((q : VersionKey) → is_after (key_at p t) q ≡ false → lookup (is_at (kept_version_cmp q)) es ≡ None)
+    → (g : ℕ) → t ≤ g → version_of (seen es) p g ≡ None
+first-none es p t none g above = get-seen es (key_at p g) ∙ none (key_at p g) (ap is_gt (in-prefix p t g) ∙ not-gt t g above)
 
 -- ---- an entry that is put in
 

@@ -7,7 +7,7 @@ use Rattle.std.proofs.lemmas.Cmp.{on_total, then_total, nat_cmp_total, nat_list_
 use Rattle.std.specs.FinMap.{IsAntisymmetric, nat_cmp-IsAntisymmetric, slice_cmp-IsAntisymmetric}
 use Rattle.smq_kit.specs.Orders.{octets_cmp}
 use Rattle.smq_route.specs.Versions.{version_cmp, key_at}
-use Rattle.smq_route.specs.within.Kept.{kept_version_cmp}
+use Rattle.smq_route.specs.within.Kept.{kept_version_cmp, one_key}
 use Rattle.smq_kit.proofs.Comparisons.{then_first, then_second}
 
 pub version-order : kept_version_cmp ≡ version_cmp
@@ -17,13 +17,7 @@ pub versions_total : IsTotalOrder version_cmp
 versions_total = then_total (on_total (λ k. k.prefix) nat_list_cmp_total) (on_total (λ k. k.from) nat_cmp_total)
 
 pub versions_exact : IsAntisymmetric version_cmp
-versions_exact a b e =
-    let prefixes : Ordering = octets_cmp a.prefix b.prefix in
-    let moments : Ordering = nat_cmp a.from b.from in
-    λ i. record {
-      prefix = slice_cmp-IsAntisymmetric nat_cmp-IsAntisymmetric a.prefix b.prefix (then_first prefixes moments e) i;
-      from = nat_cmp-IsAntisymmetric a.from b.from (then_second prefixes moments e) i;
-    }
+versions_exact = one_key
 
 -- of one prefix versions are ordered by their beginnings
 pub in-prefix : (p : List ℕ) (a b : ℕ) → version_cmp (key_at p a) (key_at p b) ≡ nat_cmp a b

@@ -3,7 +3,7 @@ use Rattle.std.proofs.Common.{◌≡◌, ◌≤◌, ◌⊎◌, inl, inr, ℕ, Li
 use Rattle.std.specs.FinMap.{get, insert}
 use Rattle.smq_kit.specs.declared.names.RouteId.{RouteId}
 use Rattle.smq_kit.specs.declared.refusal.Refusal.{Refusal}
-use Rattle.smq_kit.specs.Replies.{IsReply, IsReplyInPlace}
+use Rattle.smq_kit.specs.Replies.{IsReply}
 use Rattle.smq_route.specs.declared.version.VersionKey.{VersionKey}
 use Rattle.smq_route.specs.declared.version.Version.{Version}
 use Rattle.smq_route.specs.Versions.{Versions, key_at, version_of}
@@ -43,9 +43,9 @@ changed-within most m p f g within = by (version_of m p f) refl
     by (Some v) e = put-within most m p f (g v) within (within (key_at p f) v e)
 
 pub change-within : {T : Type 0} (most : ℕ) (m n : Versions) (p : List ℕ) (f : ℕ) (g : Version → Version) (o : Option Refusal) (r : Result T Refusal)
-    → AreWithin most m → IsReplyInPlace o r (n ≡ changed m p f g) (n ≡ m) → AreWithin most n
+    → AreWithin most m → IsReply o r (n ≡ changed m p f g) (n ≡ m) → AreWithin most n
 change-within most m n p f g None (Ok x) within h = subst (AreWithin most) (sym h) (changed-within most m p f g within)
-change-within most m n p f g None (Err e) within h = absurd h
+change-within most m n p f g None (Err e) within h = subst (AreWithin most) (sym h.1) within
 change-within most m n p f g (Some q) (Ok x) within h = absurd h
 change-within most m n p f g (Some q) (Err e) within h = subst (AreWithin most) (sym h.1) within
 

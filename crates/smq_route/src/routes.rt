@@ -1,45 +1,45 @@
 //! Dated routes of prefixes: which route and network a number had at a moment.
 ghost use Rattle.std.specs.Prelude.{◌≡◌, ◌≤◌, ◌⊎◌, ℕ, true, false, length, take, Some, None, MatchOption, MatchResult, IsSome, option_map};
 ghost use Rattle.std.specs.FinMap as fin;
-ghost use Rattle.std.specs.Map.Iter.{ShowsInOrder, deref_pair};
 ghost use Rattle.smq_kit.specs.Numbers.{IsDigits};
-ghost use Rattle.smq_kit.specs.Replies.{IsReply, IsReplyInPlace, first_of};
-ghost use Rattle.smq_route.specs.declared.version.VersionKey.{VersionKey as KeyOf};
-ghost use Rattle.smq_route.specs.declared.version.Version.{Version as VersionOf};
+ghost use Rattle.smq_kit.specs.Replies.{IsReply, first_of};
 ghost use Rattle.smq_route.specs.Versions.{AreApart, lasts_past, version_of, overlap as least_overlap, route_at};
-ghost use Rattle.smq_route.specs.within.Kept.{NoneHolds, versions_in};
+ghost use Rattle.smq_route.specs.within.Kept.{NoneHolds, settled_in, versions_in};
 ghost use Rattle.smq_route.specs.Routes.{empty};
 ghost use Rattle.smq_route.specs.Edits.{add_refusals, end_refusals, correct_refusals, added, changed, ending, corrected};
 
 use crate::{Version, VersionKey};
 use smq_kit::{Digits, Moment, Network, Refusal, RouteId};
+use smq_shelf::{Entries, KeptMap};
 use std::alloc::Global;
-use std::collections::BTreeMap;
-use std::collections::btree_map::Iter;
 use std::marker::Model;
 
-/// Dated routes of prefixes of E.164 numbers. A contract sees the set of versions, each by its prefix and beginning.
-/// Versions of one prefix never overlap.
+/// Dated routes of prefixes of E.164 numbers. A contract sees the set of versions, each by its prefix and beginning, and
+/// those that were settled last. Versions of one prefix never overlap.
 #[derive(Drop)]
 pub struct Routes {
-    versions: BTreeMap<VersionKey, Version>,
-    /// No prefix has more digits, so no number is looked up by more. A version that was refused may have raised it, which
-    /// costs searches and changes no answer.
+    versions: KeptMap<VersionKey, Version>,
+    /// No prefix has more digits, so no number is looked up by more. A version that was refused or undone may have raised
+    /// it, which costs searches and changes no answer.
     most_digits: usize,
 }
 
 impl Model for Routes {
     ghost use Rattle.smq_route.specs.Routes.{RoutesValue, routes_code};
     ghost use Rattle.smq_route.specs.Versions.{AreApart};
-    ghost use Rattle.smq_route.specs.within.Kept.{AreWithin, versions_in};
+    ghost use Rattle.smq_route.specs.within.Kept.{AreWithin, settled_in, versions_in};
 
     ghost Value = { RoutesValue };
 
     ghost coded = { routes_code };
 
-    ghost view = { λ r. record { versions = versions_in r.versions } };
+    ghost view = { λ r. record {
+      versions = versions_in r.versions;
+      settled = settled_in r.versions;
+    } };
 
-    ghost invariant = { λ r. AreApart (versions_in r.versions) × AreWithin r.most_digits (versions_in r.versions) };
+    ghost invariant = { λ r. AreApart (versions_in r.versions) × AreWithin r.most_digits (versions_in r.versions)
+        × AreApart (settled_in r.versions) × AreWithin r.most_digits (settled_in r.versions) };
 }
 
 impl Routes {
@@ -48,16 +48,15 @@ impl Routes {
         ensures { result ≡ empty }
     {
         Routes {
-            versions: BTreeMap::new(alloc),
+            versions: KeptMap::new(alloc),
             most_digits: 0,
         }
     }
 
     /// The versions in order: by the octets of their prefixes, then by their beginnings. It takes no memory.
-    pub fn versions(&self) -> Iter<'_, VersionKey, Version>
+    pub fn versions(&self) -> Entries<'_, VersionKey, Version>
         ensures entries { result ≡ fin.entries self.now.versions }
         ensures apart { AreApart self.now.versions }
-        ensures runs { ShowsInOrder (deref_pair {K = KeyOf} {X = VersionOf}) }
     {
         self.versions.iter()
     }
@@ -72,9 +71,10 @@ impl Routes {
         route: RouteId,
         network: Network,
     ) -> Result<(), Refusal>
-        ensures { IsReply (first_of (add_refusals self.old.versions prefix from)) result
+        ensures reply { IsReply (first_of (add_refusals self.old.versions prefix from)) result
             (self.new.versions ≡ added self.old.versions prefix from route network)
             (self.new ≡ self.old) }
+        ensures settled { self.new.settled ≡ self.old.settled }
     {
         self.most_digits = greater(self.most_digits, prefix.as_slice().len());
         add_in(&mut self.versions, prefix, from, route, network)
@@ -84,10 +84,11 @@ impl Routes {
     /// as `NoRoute` where there is no such version, then as `Ended` where it has an end, which is told, then as `BadEnd`
     /// where `until` isn't after the beginning; `Memory` comes last. A refusal changes nothing.
     pub fn end(&mut self, prefix: &Digits, from: Moment, until: Moment) -> Result<(), Refusal>
-        ensures { let version = version_of self.old.versions prefix.now from in
+        ensures reply { let version = version_of self.old.versions prefix.now from in
             IsReply (first_of (end_refusals version from until)) result
             (self.new.versions ≡ changed self.old.versions prefix.now from (ending until))
             (self.new ≡ self.old) }
+        ensures settled { self.new.settled ≡ self.old.settled }
     {
         end_in(&mut self.versions, prefix, from, until)
     }
@@ -101,12 +102,29 @@ impl Routes {
         route: RouteId,
         network: Network,
     ) -> Result<(), Refusal>
-        ensures { let version = version_of self.old.versions prefix.now from in
+        ensures reply { let version = version_of self.old.versions prefix.now from in
             IsReply (first_of (correct_refusals version)) result
             (self.new.versions ≡ changed self.old.versions prefix.now from (corrected route network))
             (self.new ≡ self.old) }
+        ensures settled { self.new.settled ≡ self.old.settled }
     {
         correct_in(&mut self.versions, prefix, from, route, network)
+    }
+
+    /// Brings back the versions of the last `settle`, or of `new`. It takes no memory.
+    pub fn undo(&mut self)
+        ensures versions { self.new.versions ≡ self.old.settled }
+        ensures settled { self.new.settled ≡ self.old.settled }
+    {
+        self.versions.undo();
+    }
+
+    /// Makes the versions those that `undo` brings back. It takes no memory.
+    pub fn settle(&mut self)
+        ensures versions { self.new.versions ≡ self.old.versions }
+        ensures settled { self.new.settled ≡ self.old.versions }
+    {
+        self.versions.settle();
     }
 
     /// The route and network of a number at a moment: those of the version which holds then and has the longest prefix
@@ -145,7 +163,7 @@ fn lesser(a: usize, b: usize) -> usize
 
 /// The last version of a prefix that begins at or before a moment, with its beginning.
 fn last_up_to<'a>(
-    versions: &'a BTreeMap<VersionKey, Version>,
+    versions: &'a KeptMap<VersionKey, Version>,
     prefix: &Digits,
     at: Moment,
 ) -> Option<(Moment, &'a Version)>
@@ -158,7 +176,7 @@ fn last_up_to<'a>(
         prefix: prefix.copy(),
         from: at,
     };
-    match versions.range(..=key).next_back() {
+    match versions.entry_up_to(key) {
         Some((found, version)) => {
             if found.prefix == *prefix {
                 Some((found.from, version))
@@ -172,7 +190,7 @@ fn last_up_to<'a>(
 
 /// The beginning of the first version of a prefix that begins at or after a moment.
 fn first_from(
-    versions: &BTreeMap<VersionKey, Version>,
+    versions: &KeptMap<VersionKey, Version>,
     prefix: &Digits,
     at: Moment,
 ) -> Option<Moment>
@@ -185,7 +203,7 @@ fn first_from(
         prefix: prefix.copy(),
         from: at,
     };
-    match versions.range(key..).next() {
+    match versions.entry_from(key) {
         Some((found, _)) => {
             if found.prefix == *prefix {
                 Some(found.from)
@@ -199,7 +217,7 @@ fn first_from(
 
 /// The version of a prefix that holds at a moment, with its beginning.
 fn holding<'a>(
-    versions: &'a BTreeMap<VersionKey, Version>,
+    versions: &'a KeptMap<VersionKey, Version>,
     prefix: &Digits,
     at: Moment,
 ) -> Option<(Moment, &'a Version)>
@@ -221,11 +239,7 @@ fn holding<'a>(
 }
 
 /// The least beginning of the versions of a prefix that are open or end after a moment.
-fn overlap(
-    versions: &BTreeMap<VersionKey, Version>,
-    prefix: &Digits,
-    from: Moment,
-) -> Option<Moment>
+fn overlap(versions: &KeptMap<VersionKey, Version>, prefix: &Digits, from: Moment) -> Option<Moment>
     requires { AreApart (versions_in versions.now) }
     ensures { result ≡ least_overlap (versions_in versions.now) prefix.now from }
 {
@@ -248,25 +262,26 @@ fn first_digits(number: &Digits, len: usize) -> Digits
     }
 }
 
-/// Puts an open version in. An error changes nothing.
+/// Puts a version in, in the place of one that is there. An error changes nothing.
 fn insert(
-    versions: &mut BTreeMap<VersionKey, Version>,
+    versions: &mut KeptMap<VersionKey, Version>,
     key: VersionKey,
     version: Version,
 ) -> Result<(), Refusal>
-    ensures { MatchResult result
+    ensures answer { MatchResult result
         (λ _. versions_in versions.new ≡ fin.insert (versions_in versions.old) key version)
         (λ e. (e ≡ Refusal.Memory) × (versions_in versions.new ≡ versions_in versions.old)) }
+    ensures settled { settled_in versions.new ≡ settled_in versions.old }
 {
-    match versions.insert(key, version) {
-        Ok(_) => Ok(()),
+    match versions.set(key, version) {
+        Ok(()) => Ok(()),
         Err(_) => Err(Refusal::Memory),
     }
 }
 
 /// Puts an open version in, unless it would overlap. A refusal changes nothing.
 fn add_in(
-    versions: &mut BTreeMap<VersionKey, Version>,
+    versions: &mut KeptMap<VersionKey, Version>,
     prefix: Digits,
     from: Moment,
     route: RouteId,
@@ -277,6 +292,7 @@ fn add_in(
     ensures answer { IsReply (first_of (add_refusals (versions_in versions.old) prefix from)) result
         (versions_in versions.new ≡ added (versions_in versions.old) prefix from route network)
         (versions_in versions.new ≡ versions_in versions.old) }
+    ensures settled { settled_in versions.new ≡ settled_in versions.old }
 {
     let key = VersionKey {
         prefix: prefix.copy(),
@@ -295,48 +311,53 @@ fn add_in(
 
 /// Ends the version of a prefix and beginning. A refusal changes nothing.
 fn end_in(
-    versions: &mut BTreeMap<VersionKey, Version>,
+    versions: &mut KeptMap<VersionKey, Version>,
     prefix: &Digits,
     from: Moment,
     until: Moment,
 ) -> Result<(), Refusal>
-    ensures { let version = version_of (versions_in versions.old) prefix.now from in
-        IsReplyInPlace (first_of (end_refusals version from until)) result
+    ensures answer { let version = version_of (versions_in versions.old) prefix.now from in
+        IsReply (first_of (end_refusals version from until)) result
         (versions_in versions.new ≡ changed (versions_in versions.old) prefix.now from (ending until))
         (versions_in versions.new ≡ versions_in versions.old) }
+    ensures settled { settled_in versions.new ≡ settled_in versions.old }
 {
     let key = VersionKey {
         prefix: prefix.copy(),
         from,
     };
-    match versions.get_mut(&key) {
-        Some(version) => version.end(from, until),
-        None => Err(Refusal::NoRoute),
+    let Some(version) = versions.get(&key) else {
+        return Err(Refusal::NoRoute);
+    };
+    let mut ended = version.copy();
+    match ended.end(from, until) {
+        Ok(()) => insert(versions, key, ended),
+        Err(refusal) => Err(refusal),
     }
 }
 
 /// Corrects the version of a prefix and beginning. A refusal changes nothing.
 fn correct_in(
-    versions: &mut BTreeMap<VersionKey, Version>,
+    versions: &mut KeptMap<VersionKey, Version>,
     prefix: &Digits,
     from: Moment,
     route: RouteId,
     network: Network,
 ) -> Result<(), Refusal>
-    ensures { let version = version_of (versions_in versions.old) prefix.now from in
-        IsReplyInPlace (first_of (correct_refusals version)) result
+    ensures answer { let version = version_of (versions_in versions.old) prefix.now from in
+        IsReply (first_of (correct_refusals version)) result
         (versions_in versions.new ≡ changed (versions_in versions.old) prefix.now from (corrected route network))
         (versions_in versions.new ≡ versions_in versions.old) }
+    ensures settled { settled_in versions.new ≡ settled_in versions.old }
 {
     let corrected = VersionKey {
         prefix: prefix.copy(),
         from,
     };
-    match versions.get_mut(&corrected) {
-        Some(version) => {
-            version.correct(route, network);
-            Ok(())
-        }
-        None => Err(Refusal::NoRoute),
-    }
+    let Some(version) = versions.get(&corrected) else {
+        return Err(Refusal::NoRoute);
+    };
+    let mut version = version.copy();
+    version.correct(route, network);
+    insert(versions, corrected, version)
 }

@@ -5,6 +5,7 @@ ghost use Rattle.smq_route.specs.Edits.{end_refusals, ending, corrected};
 ghost use Rattle.smq_route.specs.Versions.{lasts_past};
 
 use smq_kit::{Digits, Moment, Network, Refusal, RouteId};
+use smq_shelf::ShelfKey;
 
 /// What a version is known by. Keys are ordered by the octets of their prefixes, then by their beginnings.
 #[derive(Debug, PartialEq, Eq, PartialOrd, Ord, Drop)]
@@ -26,7 +27,31 @@ pub struct Version {
     pub network: Network,
 }
 
+impl ShelfKey for VersionKey {
+    ghost use Rattle.smq_route.specs.within.Kept.{one_key};
+
+    ghost exact = { one_key };
+
+    fn copy(&self) -> VersionKey {
+        VersionKey {
+            prefix: self.prefix.copy(),
+            from: self.from,
+        }
+    }
+}
+
 impl Version {
+    /// An equal version. It takes no memory.
+    pub(crate) fn copy(&self) -> Version
+        ensures { result ≡ self.now }
+    {
+        Version {
+            until: self.until,
+            route: self.route,
+            network: self.network.copy(),
+        }
+    }
+
     /// Whether it is open or ends after a moment.
     pub(crate) fn lasts_past(&self, moment: Moment) -> bool
         ensures { result ≡ lasts_past moment self.now.until }

@@ -5,7 +5,7 @@ use Rattle.std.specs.FinMap as map
 use Rattle.std.specs.Ordering.{nat_cmp}
 use Rattle.smq_kit.specs.declared.form.Form.TheVariants.{Verbatim}
 use Rattle.smq_kit.specs.declared.names.LinkId.{LinkId}
-use Rattle.smq_route.specs.Routes.{RoutesValue, routes_code}
+use Rattle.smq_route.specs.Routes.{versions_code}
 use Rattle.smq_route.specs.Versions.{Versions}
 use Rattle.smq_book.specs.contracts.present.forms.Forms as forms_block
 use Rattle.smq_book.specs.declared.present.forms.Forms.{Forms}
@@ -17,13 +17,13 @@ pub record SettingsValue : Type 0 where
   pub versions : Versions
   pub clock : ℕ
 
--- what is set is stored as these forms, these routes and this number
+-- what is set is stored as these forms, these versions and this number
 abbrev pub settings_code : Coded SettingsValue
 settings_code =
-    code_by (map.FinMap nat_cmp Forms × (RoutesValue × ℕ))
-    (coded× (map.code coded_ℕ (forms_block.the_row).coded) (coded× routes_code coded_ℕ))
-    (λ s. (s.forms, (record { versions = s.versions }, s.clock)))
-    (λ m. record { forms = m.0; versions = m.1.0.versions; clock = m.1.1 }) (λ _. refl)
+    code_by (map.FinMap nat_cmp Forms × (Versions × ℕ))
+    (coded× (map.code coded_ℕ (forms_block.the_row).coded) (coded× versions_code coded_ℕ))
+    (λ s. (s.forms, (s.versions, s.clock)))
+    (λ m. record { forms = m.0; versions = m.1.0; clock = m.1.1 }) (λ _. refl)
 
 -- nothing is set, and the clock is at the opening moment
 abbrev pub opening_settings : SettingsValue

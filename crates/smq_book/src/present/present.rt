@@ -8,8 +8,6 @@ ghost use Rattle.std.specs.Map.Iter.{ShowsInOrder, deref_pair};
 ghost use Rattle.smq_book.specs.within.InOrder.{sessions_in};
 ghost use Rattle.smq_book.specs.present.Present.{empty, session_of};
 ghost use Rattle.smq_kit.specs.Replies.{IsReply, IsReplyInPlace, first_of};
-ghost use Rattle.smq_route.specs.declared.version.VersionKey.{VersionKey as KeyOf};
-ghost use Rattle.smq_route.specs.declared.version.Version.{Version as VersionOf};
 ghost use Rattle.smq_route.specs.Versions.{AreApart};
 ghost use Rattle.smq_book.specs.present.Replies.{append_refusals, no_session, reply};
 ghost use Rattle.smq_book.specs.present.Steps.{session_after, change};
@@ -18,6 +16,7 @@ use crate::present::settings::Settings;
 use crate::{Batch, Edit, Forms, Session};
 use smq_kit::{Digits, LinkId, Moment, Network, Refusal, RouteId, SessionId};
 use smq_route::{Version, VersionKey};
+use smq_shelf::Entries;
 use std::alloc::Global;
 use std::collections::BTreeMap;
 use std::collections::btree_map::Iter;
@@ -84,10 +83,9 @@ impl Present {
 
     /// The versions of routes, by the octets of their prefixes, then by their beginnings. Those of one prefix never
     /// overlap.
-    pub fn versions(&self) -> Iter<'_, VersionKey, Version>
+    pub fn versions(&self) -> Entries<'_, VersionKey, Version>
         ensures entries { result ≡ map.entries self.now.settings.versions }
         ensures apart { AreApart self.now.settings.versions }
-        ensures runs { ShowsInOrder (deref_pair {K = KeyOf} {X = VersionOf}) }
     {
         self.settings.versions()
     }

@@ -3,8 +3,6 @@ ghost use Rattle.std.specs.Prelude.{◌≡◌, ℕ, MatchResult};
 ghost use Rattle.std.specs.FinMap as map;
 ghost use Rattle.std.specs.Map.Iter.{ShowsInOrder, deref_pair};
 ghost use Rattle.smq_kit.specs.Replies.{IsReply, IsReplyInPlace, first_of};
-ghost use Rattle.smq_route.specs.declared.version.VersionKey.{VersionKey as KeyOf};
-ghost use Rattle.smq_route.specs.declared.version.Version.{Version as VersionOf};
 ghost use Rattle.smq_route.specs.Edits.{add_refusals, end_refusals, correct_refusals, added, changed, ending, corrected};
 ghost use Rattle.smq_route.specs.Versions.{AreApart, version_of, route_at};
 ghost use Rattle.smq_book.specs.present.Replies.{clock_back};
@@ -13,6 +11,7 @@ ghost use Rattle.smq_book.specs.present.Settings.{opening_settings, forms_of, wi
 use crate::Forms;
 use smq_kit::{Digits, LinkId, Moment, Network, Refusal, RouteId};
 use smq_route::{Routes, Version, VersionKey};
+use smq_shelf::Entries;
 use std::alloc::Global;
 use std::collections::BTreeMap;
 use std::collections::btree_map::Iter;
@@ -69,10 +68,9 @@ impl Settings {
 
     /// The versions of routes, by the octets of their prefixes, then by their beginnings. Those of one prefix never
     /// overlap.
-    pub fn versions(&self) -> Iter<'_, VersionKey, Version>
+    pub fn versions(&self) -> Entries<'_, VersionKey, Version>
         ensures entries { result ≡ map.entries self.now.versions }
         ensures apart { AreApart self.now.versions }
-        ensures runs { ShowsInOrder (deref_pair {K = KeyOf} {X = VersionOf}) }
     {
         self.routes.versions()
     }
@@ -117,7 +115,9 @@ impl Settings {
             (self.new ≡ with_versions self.old (added versions prefix from route network))
             (self.new ≡ self.old) }
     {
-        self.routes.add(prefix, from, route, network)
+        self.routes.add(prefix, from, route, network)?;
+        self.routes.settle();
+        Ok(())
     }
 
     /// Ends a version of a route. A refusal changes nothing.
@@ -132,7 +132,9 @@ impl Settings {
             (self.new ≡ with_versions self.old (changed versions prefix.now from (ending until)))
             (self.new ≡ self.old) }
     {
-        self.routes.end(prefix, from, until)
+        self.routes.end(prefix, from, until)?;
+        self.routes.settle();
+        Ok(())
     }
 
     /// Gives a version of a route another route and network. A refusal changes nothing.
@@ -148,7 +150,9 @@ impl Settings {
             (self.new ≡ with_versions self.old (changed versions prefix.now from (corrected route network)))
             (self.new ≡ self.old) }
     {
-        self.routes.correct(prefix, from, route, network)
+        self.routes.correct(prefix, from, route, network)?;
+        self.routes.settle();
+        Ok(())
     }
 
     /// Sets the clock. A refusal changes nothing.

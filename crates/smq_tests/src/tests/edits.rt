@@ -323,7 +323,11 @@ fn add_route(book: &mut Book, prefix: &[u8]) -> Result<(), Refusal> {
 }
 
 fn versions_of(book: &Book) -> usize {
-    book.present().versions().count()
+    let mut count = 0usize;
+    for _ in book.present().versions() {
+        count = count.saturating_add(1);
+    }
+    count
 }
 
 /// Adds a version of a prefix after so many others, again where memory was refused, which left versions and tables.

@@ -1,6 +1,6 @@
 //! What a book shows.
 use crate::tests::scripts::*;
-use smq_book::Book;
+use smq_book::{Book, Settings};
 use smq_kit::{Digits, Dir, LinkId, Moment, Network, RouteId, SessionId};
 use smq_route::{Version, VersionKey};
 
@@ -60,7 +60,16 @@ fn has_versions(book: &Book, wanted: &[WantedVersion]) -> bool {
             _ => return false,
         }
     }
-    left.next().is_none() && book.present().settings().versions().count() == wanted.len()
+    left.next().is_none() && count_of(book.present().settings()) == wanted.len()
+}
+
+/// How many versions are set.
+fn count_of(settings: &Settings) -> usize {
+    let mut count = 0usize;
+    for _ in settings.versions() {
+        count = count.saturating_add(1);
+    }
+    count
 }
 
 fn is_version(key: &VersionKey, version: &Version, wanted: WantedVersion) -> bool {

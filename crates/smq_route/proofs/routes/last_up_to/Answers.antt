@@ -6,27 +6,22 @@ use Rattle.smq_route.proofs.routes.last_up_to.Goals as goal
 
 pub returns-then-eq : goal.returns-then-eq
 returns-then-eq c =
-    let part = c.range.ensures.in_range tt in
-    let found = part.3 _ _ c.in-Some.ensures.steps in
-    let most = part.4 _ _ c.in-Some.ensures.steps in
+    let found = c.in-Some.ensures in
     subst (λ (p : List ℕ). (c.in-Some.found.now.from ≤ c.args.at)
     × (version_of (versions_in c.args.versions.now) p c.in-Some.found.now.from ≡ Some c.in-Some.version.now)
     × ((g : ℕ) → g ≤ c.args.at → IsSome (version_of (versions_in c.args.versions.now) p g) → g ≤ c.in-Some.found.now.from))
     c.copy.ensures.value
-    (last-same c.args.versions.now c.copy.result c.args.at c.in-Some.found.now c.in-Some.version.now found.0.1 found.1
-    (λ q le there. most q (tt, le) there)
+    (last-same c.args.versions.now.content c.copy.result c.args.at c.in-Some.found.now c.in-Some.version.now found.below found.there found.greatest
     (same-digits c.in-Some.found.now.prefix c.args.prefix.now c.eq.result c.eq.ensures c.if-eq.true ∙ sym c.copy.ensures.value))
 
 pub returns-else-eq : goal.returns-else-eq
 returns-else-eq c =
-    let part = c.range.ensures.in_range tt in
-    let found = part.3 _ _ c.in-Some.ensures.steps in
-    let most = part.4 _ _ c.in-Some.ensures.steps in
+    let found = c.in-Some.ensures in
     subst (λ (p : List ℕ). (g : ℕ) → g ≤ c.args.at → version_of (versions_in c.args.versions.now) p g ≡ None) c.copy.ensures.value
-    (last-other c.args.versions.now c.copy.result c.args.at c.in-Some.found.now found.0.1 (λ q le there. most q (tt, le) there)
+    (last-other c.args.versions.now.content c.copy.result c.args.at c.in-Some.found.now found.below found.greatest
     (λ same. other-digits c.in-Some.found.now.prefix c.args.prefix.now c.eq.result c.eq.ensures c.if-eq.false (same ∙ c.copy.ensures.value)))
 
 pub returns-in-None : goal.returns-in-None
 returns-in-None c =
     subst (λ (p : List ℕ). (g : ℕ) → g ≤ c.args.at → version_of (versions_in c.args.versions.now) p g ≡ None) c.copy.ensures.value
-    (last-none c.args.versions.now c.copy.result c.args.at (λ q le. (c.range.ensures.in_range tt).5 (c.in-None.ensures.steps.0) q (tt, le)))
+    (last-none c.args.versions.now.content c.copy.result c.args.at c.in-None.ensures)
