@@ -164,6 +164,14 @@ fn two_threads_commit_in_their_own_order(rt: HostRuntime) -> Result<(), Fail> {
     Ok(())
 }
 
+/// The desk and the seats that a close hands back, where it says that seats are missing.
+fn kept_open(desk: Desk, seats: Vec<Seat>) -> Option<(Desk, Vec<Seat>)> {
+    match desk.close(seats) {
+        Err((CloseFault::SeatsOut, desk, seats)) => Some((desk, seats)),
+        _ => None,
+    }
+}
+
 #[test]
 fn a_full_history_takes_no_entry_and_a_missing_seat_keeps_the_desk_open(
     rt: HostRuntime,
@@ -179,11 +187,7 @@ fn a_full_history_takes_no_entry_and_a_missing_seat_keeps_the_desk_open(
     let full = put_at_start(&rt, alloc, &desk, &mut one);
     assert_eq!(rt; full, Err(Refusal::HistoryFull));
     let seats = vec![in alloc; one]?;
-    let Err(back) = desk.close(seats) else {
-        return Ok(());
-    };
-    let (fault, desk, mut seats) = back;
-    assert_eq!(rt; fault, CloseFault::SeatsOut);
+    let (desk, mut seats) = kept_open(desk, seats).expect(&rt, "a desk that a seat keeps open");
     seats.push(two)?;
     let entries = match desk.close(seats) {
         Ok(closed) => closed.entries().count(),

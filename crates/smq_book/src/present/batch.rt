@@ -4,12 +4,22 @@ ghost use Rattle.std.specs.Prelude.{◌≡◌, ◌<◌, ◌+◌, ◌^◌, ◌≤
 ghost use Rattle.smq_book.specs.present.Batch.{batch_of, batch_pdus, next_tail, prepare_refusal};
 
 use crate::KeptPdu;
-use crate::present::kept::{copies_of, pdus_of};
+use crate::present::kept::pdus_of;
 use bytes::Bytes;
 use smq_frame::{Tail, frames};
 use smq_kit::{Dir, LinkId, Moment, Refusal, SessionId};
 use std::alloc::{AllocError, Global};
 use std::marker::Model;
+use std::sync::Arc;
+
+/// What copies of a batch share.
+#[derive(Drop)]
+pub(crate) struct DecodedPiece {
+    pub(crate) tail: Tail,
+    pub(crate) octets: Bytes,
+    pub(crate) pdus: Vec<KeptPdu>,
+    pub(crate) next: Tail,
+}
 
 /// A piece of octets that is decoded on a tail, to be put after a direction that has this tail.
 #[derive(Drop)]
@@ -17,23 +27,22 @@ pub struct Batch {
     pub(crate) link: LinkId,
     pub(crate) session: SessionId,
     pub(crate) dir: Dir,
-    pub(crate) tail: Tail,
     pub(crate) moment: Moment,
-    pub(crate) octets: Bytes,
-    pub(crate) pdus: Vec<KeptPdu>,
-    pub(crate) next: Tail,
+    pub(crate) piece: Arc<DecodedPiece, Global>,
 }
 
 impl Model for Batch {
     ghost use Rattle.std.specs.Prelude.{◌≡◌, ◌<◌, length};
+    ghost use Rattle.std.specs.Arc.{arc_value};
     ghost use Rattle.smq_book.specs.present.Batch.{BatchValue, batch_of, batch_pdus, next_tail};
 
     ghost Value = { BatchValue };
 
-    ghost view = { λ b. batch_of b.link b.session b.dir b.tail b.moment b.octets };
+    ghost view = { λ b. let d = arc_value b.piece in batch_of b.link b.session b.dir d.tail b.moment d.octets };
 
-    ghost invariant = { λ b. let value = batch_of b.link b.session b.dir b.tail b.moment b.octets in
-        (b.pdus.items ≡ batch_pdus value) × (b.next ≡ next_tail value) × (0 < length b.octets) };
+    ghost invariant = { λ b. let d = arc_value b.piece in
+        let value = batch_of b.link b.session b.dir d.tail b.moment d.octets in
+        (d.pdus.items ≡ batch_pdus value) × (d.next ≡ next_tail value) × (0 < length d.octets) };
 }
 
 impl PartialEq for Batch {
@@ -49,9 +58,9 @@ impl PartialEq for Batch {
             && self.session == other.session
             && self.dir == other.dir;
         is_same_direction
-            && self.tail.is_same(&other.tail)
+            && self.piece.tail.is_same(&other.piece.tail)
             && self.moment == other.moment
-            && self.octets == other.octets
+            && self.piece.octets == other.piece.octets
     }
 }
 
@@ -87,7 +96,7 @@ impl Batch {
     pub fn tail(&self) -> &Tail
         ensures { result.now ≡ self.now.tail }
     {
-        &self.tail
+        &self.piece.tail
     }
 
     /// The moment of all the octets.
@@ -102,17 +111,17 @@ impl Batch {
         ensures value { result.now ≡ self.now.octets }
         ensures not_empty { 0 < length self.now.octets }
     {
-        &self.octets
+        &self.piece.octets
     }
 
     /// What is kept of the PDUs that the octets complete, in order.
     pub fn pdus(&self) -> &[KeptPdu]
         ensures { result.now ≡ batch_pdus self.now }
     {
-        self.pdus.as_slice()
+        self.piece.pdus.as_slice()
     }
 
-    /// An equal batch. The octets are shared, and what is kept of the PDUs is copied.
+    /// An equal batch, which shares the octets and what is kept of the PDUs. It takes no memory.
     pub fn copy(&self) -> Result<Batch, AllocError>
         ensures { IfOk result (λ batch. batch ≡ self.now) }
     {
@@ -120,11 +129,8 @@ impl Batch {
             link: self.link,
             session: self.session,
             dir: self.dir,
-            tail: self.tail.copy()?,
             moment: self.moment,
-            octets: self.octets.clone()?,
-            pdus: copies_of(*self.pdus.allocator(), self.pdus.as_slice())?,
-            next: self.next.copy()?,
+            piece: Arc::try_clone(&self.piece)?,
         })
     }
 
@@ -132,7 +138,7 @@ impl Batch {
     pub fn next(&self) -> &Tail
         ensures { result.now ≡ next_tail self.now }
     {
-        &self.next
+        &self.piece.next
     }
 }
 
@@ -153,15 +159,19 @@ fn decoded(
     let (found, next) = frames(alloc, tail, moment, &octets)?;
     let pdus = pdus_of(alloc, found.as_slice())?;
     let tail = tail.copy()?;
+    let piece = DecodedPiece {
+        tail,
+        octets,
+        pdus,
+        next,
+    };
+    let piece = Arc::new(alloc, piece)?;
     Ok(Batch {
         link,
         session,
         dir,
-        tail,
         moment,
-        octets,
-        pdus,
-        next,
+        piece,
     })
 }
 

@@ -54,7 +54,7 @@ pub enum Edit {
 }
 
 impl Edit {
-    /// An equal edit. Only an `Append` takes memory.
+    /// An equal edit. It takes no memory: an `Append` shares what its batch was decoded to.
     pub fn copy(&self) -> Result<Edit, AllocError>
         ensures { IfOk result (λ edit. edit ≡ self.now) }
     {

@@ -1,5 +1,5 @@
 //! What is kept of each PDU, and the only readers that know the cases of its content.
-ghost use Rattle.std.specs.Prelude.{◌≡◌, IfOk, map, option_copied};
+ghost use Rattle.std.specs.Prelude.{◌≡◌, ◌++◌, IfOk, OnOk, OnErr, map, option_copied};
 ghost use Rattle.smq_pdu.specs.Decoded.{body_view};
 ghost use Rattle.smq_pdu.specs.Placed.{placed_pdu};
 ghost use Rattle.smq_book.specs.present.Kept.{content_of_body, kept_pdu, submit_in, id_in, reading_in, is_undecodable, receipt_in, is_unreadable};
@@ -192,13 +192,14 @@ pub(crate) fn pdus_of(alloc: Global, frames: &[Frame]) -> Result<Vec<KeptPdu>, A
     Ok(pdus)
 }
 
-/// Equal values, in order.
-pub(crate) fn copies_of(alloc: Global, pdus: &[KeptPdu]) -> Result<Vec<KeptPdu>, AllocError>
-    ensures { IfOk result (λ copies. copies.items ≡ pdus.now) }
+/// Puts equal values after those that are there. An error changes nothing.
+pub(crate) fn push_copies(to: &mut Vec<KeptPdu>, pdus: &[KeptPdu]) -> Result<(), AllocError>
+    ensures ok { OnOk result (to.new.items ≡ to.old.items ++ pdus.now) }
+    ensures err { OnErr result (to.new.items ≡ to.old.items) }
 {
-    let mut copies = Vec::with_capacity(alloc, pdus.len())?;
+    to.reserve(pdus.len())?;
     for pdu in pdus {
-        copies.push(pdu.copy())?;
+        to.push_reserved(pdu.copy());
     }
-    Ok(copies)
+    Ok(())
 }

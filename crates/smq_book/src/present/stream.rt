@@ -11,12 +11,15 @@ ghost use Rattle.smq_book.specs.present.Stream.{stream_of, last_moment};
 ghost use Rattle.smq_kit.specs.Replies.{IsReply, first_of};
 ghost use Rattle.smq_book.specs.present.Replies.{stream_refusals};
 
+use crate::present::batch::DecodedPiece;
+use crate::present::kept::push_copies;
 use crate::{Batch, KeptPdu};
 use bytes::Bytes;
 use smq_frame::Tail;
 use smq_kit::{Moment, Refusal};
 use std::alloc::{AllocError, Global};
 use std::marker::Model;
+use std::sync::Arc;
 
 /// Octets that were handed in at one moment.
 #[derive(Drop)]
@@ -88,26 +91,51 @@ impl Direction {
         self.pieces.as_slice()
     }
 
-    /// Puts a piece after the octets. Its PDUs and the tail after it are given. An error changes nothing.
-    fn grow(
-        &mut self,
-        moment: Moment,
-        octets: Bytes,
-        mut pdus: Vec<KeptPdu>,
-        tail: Tail,
-    ) -> Result<(), AllocError>
+    /// Puts a piece after the octets. An error changes nothing.
+    fn grow(&mut self, moment: Moment, piece: DecodedPiece) -> Result<(), AllocError>
         requires pdus { let tail = tail_of (values self.old) in
-            pdus.items ≡ map kept_pdu (map placed_pdu (frames_after tail moment octets)) }
-        requires tail { tail ≡ tail_after (tail_of (values self.old)) octets }
-        requires some { 0 < length octets }
-        ensures ok { OnOk result (self.new ≡ self.old ++ handed_in moment octets) }
+            piece.pdus.items ≡ map kept_pdu (map placed_pdu (frames_after tail moment piece.octets)) }
+        requires next { piece.next ≡ tail_after (tail_of (values self.old)) piece.octets }
+        requires some { 0 < length piece.octets }
+        ensures ok { OnOk result (self.new ≡ self.old ++ handed_in moment piece.octets) }
         ensures err { OnErr result (self.new ≡ self.old) }
     {
+        let DecodedPiece {
+            tail: _,
+            octets,
+            mut pdus,
+            next,
+        } = piece;
         self.pieces.reserve(1)?;
         self.pdus.append(&mut pdus)?;
         self.pieces.push_reserved(Piece { moment, octets });
-        self.tail = tail;
+        self.tail = next;
         self.last = moment;
+        Ok(())
+    }
+
+    /// Puts a piece that others share after the octets: a copy of what is kept of its PDUs. An error changes nothing.
+    fn grow_by_copy(&mut self, moment: Moment, piece: &DecodedPiece) -> Result<(), AllocError>
+        requires pdus { let tail = tail_of (values self.old) in
+            piece.now.pdus.items ≡ map kept_pdu (map placed_pdu (frames_after tail moment piece.now.octets)) }
+        requires next { piece.now.next ≡ tail_after (tail_of (values self.old)) piece.now.octets }
+        requires some { 0 < length piece.now.octets }
+        ensures ok { OnOk result (self.new ≡ self.old ++ handed_in moment piece.now.octets) }
+        ensures err { OnErr result (self.new ≡ self.old) }
+    {
+        let octets = piece.octets.clone()?;
+        let next = piece.next.copy()?;
+        let Direction {
+            pieces,
+            tail,
+            pdus,
+            last,
+        } = self;
+        pieces.reserve(1)?;
+        push_copies(pdus, piece.pdus.as_slice())?;
+        pieces.push_reserved(Piece { moment, octets });
+        *tail = next;
+        *last = moment;
         Ok(())
     }
 
@@ -117,7 +145,7 @@ impl Direction {
         ensures { IsReply (first_of (stream_refusals self.old batch)) result
             (self.new ≡ self.old ++ handed_in batch.moment batch.octets) (self.new ≡ self.old) }
     {
-        if !batch.tail.is_same(&self.tail) {
+        if !batch.piece.tail.is_same(&self.tail) {
             return Err(Refusal::OutOfStep {
                 offset: self.tail.offset(),
             });
@@ -129,13 +157,13 @@ impl Direction {
             link: _,
             session: _,
             dir: _,
-            tail: _,
             moment,
-            octets,
-            pdus,
-            next,
+            piece,
         } = batch;
-        self.grow(moment, octets, pdus, next)
-            .map_err(|_| Refusal::Memory)
+        let grown = match Arc::try_unwrap(piece) {
+            Ok(piece) => self.grow(moment, piece),
+            Err(shared) => self.grow_by_copy(moment, &shared),
+        };
+        grown.map_err(|_| Refusal::Memory)
     }
 }

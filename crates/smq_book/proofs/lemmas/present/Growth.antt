@@ -1,5 +1,5 @@
 -- A direction that grows by a piece.
-use Rattle.std.proofs.Common.{◌≡◌, ℕ, ◌+◌, ◌-◌, ◌<◌, Bool, true, false, cond, Some, None, List, [], ◌∷◌, ◌++◌, length, refl, ap, ◌∙◌, arith, zero-add}
+use Rattle.std.proofs.Common.{◌≡◌, ℕ, ◌+◌, ◌-◌, ◌<◌, Bool, true, false, cond, Some, None, List, [], ◌∷◌, ◌++◌, length, refl, ap, sym, ◌∙◌, arith, zero-add}
 use Rattle.std.specs.Prelude.{map}
 use Rattle.std.proofs.lemmas.List.{append-nil, map-append, length-append, length-map}
 use Rattle.std.proofs.lemmas.List.Concat.{flat_map-append}
@@ -12,7 +12,7 @@ use Rattle.smq_pdu.specs.Placed.{PlacedPdu, placed_pdu}
 use Rattle.smq_book.specs.declared.present.kept.KeptPdu.{KeptPdu}
 use Rattle.smq_book.specs.declared.present.stream.Piece.{Piece}
 use Rattle.smq_book.specs.present.Kept.{kept_pdu, kept_pdus}
-use Rattle.smq_book.specs.present.Stream.{stream_of, last_moment}
+use Rattle.smq_book.specs.present.Stream.{stream_of, last_moment, Keeps}
 
 -- what is kept of frames
 abbrev pub kept_frames : List FrameValue → List KeptPdu
@@ -47,6 +47,31 @@ last_moment-grown s m octets some =
     let len : length (s ++ handed_in m octets) ≡ length s + length octets = length-append s (handed_in m octets)
     ∙ ap (λ (n : ℕ). length s + n) (length-map octets _) in
     rw len (stamp_there s m octets (length s + length octets - 1) (omega arith) (omega arith))
+
+-- what is kept of a direction after one more piece
+pub keeps-grown : (pieces : List Piece) (now : List Octet) (moment : ℕ) (octets : List ℕ) (tail next : TailValue) (kept added : List KeptPdu) (last : ℕ)
+    → Keeps (stream_of pieces) tail kept last → stream_of pieces ≡ now → added ≡ kept_frames (frames_after (tail_of (values now)) moment octets)
+    → next ≡ tail_after (tail_of (values now)) octets → 0 < length octets
+    → Keeps (stream_of (pieces ++ record { moment = moment; octets = octets } ∷ [])) next (kept ++ added) moment
+keeps-grown pieces now moment octets tail next kept added last keeps seen pdus follows some =
+    let old : List Octet = stream_of pieces in
+    let frames : added ≡ kept_frames (frames_after (tail_of (values old)) moment octets) = pdus
+    ∙ ap (λ (s : List Octet). kept_frames (frames_after (tail_of (values s)) moment octets)) (sym seen) in
+    rw (stream_of-push pieces (record { moment = moment; octets = octets })) (record {
+      tail_is = follows ∙ ap (λ (s : List Octet). tail_after (tail_of (values s)) octets) (sym seen) ∙ sym (tail-grown old moment octets);
+      pdus_are = (λ i. keeps.pdus_are i ++ frames i) ∙ sym (pdus-grown old moment octets);
+      last_is = sym (last_moment-grown old moment octets some);
+    })
+
+-- the same of a piece whose parts are copied
+pub keeps-copied : (pieces : List Piece) (now : List Octet) (moment : ℕ) (octets their_octets : List ℕ) (tail next their_next : TailValue)
+    (kept added their_pdus : List KeptPdu) (last : ℕ)
+    → octets ≡ their_octets → next ≡ their_next → added ≡ their_pdus
+    → Keeps (stream_of pieces) tail kept last → stream_of pieces ≡ now → their_pdus ≡ kept_frames (frames_after (tail_of (values now)) moment their_octets)
+    → their_next ≡ tail_after (tail_of (values now)) their_octets → 0 < length their_octets
+    → Keeps (stream_of (pieces ++ record { moment = moment; octets = octets } ∷ [])) next (kept ++ added) moment
+keeps-copied pieces now moment octets their_octets tail next their_next kept added their_pdus last o n a keeps seen pdus follows some =
+    rw (o, n, a) (keeps-grown pieces now moment their_octets tail their_next kept their_pdus last keeps seen pdus follows some)
 
 -- ---- the offset of a tail is the number of octets
 
