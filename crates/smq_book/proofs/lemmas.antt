@@ -2,4 +2,5 @@
 pub mod present
 pub mod pairing
 pub mod join
+pub mod edits
 pub mod whole

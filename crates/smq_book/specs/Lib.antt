@@ -1,6 +1,7 @@
 pub mod present
 pub mod pairing
 pub mod join
+pub mod edits
 pub mod whole
 pub mod known
 pub mod within

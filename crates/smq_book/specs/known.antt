@@ -4,3 +4,4 @@ pub mod Edits
 pub mod Pairing
 pub mod Join
 pub mod Whole
+pub mod Reach

@@ -1,5 +1,5 @@
 -- Which delivery receipts want looking at.
-use Rattle.std.specs.Prelude.{List, ◌++◌, Option, Some, None, option_map, option_to_list}
+use Rattle.std.specs.Prelude.{List, ◌++◌, map, Option, Some, None, option_map, option_to_list}
 use Rattle.std.specs.List.{flat_map}
 use Rattle.std.specs.FinMap as map
 use Rattle.std.specs.FinSet.{FinSet}
@@ -31,3 +31,8 @@ receipt_notes g = flat_map (λ e. option_to_list (receipt_listing g e)) (map.ent
 -- the places that want looking at, in their lists: those of the traffic, and its delivery receipts, under what is set
 abbrev pub notes_of : SettingsValue → TrafficValue → FinSet listed_cmp
 notes_of s t = listed_set (map.keys t.notes ++ receipt_notes (grouping_of s t))
+
+-- places in each of the lists of delivery receipts
+abbrev pub receipt_listings : List Place → List Listed
+receipt_listings places =
+    map (listed StrayReceipts) places ++ (map (listed AmbiguousReceipts) places ++ map (listed ExtraReceipts) places)

@@ -39,7 +39,7 @@ lapse_of false false false false false false false false true false = refl
 lapse_of false false false false false false false false false true = refl
 lapse_of false false false false false false false false false false = refl
 
-outcome-lapses : (m : Message) (c : Circumstances) (b : Bool) → outcome_by m (record c { lapsed = b }) ≡ by_lapse b (outcome_by m c)
+pub outcome-lapses : (m : Message) (c : Circumstances) (b : Bool) → outcome_by m (record c { lapsed = b }) ≡ by_lapse b (outcome_by m c)
 outcome-lapses m c b =
     lapse_of (is_none m.response) (responded (λ r. not r.agrees) m.response) (responded (λ r. not (r.status == 0)) m.response)
     (responded (λ r. is_none r.id) m.response)

@@ -35,7 +35,7 @@ itself : (q : Place) → eq_by_cmp place_cmp q q ≡ true
 itself q = ap is_eq (tied_itself places_total q)
 
 -- a PDU after others stands above the bound from which they rise
-above : (low : ℕ) (before after : List KeptPdu) (p : KeptPdu) → Rises low (before ++ p ∷ after) → low ≤ p.offset
+pub above : (low : ℕ) (before after : List KeptPdu) (p : KeptPdu) → Rises low (before ++ p ∷ after) → low ≤ p.offset
 above low [] after p r = r.0
 above low (x ∷ before) after p r = let more : x.offset + 1 ≤ p.offset = above (x.offset + 1) before after p r.1 in omega (arith, r.0, more)
 
@@ -163,7 +163,7 @@ module _ (o : Origin) where
   of_session d [] = refl
   of_session d (p ∷ ps) = let same : (o.session.0 == o.session.0) ≡ true = grind (arith, nat_tests) in (λ i. same i && of_session d ps i)
 
-  of_both : (client centre : List KeptPdu)
+  pub of_both : (client centre : List KeptPdu)
       → list_all (λ (p : PlacedHeader). p.place.session.0 == o.session.0) (map (placed o FromClient) client
       ++ map (placed o FromCentre) centre) ≡ true
   of_both client centre =

@@ -92,7 +92,7 @@ module _ {X : Type 0} where
       both_tests _ _ (less-test _ (less_offset x e.0 (s ∙ sym r.0) (d ∙ sym r.1) (omega (arith, o, r.2))))
       (below-rising n dir (e.0.offset + 1) x es fs s d (omega (arith, o, r.2)) r.3 k)
 
-  block-sorted : (n : ℕ) (dir : Dir) (low : ℕ) (es fs : List (Place × X)) → Rising n dir low es → Later n fs
+  pub block-sorted : (n : ℕ) (dir : Dir) (low : ℕ) (es fs : List (Place × X)) → Rising n dir low es → Later n fs
       → T (is_sorted place_cmp fs) → T (is_sorted place_cmp (es ++ fs))
   block-sorted n dir low [] fs r k h = h
   block-sorted n dir low (e ∷ es) fs r k h =
@@ -127,7 +127,7 @@ message-rises : (submit : Option Submit) (origin : Origin) (centre before : List
 message-rises None origin centre before low p rest h k = rising-below origin.session.0 FromClient low (p.offset + 1) rest (omega arith) k
 message-rises (Some submit) origin centre before low p rest h k = (refl, refl, h, k)
 
-messages-rise : (origin : Origin) (centre before : List KeptPdu) (low : ℕ) (ps : List KeptPdu) → Rises low ps
+pub messages-rise : (origin : Origin) (centre before : List KeptPdu) (low : ℕ) (ps : List KeptPdu) → Rises low ps
     → Rising origin.session.0 FromClient low (flat_map (λ e. option_to_list (message_at origin centre e.0 e.1)) (with_earlier before ps))
 messages-rise origin centre before low [] h = tt
 messages-rise origin centre before low (p ∷ ps) h =
@@ -141,7 +141,7 @@ receipt-rises : (receipt : Option Receipt) (origin : Origin) (low : ℕ) (p : Ke
 receipt-rises None origin low p rest h k = rising-below origin.session.0 FromCentre low (p.offset + 1) rest (omega arith) k
 receipt-rises (Some receipt) origin low p rest h k = (refl, refl, h, k)
 
-receipts-rise : (origin : Origin) (low : ℕ) (ps : List KeptPdu) → Rises low ps → Rising origin.session.0 FromCentre low (receipts_among origin ps)
+pub receipts-rise : (origin : Origin) (low : ℕ) (ps : List KeptPdu) → Rises low ps → Rising origin.session.0 FromCentre low (receipts_among origin ps)
 receipts-rise origin low [] h = tt
 receipts-rise origin low (p ∷ ps) h = receipt-rises (receipt_in p.content) origin low p _ h.0 (receipts-rise origin (p.offset + 1) ps h.1)
 

@@ -83,7 +83,7 @@ equal_test m n e = grind (arith, nat_tests)
 -- ---- a PDU more of the centre
 
 module _ (origin : Origin) (client centre : List KeptPdu) (next : KeptPdu) where
-  response-stays : (before : List KeptPdu) (p : KeptPdu) → is_next_response centre next before p ≡ false
+  pub response-stays : (before : List KeptPdu) (p : KeptPdu) → is_next_response centre next before p ≡ false
       → response_to (centre ++ next ∷ []) before p ≡ response_to centre before p
   response-stays before p h =
       filter-push (is_response_of p.seq) centre next (rank_after before p.seq) (is_response_of p.seq (header_of next)) refl
@@ -107,7 +107,7 @@ module _ (origin : Origin) (client centre : List KeptPdu) (next : KeptPdu) where
   passed-over None p response rest q h = refl
   passed-over (Some submit) p response rest q h = ap (λ b. cond b (Some (message_of origin p submit response)) (find place_cmp q rest)) h
 
-  front : (q : Place) (xs ys zs : List (Place × Message)) → find place_cmp q ys ≡ find place_cmp q zs → find place_cmp q (xs ++ ys)
+  pub front : (q : Place) (xs ys zs : List (Place × Message)) → find place_cmp q ys ≡ find place_cmp q zs → find place_cmp q (xs ++ ys)
       ≡ find place_cmp q (xs ++ zs)
   front q [] ys zs h = h
   front q (x ∷ xs) ys zs h = ap (cond (eq_by_cmp place_cmp q x.0) (Some x.1)) (front q xs ys zs h)

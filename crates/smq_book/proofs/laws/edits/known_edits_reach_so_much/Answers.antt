@@ -1,0 +1,21 @@
+use Rattle.smq_book.proofs.lemmas.edits.KnownReach.{submitted-made, submits, accepted-made, accepts, withdraws, before-the-end, at-the-end, under, elsewhere, of-its-link, of-no-link}
+use Rattle.smq_book.proofs.laws.edits.known_edits_reach_so_much.Goals as goal
+
+pub returns : goal.returns
+returns c = record {
+  submitted = submitted-made;
+  submits = submits;
+  accepted = accepted-made;
+  accepts = accepts;
+  withdraws = withdraws;
+  before_the_end = before-the-end;
+  at_the_end = at-the-end;
+  adds_under_its_number = under;
+  adds_elsewhere = elsewhere;
+  ends_under_its_number = under;
+  ends_elsewhere = elsewhere;
+  corrects_under_its_number = under;
+  corrects_elsewhere = elsewhere;
+  of_its_link = of-its-link;
+  of_no_link = of-no-link;
+}

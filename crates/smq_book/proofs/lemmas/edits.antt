@@ -1,0 +1,19 @@
+-- Lemmas of what an edit reaches.
+pub mod Passing
+pub mod RouteEdits
+pub mod Advances
+pub mod ReceiptNotes
+pub mod FormEdits
+pub mod SessionTraffic
+pub mod Moved
+pub mod Withdrawals
+pub mod Appends
+pub mod LinkMoves
+pub mod KeyMoves
+pub mod Answered
+pub mod PushNotes
+pub mod AppendNotes
+pub mod ReachBounds
+pub mod MismatchedNotes
+pub mod InTurn
+pub mod KnownReach

@@ -1,0 +1,62 @@
+-- All of a link is taken out, its forms are idle then, and all of it is put in again.
+use Rattle.std.proofs.Common.{◌≡◌, ◌≢◌, Bool, true, false, ◌++◌, Some, None, refl, ap, ◌∙◌}
+use Rattle.std.specs.Prelude.{◌==◌, not, map}
+use Rattle.std.specs.FinMap.{entries, get, keys}
+use Rattle.std.proofs.lemmas.Bool.{false≢true}
+use Rattle.smq_kit.specs.declared.names.LinkId.{LinkId}
+use Rattle.smq_kit.specs.declared.place.Place.{Place}
+use Rattle.smq_kit.specs.Maps.{patched}
+use Rattle.smq_tally.specs.Lists.{listed_set}
+use Rattle.smq_book.specs.present.Settings.{SettingsValue, forms_of}
+use Rattle.smq_book.specs.pairing.Traffic.{TrafficValue, Message, ReceivedReceipt}
+use Rattle.smq_book.specs.join.Facts.{facts_of}
+use Rattle.smq_book.specs.join.Keyed.{grouping_of}
+use Rattle.smq_book.specs.join.Listings.{notes_of, receipt_notes}
+use Rattle.smq_book.specs.join.Moves.{moved_by, PutMessage, PutReceipt, TakeMessage, TakeReceipt}
+use Rattle.smq_book.specs.edits.Reached.{link_messages, link_receipts, link_takes, link_puts, without_link}
+use Rattle.smq_book.proofs.lemmas.edits.FormEdits.{other_link}
+use Rattle.smq_book.proofs.lemmas.edits.Moved.{moved-both, takes-messages, takes-receipts, puts-messages, puts-receipts}
+use Rattle.smq_book.proofs.lemmas.join.OtherForms.{grouping-ignores, facts-ignore}
+use Rattle.smq_book.proofs.lemmas.edits.Passing.{without-passing, again-passing, passing-does, entries-passing}
+
+not_true : (b : Bool) → not b ≡ true → b ≡ false
+not_true true e = absurd (false≢true e)
+not_true false e = refl
+
+module _ (link : LinkId) (t : TrafficValue) where
+  pub taken : moved_by t (link_takes link t) ≡ without_link link t
+  taken =
+      moved-both t (map (λ e. TakeMessage e.0) (entries (link_messages link t))) (map (λ e. TakeReceipt e.0) (entries (link_receipts link t)))
+      ∙ ap (λ (u : TrafficValue). moved_by u (map (λ e. TakeReceipt e.0) (entries (link_receipts link t)))) (takes-messages t (entries (link_messages link t)))
+      ∙ takes-receipts (record t { messages = patched t.messages (λ q. None) (keys (link_messages link t)) }) (entries (link_receipts link t))
+      ∙ (λ i. record t {
+        messages = without-passing (λ place (m : Message). m.link.0 == link.0) t.messages i;
+        receipts = without-passing (λ place (r : ReceivedReceipt). r.link.0 == link.0) t.receipts i;
+      })
+
+  pub no-message : (q : Place) (m : Message) → get (without_link link t).messages q ≡ Some m → m.link ≢ link
+  no-message q m e = other_link m.link link (not_true (m.link.0 == link.0) (passing-does (λ place (m : Message). not (m.link.0 == link.0)) t.messages q m e))
+
+  pub no-receipt : (q : Place) (r : ReceivedReceipt) → get (without_link link t).receipts q ≡ Some r → r.link ≢ link
+  no-receipt q r e = other_link r.link link (not_true (r.link.0 == link.0) (passing-does (λ place (r : ReceivedReceipt). not (r.link.0 == link.0)) t.receipts q r e))
+
+  pub again : moved_by (without_link link t) (link_puts link t) ≡ t
+  again =
+      let u = without_link link t in
+      moved-both u (map PutMessage (entries (link_messages link t))) (map PutReceipt (entries (link_receipts link t)))
+      ∙ ap (λ (w : TrafficValue). moved_by w (map PutReceipt (entries (link_receipts link t)))) (puts-messages (get t.messages) u (entries (link_messages link t)) (entries-passing (λ place (m : Message). m.link.0 == link.0) t.messages))
+      ∙ puts-receipts (get t.receipts) (record u { messages = patched u.messages (get t.messages) (keys (link_messages link t)) }) (entries (link_receipts link t)) (entries-passing (λ place (r : ReceivedReceipt). r.link.0 == link.0) t.receipts)
+      ∙ (λ i. record t {
+        messages = again-passing (λ place (m : Message). m.link.0 == link.0) t.messages i;
+        receipts = again-passing (λ place (r : ReceivedReceipt). r.link.0 == link.0) t.receipts i;
+      })
+
+  module _ (s z : SettingsValue) (versions : s.versions ≡ z.versions) (clock : s.clock ≡ z.clock) (others : (l : LinkId) → l ≢ link → forms_of s l ≡ forms_of z l) where
+    pub groups-idle : grouping_of s (without_link link t) ≡ grouping_of z (without_link link t)
+    groups-idle = grouping-ignores s z (without_link link t) link versions clock others no-message no-receipt
+
+    pub facts-idle : facts_of s (without_link link t) ≡ facts_of z (without_link link t)
+    facts-idle = facts-ignore s z (without_link link t) link versions clock others no-message no-receipt
+
+    pub notes-idle : notes_of s (without_link link t) ≡ notes_of z (without_link link t)
+    notes-idle = λ i. listed_set (keys t.notes ++ receipt_notes (groups-idle i))

@@ -1,0 +1,6 @@
+-- What an edit reaches: the places outside which it changes nothing, and what it takes out and puts in there.
+pub mod Reached
+pub mod Withdrawn
+pub mod Appended
+pub mod InTurn
+pub mod Reach

@@ -1,0 +1,250 @@
+//! Laws of edits: outside which places an edit changes nothing, and what it takes out and puts in there.
+ghost use Rattle.std.specs.Prelude.{◌≡◌, ◌≢◌, ◌+◌, ◌*◌, ◌≤◌, ℕ, false, not, List, [], ◌∷◌, length, Some, None};
+ghost use Rattle.std.specs.FinMap as fin;
+ghost use Rattle.std.specs.List.{list_any};
+ghost use Rattle.std.specs.Ordering.{nat_cmp, eq_by_cmp};
+ghost use Rattle.smq_kit.specs.Maps.{SameOutside, patched};
+ghost use Rattle.smq_kit.specs.declared.form.Form.{Form};
+ghost use Rattle.smq_kit.specs.declared.link_key.LinkKey.{LinkKey};
+ghost use Rattle.smq_kit.specs.declared.names.LinkId.{LinkId};
+ghost use Rattle.smq_kit.specs.declared.names.RouteId.{RouteId};
+ghost use Rattle.smq_kit.specs.declared.place.Dir.TheVariants.{FromClient, FromCentre};
+ghost use Rattle.smq_kit.specs.declared.place.Place.{Place};
+ghost use Rattle.smq_kit.specs.Orders.{place_cmp};
+ghost use Rattle.smq_pair.specs.declared.pairing.Pair.{Pair};
+ghost use Rattle.smq_pair.specs.Growth.{AreInOrder, is_among};
+ghost use Rattle.smq_pair.specs.Pairing.{PairingValue, pair_at};
+ghost use Rattle.smq_tally.specs.declared.list.Listed.{Listed};
+ghost use Rattle.smq_frame.specs.Stream.{Octet, values};
+ghost use Rattle.smq_frame.specs.Tail.{tail_of};
+ghost use Rattle.smq_route.specs.Edits.{added, changed};
+ghost use Rattle.smq_route.specs.Versions.{Versions};
+ghost use Rattle.smq_route.specs.declared.version.Version.{Version};
+ghost use Rattle.smq_book.specs.declared.present.session.Session.{Session as SessionValue};
+ghost use Rattle.smq_book.specs.declared.present.edit.Edit.TheVariants.{Append, Withdraw, SetForm, AddRoute, EndRoute, CorrectRoute, Advance};
+ghost use Rattle.smq_book.specs.declared.present.kept.KeptPdu.{KeptPdu};
+ghost use Rattle.smq_book.specs.present.Kept.{kept_pdus};
+ghost use Rattle.smq_book.specs.present.Batch.{BatchValue};
+ghost use Rattle.smq_book.specs.present.Present.{PresentValue, octets_in, session_of};
+ghost use Rattle.smq_book.specs.present.Replies.{reply};
+ghost use Rattle.smq_book.specs.present.Settings.{SettingsValue, forms_of, with_versions, with_clock};
+ghost use Rattle.smq_book.specs.present.Steps.{session_after};
+ghost use Rattle.smq_book.specs.pairing.Traffic.{Message, Origin, ReceivedReceipt, TrafficValue, mismatched, session_messages, session_receipts, traffic_of};
+ghost use Rattle.smq_book.specs.join.Facts.{facts_of};
+ghost use Rattle.smq_book.specs.join.Keyed.{grouping_of};
+ghost use Rattle.smq_book.specs.join.Listings.{notes_of, receipt_listings};
+ghost use Rattle.smq_book.specs.join.Matching.{Grouping};
+ghost use Rattle.smq_book.specs.join.Moves.{IsMove, Move, standings_of, receipt_standings_of, receipt_changes_of, moved_by};
+ghost use Rattle.smq_book.specs.edits.Reached.{link_messages, link_receipts, link_takes, link_puts, without_link, key_submits, key_receipts, IsMoveOf, IsOfKey, messages_under, due_by, lapsing};
+ghost use Rattle.smq_book.specs.edits.Appended.{answered, append_moves, append_places};
+ghost use Rattle.smq_book.specs.edits.InTurn.{AreFree, facts_changed, notes_changed};
+ghost use Rattle.smq_book.specs.edits.Withdrawn.{withdrawal_moves};
+ghost use Rattle.smq_book.specs.known.Reach.{KnownReach};
+ghost use Rattle.smq_book.specs.edits.Reach.{link_places, members, reach};
+
+/// An edit of routes changes no fact but those of messages whose numbers its prefix begins, and no note.
+pub fn edits_of_routes_stay_under_their_prefix()
+    ensures added { (s : SettingsValue) (t : TrafficValue) (prefix : List ℕ) (from : ℕ)
+        (route : RouteId) (network : List ℕ)
+        → SameOutside (fin.keys (messages_under prefix t)) (facts_of s t)
+        (facts_of (with_versions s (added s.versions prefix from route network)) t) }
+    ensures changed { (s : SettingsValue) (t : TrafficValue) (prefix : List ℕ) (from : ℕ)
+        (f : Version → Version)
+        → SameOutside (fin.keys (messages_under prefix t)) (facts_of s t)
+        (facts_of (with_versions s (changed s.versions prefix from f)) t) }
+    ensures notes { (s : SettingsValue) (t : TrafficValue) (versions : Versions)
+        → notes_of (with_versions s versions) t ≡ notes_of s t }
+{}
+
+/// A clock that goes on changes no fact but those of open messages whose windows have ended by it: where there are none, no
+/// fact at all. These are the messages that lapse. It changes no note.
+pub fn advances_change_due_messages_alone()
+    ensures due { (s : SettingsValue) (t : TrafficValue) (clock : ℕ) → s.clock ≤ clock
+        → SameOutside (fin.keys (due_by s t clock)) (facts_of s t)
+        (facts_of (with_clock s clock) t) }
+    ensures none { (s : SettingsValue) (t : TrafficValue) (clock : ℕ) → s.clock ≤ clock
+        → fin.keys (due_by s t clock) ≡ [] → facts_of (with_clock s clock) t ≡ facts_of s t }
+    ensures lapse { (s : SettingsValue) (t : TrafficValue) (clock : ℕ)
+        → lapsing s (with_clock s clock) t ≡ due_by s t clock }
+    ensures notes { (s : SettingsValue) (t : TrafficValue) (clock : ℕ)
+        → notes_of (with_clock s clock) t ≡ notes_of s t }
+{}
+
+/// Where the traffic notes the same, the notes are one but for those of the receipts whose standings differ, in the three
+/// lists of receipts. A receipt that is put in or taken out is one of these.
+pub fn notes_follow_the_standings_of_receipts()
+    ensures outside { (s z : SettingsValue) (t u : TrafficValue) (places : List Place)
+        → t.notes ≡ u.notes
+        → SameOutside places (receipt_standings_of (grouping_of s t))
+        (receipt_standings_of (grouping_of z u))
+        → SameOutside (receipt_listings places) (notes_of s t) (notes_of z u) }
+    ensures patched { (s z : SettingsValue) (t u : TrafficValue) (places : List Place)
+        → t.notes ≡ u.notes
+        → SameOutside places (receipt_standings_of (grouping_of s t))
+        (receipt_standings_of (grouping_of z u))
+        → patched (notes_of s t) (fin.get (notes_of z u)) (receipt_listings places)
+        ≡ notes_of z u }
+    ensures changes { (g h : Grouping)
+        → SameOutside (receipt_changes_of g h) (receipt_standings_of g) (receipt_standings_of h) }
+{}
+
+/// The forms of a link change no fact but those of its messages, and no note but those of its delivery receipts.
+pub fn forms_change_their_link_alone()
+    ensures facts { (s z : SettingsValue) (t : TrafficValue) (link : LinkId)
+        → s.versions ≡ z.versions → s.clock ≡ z.clock
+        → ((other : LinkId) → other ≢ link → forms_of s other ≡ forms_of z other)
+        → SameOutside (fin.keys (link_messages link t)) (facts_of s t) (facts_of z t) }
+    ensures notes { (s z : SettingsValue) (t : TrafficValue) (link : LinkId)
+        → s.versions ≡ z.versions → s.clock ≡ z.clock
+        → ((other : LinkId) → other ≢ link → forms_of s other ≡ forms_of z other)
+        → SameOutside (receipt_listings (fin.keys (link_receipts link t))) (notes_of s t)
+        (notes_of z t) }
+{}
+
+/// Where all of a link is taken out, nothing of it is left, and its forms change no fact, no key and no note. Put in again,
+/// the traffic is as it was.
+pub fn forms_are_set_while_their_link_is_out()
+    ensures taken { (link : LinkId) (t : TrafficValue)
+        → moved_by t (link_takes link t) ≡ without_link link t }
+    ensures no_message { (link : LinkId) (t : TrafficValue) (q : Place) (m : Message)
+        → fin.get (without_link link t).messages q ≡ Some m → m.link ≢ link }
+    ensures no_receipt { (link : LinkId) (t : TrafficValue) (q : Place) (r : ReceivedReceipt)
+        → fin.get (without_link link t).receipts q ≡ Some r → r.link ≢ link }
+    ensures idle { (link : LinkId) (t : TrafficValue) (s z : SettingsValue)
+        → s.versions ≡ z.versions → s.clock ≡ z.clock
+        → ((other : LinkId) → other ≢ link → forms_of s other ≡ forms_of z other)
+        → (facts_of s (without_link link t) ≡ facts_of z (without_link link t))
+        × (grouping_of s (without_link link t) ≡ grouping_of z (without_link link t))
+        × (notes_of s (without_link link t) ≡ notes_of z (without_link link t)) }
+    ensures again { (link : LinkId) (t : TrafficValue)
+        → moved_by (without_link link t) (link_puts link t) ≡ t }
+{}
+
+/// What is put in or taken out at one place changes the standings of its own key alone: but for that place, the facts of
+/// the messages that are accepted with the key, and the notes of its delivery receipts.
+pub fn moves_change_their_key_alone()
+    ensures messages { (key : LinkKey) (q : Place) (g h : Grouping) → IsMoveOf key q g h
+        → SameOutside (q ∷ fin.keys (key_submits g key)) (standings_of g) (standings_of h) }
+    ensures receipts { (key : LinkKey) (q : Place) (g h : Grouping) → IsMoveOf key q g h
+        → SameOutside (q ∷ fin.keys (key_receipts g key)) (receipt_standings_of g)
+        (receipt_standings_of h) }
+    ensures moves { (s : SettingsValue) (q : Place) (t u : TrafficValue) (key : LinkKey)
+        → IsMove q t u → IsOfKey s key t q → IsOfKey s key u q
+        → IsMoveOf key q (grouping_of s t) (grouping_of s u) }
+    ensures facts { (s : SettingsValue) (q : Place) (t u : TrafficValue) (key : LinkKey)
+        → IsMove q t u → IsOfKey s key t q → IsOfKey s key u q
+        → SameOutside (q ∷ fin.keys (key_submits (grouping_of s t) key)) (facts_of s t)
+        (facts_of s u) }
+    ensures notes { (s : SettingsValue) (q : Place) (t u : TrafficValue) (key : LinkKey)
+        → IsMove q t u → IsOfKey s key t q → IsOfKey s key u q → t.notes ≡ u.notes
+        → SameOutside (receipt_listings (q ∷ fin.keys (key_receipts (grouping_of s t) key)))
+        (notes_of s t) (notes_of s u) }
+{}
+
+/// Messages stand in the client's direction and delivery receipts in the centre's, so none stands at the other's place.
+pub fn messages_and_receipts_stand_apart()
+    ensures messages { (sessions : fin.FinMap nat_cmp SessionValue) (place : Place)
+        → place.dir ≡ FromCentre → fin.get (traffic_of sessions).messages place ≡ None }
+    ensures receipts { (sessions : fin.FinMap nat_cmp SessionValue) (place : Place)
+        → place.dir ≡ FromClient → fin.get (traffic_of sessions).receipts place ≡ None }
+{}
+
+/// A PDU of the centre is the response to one message at most.
+pub fn responses_answer_one_message()
+    ensures { (origin : Origin) (client : List Octet) (centre : List KeptPdu) (next : KeptPdu)
+        → length (answered origin (kept_pdus client) centre next) ≤ 1 }
+{}
+
+/// What a withdrawal leaves of the traffic is what it leaves where the messages, the delivery receipts and the notes of
+/// its session are taken out.
+pub fn withdrawals_take_what_their_session_says()
+    ensures { (sessions : fin.FinMap nat_cmp SessionValue) (number : ℕ) (session : SessionValue)
+        → fin.get sessions number ≡ Some session
+        → moved_by (traffic_of sessions) (withdrawal_moves (number, session))
+        ≡ traffic_of (fin.remove sessions number) }
+{}
+
+/// What the PDUs of a batch leave of the messages and the delivery receipts is what they leave where each PDU in turn puts
+/// in its own, and takes out and puts in anew the messages to which it is the response.
+pub fn appends_put_in_what_their_pdus_say()
+    ensures { (sessions : fin.FinMap nat_cmp SessionValue) (batch : BatchValue)
+        → batch.tail
+        ≡ tail_of (values (octets_in batch.dir (fin.get sessions batch.session.0)))
+        → record (traffic_of (fin.insert sessions batch.session.0
+        (session_after (fin.get sessions batch.session.0) batch))) {
+          notes = (traffic_of sessions).notes;
+        }
+        ≡ moved_by (traffic_of sessions)
+        (append_moves (fin.get sessions batch.session.0) batch) }
+{}
+
+/// An append changes no note but at the places of the PDUs that its batch completes, at those of the PDUs with which they
+/// are pairs, and at that of the bad length at which it leaves its direction broken.
+pub fn appends_note_few_places()
+    ensures { (sessions : fin.FinMap nat_cmp SessionValue) (batch : BatchValue) (note : Listed)
+        → batch.tail
+        ≡ tail_of (values (octets_in batch.dir (fin.get sessions batch.session.0)))
+        → list_any (eq_by_cmp place_cmp note.place)
+        (append_places (fin.get sessions batch.session.0) batch) ≡ false
+        → fin.get (traffic_of sessions).notes note
+        ≡ fin.get (traffic_of (fin.insert sessions batch.session.0
+        (session_after (fin.get sessions batch.session.0) batch))).notes note }
+{}
+
+/// Moves in turn change the facts and the notes that each of them changes, and no other: of facts where no receipt stands at
+/// the place of a message, or of a receipt that is put in.
+pub fn moves_in_turn_change_what_each_changes()
+    ensures facts { (s : SettingsValue) (t : TrafficValue) (moves : List Move) → AreFree t moves
+        → SameOutside (facts_changed s t moves) (facts_of s t) (facts_of s (moved_by t moves)) }
+    ensures notes { (s : SettingsValue) (t : TrafficValue) (moves : List Move)
+        → SameOutside (notes_changed s t moves) (notes_of s t) (notes_of s (moved_by t moves)) }
+{}
+
+/// A pair is noted as mismatched at its request exactly where it disagrees, and nowhere else; what stands in no pair isn't.
+pub fn mismatched_pairs_are_noted_at_their_request()
+    ensures request { (v : PairingValue) (place : Place) (pair : Pair) → AreInOrder v
+        → pair_at v place ≡ Some pair → is_among pair.request (mismatched v) ≡ not pair.agrees }
+    ensures elsewhere { (v : PairingValue) (place : Place) (pair : Pair) → AreInOrder v
+        → pair_at v place ≡ Some pair → place ≢ pair.request → is_among place (mismatched v) ≡ false }
+    ensures alone { (v : PairingValue) (place : Place) → pair_at v place ≡ None
+        → is_among place (mismatched v) ≡ false }
+{}
+
+/// How many places an edit changes, against how much it reaches: an append the notes of twice as many at most, and of one
+/// more; a withdrawal takes out as many messages and delivery receipts at most; forms change as many at most; edits of routes
+/// and a clock change exactly as many. What stands at one place changes the members of its key at most.
+pub fn edits_change_as_few_places_as_they_reach()
+    ensures appends { (p : PresentValue) (batch : BatchValue)
+        → length (append_places (session_of p batch.session.0) batch)
+        ≤ 2 * reach p (Append batch) + 1 }
+    ensures withdraws { (p : PresentValue) (number : ℕ) (session : SessionValue)
+        → session_of p number ≡ Some session
+        → length (session_messages (number, session)) + length (session_receipts (number, session))
+        ≤ reach p (Withdraw (record { 0 = number })) }
+    ensures forms { (p : PresentValue) (link : LinkId) (response receipt : Form)
+        → length (link_places link (traffic_of p.sessions))
+        ≤ reach p (SetForm link response receipt) }
+    ensures adds { (p : PresentValue) (prefix : List ℕ) (from : ℕ) (route : RouteId)
+        (network : List ℕ)
+        → length (fin.keys (messages_under prefix (traffic_of p.sessions)))
+        ≡ reach p (AddRoute prefix from route network) }
+    ensures ends { (p : PresentValue) (prefix : List ℕ) (from until : ℕ)
+        → length (fin.keys (messages_under prefix (traffic_of p.sessions)))
+        ≡ reach p (EndRoute prefix from until) }
+    ensures corrects { (p : PresentValue) (prefix : List ℕ) (from : ℕ) (route : RouteId)
+        (network : List ℕ)
+        → length (fin.keys (messages_under prefix (traffic_of p.sessions)))
+        ≡ reach p (CorrectRoute prefix from route network) }
+    ensures advances { (p : PresentValue) (clock : ℕ) → reply p (Advance clock) ≡ None
+        → length (fin.keys (due_by p.settings (traffic_of p.sessions) clock))
+        ≡ reach p (Advance clock) }
+    ensures keys { (g : Grouping) (key : LinkKey)
+        → length (fin.keys (key_submits g key)) + length (fin.keys (key_receipts g key))
+        ≡ members g key }
+{}
+
+/// How much edits reach of a book of one message: its submit_sm, its response, a withdrawal of both, routes and a clock; and
+/// what is of its link.
+pub fn known_edits_reach_so_much()
+    ensures { KnownReach }
+{}
