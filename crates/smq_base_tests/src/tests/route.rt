@@ -88,10 +88,6 @@ impl Edit {
             }
         }
     }
-
-    fn is_refused_memory(&self, answer: &Result<(), Refusal>) -> bool {
-        matches!(self, Edit::Add(..)) && *answer == Err(Refusal::Memory)
-    }
 }
 
 pub fn is_version(key: &VersionKey, version: &Version, wanted: Row<'_>) -> bool {
@@ -157,30 +153,46 @@ fn apply(
     edit: &Edit,
 ) -> Result<(), Refusal> {
     let answer = edit.apply(rt, routes);
-    if edit.is_refused_memory(&answer) {
+    if answer == Err(Refusal::Memory) {
         assert!(rt; has_versions_after(routes, plan, count), "{}", plan.fact);
         return edit.apply(rt, routes);
     }
     answer
 }
 
-/// Plays the step that comes after so many.
+/// Makes the edit that comes after so many steps, which has this reply.
+fn make(
+    rt: &impl Abort,
+    routes: &mut Routes,
+    plan: &Plan,
+    count: usize,
+    edit: &Edit,
+    reply: &Reply,
+) {
+    let answer = apply(rt, routes, plan, count, edit);
+    let after = count.saturating_add(1);
+    assert!(rt;
+        reply.is(&answer) && has_versions_after(routes, plan, after),
+        "{}",
+        plan.fact
+    );
+}
+
+/// Plays the step that comes after so many: an edit is made, undone and made again.
 fn play(rt: &impl Abort, routes: &mut Routes, plan: &Plan, count: usize, step: &Step) {
     match step {
         Step::Edit(edit, reply) => {
-            let answer = apply(rt, routes, plan, count, edit);
-            let after = count.saturating_add(1);
-            assert!(rt;
-                reply.is(&answer) && has_versions_after(routes, plan, after),
-                "{}",
-                plan.fact
-            );
+            routes.settle();
+            make(rt, routes, plan, count, edit, reply);
+            routes.undo();
+            assert!(rt; has_versions_after(routes, plan, count), "{}", plan.fact);
+            make(rt, routes, plan, count, edit, reply);
         }
         Step::At(number, at, route) => assert_route(rt, routes, number, *at, *route),
     }
 }
 
-/// With each allocation refused in turn (`rt try --test --fail-alloc`) `add` leaves the versions as they were, and is made
+/// With each allocation refused in turn (`rt try --test --fail-alloc`) an edit leaves the versions as they were, and is made
 /// when it is tried again; all other calls give these answers all the same.
 #[test]
 fn plans_are_edited_and_route_as_known(rt: HostRuntime) {

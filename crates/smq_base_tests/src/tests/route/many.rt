@@ -35,12 +35,14 @@ fn end_of(number: u32) -> Option<u64> {
 
 /// Whether the versions are the first so many of those that are added, which come in order.
 fn has_first(routes: &Routes, count: u32) -> bool {
-    for ((key, version), number) in routes.versions().zip(0..count) {
+    let mut number = 0u32;
+    for (key, version) in routes.versions() {
         if !is_numbered(key, version, number) {
             return false;
         }
+        number = number.saturating_add(1);
     }
-    routes.versions().count() == count as usize
+    number == count
 }
 
 fn is_numbered(key: &VersionKey, version: &Version, number: u32) -> bool {
