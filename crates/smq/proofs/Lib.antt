@@ -1,4 +1,1 @@
-pub mod LevelLemmas
-pub mod OrderLemmas
 pub mod PlayLemmas
-pub mod PickLemmas

@@ -11,9 +11,9 @@ use Rattle.smq_load.specs.Settings.{settings_of}
 use Rattle.smq_report.specs.declared.pick.ReportFault.{ReportFault}
 use Rattle.smq_report.specs.declared.pick.ReportFault.TheVariants as report
 use Rattle.smq_report.specs.Report.{report_text}
+use Rattle.smq_words.specs.declared.orders.Query.{Query}
 use Rattle.smq.specs.declared.engine.RunFault.{RunFault}
 use Rattle.smq.specs.declared.engine.RunFault.TheVariants.{BadRow, BadSettings, Read, Write, Memory}
-use Rattle.smq.specs.declared.orders.Query.{Query}
 use Rattle.smq.specs.Play.{present_of, refused_of}
 
 -- The settings and the text say rows, the refused ones are those of the text after the settings, and what was written after

@@ -1,6 +1,5 @@
--- Statuses, faults, the words of orders and the play of rows, at known values.
-use Rattle.std.specs.Prelude.{◌≡◌, ℕ, List, [], ◌∷◌, codes, Some, None}
-use Rattle.clap.specs.declared.builder.value_parser.ValueParser.{ValueParser}
+-- Statuses, faults and the play of rows, at known values.
+use Rattle.std.specs.Prelude.{◌≡◌, ℕ, List, [], ◌∷◌, codes, Some}
 use Rattle.smq_kit.specs.declared.form.Form.{Form}
 use Rattle.smq_kit.specs.declared.form.Form.TheVariants.{Decimal, Hexadecimal}
 use Rattle.smq_kit.specs.declared.place.Dir.{Dir}
@@ -12,15 +11,10 @@ use Rattle.smq_book.specs.present.Batch.{prepare_refusal}
 use Rattle.smq_book.specs.present.Present.{PresentValue, empty, tail_in}
 use Rattle.smq_load.specs.declared.row.Row.{Row}
 use Rattle.smq_load.specs.declared.row.Row.TheVariants.{Piece, Plain}
-use Rattle.smq_report.specs.declared.pick.Format.TheVariants as format
-use Rattle.smq_report.specs.declared.pick.Pick.TheVariants as pick
-use Rattle.smq_tally.specs.declared.list.List.TheVariants as list
-use Rattle.smq_tally.specs.declared.view.View.TheVariants as view
 use Rattle.smq.specs.declared.engine.RunFault.TheVariants as run_fault
 use Rattle.smq.specs.declared.status.TheConstants.{DONE, REFUSED, BAD_INPUT, FAULT, NO_MEMORY}
 use Rattle.smq.specs.Play.{after_rows, edit_of, edits_from, edits_of, present_of, refusal_of, refused_of, refused_rows, unprepared}
 use Rattle.smq.specs.Statuses.{bad_words_status, fault_status, fault_text, run_status}
-use Rattle.smq.specs.Words.{AsksFor, format_names, format_rule, pick_names, settings_rule, subcommand_name, version_text}
 
 -- the status of each end of the program, and of each fault
 pub record KnowsStatuses : Type 0 where
@@ -45,22 +39,6 @@ pub record KnowsFaults : Type 0 where
   pub read : fault_text run_fault.Read ≡ codes "read failed"
   pub write : fault_text run_fault.Write ≡ codes "write failed"
   pub memory : fault_text run_fault.Memory ≡ codes "out of memory"
-
--- the names that `query` takes, the subcommands, the formats and the options, the version, and what `report` alone asks for
-pub record KnowsWords : Type 0 where
-  pub names : pick_names
-      ≡ codes "link" ∷ codes "route" ∷ codes "network" ∷ codes "error" ∷ codes "link-delay"
-      ∷ codes "centre-delay" ∷ codes "waiting" ∷ codes "stray-answers" ∷ codes "mismatched"
-      ∷ codes "stray-receipts" ∷ codes "ambiguous-receipts" ∷ codes "extra-receipts"
-      ∷ codes "unreadable" ∷ codes "undecodable" ∷ codes "broken" ∷ codes "open" ∷ codes "lapsed" ∷ []
-  pub report : subcommand_name pick.All ≡ codes "report"
-  pub view : subcommand_name (pick.View view.Link) ≡ codes "query"
-  pub list : subcommand_name (pick.List list.Lapsed) ≡ codes "query"
-  pub formats : format_names ≡ codes "csv" ∷ codes "table" ∷ []
-  pub format_option : (formats : ValueParser) → (format_rule formats).long ≡ Some (codes "format")
-  pub settings_option : settings_rule.long ≡ Some (codes "settings")
-  pub version : version_text ≡ codes "0.8.0"
-  pub plain : AsksFor (Some (codes "report", [])) (record { pick = pick.All; format = format.Csv }) None
 
 -- a piece of session 10
 abbrev pub piece_of : ℕ → Dir → ℕ → List ℕ → Row

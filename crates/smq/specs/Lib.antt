@@ -1,4 +1,3 @@
-pub mod Words
 pub mod Play
 pub mod IsRun
 pub mod Statuses

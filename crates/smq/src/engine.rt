@@ -8,12 +8,12 @@ ghost use Rattle.smq_report.specs.Report.{report_text};
 ghost use Rattle.smq.specs.IsRun.{IsRun, TellsRun, WasRead, run_fault, unwritten_fault};
 ghost use Rattle.smq.specs.Play.{present_of, refused_of};
 
-use crate::orders::Query;
 use crate::play::play;
 use smq_book::{Book, Tables};
 use smq_kit::Refusal;
 use smq_load::{LoadFault, Row, read_script, read_settings};
 use smq_report::{ReportFault, write_report};
+use smq_words::Query;
 use std::alloc::{AllocError, Global};
 use std::fmt;
 use std::io::{Read, Write};

@@ -1,5 +1,5 @@
 //! Known values of the definitions: each is the contract of a function with no body.
-ghost use Rattle.smq.specs.Known.{KnowsFaults, KnowsPlay, KnowsStatuses, KnowsWords};
+ghost use Rattle.smq.specs.Known.{KnowsFaults, KnowsPlay, KnowsStatuses};
 
 /// The statuses with which the program ends.
 pub fn known_statuses()
@@ -9,11 +9,6 @@ pub fn known_statuses()
 /// What is told of faults.
 pub fn known_faults()
     ensures { KnowsFaults }
-{}
-
-/// The words of orders.
-pub fn known_words()
-    ensures { KnowsWords }
 {}
 
 /// What known rows come to: the refused ones, what they leave present, and their edits after those of settings.

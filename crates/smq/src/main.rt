@@ -9,22 +9,18 @@ ghost use Rattle.smq.specs.Statuses.{bad_words_status, fault_status};
 
 mod engine;
 mod laws;
-mod orders;
 mod play;
-mod rules;
 mod status;
-mod words;
 
 use clap::error::ErrorKind;
 use engine::{RunFault, run};
-use orders::{Order, Query};
 use smq_load::MOST_SETTINGS;
+use smq_words::{Order, Query, order, own_words};
 use status::{BAD_INPUT, DONE, FAULT, fault_status, ran_status};
 use std::io::Read;
 use std::process::ExitCode;
 use std::rt::{Env, Files};
 use std::{fs, io};
-use words::{order, own_words};
 
 fn main(rt: HostRuntime) -> ExitCode {
     ExitCode::from(obey(&rt))

@@ -6,9 +6,9 @@ use Rattle.clap.specs.Words.{App, Text, app_of, fault_of, is_simple, subcommand_
 use Rattle.clap.specs.declared.builder.value_parser.ValueParser.{ValueParser}
 use Rattle.clap.specs.declared.error.Error.{Error}
 use Rattle.clap.proofs.OnLiterals.{clap_on_literals}
-use Rattle.smq.specs.Words.{AsksFor, IsProgram, TakesWords, path_of, program, query_of}
-use Rattle.smq.proofs.OrderLemmas.{words_ask}
-use Rattle.smq.proofs.words.order.Goals as goal
+use Rattle.smq_words.specs.Words.{AsksFor, IsProgram, TakesWords, path_of, program, query_of}
+use Rattle.smq_words.proofs.OrderLemmas.{words_ask}
+use Rattle.smq_words.proofs.words.order.Goals as goal
 
 program_is_simple : (names formats : ValueParser) → is_simple_and_free (program names formats) ≡ true
 unfolding clap_on_literals

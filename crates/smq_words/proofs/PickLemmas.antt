@@ -11,7 +11,7 @@ use Rattle.smq_tally.specs.declared.list.List as l
 use Rattle.smq_tally.specs.declared.view.View.{View}
 use Rattle.smq_report.specs.declared.pick.Pick.{Pick}
 use Rattle.smq_report.specs.declared.pick.Pick.TheVariants as pick
-use Rattle.smq.specs.Words.{is_named, picks}
+use Rattle.smq_words.specs.Words.{is_named, picks}
 
 abbrev pub view_of : Text → List View → Option View
 view_of text = find (λ view. bytes_eq (view_name view) text)

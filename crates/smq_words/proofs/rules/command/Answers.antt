@@ -3,8 +3,8 @@ use Rattle.std.proofs.lemmas.Result.{IfOk-weaker}
 use Rattle.clap.specs.Simple.{App}
 use Rattle.clap.specs.Words.{with_subcommand}
 use Rattle.clap.specs.declared.builder.value_parser.ValueParser.TheVariants.{Names}
-use Rattle.smq.specs.Words.{TakesNames, format_names}
-use Rattle.smq.proofs.rules.command.Goals as goal
+use Rattle.smq_words.specs.Words.{TakesNames, format_names}
+use Rattle.smq_words.proofs.rules.command.Goals as goal
 
 pub returns : goal.returns
 returns c =

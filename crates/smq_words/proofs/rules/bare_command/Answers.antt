@@ -2,7 +2,7 @@ use Rattle.std.proofs.Common.{◌∙◌, ap, true}
 use Rattle.clap.specs.Simple.{App, app_of_fields, on_top}
 use Rattle.clap.specs.declared.builder.command.Command.{Command}
 use Rattle.clap.specs.declared.builder.command.Command.TheOpen.{Command-F}
-use Rattle.smq.proofs.rules.bare_command.Goals as goal
+use Rattle.smq_words.proofs.rules.bare_command.Goals as goal
 
 abbrev with_settings : App → App
 with_settings app = on_top (λ shape. record shape { no_binary_name = true; subcommand_required = true; has_version = true }) app

@@ -22,13 +22,13 @@ use Rattle.clap.proofs.WalkLemmas.{list_any-map}
 use Rattle.smq_tally.specs.Lists.{lists}
 use Rattle.smq_tally.specs.Names.{list_name, view_name}
 use Rattle.smq_tally.specs.Rows.{views}
-use Rattle.smq.specs.declared.orders.Query.{Query}
+use Rattle.smq_words.specs.declared.orders.Query.{Query}
 use Rattle.smq_report.specs.declared.pick.Format.{Format}
 use Rattle.smq_report.specs.declared.pick.Format.TheVariants as format
 use Rattle.smq_report.specs.declared.pick.Pick.{Pick}
 use Rattle.smq_report.specs.declared.pick.Pick.TheVariants as pick
-use Rattle.smq.specs.Words.{AsksFor, TakesNames, format_name, format_names, format_rule, name_rule, pick_name, pick_names, program, query_app, report_app, settings_rule, subcommand_name}
-use Rattle.smq.proofs.LevelLemmas.{IfHas, Keeps, first_fit, given_fit, help_keeps, level_fit, neither, set_keeps, set_once, some_kind}
+use Rattle.smq_words.specs.Words.{AsksFor, TakesNames, format_name, format_names, format_rule, name_rule, pick_name, pick_names, program, query_app, report_app, settings_rule, subcommand_name}
+use Rattle.smq_words.proofs.LevelLemmas.{IfHas, Keeps, first_fit, given_fit, help_keeps, level_fit, neither, set_keeps, set_once, some_kind}
 
 -- ---- names
 

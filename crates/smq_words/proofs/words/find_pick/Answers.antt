@@ -1,8 +1,8 @@
 use Rattle.std.proofs.Common.{◌∙◌, ap, sym}
 use Rattle.std.specs.Prelude.{option_map}
 use Rattle.smq_report.specs.declared.pick.Pick.TheVariants as pick
-use Rattle.smq.proofs.PickLemmas.{pick-of-list, pick-of-view}
-use Rattle.smq.proofs.words.find_pick.Goals as goal
+use Rattle.smq_words.proofs.PickLemmas.{pick-of-list, pick-of-view}
+use Rattle.smq_words.proofs.words.find_pick.Goals as goal
 
 pub returns-in-Some : goal.returns-in-Some
 returns-in-Some c = pick-of-view c.args.text.now c.find_view.result c.in-Some.view c.find_view.ensures c.in-Some.is

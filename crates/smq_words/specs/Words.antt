@@ -18,9 +18,9 @@ use Rattle.smq_report.specs.declared.pick.Format.{Format}
 use Rattle.smq_report.specs.declared.pick.Format.TheVariants as format
 use Rattle.smq_report.specs.declared.pick.Pick.{Pick}
 use Rattle.smq_report.specs.declared.pick.Pick.TheVariants as pick
-use Rattle.smq.specs.declared.orders.Order.{Order}
-use Rattle.smq.specs.declared.orders.Order.TheVariants.{Run}
-use Rattle.smq.specs.declared.orders.Query.{Query}
+use Rattle.smq_words.specs.declared.orders.Order.{Order}
+use Rattle.smq_words.specs.declared.orders.Order.TheVariants.{Run}
+use Rattle.smq_words.specs.declared.orders.Query.{Query}
 
 -- ---- what can be asked for
 

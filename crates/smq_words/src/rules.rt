@@ -5,8 +5,8 @@ ghost use Rattle.clap.specs.Words.{app_of, new_app};
 ghost use Rattle.clap.specs.declared.builder.command.Command.TheViews.{out-Command as fields_of};
 ghost use Rattle.clap.specs.declared.builder.value_parser.ValueParser.TheVariants.{Names};
 ghost use Rattle.smq_tally.specs.Names.{list_name, view_name};
-ghost use Rattle.smq.specs.Words.{IsArgument, IsProgram, add_options, bare_program, format_rule, name_rule};
-ghost use Rattle.smq.specs.Words.{pick_names, query_app, report_app, settings_rule, texts_of, version_text};
+ghost use Rattle.smq_words.specs.Words.{IsArgument, IsProgram, add_options, bare_program, format_rule, name_rule};
+ghost use Rattle.smq_words.specs.Words.{pick_names, query_app, report_app, settings_rule, texts_of, version_text};
 
 use clap::{Arg, ArgAction, Command};
 use smq_tally::{List, View};

@@ -5,8 +5,8 @@ ghost use Rattle.clap.specs.Words.{Text, first_of, found_of, rows_of, subcommand
 ghost use Rattle.smq_tally.specs.Lists.{lists};
 ghost use Rattle.smq_tally.specs.Names.{list_name, view_name};
 ghost use Rattle.smq_tally.specs.Rows.{views};
-ghost use Rattle.smq.specs.Words.{AsksFor, HasOrder, TakesWords, format_name, is_named, path_of, pick_name};
-ghost use Rattle.smq.specs.Words.{picks, query_of};
+ghost use Rattle.smq_words.specs.Words.{AsksFor, HasOrder, TakesWords, format_name, is_named, path_of, pick_name};
+ghost use Rattle.smq_words.specs.Words.{picks, query_of};
 
 use crate::orders::{Order, Query};
 use crate::rules::{command, more_help, pick_names};

@@ -2,7 +2,7 @@ use Rattle.std.proofs.Common.{◌∙◌, ap, codes}
 use Rattle.std.specs.Prelude.{unwrap_or}
 use Rattle.clap.specs.Words.{found_of}
 use Rattle.clap.proofs.WalkLemmas.{first_value-rows}
-use Rattle.smq.proofs.words.order_of.Goals as goal
+use Rattle.smq_words.proofs.words.order_of.Goals as goal
 
 pub returns-clause-pick : goal.returns-clause-pick
 returns-clause-pick c pick h =

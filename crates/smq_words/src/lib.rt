@@ -1,0 +1,11 @@
+//! What the program's words ask for.
+#![tactic(auto)]
+
+mod laws;
+mod orders;
+mod rules;
+mod words;
+
+pub use laws::known_words;
+pub use orders::{Order, Query};
+pub use words::{order, own_words};
