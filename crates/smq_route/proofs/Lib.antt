@@ -8,3 +8,8 @@ pub mod Within
 pub mod Elsewhere
 pub mod EditLaws
 pub mod KnownVersions
+pub mod Walks
+pub mod NumberOrders
+pub mod NumberWalks
+pub mod NumberLemmas
+pub mod KnownNumberLemmas

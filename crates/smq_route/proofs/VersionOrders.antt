@@ -4,11 +4,9 @@ use Rattle.std.specs.declared.cmp.Ordering.{Ordering}
 use Rattle.std.specs.Ordering.{nat_cmp, ordering_then}
 use Rattle.std.specs.Cmp.{IsTotalOrder, tied_itself}
 use Rattle.std.proofs.lemmas.Cmp.{on_total, then_total, nat_cmp_total, nat_list_cmp_total}
-use Rattle.std.specs.FinMap.{IsAntisymmetric, nat_cmp-IsAntisymmetric, slice_cmp-IsAntisymmetric}
-use Rattle.smq_kit.specs.Orders.{octets_cmp}
+use Rattle.std.specs.FinMap.{IsAntisymmetric}
 use Rattle.smq_route.specs.Versions.{version_cmp, key_at}
 use Rattle.smq_route.specs.within.Kept.{kept_version_cmp, one_key}
-use Rattle.smq_kit.proofs.Comparisons.{then_first, then_second}
 
 pub version-order : kept_version_cmp ≡ version_cmp
 version-order = refl

@@ -1,11 +1,13 @@
-//! Laws of versions, of their edits and of routes. No code calls these functions.
+//! Laws of versions, of their edits, of routes and of numbers. No code calls these functions.
 ghost use Rattle.std.specs.Prelude.{◌≡◌, ◌∷◌, [], Some, None, true, false, codes};
 ghost use Rattle.std.specs.FinMap as fin;
 ghost use Rattle.smq_kit.specs.Replies.{first_of};
 ghost use Rattle.smq_kit.specs.declared.refusal.Refusal.TheVariants.{Overlap, NoRoute, Ended, BadEnd};
 ghost use Rattle.smq_route.specs.Edits.{add_refusals, end_refusals, correct_refusals, changed, corrected};
 ghost use Rattle.smq_route.specs.Known.{plan, unsorted, route, routed, version, at_moment, keys_of};
+ghost use Rattle.smq_route.specs.KnownNumbers.{client_at, known};
 ghost use Rattle.smq_route.specs.Laws.{KeysAreOrdered, VersionsAreTold, OneHolds, EditsChangeOne, EditsKeepApart, EndsAtItsEnd, KeepsDates, OrderIsIdle, IsOfLongest, IsLeastOverlap, EditsStayInPrefix};
+ghost use Rattle.smq_route.specs.Numbers.{places_under};
 ghost use Rattle.smq_route.specs.Versions.{key_at, version_of, holds, begins, route_at};
 
 /// Keys of versions are ordered by prefix, then by beginning. Keys and versions are equal exactly where they are one.
@@ -120,4 +122,18 @@ pub fn known_edits()
         ∷ key_at (codes "447") 0 ∷ key_at (codes "45") 0 ∷ [] }
     ensures ended_there { version_of unsorted (codes "44") 0 ≡ Some (version (Some 5) 3 (codes "23410")) }
     ensures open_there { version_of unsorted (codes "44") 5 ≡ Some (version None 4 (codes "23410")) }
+{}
+
+/// The places of numbers that are written out, under prefixes.
+pub fn known_numbers()
+    // A prefix has the numbers that it is or begins, by number, and those of one number by place.
+    ensures all { places_under known (codes "447")
+        ≡ client_at 40 ∷ client_at 0 ∷ client_at 20 ∷ client_at 60 ∷ [] }
+    ensures no_number_of_its_own { places_under known (codes "4")
+        ≡ client_at 40 ∷ client_at 0 ∷ client_at 20 ∷ client_at 60 ∷ client_at 30 ∷ [] }
+    ensures one_number { places_under known (codes "4479") ≡ client_at 20 ∷ client_at 60 ∷ [] }
+
+    // It has no number that is shorter, nor one of other digits.
+    ensures longer { places_under known (codes "44791") ≡ [] }
+    ensures other_digits { places_under known (codes "448") ≡ [] }
 {}

@@ -1,5 +1,6 @@
 //! Plans as real ones are, whose routes are known by hand, and refused memory.
 mod many;
+mod numbers;
 mod plans;
 
 use crate::tests::route::plans::PLANS;

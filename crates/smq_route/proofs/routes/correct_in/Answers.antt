@@ -1,4 +1,4 @@
-use Rattle.std.proofs.Common.{Some, Ok, refl, ap, ◌∙◌}
+use Rattle.std.proofs.Common.{Some, refl, ap, ◌∙◌}
 use Rattle.smq_route.specs.within.Kept.{versions_in}
 use Rattle.smq_route.specs.Edits.{correct_refusals, corrected}
 use Rattle.smq_route.proofs.Edited.{at_known, at_absent}
