@@ -25,6 +25,8 @@ use std::marker::Model;
 pub struct Kept<K: Ord, V> {
     shelf: Shelf<K, Option<V>>,
     log: Vec<(K, Option<Option<V>>)>,
+    /// Whether a key was taken out since the last `settle` or `undo`. If not, no place is vacant.
+    has_vacant: bool,
 }
 
 impl<K: Ord, V> Model for Kept<K, V> {
@@ -32,7 +34,7 @@ impl<K: Ord, V> Model for Kept<K, V> {
     ghost use Rattle.smq_shelf.specs.Keeping.{Keeping};
     ghost use Rattle.smq_shelf.specs.Shown.{touched};
     ghost use Rattle.smq_shelf.specs.Places.{content_of};
-    ghost use Rattle.smq_shelf.specs.within.Undoing.{undone, pasts, IsKept};
+    ghost use Rattle.smq_shelf.specs.within.Undoing.{undone, pasts, IsKeptBy};
 
     ghost Value = { Keeping K V };
 
@@ -45,7 +47,7 @@ impl<K: Ord, V> Model for Kept<K, V> {
       pending = length s.log.items;
     } };
 
-    ghost invariant = { λ s. IsKept K.cmp s.log.items s.shelf.entries };
+    ghost invariant = { λ s. IsKeptBy K.cmp s.has_vacant s.log.items s.shelf.entries };
 }
 
 impl<K: ShelfKey, V: Drop> Kept<K, V> {
@@ -61,6 +63,7 @@ impl<K: ShelfKey, V: Drop> Kept<K, V> {
         Kept {
             shelf: Shelf::new(alloc),
             log: Vec::new(alloc),
+            has_vacant: false,
         }
     }
 
@@ -114,6 +117,7 @@ impl<K: ShelfKey, V: Drop> Kept<K, V> {
     {
         let own = key.copy();
         if has_value(&mut self.shelf, key) {
+            self.has_vacant = true;
             put(&mut self.shelf, &mut self.log, own, None)?;
         }
         Ok(())
@@ -153,6 +157,7 @@ impl<K: ShelfKey, V: Drop> Kept<K, V> {
         while let Some(change) = self.log.pop() {
             revert(&mut self.shelf, change);
         }
+        self.has_vacant = false;
     }
 
     /// Makes the content the one that `undo` brings back, by at most two touches for each pending change. It takes no
@@ -166,9 +171,14 @@ impl<K: ShelfKey, V: Drop> Kept<K, V> {
         ensures touches { self.new.touches ≤ self.old.touches + 2 * self.old.pending }
         ensures counted { self.old.touches ≤ self.new.touches }
     {
+        if !self.has_vacant {
+            self.log.clear();
+            return;
+        }
         while let Some(change) = self.log.pop() {
             clear_vacant(&mut self.shelf, change);
         }
+        self.has_vacant = false;
     }
 }
 

@@ -1,5 +1,5 @@
 -- A log that takes changes back.
-use Rattle.std.specs.Prelude.{cond, Bool, true, false, List, [], ◌∷◌, Option, Some, None, IsSome, reverse}
+use Rattle.std.specs.Prelude.{◌≡◌, cond, Bool, true, false, List, [], ◌∷◌, Option, Some, None, IsSome, reverse}
 use Rattle.std.specs.declared.cmp.Ordering.{Ordering}
 use Rattle.std.specs.Map.{lookup, remove_entry, keys_of}
 use Rattle.std.specs.List.{AllByRecursion}
@@ -50,3 +50,12 @@ module _ {K V : Type 0} (cmp : K → K → Ordering) where
 pub record IsKept {K V : Type 0} (cmp : K → K → Ordering) (log : List (Logged K V)) (es : List (K × Option V)) : Type 0 where
   pub ordered : IsStrictlySortedBy cmp (keys_of es)
   pub undoable : CanUndo cmp (reverse log) es
+
+-- no place of the entries is vacant
+abbrev pub AreOccupied : {K V : Type 0} → List (K × Option V) → Type 0
+AreOccupied es = AllByRecursion (λ e. IsSome e.1) es
+
+-- the same, and no place is vacant, now or before a change of the log, unless one may be
+pub record IsKeptBy {K V : Type 0} (cmp : K → K → Ordering) (has_vacant : Bool) (log : List (Logged K V)) (es : List (K × Option V)) : Type 0 where
+  pub kept : IsKept cmp log es
+  pub occupied : has_vacant ≡ false → AllByRecursion AreOccupied (es ∷ pasts cmp (reverse log) es)

@@ -8,4 +8,4 @@ use Rattle.smq_shelf.proofs.kept.Kept.peek.Goals as goal
 pub returns : goal.returns
 returns g c =
     rw (← c.self.view_is)
-    (c.value_of.ensures ∙ ap flatten (c.get.ensures.value ∙ ap (lookup (is_at (g.K.Ord.cmp c.args.key.now))) c.map.ensures) ∙ sym (lookup-content_of g.met.K.Ord.total c.args.key.now _ c.self.invariant.ordered))
+    (c.value_of.ensures ∙ ap flatten (c.get.ensures.value ∙ ap (lookup (is_at (g.K.Ord.cmp c.args.key.now))) c.map.ensures) ∙ sym (lookup-content_of g.met.K.Ord.total c.args.key.now _ c.self.invariant.kept.ordered))

@@ -1,6 +1,7 @@
 use Rattle.std.proofs.Common.{Some, ap}
 use Rattle.smq_shelf.specs.Places.{content_of}
-use Rattle.smq_shelf.proofs.Changes.{Puts, IsKept-put, undone-put, pasts-put, content_of-put_some}
+use Rattle.smq_shelf.proofs.Changes.{Puts, undone-put, pasts-put, content_of-put_some}
+use Rattle.smq_shelf.proofs.Vacancies.{IsKeptBy-set}
 use Rattle.smq_shelf.proofs.kept.Kept.set.Goals as goal
 
 -- what `put` did
@@ -10,11 +11,11 @@ puts g c = record {
   entries = c.in_ok-put.ensures.entries;
   ordered = c.in_ok-put.ensures.ordered;
   logged = c.in_ok-put.ensures.log;
-  kept = c.self.invariant;
+  kept = c.self.invariant.kept;
 }
 
 pub invariant_of-self-2 : goal.invariant_of-self-2
-invariant_of-self-2 g c = IsKept-put g.met.K.Ord.total (puts g c)
+invariant_of-self-2 g c = IsKeptBy-set g.met.K.Ord.total c.self.inside.has_vacant (puts g c) c.self.invariant
 
 pub returns-clause-content : goal.returns-clause-content
 returns-clause-content g c = rw (← c.self.view_is) (content_of-put_some g.met.K.Ord.total g.met.K.ShelfKey.exact (puts g c))
