@@ -125,7 +125,7 @@ fn play_all(
     settings_rows: Vec<Row>,
     rows: Vec<Row>,
 ) -> Result<(Tables, Vec<(u64, Refusal)>), AllocError>
-    ensures tables { IfOk result (λ made. made.0
+    ensures tables { IfOk result (λ made. made.0.shown
         ≡ scratch (present_of settings_rows.items rows.items)) }
     ensures refused { IfOk result (λ made.
         made.1.items ≡ refused_of settings_rows.items rows.items) }
@@ -146,7 +146,7 @@ fn write_query<W: Write>(
     writer: &mut W,
 ) -> Result<(), RunFault>
     ensures ok { OnOk result (Appends (W.contents writer.old) (W.contents writer.new)
-        (report_text query.pick query.format tables.now)) }
+        (report_text query.pick query.format tables.now.shown)) }
     ensures fault { IfErr result (λ fault. (fault ≡ RunFault.Write) ⊎ (fault ≡ RunFault.Memory)) }
 {
     write_report(alloc, tables, query.pick, query.format, writer)?;

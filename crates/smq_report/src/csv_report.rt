@@ -20,7 +20,7 @@ pub fn write_csv<W: Write>(
     writer: &mut W,
 ) -> Result<(), ReportFault>
     ensures ok { OnOk result
-        (Appends (W.contents writer.old) (W.contents writer.new) (csv_text tables.now pick)) }
+        (Appends (W.contents writer.old) (W.contents writer.new) (csv_text tables.now.shown pick)) }
 {
     let sections = sections_of(alloc, pick)?;
     let page = put_sections(tables, sections.as_slice(), Page::new(alloc), writer)?;
@@ -40,7 +40,7 @@ fn put_sections<W: Write>(
     ensures { IfOk result (λ after. Appends
         (append_known (W.contents writer.old) (waiting page.records))
         (append_known (W.contents writer.new) (waiting after.records))
-        (flat_map (csv_section tables.now) sections.now)) }
+        (flat_map (csv_section tables.now.shown) sections.now)) }
 {
     for section in sections {
         page = put_section(tables, *section, page, writer)?;
@@ -60,7 +60,7 @@ fn put_section<W: Write>(
     ensures ok { IfOk result (λ after. Appends
         (append_known (W.contents writer.old) (waiting page.records))
         (append_known (W.contents writer.new) (waiting after.records))
-        (csv_section tables.now section)) }
+        (csv_section tables.now.shown section)) }
 {
     match section {
         Section::View(view) => {

@@ -20,7 +20,7 @@ pub fn write_report<W: Write>(
     writer: &mut W,
 ) -> Result<(), ReportFault>
     ensures ok { OnOk result (Appends (W.contents writer.old) (W.contents writer.new)
-        (report_text pick format tables.now)) }
+        (report_text pick format tables.now.shown)) }
 {
     match format {
         Format::Csv => write_csv(alloc, tables, pick, writer),

@@ -24,7 +24,7 @@ pub fn write_table<W: Write>(
     writer: &mut W,
 ) -> Result<(), ReportFault>
     ensures ok { OnOk result
-        (Appends (W.contents writer.old) (W.contents writer.new) (table_text tables.now pick)) }
+        (Appends (W.contents writer.old) (W.contents writer.new) (table_text tables.now.shown pick)) }
 {
     let sections = sections_of(alloc, pick)?;
     let mut page = String::new(alloc);
@@ -44,7 +44,7 @@ fn put_sections<W: Write>(
     ensures { OnOk result (Appends
         (append_known (W.contents writer.old) (string_bytes page.old))
         (append_known (W.contents writer.new) (string_bytes page.new))
-        (flat_map (table_section tables.now) sections.now)) }
+        (flat_map (table_section tables.now.shown) sections.now)) }
 {
     for section in sections {
         put_section(tables, *section, page, writer)?;
@@ -62,7 +62,7 @@ fn put_section<W: Write>(
     ensures { OnOk result (Appends
         (append_known (W.contents writer.old) (string_bytes page.old))
         (append_known (W.contents writer.new) (string_bytes page.new))
-        (table_section tables.now section)) }
+        (table_section tables.now.shown section)) }
 {
     push_section_line(page, section)?;
     match section {

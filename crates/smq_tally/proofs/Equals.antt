@@ -22,12 +22,16 @@ use Rattle.smq_tally.specs.contracts.list.ListedPartialEq.TheImpl as listed_eq
 use Rattle.smq_tally.specs.Lists.{listed_cmp}
 use Rattle.smq_tally.specs.Rows.{same_count_key, value_cmp}
 use Rattle.smq_tally.specs.Tables.{TablesValue}
-use Rattle.smq_tally.specs.within.Equal.{tables_eq, same_entry}
+use Rattle.smq_tally.specs.within.Equal.{tables_eq, same_entry, both_eq}
+use Rattle.smq_tally.specs.within.Kept.{counts_in, places_in}
 use Rattle.smq_tally.specs.within.CountOrder.{kept_cmp, kept_value_eq, count_keys_total, values_total}
 use Rattle.smq_tally.proofs.CountOrders.{count_key-order, count_keys_exact, value-order, same_value, entries-seen}
 use Rattle.smq_tally.specs.within.ListOrder.{kept_listed_cmp, listed_total, same_listed}
-use Rattle.smq_tally.proofs.ListOrders.{listed-order, listed_exact, keys-seen}
-use Rattle.smq_tally.proofs.Stored.{seen}
+use Rattle.smq_tally.proofs.ListOrders.{listed-order, listed_exact, places-seen}
+
+-- a set's entries: a listed place with nothing
+abbrev Entries : Type 0
+Entries = List (Listed × Unit {0})
 
 key-equal : (x y : CountKey) → (key_eq.ghosts).eq x y ≡ same_count_key x y
 key-equal x y = key_laws.matches_eq-law x y ∙ (λ i. is_eq (count_key-order i x y))
@@ -45,15 +49,52 @@ value-same a b = (
   λ e. value-equal a b ∙ ap (λ (x : Value). is_eq (value_cmp a x)) (sym e) ∙ (eq_by_cmp_equiv values_total).refl a,
 )
 
-pub eq-seen : (es fs : List (CountKey × ℕ)) (ks ls : List Listed) → IsStrictlySortedBy kept_cmp (keys_of es)
-    → IsStrictlySortedBy kept_cmp (keys_of fs)
-    → IsStrictlySortedBy kept_listed_cmp ks → IsStrictlySortedBy kept_listed_cmp ls
-    → (pointwise (λ (p q : CountKey × ℕ). (key_eq.ghosts).eq p.0 q.0 && nat_eq p.1 q.1) es fs && pointwise (listed_eq.ghosts).eq ks
-    ls) ≡ tables_eq (seen es ks) (seen fs ls)
-eq-seen es fs ks ls s t u v =
-    (λ i. pointwise (λ (p q : CountKey × ℕ). key-equal p.0 q.0 i && nat_eq p.1 q.1) es fs && pointwise (λ (p q : Listed). listed-equal p q i) ks ls)
-    ∙ (λ i. pointwise same_entry (sym (entries-seen es s) i) (sym (entries-seen fs t) i) && pointwise same_listed
-    (sym (keys-seen ks u) i) (sym (keys-seen ls v) i))
+-- entries of a set, compared by their keys alone
+pointwise-keys : (same : Listed → Listed → Bool) (nothing : Unit {0} → Unit {0} → Bool) → ((u v : Unit {0}) → nothing u v ≡ true) → (es fs : Entries)
+    → pointwise (both_eq same nothing) es fs ≡ pointwise same (keys_of es) (keys_of fs)
+pointwise-keys same nothing always [] [] = refl
+pointwise-keys same nothing always [] (f ∷ fs) = refl
+pointwise-keys same nothing always (e ∷ es) [] = refl
+pointwise-keys same nothing always (e ∷ es) (f ∷ fs) =
+    (λ i. (same e.0 f.0 && always e.1 f.1 i) && pointwise-keys same nothing always es fs i)
+    ∙ (λ i. and-true (same e.0 f.0) i && pointwise same (keys_of es) (keys_of fs))
+  where
+    and-true : (b : Bool) → (b && true) ≡ b
+    and-true true = refl
+    and-true false = refl
+
+-- entries of counts that are compared one by one
+counts-equal : (es fs : List (CountKey × ℕ)) → IsStrictlySortedBy kept_cmp (keys_of es) → IsStrictlySortedBy kept_cmp (keys_of fs)
+    → pointwise (both_eq (key_eq.ghosts).eq nat_eq) es fs ≡ pointwise same_entry (entries (counts_in es)) (entries (counts_in fs))
+counts-equal es fs s t =
+    (λ i. pointwise (λ (p q : CountKey × ℕ). key-equal p.0 q.0 i && nat_eq p.1 q.1) es fs)
+    ∙ (λ i. pointwise same_entry (sym (entries-seen es s) i) (sym (entries-seen fs t) i))
+
+-- the same of what an iteration gives
+pub counts-told : (r : Bool) (left right es fs : List (CountKey × ℕ)) → r ≡ pointwise (both_eq (key_eq.ghosts).eq nat_eq) left right
+    → left ≡ es → right ≡ fs → IsStrictlySortedBy kept_cmp (keys_of left) → IsStrictlySortedBy kept_cmp (keys_of right)
+    → r ≡ pointwise same_entry (entries (counts_in es)) (entries (counts_in fs))
+counts-told r left right es fs told is is_other s t =
+    told ∙ counts-equal left right s t
+    ∙ (λ i. pointwise same_entry (entries (counts_in (is i))) (entries (counts_in (is_other i))))
+
+-- the same of listed places
+places-equal : (nothing : Unit {0} → Unit {0} → Bool) → ((u v : Unit {0}) → nothing u v ≡ true) → (ps rs : Entries)
+    → IsStrictlySortedBy kept_listed_cmp (keys_of ps) → IsStrictlySortedBy kept_listed_cmp (keys_of rs)
+    → pointwise (both_eq (listed_eq.ghosts).eq nothing) ps rs ≡ pointwise same_listed (keys (places_in ps)) (keys (places_in rs))
+places-equal nothing always ps rs s t =
+    pointwise-keys (listed_eq.ghosts).eq nothing always ps rs
+    ∙ (λ i. pointwise (λ (p q : Listed). listed-equal p q i) (keys_of ps) (keys_of rs))
+    ∙ (λ i. pointwise same_listed (keys_of (sym (places-seen ps s) i)) (keys_of (sym (places-seen rs t) i)))
+
+-- the same of what an iteration gives
+pub places-told : {nothing : Unit {0} → Unit {0} → Bool} (r : Bool) (left right ps rs : Entries)
+    → r ≡ pointwise (both_eq (listed_eq.ghosts).eq nothing) left right → ((u v : Unit {0}) → nothing u v ≡ true) → left ≡ ps → right ≡ rs
+    → IsStrictlySortedBy kept_listed_cmp (keys_of left) → IsStrictlySortedBy kept_listed_cmp (keys_of right)
+    → r ≡ pointwise same_listed (keys (places_in ps)) (keys (places_in rs))
+places-told {nothing = nothing} r left right ps rs told always is is_other s t =
+    told ∙ places-equal nothing always left right s t
+    ∙ (λ i. pointwise same_listed (keys (places_in (is i))) (keys (places_in (is_other i))))
 
 both_true : (a b : Bool) → (a && b) ≡ true → (a ≡ true) × (b ≡ true)
 both_true true b e = (refl, e)
@@ -78,18 +119,14 @@ one_entry p q = (
 one_listed : (a b : Listed) → Decides (same_listed a b) (a ≡ b)
 one_listed a b = (tells_apart listed_exact a b, λ e. ap (same_listed a) (sym e) ∙ (eq_by_cmp_equiv listed_total).refl a)
 
--- a set's entries: a listed place with nothing
-abbrev Entries : Type 0
-Entries = List (Listed × Unit {0})
-
 with_nothing : (es : Entries) → map (λ (e : Listed). (e, tt)) (keys_of es) ≡ es
 with_nothing [] = refl
 with_nothing (e ∷ es) = ap (λ (fs : Entries). e ∷ fs) (with_nothing es)
 
 -- sets with the same listed places are one
 same_places : (s t : FinSet listed_cmp) → keys s ≡ keys t → s ≡ t
-same_places s t e = same_entries_map s t (sym (with_nothing (entries s)) ∙ ap (λ (ks : List Listed). map (λ k. (k, tt)) ks) e
-    ∙ with_nothing (entries t))
+same_places s t e =
+    same_entries_map s t (sym (with_nothing (entries s)) ∙ ap (λ (ks : List Listed). map (λ k. (k, tt)) ks) e ∙ with_nothing (entries t))
 
 pub equal-same : (t u : TablesValue) → IsTrue (tables_eq t u) ↔ (t ≡ u)
 equal-same t u =

@@ -1,116 +1,155 @@
--- What a tally holds, in maps and sets of std, and its tables.
-use Rattle.std.proofs.Common.{◌≡◌, ℕ, ◌+◌, ◌<◌, ◌≤◌, ◌^◌, ◌||◌, false, true, suc, cond, List, [], ◌∷◌, length, Some, None, refl, sym, ap, ◌∙◌, arith}
-use Rattle.std.specs.Prelude.{is_some, map}
+-- What a tally holds, in maps that can be undone, and its tables.
+use Rattle.std.proofs.Common.{◌≡◌, ℕ, ◌+◌, ◌<◌, ◌≤◌, ◌^◌, Bool, true, false, suc, List, [], ◌∷◌, length, Option, Some, None, subst, refl, sym, ap, ◌∙◌, arith}
+use Rattle.std.specs.Prelude.{IsSome, map, option_to_list}
 use Rattle.std.specs.List.{list_any}
 use Rattle.std.specs.List.Sorted.{IsStrictlySortedBy}
-use Rattle.std.specs.Map.{keys_of, lookup}
-use Rattle.std.specs.BTreeMap.{is_at}
-use Rattle.std.specs.FinMap.{FinMap, get, insert, remove, contains_key, values, from_entries}
+use Rattle.std.specs.Map.{keys_of, lookup, remove_entry}
+use Rattle.std.specs.BTreeMap.{is_at, insert_entry}
+use Rattle.std.specs.FinMap.{FinMap, get, insert, remove, contains_key, empty, values}
 use Rattle.std.specs.FinSet.{FinSet}
 use Rattle.smq_kit.specs.declared.place.Place.{Place}
 use Rattle.smq_kit.specs.Orders.{place_cmp}
 use Rattle.smq_kit.proofs.PlaceOrders.{places_total, places_exact}
-use Rattle.smq_kit.proofs.Comparisons.{or_first}
 use Rattle.smq_kit.proofs.Ordered as ordered
+use Rattle.smq_shelf.specs.Places.{content_of, with_place}
+use Rattle.smq_shelf.proofs.Seen as seen
 use Rattle.smq_tally.specs.declared.fact.CountKey.{CountKey}
 use Rattle.smq_tally.specs.declared.fact.Fact.{Fact}
 use Rattle.smq_tally.specs.declared.list.Listed.{Listed}
-use Rattle.smq_tally.specs.Lists.{listed_cmp, listed_set, listings_of_fact}
-use Rattle.smq_tally.specs.Rows.{keys_of_fact}
+use Rattle.smq_tally.specs.Lists.{listed_cmp, listings_of_fact}
 use Rattle.smq_tally.specs.Tables.{TablesValue, tables_of}
-use Rattle.smq_tally.specs.Tally.{TallyValue}
-use Rattle.smq_tally.specs.within.Counting.{count_of, plus, with_listed, one_listed}
-use Rattle.smq_tally.specs.within.Kept.{kept_place_cmp}
-use Rattle.smq_tally.specs.within.ListOrder.{kept_listed_cmp, listed_total}
-use Rattle.smq_tally.proofs.ListOrders.{place-order, listed_exact}
-use Rattle.smq_tally.proofs.Listings.{note-seen}
-use Rattle.smq_tally.proofs.ListedFacts.{lists, places-have, nothing}
-use Rattle.smq_tally.proofs.Stored.{unlisted-seen}
-use Rattle.smq_tally.proofs.Tallies.{number-bound, added-tables, noted-tables}
-use Rattle.smq_tally.proofs.Undone.{take-out, remove-kept}
+use Rattle.smq_tally.specs.within.Counting.{count_of, one_more, one_less}
+use Rattle.smq_tally.specs.within.Kept.{kept_place_cmp, facts_in, places_in, StandAtTheirPlaces, Tallies}
+use Rattle.smq_tally.specs.within.ListOrder.{lists}
+use Rattle.smq_tally.proofs.ListOrders.{place-order}
+use Rattle.smq_tally.proofs.ListedFacts.{stand-with, stand-without, stand-none, note-listed, note-stays, note-unlisted}
+use Rattle.smq_tally.proofs.Tallies.{number-bound, added-tables, removed-tables}
 
 abbrev Facts : Type 0
 Facts = FinMap place_cmp Fact
 
+abbrev Notes : Type 0
+Notes = FinSet listed_cmp
+
+abbrev pub Entries : Type 0
+Entries = List (Place × Fact)
+
 kept-order : kept_place_cmp ≡ place_cmp
 kept-order = λ i a b. place-order a b i
 
--- ---- facts
+-- the fact that a look-up gives
+pub fact-found : (es : Entries) (q : Place) → get (facts_in es) q ≡ lookup (is_at (kept_place_cmp q)) es
+fact-found es q = seen.looked_up places_total places_exact kept-order es q
 
-pub put-fact : (es fs : List (Place × Fact)) (k : Place) (f : Fact)
-    → ((q : Place) → lookup (is_at (kept_place_cmp q)) fs
-    ≡ cond (is_at (kept_place_cmp k) q) (Some f) (lookup (is_at (kept_place_cmp q)) es))
-    → from_entries {R = place_cmp} fs ≡ insert (from_entries es) k f
-put-fact es fs k f h = ordered.put-kept places_total places_exact kept-order es fs k f h
+pub fact-put : (es fs : Entries) (k : Place) (f : Fact) → fs ≡ insert_entry kept_place_cmp es k f → facts_in fs ≡ insert (facts_in es) k f
+fact-put es fs k f put = ap facts_in put ∙ seen.inserted places_total places_exact kept-order es k f
 
--- a fact of a new place is taken out again
-pub fact-again : (es fs gs : List (Place × Fact)) (k : Place) (f : Fact) (t : TallyValue) (notes : FinSet listed_cmp)
-    → record { facts = from_entries es; notes = notes } ≡ t → get t.facts k ≡ None
-    → ((q : Place) → lookup (is_at (kept_place_cmp q)) fs ≡ cond (is_at (kept_place_cmp k) q) (Some f) (lookup (is_at (kept_place_cmp q)) es))
-    → ((q : Place) → lookup (is_at (kept_place_cmp q)) gs ≡ cond (is_at (kept_place_cmp k) q) None (lookup (is_at (kept_place_cmp q)) fs))
-    → from_entries {R = place_cmp} gs ≡ from_entries es
-fact-again es fs gs k f t notes is none put took =
-    remove-kept places_total places_exact kept-order fs gs k took
-    ∙ ap (λ (m : Facts). remove m k) (put-fact es fs k f put)
-    ∙ take-out places_total places_exact (from_entries es) k f (ap (λ (u : TallyValue). get u.facts k) is ∙ none)
+pub fact-taken : (es fs : Entries) (k : Place) → IsStrictlySortedBy kept_place_cmp (keys_of es) → fs ≡ remove_entry (is_at (kept_place_cmp k)) es
+    → facts_in fs ≡ remove (facts_in es) k
+fact-taken es fs k sorted took = ap facts_in took ∙ seen.removed places_total places_exact kept-order es k sorted
+
+-- a fact that is found has an entry
+pub has-entry : (es fs : Entries) (q : Place) (f : Fact) → fs ≡ es → Some f ≡ get (facts_in es) q → IsSome (lookup (is_at (kept_place_cmp q)) fs)
+has-entry es fs q f same found =
+    subst (λ (xs : Entries). IsSome (lookup (is_at (kept_place_cmp q)) xs)) (sym same) (subst (λ (x : Option Fact). IsSome x) (found
+    ∙ fact-found es q) refl)
+
+with_place-fewer : {K V : Type 0} (k : K) (x : Option V) (cs : List (K × V)) → length (with_place k x cs) ≤ length cs + 1
+with_place-fewer k None cs = omega arith
+with_place-fewer k (Some v) cs = omega arith
+
+content_of-fewer : {K V : Type 0} (es : List (K × Option V)) → length (content_of es) ≤ length es
+content_of-fewer [] = omega arith
+content_of-fewer (e ∷ es) = let one = with_place-fewer e.0 e.1 (content_of es) in let rest = content_of-fewer es in omega (arith, one, rest)
 
 -- counts have room for one fact more
-pub has-room : (es : List (Place × Fact)) (n : ℕ) (notes : FinSet listed_cmp) (t : TablesValue)
-    → t ≡ tables_of (from_entries es) notes → IsStrictlySortedBy kept_place_cmp (keys_of es) → n ≡ length es → n < 2 ^ 63
+pub has-room : (es : Entries) (ps : List (Place × Option Fact)) (most : ℕ) (notes : Notes) (t : TablesValue) → t ≡ tables_of (facts_in es) notes
+    → IsStrictlySortedBy kept_place_cmp (keys_of es) → es ≡ content_of ps → most ≡ length ps → most < 2 ^ 63
     → (key : CountKey) → count_of t key + 1 < 2 ^ 64
-has-room es n notes t is sorted count few key =
-    let bound : count_of (tables_of (from_entries es) notes) key ≤ length (values (from_entries {R = place_cmp} es)) =
-    number-bound (from_entries es) notes key in
-    let same : length (values (from_entries {R = place_cmp} es)) ≡ length es =
-    ap (λ xs. length (map (λ e. e.1) xs)) (ordered.entries-kept places_total places_exact kept-order es sorted)
-    ∙ length-values es in
-    let there : count_of t key ≡ count_of (tables_of (from_entries es) notes) key = ap (λ (u : TablesValue). count_of u key) is in
-    omega (arith, bound, same, there, count, few)
+has-room es ps most notes t is sorted shown count small key =
+    let fewer : length (content_of ps) ≤ length ps = content_of-fewer ps in
+    let told : length es ≡ length (content_of ps) = ap (λ (xs : Entries). length xs) shown in
+    let bound : count_of (tables_of (facts_in es) notes) key ≤ length (values (facts_in es)) = number-bound (facts_in es) notes key in
+    let same : length (values (facts_in es)) ≡ length es = ap (λ xs. length (map (λ e. e.1) xs))
+    (ordered.entries-kept places_total places_exact kept-order es sorted) ∙ length-values es in
+    let there : count_of t key ≡ count_of (tables_of (facts_in es) notes) key = ap (λ (u : TablesValue). count_of u key) is in
+    omega (arith, bound, same, there, fewer, told, count, small)
   where
-    length-values : (xs : List (Place × Fact)) → length (map (λ e. e.1) xs) ≡ length xs
+    length-values : (xs : Entries) → length (map (λ e. e.1) xs) ≡ length xs
     length-values [] = refl
     length-values (x ∷ xs) = ap suc (length-values xs)
 
--- tables with the fact are those of the facts with it
-pub fact-counted : (es fs : List (Place × Fact)) (f g : Fact) (t : TallyValue) (notes : FinSet listed_cmp)
-    (tables new : TablesValue) → record { facts = from_entries es; notes = notes } ≡ t → get t.facts f.place ≡ None
-    → tables ≡ tables_of (from_entries es) notes
-    → ((q : Place) → lookup (is_at (kept_place_cmp q)) fs ≡ cond (is_at (kept_place_cmp f.place) q) (Some f) (lookup (is_at (kept_place_cmp q)) es))
-    → Some g ≡ lookup (is_at (kept_place_cmp f.place)) fs → lookup (is_at (kept_place_cmp f.place)) fs ≡ Some f
-    → new ≡ plus (with_listed tables (listings_of_fact g)) (keys_of_fact g) → new ≡ tables_of (from_entries fs) notes
-fact-counted es fs f g t notes tables new is none held put found there done =
-    let same : g ≡ f = let e : Some g ≡ Some f = found ∙ there in cc in
-    done
-    ∙ (λ i. plus (with_listed (held i) (listings_of_fact (same i))) (keys_of_fact (same i)))
-    ∙ added-tables (from_entries es) notes f (ap (λ (u : TallyValue). get u.facts f.place) is ∙ none)
-    ∙ ap (λ (m : Facts). tables_of m notes) (sym (put-fact es fs f.place f put))
+-- tables with one note more
+noted-tables : (facts : Facts) (notes : Notes) (note : Listed)
+    → record (tables_of facts notes) { places = insert (tables_of facts notes).places note tt } ≡ tables_of facts (insert notes note tt)
+noted-tables facts notes note = λ i. record { counts = (tables_of facts notes).counts; places = note-listed facts notes note i }
 
--- ---- notes
+-- a tally of nothing
+pub holds-nothing : (es settled : Entries) (ns settled_notes : List (Listed × Unit {0})) (shown before : TablesValue) → es ≡ [] → settled ≡ []
+    → ns ≡ [] → settled_notes ≡ []
+    → shown ≡ tables_of empty empty → before ≡ tables_of empty empty
+    → Tallies (facts_in es) (facts_in settled) (places_in ns) (places_in settled_notes) shown before
+holds-nothing es settled ns settled_notes shown before none none_settled clear clear_settled now then = record {
+  now = now ∙ (λ i. tables_of (facts_in (sym none i)) (places_in (sym clear i)));
+  before = then ∙ (λ i. tables_of (facts_in (sym none_settled i)) (places_in (sym clear_settled i)));
+  places = subst (λ (xs : Entries). StandAtTheirPlaces (facts_in xs)) (sym none) stand-none;
+  places_before = subst (λ (xs : Entries). StandAtTheirPlaces (facts_in xs)) (sym none_settled) stand-none;
+}
 
--- a place that the tables don't list isn't noted, so its note is taken out again
-pub note-again : (facts : Facts) (ks ls ms : List Listed) (note : Listed) (tables : TablesValue)
-    → tables ≡ tables_of facts (listed_set ks) → contains_key tables.places note ≡ false
-    → ((q : Listed) → list_any (is_at (kept_listed_cmp q)) ls ≡ cond (is_at (kept_listed_cmp note) q) true (list_any (is_at (kept_listed_cmp q)) ks))
-    → ((q : Listed) → list_any (is_at (kept_listed_cmp q)) ms ≡ cond (is_at (kept_listed_cmp note) q) false (list_any (is_at (kept_listed_cmp q)) ls))
-    → listed_set ms ≡ listed_set ks
-note-again facts ks ls ms note tables held absent put took =
-    let either : (contains_key (listed_set ks) note || list_any (lists note) (values facts)) ≡ false =
-    sym (places-have facts (listed_set ks) note) ∙ ap (λ (u : TablesValue). contains_key u.places note) (sym held) ∙ absent in
-    let none : get (listed_set ks) note ≡ None = nothing (get (listed_set ks) note) (or_first _ _ either) in
-    unlisted-seen ls ms note took ∙ ap (λ (s : FinSet listed_cmp). remove s note) (note-seen ks ls note put)
-    ∙ take-out listed_total listed_exact (listed_set ks) note tt none
+module _ {facts settled : Facts} {notes settled_notes : Notes} {shown before : TablesValue}
+    (holds : Tallies facts settled notes settled_notes shown before) where
+  -- where what was settled stays and the tables are those of what is there, a tally holds
+  pub still : {now later : Facts} {now_notes later_notes : Notes} {new later_shown : TablesValue} → new ≡ tables_of now now_notes
+      → StandAtTheirPlaces now → later ≡ settled → later_notes ≡ settled_notes → later_shown ≡ before
+      → Tallies now later now_notes later_notes new later_shown
+  still made stand same same_notes same_shown = record {
+    now = made;
+    before = same_shown ∙ holds.before ∙ (λ i. tables_of (sym same i) (sym same_notes i));
+    places = stand;
+    places_before = subst (λ (m : Facts). StandAtTheirPlaces m) (sym same) holds.places_before;
+  }
 
--- tables with the note are those of the notes with it
-pub note-counted : (facts : Facts) (ks ls : List Listed) (note : Listed) (tables new : TablesValue) → tables ≡ tables_of facts (listed_set ks)
-    → ((q : Listed) → list_any (is_at (kept_listed_cmp q)) ls ≡ cond (is_at (kept_listed_cmp note) q) true (list_any (is_at (kept_listed_cmp q)) ks))
-    → new ≡ one_listed tables note → new ≡ tables_of facts (listed_set ls)
-note-counted facts ks ls note tables new held put done =
-    done ∙ ap (λ (u : TablesValue). one_listed u note) held ∙ noted-tables facts (listed_set ks) note
-    ∙ ap (λ (s : FinSet listed_cmp). tables_of facts s) (sym (note-seen ks ls note put))
+  -- a fact was added
+  pub fact-added : {now : Facts} {new : TablesValue} (f : Fact) → get facts f.place ≡ None → now ≡ insert facts f.place f → new ≡ one_more shown f
+      → new ≡ tables_of now notes
+  fact-added f none put counted =
+      counted ∙ ap (λ (t : TablesValue). one_more t f) holds.now ∙ added-tables facts notes f none ∙ ap (λ (m : Facts). tables_of m notes) (sym put)
 
--- whether a fact of a place stands
-pub has-place : (es : List (Place × Fact)) (t : TallyValue) (notes : FinSet listed_cmp) (q : Place)
-    → record { facts = from_entries es; notes = notes } ≡ t → is_some (lookup (is_at (kept_place_cmp q)) es)
-    ≡ contains_key t.facts q
-has-place es t notes q is = ap is_some (sym (ordered.get-kept places_total places_exact kept-order es q))
-    ∙ ap (λ (u : TallyValue). contains_key u.facts q) is
+  pub stand-added : {now : Facts} (f : Fact) → now ≡ insert facts f.place f → StandAtTheirPlaces now
+  stand-added f put = subst (λ (m : Facts). StandAtTheirPlaces m) (sym put) (stand-with facts f holds.places)
+
+  -- a fact was taken out
+  pub fact-removed : {now : Facts} {new : TablesValue} (place : Place) (f : Fact) (stays : Bool) → get facts place ≡ Some f
+      → stays ≡ list_any (contains_key notes) (listings_of_fact f)
+      → now ≡ remove facts place → new ≡ one_less shown f stays → new ≡ tables_of now notes
+  fact-removed place f stays has noted took counted =
+      counted ∙ (λ i. one_less (holds.now i) f (noted i)) ∙ removed-tables facts notes place f holds.places has
+      ∙ ap (λ (m : Facts). tables_of m notes) (sym took)
+
+  pub stand-removed : {now : Facts} (place : Place) → now ≡ remove facts place → StandAtTheirPlaces now
+  stand-removed place took = subst (λ (m : Facts). StandAtTheirPlaces m) (sym took) (stand-without facts place holds.places)
+
+  -- a place was noted
+  pub note-added : {now : Notes} {new : TablesValue} (note : Listed) → now ≡ insert notes note tt
+      → new ≡ record shown { places = insert shown.places note tt } → new ≡ tables_of facts now
+  note-added note put listed =
+      listed ∙ ap (λ (t : TablesValue). record t { places = insert t.places note tt }) holds.now ∙ noted-tables facts notes note
+      ∙ ap (λ (n : Notes). tables_of facts n) (sym put)
+
+  -- a note was taken out, whose place stays listed for the fact there
+  pub note-covered : {now : Notes} (note : Listed) → contains_key notes note ≡ true → now ≡ remove notes note
+      → list_any (lists note) (option_to_list (get facts note.place)) ≡ true → shown ≡ tables_of facts now
+  note-covered note noted took there =
+      holds.now
+      ∙ (λ i. record { counts = (tables_of facts notes).counts; places = note-stays facts notes note holds.places noted there i })
+      ∙ ap (λ (n : Notes). tables_of facts n) (sym took)
+
+  -- a note was taken out, and its place is listed no more
+  pub note-removed : {now : Notes} {new : TablesValue} (note : Listed) → contains_key notes note ≡ true → now ≡ remove notes note
+      → list_any (lists note) (option_to_list (get facts note.place)) ≡ false
+      → new ≡ record shown { places = remove shown.places note } → new ≡ tables_of facts now
+  note-removed note noted took none unlisted =
+      unlisted
+      ∙ ap (λ (t : TablesValue). record t { places = remove t.places note }) holds.now
+      ∙ (λ i. record { counts = (tables_of facts notes).counts; places = note-unlisted facts notes note holds.places noted none i })
+      ∙ ap (λ (n : Notes). tables_of facts n) (sym took)

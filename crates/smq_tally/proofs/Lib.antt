@@ -9,6 +9,7 @@ pub mod Shown
 pub mod ViewRanges
 pub mod Stored
 pub mod Held
+pub mod Gathered
 pub mod Equals
 pub mod FactEquals
 pub mod Standing

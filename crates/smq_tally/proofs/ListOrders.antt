@@ -1,5 +1,5 @@
 -- The derived order of listed places is that of the definitions, and the places of a list stand in it, next to each other.
-use Rattle.std.proofs.Common.{◌≡◌, ℕ, ◌+◌, ◌≤◌, Bool, true, false, cond, List, [], ◌∷◌, get_or, Some, None, subst, refl, sym, ap, ◌∙◌, arith}
+use Rattle.std.proofs.Common.{◌≡◌, ℕ, ◌+◌, ◌≤◌, Bool, true, false, cond, List, [], ◌∷◌, get_or, Some, None, refl, sym, ap, ◌∙◌, arith}
 use Rattle.std.specs.Prelude.{◌==◌, T, ◌&&◌, not, map, filter, slice_get}
 use Rattle.std.specs.List.{AllByRecursion}
 use Rattle.std.specs.List.Sorted.{IsStrictlySortedBy}
@@ -10,7 +10,7 @@ use Rattle.std.specs.Ordering.{nat_cmp, ordering_then, is_le, is_lt, is_gt}
 use Rattle.std.specs.Cmp.{nat_cmp_is}
 use Rattle.std.specs.BTreeMap.Range.{range_contains}
 use Rattle.std.specs.Map.{keys_of}
-use Rattle.std.specs.FinMap.{IsAntisymmetric, nat_cmp-IsAntisymmetric, entries, entries_sorted, keys, is_sorted}
+use Rattle.std.specs.FinMap.{IsAntisymmetric, nat_cmp-IsAntisymmetric, from_entries, entries, entries_sorted, keys, is_sorted}
 use Rattle.std.specs.FinMap.Entries.{below_all}
 use Rattle.std.specs.FinSet.{FinSet}
 use Rattle.std.proofs.lemmas.Bool.{eqb-true}
@@ -28,14 +28,14 @@ use Rattle.smq_tally.specs.declared.list.List as l
 use Rattle.smq_tally.specs.declared.list.List.TheVariants as v
 use Rattle.smq_tally.specs.declared.list.Listed.{Listed}
 use Rattle.smq_tally.specs.contracts.list.ListOrd.TheImpl as list_ord
-use Rattle.smq_tally.specs.Lists.{lists, list_rank, listed_cmp, in_list, listed_set}
+use Rattle.smq_tally.specs.Lists.{lists, list_rank, listed_cmp, in_list}
 use Rattle.smq_tally.specs.Tables.{TablesValue, listed_in}
 use Rattle.smq_tally.specs.within.ListOrder.{kept_listed_cmp, listed_total, first_place, first_in}
 
 -- ---- the derived orders are those of the definitions
 
-each_list : (P : l.List → Type 0) → P v.Waiting → P v.StrayAnswers → P v.Mismatched → P v.StrayReceipts → P v.AmbiguousReceipts
-    → P v.ExtraReceipts → P v.Unreadable → P v.Undecodable → P v.Broken → P v.Open → P v.Lapsed → (a : l.List) → P a
+each_list : (P : l.List → Type 0) → P v.Waiting → P v.StrayAnswers → P v.Mismatched → P v.StrayReceipts → P v.AmbiguousReceipts → P v.ExtraReceipts
+    → P v.Unreadable → P v.Undecodable → P v.Broken → P v.Open → P v.Lapsed → (a : l.List) → P a
 each_list P p0 p1 p2 p3 p4 p5 p6 p7 p8 p9 p10 v.Waiting = p0
 each_list P p0 p1 p2 p3 p4 p5 p6 p7 p8 p9 p10 v.StrayAnswers = p1
 each_list P p0 p1 p2 p3 p4 p5 p6 p7 p8 p9 p10 v.Mismatched = p2
@@ -113,17 +113,6 @@ listed_exact a b e =
 abbrev Entries : Type 0
 Entries = List (Listed × Unit {0})
 
-keys-entries : (es : List Listed) → keys_of {K = Listed} {X = Unit {0}} (map (λ e. (e, tt)) es) ≡ es
-keys-entries [] = refl
-keys-entries (e ∷ es) = ap (λ xs. e ∷ xs) (keys-entries es)
-
-pub keys-seen : (es : List Listed) → IsStrictlySortedBy kept_listed_cmp es → keys (listed_set es) ≡ es
-keys-seen es s =
-    ap (λ (fs : Entries). keys_of fs)
-    (ordered.entries-kept listed_total listed_exact listed-order (map (λ e. (e, tt)) es)
-    (subst (IsStrictlySortedBy kept_listed_cmp) (sym (keys-entries es)) s))
-    ∙ keys-entries es
-
 -- ---- the places of a list stand in order
 
 above-first : (e : Listed) (es : Entries) → T (below_all listed_cmp e es) → AllByRecursion (λ y. listed_cmp e y ≡ Less) (keys_of es)
@@ -149,8 +138,8 @@ same_list_less : (list : l.List) (a b : Listed) → in_list list a ≡ true → 
 same_list_less list a b h k less =
     let one : list_rank a.list ≡ list_rank list = eqb-true _ _ h in
     let two : list_rank b.list ≡ list_rank list = eqb-true _ _ k in
-    let tied : nat_cmp (list_rank a.list) (list_rank b.list) ≡ Equal =
-    rw (one, two) (sym (nat_cmp_is (list_rank list) (list_rank list) Equal refl)) in
+    let tied : nat_cmp (list_rank a.list) (list_rank b.list) ≡ Equal = rw (one, two) (sym (nat_cmp_is (list_rank list) (list_rank list) Equal refl))
+    in
     rw tied at less
 
 places-above : (list : l.List) (e : Listed) (es : List Listed) → in_list list e ≡ true → AllByRecursion (λ y. listed_cmp e y ≡ Less) es
@@ -158,8 +147,7 @@ places-above : (list : l.List) (e : Listed) (es : List Listed) → in_list list 
 places-above list e [] h a = tt
 places-above list e (f ∷ fs) h a =
     elim (in_list list f) as (λ b. in_list list f ≡ b
-    → AllByRecursion (λ y. place_cmp e.place y ≡ Less)
-    (map (λ x. x.place) (cond b (f ∷ filter (in_list list) fs) (filter (in_list list) fs)))) [
+    → AllByRecursion (λ y. place_cmp e.place y ≡ Less) (map (λ x. x.place) (cond b (f ∷ filter (in_list list) fs) (filter (in_list list) fs)))) [
       | true ↦ λ k. (same_list_less list e f h k a.0, places-above list e fs h a.1)
       | false ↦ λ k. places-above list e fs h a.1
     ] refl
@@ -195,8 +183,8 @@ then_le Greater q h k = h
 -- no place is before the first
 first_le : (p : Place) → is_le (place_cmp first_place p) ≡ true
 first_le p =
-    let within : is_le (ordering_then (dir_cmp FromClient p.dir) (nat_cmp 0 p.offset)) ≡ true =
-    then_le (dir_cmp FromClient p.dir) (nat_cmp 0 p.offset) (le_client p.dir) (le_zero p.offset) in
+    let within : is_le (ordering_then (dir_cmp FromClient p.dir) (nat_cmp 0 p.offset)) ≡ true = then_le (dir_cmp FromClient p.dir)
+    (nat_cmp 0 p.offset) (le_client p.dir) (le_zero p.offset) in
     then_le (nat_cmp 0 p.session.0) (ordering_then (dir_cmp FromClient p.dir) (nat_cmp 0 p.offset)) (le_zero p.session.0) within
 
 pub then_least : (p q : Ordering) → is_le q ≡ true → is_le (ordering_then p q) ≡ is_le p
@@ -255,39 +243,59 @@ last_place v.Unreadable e = absurd cc
 last_place v.Undecodable e = absurd cc
 last_place v.Broken e = absurd cc
 last_place v.Open e = absurd cc
-last_place v.Lapsed e = each_list (λ other. list_rank other ≤ 10) (omega arith) (omega arith) (omega arith) (omega arith)
-    (omega arith) (omega arith) (omega arith) (omega arith) (omega arith) (omega arith) (omega arith)
+last_place v.Lapsed e =
+    each_list (λ other. list_rank other ≤ 10) (omega arith) (omega arith) (omega arith) (omega arith) (omega arith) (omega arith) (omega arith)
+    (omega arith) (omega arith) (omega arith) (omega arith)
 
 -- a list begins before the next one does
 pub list-forward : (list next : l.List) (first limit : Listed) → first ≡ first_in list → limit ≡ first_in next
     → Some next ≡ slice_get lists (list_rank list + 1) → is_gt (kept_listed_cmp first limit) ≡ false
 list-forward list next first limit one other e =
-    (λ i. is_gt (listed-order i (one i) (other i)))
-    ∙ ap (λ n. is_gt (ordering_then (nat_cmp (list_rank list) n) Equal)) (next_place list next e) ∙ before (list_rank list)
+    (λ i. is_gt (listed-order i (one i) (other i))) ∙ ap (λ n. is_gt (ordering_then (nat_cmp (list_rank list) n) Equal)) (next_place list next e)
+    ∙ before (list_rank list)
   where
     before : (n : ℕ) → is_gt (ordering_then (nat_cmp n (n + 1)) Equal) ≡ false
     before n = ap (λ r. is_gt (ordering_then r Equal)) (sym (nat_cmp_is n (n + 1) Less (omega arith)))
 
+-- entries in order are those of the set that they make
+pub places-seen : (es : Entries) → IsStrictlySortedBy kept_listed_cmp (keys_of es) → entries (from_entries {R = listed_cmp} es) ≡ es
+places-seen es s = ordered.entries-kept listed_total listed_exact listed-order es s
+
+keys-filter : (p : Listed → Bool) (es : Entries) → keys_of (filter (λ e. p e.0) es) ≡ filter p (keys_of es)
+keys-filter p [] = refl
+keys-filter p (e ∷ es) =
+    elim (p e.0) as (λ b. keys_of (cond b (e ∷ filter (λ x. p x.0) es) (filter (λ x. p x.0) es)) ≡ cond b (e.0 ∷ filter p (keys_of es))
+    (filter p (keys_of es))) [
+      | true ↦ ap (λ ks. e.0 ∷ ks) (keys-filter p es)
+      | false ↦ keys-filter p es
+    ]
+
+places-keys : (es : Entries) → map (λ (e : Listed × Unit {0}). e.0.place) es ≡ map (λ (e : Listed). e.place) (keys_of es)
+places-keys [] = refl
+places-keys (e ∷ es) = ap (λ ps. e.0.place ∷ ps) (places-keys es)
+
 -- the code's part of the set, which is a run of it, has the places of the list
-ranged : (t : TablesValue) (list : l.List) (es left : List Listed) (inside : Listed → Bool) → listed_set es ≡ t.places
-    → IsStrictlySortedBy kept_listed_cmp es
-    → ((q : Listed) → inside q ≡ in_list list q) → left ≡ filter inside es → map (λ e. e.place) left ≡ listed_in t list
+ranged : (t : TablesValue) (list : l.List) (es left : Entries) (inside : Listed → Bool) → from_entries es ≡ t.places
+    → IsStrictlySortedBy kept_listed_cmp (keys_of es)
+    → ((q : Listed) → inside q ≡ in_list list q) → left ≡ filter (λ e. inside e.0) es → map (λ e. e.0.place) left ≡ listed_in t list
 ranged t list es left inside is sorted same taken =
-    ap (λ (xs : List Listed). map (λ e. e.place) xs) (taken ∙ (λ i. filter (λ q. same q i) (sym (keys-seen es sorted) i)))
+    places-keys left
+    ∙ ap (λ (xs : Entries). map (λ e. e.place) (keys_of xs)) (taken ∙ (λ i. filter (λ e. same e.0 i) (sym (places-seen es sorted) i)))
+    ∙ ap (λ (xs : List Listed). map (λ e. e.place) xs) (keys-filter (in_list list) (entries (from_entries {R = listed_cmp} es)))
     ∙ ap (λ (s : FinSet listed_cmp). map (λ e. e.place) (filter (in_list list) (keys s))) is
 
-pub ranged-next : (t : TablesValue) (list next : l.List) (first limit : Listed) (es left : List Listed) → first ≡ first_in list
-    → limit ≡ first_in next → listed_set es ≡ t.places
-    → IsStrictlySortedBy kept_listed_cmp es → Some next ≡ slice_get lists (list_rank list + 1)
-    → left ≡ filter (range_contains kept_listed_cmp (Included first) (Excluded limit)) es → map (λ e. e.place) left ≡ listed_in t list
+pub ranged-next : (t : TablesValue) (list next : l.List) (first limit : Listed) (es left : Entries) → first ≡ first_in list → limit ≡ first_in next
+    → from_entries es ≡ t.places
+    → IsStrictlySortedBy kept_listed_cmp (keys_of es) → Some next ≡ slice_get lists (list_rank list + 1)
+    → left ≡ filter (λ e. range_contains kept_listed_cmp (Included first) (Excluded limit) e.0) es → map (λ e. e.0.place) left ≡ listed_in t list
 ranged-next t list next first limit es left one other is sorted e taken =
     ranged t list es left (range_contains kept_listed_cmp (Included (first_in list)) (Excluded (first_in next))) is sorted
     (up_to_next list next (next_place list next e))
-    (taken ∙ (λ i. filter (range_contains kept_listed_cmp (Included (one i)) (Excluded (other i))) es))
+    (taken ∙ (λ i. filter (λ x. range_contains kept_listed_cmp (Included (one i)) (Excluded (other i)) x.0) es))
 
-pub ranged-end : (t : TablesValue) (list : l.List) (first : Listed) (es left : List Listed) → first ≡ first_in list → listed_set es ≡ t.places
-    → IsStrictlySortedBy kept_listed_cmp es → None ≡ slice_get lists (list_rank list + 1)
-    → left ≡ filter (range_contains kept_listed_cmp (Included first) Unbounded) es → map (λ e. e.place) left ≡ listed_in t list
+pub ranged-end : (t : TablesValue) (list : l.List) (first : Listed) (es left : Entries) → first ≡ first_in list → from_entries es ≡ t.places
+    → IsStrictlySortedBy kept_listed_cmp (keys_of es) → None ≡ slice_get lists (list_rank list + 1)
+    → left ≡ filter (λ e. range_contains kept_listed_cmp (Included first) Unbounded e.0) es → map (λ e. e.0.place) left ≡ listed_in t list
 ranged-end t list first es left one is sorted e taken =
     ranged t list es left (range_contains kept_listed_cmp (Included (first_in list)) Unbounded) is sorted (up_to_end list (last_place list e))
-    (taken ∙ (λ i. filter (range_contains kept_listed_cmp (Included (one i)) Unbounded) es))
+    (taken ∙ (λ i. filter (λ x. range_contains kept_listed_cmp (Included (one i)) Unbounded x.0) es))

@@ -1,24 +1,32 @@
 -- The places that tables list: notes, and open and lapsed messages.
-use Rattle.std.proofs.Common.{◌≡◌, ℕ, zero, suc, ◌+◌, Bool, ◌||◌, true, false, cond, List, [], ◌∷◌, ◌++◌, Option, Some, None, refl, sym, ap, ◌∙◌, arith}
-use Rattle.std.specs.Prelude.{not, count_by, is_some}
-use Rattle.std.specs.List.{flat_map, list_any}
-use Rattle.std.specs.FinMap.{FinMap, get, insert, values, keys, contains_key, contains_key-keys, get-insert, same_map}
+use Rattle.std.proofs.Common.{◌≡◌, ℕ, zero, suc, ◌+◌, Bool, ◌||◌, true, false, cond, ◌⊎◌, inl, inr, List, [], ◌∷◌, ◌++◌, Option, Some, None, refl, sym, ap, ◌∙◌, arith}
+use Rattle.std.specs.Prelude.{count_by, is_some, map, option_to_list}
+use Rattle.std.specs.List.{AllByRecursion, flat_map, list_any}
+use Rattle.std.specs.Ordering.{eq_by_cmp}
+use Rattle.std.specs.FinMap.{FinMap, get, insert, remove, empty, entries, values, keys, contains_key, contains_key-keys, get-empty, get-insert, get-remove, same_map}
+use Rattle.std.proofs.lemmas.Bool.{false≢true}
+use Rattle.std.proofs.lemmas.Map.Views.{tells_apart}
 use Rattle.std.specs.FinSet.{FinSet}
 use Rattle.std.proofs.lemmas.List.Sums.{sum_by-cons}
 use Rattle.smq_kit.specs.Maps.{share}
+use Rattle.smq_kit.specs.declared.place.Place.{Place}
 use Rattle.smq_kit.specs.Orders.{place_cmp}
 use Rattle.smq_kit.proofs.PlaceOrders.{places_total, places_exact}
 use Rattle.smq_kit.proofs.MapLemmas as maps
 use Rattle.smq_kit.proofs.Ordered as ordered
 use Rattle.smq_tally.specs.declared.fact.Fact.{Fact}
 use Rattle.smq_tally.specs.declared.list.Listed.{Listed}
-use Rattle.smq_tally.specs.Lists.{listed_cmp, listed_set, listings_of_fact}
-use Rattle.smq_tally.specs.Tables.{TablesValue, tables_of}
-use Rattle.smq_tally.specs.within.Counting.{one_listed, one_unlisted, with_listed}
-use Rattle.smq_tally.specs.within.ListOrder.{listed_total, same_listed}
+use Rattle.smq_tally.specs.declared.list.List.TheVariants as l
+use Rattle.smq_tally.specs.declared.outcome.Outcome.{Outcome}
+use Rattle.smq_tally.specs.declared.outcome.Outcome.TheVariants as o
+use Rattle.smq_tally.specs.Lists.{listed, listed_cmp, listed_set, listings_by, listings_of_fact}
+use Rattle.smq_tally.specs.Tables.{tables_of}
+use Rattle.smq_tally.specs.within.Counting.{with_listed, without}
+use Rattle.smq_tally.specs.within.Kept.{StandAtTheirPlaces}
+use Rattle.smq_tally.specs.within.ListOrder.{lists, listed_total, same_listed}
 use Rattle.smq_tally.proofs.ListOrders.{listed_exact}
 use Rattle.smq_tally.proofs.Listings.{marked, get-listed}
-use Rattle.smq_tally.proofs.Undone.{take-out}
+use Rattle.smq_tally.proofs.Undone.{take-out, put-again}
 
 -- ---- sets by what they have
 
@@ -59,10 +67,6 @@ any-append : (p : Listed → Bool) (xs ys : List Listed) → list_any p (xs ++ y
 any-append p [] ys = refl
 any-append p (x ∷ xs) ys = ap (λ b. p x || b) (any-append p xs ys) ∙ sym (or-assoc (p x) (list_any p xs) (list_any p ys))
 
--- whether a message stands there
-abbrev pub lists : Listed → Fact → Bool
-lists q f = list_any (same_listed q) (listings_of_fact f)
-
 any-flat : (q : Listed) (fs : List Fact) → list_any (same_listed q) (flat_map listings_of_fact fs) ≡ list_any (lists q) fs
 any-flat q [] = refl
 any-flat q (f ∷ fs) = any-append (same_listed q) (listings_of_fact f) (flat_map listings_of_fact fs) ∙ ap (λ b. lists q f || b) (any-flat q fs)
@@ -75,14 +79,14 @@ places-have facts notes q =
     ∙ any-append (same_listed q) (keys notes) (flat_map listings_of_fact (values facts))
     ∙ (λ i. sym (contains_key-keys notes q) i || any-flat q (values facts) i)
 
-with-have : (t : TablesValue) (es : List Listed) (q : Listed) → contains_key (with_listed t es).places q
-    ≡ (list_any (same_listed q) es || contains_key t.places q)
-with-have t [] q = refl
-with-have t (e ∷ es) q =
-    with-have (one_listed t e) es q
-    ∙ ap (λ b. list_any (same_listed q) es || b) (have-insert t.places e q)
-    ∙ or-swap (list_any (same_listed q) es) (same_listed q e) (contains_key t.places q)
-    ∙ sym (or-assoc (same_listed q e) (list_any (same_listed q) es) (contains_key t.places q))
+with-have : (places : FinSet listed_cmp) (es : List Listed) (q : Listed)
+    → contains_key (with_listed places es) q ≡ (list_any (same_listed q) es || contains_key places q)
+with-have places [] q = refl
+with-have places (e ∷ es) q =
+    with-have (insert places e tt) es q
+    ∙ ap (λ b. list_any (same_listed q) es || b) (have-insert places e q)
+    ∙ or-swap (list_any (same_listed q) es) (same_listed q e) (contains_key places q)
+    ∙ sym (or-assoc (same_listed q e) (list_any (same_listed q) es) (contains_key places q))
 
 -- ---- one fact more
 
@@ -112,13 +116,23 @@ any-more p facts f none =
 
 -- where one fact more is listed, the tables list what they do with the fact
 pub fact-listed : (facts : FinMap place_cmp Fact) (notes : FinSet listed_cmp) (f : Fact) → get facts f.place ≡ None
-    → (with_listed (tables_of facts notes) (listings_of_fact f)).places ≡ (tables_of (insert facts f.place f) notes).places
+    → with_listed (tables_of facts notes).places (listings_of_fact f) ≡ (tables_of (insert facts f.place f) notes).places
 fact-listed facts notes f none = sets-one _ _ (λ q.
-    with-have (tables_of facts notes) (listings_of_fact f) q
+    with-have (tables_of facts notes).places (listings_of_fact f) q
     ∙ ap (λ b. lists q f || b) (places-have facts notes q)
     ∙ or-swap (lists q f) (contains_key notes q) (list_any (lists q) (values facts))
     ∙ ap (λ b. contains_key notes q || b) (sym (any-more (lists q) facts f none))
     ∙ sym (places-have (insert facts f.place f) notes q))
+
+-- where notes are listed too, one after the other, the tables list what they do with them
+pub notes-listed : (facts : FinMap place_cmp Fact) (notes : List Listed)
+    → with_listed (tables_of facts empty).places notes ≡ (tables_of facts (listed_set notes)).places
+notes-listed facts notes = sets-one _ _ (λ q.
+    with-have (tables_of facts empty).places notes q
+    ∙ ap (λ b. list_any (same_listed q) notes || b) (places-have facts empty q)
+    ∙ (λ i. list_any (same_listed q) notes || (is_some (get-empty {X = Unit {0}} listed_cmp q i) || list_any (lists q) (values facts)))
+    ∙ (λ i. sym (have-listed notes q) i || list_any (lists q) (values facts))
+    ∙ sym (places-have facts (listed_set notes) q))
 
 -- the same of a note
 pub note-listed : (facts : FinMap place_cmp Fact) (notes : FinSet listed_cmp) (note : Listed)
@@ -130,33 +144,172 @@ note-listed facts notes note = sets-one _ _ (λ q.
     ∙ ap (λ b. b || list_any (lists q) (values facts)) (sym (have-insert notes note q))
     ∙ sym (places-have facts (insert notes note tt) q))
 
--- ---- a place is listed and listed no more
-
-not-new : (b : Bool) → true ≡ not b → b ≡ false
-not-new true e = e
-not-new false e = refl
-
-is-old : (b : Bool) → false ≡ not b → b ≡ true
-is-old true e = refl
-is-old false e = e
+-- ---- one fact less
 
 pub nothing : (x : Option (Unit {0})) → is_some x ≡ false → x ≡ None
 nothing None e = refl
 nothing (Some u) e = absurd cc
 
--- what is listed anew is taken out again
-pub unlisted-again : (t : TablesValue) (e : Listed) (is_new : Bool) → is_new ≡ not (contains_key t.places e) → is_new ≡ true
-    → one_unlisted (one_listed t e) e ≡ t
-unlisted-again t e is_new told new =
-    let none : get t.places e ≡ None = nothing (get t.places e) (not-new (contains_key t.places e) (sym new ∙ told)) in
-    λ i. record { counts = t.counts; places = take-out listed_total listed_exact t.places e tt none i }
+-- what is there, is there with nothing
+pub marked-there : (x : Option (Unit {0})) → is_some x ≡ true → x ≡ Some tt
+marked-there None e = absurd (false≢true e)
+marked-there (Some u) e = refl
 
--- what is listed already changes nothing
-pub listed-already : (t : TablesValue) (e : Listed) (is_new : Bool) → is_new ≡ not (contains_key t.places e) → is_new ≡ false → one_listed t e ≡ t
-listed-already t e is_new told old =
-    let there : contains_key t.places e ≡ true = is-old (contains_key t.places e) (sym old ∙ told) in
-    λ i. record {
-      counts = t.counts;
-      places = ordered.insert-same listed_total listed_exact refl t.places e tt
-          (mark (get t.places e) ∙ ap marked there) i;
-    }
+-- a message is listed once at most, by its place
+abbrev Once : List Listed → Place → Type 0
+Once ls place = (ls ≡ []) ⊎ ((e : Listed) × ((ls ≡ e ∷ []) × (e.place ≡ place)))
+
+listed-once : (outcome : Outcome) (place : Place) → Once (listings_by outcome place) place
+listed-once o.Open place = inr (listed l.Open place, (refl, refl))
+listed-once o.Lapsed place = inr (listed l.Lapsed place, (refl, refl))
+listed-once o.Waiting place = inl refl
+listed-once o.Mismatched place = inl refl
+listed-once o.Refused place = inl refl
+listed-once o.NoId place = inl refl
+listed-once o.Ambiguous place = inl refl
+listed-once o.Delivered place = inl refl
+listed-once o.Failed place = inl refl
+listed-once o.Unasked place = inl refl
+
+pub or-none : (b : Bool) → (b || false) ≡ b
+or-none true = refl
+or-none false = refl
+
+-- a message that is listed somewhere has that place
+own-place : (q : Listed) (f : Fact) → lists q f ≡ true → q.place ≡ f.place
+own-place q f h = by-once (listings_of_fact f) (listed-once f.outcome f.place) h
+  where
+    by-once : (ls : List Listed) → Once ls f.place → list_any (same_listed q) ls ≡ true → q.place ≡ f.place
+    by-once ls (inl none) t = absurd (false≢true (ap (list_any (same_listed q)) (sym none) ∙ t))
+    by-once ls (inr one) t =
+        let same : q ≡ one.0 = tells_apart listed_exact q one.0 (sym (or-none (same_listed q one.0)) ∙ ap (list_any (same_listed q)) (sym one.1.0)
+        ∙ t) in
+        ap (λ (e : Listed). e.place) same ∙ one.1.1
+
+-- no other fact is listed at a place that has no fact
+none-lists : (facts : FinMap place_cmp Fact) (q : Listed) → StandAtTheirPlaces facts → get facts q.place ≡ None
+    → list_any (lists q) (values facts) ≡ false
+none-lists facts q own none = among (entries facts) (maps.get-entry places_total places_exact facts)
+  where
+    passes : (e : Place × Fact) → get facts e.0 ≡ Some e.1 → (b : Bool) → lists q e.1 ≡ b → b ≡ false
+    passes e has true h =
+        let at : q.place ≡ e.0 = own-place q e.1 h ∙ own.own e.0 e.1 has in
+        let clash : Some e.1 ≡ None = sym has ∙ ap (get facts) (sym at) ∙ none in absurd cc
+    passes e has false h = refl
+
+    among : (es : List (Place × Fact)) → AllByRecursion (λ e. get facts e.0 ≡ Some e.1) es → list_any (lists q) (map (λ e. e.1) es) ≡ false
+    among [] a = refl
+    among (e ∷ es) a = (λ i. (passes e a.0 (lists q e.1) refl) i || list_any (lists q) (map (λ x. x.1) es)) ∙ among es a.1
+
+-- facts that stand at their places still do without one of them, and with one at its own
+pub stand-without : (facts : FinMap place_cmp Fact) (place : Place) → StandAtTheirPlaces facts → StandAtTheirPlaces (remove facts place)
+stand-without facts place own =
+    record { own = λ q f has. there q f (eq_by_cmp place_cmp q place) (sym (get-remove places_total facts place q) ∙ has) }
+  where
+    there : (q : Place) (f : Fact) (b : Bool) → cond b None (get facts q) ≡ Some f → f.place ≡ q
+    there q f true has = absurd cc
+    there q f false has = own.own q f has
+
+pub stand-with : (facts : FinMap place_cmp Fact) (f : Fact) → StandAtTheirPlaces facts → StandAtTheirPlaces (insert facts f.place f)
+stand-with facts f own =
+    record { own = λ q g has. there q g (eq_by_cmp place_cmp q f.place) refl (sym (get-insert places_total facts f.place f q) ∙ has) }
+  where
+    there : (q : Place) (g : Fact) (b : Bool) → eq_by_cmp place_cmp q f.place ≡ b → cond b (Some f) (get facts q) ≡ Some g → g.place ≡ q
+    there q g true e has = let same : f ≡ g = cc in ap (λ (x : Fact). x.place) (sym same) ∙ sym (maps.same_key places_total places_exact q f.place e)
+    there q g false e has = own.own q g has
+
+pub stand-none : StandAtTheirPlaces empty
+stand-none = record { own = λ q f has. let clash : None ≡ Some f = sym (get-empty place_cmp q) ∙ has in absurd cc }
+
+-- a place that is listed already, or is listed anew and then taken out
+listed-more : (places : FinSet listed_cmp) (e : Listed) → contains_key places e ≡ true → insert places e tt ≡ places
+listed-more places e has = ordered.insert-same listed_total listed_exact refl places e tt (marked-there (get places e) has)
+
+listed-again : (places : FinSet listed_cmp) (e : Listed) → contains_key places e ≡ false → remove (insert places e tt) e ≡ places
+listed-again places e none = take-out listed_total listed_exact places e tt (nothing (get places e) none)
+
+-- where a fact is listed no more unless its place is noted, the tables list what they do without the fact
+pub fact-unlisted : (facts : FinMap place_cmp Fact) (notes : FinSet listed_cmp) (place : Place) (f : Fact) → StandAtTheirPlaces facts
+    → get facts place ≡ Some f
+    → cond (list_any (contains_key notes) (listings_of_fact f)) (tables_of facts notes).places
+    (without (tables_of facts notes).places (listings_of_fact f)) ≡ (tables_of (remove facts place) notes).places
+fact-unlisted facts notes place f own has =
+    ap (λ (p : FinSet listed_cmp). cond (list_any (contains_key notes) (listings_of_fact f)) p (without p (listings_of_fact f))) before
+    ∙ by-once (listings_of_fact f) (listed-once f.outcome f.place)
+  where
+    left : FinMap place_cmp Fact
+    left = remove facts place
+
+    rest : FinSet listed_cmp
+    rest = (tables_of left notes).places
+
+    at : f.place ≡ place
+    at = own.own place f has
+
+    before : (tables_of facts notes).places ≡ with_listed rest (listings_of_fact f)
+    before =
+        ap (λ (m : FinMap place_cmp Fact). (tables_of m notes).places) (sym (put-again places_total places_exact facts place f has)
+        ∙ ap (λ (p : Place). insert left p f) (sym at))
+        ∙ sym (fact-listed left notes f (ap (get left) at ∙ maps.get-removed places_total places_exact facts place))
+
+    one : (e : Listed) → e.place ≡ f.place → (b : Bool) → contains_key notes e ≡ b → cond b (insert rest e tt) (remove (insert rest e tt) e) ≡ rest
+    one e own-e true noted = listed-more rest e (places-have left notes e ∙ ap (λ b. b || list_any (lists e) (values left)) noted)
+    one e own-e false noted =
+        let none : list_any (lists e) (values left) ≡ false =
+        none-lists left e (stand-without facts place own) (ap (get left) (own-e ∙ at) ∙ maps.get-removed places_total places_exact facts place) in
+        listed-again rest e (places-have left notes e ∙ (λ i. noted i || none i))
+
+    by-once : (ls : List Listed) → Once ls f.place
+        → cond (list_any (contains_key notes) ls) (with_listed rest ls) (without (with_listed rest ls) ls) ≡ rest
+    by-once ls (inl none) = ap (λ (es : List Listed). cond (list_any (contains_key notes) es) (with_listed rest es)
+        (without (with_listed rest es) es)) none
+    by-once ls (inr e) =
+        ap (λ (es : List Listed). cond (list_any (contains_key notes) es) (with_listed rest es) (without (with_listed rest es) es)) e.1.0
+        ∙ ap (λ b. cond b (insert rest e.0 tt) (remove (insert rest e.0 tt) e.0)) (or-none (contains_key notes e.0))
+        ∙ one e.0 e.1.1 (contains_key notes e.0) refl
+
+-- ---- one note less
+
+-- a place is listed for a fact exactly where that of the place is
+listed-by-own : (facts : FinMap place_cmp Fact) (q : Listed) → StandAtTheirPlaces facts
+    → list_any (lists q) (values facts) ≡ list_any (lists q) (option_to_list (get facts q.place))
+listed-by-own facts q own = by-fact (get facts q.place) refl
+  where
+    by-fact : (x : Option Fact) → get facts q.place ≡ x → list_any (lists q) (values facts) ≡ list_any (lists q) (option_to_list x)
+    by-fact None none = none-lists facts q own none
+    by-fact (Some f) has =
+        let at : f.place ≡ q.place = own.own q.place f has in
+        let left : FinMap place_cmp Fact = remove facts q.place in
+        let gone : get left q.place ≡ None = maps.get-removed places_total places_exact facts q.place in
+        ap (λ (m : FinMap place_cmp Fact). list_any (lists q) (values m)) (sym (put-again places_total places_exact facts q.place f has)
+        ∙ ap (λ (p : Place). insert left p f) (sym at))
+        ∙ any-more (lists q) left f (ap (get left) at ∙ gone)
+        ∙ ap (λ b. lists q f || b) (none-lists left q (stand-without facts q.place own) gone)
+
+-- a note more and less
+pub noted-again : (notes : FinSet listed_cmp) (note : Listed) → contains_key notes note ≡ true → insert (remove notes note) note tt ≡ notes
+noted-again notes note has = put-again listed_total listed_exact notes note tt (marked-there (get notes note) has)
+
+module _ (facts : FinMap place_cmp Fact) (notes : FinSet listed_cmp) (note : Listed) (own : StandAtTheirPlaces facts)
+    (noted : contains_key notes note ≡ true) where
+  -- the tables without the note list its place for the fact there alone
+  left-listed : contains_key (tables_of facts (remove notes note)).places note ≡ list_any (lists note) (option_to_list (get facts note.place))
+  left-listed =
+      places-have facts (remove notes note) note
+      ∙ (λ i. is_some (maps.get-removed listed_total listed_exact notes note i) || listed-by-own facts note own i)
+
+  before-note : (tables_of facts notes).places ≡ insert (tables_of facts (remove notes note)).places note tt
+  before-note =
+      ap (λ (s : FinSet listed_cmp). (tables_of facts s).places) (sym (noted-again notes note noted))
+      ∙ sym (note-listed facts (remove notes note) note)
+
+  -- what the fact of the place lists too stays listed
+  pub note-stays : list_any (lists note) (option_to_list (get facts note.place)) ≡ true
+      → (tables_of facts notes).places ≡ (tables_of facts (remove notes note)).places
+  note-stays there = before-note ∙ listed-more (tables_of facts (remove notes note)).places note (left-listed ∙ there)
+
+  -- and else it is listed no more
+  pub note-unlisted : list_any (lists note) (option_to_list (get facts note.place)) ≡ false
+      → remove (tables_of facts notes).places note ≡ (tables_of facts (remove notes note)).places
+  note-unlisted none =
+      ap (λ (s : FinSet listed_cmp). remove s note) before-note ∙ listed-again (tables_of facts (remove notes note)).places note (left-listed ∙ none)

@@ -2,23 +2,20 @@
 use Rattle.std.proofs.Common.{◌≡◌, Bool, ◌||◌, true, false, cond, List, [], ◌∷◌, Option, Some, None, subst, refl, sym, ap, ◌∙◌, arith}
 use Rattle.std.specs.Prelude.{◌↔◌, Contains, IsTrue, map, filter, is_some}
 use Rattle.std.specs.List.{AllByRecursion, list_any}
-use Rattle.std.specs.BTreeMap.{is_at}
-use Rattle.std.specs.Map.{lookup}
-use Rattle.std.specs.FinMap.{entries, get, insert, contains_key, find, get-entries, get-from_entries}
+use Rattle.std.specs.FinMap.{entries, get, contains_key, find, get-entries, get-from_entries}
 use Rattle.std.specs.FinSet.{FinSet}
 use Rattle.std.proofs.lemmas.Bool.{eqb-true}
 use Rattle.std.proofs.lemmas.List.Elements.{All-from_recursion, All-contains, Contains-append_right}
 use Rattle.std.proofs.lemmas.Map.Views.{tells_apart}
 use Rattle.smq_kit.specs.declared.place.Place.{Place}
 use Rattle.smq_kit.proofs.MapLemmas.{get-entry}
-use Rattle.smq_kit.proofs.Ordered as ordered
 use Rattle.smq_tally.specs.declared.list.List as l
 use Rattle.smq_tally.specs.declared.list.List.TheVariants as v
 use Rattle.smq_tally.specs.declared.list.Listed.{Listed}
 use Rattle.smq_tally.specs.Lists.{listed, listed_cmp, in_list, listed_set}
 use Rattle.smq_tally.specs.Tables.{TablesValue, listed_in}
-use Rattle.smq_tally.specs.within.ListOrder.{kept_listed_cmp, listed_total, same_listed}
-use Rattle.smq_tally.proofs.ListOrders.{listed-order, listed_exact, same_list}
+use Rattle.smq_tally.specs.within.ListOrder.{listed_total, same_listed}
+use Rattle.smq_tally.proofs.ListOrders.{listed_exact, same_list}
 
 -- a set's entries: a listed place with nothing
 abbrev Entries : Type 0
@@ -69,59 +66,32 @@ found-listed list place (e ∷ es) found =
           let key : listed list place ≡ e.0 = tells_apart listed_exact _ _ same in
           subst (λ (x : Listed). Contains (places_among list ((x, e.1) ∷ es)) place) key (first-listed list place es)
       | false ↦ λ same later. elim (in_list list e.0) as (λ b. Contains
-          (map (λ x. x.place) (cond b (e.0 ∷ filter (in_list list) (map (λ x. x.0) es)) (filter (in_list list) (map (λ x. x.0) es))))
-          place) [
+          (map (λ x. x.place) (cond b (e.0 ∷ filter (in_list list) (map (λ x. x.0) es)) (filter (in_list list) (map (λ x. x.0) es)))) place) [
             | true ↦ Contains-append_right (e.0.place ∷ []) (places_among list es) place (found-listed list place es later)
             | false ↦ found-listed list place es later
           ]
     ] refl found
 
-pub listed-iff : (t : TablesValue) (list : l.List) (place : Place) → Contains (listed_in t list) place
-    ↔ IsTrue (contains_key t.places (listed list place))
+pub listed-iff : (t : TablesValue) (list : l.List) (place : Place)
+    → Contains (listed_in t list) place ↔ IsTrue (contains_key t.places (listed list place))
 listed-iff t list place = (
   λ h. All-contains (λ p. contains_key t.places (listed list p) ≡ true) (listed_in t list) place
       (All-from_recursion _ _ (places-stand t.places list (entries t.places) (get-entry listed_total listed_exact t.places))) h,
   λ h. found-listed list place (entries t.places) (ap is_some (sym (get-entries t.places (listed list place))) ∙ h),
 )
 
--- ---- one listed place more
+-- ---- what a set of listed places has
 
 -- nothing, where a test passes
 abbrev pub marked : Bool → Option (Unit {0})
 marked b = cond b (Some tt) None
 
-pub marked-any : (test : Listed → Bool) (es : List Listed) → lookup {K = Listed} {X = Unit {0}} test (map (λ e. (e, tt)) es)
-    ≡ marked (list_any test es)
-marked-any test [] = refl
-marked-any test (e ∷ es) =
-    elim (test e) as (λ b. cond b (Some (tt {0})) (lookup {K = Listed} {X = Unit {0}} test (map (λ e. (e, tt)) es))
-    ≡ marked (b || list_any test es)) [
-      | true ↦ refl
-      | false ↦ marked-any test es
-    ]
-
-one_mark : (b c : Bool) → marked (cond b true c) ≡ cond b (Some (tt {0})) (marked c)
-one_mark true c = refl
-one_mark false c = refl
-
--- one listed place more in the code's set
-pub note-seen : (es fs : List Listed) (note : Listed)
-    → ((q : Listed) → list_any (is_at (kept_listed_cmp q)) fs
-    ≡ cond (is_at (kept_listed_cmp note) q) true (list_any (is_at (kept_listed_cmp q)) es))
-    → listed_set fs ≡ insert (listed_set es) note tt
-note-seen es fs note h =
-    ordered.put-kept listed_total listed_exact listed-order (map (λ e. (e, tt)) es) (map (λ e. (e, tt)) fs) note tt (λ q.
-    marked-any (is_at (kept_listed_cmp q)) fs
-    ∙ ap marked (h q)
-    ∙ one_mark (is_at (kept_listed_cmp note) q) (list_any (is_at (kept_listed_cmp q)) es)
-    ∙ ap (λ (o : Option (Unit {0})). cond (is_at (kept_listed_cmp note) q) (Some (tt {0})) o) (sym (marked-any (is_at (kept_listed_cmp q)) es)))
-
-find-marked : (q : Listed) (es : List Listed) → find {K = Listed} {X = Unit {0}} listed_cmp q (map (λ e. (e, tt)) es)
-    ≡ marked (list_any (same_listed q) es)
+find-marked : (q : Listed) (es : List Listed)
+    → find {K = Listed} {X = Unit {0}} listed_cmp q (map (λ e. (e, tt)) es) ≡ marked (list_any (same_listed q) es)
 find-marked q [] = refl
 find-marked q (e ∷ es) =
-    elim (same_listed q e) as (λ b. cond b (Some (tt {0})) (find {K = Listed} {X = Unit {0}} listed_cmp q (map (λ e. (e, tt)) es))
-    ≡ marked (b || list_any (same_listed q) es)) [
+    elim (same_listed q e) as (λ b. cond b (Some (tt {0})) (find {K = Listed} {X = Unit {0}} listed_cmp q (map (λ e. (e, tt)) es)) ≡ marked
+    (b || list_any (same_listed q) es)) [
       | true ↦ refl
       | false ↦ find-marked q es
     ]

@@ -24,11 +24,11 @@ use Rattle.smq_tally.specs.Lists.{listed, listed_cmp, listings_by, HasOutcomeAt}
 use Rattle.smq_tally.specs.Rows.{views, value_in, count_key, same_count_key, key_in, stands_in}
 use Rattle.smq_tally.specs.Tables.{tables_of, listed_in}
 use Rattle.smq_tally.specs.within.CountOrder.{count_keys_total}
-use Rattle.smq_tally.specs.within.ListOrder.{listed_total, same_listed}
+use Rattle.smq_tally.specs.within.ListOrder.{lists, listed_total, same_listed}
 use Rattle.smq_tally.proofs.CountOrders.{count_keys_exact}
 use Rattle.smq_tally.proofs.ListOrders.{listed_exact}
 use Rattle.smq_tally.proofs.Listings.{listed-iff}
-use Rattle.smq_tally.proofs.ListedFacts.{lists, places-have}
+use Rattle.smq_tally.proofs.ListedFacts.{places-have}
 use Rattle.smq_tally.proofs.Tallies.{Others, keys_in, others-none, any-one, any-append, or-false}
 
 -- ---- keys

@@ -1,134 +1,113 @@
--- A map of std that has the counts and a set of std that has the listed places, seen as finite ones.
-use Rattle.std.proofs.Common.{◌≡◌, ℕ, zero, suc, ◌+◌, ◌-◌, ◌<◌, cond, List, [], ◌++◌, Option, Some, None, refl, sym, ap, ◌∙◌, arith}
-use Rattle.std.specs.Prelude.{Bool, true, false, is_some, map, count_by, unwrap_or}
-use Rattle.std.specs.List.{list_any, flat_map}
-use Rattle.std.specs.Map.{lookup}
-use Rattle.std.specs.BTreeMap.{is_at}
-use Rattle.std.specs.FinMap.{FinMap, get, insert, remove, empty, entries, contains_key, from_entries}
-use Rattle.std.specs.FinSet.{FinSet}
+-- Counts and listed places in maps that can be undone, seen as finite ones.
+use Rattle.std.proofs.Common.{◌≡◌, Bor, ℕ, zero, suc, ◌+◌, ◌-◌, ◌<◌, List, [], ◌++◌, Option, Some, None, refl, sym, ap, ◌∙◌, arith}
+use Rattle.std.specs.Prelude.{map, is_some, unwrap_or}
+use Rattle.std.specs.List.{flat_map}
+use Rattle.std.specs.Option.{option_copied}
+use Rattle.std.specs.List.Sorted.{IsStrictlySortedBy}
+use Rattle.std.specs.Map.{keys_of, lookup, remove_entry}
+use Rattle.std.specs.BTreeMap.{is_at, insert_entry}
+use Rattle.std.specs.FinMap.{get, insert, remove, contains_key, empty, from_entries}
+use Rattle.smq_kit.specs.Maps.{positive, set_at}
+use Rattle.smq_shelf.proofs.Seen as seen
+use Rattle.smq_tally.specs.declared.counts.Step.TheVariants as s
 use Rattle.smq_tally.specs.declared.fact.CountKey.{CountKey}
 use Rattle.smq_tally.specs.declared.fact.Fact.{Fact}
 use Rattle.smq_tally.specs.declared.list.Listed.{Listed}
-use Rattle.smq_kit.specs.Maps.{positive, set_at}
 use Rattle.smq_kit.specs.Orders.{place_cmp}
 use Rattle.smq_tally.specs.Lists.{listed_cmp, listed_set, listings_of_fact}
-use Rattle.smq_tally.specs.Rows.{count_cmp, keys_of_fact, stands_in}
-use Rattle.smq_tally.specs.Tables.{TablesValue, tables_of}
-use Rattle.smq_tally.specs.within.Counting.{count_of, one_more, one_less, one_listed, one_unlisted}
+use Rattle.smq_tally.specs.Rows.{keys_of_fact}
+use Rattle.smq_tally.specs.Tables.{tables_of, number_at}
+use Rattle.smq_tally.specs.within.Counting.{count_in, one_step}
 use Rattle.smq_tally.specs.within.CountOrder.{kept_cmp, count_keys_total}
+use Rattle.smq_tally.specs.within.Kept.{counts_in, places_in, tables_in}
 use Rattle.smq_tally.specs.within.ListOrder.{kept_listed_cmp, listed_total}
 use Rattle.smq_tally.proofs.CountOrders.{count_key-order, count_keys_exact}
-use Rattle.smq_tally.proofs.Listings.{marked, marked-any, note-seen}
 use Rattle.smq_tally.proofs.ListOrders.{listed-order, listed_exact}
-use Rattle.smq_tally.proofs.ListedFacts.{is-marked}
-use Rattle.smq_tally.proofs.Undone.{remove-kept, no-entries}
-use Rattle.smq_kit.proofs.Ordered as ordered
+use Rattle.smq_tally.proofs.Undone.{remove-none, no-entries}
 
-abbrev pub seen : List (CountKey × ℕ) → List Listed → TablesValue
-seen es ks = record { counts = from_entries es; places = listed_set ks }
+-- entries of counts, and of listed places
+abbrev pub Entries : Type 0
+Entries = List (CountKey × ℕ)
 
-get-count : (es : List (CountKey × ℕ)) (q : CountKey) → get (from_entries {R = count_cmp} es) q ≡ lookup (is_at (kept_cmp q)) es
-get-count es q = ordered.get-kept count_keys_total count_keys_exact count_key-order es q
+abbrev pub Places : Type 0
+Places = List (Listed × Unit {0})
+
+get-count : (es : Entries) (q : CountKey) → get (counts_in es) q ≡ lookup (is_at (kept_cmp q)) es
+get-count es q = seen.looked_up count_keys_total count_keys_exact count_key-order es q
 
 -- the count that a look-up gives
-pub count-found : (es : List (CountKey × ℕ)) (ks : List Listed) (t : TablesValue) (q : CountKey) (n : ℕ) → seen es ks ≡ t
-    → Some n ≡ lookup (is_at (kept_cmp q)) es → n ≡ count_of t q
-count-found es ks t q n is found = ap (λ c. unwrap_or c 0) (found ∙ sym (get-count es q)) ∙ ap (λ (u : TablesValue). count_of u q) is
+pub count-found : (es : Entries) (q : CountKey) (n : ℕ) → Some n ≡ lookup (is_at (kept_cmp q)) es → n ≡ count_in (counts_in es) q
+count-found es q n found = ap (λ c. unwrap_or c 0) (found ∙ sym (get-count es q))
 
-pub count-missed : (es : List (CountKey × ℕ)) (ks : List Listed) (t : TablesValue) (q : CountKey) → seen es ks ≡ t
-    → None ≡ lookup (is_at (kept_cmp q)) es → 0 ≡ count_of t q
-count-missed es ks t q is found = ap (λ (c : Option ℕ). unwrap_or c 0) (found ∙ sym (get-count es q)) ∙ ap (λ (u : TablesValue). count_of u q) is
+pub count-missed : (es : Entries) (q : CountKey) → None ≡ lookup (is_at (kept_cmp q)) es → 0 ≡ count_in (counts_in es) q
+count-missed es q found = ap (λ (c : Option ℕ). unwrap_or c 0) (found ∙ sym (get-count es q))
 
--- one entry differs
-pub put-seen : (es fs : List (CountKey × ℕ)) (k : CountKey) (n : ℕ)
-    → ((q : CountKey) → lookup (is_at (kept_cmp q)) fs ≡ cond (is_at (kept_cmp k) q) (Some n) (lookup (is_at (kept_cmp q)) es))
-    → from_entries {R = count_cmp} fs ≡ insert (from_entries es) k n
-put-seen es fs k n h = ordered.put-kept count_keys_total count_keys_exact count_key-order es fs k n h
-
-pub more-seen : (es fs : List (CountKey × ℕ)) (ks : List Listed) (t : TablesValue) (k : CountKey) (n : ℕ) → seen es ks ≡ t → n ≡ count_of t k
-    → ((q : CountKey) → lookup (is_at (kept_cmp q)) fs
-    ≡ cond (is_at (kept_cmp k) q) (Some (n + 1)) (lookup (is_at (kept_cmp q)) es)) → seen fs ks ≡ one_more t k
-more-seen es fs ks t k n is count h =
-    ap (λ (m : FinMap count_cmp ℕ). record { counts = m; places = listed_set ks }) (put-seen es fs k (n + 1) h)
-    ∙ (λ i. record { counts = insert (is i).counts k (count i + 1); places = (is i).places })
-
-pub more-listed : (es : List (CountKey × ℕ)) (ks ls : List Listed) (t : TablesValue) (note : Listed) → seen es ks ≡ t
-    → ((q : Listed) → list_any (is_at (kept_listed_cmp q)) ls
-    ≡ cond (is_at (kept_listed_cmp note) q) true (list_any (is_at (kept_listed_cmp q)) ks)) → seen es ls ≡ one_listed t note
-more-listed es ks ls t note is h =
-    ap (λ (s : FinSet listed_cmp). record { counts = from_entries es; places = s }) (note-seen ks ls note h)
-    ∙ ap (λ (u : TablesValue). one_listed u note) is
-
--- ---- one fewer
+-- a count goes up by one
+pub more-seen : (es fs : Entries) (k : CountKey) (n : ℕ) → n ≡ count_in (counts_in es) k → fs ≡ insert_entry kept_cmp es k (n + 1)
+    → counts_in fs ≡ one_step s.More (counts_in es) k
+more-seen es fs k n count put =
+    ap counts_in put ∙ seen.inserted count_keys_total count_keys_exact count_key-order es k (n + 1) ∙ ap (λ m. insert (counts_in es) k (m + 1)) count
 
 some-positive : (n : ℕ) → 0 < n → positive n ≡ Some n
 some-positive zero h = absurd (omega arith)
 some-positive (suc n) h = refl
 
 -- a count above 1 goes back by one
-pub less-seen : (es fs : List (CountKey × ℕ)) (ks : List Listed) (t : TablesValue) (k : CountKey) (n : ℕ) → seen es ks ≡ t → n ≡ count_of t k → 1 < n
-    → ((q : CountKey) → lookup (is_at (kept_cmp q)) fs
-    ≡ cond (is_at (kept_cmp k) q) (Some (n - 1)) (lookup (is_at (kept_cmp q)) es)) → seen fs ks ≡ one_less t k
-less-seen es fs ks t k n is count above h =
-    let left : positive (count_of t k - 1) ≡ Some (n - 1) = ap (λ m. positive (m - 1)) (sym count) ∙ some-positive (n - 1) (omega (arith, above)) in
-    ap (λ (m : FinMap count_cmp ℕ). record { counts = m; places = listed_set ks }) (put-seen es fs k (n - 1) h)
-    ∙ ap (λ (o : Option ℕ). record { counts = set_at (from_entries {R = count_cmp} es) k o; places = listed_set ks }) (sym left)
-    ∙ (λ i. record { counts = set_at (is i).counts k (positive (count_of t k - 1)); places = (is i).places })
+pub less-seen : (es fs : Entries) (k : CountKey) (n : ℕ) → Some n ≡ lookup (is_at (kept_cmp k)) es → 1 < n → fs ≡ insert_entry kept_cmp es k (n - 1)
+    → counts_in fs ≡ one_step s.Less (counts_in es) k
+less-seen es fs k n found above put =
+    let left : positive (count_in (counts_in es) k - 1) ≡ Some (n - 1) = ap (λ m. positive (m - 1)) (sym (count-found es k n found))
+    ∙ some-positive (n - 1) (omega (arith, above)) in
+    ap counts_in put ∙ seen.inserted count_keys_total count_keys_exact count_key-order es k (n - 1)
+    ∙ ap (λ (o : Option ℕ). set_at (counts_in es) k o) (sym left)
 
 -- a count of 1 is taken out
-pub gone-seen : (es fs : List (CountKey × ℕ)) (ks : List Listed) (t : TablesValue) (k : CountKey) (n : ℕ) → seen es ks ≡ t → n ≡ count_of t k → n < 2
-    → ((q : CountKey) → lookup (is_at (kept_cmp q)) fs ≡ cond (is_at (kept_cmp k) q) None (lookup (is_at (kept_cmp q)) es))
-    → seen fs ks ≡ one_less t k
-gone-seen es fs ks t k n is count below h =
-    let none : count_of t k - 1 ≡ 0 = omega (arith, count, below) in
-    ap (λ (m : FinMap count_cmp ℕ). record { counts = m; places = listed_set ks })
-    (remove-kept count_keys_total count_keys_exact count_key-order es fs k h)
-    ∙ ap (λ (o : Option ℕ). record { counts = set_at (from_entries {R = count_cmp} es) k o; places = listed_set ks }) (sym (ap positive none))
-    ∙ (λ i. record { counts = set_at (is i).counts k (positive (count_of t k - 1)); places = (is i).places })
+pub gone-seen : (es fs : Entries) (k : CountKey) (n : ℕ) → Some n ≡ lookup (is_at (kept_cmp k)) es → n < 2 → IsStrictlySortedBy kept_cmp (keys_of es)
+    → fs ≡ remove_entry (is_at (kept_cmp k)) es
+    → counts_in fs ≡ one_step s.Less (counts_in es) k
+gone-seen es fs k n found below sorted took =
+    let none : count_in (counts_in es) k - 1 ≡ 0 = let count = count-found es k n found in omega (arith, count, below) in
+    ap counts_in took ∙ seen.removed count_keys_total count_keys_exact count_key-order es k sorted
+    ∙ ap (λ (o : Option ℕ). set_at (counts_in es) k o) (sym (ap positive none))
+
+-- where none stands, none is taken out
+pub none-seen : (es : Entries) (k : CountKey) → None ≡ lookup (is_at (kept_cmp k)) es → counts_in es ≡ one_step s.Less (counts_in es) k
+none-seen es k found =
+    let none : count_in (counts_in es) k - 1 ≡ 0 = let count = count-missed es k found in omega (arith, count) in
+    sym (remove-none count_keys_total count_keys_exact (counts_in es) k (get-count es k ∙ sym found))
+    ∙ ap (λ (o : Option ℕ). set_at (counts_in es) k o) (sym (ap positive none))
 
 -- ---- listed places
 
--- whether a place is listed, by the code's set
-pub has-seen : (ks : List Listed) (q : Listed) → contains_key (listed_set ks) q ≡ list_any (is_at (kept_listed_cmp q)) ks
-has-seen ks q =
-    ap is_some (ordered.get-kept listed_total listed_exact listed-order (map (λ e. (e, tt)) ks) q
-    ∙ marked-any (is_at (kept_listed_cmp q)) ks) ∙ is-marked (list_any (is_at (kept_listed_cmp q)) ks)
+-- whether a place is listed
+pub has-seen : (ps : Places) (q : Listed) → is_some (lookup (is_at (kept_listed_cmp q)) ps) ≡ contains_key (places_in ps) q
+has-seen ps q = sym (ap is_some (seen.looked_up listed_total listed_exact listed-order ps q))
 
-pub has-listed : (es : List (CountKey × ℕ)) (ks : List Listed) (t : TablesValue) (q : Listed) → seen es ks ≡ t
-    → list_any (is_at (kept_listed_cmp q)) ks ≡ contains_key t.places q
-has-listed es ks t q is = sym (has-seen ks q) ∙ ap (λ (u : TablesValue). contains_key u.places q) is
+pub get-place : (ps : Places) (q : Listed) → get (places_in ps) q ≡ lookup (is_at (kept_listed_cmp q)) ps
+get-place ps q = seen.looked_up listed_total listed_exact listed-order ps q
 
-pub unlisted-seen : (ks ls : List Listed) (note : Listed)
-    → ((q : Listed) → list_any (is_at (kept_listed_cmp q)) ls
-    ≡ cond (is_at (kept_listed_cmp note) q) false (list_any (is_at (kept_listed_cmp q)) ks))
-    → listed_set ls ≡ remove (listed_set ks) note
-unlisted-seen ks ls note h =
-    remove-kept listed_total listed_exact listed-order (map (λ e. (e, tt)) ks) (map (λ e. (e, tt)) ls) note (λ q.
-    marked-any (is_at (kept_listed_cmp q)) ls
-    ∙ ap marked (h q)
-    ∙ no-mark (is_at (kept_listed_cmp note) q) (list_any (is_at (kept_listed_cmp q)) ks)
-    ∙ ap (λ (o : Option (Unit {0})). cond (is_at (kept_listed_cmp note) q) None o) (sym (marked-any (is_at (kept_listed_cmp q)) ks)))
-  where
-    no-mark : (b c : Bool) → marked (cond b false c) ≡ cond b None (marked c)
-    no-mark true c = refl
-    no-mark false c = refl
+pub place-more : (ps fs : Places) (q : Listed) (u : Unit {0}) → fs ≡ insert_entry kept_listed_cmp ps q u → places_in fs ≡ insert (places_in ps) q tt
+place-more ps fs q u put = ap places_in put ∙ seen.inserted listed_total listed_exact listed-order ps q tt
 
-pub less-listed : (es : List (CountKey × ℕ)) (ks ls : List Listed) (t : TablesValue) (note : Listed) → seen es ks ≡ t
-    → ((q : Listed) → list_any (is_at (kept_listed_cmp q)) ls
-    ≡ cond (is_at (kept_listed_cmp note) q) false (list_any (is_at (kept_listed_cmp q)) ks)) → seen es ls ≡ one_unlisted t note
-less-listed es ks ls t note is h =
-    ap (λ (s : FinSet listed_cmp). record { counts = from_entries es; places = s }) (unlisted-seen ks ls note h)
-    ∙ ap (λ (u : TablesValue). one_unlisted u note) is
+pub place-less : (ps fs : Places) (q : Listed) → IsStrictlySortedBy kept_listed_cmp (keys_of ps) → fs ≡ remove_entry (is_at (kept_listed_cmp q)) ps
+    → places_in fs ≡ remove (places_in ps) q
+place-less ps fs q sorted took = ap places_in took ∙ seen.removed listed_total listed_exact listed-order ps q sorted
 
--- ---- nothing yet
+pub place-none : (ps : Places) (q : Listed) → None ≡ lookup (is_at (kept_listed_cmp q)) ps → places_in ps ≡ remove (places_in ps) q
+place-none ps q found = sym (remove-none listed_total listed_exact (places_in ps) q (get-place ps q ∙ sym found))
 
-pub nothing-seen : (es : List (CountKey × ℕ)) (ks : List Listed) → es ≡ [] → ks ≡ [] → seen es ks ≡ tables_of empty empty
-nothing-seen es ks none no-places =
-    let facts : entries (empty {X = Fact} {R = place_cmp}) ≡ [] = no-entries place_cmp Fact in
-    let notes : entries (empty {X = Unit {0}} {R = listed_cmp}) ≡ [] = no-entries listed_cmp (Unit {0}) in
-    (λ i. seen (none i) (no-places i))
+-- whether there is one, behind a reference
+pub copied-some : {X : Type 0} (x : Option (Bor X)) → is_some x ≡ is_some (option_copied x)
+copied-some None = refl
+copied-some (Some b) = refl
+
+-- nothing counted and nothing listed are the tables of nothing
+pub nothing-seen : (es : Entries) (ps : Places) → es ≡ [] → ps ≡ [] → tables_in es ps ≡ tables_of empty empty
+nothing-seen es ps none clear =
+    (λ i. tables_in (none i) (clear i))
     ∙ (λ i. record {
-      counts = from_entries (map (λ key. (key, count_by (stands_in key) (map (λ e. e.1) (sym facts i))))
-          (flat_map keys_of_fact (map (λ e. e.1) (sym facts i))));
-      places = listed_set (map (λ e. e.0) (sym notes i) ++ flat_map listings_of_fact (map (λ e. e.1) (sym facts i)));
+      counts = from_entries (map (λ key. (key, number_at key empty)) (flat_map keys_of_fact (map (λ e. e.1) (sym (no-entries place_cmp Fact) i))));
+      places =
+          listed_set (map (λ e. e.0) (sym (no-entries listed_cmp (Unit {0})) i) ++ flat_map listings_of_fact
+          (map (λ e. e.1) (sym (no-entries place_cmp Fact) i)));
     })

@@ -1,5 +1,5 @@
 -- Tables: how many messages are counted at each key, and which places are in each list.
-use Rattle.std.specs.Prelude.{ℕ, ◌==◌, Bool, List, ◌++◌, map, filter, unwrap_or, refl}
+use Rattle.std.specs.Prelude.{◌≡◌, ℕ, ◌==◌, Bool, List, [], ◌∷◌, ◌++◌, None, map, filter, unwrap_or, refl}
 use Rattle.std.specs.List.{flat_map}
 use Rattle.std.specs.declared.cmp.Ordering.{Ordering}
 use Rattle.std.specs.Ordering.{nat_cmp, ordering_then}
@@ -32,6 +32,17 @@ tables_code =
     (coded× (fin.code (block.the_row).coded coded_ℕ) (set.code (listed_block.the_row).coded))
     (λ t. (t.counts, t.places)) (λ m. record { counts = m.0; places = m.1 }) (λ _. refl)
 
+-- what tables show, and what they showed when they were last settled
+pub record TablesKept : Type 0 where
+  pub shown : TablesValue
+  pub settled : TablesValue
+
+-- they are stored as these two
+abbrev pub tables_kept_code : Coded TablesKept
+tables_kept_code =
+    code_by (TablesValue × TablesValue) (coded× tables_code tables_code) (λ t. (t.shown, t.settled)) (λ m. record { shown = m.0; settled = m.1 })
+    (λ _. refl)
+
 -- how many of the facts at places stand at a key
 abbrev pub number_at : CountKey → fin.FinMap place_cmp Fact → ℕ
 number_at key facts = number_of (stands_in key) facts
@@ -43,6 +54,15 @@ tables_of facts notes = record {
   counts = fin.from_entries (map (λ key. (key, number_at key facts)) (flat_map keys_of_fact (fin.values facts)));
   places = listed_set (fin.keys notes ++ flat_map listings_of_fact (fin.values facts));
 }
+
+-- facts in a list, each at its place
+abbrev pub facts_at : List Fact → fin.FinMap place_cmp Fact
+facts_at facts = fin.from_entries (map (λ fact. (fact.place, fact)) facts)
+
+-- No two facts of a list are of one place.
+abbrev pub AreOfDifferentPlaces : List Fact → Type 0
+AreOfDifferentPlaces [] = Unit {0}
+AreOfDifferentPlaces (fact ∷ facts) = (fin.get (facts_at facts) fact.place ≡ None) × AreOfDifferentPlaces facts
 
 -- the count at a view, a value and an outcome, which is 0 where none stands
 abbrev pub count_at : TablesValue → View → Value → Outcome → ℕ

@@ -4,3 +4,4 @@ pub mod ListOrder
 pub mod CountOrder
 pub mod Equal
 pub mod Kept
+pub mod Keys

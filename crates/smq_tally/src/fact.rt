@@ -28,6 +28,24 @@ pub struct Fact {
 impl Fact {
     ghost use Rattle.smq_tally.specs.Lists.{listings_of_fact};
 
+    /// An equal fact. It takes no memory.
+    pub fn copy(&self) -> Fact
+        ensures { result ≡ self.now }
+    {
+        Fact {
+            place: self.place,
+            link: self.link,
+            route: self
+                .route
+                .as_ref()
+                .map(|(route, network)| (*route, network.copy())),
+            outcome: self.outcome,
+            error: self.error.as_ref().map(|error| error.copy()),
+            link_delay: self.link_delay,
+            centre_delay: self.centre_delay,
+        }
+    }
+
     /// Where it is listed, if it is open or lapsed.
     pub(crate) fn listed(&self) -> Option<Listed>
         ensures { option_to_list result ≡ listings_of_fact self.now }

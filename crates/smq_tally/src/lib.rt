@@ -2,13 +2,17 @@
 #![tactic(auto)]
 
 mod band;
+mod counts;
 mod fact;
 mod laws;
 mod list;
+mod listing;
 mod outcome;
 mod places;
 mod rows;
+mod same;
 mod tables;
+mod taking_back;
 mod tally;
 mod value;
 mod view;

@@ -4,6 +4,7 @@
 ghost use Rattle.std.specs.Prelude.{◌≡◌};
 
 use smq_kit::{Dir, Place, SessionId};
+use smq_shelf::ShelfKey;
 
 /// A list of places.
 #[derive(Clone, Copy, Debug, PartialEq, Eq, PartialOrd, Ord)]
@@ -118,5 +119,15 @@ impl Listed {
             offset: 0,
         };
         Listed { list, place }
+    }
+}
+
+impl ShelfKey for Listed {
+    ghost use Rattle.smq_tally.specs.within.Keys.{listed_key_exact};
+
+    ghost exact = { listed_key_exact };
+
+    fn copy(&self) -> Listed {
+        *self
     }
 }

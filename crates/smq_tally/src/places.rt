@@ -3,13 +3,13 @@ ghost use Rattle.std.specs.Iterator.{YieldsFirst, item_count};
 
 use crate::Listed;
 use smq_kit::Place;
-use std::collections::btree_set::Range;
+use smq_shelf::Entries;
 use std::marker::Model;
 
 /// The places of a list that are still to come.
 #[derive(Drop)]
 pub struct Places<'a> {
-    pub(crate) left: Range<'a, Listed>,
+    pub(crate) left: Entries<'a, Listed, ()>,
 }
 
 impl<'a> Model for Places<'a> {
@@ -18,7 +18,7 @@ impl<'a> Model for Places<'a> {
 
     ghost Value = { List Place };
 
-    ghost view = { λ p. map (λ listed. listed.place) p.left };
+    ghost view = { λ p. map (λ e. e.0.place) p.left };
 }
 
 impl<'a> Iterator for Places<'a> {
@@ -30,7 +30,7 @@ impl<'a> Iterator for Places<'a> {
 
     fn next(&mut self) -> Option<Place> {
         match self.left.next() {
-            Some(listed) => Some(listed.place),
+            Some((listed, _)) => Some(listed.place),
             None => None,
         }
     }

@@ -3,13 +3,13 @@
 ghost use Rattle.std.specs.Iterator.{YieldsFirstBy, item_count};
 
 use crate::{CountKey, Outcome, Value};
-use std::collections::btree_map::Range;
+use smq_shelf::Entries;
 use std::marker::Model;
 
 /// The rows of a view that are still to come, each as its value, its outcome and its count.
 #[derive(Drop)]
 pub struct Rows<'a> {
-    pub(crate) left: Range<'a, CountKey, u64>,
+    pub(crate) left: Entries<'a, CountKey, u64>,
 }
 
 impl<'a> Model for Rows<'a> {

@@ -1,233 +1,227 @@
-//! Counts of facts in one ordered map, in which no count is 0 and those of a view stand beside each other: a fact adds one
-//! at each of its keys. Listed places in one ordered set, where those of a list stand beside each other.
-ghost use Rattle.std.specs.Prelude.{◌≡◌, ◌<◌, ◌≤◌, ◌+◌, ◌^◌, false, not, IfOk, OnOk, OnErr, option_to_list};
+//! Tables: counts of facts, in which those of a view stand beside each other, and listed places, in which those of a list
+//! do.
+ghost use Rattle.std.specs.Prelude.{◌≡◌, ◌<◌, ◌+◌, ◌^◌, IfOk, OnOk, OnErr};
 ghost use Rattle.std.specs.FinMap as fin;
-ghost use Rattle.smq_tally.specs.Lists.{listings_of_fact};
-ghost use Rattle.smq_tally.specs.Rows.{view_rank, keys_of_fact, key_in};
 ghost use Rattle.std.specs.List.Sorted.{IsStrictlySortedBy};
 ghost use Rattle.smq_kit.specs.Orders.{place_cmp};
-ghost use Rattle.smq_tally.specs.Tables.{tables_of, count_at, rows_of, listed_in};
-ghost use Rattle.smq_tally.specs.within.Counting.{HasNoZeros, keys_from, count_of, one_more, plus, one_less, minus, one_listed, one_unlisted, with_listed};
+ghost use Rattle.smq_tally.specs.Lists.{listed_set};
+ghost use Rattle.smq_tally.specs.Tables.{AreOfDifferentPlaces, facts_at, tables_of, count_at, rows_of, listed_in};
+ghost use Rattle.smq_tally.specs.within.Counting.{count_of, one_more, one_less, with_listed};
 
-use crate::fact::key_of;
+use crate::counts::{Step, count_from, count_of};
+use crate::listing::{list_fact, unlist, unlist_fact};
+use crate::same::have_same_entries;
+use crate::taking_back::take_back;
 use crate::{CountKey, Fact, List, Listed, Outcome, Places, Rows, Value, View};
+use smq_shelf::KeptMap;
 use std::alloc::{AllocError, Global};
-use std::collections::{BTreeMap, BTreeSet};
 use std::marker::Model;
 
 /// How many messages have each value and outcome, and the places in each list.
 #[derive(Drop)]
 pub struct Tables {
-    counts: BTreeMap<CountKey, u64>,
-    places: BTreeSet<Listed>,
+    counts: KeptMap<CountKey, u64>,
+    places: KeptMap<Listed, ()>,
 }
 
 impl Model for Tables {
-    ghost use Rattle.std.specs.FinMap as fin;
-    ghost use Rattle.smq_tally.specs.Tables.{TablesValue, tables_code};
+    ghost use Rattle.smq_tally.specs.Tables.{TablesKept, tables_kept_code};
 
-    ghost Value = { TablesValue };
+    ghost Value = { TablesKept };
 
-    ghost coded = { tables_code };
+    ghost coded = { tables_kept_code };
 
-    ghost use Rattle.smq_tally.specs.Lists.{listed_set};
+    ghost use Rattle.smq_tally.specs.within.Kept.{tables_in};
 
     ghost view = { λ t. record {
-      counts = fin.from_entries t.counts.entries;
-      places = listed_set t.places.keys;
+      shown = tables_in t.counts.content t.places.content;
+      settled = tables_in t.counts.settled t.places.settled;
     } };
-
-    ghost use Rattle.std.specs.BTreeMap as map;
-    ghost use Rattle.std.specs.BTreeSet as set;
-    ghost use Rattle.smq_tally.specs.within.CountOrder.{kept_cmp};
-    ghost use Rattle.smq_tally.specs.within.ListOrder.{kept_listed_cmp};
-
-    ghost invariant = { λ t. map.IsOrdered kept_cmp t.counts × set.IsOrdered kept_listed_cmp t.places };
 }
 
 impl PartialEq for Tables {
-    ghost use Rattle.smq_tally.specs.within.Equal.{tables_eq, tables_eq_laws};
+    ghost use Rattle.smq_tally.specs.within.Equal.{shown_eq, shown_eq_laws};
     ghost use Rattle.std.specs.Cmp.{partial_equiv_from_equiv};
 
-    ghost eq = { tables_eq };
+    ghost eq = { shown_eq };
 
-    ghost laws = { partial_equiv_from_equiv tables_eq_laws };
+    ghost laws = { partial_equiv_from_equiv shown_eq_laws };
 
     fn eq(&self, other: &Tables) -> bool {
-        self.counts == other.counts && self.places == other.places
+        have_same_entries(self.counts.iter(), other.counts.iter())
+            && have_same_entries(self.places.iter(), other.places.iter())
     }
 }
 
 impl Eq for Tables {
-    ghost use Rattle.smq_tally.specs.within.Equal.{tables_eq_laws};
+    ghost use Rattle.smq_tally.specs.within.Equal.{shown_eq_laws};
 
-    ghost laws = { tables_eq_laws };
+    ghost laws = { shown_eq_laws };
 }
 
 impl Tables {
     /// The tables of no facts and no notes.
     pub(crate) fn new(alloc: Global) -> Tables
-        ensures { result ≡ tables_of fin.empty fin.empty }
+        ensures shown { result.shown ≡ tables_of fin.empty fin.empty }
+        ensures settled { result.settled ≡ tables_of fin.empty fin.empty }
     {
         Tables {
-            counts: BTreeMap::new(alloc),
-            places: BTreeSet::new(alloc),
+            counts: KeptMap::new(alloc),
+            places: KeptMap::new(alloc),
         }
+    }
+
+    /// The tables of facts, no two of one place, and of notes.
+    pub fn of(alloc: Global, facts: &[Fact], notes: &[Listed]) -> Result<Tables, AllocError>
+        requires apart { AreOfDifferentPlaces facts.now }
+        ensures shown { IfOk result (λ tables.
+            tables.shown ≡ tables_of (facts_at facts.now) (listed_set notes.now)) }
+    {
+        let mut tables = Tables::new(alloc);
+        tables.add_facts(facts)?;
+        tables.list_places(notes)?;
+        Ok(tables)
+    }
+
+    /// Counts and lists facts, the last first, where none was.
+    fn add_facts(&mut self, facts: &[Fact]) -> Result<(), AllocError>
+        requires apart { AreOfDifferentPlaces facts.now }
+        requires nothing { self.old.shown ≡ tables_of fin.empty fin.empty }
+        ensures ok { OnOk result (self.new.shown ≡ tables_of (facts_at facts.now) fin.empty) }
+    {
+        let mut left = facts;
+        while let Some((fact, before)) = left.split_last() {
+            self.add_fact(fact)?;
+            self.settle();
+            left = before;
+        }
+        Ok(())
+    }
+
+    fn list_places(&mut self, places: &[Listed]) -> Result<(), AllocError>
+        ensures ok { OnOk result (self.new.shown ≡ record self.old.shown {
+          places = with_listed self.old.shown.places places.now;
+        }) }
+    {
+        for listed in places {
+            self.list_place(*listed)?;
+            self.settle();
+        }
+        Ok(())
     }
 
     /// How many messages have this value in the view, and this outcome.
     pub fn count(&self, view: View, value: &Value, outcome: Outcome) -> u64
-        ensures { result ≡ count_at self.now view value.now outcome }
+        ensures { result ≡ count_at self.now.shown view value.now outcome }
     {
         let key = CountKey {
             view,
             value: value.copy(),
             outcome,
         };
-        self.count_in(&key)
+        count_of(&self.counts, &key)
     }
 
     /// The rows of a view, in order. It looks at no other view's counts.
     pub fn rows(&self, view: View) -> Rows<'_>
-        ensures { result ≡ rows_of self.now view }
+        ensures { result ≡ rows_of self.now.shown view }
     {
         let first = CountKey::first_in(view);
         match view.next() {
             Some(next) => Rows {
-                left: self.counts.range(first..CountKey::first_in(next)),
+                left: self.counts.range(first, CountKey::first_in(next)),
             },
             None => Rows {
-                left: self.counts.range(first..),
+                left: self.counts.range_from(first),
             },
         }
     }
 
     /// The places of a list, in order. It looks at no other list's places.
     pub fn list(&self, list: List) -> Places<'_>
-        ensures places { result ≡ listed_in self.now list }
+        ensures places { result ≡ listed_in self.now.shown list }
         ensures in_order { IsStrictlySortedBy place_cmp result }
     {
         let first = Listed::first_in(list);
         match list.next() {
             Some(next) => Places {
-                left: self.places.range(first..Listed::first_in(next)),
+                left: self.places.range(first, Listed::first_in(next)),
             },
             None => Places {
-                left: self.places.range(first..),
+                left: self.places.range_from(first),
             },
-        }
-    }
-
-    fn count_in(&self, key: &CountKey) -> u64
-        ensures { result ≡ count_of self.now key.now }
-    {
-        match self.counts.get(key) {
-            Some(count) => *count,
-            None => 0,
         }
     }
 
     /// Counts one fact more, and lists it where it is open or lapsed. An error changes nothing.
     pub(crate) fn add_fact(&mut self, fact: &Fact) -> Result<(), AllocError>
-        requires no_zeros { HasNoZeros self.old }
-        requires room { (key : CountKey) → count_of self.old key + 1 < 2 ^ 64 }
-        ensures ok { OnOk result (self.new
-            ≡ plus (with_listed self.old (listings_of_fact fact.now)) (keys_of_fact fact.now)) }
+        requires room { (key : CountKey) → count_of self.old.shown key + 1 < 2 ^ 64 }
+        ensures ok { OnOk result (self.new.shown ≡ one_more self.old.shown fact.now) }
+        ensures settled { self.new.settled ≡ self.old.settled }
         ensures err { OnErr result (self.new ≡ self.old) }
     {
-        let Some(listed) = fact.listed() else {
-            return self.add_from(View::Link, fact);
-        };
-        let is_new = self.add_listed(listed)?;
-        if let Err(error) = self.add_from(View::Link, fact) {
-            if is_new {
-                self.remove_listed(&listed);
-            }
+        let is_logged = list_fact(&mut self.places, fact)?;
+        if let Err(error) = count_from(&mut self.counts, Step::More, View::Link, fact) {
+            take_back(&mut self.places, is_logged);
             return Err(error);
         }
         Ok(())
     }
 
-    /// Counts the fact in this view and those after it. An error changes nothing.
-    fn add_from(&mut self, view: View, fact: &Fact) -> Result<(), AllocError>
-        requires no_zeros { HasNoZeros self.old }
-        requires room { (key : CountKey) → view_rank view ≤ view_rank key.view
-            → count_of self.old key + 1 < 2 ^ 64 }
-        ensures ok { OnOk result (self.new ≡ plus self.old (keys_from view fact.now)) }
+    /// Counts a fact no more, and lists its place no more unless that stays for a note. An error changes nothing.
+    pub(crate) fn remove_fact(&mut self, fact: &Fact, stays: bool) -> Result<(), AllocError>
+        requires room { (key : CountKey) → count_of self.old.shown key + 1 < 2 ^ 64 }
+        ensures ok { OnOk result (self.new.shown ≡ one_less self.old.shown fact.now stays) }
+        ensures settled { self.new.settled ≡ self.old.settled }
         ensures err { OnErr result (self.new ≡ self.old) }
     {
-        self.add_in_view(view, fact)?;
-        let Some(next) = view.next() else {
-            return Ok(());
-        };
-        if let Err(error) = self.add_from(next, fact) {
-            self.remove_in_view(view, fact);
+        let is_logged = unlist_fact(&mut self.places, fact, stays)?;
+        if let Err(error) = count_from(&mut self.counts, Step::Less, View::Link, fact) {
+            take_back(&mut self.places, is_logged);
             return Err(error);
         }
         Ok(())
     }
 
-    /// Counts the fact in a view, if it has a value there. An error changes nothing.
-    fn add_in_view(&mut self, view: View, fact: &Fact) -> Result<(), AllocError>
-        requires { (key : CountKey) → key.view ≡ view → count_of self.old key + 1 < 2 ^ 64 }
-        ensures ok { OnOk result
-            (self.new ≡ plus self.old (option_to_list (key_in view fact.now))) }
+    /// Lists one place more. An error changes nothing.
+    pub(crate) fn list_place(&mut self, listed: Listed) -> Result<(), AllocError>
+        ensures ok { OnOk result (self.new.shown ≡ record self.old.shown {
+          places = fin.insert self.old.shown.places listed tt;
+        }) }
+        ensures settled { self.new.settled ≡ self.old.settled }
         ensures err { OnErr result (self.new ≡ self.old) }
     {
-        match key_of(view, fact) {
-            Some(key) => self.add_in(key),
-            None => Ok(()),
-        }
-    }
-
-    /// Counts the fact in a view no more. It takes no memory.
-    fn remove_in_view(&mut self, view: View, fact: &Fact)
-        ensures { self.new ≡ minus self.old (option_to_list (key_in view fact.now)) }
-    {
-        if let Some(key) = key_of(view, fact) {
-            self.remove_in(&key);
-        }
-    }
-
-    /// Counts one more at a key: looked up, then inserted, since a count that is there takes no memory and one that isn't may.
-    fn add_in(&mut self, key: CountKey) -> Result<(), AllocError>
-        requires { count_of self.old key + 1 < 2 ^ 64 }
-        ensures ok { OnOk result (self.new ≡ one_more self.old key) }
-        ensures err { OnErr result (self.new ≡ self.old) }
-    {
-        let count = self.count_in(&key);
-        self.counts.insert(key, count + 1)?;
+        self.places.set(listed, ())?;
         Ok(())
     }
 
-    fn remove_in(&mut self, key: &CountKey)
-        ensures { self.new ≡ one_less self.old key.now }
-    {
-        let count = self.count_in(key);
-        if count < 2 {
-            self.counts.remove(key);
-            return;
-        }
-        match self.counts.get_mut(key) {
-            Some(kept) => *kept = count - 1,
-            None => (),
-        }
-    }
-
-    /// Lists one place more, and says whether it wasn't listed there. An error changes nothing.
-    pub(crate) fn add_listed(&mut self, listed: Listed) -> Result<bool, AllocError>
-        ensures ok { OnOk result (self.new ≡ one_listed self.old listed) }
-        ensures is_new { IfOk result (λ new. new ≡ not (fin.contains_key self.old.places listed)) }
-        ensures absent { OnErr result (fin.contains_key self.old.places listed ≡ false) }
+    /// Lists a place no more. An error changes nothing.
+    pub(crate) fn unlist_place(&mut self, listed: &Listed) -> Result<(), AllocError>
+        ensures ok { OnOk result (self.new.shown ≡ record self.old.shown {
+          places = fin.remove self.old.shown.places listed.now;
+        }) }
+        ensures settled { self.new.settled ≡ self.old.settled }
         ensures err { OnErr result (self.new ≡ self.old) }
     {
-        Ok(self.places.insert(listed)?)
+        unlist(&mut self.places, listed)?;
+        Ok(())
     }
 
-    /// Lists a place no more. It takes no memory.
-    fn remove_listed(&mut self, listed: &Listed)
-        ensures { self.new ≡ one_unlisted self.old listed.now }
+    /// Shows again what was shown when they were last settled. It takes no memory.
+    pub(crate) fn undo(&mut self)
+        ensures shown { self.new.shown ≡ self.old.settled }
+        ensures settled { self.new.settled ≡ self.old.settled }
     {
-        self.places.remove(listed);
+        self.counts.undo();
+        self.places.undo();
+    }
+
+    /// Makes what is shown what `undo` shows again. It takes no memory.
+    pub(crate) fn settle(&mut self)
+        ensures shown { self.new.shown ≡ self.old.shown }
+        ensures settled { self.new.settled ≡ self.old.shown }
+    {
+        self.counts.settle();
+        self.places.settle();
     }
 }

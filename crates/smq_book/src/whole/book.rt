@@ -147,7 +147,7 @@ impl Book {
 
     /// The tables of what is present, counted from nothing.
     pub fn tables(&self) -> Result<Tables, AllocError>
-        ensures { IfOk result (λ tables. tables ≡ scratch self.now.present) }
+        ensures { IfOk result (λ tables. tables.shown ≡ scratch self.now.present) }
     {
         let Traffic { submits, mut notes } = read_sessions(self.alloc, &self.present)?;
         let submits = submits.as_slice();
@@ -166,7 +166,7 @@ pub fn tables_of_edits(
 ) -> Result<(Tables, Vec<Option<Refusal>>), AllocError>
     ensures answers { IfOk result (λ given. AreAnswers empty edits.items given.1.items) }
     ensures tables { IfOk result (λ given.
-        given.0 ≡ scratch (steps empty (judged edits.items given.1.items))) }
+        given.0.shown ≡ scratch (steps empty (judged edits.items given.1.items))) }
 {
     let mut book = Book::new(alloc);
     let answers = book.apply_all(edits)?;
@@ -182,9 +182,11 @@ fn tally_of(alloc: Global, facts: Vec<Fact>, notes: Vec<Listed>) -> Result<Tally
     let mut tally = Tally::new(alloc);
     for fact in facts {
         tally.add(fact)?;
+        tally.settle();
     }
     for note in notes {
         tally.note(note.list, note.place)?;
+        tally.settle();
     }
     Ok(tally)
 }

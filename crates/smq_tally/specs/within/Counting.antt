@@ -1,54 +1,69 @@
--- Tables after one fact or one listed place more, or less.
-use Rattle.std.specs.Prelude.{◌≡◌, ℕ, ◌+◌, ◌-◌, List, [], ◌∷◌, drop, option_to_list, unwrap_or}
+-- Counts and listed places after one fact or one listed place more, or less.
+use Rattle.std.specs.Prelude.{ℕ, ◌+◌, ◌-◌, Bool, cond, List, [], ◌∷◌, drop, Option, Some, option_to_list, unwrap_or}
 use Rattle.std.specs.List.{flat_map}
 use Rattle.std.specs.FinMap as fin
+use Rattle.std.specs.FinSet.{FinSet}
 use Rattle.smq_kit.specs.Maps.{positive, set_at}
+use Rattle.smq_tally.specs.declared.counts.Step.{Step}
+use Rattle.smq_tally.specs.declared.counts.Step.TheVariants as s
 use Rattle.smq_tally.specs.declared.fact.CountKey.{CountKey}
 use Rattle.smq_tally.specs.declared.fact.Fact.{Fact}
 use Rattle.smq_tally.specs.declared.list.Listed.{Listed}
 use Rattle.smq_tally.specs.declared.view.View.{View}
-use Rattle.smq_tally.specs.Rows.{views, view_rank, key_in}
+use Rattle.smq_tally.specs.Lists.{listed_cmp, listings_of_fact}
+use Rattle.smq_tally.specs.Rows.{views, view_rank, count_cmp, key_in, keys_of_fact}
 use Rattle.smq_tally.specs.Tables.{TablesValue}
+
+-- counts by their keys
+abbrev pub Counts : Type 0
+Counts = fin.FinMap count_cmp ℕ
 
 -- where a message is counted in a view and those after it
 abbrev pub keys_from : View → Fact → List CountKey
 keys_from view f = flat_map (λ v. option_to_list (key_in v f)) (drop (view_rank view) views)
 
 -- the count at a key, which is 0 where none stands
+abbrev pub count_in : Counts → CountKey → ℕ
+count_in counts key = unwrap_or (fin.get counts key) 0
+
+-- the same in tables
 abbrev pub count_of : TablesValue → CountKey → ℕ
-count_of t key = unwrap_or (fin.get t.counts key) 0
+count_of t key = count_in t.counts key
 
--- No count that stands is 0.
-abbrev pub HasNoZeros : TablesValue → Type 0
-HasNoZeros t = (key : CountKey) → fin.get t.counts key ≡ positive (count_of t key)
+-- a count where one more stands, or one fewer: none where nothing is left
+abbrev pub stepped : Step → ℕ → Option ℕ
+stepped s.More n = Some (n + 1)
+stepped s.Less n = positive (n - 1)
 
--- the tables where one more stands at a key
-abbrev pub one_more : TablesValue → CountKey → TablesValue
-one_more t key = record t { counts = fin.insert t.counts key (count_of t key + 1) }
+-- the counts where one more stands at a key, or one fewer
+abbrev pub one_step : Step → Counts → CountKey → Counts
+one_step step counts key = set_at counts key (stepped step (count_in counts key))
 
--- the tables where one more stands at each of these keys
-abbrev pub plus : TablesValue → List CountKey → TablesValue
-plus t [] = t
-plus t (key ∷ keys) = plus (one_more t key) keys
+-- the counts where one more stands at each of these keys, or one fewer
+abbrev pub steps : Step → Counts → List CountKey → Counts
+steps step counts [] = counts
+steps step counts (key ∷ keys) = steps step (one_step step counts key) keys
 
--- the tables where one fewer stands at a key, and none where none is left
-abbrev pub one_less : TablesValue → CountKey → TablesValue
-one_less t key = record t { counts = set_at t.counts key (positive (count_of t key - 1)) }
+-- the places with these too
+abbrev pub with_listed : FinSet listed_cmp → List Listed → FinSet listed_cmp
+with_listed places [] = places
+with_listed places (e ∷ es) = with_listed (fin.insert places e tt) es
 
--- the tables where one fewer stands at each of these keys
-abbrev pub minus : TablesValue → List CountKey → TablesValue
-minus t [] = t
-minus t (key ∷ keys) = minus (one_less t key) keys
+-- the places without these
+abbrev pub without : FinSet listed_cmp → List Listed → FinSet listed_cmp
+without places [] = places
+without places (e ∷ es) = without (fin.remove places e) es
 
--- the tables where one place more is listed
-abbrev pub one_listed : TablesValue → Listed → TablesValue
-one_listed t e = record t { places = fin.insert t.places e tt }
+-- tables in which one fact more is counted, and listed where it is open or lapsed
+abbrev pub one_more : TablesValue → Fact → TablesValue
+one_more t f = record {
+  counts = steps s.More t.counts (keys_of_fact f);
+  places = with_listed t.places (listings_of_fact f);
+}
 
--- the tables where each of these places is listed too
-abbrev pub with_listed : TablesValue → List Listed → TablesValue
-with_listed t [] = t
-with_listed t (e ∷ es) = with_listed (one_listed t e) es
-
--- the tables where one place is listed no more
-abbrev pub one_unlisted : TablesValue → Listed → TablesValue
-one_unlisted t e = record t { places = fin.remove t.places e }
+-- tables in which a fact is counted no more, and listed no more unless its place stays for a note
+abbrev pub one_less : TablesValue → Fact → Bool → TablesValue
+one_less t f stays = record {
+  counts = steps s.Less t.counts (keys_of_fact f);
+  places = cond stays t.places (without t.places (listings_of_fact f));
+}

@@ -8,7 +8,7 @@ use Rattle.smq_tally.specs.declared.fact.CountKey.{CountKey}
 use Rattle.smq_tally.specs.declared.fact.Fact.{Fact}
 use Rattle.smq_tally.specs.contracts.fact.FactPartialEq.TheImpl as fact_block
 use Rattle.smq_tally.specs.Rows.{same_count_key}
-use Rattle.smq_tally.specs.Tables.{TablesValue}
+use Rattle.smq_tally.specs.Tables.{TablesKept, TablesValue}
 use Rattle.smq_tally.specs.within.CountOrder.{count_keys_total}
 use Rattle.smq_tally.specs.within.ListOrder.{same_listed, listed_total}
 
@@ -29,6 +29,18 @@ tables_eq_laws =
     (on_equiv (λ t. fin.entries t.counts)
     (lists_equiv (and_equiv (on_equiv (λ p. p.0) (eq_by_cmp_equiv count_keys_total)) (on_equiv (λ p. p.1) nat_eq_equiv))))
     (on_equiv (λ t. fin.keys t.places) (lists_equiv (eq_by_cmp_equiv listed_total)))
+
+-- whether two tables show the same
+abbrev pub shown_eq : TablesKept → TablesKept → Bool
+shown_eq t u = tables_eq t.shown u.shown
+
+-- that is an equivalence
+pub shown_eq_laws : IsEquivalence shown_eq
+shown_eq_laws = on_equiv (λ t. t.shown) tables_eq_laws
+
+-- whether two entries have equal keys and equal values
+abbrev pub both_eq : {K V : Type 0} → (K → K → Bool) → (V → V → Bool) → K × V → K × V → Bool
+both_eq eq same p q = eq p.0 q.0 && same p.1 q.1
 
 -- `==` of facts
 abbrev pub fact_eq : Fact → Fact → Bool

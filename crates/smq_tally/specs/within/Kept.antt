@@ -1,24 +1,53 @@
--- A map of std that has facts by place and a set of std that has listed places, seen as finite ones.
+-- Maps that can be undone, seen as finite ones, and what a change leaves in them to be taken back.
+use Rattle.std.specs.Prelude.{◌≡◌, Bool, true, false, ℕ, List, ◌∷◌, Some}
 use Rattle.std.specs.declared.cmp.Ordering.{Ordering}
-use Rattle.std.specs.BTreeMap.{BTreeMap}
-use Rattle.std.specs.BTreeSet.{BTreeSet}
 use Rattle.std.specs.FinMap as fin
 use Rattle.std.specs.FinSet.{FinSet}
 use Rattle.smq_kit.specs.declared.place.Place.{Place}
 use Rattle.smq_kit.specs.contracts.place.PlaceOrd.TheImpl as place_ord
 use Rattle.smq_kit.specs.Orders.{place_cmp}
+use Rattle.smq_shelf.specs.Keeping.{KeepingMap}
+use Rattle.smq_shelf.specs.Places.{content_of}
+use Rattle.smq_tally.specs.declared.fact.CountKey.{CountKey}
 use Rattle.smq_tally.specs.declared.fact.Fact.{Fact}
 use Rattle.smq_tally.specs.declared.list.Listed.{Listed}
-use Rattle.smq_tally.specs.Lists.{listed_cmp, listed_set}
+use Rattle.smq_tally.specs.Lists.{listed_cmp}
+use Rattle.smq_tally.specs.Tables.{TablesValue, tables_of}
+use Rattle.smq_tally.specs.within.Counting.{Counts}
 
 -- the order by which a map of std compares places
 abbrev pub kept_place_cmp : Place → Place → Ordering
 kept_place_cmp = (place_ord.ghosts).cmp
 
--- a map of std of facts as a finite map
-abbrev pub facts_in : BTreeMap Place Fact → fin.FinMap place_cmp Fact
-facts_in kept = fin.from_entries kept.entries
+-- entries of facts as a finite map
+abbrev pub facts_in : List (Place × Fact) → fin.FinMap place_cmp Fact
+facts_in es = fin.from_entries es
 
--- a set of std of listed places as a finite set
-abbrev pub notes_in : BTreeSet Listed → FinSet listed_cmp
-notes_in kept = listed_set kept.keys
+-- entries of counts as a finite map
+abbrev pub counts_in : List (CountKey × ℕ) → Counts
+counts_in es = fin.from_entries es
+
+-- entries of listed places as a finite set
+abbrev pub places_in : List (Listed × Unit {0}) → FinSet listed_cmp
+places_in es = fin.from_entries es
+
+-- entries of counts and of listed places as tables
+abbrev pub tables_in : List (CountKey × ℕ) → List (Listed × Unit {0}) → TablesValue
+tables_in counts places = record { counts = counts_in counts; places = places_in places }
+
+-- What a call left to be taken back: one change, or none where it changed nothing.
+abbrev pub IsLogged : {K V : Type 0} → Bool → KeepingMap K V → KeepingMap K V → Type 0
+IsLogged true old new = (old.content ≡ content_of old.places) × (new.past ≡ old.places ∷ old.past)
+IsLogged false old new = new ≡ old
+
+-- Each fact stands at its own place.
+pub record StandAtTheirPlaces (facts : fin.FinMap place_cmp Fact) : Type 0 where
+  pub own : (q : Place) (f : Fact) → fin.get facts q ≡ Some f → f.place ≡ q
+
+-- The tables of a tally are those of its facts and notes, now and when it was settled.
+pub record Tallies (facts settled_facts : fin.FinMap place_cmp Fact) (notes settled_notes : FinSet listed_cmp) (shown settled : TablesValue) : Type 0
+  where
+    pub now : shown ≡ tables_of facts notes
+    pub before : settled ≡ tables_of settled_facts settled_notes
+    pub places : StandAtTheirPlaces facts
+    pub places_before : StandAtTheirPlaces settled_facts

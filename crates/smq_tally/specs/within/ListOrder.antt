@@ -2,6 +2,7 @@
 use Rattle.std.specs.Prelude.{Bool}
 use Rattle.std.specs.Cmp.{IsTotalOrder}
 use Rattle.std.specs.declared.cmp.Ordering.{Ordering}
+use Rattle.std.specs.List.{list_any}
 use Rattle.std.specs.Ordering.{eq_by_cmp}
 use Rattle.std.proofs.lemmas.Cmp.{on_total, then_total, nat_cmp_total}
 use Rattle.smq_kit.specs.declared.place.Dir.TheVariants.{FromClient}
@@ -10,7 +11,8 @@ use Rattle.smq_kit.proofs.PlaceOrders.{places_total}
 use Rattle.smq_tally.specs.declared.list.List as l
 use Rattle.smq_tally.specs.declared.list.Listed.{Listed}
 use Rattle.smq_tally.specs.contracts.list.ListedOrd.TheImpl as listed_ord
-use Rattle.smq_tally.specs.Lists.{list_rank, listed, listed_cmp}
+use Rattle.smq_tally.specs.declared.fact.Fact.{Fact}
+use Rattle.smq_tally.specs.Lists.{list_rank, listed, listed_cmp, listings_of_fact}
 
 -- the order by which the set of listed places compares them
 abbrev pub kept_listed_cmp : Listed → Listed → Ordering
@@ -23,6 +25,10 @@ listed_total = then_total (on_total (λ e. list_rank e.list) nat_cmp_total) (on_
 -- whether two listed places are one
 abbrev pub same_listed : Listed → Listed → Bool
 same_listed a b = eq_by_cmp listed_cmp a b
+
+-- whether a message stands there
+abbrev pub lists : Listed → Fact → Bool
+lists q f = list_any (same_listed q) (listings_of_fact f)
 
 -- the place before which there is none
 abbrev pub first_place : Place

@@ -3,7 +3,7 @@ use Rattle.smq_report.proofs.PageLemmas.{gathers-at, gathers-none}
 use Rattle.smq_report.proofs.csv_report.put_sections.Goals as goal
 
 pub loop-section-init : goal.loop-section-init
-loop-section-init g c = record { start = c.requires; gathers = gathers-none (csv_section c.args.tables.now) _ _ }
+loop-section-init g c = record { start = c.requires; gathers = gathers-none (csv_section c.args.tables.now.shown) _ _ }
 
 pub loop-section-preserved : goal.loop-section-preserved
 loop-section-preserved g c =
@@ -11,5 +11,5 @@ loop-section-preserved g c =
     let before = c.loop-section.invariant in
     record {
       start = put.start;
-      gathers = gathers-at (csv_section c.args.tables.now) _ _ _ _ _ _ c.loop-section-test.true put.ok before.gathers;
+      gathers = gathers-at (csv_section c.args.tables.now.shown) _ _ _ _ _ _ c.loop-section-test.true put.ok before.gathers;
     }

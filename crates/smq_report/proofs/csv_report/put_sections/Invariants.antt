@@ -10,7 +10,7 @@ abbrev pub invariant-loop-section : goal.invariant-loop-section
 invariant-loop-section g l = record {
   start : IsAtStart l.page.records;
   gathers :
-      Gathers (csv_section l.tables) l.sections (drop l.section-index l.sections)
+      Gathers (csv_section l.tables.shown) l.sections (drop l.section-index l.sections)
       (append_known (g.W.Write.contents l.initial.writer) (waiting l.initial.page.records))
       (append_known (g.W.Write.contents l.writer) (waiting l.page.records));
 }

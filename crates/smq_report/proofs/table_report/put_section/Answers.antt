@@ -20,7 +20,7 @@ loop-place-preserved g c =
 pub returns-in-None : goal.returns-in-None
 returns-in-None g c =
     let line = rw c.in-View.is at c.in_ok-push_section_line.ensures in
-    let all : c.into_iter-value-iterator.result ≡ rows_of c.args.tables.now c.in-View.view = search rules in
+    let all : c.into_iter-value-iterator.result ≡ rows_of c.args.tables.now.shown c.in-View.view = search rules in
     let gathered = gathers-all table_row _ _ _ _ c.in-None.ensures.steps.0 c.loop-value.invariant in
     let rows = rw all at gathered in
     rw c.in-View.is (Appends-trans _ _ _ _ _ (page-grown _ _ _ _ line) rows)
@@ -28,7 +28,7 @@ returns-in-None g c =
 pub returns-in-None-place : goal.returns-in-None-place
 returns-in-None-place g c =
     let line = rw c.in-List.is at c.in_ok-push_section_line.ensures in
-    let all : c.into_iter-place-iterator.result ≡ listed_in c.args.tables.now c.in-List.list = search rules in
+    let all : c.into_iter-place-iterator.result ≡ listed_in c.args.tables.now.shown c.in-List.list = search rules in
     let gathered = gathers-all table_place _ _ _ _ c.in-None-place.ensures.steps.0 c.loop-place.invariant in
     let places = rw all at gathered in
     rw c.in-List.is (Appends-trans _ _ _ _ _ (page-grown _ _ _ _ line) places)

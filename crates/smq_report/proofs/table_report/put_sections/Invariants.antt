@@ -8,6 +8,6 @@ use Rattle.smq_report.proofs.table_report.put_sections.Given as goal
 
 abbrev pub invariant-loop-section : goal.invariant-loop-section
 invariant-loop-section g l =
-    Gathers (table_section l.tables) l.sections (drop l.section-index l.sections)
+    Gathers (table_section l.tables.shown) l.sections (drop l.section-index l.sections)
     (append_known (g.W.Write.contents l.initial.writer) (string_bytes l.initial.page))
     (append_known (g.W.Write.contents l.writer) (string_bytes l.page))

@@ -1,5 +1,5 @@
 //! Tables of known facts and notes.
-use crate::tests::tallies::known::{At, By, CASES, EQUAL, Known, Row, Step};
+use crate::tests::tallies::known::{At, By, CASES, CLIENT, EQUAL, Known, Row, Step};
 use smq_kit::{LinkId, Network, Place, Refusal, RouteId, SessionId};
 use smq_tally::{Band, Fact, List, Outcome, SubmitError, Tables, Tally, Value, View};
 use std::alloc::{AllocError, Global};
@@ -126,4 +126,62 @@ fn tables_are_of_facts_and_notes(rt: HostRuntime) -> Result<(), Fail> {
     assert_eq!(rt; Outcome::NoId.name(), "noid");
     assert_eq!(rt; Band::Under30Seconds.name(), "under-30s");
     Ok(())
+}
+
+/// A message that is open, and noted as that too.
+const OPEN: At = (1, CLIENT, 0);
+
+const NOTED: At = (2, CLIENT, 0);
+
+const REFUSED: At = (1, CLIENT, 49);
+
+const ONE_REFUSED: &[Row] = &[(By::Status(8), Outcome::Refused, 1)];
+
+fn refused(at: At) -> Fact {
+    let mut fact = plain(at, Outcome::Refused);
+    fact.error = Some(SubmitError::Refused { status: 8 });
+    fact
+}
+
+fn take_out(rt: &impl Abort, tally: &mut Tally, at: At) -> Result<(), AllocError> {
+    let place = place_of(at);
+    assert!(rt; tally.has_fact(place));
+    tally.remove(place)
+}
+
+fn forget_open(rt: &impl Abort, tally: &mut Tally, at: At) -> Result<(), AllocError> {
+    let place = place_of(at);
+    assert!(rt; tally.is_noted(List::Open, place));
+    tally.forget(List::Open, place)
+}
+
+/// Asserts the rows of the error view and the places of open messages.
+fn assert_shown(rt: &impl Abort, tally: &Tally, errors: &[Row], open: &[At]) -> Result<(), Fail> {
+    assert_rows(rt, tally.tables(), View::Error, errors)?;
+    assert_list(rt, tally.tables(), List::Open, open);
+    Ok(())
+}
+
+#[test]
+fn what_goes_comes_back_until_it_is_settled(rt: HostRuntime) -> Result<(), Fail> {
+    let mut tally = Tally::new(rt.alloc());
+    add(&rt, &mut tally, plain(OPEN, Outcome::Open))?;
+    add(&rt, &mut tally, refused(REFUSED))?;
+    tally.note(List::Open, place_of(OPEN))?;
+    tally.note(List::Open, place_of(NOTED))?;
+    tally.settle();
+    take_out(&rt, &mut tally, REFUSED)?;
+    take_out(&rt, &mut tally, OPEN)?;
+    assert_shown(&rt, &tally, [].as_slice(), [OPEN, NOTED].as_slice())?;
+    forget_open(&rt, &mut tally, OPEN)?;
+    assert_shown(&rt, &tally, [].as_slice(), [NOTED].as_slice())?;
+    tally.undo();
+    assert_shown(&rt, &tally, ONE_REFUSED, [OPEN, NOTED].as_slice())?;
+    forget_open(&rt, &mut tally, OPEN)?;
+    forget_open(&rt, &mut tally, NOTED)?;
+    assert_shown(&rt, &tally, ONE_REFUSED, [OPEN].as_slice())?;
+    tally.settle();
+    take_out(&rt, &mut tally, OPEN)?;
+    tally.undo();
+    assert_shown(&rt, &tally, ONE_REFUSED, [OPEN].as_slice())
 }

@@ -4,7 +4,7 @@ use Rattle.std.specs.FinMap.{insert, get, is_sorted}
 use Rattle.std.specs.Vec.Iter.{into_iter_items}
 use Rattle.smq_kit.specs.Orders.{place_cmp}
 use Rattle.smq_tally.specs.declared.fact.Fact.{Fact}
-use Rattle.smq_tally.specs.Tally.{TallyValue}
+use Rattle.smq_tally.specs.Tally.{Held, TallyValue}
 use Rattle.smq_book.specs.within.Lists.{placed_fact}
 use Rattle.smq_book.proofs.lemmas.whole.Tallied.{place-free, fact-more, note-more}
 use Rattle.smq_book.proofs.whole.book.tally_of.Goals as goal
@@ -40,11 +40,11 @@ loop-fact-preserved c =
     record {
       items = append_assoc c.loop-fact.yielded (c.in-Some.fact ∷ []) (into_iter_items c.next.new.self) ∙ all;
       number = omega arith;
-      facts = ap (λ (t : TallyValue). t.facts) c.in_ok-add.ensures.ok
+      facts = ap (λ (h : Held). h.facts) c.settle.ensures.held ∙ c.in_ok-add.ensures.ok
           ∙ ap (λ m. insert m c.in-Some.fact.place c.in-Some.fact) c.loop-fact.invariant.facts
           ∙ sym (fact-more c.loop-fact.yielded c.in-Some.fact (into_iter_items c.next.new.self)
           (subst T (sym (ap (λ (fs : List Fact). is_sorted place_cmp (map placed_fact fs)) all ∙ c.requires)) tt));
-      notes = ap (λ (t : TallyValue). t.notes) c.in_ok-add.ensures.ok ∙ c.loop-fact.invariant.notes;
+      notes = ap (λ (h : Held). h.notes) c.settle.ensures.held ∙ c.add.ensures.notes ∙ c.loop-fact.invariant.notes;
     }
 
 pub loop-note-preserved : goal.loop-note-preserved
@@ -57,8 +57,9 @@ loop-note-preserved c =
     record {
       items = append_assoc c.loop-note.yielded (c.in-Some-note.note ∷ []) (into_iter_items c.next-in-loop-note.new.self) ∙ all;
       number = omega arith;
-      facts = ap (λ (t : TallyValue). t.facts) c.in_ok-note.ensures.ok ∙ c.loop-note.invariant.facts;
-      notes = ap (λ (t : TallyValue). t.notes) c.in_ok-note.ensures.ok
+      facts = ap (λ (h : Held). h.facts) c.settle-in-loop-note.ensures.held ∙ ap (λ (t : TallyValue). t.facts) c.in_ok-note.ensures.ok
+          ∙ c.loop-note.invariant.facts;
+      notes = ap (λ (h : Held). h.notes) c.settle-in-loop-note.ensures.held ∙ ap (λ (t : TallyValue). t.notes) c.in_ok-note.ensures.ok
           ∙ ap (λ s. insert s c.in-Some-note.note tt) c.loop-note.invariant.notes
           ∙ sym (note-more c.loop-note.yielded c.in-Some-note.note);
     }

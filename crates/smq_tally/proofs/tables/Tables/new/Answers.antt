@@ -1,5 +1,8 @@
 use Rattle.smq_tally.proofs.Stored.{nothing-seen}
 use Rattle.smq_tally.proofs.tables.Tables.new.Goals as goal
 
-pub returns : goal.returns
-returns c = nothing-seen c.new.result.entries c.new-2.result.keys c.new.ensures.empty c.new-2.ensures.empty
+pub returns-clause-shown : goal.returns-clause-shown
+returns-clause-shown c = nothing-seen c.new.result.content c.new-2.result.content c.new.ensures.content c.new-2.ensures.content
+
+pub returns-clause-settled : goal.returns-clause-settled
+returns-clause-settled c = nothing-seen c.new.result.settled c.new-2.result.settled c.new.ensures.settled c.new-2.ensures.settled

@@ -1,0 +1,55 @@
+use Rattle.std.proofs.Common.{◌≡◌, subst, refl, sym, ap, ◌∙◌}
+use Rattle.std.specs.FinMap.{remove}
+use Rattle.smq_shelf.proofs.Steps.{content-back}
+use Rattle.smq_tally.specs.Tables.{TablesKept, tables_of}
+use Rattle.smq_tally.specs.Tally.{TallyValue}
+use Rattle.smq_tally.specs.within.Kept.{facts_in, places_in, StandAtTheirPlaces}
+use Rattle.smq_tally.proofs.Held.{Entries, fact-taken, has-entry, has-room, still, fact-removed, stand-removed}
+use Rattle.smq_tally.proofs.tally.Tally.remove.Goals as goal
+
+pub remove_fact-requires : goal.remove_fact-requires
+remove_fact-requires c = record {
+  room =
+      has-room c.fact_at.new.facts.content c.fact_at.new.facts.places c.place_count.result (places_in c.self.inside.notes.content)
+      c.self.inside.tables.shown
+      (c.self.invariant.now
+      ∙ (λ i. tables_of (facts_in (sym c.fact_at.ensures.content i)) (places_in c.self.inside.notes.content))) c.place_count.ensures.ordered
+      c.place_count.ensures.content c.place_count.ensures.count c.place_count.ensures.small;
+}
+
+-- the facts of before
+back : (c : goal.After-take_back) → c.take_back.new.self.content ≡ c.self.inside.facts.content
+back c =
+    (content-back c.fact_at.new.facts c.remove.new.self c.take_back.new.self c.in_ok-remove.ensures.shown
+    (c.in_ok-remove.ensures.past (has-entry c.self.inside.facts.content c.fact_at.new.facts.content c.args.place c.in-Some.fact
+    c.fact_at.ensures.content c.in-Some.ensures.value))
+    c.take_back.ensures.content c.take_back.ensures.past).0
+    ∙ c.fact_at.ensures.content
+
+pub invariant_of-self-in-Err : goal.invariant_of-self-in-Err
+invariant_of-self-in-Err c =
+    still c.self.invariant
+    (ap (λ (t : TablesKept). t.shown) c.in-Err.ensures.err ∙ c.self.invariant.now
+    ∙ (λ i. tables_of (facts_in (sym (back c) i)) (places_in c.self.inside.notes.content)))
+    (subst (λ (es : Entries). StandAtTheirPlaces (facts_in es)) (sym (back c)) c.self.invariant.places)
+    (ap facts_in (c.take_back.ensures.settled ∙ c.remove.ensures.settled ∙ c.fact_at.ensures.settled)) refl c.remove_fact.ensures.settled
+
+pub returns-in-Err-clause-err : goal.returns-in-Err-clause-err
+returns-in-Err-clause-err c = ap facts_in (back c) ∙ ap (λ (t : TallyValue). t.facts) c.self.view_is
+
+-- the facts without the one
+took : (c : goal.In_default-remove_fact) → facts_in c.remove.new.self.content ≡ remove (facts_in c.self.inside.facts.content) c.args.place
+took c =
+    fact-taken c.fact_at.new.facts.content c.remove.new.self.content c.args.place c.in_ok-remove.ensures.ordered c.in_ok-remove.ensures.content
+    ∙ (λ i. remove (facts_in (c.fact_at.ensures.content i)) c.args.place)
+
+pub invariant_of-self-in_default-remove_fact : goal.invariant_of-self-in_default-remove_fact
+invariant_of-self-in_default-remove_fact c =
+    still c.self.invariant
+    (fact-removed c.self.invariant c.args.place c.in-Some.fact c.has_listing-is_noted.result (sym c.in-Some.ensures.value)
+    c.has_listing-is_noted.ensures (took c) c.in_default-remove_fact.ensures.ok)
+    (stand-removed c.self.invariant c.args.place (took c)) (ap facts_in (c.remove.ensures.settled
+    ∙ c.fact_at.ensures.settled)) refl c.remove_fact.ensures.settled
+
+pub returns-clause-ok : goal.returns-clause-ok
+returns-clause-ok c = took c ∙ ap (λ (t : TallyValue). remove t.facts c.args.place) c.self.view_is

@@ -1,0 +1,75 @@
+//! Listed places in one ordered set that can be undone, where those of a list stand beside each other.
+ghost use Rattle.std.specs.Prelude.{◌≡◌, Bool, cond, IfOk, OnOk, OnErr};
+ghost use Rattle.std.specs.List.{list_any};
+ghost use Rattle.std.specs.FinMap as fin;
+ghost use Rattle.smq_tally.specs.Lists.{listings_of_fact};
+ghost use Rattle.smq_tally.specs.within.Counting.{with_listed, without};
+ghost use Rattle.smq_tally.specs.within.Kept.{places_in, IsLogged};
+
+use crate::{Fact, Listed};
+use smq_shelf::KeptMap;
+use std::alloc::AllocError;
+
+/// Lists a fact's place where it is open or lapsed. It says whether it left a change to take back. An error changes
+/// nothing.
+pub(crate) fn list_fact(places: &mut KeptMap<Listed, ()>, fact: &Fact) -> Result<bool, AllocError>
+    ensures ok { OnOk result (places_in places.new.content
+        ≡ with_listed (places_in places.old.content) (listings_of_fact fact.now)) }
+    ensures logged { IfOk result (λ is_logged. IsLogged is_logged places.old places.new) }
+    ensures settled { places.new.settled ≡ places.old.settled }
+    ensures err { OnErr result (places.new ≡ places.old) }
+{
+    let Some(listed) = fact.listed() else {
+        return Ok(false);
+    };
+    places.set(listed, ())?;
+    Ok(true)
+}
+
+/// Lists a fact's place no more, unless it stays.
+pub(crate) fn unlist_fact(
+    places: &mut KeptMap<Listed, ()>,
+    fact: &Fact,
+    stays: bool,
+) -> Result<bool, AllocError>
+    ensures ok { OnOk result (places_in places.new.content
+        ≡ cond stays (places_in places.old.content)
+        (without (places_in places.old.content) (listings_of_fact fact.now))) }
+    ensures logged { IfOk result (λ is_logged. IsLogged is_logged places.old places.new) }
+    ensures settled { places.new.settled ≡ places.old.settled }
+    ensures err { OnErr result (places.new ≡ places.old) }
+{
+    if stays {
+        return Ok(false);
+    }
+    match fact.listed() {
+        Some(listed) => unlist(places, &listed),
+        None => Ok(false),
+    }
+}
+
+/// Lists a place no more. It says whether it left a change to take back. An error changes nothing.
+pub(crate) fn unlist(places: &mut KeptMap<Listed, ()>, listed: &Listed) -> Result<bool, AllocError>
+    ensures ok { OnOk result (places_in places.new.content
+        ≡ fin.remove (places_in places.old.content) listed.now) }
+    ensures logged { IfOk result (λ is_logged. IsLogged is_logged places.old places.new) }
+    ensures settled { places.new.settled ≡ places.old.settled }
+    ensures err { OnErr result (places.new ≡ places.old) }
+{
+    if places.get(listed).is_none() {
+        return Ok(false);
+    }
+    places.remove(listed)?;
+    Ok(true)
+}
+
+/// Whether a fact's place is in the set of listed places, as one of its list.
+pub(crate) fn has_listing(places: &KeptMap<Listed, ()>, fact: &Fact) -> bool
+    ensures { result
+        ≡ list_any (fin.contains_key (places_in places.now.content)) (listings_of_fact fact.now) }
+{
+    match fact.listed() {
+        Some(listed) => places.get(&listed).is_some(),
+        None => false,
+    }
+}
