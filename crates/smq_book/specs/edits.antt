@@ -4,3 +4,4 @@ pub mod Withdrawn
 pub mod Appended
 pub mod InTurn
 pub mod Reach
+pub mod Told

@@ -1,5 +1,4 @@
 -- What became of each message, under what is set.
-pub mod Matching
 pub mod Keyed
 pub mod Circumstances
 pub mod Outcomes

@@ -15,15 +15,15 @@ pub use laws::edits::{
     forms_change_their_link_alone, known_edits_reach_so_much, messages_and_receipts_stand_apart,
     mismatched_pairs_are_noted_at_their_request, moves_change_their_key_alone,
     moves_in_turn_change_what_each_changes, notes_follow_the_standings_of_receipts,
-    responses_answer_one_message, withdrawals_take_what_their_session_says,
+    responses_answer_one_message, told_changes_cover, told_standings_give_facts,
+    withdrawals_take_what_their_session_says,
 };
 pub use laws::join::{
-    clock_lapses_open_messages_alone, deciding_receipts_are_earliest,
-    delays_are_of_decided_messages, each_message_has_its_fact, facts_rest_on_circumstances,
-    forms_of_other_links_are_idle, keys_are_of_their_link,
+    clock_lapses_open_messages_alone, delays_are_of_decided_messages, each_message_has_its_fact,
+    facts_rest_on_circumstances, forms_of_other_links_are_idle, keys_are_of_their_link,
     messages_lapse_at_the_end_of_their_window, moves_leave_other_facts, outcomes_are_in_order,
     outcomes_of_known_submits, receipts_decide_known_submits, routes_are_of_the_moment,
-    single_keys_have_no_other, versions_change_routes_alone,
+    versions_change_routes_alone,
 };
 pub use laws::pairing::{
     each_message_has_its_place, notes_of_a_known_session, pushes_change_few_messages,

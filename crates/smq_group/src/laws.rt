@@ -1,9 +1,29 @@
 //! Laws of the definitions that the contracts cite. No code calls these functions.
-ghost use Rattle.std.specs.Prelude.{◌≡◌, ◌∷◌, [], Some, None};
+ghost use Rattle.std.specs.Prelude.{◌≡◌, ◌==◌, ◌↔◌, ◌∷◌, [], ℕ, IsTrue, Some, None};
+ghost use Rattle.std.specs.FinMap as fin;
+ghost use Rattle.smq_kit.specs.declared.link_key.LinkKey.{LinkKey};
 ghost use Rattle.smq_group.specs.Changes.{TellsChanges, receipt_at, submit_at};
 ghost use Rattle.smq_group.specs.declared.change.Standing.TheVariants.{Deciding, Extra, Noted, Shared, Single, Stray};
 ghost use Rattle.smq_group.specs.Known.{both_links, centre_at, client_at, decided_late, elsewhere, grouped, late, late_and_early, none, one, tied, told, two, undecided};
+ghost use Rattle.smq_group.specs.Matching.{CanDecide, Grouping, IsEarliest, IsSingle, decider, matches};
 ghost use Rattle.smq_group.specs.Laws.{IsToldOneWay, OrderOfReceiptsIsIdle, OrderOfSidesIsIdle, OrderOfSubmitsIsIdle, ReceiptsLeaveNoTrace, SubmitsLeaveNoTrace, SubmitsLeaveOtherKeys, TellsNothingOfTheSame};
+
+use smq_kit::Place;
+
+/// Of a message that is accepted with a key, the key is single exactly where no other message is accepted with it.
+pub fn single_keys_have_no_other()
+    ensures { (g : Grouping) (key : LinkKey) (place : Place) → fin.get g.submits place ≡ Some key
+        → IsTrue (matches g key == 1) ↔ IsSingle g key place }
+{}
+
+/// The receipt that decides has the key, can decide, and comes after none of those that have it and can: by moment, and
+/// by place where moments are one. Where none decides, none of the key can.
+pub fn deciding_receipts_are_earliest()
+    ensures found { (g : Grouping) (key : LinkKey) (place : Place)
+        → decider g key ≡ Some place → IsEarliest g key place }
+    ensures none { (g : Grouping) (key : LinkKey) → decider g key ≡ None
+        → (moment : ℕ) (place : Place) → ¬ CanDecide g key moment place }
+{}
 
 /// A member that comes and goes leaves the members that were.
 pub fn moves_leave_no_trace()

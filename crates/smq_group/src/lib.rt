@@ -14,6 +14,6 @@ mod walks;
 pub use change::{Change, Standing};
 pub use groups::Groups;
 pub use laws::{
-    changes_are_told_one_way, keys_are_apart, known_changes, known_standings, moves_leave_no_trace,
-    order_of_members_is_idle,
+    changes_are_told_one_way, deciding_receipts_are_earliest, keys_are_apart, known_changes,
+    known_standings, moves_leave_no_trace, order_of_members_is_idle, single_keys_have_no_other,
 };

@@ -16,4 +16,5 @@ pub mod AppendNotes
 pub mod ReachBounds
 pub mod MismatchedNotes
 pub mod InTurn
+pub mod Told
 pub mod KnownReach

@@ -2,12 +2,10 @@
 pub mod KeyMaps
 pub mod Numbers
 pub mod Deciding
-pub mod Least
 pub mod Listings
 pub mod AgreeLists
 pub mod AgreeFacts
 pub mod AgreeListings
-pub mod MatchingLemmas
 pub mod ListedReceipts
 pub mod MoveLemmas
 pub mod OtherForms

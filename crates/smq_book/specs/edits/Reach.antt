@@ -20,7 +20,7 @@ use Rattle.smq_book.specs.present.Present.{PresentValue, session_of}
 use Rattle.smq_book.specs.present.Steps.{step}
 use Rattle.smq_book.specs.pairing.Traffic.{TrafficValue, origin_of, place_of, session_pairing, traffic_of}
 use Rattle.smq_book.specs.join.Keyed.{grouping_of}
-use Rattle.smq_book.specs.join.Matching.{Grouping, matches}
+use Rattle.smq_group.specs.Matching.{Grouping, matches}
 use Rattle.smq_book.specs.edits.Reached.{link_messages, link_receipts, messages_under, lapsing}
 
 -- ---- the weight of a PDU

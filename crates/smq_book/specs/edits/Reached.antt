@@ -14,7 +14,7 @@ use Rattle.smq_book.specs.present.Settings.{SettingsValue}
 use Rattle.smq_book.specs.pairing.Traffic.{Message, ReceivedReceipt, TrafficValue}
 use Rattle.smq_book.specs.join.Circumstances.{circumstances, window_of}
 use Rattle.smq_book.specs.join.Keyed.{accepted_key, receipt_key}
-use Rattle.smq_book.specs.join.Matching.{Grouping, GroupedReceipt}
+use Rattle.smq_group.specs.Matching.{Grouping, GroupedReceipt}
 use Rattle.smq_book.specs.join.Moves.{Move, PutMessage, TakeMessage, PutReceipt, TakeReceipt}
 use Rattle.smq_book.specs.join.Outcomes.{outcome_by}
 

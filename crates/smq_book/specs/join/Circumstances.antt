@@ -6,7 +6,7 @@ use Rattle.smq_kit.specs.declared.names.RouteId.{RouteId}
 use Rattle.smq_route.specs.Versions.{Versions, route_at}
 use Rattle.smq_book.specs.present.Settings.{SettingsValue}
 use Rattle.smq_book.specs.pairing.Traffic.{Message, ReceivedReceipt, TrafficValue}
-use Rattle.smq_book.specs.join.Matching.{Grouping, Standing, submit_standing, decided_by}
+use Rattle.smq_group.specs.Matching.{Grouping, Standing, submit_standing, decided_by}
 use Rattle.smq_book.specs.join.Keyed.{accepted_key, grouping_of}
 
 -- how it stands where it is accepted, the receipt that decides it where there is one, the route and network of its number

@@ -7,7 +7,7 @@ use Rattle.smq_kit.specs.declared.link_key.LinkKey.{LinkKey}
 use Rattle.smq_book.specs.present.Settings.{SettingsValue, forms_of}
 use Rattle.smq_book.specs.pairing.Traffic.{Response, Message, ReceivedReceipt, TrafficValue}
 use Rattle.smq_kit.specs.LinkKeys.{link_key}
-use Rattle.smq_book.specs.join.Matching.{GroupedReceipt, Grouping}
+use Rattle.smq_group.specs.Matching.{GroupedReceipt, Grouping}
 
 -- the id with which a message is accepted: its response agrees, has status 0 and gives one
 abbrev pub accepted_id : Option Response → Option (List ℕ)

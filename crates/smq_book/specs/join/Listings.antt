@@ -11,7 +11,7 @@ use Rattle.smq_tally.specs.Lists.{listed, listed_cmp, listed_set}
 use Rattle.smq_book.specs.present.Settings.{SettingsValue}
 use Rattle.smq_book.specs.pairing.Traffic.{TrafficValue}
 use Rattle.smq_book.specs.join.Keyed.{grouping_of}
-use Rattle.smq_book.specs.join.Matching.{Grouping, GroupedReceipt, ReceiptStanding, Stray, KeyShared, Extra, receipt_standing}
+use Rattle.smq_group.specs.Matching.{Grouping, GroupedReceipt, ReceiptStanding, Stray, KeyShared, Extra, receipt_standing}
 
 -- the list of the delivery receipts that stand so, if there is one
 abbrev pub list_of_standing : ReceiptStanding → Option l.List

@@ -7,7 +7,7 @@ use Rattle.smq_kit.specs.Maps.{chosen, same_option, differing, SameOutside}
 use Rattle.smq_kit.specs.Orders.{place_cmp}
 use Rattle.smq_tally.specs.declared.list.Listed.{Listed}
 use Rattle.smq_book.specs.pairing.Traffic.{TrafficValue, Message, ReceivedReceipt}
-use Rattle.smq_book.specs.join.Matching.{Grouping, Standing, Single, Shared, submit_standing, ReceiptStanding, Stray, Deciding, Extra, Noted, KeyShared, receipt_standing}
+use Rattle.smq_group.specs.Matching.{Grouping, Standing, Single, Shared, submit_standing, ReceiptStanding, Stray, Deciding, Extra, Noted, KeyShared, receipt_standing}
 
 -- how each accepted message stands
 abbrev pub standings_of : Grouping → map.FinMap place_cmp Standing

@@ -9,7 +9,7 @@ use Rattle.smq_tally.specs.declared.outcome.Outcome.TheVariants as o
 use Rattle.smq_tally.specs.declared.value.SubmitError.{SubmitError}
 use Rattle.smq_tally.specs.declared.value.SubmitError.TheVariants.{Refused, Failed}
 use Rattle.smq_book.specs.pairing.Traffic.{Response, Message, ReceivedReceipt}
-use Rattle.smq_book.specs.join.Matching.{Standing, Shared}
+use Rattle.smq_group.specs.Matching.{Standing, Shared}
 use Rattle.smq_book.specs.join.Circumstances.{Circumstances}
 
 -- a test of the response, where there is one

@@ -6,7 +6,7 @@ use Rattle.smq_kit.specs.declared.names.RouteId.{RouteId}
 use Rattle.smq_tally.specs.declared.fact.Fact.{Fact}
 use Rattle.smq_book.specs.present.Settings.{SettingsValue}
 use Rattle.smq_book.specs.pairing.Traffic.{Message, ReceivedReceipt, response_in}
-use Rattle.smq_book.specs.join.Matching.{Standing, Single, Shared}
+use Rattle.smq_group.specs.Matching.{Standing, Single, Shared}
 use Rattle.smq_book.specs.join.Circumstances.{Circumstances, route_in, lapsed_in}
 use Rattle.smq_book.specs.join.Facts.{fact_by}
 use Rattle.smq_book.specs.within.Messages.{SubmittedMessage}

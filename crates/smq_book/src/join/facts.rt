@@ -5,7 +5,7 @@ ghost use Rattle.std.specs.Option.{option_copied};
 ghost use Rattle.std.specs.FinMap as map;
 ghost use Rattle.smq_kit.specs.declared.names.RouteId.{RouteId};
 ghost use Rattle.smq_book.specs.join.Facts as facts;
-ghost use Rattle.smq_book.specs.join.Matching.{Standing};
+ghost use Rattle.smq_group.specs.Matching.{Standing};
 ghost use Rattle.smq_book.specs.join.Outcomes as outcomes;
 ghost use Rattle.smq_book.specs.join.Outcomes.{is_shared};
 ghost use Rattle.smq_book.specs.pairing.Traffic.{traffic_of};

@@ -1,5 +1,5 @@
 //! Laws of edits: outside which places an edit changes nothing, and what it takes out and puts in there.
-ghost use Rattle.std.specs.Prelude.{◌≡◌, ◌≢◌, ◌+◌, ◌*◌, ◌≤◌, ℕ, false, not, List, [], ◌∷◌, length, Some, None};
+ghost use Rattle.std.specs.Prelude.{◌≡◌, ◌≢◌, ◌+◌, ◌*◌, ◌≤◌, ℕ, false, not, List, [], ◌∷◌, ◌||◌, if◌then◌else◌, length, Some, None, option_map};
 ghost use Rattle.std.specs.FinMap as fin;
 ghost use Rattle.std.specs.List.{list_any};
 ghost use Rattle.std.specs.Ordering.{nat_cmp, eq_by_cmp};
@@ -11,10 +11,15 @@ ghost use Rattle.smq_kit.specs.declared.names.RouteId.{RouteId};
 ghost use Rattle.smq_kit.specs.declared.place.Dir.TheVariants.{FromClient, FromCentre};
 ghost use Rattle.smq_kit.specs.declared.place.Place.{Place};
 ghost use Rattle.smq_kit.specs.Orders.{place_cmp};
+ghost use Rattle.smq_group.specs.declared.change.Change.{Change};
+ghost use Rattle.smq_group.specs.declared.change.Standing.{Standing};
+ghost use Rattle.smq_group.specs.Changes.{TellsChanges, told_at};
 ghost use Rattle.smq_pair.specs.declared.pairing.Pair.{Pair};
 ghost use Rattle.smq_pair.specs.Growth.{AreInOrder, is_among};
 ghost use Rattle.smq_pair.specs.Pairing.{PairingValue, pair_at};
+ghost use Rattle.smq_tally.specs.declared.list.List as l;
 ghost use Rattle.smq_tally.specs.declared.list.Listed.{Listed};
+ghost use Rattle.smq_tally.specs.Lists.{listed};
 ghost use Rattle.smq_frame.specs.Stream.{Octet, values};
 ghost use Rattle.smq_frame.specs.Tail.{tail_of};
 ghost use Rattle.smq_route.specs.Edits.{added, changed};
@@ -30,14 +35,15 @@ ghost use Rattle.smq_book.specs.present.Replies.{reply};
 ghost use Rattle.smq_book.specs.present.Settings.{SettingsValue, forms_of, with_versions, with_clock};
 ghost use Rattle.smq_book.specs.present.Steps.{session_after};
 ghost use Rattle.smq_book.specs.pairing.Traffic.{Message, Origin, ReceivedReceipt, TrafficValue, mismatched, session_messages, session_receipts, traffic_of};
-ghost use Rattle.smq_book.specs.join.Facts.{facts_of};
+ghost use Rattle.smq_book.specs.join.Facts.{fact_by, facts_of};
 ghost use Rattle.smq_book.specs.join.Keyed.{grouping_of};
 ghost use Rattle.smq_book.specs.join.Listings.{notes_of, receipt_listings};
-ghost use Rattle.smq_book.specs.join.Matching.{Grouping};
+ghost use Rattle.smq_group.specs.Matching.{Grouping};
 ghost use Rattle.smq_book.specs.join.Moves.{IsMove, Move, standings_of, receipt_standings_of, receipt_changes_of, moved_by};
 ghost use Rattle.smq_book.specs.edits.Reached.{link_messages, link_receipts, link_takes, link_puts, without_link, key_submits, key_receipts, IsMoveOf, IsOfKey, messages_under, due_by, lapsing};
 ghost use Rattle.smq_book.specs.edits.Appended.{answered, append_moves, append_places};
 ghost use Rattle.smq_book.specs.edits.InTurn.{AreFree, facts_changed, notes_changed};
+ghost use Rattle.smq_book.specs.edits.Told.{circumstances_told, is_list_told, told_places};
 ghost use Rattle.smq_book.specs.edits.Withdrawn.{withdrawal_moves};
 ghost use Rattle.smq_book.specs.known.Reach.{KnownReach};
 ghost use Rattle.smq_book.specs.edits.Reach.{link_places, members, reach};
@@ -198,6 +204,53 @@ pub fn moves_in_turn_change_what_each_changes()
         → SameOutside (facts_changed s t moves) (facts_of s t) (facts_of s (moved_by t moves)) }
     ensures notes { (s : SettingsValue) (t : TrafficValue) (moves : List Move)
         → SameOutside (notes_changed s t moves) (notes_of s t) (notes_of s (moved_by t moves)) }
+{}
+
+/// What groups tell of one place that is put in or taken out covers what it changes: facts stay but at that place and at
+/// those of the submits that are told, and notes but for the three lists of receipts there and at those of the receipts that
+/// are told. So what stands there then makes the new facts and the new notes of the old ones.
+pub fn told_changes_cover()
+    ensures facts { (s : SettingsValue) (q : Place) (t u : TrafficValue) (changes : List Change)
+        (tells : TellsChanges (grouping_of s t) (grouping_of s u) changes) → IsMove q t u
+        → SameOutside (told_places q tells.submits) (facts_of s t) (facts_of s u) }
+    ensures facts_patched { (s : SettingsValue) (q : Place) (t u : TrafficValue)
+        (changes : List Change)
+        (tells : TellsChanges (grouping_of s t) (grouping_of s u) changes) → IsMove q t u
+        → patched (facts_of s t) (fin.get (facts_of s u)) (told_places q tells.submits)
+        ≡ facts_of s u }
+    ensures notes { (s : SettingsValue) (q : Place) (t u : TrafficValue) (changes : List Change)
+        (tells : TellsChanges (grouping_of s t) (grouping_of s u) changes) → IsMove q t u
+        → t.notes ≡ u.notes
+        → SameOutside (receipt_listings (told_places q tells.receipts)) (notes_of s t)
+        (notes_of s u) }
+    ensures notes_patched { (s : SettingsValue) (q : Place) (t u : TrafficValue)
+        (changes : List Change)
+        (tells : TellsChanges (grouping_of s t) (grouping_of s u) changes) → IsMove q t u
+        → t.notes ≡ u.notes
+        → patched (notes_of s t) (fin.get (notes_of s u))
+        (receipt_listings (told_places q tells.receipts)) ≡ notes_of s u }
+{}
+
+/// The standing that is told of a submit gives the fact at its place, with the receipt at the place that is told. That of a
+/// receipt gives its notes: the list that is told, and those that the traffic notes there. Where no receipt stands, there
+/// are no others.
+pub fn told_standings_give_facts()
+    ensures facts { (s : SettingsValue) (g : Grouping) (u : TrafficValue) (changes : List Change)
+        (tells : TellsChanges g (grouping_of s u) changes) (place : Place) (standing : Standing)
+        → told_at place tells.submits ≡ Some standing
+        → fin.get (facts_of s u) place
+        ≡ option_map (λ m. fact_by place m (circumstances_told s u m standing))
+        (fin.get u.messages place) }
+    ensures notes { (s : SettingsValue) (g : Grouping) (u : TrafficValue) (changes : List Change)
+        (tells : TellsChanges g (grouping_of s u) changes) (place : Place) (standing : Standing)
+        (list : l.List)
+        → told_at place tells.receipts ≡ Some standing
+        → fin.get (notes_of s u) (listed list place)
+        ≡ (if fin.contains_key u.notes (listed list place) || is_list_told standing list
+        then Some tt else None) }
+    ensures no_receipt { (s : SettingsValue) (u : TrafficValue) (place : Place) (list : l.List)
+        → fin.get u.receipts place ≡ None
+        → fin.get (notes_of s u) (listed list place) ≡ fin.get u.notes (listed list place) }
 {}
 
 /// A pair is noted as mismatched at its request exactly where it disagrees, and nowhere else; what stands in no pair isn't.

@@ -1,6 +1,6 @@
-//! Laws of what became of messages: which key is single, which receipt decides, what a fact rests on and what a change
-//! leaves, and known outcomes.
-ghost use Rattle.std.specs.Prelude.{◌≡◌, ◌≢◌, ℕ, ◌+◌, ◌<◌, ◌≤◌, nat_le, ◌==◌, ◌↔◌, ◌⊎◌, ◌++◌, ◌∷◌, [], List, Some, None, IsTrue, is_some, map, option_map, pos, ◌-ℤ◌};
+//! Laws of what became of messages: whose keys theirs are, what a fact rests on and what a change leaves, and known
+//! outcomes.
+ghost use Rattle.std.specs.Prelude.{◌≡◌, ◌≢◌, ℕ, ◌+◌, ◌<◌, ◌≤◌, nat_le, ◌↔◌, ◌⊎◌, ◌++◌, ◌∷◌, [], List, Some, None, IsTrue, is_some, map, option_map, pos, ◌-ℤ◌};
 ghost use Rattle.std.specs.FinMap as fin;
 ghost use Rattle.smq_kit.specs.Maps.{SameOutside, patched};
 ghost use Rattle.smq_kit.specs.declared.link_key.LinkKey.{LinkKey};
@@ -13,33 +13,18 @@ ghost use Rattle.smq_book.specs.pairing.Traffic.{Message, ReceivedReceipt, Traff
 ghost use Rattle.smq_book.specs.join.Circumstances.{Circumstances, circumstances, route_in, window_of};
 ghost use Rattle.smq_book.specs.join.Facts.{fact_by, facts_of, with_route, with_lapse};
 ghost use Rattle.smq_book.specs.join.Keyed.{accepted_key, grouping_of, receipt_key};
-ghost use Rattle.smq_book.specs.join.Matching.{Grouping, CanDecide, IsSingle, IsEarliest, decider, matches};
+ghost use Rattle.smq_group.specs.Matching.{Grouping};
 ghost use Rattle.smq_book.specs.join.Moves.{IsMove, changes_of, standings_of, put_message, take_message, put_receipt, take_receipt};
 ghost use Rattle.smq_book.specs.join.Outcomes.{outcome_table, last_outcome};
 
 use crate::{Fact, Outcome};
 use smq_kit::{LinkId, Place};
 
-/// Of a message that is accepted with a key, the key is single exactly where no other message is accepted with it.
-pub fn single_keys_have_no_other()
-    ensures { (g : Grouping) (key : LinkKey) (place : Place) → fin.get g.submits place ≡ Some key
-        → IsTrue (matches g key == 1) ↔ IsSingle g key place }
-{}
-
 /// The key with which a message is accepted, and that of a receipt, is of its own link: ids of two links never meet.
 pub fn keys_are_of_their_link()
     ensures messages { (s : SettingsValue) (m : Message) (key : LinkKey)
         → accepted_key s m ≡ Some key → key.link ≡ m.link }
     ensures receipts { (s : SettingsValue) (r : ReceivedReceipt) → (receipt_key s r).link ≡ r.link }
-{}
-
-/// The receipt that decides has the key, can decide, and comes after none of those that have it and can: by moment, and
-/// by place where moments are one. Where none decides, none of the key can.
-pub fn deciding_receipts_are_earliest()
-    ensures found { (g : Grouping) (key : LinkKey) (place : Place)
-        → decider g key ≡ Some place → IsEarliest g key place }
-    ensures none { (g : Grouping) (key : LinkKey) → decider g key ≡ None
-        → (moment : ℕ) (place : Place) → ¬ CanDecide g key moment place }
 {}
 
 /// There is a fact of each message and of nothing else, and it stands at its message's place.

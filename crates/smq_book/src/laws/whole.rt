@@ -10,7 +10,7 @@ ghost use Rattle.smq_tally.specs.Tables.{count_at, listed_in};
 ghost use Rattle.smq_book.specs.join.Facts.{facts_of};
 ghost use Rattle.smq_book.specs.join.Keyed.{grouping_of};
 ghost use Rattle.smq_book.specs.join.Listings.{receipt_notes};
-ghost use Rattle.smq_book.specs.join.Matching.{Grouping, IsStray, HasSharedKey, IsExtra};
+ghost use Rattle.smq_group.specs.Matching.{Grouping, IsStray, HasSharedKey, IsExtra};
 ghost use Rattle.smq_book.specs.whole.Links.{of_links, other_links};
 ghost use Rattle.smq_book.specs.whole.Scratch.{scratch};
 ghost use Rattle.smq_book.specs.within.Lists.{facts_listed, receipt_notes_listed, tables_listed};

@@ -23,10 +23,10 @@ use Rattle.smq_book.specs.join.Circumstances.{circumstances, standing_in, decide
 use Rattle.smq_book.specs.join.Facts.{facts_of}
 use Rattle.smq_book.specs.join.Keyed.{accepted_id, accepted_key, keyed_receipt, receipt_key, can_decide, grouping_of}
 use Rattle.smq_book.specs.join.Listings.{receipt_listings, notes_of}
-use Rattle.smq_book.specs.join.Matching.{GroupedReceipt, Candidate, Single, Shared, ReceiptStanding, decider, earlier, matches, receipt_standing, submit_standing, Stray, KeyShared, Deciding, Extra, Noted}
+use Rattle.smq_group.specs.Matching.{GroupedReceipt, Candidate, Single, Shared, ReceiptStanding, decider, earlier, matches, receipt_standing, submit_standing, Stray, KeyShared, Deciding, Extra, Noted}
 use Rattle.smq_book.specs.join.Moves.{receipt_standings_of}
 use Rattle.smq_book.specs.edits.Reached.{link_messages, link_receipts}
-use Rattle.smq_book.proofs.lemmas.join.MatchingLemmas.{failing}
+use Rattle.smq_group.proofs.MatchingLemmas.{failing}
 use Rattle.smq_book.proofs.lemmas.join.MoveLemmas.{frame}
 use Rattle.smq_book.proofs.lemmas.edits.Passing.{passing-at}
 use Rattle.smq_book.proofs.lemmas.edits.ReceiptNotes.{notes-outside}

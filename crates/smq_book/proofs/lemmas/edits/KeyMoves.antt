@@ -13,7 +13,7 @@ use Rattle.smq_kit.specs.Orders.{place_cmp}
 use Rattle.smq_kit.proofs.Comparisons.{or_first, or_second}
 use Rattle.smq_kit.proofs.MapLemmas as maps
 use Rattle.smq_kit.proofs.PlaceOrders.{places_total, places_exact}
-use Rattle.smq_book.specs.join.Matching.{Grouping, GroupedReceipt, Candidate, ReceiptStanding, Single, Shared, Stray, KeyShared, Deciding, Extra, Noted, decider, earlier, matches, receipt_standing, submit_standing}
+use Rattle.smq_group.specs.Matching.{Grouping, GroupedReceipt, Candidate, ReceiptStanding, Single, Shared, Stray, KeyShared, Deciding, Extra, Noted, decider, earlier, matches, receipt_standing, submit_standing}
 use Rattle.smq_book.specs.join.Moves.{standings_of, receipt_standings_of, IsMove}
 use Rattle.smq_book.specs.present.Settings.{SettingsValue}
 use Rattle.smq_book.specs.pairing.Traffic.{TrafficValue, Message, ReceivedReceipt}
@@ -22,7 +22,8 @@ use Rattle.smq_book.specs.join.Keyed.{accepted_key, receipt_key, keyed_receipt, 
 use Rattle.smq_book.specs.join.Listings.{receipt_listings, notes_of}
 use Rattle.smq_book.specs.edits.Reached.{key_submits, key_receipts, IsMoveOf}
 use Rattle.smq_book.proofs.lemmas.edits.FormEdits.{count-passing}
-use Rattle.smq_book.proofs.lemmas.join.MatchingLemmas.{failing, own_key}
+use Rattle.smq_group.proofs.Earliest.{own_key}
+use Rattle.smq_group.proofs.MatchingLemmas.{failing}
 use Rattle.smq_book.proofs.lemmas.join.MoveLemmas.{moves}
 use Rattle.smq_book.proofs.lemmas.edits.Passing.{passing-at}
 use Rattle.smq_book.proofs.lemmas.edits.ReceiptNotes.{notes-outside}
@@ -30,6 +31,22 @@ use Rattle.smq_book.proofs.lemmas.edits.ReceiptNotes.{notes-outside}
 or_false : (b : Bool) → b ≡ false → (b || false) ≡ false
 or_false true e = e
 or_false false e = refl
+
+-- ---- outside of places
+
+-- what is chosen of each entry stays where the entries stay
+pub chosen-outside : {X Y : Type 0} (ks : List Place) (f : Place → X → Option Y) (m n : FinMap place_cmp X) → SameOutside ks m n → SameOutside ks (chosen f m) (chosen f n)
+chosen-outside ks f m n same = record {
+  at = λ p out. maps.get-chosen places_total places_exact f m p ∙ ap (option_and_then (f p)) (same.at p out) ∙ sym (maps.get-chosen places_total places_exact f n p);
+}
+
+-- a place that isn't among some isn't where the first of them stands twice
+pub once : (q p : Place) (ks : List Place) → list_any (eq_by_cmp place_cmp p) (q ∷ ks) ≡ false → list_any (eq_by_cmp place_cmp p) (q ∷ q ∷ ks) ≡ false
+once q p ks out = by (eq_by_cmp place_cmp p q) out
+  where
+    by : (b : Bool) → (b || list_any (eq_by_cmp place_cmp p) ks) ≡ false → (b || (b || list_any (eq_by_cmp place_cmp p) ks)) ≡ false
+    by true e = e
+    by false e = e
 
 -- ---- what fails a test is put in or taken out
 
@@ -126,11 +143,6 @@ module _ (key : LinkKey) (q : Place) (g h : Grouping) (move : IsMoveOf key q g h
 -- ---- a message or a receipt that is put in or taken out
 
 module _ (s : SettingsValue) (q : Place) (t u : TrafficValue) (key : LinkKey) (move : IsMove q t u) where
-  chosen-outside : {X Y : Type 0} (f : Place → X → Option Y) (m n : FinMap place_cmp X) → SameOutside (q ∷ []) m n → SameOutside (q ∷ []) (chosen f m) (chosen f n)
-  chosen-outside f m n same = record {
-    at = λ p out. maps.get-chosen places_total places_exact f m p ∙ ap (option_and_then (f p)) (same.at p out) ∙ sym (maps.get-chosen places_total places_exact f n p);
-  }
-
   -- what is of the key, if it is there
   abbrev MessageOf : Option Message → Type 0
   MessageOf found = (m : Message) (k : LinkKey) → found ≡ Some m → accepted_key s m ≡ Some k → k ≡ key
@@ -155,8 +167,8 @@ module _ (s : SettingsValue) (q : Place) (t u : TrafficValue) (key : LinkKey) (m
   module _ (message_before : MessageOf (get t.messages q)) (message_after : MessageOf (get u.messages q)) (receipt_before : ReceiptOf (get t.receipts q)) (receipt_after : ReceiptOf (get u.receipts q)) where
     pub move-of : IsMoveOf key q (grouping_of s t) (grouping_of s u)
     move-of = record {
-      submits = chosen-outside (λ place m. accepted_key s m) t.messages u.messages move.messages;
-      receipts = chosen-outside (λ place r. Some (keyed_receipt s r)) t.receipts u.receipts move.receipts;
+      submits = chosen-outside (q ∷ []) (λ place m. accepted_key s m) t.messages u.messages move.messages;
+      receipts = chosen-outside (q ∷ []) (λ place r. Some (keyed_receipt s r)) t.receipts u.receipts move.receipts;
       submit_before = λ k e. message-of (get t.messages q) k message_before (sym (submit-at t) ∙ e);
       submit_after = λ k e. message-of (get u.messages q) k message_after (sym (submit-at u) ∙ e);
       receipt_before = λ r e. receipt-of (get t.receipts q) r receipt_before (sym (received-at t) ∙ e);
@@ -166,17 +178,10 @@ module _ (s : SettingsValue) (q : Place) (t u : TrafficValue) (key : LinkKey) (m
     abbrev g : Grouping
     g = grouping_of s t
 
-    once : (p : Place) (ks : List Place) → list_any (eq_by_cmp place_cmp p) (q ∷ ks) ≡ false → list_any (eq_by_cmp place_cmp p) (q ∷ q ∷ ks) ≡ false
-    once p ks out = by (eq_by_cmp place_cmp p q) out
-      where
-        by : (b : Bool) → (b || list_any (eq_by_cmp place_cmp p) ks) ≡ false → (b || (b || list_any (eq_by_cmp place_cmp p) ks)) ≡ false
-        by true e = e
-        by false e = e
-
     -- facts change at the place and at those of the messages that are accepted with the key
     pub key-facts : SameOutside (q ∷ keys (key_submits g key)) (facts_of s t) (facts_of s u)
     key-facts = record {
-      at = λ p out. (moves q t u move s (q ∷ keys (key_submits g key)) (standings-outside key q g (grouping_of s u) move-of)).at p (once p (keys (key_submits g key)) out);
+      at = λ p out. (moves q t u move s (q ∷ keys (key_submits g key)) (standings-outside key q g (grouping_of s u) move-of)).at p (once q p (keys (key_submits g key)) out);
     }
 
     -- notes change at the place and at those of the key's receipts

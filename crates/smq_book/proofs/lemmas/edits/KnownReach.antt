@@ -46,7 +46,7 @@ use Rattle.smq_book.specs.present.Stream.{last_moment}
 use Rattle.smq_book.specs.pairing.Traffic.{Message, ReceivedReceipt, messages_among, receipts_among, pairing_among, place_of, traffic_of, session_messages, session_receipts}
 use Rattle.smq_book.specs.join.Circumstances.{decider_in, route_in}
 use Rattle.smq_book.specs.join.Keyed.{accepted_id, can_decide}
-use Rattle.smq_book.specs.join.Matching.{Candidate, GroupedReceipt, Single, Shared, Standing, earlier}
+use Rattle.smq_group.specs.Matching.{Candidate, GroupedReceipt, Single, Shared, Standing, earlier}
 use Rattle.smq_book.specs.join.Outcomes.{outcome_by}
 use Rattle.smq_book.specs.edits.Reached.{is_open, is_under, lapsing, due_by, messages_under, passing}
 use Rattle.smq_book.specs.edits.Reach.{groups, link_places, pair_in, weight, weights, batch_places, places_in, session_places, reach}

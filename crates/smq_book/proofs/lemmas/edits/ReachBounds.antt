@@ -25,7 +25,7 @@ use Rattle.smq_book.specs.present.Present.{PresentValue, session_of}
 use Rattle.smq_book.specs.present.Replies.{reply}
 use Rattle.smq_book.specs.present.Steps.{step}
 use Rattle.smq_book.specs.pairing.Traffic.{Origin, broken_at, origin_of, message_at, place_of, placed, pairing_among, receipt_at, session_messages, session_receipts, traffic_of, with_earlier}
-use Rattle.smq_book.specs.join.Matching.{Grouping, GroupedReceipt}
+use Rattle.smq_group.specs.Matching.{Grouping, GroupedReceipt}
 use Rattle.smq_book.specs.edits.Appended.{append_places, batch_origin, noted_by, noted_in_turn, session_before}
 use Rattle.smq_book.specs.edits.Reached.{passing, key_submits, key_receipts, due_by, lapsing}
 use Rattle.smq_book.specs.edits.Reach.{members, weight, weights, batch_places, session_places, places_in, reach}

@@ -5,7 +5,7 @@ use Rattle.std.specs.List.{flat_map, list_any}
 use Rattle.std.specs.declared.cmp.Ordering.{Ordering}
 use Rattle.std.specs.declared.cmp.Ordering.TheVariants.{Less, Equal, Greater}
 use Rattle.std.specs.Ordering.{eq_by_cmp, is_eq, nat_cmp, ordering_then}
-use Rattle.std.specs.FinMap.{FinMap, entries, entries_sorted, find, get, is_sorted, keys, get-entries, contains_key-keys, insert, remove, get-insert, get-remove}
+use Rattle.std.specs.FinMap.{FinMap, entries, entries_sorted, find, get, is_sorted, keys, get-entries, contains_key, contains_key-keys, insert, remove, get-insert, get-remove}
 use Rattle.std.specs.FinSet.{FinSet}
 use Rattle.std.proofs.lemmas.Bool.{false≢true}
 use Rattle.std.proofs.lemmas.List.Folds.{list_any-append}
@@ -26,7 +26,7 @@ use Rattle.smq_book.specs.present.Settings.{SettingsValue}
 use Rattle.smq_book.specs.pairing.Traffic.{TrafficValue}
 use Rattle.smq_book.specs.join.Keyed.{grouping_of}
 use Rattle.smq_book.specs.join.Listings.{list_of_standing, receipt_listing, receipt_listings, receipt_notes, notes_of}
-use Rattle.smq_book.specs.join.Matching.{Grouping, GroupedReceipt, ReceiptStanding, Stray, Deciding, Extra, Noted, KeyShared, receipt_standing}
+use Rattle.smq_group.specs.Matching.{Grouping, GroupedReceipt, ReceiptStanding, Stray, Deciding, Extra, Noted, KeyShared, receipt_standing}
 use Rattle.smq_book.specs.join.Moves.{receipt_standings_of, same_receipt_standing, receipt_changes_of}
 
 -- ---- the lists of receipts by place
@@ -59,7 +59,7 @@ module _ (g : Grouping) where
 abbrev pub same_list_rank : l.List → l.List → Bool
 same_list_rank a b = is_eq (nat_cmp (list_rank a) (list_rank b))
 
-in_list_by : l.List → Option l.List → Bool
+unfoldable pub in_list_by : l.List → Option l.List → Bool
 in_list_by list None = false
 in_list_by list (Some other) = same_list_rank list other
 
@@ -124,6 +124,13 @@ list-of g q =
     by_receipt : (r : Option GroupedReceipt) → option_and_then (list_at g q) r ≡ option_and_then list_of_standing (option_and_then (λ r. Some (receipt_standing g q r)) r)
     by_receipt None = refl
     by_receipt (Some r) = refl
+
+-- so what the notes have of it follows from how the receipt there stands
+pub note-by : (s : SettingsValue) (t : TrafficValue) (list : l.List) (q : Place) (x : Option ReceiptStanding) → get (receipt_standings_of (grouping_of s t)) q ≡ x
+    → get (notes_of s t) (listed list q) ≡ marked (contains_key t.notes (listed list q) || in_list_by list (option_and_then list_of_standing x))
+note-by s t list q x is =
+    note-at s t (listed list q)
+    ∙ (λ i. marked (sym (contains_key-keys t.notes (listed list q)) i || in_list_by list ((list-of (grouping_of s t) q ∙ ap (option_and_then list_of_standing) is) i)))
 
 -- ---- outside of places
 

@@ -14,7 +14,7 @@ use Rattle.smq_book.specs.present.Settings.{SettingsValue}
 use Rattle.smq_tally.specs.declared.list.Listed.{Listed}
 use Rattle.smq_book.specs.pairing.Traffic.{TrafficValue, traffic_among}
 use Rattle.smq_kit.specs.LinkKeys.{same_key}
-use Rattle.smq_book.specs.join.Matching.{Grouping, Single, Shared, candidates, decider, earlier, matches, submit_standing}
+use Rattle.smq_group.specs.Matching.{Grouping, Single, Shared, candidates, decider, earlier, matches, submit_standing}
 use Rattle.smq_book.specs.join.Keyed.{grouping_of, accepted_key, keyed_receipt, can_decide}
 use Rattle.smq_book.specs.join.Circumstances.{circumstances, standing_in, decider_in, route_in, lapsed_in}
 use Rattle.smq_book.specs.join.Facts.{fact_by, facts_of}
@@ -24,7 +24,7 @@ use Rattle.smq_book.specs.within.Outcomes as listed
 use Rattle.smq_book.specs.within.Outcomes.{message_from, received, standing_of, circumstances_of}
 use Rattle.smq_book.specs.within.Receipts as receipts
 use Rattle.smq_book.specs.within.Receipts.{PlacedReceipt, KeyedReceipt, least_receipt}
-use Rattle.smq_book.proofs.lemmas.join.Least.{least-found}
+use Rattle.smq_group.proofs.Least.{least-found}
 use Rattle.smq_book.proofs.lemmas.join.AgreeLists.{message_entry, receipt_entry, Keyed, KeyedReceipts, numbers-agree, candidates-agree, candidate_of, least-of}
 
 receipts_total : IsTotalOrder receipts.receipt_cmp

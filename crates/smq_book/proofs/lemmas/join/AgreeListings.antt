@@ -15,7 +15,7 @@ use Rattle.smq_tally.specs.declared.list.Listed.{Listed}
 use Rattle.smq_tally.specs.Lists.{listed}
 use Rattle.smq_book.specs.present.Settings.{SettingsValue}
 use Rattle.smq_book.specs.pairing.Traffic.{TrafficValue, traffic_among}
-use Rattle.smq_book.specs.join.Matching.{Grouping, ReceiptStanding, Stray, Deciding, Extra, Noted, KeyShared, is_decider, matches}
+use Rattle.smq_group.specs.Matching.{Grouping, ReceiptStanding, Stray, Deciding, Extra, Noted, KeyShared, is_decider, matches}
 use Rattle.smq_book.specs.join.Keyed.{grouping_of, keyed_receipt, receipt_key, can_decide}
 use Rattle.smq_book.specs.join.Listings.{list_of_standing, receipt_listing, receipt_notes}
 use Rattle.smq_book.specs.within.Accepted.{number_accepted}

@@ -24,7 +24,7 @@ use Rattle.smq_book.specs.present.Settings.{SettingsValue, forms_of}
 use Rattle.smq_book.specs.pairing.Traffic.{Message, ReceivedReceipt, Origin, response_in, response_to, place_of, message_of, message_at, receipts_among, with_earlier}
 use Rattle.smq_book.specs.join.Keyed.{accepted_id, accepted_key, receipt_key, keyed_receipt, can_decide}
 use Rattle.smq_kit.specs.LinkKeys.{link_key, same_key}
-use Rattle.smq_book.specs.join.Matching.{Candidate, earlier}
+use Rattle.smq_group.specs.Matching.{Candidate, earlier}
 use Rattle.smq_book.specs.within.Accepted.{accepted_with, number_accepted}
 use Rattle.smq_book.specs.within.Messages as listed
 use Rattle.smq_book.specs.within.Messages.{SubmittedMessage, response_of, submit_by}

@@ -20,10 +20,11 @@ use Rattle.smq_tally.specs.declared.list.List.TheVariants.{StrayReceipts, Ambigu
 use Rattle.smq_tally.specs.declared.list.Listed.{Listed}
 use Rattle.smq_tally.specs.Lists.{listed}
 use Rattle.smq_book.specs.join.Listings.{list_of_standing, receipt_listing, receipt_notes}
-use Rattle.smq_book.specs.join.Matching.{Grouping, GroupedReceipt, IsStray, HasSharedKey, IsExtra, decider, is_decider, matches, receipt_standing}
+use Rattle.smq_group.specs.Matching.{Grouping, GroupedReceipt, IsStray, HasSharedKey, IsExtra, decider, is_decider, matches, receipt_standing}
 use Rattle.smq_book.specs.within.Listings.{list_by}
 use Rattle.smq_book.proofs.lemmas.join.AgreeListings.{lists-alike}
-use Rattle.smq_book.proofs.lemmas.join.MatchingLemmas.{number-none, number-some, own_key, one_key, failing, only-one, alone-one, still-there, gone}
+use Rattle.smq_group.proofs.Earliest.{one_key, own_key}
+use Rattle.smq_group.proofs.MatchingLemmas.{number-none, number-some, failing, only-one, alone-one, still-there, gone}
 
 -- ---- a listed receipt is there, and its standing has the list
 

@@ -15,13 +15,13 @@ use Rattle.smq_kit.specs.declared.link_key.LinkKey.{LinkKey}
 use Rattle.smq_book.specs.present.Settings.{SettingsValue}
 use Rattle.smq_book.specs.pairing.Traffic.{TrafficValue, Message, ReceivedReceipt}
 use Rattle.smq_kit.specs.LinkKeys.{same_key}
-use Rattle.smq_book.specs.join.Matching.{Grouping, GroupedReceipt, Candidate, Standing, Single, Shared, candidates, candidate_cmp, earlier, decider, matches, submit_standing, decided_by}
+use Rattle.smq_group.specs.Matching.{Grouping, GroupedReceipt, Candidate, Standing, Single, Shared, candidates, candidate_cmp, earlier, decider, matches, submit_standing, decided_by}
 use Rattle.smq_book.specs.join.Keyed.{grouping_of, accepted_key, keyed_receipt}
 use Rattle.smq_book.specs.join.Circumstances.{circumstances, standing_in, decider_in, route_in, lapsed_in}
 use Rattle.smq_book.specs.join.Facts.{fact_by, facts_of}
 use Rattle.smq_book.specs.join.Moves.{standings_of, same_standing, changes_of, IsMove, put_message, take_message, put_receipt, take_receipt}
-use Rattle.smq_book.proofs.lemmas.join.Least.{reduce-all}
-use Rattle.smq_book.proofs.lemmas.join.MatchingLemmas.{candidates_total}
+use Rattle.smq_group.proofs.Earliest.{pairs_total}
+use Rattle.smq_group.proofs.Least.{reduce-all}
 
 -- ---- the frame
 
@@ -79,7 +79,7 @@ place_in (Some x) d e = (x, (refl, cc))
 decider-noted : (g : Grouping) (key : LinkKey) (d : Place) → decider g key ≡ Some d → (n : GroupedReceipt) × (get g.receipts d ≡ Some n)
 decider-noted g key d e =
     let c = place_in (reduce earlier (candidates g key)) d e in
-    let there = reduce-all candidate_cmp candidates_total (λ (c : Candidate). (n : GroupedReceipt) × (get g.receipts c.1 ≡ Some n))
+    let there = reduce-all candidate_cmp pairs_total (λ (c : Candidate). (n : GroupedReceipt) × (get g.receipts c.1 ≡ Some n))
     (candidates g key) c.0
     (candidates-there g key (entries g.receipts) (maps.get-entry places_total places_exact g.receipts)) c.1.0 in
     subst (λ p. (n : GroupedReceipt) × (get g.receipts p ≡ Some n)) c.1.1 there

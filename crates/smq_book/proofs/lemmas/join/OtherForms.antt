@@ -10,7 +10,7 @@ use Rattle.smq_book.specs.declared.present.forms.Forms.{Forms}
 use Rattle.smq_book.specs.present.Settings.{SettingsValue, forms_of}
 use Rattle.smq_book.specs.pairing.Traffic.{TrafficValue, Message, ReceivedReceipt}
 use Rattle.smq_kit.specs.LinkKeys.{link_key}
-use Rattle.smq_book.specs.join.Matching.{submit_standing}
+use Rattle.smq_group.specs.Matching.{submit_standing}
 use Rattle.smq_book.specs.join.Keyed.{accepted_id, accepted_key, keyed_receipt, can_decide, grouping_of}
 use Rattle.smq_book.specs.join.Circumstances.{circumstances, decider_in, route_in, lapsed_in}
 use Rattle.smq_book.specs.join.Facts.{fact_by, facts_of}

@@ -30,7 +30,7 @@ use Rattle.smq_pair.specs.Pairing.{waiting, strays}
 use Rattle.smq_book.specs.join.Facts.{facts_of}
 use Rattle.smq_book.specs.join.Keyed.{grouping_of}
 use Rattle.smq_book.specs.join.Listings.{notes_of, receipt_notes}
-use Rattle.smq_book.specs.join.Matching.{Grouping, IsStray, HasSharedKey, IsExtra}
+use Rattle.smq_group.specs.Matching.{Grouping, IsStray, HasSharedKey, IsExtra}
 use Rattle.smq_book.specs.whole.Scratch.{scratch}
 use Rattle.smq_book.proofs.lemmas.join.ListedReceipts.{listed-stray, listed-several, listed-extra}
 use Rattle.smq_book.proofs.lemmas.whole.Tallied.{any-append, is-marked}

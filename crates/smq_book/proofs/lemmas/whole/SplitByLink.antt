@@ -35,7 +35,7 @@ use Rattle.smq_book.specs.join.Circumstances.{lapsed_in, route_in}
 use Rattle.smq_book.specs.join.Facts.{fact_by, facts_of}
 use Rattle.smq_book.specs.join.Keyed.{can_decide}
 use Rattle.smq_book.specs.join.Listings.{notes_of}
-use Rattle.smq_book.specs.join.Matching.{Shared, Single}
+use Rattle.smq_group.specs.Matching.{Shared, Single}
 use Rattle.smq_book.specs.whole.Links.{of_links, other_links, session_there}
 use Rattle.smq_book.specs.whole.Scratch.{scratch}
 use Rattle.smq_book.specs.within.Accepted.{accepted_with, decider_of, number_accepted}
@@ -43,7 +43,7 @@ use Rattle.smq_book.specs.within.Lists.{facts_listed, session_receipts, session_
 use Rattle.smq_book.specs.within.Messages.{SubmittedMessage, accepted_id, message_of, submit_with, submit_by, response_of}
 use Rattle.smq_book.specs.within.Outcomes.{circumstances_by, fact_of, message_from, standing_of}
 use Rattle.smq_book.specs.within.Receipts.{KeyedReceipt, least_receipt, receipt_by}
-use Rattle.smq_book.proofs.lemmas.join.MatchingLemmas.{failing}
+use Rattle.smq_group.proofs.MatchingLemmas.{failing}
 use Rattle.smq_book.proofs.lemmas.whole.AgreePresent.{facts-are}
 
 -- ---- lists

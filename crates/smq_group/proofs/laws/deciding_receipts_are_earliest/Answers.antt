@@ -1,5 +1,5 @@
-use Rattle.smq_book.proofs.lemmas.join.MatchingLemmas.{earliest, none-can}
-use Rattle.smq_book.proofs.laws.join.deciding_receipts_are_earliest.Goals as goal
+use Rattle.smq_group.proofs.MatchingLemmas.{earliest, none-can}
+use Rattle.smq_group.proofs.laws.deciding_receipts_are_earliest.Goals as goal
 
 pub returns-clause-found : goal.returns-clause-found
 returns-clause-found c = earliest
