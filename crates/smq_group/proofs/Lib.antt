@@ -15,3 +15,4 @@ pub mod Calling
 pub mod Vacating
 pub mod Lawful
 pub mod KnownGroups
+pub mod Keeping

@@ -4,3 +4,4 @@ pub mod Groups
 pub mod within
 pub mod Laws
 pub mod Known
+pub mod Standings

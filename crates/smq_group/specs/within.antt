@@ -5,3 +5,4 @@ pub mod Outlooks
 pub mod Walked
 pub mod Stored
 pub mod Told
+pub mod Standing

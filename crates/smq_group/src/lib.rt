@@ -9,6 +9,7 @@ mod laws;
 mod member;
 mod outlook;
 mod receipts;
+mod standings;
 mod walks;
 
 pub use change::{Change, Standing};
@@ -17,3 +18,4 @@ pub use laws::{
     changes_are_told_one_way, deciding_receipts_are_earliest, keys_are_apart, known_changes,
     known_standings, moves_leave_no_trace, order_of_members_is_idle, single_keys_have_no_other,
 };
+pub use standings::Standings;
