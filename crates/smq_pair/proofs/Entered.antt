@@ -1,4 +1,4 @@
--- Counts, partners and maps, with one PDU more.
+-- Counts, partners and turns without one, with one PDU more.
 use Rattle.std.proofs.Common.{◌≡◌, ◌≢◌, ℕ, ◌+◌, Bool, true, false, cond, List, [], ◌∷◌, ◌++◌, length, Option, Some, None, refl, sym, ap, ◌∙◌, arith}
 use Rattle.std.specs.Prelude.{count_by, option_and_then, slice_get, is_none}
 use Rattle.std.specs.BTreeMap.{is_at}
@@ -7,11 +7,11 @@ use Rattle.smq_kit.specs.declared.place.Dir.{Dir}
 use Rattle.smq_pdu.specs.Header.{Header}
 use Rattle.smq_pair.specs.declared.entry.Series.{Series}
 use Rattle.smq_pair.specs.declared.entry.Turn.{Turn}
-use Rattle.smq_pair.specs.declared.turns.Turns.{Turns}
 use Rattle.smq_pair.specs.Pairing.{PlacedHeader, PairingValue, pdus_from, opposite, headers}
 use Rattle.smq_pair.specs.Growth.{pushed}
 use Rattle.smq_pair.specs.within.Turns.{is_of, headers_from, count_in, index_at, unpaired_at, partner, series_of, turn_of, partner_of}
-use Rattle.smq_pair.specs.within.Maps.{turn_cmp, unpaired_after, unpaired_kept}
+use Rattle.smq_pair.specs.within.Orders.{turn_cmp}
+use Rattle.smq_pair.specs.within.Maps.{unpaired_after}
 use Rattle.smq_pair.proofs.Keys.{turn-same, turn-other}
 use Rattle.smq_pair.proofs.Lists.{some-is, one_of}
 use Rattle.smq_pair.proofs.Turned
@@ -116,14 +116,14 @@ module _ (v : PairingValue) (p : PlacedHeader) (t : Turn) (next : next_turn v p 
       ap (λ (u : Turn). cond (is_none (index_at (pushed v p) u)) (index_at (pushed v p) (partner t)) None) (partner-back t)
       ∙ ap (λ o. cond (is_none o) (index_at (pushed v p) (partner t)) None) (index-next v p t next)
 
-  pub unpaired_next : (m : Turns) (o : Option ℕ) → ((u : Turn) → unpaired_kept m u ≡ unpaired_at v u) → index_at v (partner t) ≡ o
-      → (u : Turn) → unpaired_after o m t (length (pdus_from p.place.dir v)) u ≡ unpaired_at (pushed v p) u
-  unpaired_next m None kept e u = elim (is_at (turn_cmp t) u) as (λ b. is_at (turn_cmp t) u ≡ b
-      → cond b (Some (length (pdus_from p.place.dir v))) (unpaired_kept m u) ≡ unpaired_at (pushed v p) u) [
+  pub unpaired_next : (o : Option ℕ) → index_at v (partner t) ≡ o
+      → (u : Turn) → unpaired_after o (unpaired_at v) t (length (pdus_from p.place.dir v)) u ≡ unpaired_at (pushed v p) u
+  unpaired_next None e u = elim (is_at (turn_cmp t) u) as (λ b. is_at (turn_cmp t) u ≡ b
+      → cond b (Some (length (pdus_from p.place.dir v))) (unpaired_at v u) ≡ unpaired_at (pushed v p) u) [
         | true ↦ λ here.
             sym (ap (unpaired_at (pushed v p)) (sym (turn-same t u here)) ∙ unpaired-own
             ∙ ap (λ o. cond (is_none o) (Some (length (pdus_from p.place.dir v))) None) e)
-        | false ↦ λ other. kept u ∙ by_partner u (λ same. turn-other t u other (sym same))
+        | false ↦ λ other. by_partner u (λ same. turn-other t u other (sym same))
       ] refl
     where
       by_partner : (u : Turn) → u ≢ t → unpaired_at v u ≡ unpaired_at (pushed v p) u
@@ -134,10 +134,10 @@ module _ (v : PairingValue) (p : PlacedHeader) (t : Turn) (next : next_turn v p 
                 ap (unpaired_at v) (sym same) ∙ unpaired-partner ∙ e ∙ sym unpaired-met ∙ ap (unpaired_at (pushed v p)) same
             | false ↦ λ other. sym (unpaired-others u h (λ same. turn-other (partner t) u other (sym same)))
           ] refl
-  unpaired_next m (Some j) kept e u = elim (is_at (turn_cmp (partner t)) u) as (λ b. is_at (turn_cmp (partner t)) u ≡ b
-      → cond b None (unpaired_kept m u) ≡ unpaired_at (pushed v p) u) [
+  unpaired_next (Some j) e u = elim (is_at (turn_cmp (partner t)) u) as (λ b. is_at (turn_cmp (partner t)) u ≡ b
+      → cond b None (unpaired_at v u) ≡ unpaired_at (pushed v p) u) [
         | true ↦ λ here. sym (ap (unpaired_at (pushed v p)) (sym (turn-same (partner t) u here)) ∙ unpaired-met)
-        | false ↦ λ other. kept u ∙ by_own u (λ same. turn-other (partner t) u other (sym same))
+        | false ↦ λ other. by_own u (λ same. turn-other (partner t) u other (sym same))
       ] refl
     where
       by_own : (u : Turn) → u ≢ partner t → unpaired_at v u ≡ unpaired_at (pushed v p) u

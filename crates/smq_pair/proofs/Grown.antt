@@ -24,7 +24,7 @@ use Rattle.smq_pair.proofs.Turned.{by_dir, opposite-back, partner-back, pushed-a
 use Rattle.smq_pair.proofs.Standing.{IsNowhere, there-or-not, same-place, here-place, other-place, pair_with, pair_either, pair-here, pair-nowhere, standing-here, dir-of, dir-ascends}
 use Rattle.smq_pair.proofs.Order.{in-order-next, next-is-free, get-append}
 use Rattle.smq_pair.proofs.Entered.{partner-stays, partner-next}
-use Rattle.smq_pair.proofs.Searched.{partner-pdu}
+use Rattle.smq_pair.proofs.Placed.{partner-pdu}
 use Rattle.smq_pair.proofs.Ranked.{finds-pairs, has-two-places, header-at}
 
 -- two PDUs at one place are one

@@ -1,33 +1,23 @@
--- Keys that compare equal are one.
-use Rattle.std.proofs.Common.{◌≡◌, ◌≢◌, ℕ, true, false, refl, sym, ap, ◌∙◌}
+-- The orders of keys are total, and keys that compare equal are one.
+use Rattle.std.proofs.Common.{◌≡◌, ◌≢◌, true, false, refl, sym, ap, ◌∙◌, subst}
 use Rattle.std.proofs.lemmas.Bool.{false≢true}
 use Rattle.std.specs.declared.cmp.Ordering.{Ordering}
-use Rattle.std.specs.declared.cmp.Ordering.TheVariants.{Less, Equal, Greater}
-use Rattle.std.specs.Ordering.{nat_cmp, ordering_then, is_eq}
-use Rattle.std.specs.Cmp.{tied_itself, nat_cmp_total}
+use Rattle.std.specs.declared.cmp.Ordering.TheVariants.{Equal}
+use Rattle.std.specs.Ordering.{is_eq}
+use Rattle.std.specs.Cmp.{IsTotalOrder}
+use Rattle.std.proofs.lemmas.Cmp.{tied_itself, nat_cmp_total, on_total, then_total}
 use Rattle.std.specs.BTreeMap.{is_at}
-use Rattle.std.specs.FinMap.{nat_cmp-IsAntisymmetric}
 use Rattle.smq_kit.specs.declared.place.Dir.{Dir}
 use Rattle.smq_kit.specs.declared.place.Dir.TheVariants.{FromClient, FromCentre}
+use Rattle.smq_kit.specs.declared.place.Place.{Place}
 use Rattle.smq_kit.specs.Orders.{dir_cmp}
-use Rattle.smq_kit.proofs.Comparisons.{is_equal, then_first, then_second}
-use Rattle.smq_pair.specs.declared.entry.Side.{Side}
-use Rattle.smq_pair.specs.declared.entry.Side.TheVariants.{Request, Response}
+use Rattle.smq_kit.proofs.Comparisons.{is_equal}
+use Rattle.smq_kit.proofs.PlaceOrders.{places_total}
+use Rattle.smq_shelf.specs.within.KeyLaws.{place_order, one_place}
 use Rattle.smq_pair.specs.declared.entry.Series.{Series}
 use Rattle.smq_pair.specs.declared.entry.Turn.{Turn}
-use Rattle.smq_kit.specs.contracts.place.DirOrd.TheImpl as dir_ord
-use Rattle.smq_pair.specs.contracts.entry.SideOrd.TheImpl as side_ord
-use Rattle.smq_pair.specs.within.Maps.{turn_cmp, series_cmp}
-
--- the order of sides
-side_order : Side → Side → Ordering
-side_order Request Request = Equal
-side_order Request Response = Less
-side_order Response Request = Greater
-side_order Response Response = Equal
-
-then_equal : (p q : Ordering) → p ≡ Equal → q ≡ Equal → ordering_then p q ≡ Equal
-then_equal p q e f = rw (e, f) refl
+use Rattle.smq_pair.specs.within.Orders.{kept_place_cmp, series_cmp, turn_cmp}
+use Rattle.smq_pair.specs.within.KeyLaws.{dir_number, side_number, series_order, one_series, one_turn}
 
 pub same_dir : (a b : Dir) → dir_cmp a b ≡ Equal → a ≡ b
 same_dir FromClient FromClient e = refl
@@ -39,87 +29,57 @@ pub dir_itself : (a : Dir) → dir_cmp a a ≡ Equal
 dir_itself FromClient = refl
 dir_itself FromCentre = refl
 
-same_side_of : (a b : Side) → side_order a b ≡ Equal → a ≡ b
-unfolding side_order
-same_side_of Request Request e = refl
-same_side_of Request Response e = absurd cc
-same_side_of Response Request e = absurd cc
-same_side_of Response Response e = refl
+-- ---- the orders of maps
 
-side_itself : (a : Side) → side_order a a ≡ Equal
-unfolding side_order
-side_itself Request = refl
-side_itself Response = refl
+pub kept_places_total : IsTotalOrder kept_place_cmp
+kept_places_total = subst IsTotalOrder (sym (λ i a b. place_order a b i)) places_total
 
--- ---- the orders of maps of std
+pub series_total : IsTotalOrder series_cmp
+series_total = subst IsTotalOrder (sym (λ i a b. series_order a b i))
+    (then_total (on_total (λ (s : Series). s.seq) nat_cmp_total)
+    (then_total (on_total (λ (s : Series). dir_number s.dir) nat_cmp_total) (on_total (λ (s : Series). side_number s.side) nat_cmp_total)))
 
-pub kept_dir : (x y : Dir) → (dir_ord.ghosts).cmp x y ≡ dir_cmp x y
-kept_dir FromClient FromClient = refl
-kept_dir FromClient FromCentre = refl
-kept_dir FromCentre FromClient = refl
-kept_dir FromCentre FromCentre = refl
-
-kept_side : (x y : Side) → (side_ord.ghosts).cmp x y ≡ side_order x y
-unfolding side_order
-kept_side Request Request = refl
-kept_side Request Response = refl
-kept_side Response Request = refl
-kept_side Response Response = refl
-
-series_order : (a b : Series) → series_cmp a b ≡ ordering_then (nat_cmp a.seq b.seq) (ordering_then (dir_cmp a.dir b.dir) (side_order a.side b.side))
-series_order a b = λ i. ordering_then (nat_cmp a.seq b.seq) (ordering_then (kept_dir a.dir b.dir i) (kept_side a.side b.side i))
-
-turn_order : (a b : Turn) → turn_cmp a b ≡ ordering_then (series_cmp a.series b.series) (nat_cmp a.rank b.rank)
-turn_order a b = refl
-
--- ---- keys that compare equal
-
-num_itself : (n : ℕ) → nat_cmp n n ≡ Equal
-num_itself n = tied_itself nat_cmp_total n
-
-series_exact : (a b : Series) → series_cmp a b ≡ Equal → a ≡ b
-series_exact a b e =
-    let all = sym (series_order a b) ∙ e in
-    let rest = then_second (nat_cmp a.seq b.seq) (ordering_then (dir_cmp a.dir b.dir) (side_order a.side b.side)) all in
-    λ i. record {
-      seq = nat_cmp-IsAntisymmetric a.seq b.seq
-          (then_first (nat_cmp a.seq b.seq) (ordering_then (dir_cmp a.dir b.dir) (side_order a.side b.side)) all) i;
-      dir = same_dir a.dir b.dir (then_first (dir_cmp a.dir b.dir) (side_order a.side b.side) rest) i;
-      side = same_side_of a.side b.side (then_second (dir_cmp a.dir b.dir) (side_order a.side b.side) rest) i;
-    }
-
-series_itself : (a : Series) → series_cmp a a ≡ Equal
-series_itself a = series_order a a ∙ then_equal _ _ (num_itself a.seq) (then_equal _ _ (dir_itself a.dir) (side_itself a.side))
-
-turn_exact : (a b : Turn) → turn_cmp a b ≡ Equal → a ≡ b
-turn_exact a b e = λ i. record {
-  series = series_exact a.series b.series (then_first (series_cmp a.series b.series) (nat_cmp a.rank b.rank) e) i;
-  rank = nat_cmp-IsAntisymmetric a.rank b.rank (then_second (series_cmp a.series b.series) (nat_cmp a.rank b.rank) e) i;
-}
-
-turn_itself : (a : Turn) → turn_cmp a a ≡ Equal
-turn_itself a = then_equal (series_cmp a.series a.series) _ (series_itself a.series) (num_itself a.rank)
+pub turns_total : IsTotalOrder turn_cmp
+turns_total = then_total (on_total (λ (t : Turn). t.series) series_total) (on_total (λ (t : Turn). t.rank) nat_cmp_total)
 
 -- ---- tests at keys
 
-module _ {K : Type 0} (cmp : K → K → Ordering) (exact : (a b : K) → cmp a b ≡ Equal → a ≡ b) (itself : (a : K) → cmp a a ≡ Equal) where
+module _ {K : Type 0} (cmp : K → K → Ordering) (exact : (a b : K) → cmp a b ≡ Equal → a ≡ b) (total : IsTotalOrder cmp) where
   at_same : (k q : K) → is_at (cmp k) q ≡ true → k ≡ q
   at_same k q e = exact k q (is_equal (cmp k q) e)
 
   at_other : (k q : K) → is_at (cmp k) q ≡ false → k ≢ q
-  at_other k q e same = false≢true (sym e ∙ ap (λ x. is_eq (cmp k x)) (sym same) ∙ ap is_eq (itself k))
+  at_other k q e same = false≢true (sym e ∙ ap (λ x. is_eq (cmp k x)) (sym same) ∙ ap is_eq (tied_itself total k))
 
   at_itself : (k : K) → is_at (cmp k) k ≡ true
-  at_itself k = ap is_eq (itself k)
+  at_itself k = ap is_eq (tied_itself total k)
+
+  at_apart : (k q : K) → k ≢ q → is_at (cmp k) q ≡ false
+  at_apart k q h = elim (is_at (cmp k) q) as (λ b. is_at (cmp k) q ≡ b → b ≡ false) [
+    | true ↦ λ e. absurd (h (at_same k q e))
+    | false ↦ λ e. refl
+  ] refl
 
 pub turn-same : (k q : Turn) → is_at (turn_cmp k) q ≡ true → k ≡ q
-turn-same = at_same turn_cmp turn_exact turn_itself
+turn-same = at_same turn_cmp one_turn turns_total
 
 pub turn-other : (k q : Turn) → is_at (turn_cmp k) q ≡ false → k ≢ q
-turn-other = at_other turn_cmp turn_exact turn_itself
+turn-other = at_other turn_cmp one_turn turns_total
+
+pub turn-apart : (k q : Turn) → k ≢ q → is_at (turn_cmp k) q ≡ false
+turn-apart = at_apart turn_cmp one_turn turns_total
 
 pub series-same : (k q : Series) → is_at (series_cmp k) q ≡ true → k ≡ q
-series-same = at_same series_cmp series_exact series_itself
+series-same = at_same series_cmp one_series series_total
 
 pub series-other : (k q : Series) → is_at (series_cmp k) q ≡ false → k ≢ q
-series-other = at_other series_cmp series_exact series_itself
+series-other = at_other series_cmp one_series series_total
+
+pub series-apart : (k q : Series) → k ≢ q → is_at (series_cmp k) q ≡ false
+series-apart = at_apart series_cmp one_series series_total
+
+pub place-at : (k q : Place) → is_at (kept_place_cmp k) q ≡ true → k ≡ q
+place-at = at_same kept_place_cmp one_place kept_places_total
+
+pub place-itself : (k : Place) → is_at (kept_place_cmp k) k ≡ true
+place-itself = at_itself kept_place_cmp one_place kept_places_total

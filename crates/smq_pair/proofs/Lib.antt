@@ -5,6 +5,8 @@ pub mod Standing
 pub mod Order
 pub mod Entries
 pub mod Entered
+pub mod Placed
+pub mod Meetings
 pub mod Steps
 pub mod Searched
 pub mod Ranked

@@ -1,4 +1,6 @@
 -- What the code keeps, which no public contract names.
 pub mod Turns
+pub mod Orders
+pub mod KeyLaws
 pub mod Kept
 pub mod Maps

@@ -5,15 +5,15 @@ ghost use Rattle.smq_pair.specs.within.Kept.{series_of_entry, is_alone};
 
 use smq_kit::{Dir, Place};
 use smq_pdu::{is_request, is_response};
+use smq_shelf::ShelfKey;
 
-/// A PDU at its place, as its header says, with the index of its partner in the other direction, if it has one.
+/// What is kept of the PDU at a place: what its header says, and the place of its partner, if it has one.
 #[derive(Clone, Copy)]
 pub(crate) struct Entry {
-    pub place: Place,
     pub seq: u32,
     pub command: u32,
     pub status: u32,
-    pub partner: Option<usize>,
+    pub partner: Option<Place>,
 }
 
 /// What a PDU is in a pair.
@@ -35,13 +35,33 @@ pub(crate) struct Series {
 #[derive(Clone, Copy, PartialEq, Eq, PartialOrd, Ord)]
 pub(crate) struct Turn {
     pub series: Series,
-    pub rank: usize,
+    pub rank: u64,
+}
+
+impl ShelfKey for Series {
+    ghost use Rattle.smq_pair.specs.within.KeyLaws.{one_series};
+
+    ghost exact = { one_series };
+
+    fn copy(&self) -> Series {
+        *self
+    }
+}
+
+impl ShelfKey for Turn {
+    ghost use Rattle.smq_pair.specs.within.KeyLaws.{one_turn};
+
+    ghost exact = { one_turn };
+
+    fn copy(&self) -> Turn {
+        *self
+    }
 }
 
 impl Entry {
-    /// The series in which it stands, if it is a request or a response.
-    pub(crate) fn series(&self) -> Option<Series>
-        ensures { result ≡ series_of_entry self.now }
+    /// The series in which it stands, if it is a request or a response of a direction.
+    pub(crate) fn series(&self, dir: Dir) -> Option<Series>
+        ensures { result ≡ series_of_entry dir self.now }
     {
         let side = if is_request(self.command) {
             Side::Request
@@ -51,7 +71,7 @@ impl Entry {
             return None;
         };
         Some(Series {
-            dir: self.place.dir,
+            dir,
             side,
             seq: self.seq,
         })

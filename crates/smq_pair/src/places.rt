@@ -3,15 +3,15 @@ ghost use Rattle.std.specs.Iterator.{YieldsFirstBy, item_count};
 
 use crate::entry::{Entry, Side};
 use smq_kit::Place;
+use smq_shelf::Entries;
 use std::marker::Model;
-use std::slice::Iter;
 
 /// The places that are still to come. A contract sees their list.
 #[derive(Drop)]
 pub struct Places<'a> {
     pub(crate) side: Side,
-    pub(crate) client: Iter<'a, Entry>,
-    pub(crate) centre: Iter<'a, Entry>,
+    pub(crate) client: Entries<'a, Place, Entry>,
+    pub(crate) centre: Entries<'a, Place, Entry>,
 }
 
 impl<'a> Model for Places<'a> {
@@ -21,10 +21,9 @@ impl<'a> Model for Places<'a> {
     ghost Value = { List Place };
 
     ghost use Rattle.std.specs.Prelude.{◌++◌};
-    ghost use Rattle.std.specs.Slice.Iter.{iter_rest};
     ghost use Rattle.smq_pair.specs.within.Kept.{places_alone};
 
-    ghost view = { λ p. places_alone p.side (iter_rest p.client ++ iter_rest p.centre) };
+    ghost view = { λ p. places_alone p.side (p.client ++ p.centre) };
 }
 
 impl<'a> Iterator for Places<'a> {
@@ -36,14 +35,14 @@ impl<'a> Iterator for Places<'a> {
 
     fn next(&mut self) -> Option<Place> {
         let side = self.side;
-        while let Some(entry) = self.client.next() {
+        while let Some((place, entry)) = self.client.next() {
             if entry.is_alone(side) {
-                return Some(entry.place);
+                return Some(*place);
             }
         }
-        while let Some(entry) = self.centre.next() {
+        while let Some((place, entry)) = self.centre.next() {
             if entry.is_alone(side) {
-                return Some(entry.place);
+                return Some(*place);
             }
         }
         None

@@ -1,85 +1,189 @@
-//! How many PDUs each series has, and which turns have no partner yet.
-ghost use Rattle.std.specs.Prelude.{◌≡◌, ◌<◌, ◌+◌, ◌^◌, if◌then◌else◌, IfOk, IfSome, IsSome, OnErr, OnOk};
-ghost use Rattle.std.specs.BTreeMap.{get, is_at};
-ghost use Rattle.smq_pair.specs.within.Maps.{AreAlike, Enters, IsMet, count_kept, series_cmp, unpaired_kept};
+//! The rank of the last PDU of each series, and which turns have no partner yet.
+ghost use Rattle.std.specs.Prelude.{◌≡◌, ◌<◌, ◌≤◌, ◌+◌, ◌*◌, ◌^◌, ◌-◌, [], ◌∷◌, min, IfOk, IfSome, IsSome, OnErr, OnOk};
+ghost use Rattle.std.specs.List.Sorted.{IsStrictlySortedBy};
+ghost use Rattle.std.specs.Map.{keys_of, lookup};
+ghost use Rattle.std.specs.BTreeMap.{insert_entry, is_at};
+ghost use Rattle.smq_shelf.specs.KeptLending.{IsRead};
+ghost use Rattle.smq_shelf.specs.Places.{content_of};
+ghost use Rattle.smq_shelf.specs.Shown.{touched};
+ghost use Rattle.smq_pair.specs.within.Orders.{series_cmp, turn_cmp};
+ghost use Rattle.smq_pair.specs.within.Turns as defined;
+ghost use Rattle.smq_pair.specs.within.Maps.{CanLeave, Enters, Matching, count_kept, matching_in, next_rank, pending_in, settled_matching, touches_in, with_turn};
 
 use crate::entry::{Series, Turn};
+use smq_kit::Place;
+use smq_shelf::Kept;
 use std::alloc::{AllocError, Global};
-use std::collections::BTreeMap;
 
-/// How many PDUs of each series came, and the index of the PDU of each turn that has no partner.
+/// The rank of the last PDU of each series, and the place of the PDU of each turn that has no partner.
 #[derive(Drop)]
 pub(crate) struct Turns {
-    pub counts: BTreeMap<Series, usize>,
-    pub unpaired: BTreeMap<Turn, usize>,
+    pub lasts: Kept<Series, u64>,
+    pub unpaired: Kept<Turn, Place>,
 }
 
 impl Turns {
-    /// Counts one PDU more of a series, and gives how many came before it. An error changes nothing.
-    fn count(&mut self, series: Series) -> Result<usize, AllocError>
-        requires { count_kept self.old series + 1 < 2 ^ 64 }
-        ensures rank { IfOk result (λ rank. rank ≡ count_kept self.old series) }
-        ensures counts { OnOk result ((s : Series) → count_kept self.new s
-            ≡ (if is_at (series_cmp series) s then count_kept self.old series + 1 else count_kept self.old s)) }
-        ensures kept { OnOk result (IsSome (get series_cmp self.new.counts series)) }
-        ensures err { OnErr result ((s : Series) → count_kept self.new s ≡ count_kept self.old s) }
-        ensures others { self.new.unpaired ≡ self.old.unpaired }
+    /// No turns.
+    pub(crate) fn new(alloc: Global) -> Turns
+        ensures matching { matching_in result ≡ record { lasts = []; unpaired = [] } }
+        ensures settled { settled_matching result ≡ record { lasts = []; unpaired = [] } }
+        ensures touches { touches_in result ≡ 0 }
+        ensures pending { pending_in result ≡ 0 }
     {
-        if let Some(count) = self.counts.get_mut(&series) {
-            let rank = *count;
-            *count = rank + 1;
-            return Ok(rank);
-        }
-        self.counts.insert(series, 1)?;
-        Ok(0)
-    }
-
-    /// Sets the count of a series, where it is kept.
-    fn set_count(&mut self, series: Series, count: usize)
-        requires { IsSome (get series_cmp self.old.counts series) }
-        ensures counts { (s : Series) → count_kept self.new s
-            ≡ (if is_at (series_cmp series) s then count else count_kept self.old s) }
-        ensures others { self.new.unpaired ≡ self.old.unpaired }
-    {
-        if let Some(kept) = self.counts.get_mut(&series) {
-            *kept = count;
+        Turns {
+            lasts: Kept::new(alloc),
+            unpaired: Kept::new(alloc),
         }
     }
 
-    /// Takes the index of a turn's partner out, if it waits, or else keeps this index of the turn. An error changes
-    /// nothing.
-    fn meet(&mut self, turn: Turn, index: usize) -> Result<Option<usize>, AllocError>
-        ensures ok { IfOk result (λ found. IsMet self.old self.new turn index found) }
-        ensures err { OnErr result ((u : Turn)
-            → unpaired_kept self.new u ≡ unpaired_kept self.old u) }
-        ensures others { self.new.counts ≡ self.old.counts }
-    {
-        let found = self.unpaired.remove(&turn.partner());
-        if found.is_none() {
-            self.unpaired.insert(turn, index)?;
-        }
-        Ok(found)
-    }
-
-    /// Takes the next PDU of a series, if it is of one, by its index, and gives the index of its partner, if that came.
+    /// Takes the next PDU of a series, if it is of one, by its place, and gives the place of its partner, if that came.
     /// An error changes nothing.
     pub(crate) fn enter(
         &mut self,
         series: Option<Series>,
-        index: usize,
-    ) -> Result<Option<usize>, AllocError>
-        requires { IfSome series (λ s. count_kept self.old s + 1 < 2 ^ 64) }
-        ensures ok { IfOk result (λ found. Enters self.old self.new series index found) }
-        ensures err { OnErr result (AreAlike self.old self.new) }
+        place: Place,
+    ) -> Result<Option<Place>, AllocError>
+        requires { IfSome series (λ s. count_kept (matching_in self.old) s < 2 ^ 64) }
+        ensures ok { IfOk result (λ found.
+            Enters (matching_in self.old) (matching_in self.new) series place found) }
+        ensures back { OnOk result (CanLeave series (matching_in self.old) self.new) }
+        ensures err { OnErr result (matching_in self.new ≡ matching_in self.old) }
+        ensures settled { settled_matching self.new ≡ settled_matching self.old }
+        ensures touches { OnOk result (touches_in self.new ≤ touches_in self.old + 5) }
+        ensures err_touches { OnErr result (touches_in self.new ≤ touches_in self.old + 6) }
+        ensures touched { OnOk result (IsSome series
+            → touched (touches_in self.old) ≤ touches_in self.new) }
+        ensures counted { touches_in self.old ≤ touches_in self.new }
+        ensures pending { pending_in self.new ≤ pending_in self.old + 2 }
     {
         let Some(series) = series else {
             return Ok(None);
         };
-        let rank = self.count(series)?;
-        let found = self.meet(Turn { series, rank }, index);
-        if found.is_err() {
-            self.set_count(series, rank);
+        let rank = count(&mut self.lasts, series)?;
+        match meet(&mut self.unpaired, Turn { series, rank }, place) {
+            Ok(found) => Ok(found),
+            Err(error) => {
+                self.lasts.take_back();
+                Err(error)
+            }
         }
-        found
     }
+
+    /// Takes back what the PDU that entered last changed, if it is of a series.
+    pub(crate) fn leave(&mut self, series: Option<Series>)
+        ensures matching { (m : Matching) → CanLeave series m self.old → matching_in self.new ≡ m }
+        ensures settled { settled_matching self.new ≡ settled_matching self.old }
+        ensures touches { touches_in self.new ≤ touches_in self.old + 2 }
+        ensures counted { touches_in self.old ≤ touches_in self.new }
+        ensures pending { pending_in self.new ≤ pending_in self.old }
+    {
+        let Some(_) = series else {
+            return;
+        };
+        self.lasts.take_back();
+        self.unpaired.take_back();
+    }
+
+    /// Brings back the turns of the last `settle`, or none.
+    pub(crate) fn undo(&mut self)
+        ensures matching { matching_in self.new ≡ settled_matching self.old }
+        ensures settled { settled_matching self.new ≡ settled_matching self.old }
+        ensures pending { pending_in self.new ≡ 0 }
+        ensures touches { touches_in self.new ≤ touches_in self.old + pending_in self.old }
+        ensures counted { touches_in self.old ≤ touches_in self.new }
+    {
+        self.lasts.undo();
+        self.unpaired.undo();
+    }
+
+    /// Makes the turns those that `undo` brings back.
+    pub(crate) fn settle(&mut self)
+        ensures matching { matching_in self.new ≡ matching_in self.old }
+        ensures settled { settled_matching self.new ≡ matching_in self.old }
+        ensures pending { pending_in self.new ≡ 0 }
+        ensures touches { touches_in self.new ≤ touches_in self.old + 2 * pending_in self.old }
+        ensures counted { touches_in self.old ≤ touches_in self.new }
+    {
+        self.lasts.settle();
+        self.unpaired.settle();
+    }
+
+    /// How many touches there were.
+    pub(crate) fn touches(&self) -> u64
+        ensures { result ≡ min (touches_in self.now) (2 ^ 64 - 1) }
+    {
+        self.lasts.touches().saturating_add(self.unpaired.touches())
+    }
+}
+
+/// Counts one PDU more of a series, and gives how many came before it. An error changes nothing.
+fn count(lasts: &mut Kept<Series, u64>, series: Series) -> Result<u64, AllocError>
+    requires { next_rank (lookup (is_at (series_cmp series)) lasts.old.content) < 2 ^ 64 }
+    ensures rank { IfOk result (λ rank. rank
+        ≡ next_rank (lookup (is_at (series_cmp series)) lasts.old.content)) }
+    ensures content { IfOk result (λ rank. lasts.new.content
+        ≡ insert_entry series_cmp lasts.old.content series rank) }
+    ensures past { OnOk result (lasts.new.past ≡ lasts.old.places ∷ lasts.old.past) }
+    ensures shown { OnOk result (lasts.old.content ≡ content_of lasts.old.places) }
+    ensures pending { OnOk result (lasts.new.pending ≡ lasts.old.pending + 1) }
+    ensures touched { OnOk result (touched lasts.old.touches ≤ lasts.new.touches) }
+    ensures err { OnErr result (lasts.new.content ≡ lasts.old.content) }
+    ensures err_pending { OnErr result (lasts.new.pending ≡ lasts.old.pending) }
+    ensures settled { lasts.new.settled ≡ lasts.old.settled }
+    ensures touches { lasts.new.touches ≤ lasts.old.touches + 2 }
+    ensures counted { lasts.old.touches ≤ lasts.new.touches }
+{
+    let rank = rank_in(lasts, series);
+    lasts.set(series, rank)?;
+    Ok(rank)
+}
+
+/// How many PDUs of a series came.
+fn rank_in(lasts: &mut Kept<Series, u64>, series: Series) -> u64
+    requires { next_rank (lookup (is_at (series_cmp series)) lasts.old.content) < 2 ^ 64 }
+    ensures value { result ≡ next_rank (lookup (is_at (series_cmp series)) lasts.old.content) }
+    ensures read { IsRead lasts.old lasts.new }
+{
+    match lasts.get(&series) {
+        Some(last) => *last + 1,
+        None => 0,
+    }
+}
+
+/// Takes the place of a turn's partner out, if it waits, or else keeps this place of the turn. An error changes nothing.
+fn meet(
+    unpaired: &mut Kept<Turn, Place>,
+    turn: Turn,
+    place: Place,
+) -> Result<Option<Place>, AllocError>
+    ensures found { IfOk result (λ found. found
+        ≡ lookup (is_at (turn_cmp (defined.partner turn))) unpaired.old.content) }
+    ensures content { IfOk result (λ found. unpaired.new.content
+        ≡ with_turn found turn place unpaired.old.content) }
+    ensures ordered { IfOk result (λ found. IsSome found
+        → IsStrictlySortedBy turn_cmp (keys_of unpaired.old.content)) }
+    ensures past { OnOk result (unpaired.new.past ≡ unpaired.old.places ∷ unpaired.old.past) }
+    ensures shown { OnOk result (unpaired.old.content ≡ content_of unpaired.old.places) }
+    ensures err { OnErr result (unpaired.new.content ≡ unpaired.old.content) }
+    ensures settled { unpaired.new.settled ≡ unpaired.old.settled }
+    ensures pending { unpaired.new.pending ≤ unpaired.old.pending + 1 }
+    ensures touches { unpaired.new.touches ≤ unpaired.old.touches + 3 }
+    ensures counted { unpaired.old.touches ≤ unpaired.new.touches }
+{
+    let partner = turn.partner();
+    let found = place_in(unpaired, partner);
+    if found.is_some() {
+        unpaired.remove(&partner)?;
+    } else {
+        unpaired.set(turn, place)?;
+    }
+    Ok(found)
+}
+
+/// The place of the PDU of a turn that has no partner.
+fn place_in(unpaired: &mut Kept<Turn, Place>, turn: Turn) -> Option<Place>
+    ensures value { result ≡ lookup (is_at (turn_cmp turn)) unpaired.old.content }
+    ensures read { IsRead unpaired.old unpaired.new }
+{
+    unpaired.get(&turn).copied()
 }

@@ -24,7 +24,7 @@ pub(crate) fn push_notes(
     number: SessionId,
     session: &Session,
 ) -> Result<(), AllocError>
-    requires { pairing.old ≡ session_pairing (number.0, session.now) }
+    requires { pairing.old.pdus ≡ session_pairing (number.0, session.now) }
     ensures { OnOk result
         (notes.new.items ≡ notes.old.items ++ session_notes (number.0, session.now)) }
 {
@@ -46,8 +46,8 @@ fn push_pairing_notes(
     client: &[KeptPdu],
     centre: &[KeptPdu],
 ) -> Result<(), AllocError>
-    requires { pairing.old ≡ pairing_among (from_session session) client.now centre.now }
-    ensures { OnOk result (notes.new.items ≡ notes.old.items ++ pairing_notes pairing.old) }
+    requires { pairing.old.pdus ≡ pairing_among (from_session session) client.now centre.now }
+    ensures { OnOk result (notes.new.items ≡ notes.old.items ++ pairing_notes pairing.old.pdus) }
 {
     push_places(notes, List::Waiting, pairing.waiting())?;
     push_places(notes, List::StrayAnswers, pairing.strays())?;
@@ -74,7 +74,7 @@ fn push_mismatched(
     pdus: &[KeptPdu],
 ) -> Result<(), AllocError>
     ensures notes { OnOk result (notes.new.items ≡ notes.old.items
-        ++ map (listed List.Mismatched) (mismatched_in pairing.old (from_session session) dir pdus.now)) }
+        ++ map (listed List.Mismatched) (mismatched_in pairing.old.pdus (from_session session) dir pdus.now)) }
     ensures stays { pairing.new ≡ pairing.old }
 {
     for pdu in pdus {
@@ -93,7 +93,7 @@ fn push_mismatched(
 /// Whether the PDU at a place, which has this command_id, is a request whose response doesn't agree.
 fn is_mismatched(pairing: &mut Pairing, place: Place, command: u32) -> bool
     ensures answer { result
-        ≡ (pdu.is_request (header_with command) && disagrees (pair_at pairing.old place)) }
+        ≡ (pdu.is_request (header_with command) && disagrees (pair_at pairing.old.pdus place)) }
     ensures stays { pairing.new ≡ pairing.old }
 {
     if !is_request(command) {

@@ -22,7 +22,7 @@ pub(crate) fn pairing_of(
     requires client { Rises 0 client.now }
     requires centre { Rises 0 centre.now }
     ensures { IfOk result (λ pairing.
-        pairing ≡ pairing_among (from_session session) client.now centre.now) }
+        pairing.pdus ≡ pairing_among (from_session session) client.now centre.now) }
 {
     let mut pairing = Pairing::new(alloc);
     for pdu in client {
@@ -36,9 +36,9 @@ pub(crate) fn pairing_of(
 
 /// Takes the next PDU of its direction.
 fn add(pairing: &mut Pairing, session: SessionId, dir: Dir, pdu: &KeptPdu) -> Result<(), AllocError>
-    requires { IsNext pairing.old (traffic.place_of (from_session session) dir pdu.now) }
+    requires { IsNext pairing.old.pdus (traffic.place_of (from_session session) dir pdu.now) }
     ensures { OnOk result
-        (pairing.new ≡ pushed pairing.old (placed (from_session session) dir pdu.now)) }
+        (pairing.new.pdus ≡ pushed pairing.old.pdus (placed (from_session session) dir pdu.now)) }
 {
     let place = place_of(session, dir, pdu);
     pairing.add(place, pdu.seq, pdu.command, pdu.status)?;

@@ -64,7 +64,7 @@ pub(crate) fn push_submits<'a>(
     client: &'a [KeptPdu],
     centre: &'a [KeptPdu],
 ) -> Result<(), AllocError>
-    requires pairs { pairing.old ≡ pairing_among (from_session source.session) client.now centre.now }
+    requires pairs { pairing.old.pdus ≡ pairing_among (from_session source.session) client.now centre.now }
     requires client { Rises 0 client.now }
     requires centre { Rises 0 centre.now }
     requires requests { SubmitsAreRequests client.now }
@@ -90,7 +90,7 @@ fn submit_at<'a>(
     requires { Rises 0 centre.now }
     ensures submit { let place = traffic.place_of (from_session source.session) FromClient pdu.now in
         option_to_list result
-        ≡ submit_with (submit_in pdu.now.content) source pdu.now (response_at pairing.old centre.now place) }
+        ≡ submit_with (submit_in pdu.now.content) source pdu.now (response_at pairing.old.pdus centre.now place) }
     ensures stays { pairing.new ≡ pairing.old }
 {
     match pdu.content.submit() {
@@ -115,7 +115,7 @@ fn response_of<'a>(
     centre: &'a [KeptPdu],
 ) -> Option<&'a KeptPdu>
     requires { Rises 0 centre.now }
-    ensures response { option_copied result ≡ response_at pairing.old centre.now place }
+    ensures response { option_copied result ≡ response_at pairing.old.pdus centre.now place }
     ensures stays { pairing.new ≡ pairing.old }
 {
     let pair = pairing.pair_of(place)?;

@@ -1,9 +1,9 @@
--- The PDUs of both directions, as vectors keep them.
-use Rattle.std.specs.Prelude.{◌≡◌, ◌≢◌, ◌<◌, ◌==◌, ◌&&◌, ℕ, Bool, if◌then◌else◌, List, [], ◌∷◌, ◌++◌, map, filter, slice_get, slice_set, Option, Some, option_map, option_and_then, is_none}
-use Rattle.std.specs.Prelude.{IfSome, MatchOption, length}
+-- The PDUs of both directions, as maps keep them by place.
+use Rattle.std.specs.Prelude.{◌==◌, ◌&&◌, Bool, if◌then◌else◌, List, ◌++◌, map, filter, Option, Some, None, option_map, option_and_then, is_none}
 use Rattle.std.specs.List.{list_all}
 use Rattle.std.specs.Ordering.{is_lt}
-use Rattle.std.specs.Vec.{vec_len, vec_capacity}
+use Rattle.std.specs.Map.{lookup}
+use Rattle.std.specs.BTreeMap.{insert_entry, is_at}
 use Rattle.smq_kit.specs.declared.names.SessionId.{SessionId}
 use Rattle.smq_kit.specs.declared.place.Dir.{Dir}
 use Rattle.smq_kit.specs.declared.place.Dir.TheVariants.{FromClient, FromCentre}
@@ -16,107 +16,105 @@ use Rattle.smq_pair.specs.declared.entry.Side.{Side}
 use Rattle.smq_pair.specs.declared.entry.Series.{Series}
 use Rattle.smq_pair.specs.declared.streams.Streams.{Streams}
 use Rattle.smq_pair.specs.declared.pairing.Pair.{Pair}
-use Rattle.smq_pair.specs.Pairing.{PlacedHeader, PairingValue, pair_of, opposite}
+use Rattle.smq_pair.specs.Pairing.{PlacedHeader, PairingValue, pair_of}
 use Rattle.smq_pair.specs.within.Turns.{is_on, series_of}
+use Rattle.smq_pair.specs.within.Orders.{kept_place_cmp}
 
--- the entries of each direction, in order
+-- an entry at its place
+abbrev pub Held : Type 0
+Held = Place × Entry
+
+-- the entries of each direction, by place
 pub record Entries : Type 0 where
-  pub client : List Entry
-  pub centre : List Entry
+  pub client : List Held
+  pub centre : List Held
 
 abbrev pub entries_in : Streams → Entries
-entries_in s = record { client = s.client.items; centre = s.centre.items }
+entries_in s = record { client = s.client.content; centre = s.centre.content }
+
+-- those that can be brought back
+abbrev pub settled_entries : Streams → Entries
+settled_entries s = record { client = s.client.settled; centre = s.centre.settled }
 
 -- those of one direction
-abbrev pub entries_from : Dir → Entries → List Entry
+abbrev pub entries_from : Dir → Entries → List Held
 entries_from FromClient es = es.client
 entries_from FromCentre es = es.centre
 
 -- those of both, the client's first
-abbrev pub all_entries : Entries → List Entry
+abbrev pub all_entries : Entries → List Held
 all_entries es = es.client ++ es.centre
 
 -- what an entry says
 abbrev pub header_of : Entry → Header
 header_of e = record { command = e.command; status = e.status; seq = e.seq }
 
-abbrev pub placed : Entry → PlacedHeader
-placed e = record { place = e.place; header = header_of e }
+-- what an entry at its place says
+abbrev pub placed : Held → PlacedHeader
+placed e = record { place = e.0; header = header_of e.1 }
 
 -- what entries say
 abbrev pub pdus_in : Entries → PairingValue
 pdus_in es = record { client = map placed es.client; centre = map placed es.centre }
 
--- the series of an entry
-abbrev pub series_of_entry : Entry → Option Series
-series_of_entry e = series_of e.place.dir (header_of e)
+-- the series of an entry of a direction
+abbrev pub series_of_entry : Dir → Entry → Option Series
+series_of_entry dir e = series_of dir (header_of e)
 
 -- whether an entry is of a side and has no partner
 abbrev pub is_alone : Side → Entry → Bool
 is_alone side e = is_on side (header_of e) && is_none e.partner
 
 -- the places of those
-abbrev pub places_alone : Side → List Entry → List Place
-places_alone side es = map (λ e. e.place) (filter (is_alone side) es)
-
--- the places of a direction
-abbrev pub places_kept : Dir → Entries → List Place
-places_kept dir es = map (λ e. e.place) (entries_from dir es)
+abbrev pub places_alone : Side → List Held → List Place
+places_alone side es = map (λ e. e.0) (filter (λ e. is_alone side e.1) es)
 
 -- whether entries are all of a session
-abbrev pub are_of_session : SessionId → List Entry → Bool
-are_of_session session es = list_all (λ e. e.place.session.0 == session.0) es
+abbrev pub are_of_session : SessionId → List Held → Bool
+are_of_session session es = list_all (λ e. e.0.session.0 == session.0) es
 
 abbrev pub are_all_of_session : SessionId → Entries → Bool
 are_all_of_session session es = are_of_session session es.client && are_of_session session es.centre
 
 -- whether entries are all below a place
-abbrev pub are_below : Place → List Entry → Bool
-are_below place es = list_all (λ e. is_lt (place_cmp e.place place)) es
+abbrev pub are_below : Place → List Held → Bool
+are_below place es = list_all (λ e. is_lt (place_cmp e.0 place)) es
 
--- room for one more in a direction
-abbrev pub HasRoom : Dir → Streams → Type 0
-HasRoom FromClient s = vec_len s.client < vec_capacity s.client
-HasRoom FromCentre s = vec_len s.centre < vec_capacity s.centre
+-- what is kept at a place
+abbrev pub held_at : Place → List Held → Option Entry
+held_at place es = lookup (is_at (kept_place_cmp place)) es
 
--- one more in a direction
-abbrev pub appended : Dir → Entry → Entries → Entries
-appended FromClient e es = record es { client = es.client ++ e ∷ [] }
-appended FromCentre e es = record es { centre = es.centre ++ e ∷ [] }
+-- an entry with its partner's place
+abbrev pub with_partner : Place → Entry → Entry
+with_partner q e = record e { partner = Some q }
 
--- the entry with a partner
-abbrev pub with_partner : ℕ → Entry → Entry
-with_partner k e = record e { partner = Some k }
+-- entries of which the one at a place, if it is there, has this partner
+abbrev pub partnered : Option Entry → Place → Place → List Held → List Held
+partnered None at q es = es
+partnered (Some e) at q es = insert_entry kept_place_cmp es at (with_partner q e)
 
--- The entry at an index of a direction has a partner now, and all else stays.
-pub record IsLinked (dir : Dir) (j k : ℕ) (old new : Entries) : Type 0 where
-  pub entry : Entry
-  pub at : slice_get (entries_from dir old) j ≡ Some entry
-  pub set : entries_from dir new ≡ slice_set (entries_from dir old) j (with_partner k entry)
-  pub other : entries_from (opposite dir) new ≡ entries_from (opposite dir) old
+-- the same, if a place is given
+abbrev pub linked : Option Place → Place → List Held → List Held
+linked None q es = es
+linked (Some at) q es = partnered (held_at at es) at q es
 
--- An entry's partner, if it has one, is there.
-abbrev pub HasPartnerIn : Entries → Entry → Type 0
-HasPartnerIn es e = IfSome e.partner (λ j. j < length (entries_from (opposite e.place.dir) es))
-
--- An entry is the last of its direction now, and the partner of its own.
-abbrev pub IsAdded : Entry → Entries → Entries → Type 0
-IsAdded e old new =
-    MatchOption e.partner (new ≡ appended e.place.dir e old)
-    (λ j. IsLinked (opposite e.place.dir) j (length (entries_from e.place.dir old)) (appended e.place.dir e old) new)
-
--- An entry is the one at a place, or there is none.
-abbrev pub IsFoundAt : Place → Entries → Option Entry → Type 0
-IsFoundAt place es found =
-    MatchOption found ((i : ℕ) (e : Entry) → slice_get (entries_from place.dir es) i ≡ Some e → e.place ≢ place)
-    (λ e. (i : ℕ) × (slice_get (entries_from place.dir es) i ≡ Some e) × (e.place ≡ place))
+-- one more in a direction, which is the partner of its own
+abbrev pub joined : Dir → Place → Entry → Entries → Entries
+joined FromClient place e es = record {
+  client = insert_entry kept_place_cmp es.client place e;
+  centre = linked e.partner place es.centre;
+}
+joined FromCentre place e es = record {
+  client = linked e.partner place es.client;
+  centre = insert_entry kept_place_cmp es.centre place e;
+}
 
 -- the pair of an entry and another
-abbrev pub pair_by : Entry → Entry → Pair
+abbrev pub pair_by : Held → Held → Pair
 pair_by e other =
-    if is_request (header_of e) then pair_of (placed e) (placed other) else pair_of (placed other) (placed e)
+    if is_request (header_of e.1) then pair_of (placed e) (placed other) else pair_of (placed other) (placed e)
 
 -- the pair of an entry and its partner
-abbrev pub pair_kept : Entries → Entry → Option Pair
+abbrev pub pair_kept : Entries → Held → Option Pair
 pair_kept es e =
-    option_and_then (λ j. option_map (pair_by e) (slice_get (entries_from (opposite e.place.dir) es) j)) e.partner
+    option_and_then (λ q. option_map (λ x. pair_by e (q, x)) (held_at q (entries_from q.dir es))) e.1.partner

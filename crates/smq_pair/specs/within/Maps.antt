@@ -1,66 +1,103 @@
 -- What the maps of a pairing hold.
-use Rattle.std.specs.Prelude.{◌≡◌, ◌+◌, ℕ, cond, Option, Some, None, unwrap_or, slice_get}
-use Rattle.std.specs.declared.cmp.Ordering.{Ordering}
-use Rattle.std.specs.BTreeMap.{get, is_at}
+use Rattle.std.specs.Prelude.{◌≡◌, ◌+◌, ℕ, cond, List, ◌∷◌, Option, Some, None, option_map, option_and_then, slice_get}
+use Rattle.std.specs.Map.{lookup, remove_entry}
+use Rattle.std.specs.BTreeMap.{insert_entry, is_at}
 use Rattle.smq_kit.specs.declared.place.Dir.{Dir}
-use Rattle.smq_pair.specs.declared.entry.Entry.{Entry}
+use Rattle.smq_kit.specs.declared.place.Place.{Place}
+use Rattle.smq_shelf.specs.Places.{content_of}
 use Rattle.smq_pair.specs.declared.entry.Series.{Series}
 use Rattle.smq_pair.specs.declared.entry.Turn.{Turn}
 use Rattle.smq_pair.specs.declared.turns.Turns.{Turns}
-use Rattle.smq_pair.specs.contracts.entry.SeriesOrd.TheImpl as series_ord
-use Rattle.smq_pair.specs.contracts.entry.TurnOrd.TheImpl as turn_ord
+use Rattle.smq_pair.specs.Pairing.{PairingValue, pdus_from}
 use Rattle.smq_pair.specs.Growth.{AreInOrder}
-use Rattle.smq_pair.specs.within.Turns.{count_in, unpaired_at, partner, partner_of}
-use Rattle.smq_pair.specs.within.Kept.{Entries, entries_from, header_of, pdus_in}
+use Rattle.smq_pair.specs.within.Turns.{count_in, unpaired_at, partner, partner_of, opposite}
+use Rattle.smq_pair.specs.within.Orders.{series_cmp, turn_cmp}
+use Rattle.smq_pair.specs.within.Kept.{Entries, Held, entries_from, header_of, pdus_in}
 
--- the orders by which maps of std compare keys
-abbrev pub series_cmp : Series → Series → Ordering
-series_cmp = (series_ord.ghosts).cmp
+-- the rank of the last PDU of each series, and the place of the PDU of each turn that has no partner
+pub record Matching : Type 0 where
+  pub lasts : List (Series × ℕ)
+  pub unpaired : List (Turn × Place)
 
-abbrev pub turn_cmp : Turn → Turn → Ordering
-turn_cmp = (turn_ord.ghosts).cmp
+abbrev pub matching_in : Turns → Matching
+matching_in t = record { lasts = t.lasts.content; unpaired = t.unpaired.content }
 
--- the count of a series, which is 0 where none is kept
-abbrev pub count_kept : Turns → Series → ℕ
-count_kept m s = unwrap_or (get series_cmp m.counts s) 0
+-- those that can be brought back
+abbrev pub settled_matching : Turns → Matching
+settled_matching t = record { lasts = t.lasts.settled; unpaired = t.unpaired.settled }
 
--- the index that is kept of a turn
-abbrev pub unpaired_kept : Turns → Turn → Option ℕ
-unpaired_kept m t = get turn_cmp m.unpaired t
+abbrev pub touches_in : Turns → ℕ
+touches_in t = t.lasts.touches + t.unpaired.touches
 
--- Two say the same.
-pub record AreAlike (m n : Turns) : Type 0 where
-  pub counts : (s : Series) → count_kept n s ≡ count_kept m s
-  pub unpaired : (t : Turn) → unpaired_kept n t ≡ unpaired_kept m t
+abbrev pub pending_in : Turns → ℕ
+pending_in t = t.lasts.pending + t.unpaired.pending
 
--- what is kept of turns after one more, of this index: its partner has one now, or it waits for its own
-abbrev pub unpaired_after : Option ℕ → Turns → Turn → ℕ → Turn → Option ℕ
-unpaired_after None m t index u = cond (is_at (turn_cmp t) u) (Some index) (unpaired_kept m u)
-unpaired_after (Some _) m t index u = cond (is_at (turn_cmp (partner t)) u) None (unpaired_kept m u)
+-- the rank after the last one, which is 0 where there is none
+abbrev pub next_rank : Option ℕ → ℕ
+next_rank None = 0
+next_rank (Some last) = last + 1
 
--- The PDU of a turn, which has this index, met the one of its partner's turn, where that waited.
-pub record IsMet (m n : Turns) (t : Turn) (index : ℕ) (other : Option ℕ) : Type 0 where
+-- how many PDUs a series has
+abbrev pub count_kept : Matching → Series → ℕ
+count_kept m s = next_rank (lookup (is_at (series_cmp s)) m.lasts)
+
+-- the place that is kept of a turn
+abbrev pub unpaired_kept : Matching → Turn → Option Place
+unpaired_kept m t = lookup (is_at (turn_cmp t)) m.unpaired
+
+-- the turns without a partner, after one more at this place: its partner has one now, or it waits for its own
+abbrev pub with_turn : Option Place → Turn → Place → List (Turn × Place) → List (Turn × Place)
+with_turn None t place us = insert_entry turn_cmp us t place
+with_turn (Some _) t place us = remove_entry (is_at (turn_cmp (partner t))) us
+
+-- the same at each turn, by places or by indexes
+abbrev pub unpaired_after : {A : Type 0} → Option A → (Turn → Option A) → Turn → A → Turn → Option A
+unpaired_after None kept t own u = cond (is_at (turn_cmp t) u) (Some own) (kept u)
+unpaired_after (Some _) kept t own u = cond (is_at (turn_cmp (partner t)) u) None (kept u)
+
+-- The PDU of a turn, which is at this place, met the one of its partner's turn, where that waited.
+pub record IsMet (m n : Matching) (t : Turn) (place : Place) (other : Option Place) : Type 0 where
   pub found : other ≡ unpaired_kept m (partner t)
-  pub unpaired : (u : Turn) → unpaired_kept n u ≡ unpaired_after other m t index u
+  pub unpaired : (u : Turn) → unpaired_kept n u ≡ unpaired_after other (unpaired_kept m) t place u
 
 -- the turn of the next PDU of a series
-abbrev pub next_kept : Turns → Series → Turn
+abbrev pub next_kept : Matching → Series → Turn
 next_kept m s = record { series = s; rank = count_kept m s }
 
 -- The next PDU of a series is in.
-pub record IsEntered (m n : Turns) (s : Series) (index : ℕ) (other : Option ℕ) : Type 0 where
-  pub met : IsMet m n (next_kept m s) index other
+pub record IsEntered (m n : Matching) (s : Series) (place : Place) (other : Option Place) : Type 0 where
+  pub met : IsMet m n (next_kept m s) place other
   pub counts : (q : Series) → count_kept n q ≡ cond (is_at (series_cmp s) q) (count_kept m s + 1) (count_kept m q)
 
 -- A PDU is in: the next of its series, or one of no series, which changes nothing.
-abbrev pub Enters : Turns → Turns → Option Series → ℕ → Option ℕ → Type 0
-Enters m n None index other = (n ≡ m) × (other ≡ None)
-Enters m n (Some s) index other = IsEntered m n s index other
+abbrev pub Enters : Matching → Matching → Option Series → Place → Option Place → Type 0
+Enters m n None place other = (n ≡ m) × (other ≡ None)
+Enters m n (Some s) place other = IsEntered m n s place other
+
+-- The last change of each map, taken back, leaves m.
+pub record IsBack (m : Matching) (t : Turns) : Type 0 where
+  pub last : List (Series × Option ℕ)
+  pub lasts : List (List (Series × Option ℕ))
+  pub last_past : t.lasts.past ≡ last ∷ lasts
+  pub last_is : content_of last ≡ m.lasts
+  pub turn : List (Turn × Option Place)
+  pub turns : List (List (Turn × Option Place))
+  pub turn_past : t.unpaired.past ≡ turn ∷ turns
+  pub turn_is : content_of turn ≡ m.unpaired
+
+-- The same of what a PDU changed, if it is of a series, or else nothing.
+abbrev pub CanLeave : Option Series → Matching → Turns → Type 0
+CanLeave None m t = matching_in t ≡ m
+CanLeave (Some _) m t = IsBack m t
+
+-- the place of the PDU at an index of a direction
+abbrev pub place_at : PairingValue → Dir → Option ℕ → Option Place
+place_at v dir o = option_and_then (λ i. option_map (λ p. p.place) (slice_get (pdus_from dir v) i)) o
 
 -- The entries stand in order, the maps hold what they say, and each has its partner.
-pub record Holds (m : Turns) (es : Entries) : Type 0 where
+pub record Holds (m : Matching) (es : Entries) : Type 0 where
   pub in_order : AreInOrder (pdus_in es)
   pub counts : (s : Series) → count_kept m s ≡ count_in (pdus_in es) s
-  pub unpaired : (t : Turn) → unpaired_kept m t ≡ unpaired_at (pdus_in es) t
-  pub partners : (dir : Dir) (i : ℕ) (e : Entry) → slice_get (entries_from dir es) i ≡ Some e
-      → e.partner ≡ partner_of (pdus_in es) dir i (header_of e)
+  pub unpaired : (t : Turn) → unpaired_kept m t ≡ place_at (pdus_in es) t.series.dir (unpaired_at (pdus_in es) t)
+  pub partners : (dir : Dir) (i : ℕ) (e : Held) → slice_get (entries_from dir es) i ≡ Some e
+      → e.1.partner ≡ place_at (pdus_in es) (opposite dir) (partner_of (pdus_in es) dir i (header_of e.1))

@@ -6,6 +6,6 @@ use Rattle.smq_book.proofs.pairing.notes.push_mismatched.Given as goal
 abbrev pub invariant-loop-pdu : goal.invariant-loop-pdu
 invariant-loop-pdu l = record {
   stays : l.pairing ≡ l.initial.pairing;
-  pushed : l.notes.items ++ noted_left l.pairing (from_session l.session) l.dir l.pdus l.pdu-index
-      ≡ l.initial.notes.items ++ noted_left l.initial.pairing (from_session l.session) l.dir l.pdus 0;
+  pushed : l.notes.items ++ noted_left l.pairing.pdus (from_session l.session) l.dir l.pdus l.pdu-index
+      ≡ l.initial.notes.items ++ noted_left l.initial.pairing.pdus (from_session l.session) l.dir l.pdus 0;
 }

@@ -19,11 +19,11 @@ returns c =
     on-ok c.push_mismatched-2.result (λ last.
     last
     ∙ (λ i. c.in_ok-push_mismatched.ensures.notes i
-    ++ map (listed list.Mismatched) (mismatched_in (c.push_mismatched.ensures.stays i) o FromCentre c.args.centre.now))
+    ++ map (listed list.Mismatched) (mismatched_in (c.push_mismatched.ensures.stays i).pdus o FromCentre c.args.centre.now))
     ∙ ap (λ (ns : List Listed). (ns ++ map (listed list.Mismatched)
-    (mismatched_in c.args.pairing.now o FromClient c.args.client.now))
-    ++ map (listed list.Mismatched) (mismatched_in c.args.pairing.now o FromCentre c.args.centre.now))
+    (mismatched_in c.args.pairing.now.pdus o FromClient c.args.client.now))
+    ++ map (listed list.Mismatched) (mismatched_in c.args.pairing.now.pdus o FromCentre c.args.centre.now))
     (c.in_ok-push_places-2.ensures ∙ (λ i. (c.in_ok-push_places.ensures
     ∙ ap (λ (qs : List Place). c.args.notes.now.items ++ map (listed list.Waiting) qs) c.waiting.ensures.places) i
     ++ map (listed list.StrayAnswers) (c.strays.ensures.places i)))
-    ∙ pairs-are o c.args.client.now c.args.centre.now c.args.pairing.now c.args.notes.now.items c.requires) c.push_mismatched-2.ensures.notes
+    ∙ pairs-are o c.args.client.now c.args.centre.now c.args.pairing.now.pdus c.args.notes.now.items c.requires) c.push_mismatched-2.ensures.notes

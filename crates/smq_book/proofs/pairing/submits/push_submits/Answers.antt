@@ -1,5 +1,6 @@
 use Rattle.std.proofs.Common.{◌≡◌, ◌++◌, List, Vec, ap, sym, ◌∙◌}
 use Rattle.std.proofs.lemmas.List.{append-nil}
+use Rattle.smq_pair.specs.Paired.{PairedValue}
 use Rattle.smq_book.specs.present.Kept.{submit_in}
 use Rattle.smq_book.specs.within.Messages.{SubmittedMessage, submit_by, submits_among}
 use Rattle.smq_book.proofs.lemmas.pairing.PushedMessages.{submits-next, submit-is}
@@ -8,8 +9,8 @@ use Rattle.smq_book.proofs.pairing.submits.push_submits.Goals.{in-Some+in_ok-pus
 
 pub loop-pdu-preserved : goal.loop-pdu-preserved
 loop-pdu-preserved c =
-    let is = submit-is c.args.source c.args.client.now c.args.centre.now c.loop-pdu.pdu-index c.pdu-item.result c.loop-pdu.pairing
-    (c.loop-pdu.invariant.stays ∙ c.requires.pairs) c.loop-pdu-test.true c.pdu-item.is c.requires.client c.requires.centre c.requires.requests in
+    let is = submit-is c.args.source c.args.client.now c.args.centre.now c.loop-pdu.pdu-index c.pdu-item.result c.loop-pdu.pairing.pdus
+    (ap (λ (v : PairedValue). v.pdus) c.loop-pdu.invariant.stays ∙ c.requires.pairs) c.loop-pdu-test.true c.pdu-item.is c.requires.client c.requires.centre c.requires.requests in
     let more : c.match-submit_at.submits.items ≡ c.loop-pdu.submits.items
     ++ submit_by (submit_in c.pdu-item.result.content) c.args.source c.args.client.now c.args.centre.now c.loop-pdu.pdu-index
     c.pdu-item.result =

@@ -1,36 +1,40 @@
-use Rattle.std.proofs.Common.{◌∙◌}
-use Rattle.smq_pair.specs.within.Kept.{entries_in}
-use Rattle.smq_pair.proofs.Steps.{add-partner, add-holds, add-pdus, add-made}
+use Rattle.std.proofs.Common.{None, arith, sym, ap, ◌∙◌, subst}
+use Rattle.smq_pair.specs.declared.entry.Entry.{Entry}
+use Rattle.smq_pair.specs.Paired.{PairedValue}
+use Rattle.smq_pair.specs.within.Kept.{Entries, entries_in, settled_entries}
+use Rattle.smq_pair.specs.within.Maps.{Holds, Matching, matching_in, settled_matching}
+use Rattle.smq_pair.proofs.Steps.{room, add-holds, add-pdus, add-made}
 use Rattle.smq_pair.proofs.pairing.Pairing.add.Goals as goal
 
-pub add-requires-clause-partner : goal.add-requires-clause-partner
-add-requires-clause-partner c =
-    add-partner c.self.inside.turns c.enter.new.self (entries_in c.self.inside.streams) (entries_in c.reserve.new.self) c.args.self.now
-    (record { place = c.args.place; seq = c.args.seq; command = c.args.command; status = c.args.status; partner = c.in_ok-partner.partner })
-    c.from-index.result.now c.series.result c.self.invariant c.self.view_is c.requires.next c.reserve.ensures.stays
-    c.from-index.ensures c.series.ensures c.in_ok-partner.ensures.ok
+pub enter-requires : goal.enter-requires
+enter-requires c =
+    let same = c.offset_of-offset.ensures in
+    let fits = c.offset_of-offset.type_inv in
+    let entry : Entry = record { seq = c.args.seq; command = c.args.command; status = c.args.status; partner = None } in
+    room (matching_in c.self.inside.turns) (entries_in c.self.inside.streams) c.args.self.now.pdus c.args.place entry c.series-series.result
+    c.self.invariant.0 (ap (λ (v : PairedValue). v.pdus) c.self.view_is) c.requires.next c.series-series.ensures (omega (arith, same, fits))
 
-pub invariant_of-self-2 : goal.invariant_of-self-2
-invariant_of-self-2 c =
-    add-holds c.self.inside.turns c.enter.new.self (entries_in c.self.inside.streams) (entries_in c.reserve.new.self) c.args.self.now
-    (record { place = c.args.place; seq = c.args.seq; command = c.args.command; status = c.args.status; partner = c.in_ok-partner.partner })
-    c.from-index.result.now c.series.result c.self.invariant c.self.view_is c.requires.next c.reserve.ensures.stays
-    c.from-index.ensures c.series.ensures c.in_ok-partner.ensures.ok
-    (entries_in c.add.new.self) c.add.ensures
+pub invariant_of-self-in-Ok : goal.invariant_of-self-in-Ok
+invariant_of-self-in-Ok c =
+    let entry : Entry = record { seq = c.args.seq; command = c.args.command; status = c.args.status; partner = c.in_ok-partner.partner } in (
+      add-holds (matching_in c.self.inside.turns) (matching_in c.enter.new.self) (entries_in c.self.inside.streams) c.args.self.now.pdus
+          (c.args.place, entry) c.series-series.result c.self.invariant.0 (ap (λ (v : PairedValue). v.pdus) c.self.view_is) c.requires.next
+          c.series-series.ensures c.in_ok-partner.ensures.ok (entries_in c.add.new.self) c.in-Ok.ensures.added,
+      subst (λ (m : Matching). Holds m (settled_entries c.add.new.self)) (sym c.in_ok-partner.ensures.settled)
+          (subst (λ (es : Entries). Holds (settled_matching c.self.inside.turns) es) (sym c.in-Ok.ensures.settled) c.self.invariant.1),
+    )
 
-pub returns-clause-added : goal.returns-clause-added
-returns-clause-added c =
-    add-pdus c.self.inside.turns c.enter.new.self (entries_in c.self.inside.streams) (entries_in c.reserve.new.self) c.args.self.now
-    (record { place = c.args.place; seq = c.args.seq; command = c.args.command; status = c.args.status; partner = c.in_ok-partner.partner })
-    c.from-index.result.now c.series.result c.self.invariant c.self.view_is c.requires.next c.reserve.ensures.stays
-    c.from-index.ensures c.series.ensures c.in_ok-partner.ensures.ok
-    (entries_in c.add.new.self) c.add.ensures
+pub returns-in-Ok-clause-added : goal.returns-in-Ok-clause-added
+returns-in-Ok-clause-added c =
+    let entry : Entry = record { seq = c.args.seq; command = c.args.command; status = c.args.status; partner = c.in_ok-partner.partner } in
+    add-pdus (matching_in c.self.inside.turns) (matching_in c.enter.new.self) (entries_in c.self.inside.streams) c.args.self.now.pdus
+    (c.args.place, entry) c.series-series.result c.self.invariant.0 (ap (λ (v : PairedValue). v.pdus) c.self.view_is) c.requires.next
+    c.series-series.ensures c.in_ok-partner.ensures.ok (entries_in c.add.new.self) c.in-Ok.ensures.added
 
-pub returns-clause-made : goal.returns-clause-made
-returns-clause-made c =
+pub returns-in-Ok-clause-made : goal.returns-in-Ok-clause-made
+returns-in-Ok-clause-made c =
+    let entry : Entry = record { seq = c.args.seq; command = c.args.command; status = c.args.status; partner = c.in_ok-partner.partner } in
     c.pair_in-made.ensures
-    ∙ add-made c.self.inside.turns c.enter.new.self (entries_in c.self.inside.streams) (entries_in c.reserve.new.self) c.args.self.now
-    (record { place = c.args.place; seq = c.args.seq; command = c.args.command; status = c.args.status; partner = c.in_ok-partner.partner })
-    c.from-index.result.now c.series.result c.self.invariant c.self.view_is c.requires.next c.reserve.ensures.stays
-    c.from-index.ensures c.series.ensures c.in_ok-partner.ensures.ok
-    (entries_in c.add.new.self) c.add.ensures
+    ∙ add-made (matching_in c.self.inside.turns) (matching_in c.enter.new.self) (entries_in c.self.inside.streams) c.args.self.now.pdus
+    (c.args.place, entry) c.series-series.result c.self.invariant.0 (ap (λ (v : PairedValue). v.pdus) c.self.view_is) c.requires.next
+    c.series-series.ensures c.in_ok-partner.ensures.ok (entries_in c.add.new.self) c.in-Ok.ensures.added

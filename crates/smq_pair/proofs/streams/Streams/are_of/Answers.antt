@@ -1,9 +1,8 @@
 use Rattle.smq_kit.specs.declared.place.Dir.TheVariants.{FromClient, FromCentre}
-use Rattle.smq_pair.proofs.Nexts.{read-ascends}
 use Rattle.smq_pair.proofs.streams.Streams.are_of.Goals as goal
 
 pub ends_are_of-requires : goal.ends_are_of-requires
-ends_are_of-requires c = read-ascends _ _ c.from.ensures (c.requires FromClient)
+ends_are_of-requires c = c.requires FromClient
 
 pub ends_are_of-requires-then-ends_are_of : goal.ends_are_of-requires-then-ends_are_of
-ends_are_of-requires-then-ends_are_of c = read-ascends _ _ c.from-then-ends_are_of.ensures (c.requires FromCentre)
+ends_are_of-requires-then-ends_are_of c = c.requires FromCentre
