@@ -82,12 +82,28 @@ fn a_response_is_undone_and_comes_again(rt: HostRuntime) {
     let made = add(&rt, &mut pairing, pair.request, (CLIENT, SUBMIT_SM, 7, 0));
     assert!(rt; made.is_none(), "no pair");
     pairing.settle();
-    let made = add(&rt, &mut pairing, pair.response, (CENTRE, SUBMIT_SM_RESP, 7, 0x45));
-    assert!(rt; made == Some(pair) && first_alone(&pairing) == (None, None), "a pair");
+    let made = add(
+        &rt,
+        &mut pairing,
+        pair.response,
+        (CENTRE, SUBMIT_SM_RESP, 7, 0x45),
+    );
+    assert!(rt;
+        made == Some(pair) && first_alone(&pairing) == (None, None),
+        "a pair"
+    );
     pairing.undo();
-    assert!(rt; first_alone(&pairing) == (Some(pair.request), None), "the request waits");
+    assert!(rt;
+        first_alone(&pairing) == (Some(pair.request), None),
+        "the request waits"
+    );
     assert!(rt; pairing.pair_of(pair.request).is_none(), "no pair");
-    let made = add(&rt, &mut pairing, pair.response, (CENTRE, SUBMIT_SM_RESP, 7, 0x45));
+    let made = add(
+        &rt,
+        &mut pairing,
+        pair.response,
+        (CENTRE, SUBMIT_SM_RESP, 7, 0x45),
+    );
     assert!(rt; made == Some(pair), "a pair again");
     assert!(rt; pairing.pair_of(pair.request) == Some(pair), "a pair again");
 }
