@@ -42,6 +42,7 @@ fn add(pairing: &mut Pairing, session: SessionId, dir: Dir, pdu: &KeptPdu) -> Re
 {
     let place = place_of(session, dir, pdu);
     pairing.add(place, pdu.seq, pdu.command, pdu.status)?;
+    pairing.settle();
     Ok(())
 }
 
