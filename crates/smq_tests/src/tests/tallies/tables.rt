@@ -155,6 +155,24 @@ fn forget_open(rt: &impl Abort, tally: &mut Tally, at: At) -> Result<(), AllocEr
     tally.forget(List::Open, place)
 }
 
+/// Puts an open message in, which is noted as that too, another that is noted so, and a refused one.
+fn fill(rt: &impl Abort, tally: &mut Tally) -> Result<(), AllocError> {
+    add(rt, tally, plain(OPEN, Outcome::Open))?;
+    add(rt, tally, refused(REFUSED))?;
+    tally.note(List::Open, place_of(OPEN))?;
+    tally.note(List::Open, place_of(NOTED))
+}
+
+fn take_both(rt: &impl Abort, tally: &mut Tally) -> Result<(), AllocError> {
+    take_out(rt, tally, REFUSED)?;
+    take_out(rt, tally, OPEN)
+}
+
+fn forget_both(rt: &impl Abort, tally: &mut Tally) -> Result<(), AllocError> {
+    forget_open(rt, tally, OPEN)?;
+    forget_open(rt, tally, NOTED)
+}
+
 /// Asserts the rows of the error view and the places of open messages.
 fn assert_shown(rt: &impl Abort, tally: &Tally, errors: &[Row], open: &[At]) -> Result<(), Fail> {
     assert_rows(rt, tally.tables(), View::Error, errors)?;
@@ -165,20 +183,13 @@ fn assert_shown(rt: &impl Abort, tally: &Tally, errors: &[Row], open: &[At]) -> 
 #[test]
 fn what_goes_comes_back_until_it_is_settled(rt: HostRuntime) -> Result<(), Fail> {
     let mut tally = Tally::new(rt.alloc());
-    add(&rt, &mut tally, plain(OPEN, Outcome::Open))?;
-    add(&rt, &mut tally, refused(REFUSED))?;
-    tally.note(List::Open, place_of(OPEN))?;
-    tally.note(List::Open, place_of(NOTED))?;
+    fill(&rt, &mut tally)?;
     tally.settle();
-    take_out(&rt, &mut tally, REFUSED)?;
-    take_out(&rt, &mut tally, OPEN)?;
+    take_both(&rt, &mut tally)?;
     assert_shown(&rt, &tally, [].as_slice(), [OPEN, NOTED].as_slice())?;
-    forget_open(&rt, &mut tally, OPEN)?;
-    assert_shown(&rt, &tally, [].as_slice(), [NOTED].as_slice())?;
     tally.undo();
     assert_shown(&rt, &tally, ONE_REFUSED, [OPEN, NOTED].as_slice())?;
-    forget_open(&rt, &mut tally, OPEN)?;
-    forget_open(&rt, &mut tally, NOTED)?;
+    forget_both(&rt, &mut tally)?;
     assert_shown(&rt, &tally, ONE_REFUSED, [OPEN].as_slice())?;
     tally.settle();
     take_out(&rt, &mut tally, OPEN)?;
