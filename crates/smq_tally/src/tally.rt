@@ -73,7 +73,7 @@ impl Tally {
         is_there(&mut self.facts, &place)
     }
 
-    /// Takes one fact more, of a place that has none yet. An error changes nothing.
+    /// Takes one fact more, of a place that has none yet. An error leaves facts and notes as they were.
     pub fn add(&mut self, fact: Fact) -> Result<(), AllocError>
         requires absent { fin.get self.old.facts fact.place ≡ None }
         ensures ok { OnOk result (self.new.facts ≡ fin.insert self.old.facts fact.place fact) }
@@ -97,7 +97,7 @@ impl Tally {
         Ok(())
     }
 
-    /// Takes the fact of a place out, which is there. An error changes nothing.
+    /// Takes the fact of a place out, which is there. An error leaves facts and notes as they were.
     pub fn remove(&mut self, place: Place) -> Result<(), AllocError>
         requires there { IsSome (fin.get self.old.facts place) }
         ensures ok { OnOk result (self.new.facts ≡ fin.remove self.old.facts place) }
@@ -148,7 +148,7 @@ impl Tally {
     }
 
     /// Takes a note out, which is there: its place is in the list no more, unless a fact puts it there. An error changes
-    /// nothing.
+    /// nothing but the touches.
     pub fn forget(&mut self, list: List, place: Place) -> Result<(), AllocError>
         requires noted { IsTrue (fin.contains_key self.old.notes (listed list place)) }
         ensures ok { OnOk result (self.new.notes ≡ fin.remove self.old.notes (listed list place)) }
