@@ -24,6 +24,12 @@ pub enum Step {
     Plain(At, Outcome),
     Fact(Known),
     Note(List, At),
+    /// The fact of a place is taken out.
+    Remove(At),
+    /// A note is taken out.
+    Forget(List, At),
+    Undo,
+    Settle,
 }
 
 /// What a row counts by.
@@ -96,6 +102,56 @@ pub const EQUAL: &[(&str, &[Step], &[Step], bool)] = &[
     ("a direction differs", WAITING, OF_THE_CENTRE, false),
     ("an outcome differs", OPEN, LAPSED, false),
     ("an open message is listed once", OPEN, OPEN_AND_NOTED, true),
+];
+
+/// A message that is open, and noted as that too.
+const BOTH: At = (1, CLIENT, 0);
+
+const NOTED: At = (2, CLIENT, 0);
+
+const REFUSED: At = (1, CLIENT, 49);
+
+const ONE_REFUSED: &[Row] = &[(By::Status(8), Outcome::Refused, 1)];
+
+/// The stages of one tally: steps, and then the rows of the error view and the places of open messages.
+pub const STAGES: &[(&str, &[Step], &[Row], &[At])] = &[
+    (
+        "messages are taken out",
+        &[
+            Step::Plain(BOTH, Outcome::Open),
+            Step::Fact(Known {
+                at: REFUSED,
+                link: 7,
+                route: None,
+                outcome: Outcome::Refused,
+                status: Some(8),
+                delays: (None, None),
+            }),
+            Step::Note(List::Open, BOTH),
+            Step::Note(List::Open, NOTED),
+            Step::Settle,
+            Step::Remove(REFUSED),
+            Step::Remove(BOTH),
+        ],
+        &[],
+        &[BOTH, NOTED],
+    ),
+    ("they come back", &[Step::Undo], ONE_REFUSED, &[BOTH, NOTED]),
+    (
+        "notes are taken out",
+        &[
+            Step::Forget(List::Open, BOTH),
+            Step::Forget(List::Open, NOTED),
+        ],
+        ONE_REFUSED,
+        &[BOTH],
+    ),
+    (
+        "what is settled stays so",
+        &[Step::Settle, Step::Remove(BOTH), Step::Undo],
+        ONE_REFUSED,
+        &[BOTH],
+    ),
 ];
 
 pub const CASES: &[Case] = &[

@@ -1,11 +1,10 @@
 //! Many facts, and refused memory.
 use crate::tests::tallies::known::CLIENT;
 use crate::tests::tallies::tables::{add, network, place_of};
-use smq_kit::{LinkId, Refusal, RouteId};
+use smq_kit::{LinkId, RouteId};
 use smq_tally::{Band, Fact, List, Outcome, SubmitError, Tables, Tally, View};
 use std::alloc::{AllocError, Global};
 use std::process::Abort;
-use std::test::Fail;
 
 /// Outcomes in turn, of which two are listed.
 const TURNS: [Outcome; 4] = [
@@ -16,54 +15,45 @@ const TURNS: [Outcome; 4] = [
 ];
 
 /// One of many facts: each has a route of its own.
-fn one_of_many(number: u32) -> Result<Fact, Refusal> {
-    Ok(Fact {
+fn one_of_many(rt: &impl Abort, number: u32) -> Fact {
+    Fact {
         place: place_of((u64::from(number % 5), CLIENT, u64::from(number))),
         link: LinkId(number % 7),
-        route: Some((RouteId(number), network("20801")?)),
+        route: Some((RouteId(number), network(rt, "20801"))),
         outcome: TURNS[number as usize % 4],
         error: Some(SubmitError::Refused { status: number % 3 }),
         link_delay: Some(Band::Over),
         centre_delay: Some(Band::of(i64::from(number) * 1000)),
-    })
+    }
 }
 
 /// Adds one of many facts, or notes its place where it may be open.
-fn make(
-    rt: &impl Abort,
-    tally: &mut Tally,
-    number: u32,
-) -> Result<Result<(), AllocError>, Refusal> {
-    let fact = one_of_many(number / 2)?;
+fn make(rt: &impl Abort, tally: &mut Tally, number: u32) -> Result<(), AllocError> {
+    let fact = one_of_many(rt, number / 2);
     if number % 2 == 0 {
-        return Ok(tally.note(List::Open, fact.place));
+        return tally.note(List::Open, fact.place);
     }
-    Ok(add(rt, tally, fact))
+    add(rt, tally, fact)
 }
 
 /// Makes the steps below a number. Where one is refused memory it stops and gives its number, or makes it again.
-fn make_below(
-    rt: &impl Abort,
-    tally: &mut Tally,
-    end: u32,
-    stops: bool,
-) -> Result<Option<u32>, Refusal> {
+fn make_below(rt: &impl Abort, tally: &mut Tally, end: u32, stops: bool) -> Option<u32> {
     for number in 0..end {
-        if make(rt, tally, number)?.is_err() {
+        if make(rt, tally, number).is_err() {
             if stops {
-                return Ok(Some(number));
+                return Some(number);
             }
-            assert!(rt; make(rt, tally, number)?.is_ok(), "{number}");
+            assert!(rt; make(rt, tally, number).is_ok(), "{number}");
         }
     }
-    Ok(None)
+    None
 }
 
-/// A tally of the steps below a number.
-fn tally_of(rt: &impl Abort, alloc: Global, end: u32) -> Result<Tally, Refusal> {
+/// The tables of the steps below a number.
+fn tables_below(rt: &impl Abort, alloc: Global, end: u32) -> Tables {
     let mut tally = Tally::new(alloc);
-    make_below(rt, &mut tally, end, false)?;
-    Ok(tally)
+    make_below(rt, &mut tally, end, false);
+    tally.into_tables()
 }
 
 /// How many rows a view has, and how many facts they count.
@@ -87,16 +77,15 @@ fn number_listed(tables: &Tables, list: List) -> u64 {
 /// With each allocation refused in turn (`rt try --test --fail-alloc`) a refused step leaves the tally as it was, and is
 /// made when it is tried again.
 #[test]
-fn want_of_memory_changes_nothing(rt: HostRuntime) -> Result<(), Fail> {
+fn want_of_memory_changes_nothing(rt: HostRuntime) {
     let mut tally = Tally::new(rt.alloc());
-    let refused = make_below(&rt, &mut tally, 4000, true)?;
-    let others = tally_of(&rt, rt.alloc(), refused.unwrap_or(4000))?;
-    assert!(rt; tally.into_tables() == others.into_tables());
+    let refused = make_below(&rt, &mut tally, 4000, true);
+    let others = tables_below(&rt, rt.alloc(), refused.unwrap_or(4000));
+    assert!(rt; tally.into_tables() == others);
 
-    let tables = tally_of(&rt, rt.alloc(), 4000)?.into_tables();
-    assert_eq!(rt; rows_and_facts(&tables, View::Link), (28, 2000));
-    assert_eq!(rt; rows_and_facts(&tables, View::Route), (2000, 2000));
-    assert_eq!(rt; number_listed(&tables, List::Open), 2000);
-    assert_eq!(rt; number_listed(&tables, List::Lapsed), 500);
-    Ok(())
+    let tables = tables_below(&rt, rt.alloc(), 4000);
+    assert!(rt; rows_and_facts(&tables, View::Link) == (28, 2000));
+    assert!(rt; rows_and_facts(&tables, View::Route) == (2000, 2000));
+    assert!(rt; number_listed(&tables, List::Open) == 2000);
+    assert!(rt; number_listed(&tables, List::Lapsed) == 500);
 }

@@ -1,10 +1,9 @@
 //! Tables of known facts and notes.
-use crate::tests::tallies::known::{At, By, CASES, CLIENT, EQUAL, Known, Row, Step};
-use smq_kit::{LinkId, Network, Place, Refusal, RouteId, SessionId};
+use crate::tests::tallies::known::{At, By, CASES, Case, EQUAL, Known, Row, STAGES, Step};
+use smq_kit::{LinkId, Network, Place, RouteId, SessionId};
 use smq_tally::{Band, Fact, List, Outcome, SubmitError, Tables, Tally, Value, View};
 use std::alloc::{AllocError, Global};
 use std::process::Abort;
-use std::test::Fail;
 
 pub fn place_of(at: At) -> Place {
     let (session, dir, offset) = at;
@@ -27,43 +26,49 @@ fn plain(at: At, outcome: Outcome) -> Fact {
     }
 }
 
-pub fn network(code: &str) -> Result<Network, Refusal> {
-    Network::parse(code.as_bytes())
+pub fn network(rt: &impl Abort, code: &str) -> Network {
+    Network::parse(code.as_bytes()).expect(rt, "a network")
+}
+
+fn route(rt: &impl Abort, route: Option<(u32, &str)>) -> Option<(RouteId, Network)> {
+    match route {
+        Some((number, code)) => Some((RouteId(number), network(rt, code))),
+        None => None,
+    }
+}
+
+fn refused(status: Option<u32>) -> Option<SubmitError> {
+    match status {
+        Some(status) => Some(SubmitError::Refused { status }),
+        None => None,
+    }
 }
 
 impl Known {
-    fn fact(&self) -> Result<Fact, Refusal> {
-        let route = match self.route {
-            Some((number, code)) => Some((RouteId(number), network(code)?)),
-            None => None,
-        };
-        let error = match self.status {
-            Some(status) => Some(SubmitError::Refused { status }),
-            None => None,
-        };
-        Ok(Fact {
+    fn fact(&self, rt: &impl Abort) -> Fact {
+        Fact {
             place: place_of(self.at),
             link: LinkId(self.link),
-            route,
+            route: route(rt, self.route),
             outcome: self.outcome,
-            error,
+            error: refused(self.status),
             link_delay: self.delays.0,
             centre_delay: self.delays.1,
-        })
+        }
     }
 }
 
 impl By {
-    fn value(&self) -> Result<Value, Refusal> {
-        Ok(match self {
+    fn value(&self, rt: &impl Abort) -> Value {
+        match self {
             By::Link(link) => Value::Link(LinkId(*link)),
             By::Route(route) => Value::Route(RouteId(*route)),
             By::NoRoute => Value::NoRoute,
-            By::Network(code) => Value::Network(network(code)?),
+            By::Network(code) => Value::Network(network(rt, code)),
             By::NoNetwork => Value::NoNetwork,
             By::Status(status) => Value::Error(SubmitError::Refused { status: *status }),
             By::Band(band) => Value::Band(*band),
-        })
+        }
     }
 }
 
@@ -73,126 +78,115 @@ pub fn add(rt: &impl Abort, tally: &mut Tally, fact: Fact) -> Result<(), AllocEr
     tally.add(fact)
 }
 
-fn tables_of(rt: &impl Abort, alloc: Global, steps: &[Step]) -> Result<Tables, Fail> {
-    let mut tally = Tally::new(alloc);
-    for step in steps {
-        match step {
-            Step::Plain(at, outcome) => add(rt, &mut tally, plain(*at, *outcome))?,
-            Step::Fact(known) => add(rt, &mut tally, known.fact()?)?,
-            Step::Note(list, at) => tally.note(*list, place_of(*at))?,
-        }
-    }
-    Ok(tally.into_tables())
-}
-
-/// Asserts that a view has these rows, in order, and these counts.
-fn assert_rows(rt: &impl Abort, tables: &Tables, view: View, wanted: &[Row]) -> Result<(), Fail> {
-    let mut rows = tables.rows(view);
-    for (by, outcome, count) in wanted {
-        let value = by.value()?;
-        assert_eq!(rt; tables.count(view, &value, *outcome), *count);
-        assert_eq!(rt; rows.next(), Some((&value, *outcome, *count)));
-    }
-    assert!(rt; rows.next().is_none());
-    Ok(())
-}
-
-/// Asserts that a list has these places, in order.
-fn assert_list(rt: &impl Abort, tables: &Tables, list: List, wanted: &[At]) {
-    let mut places = tables.list(list);
-    for at in wanted {
-        assert_eq!(rt; places.next(), Some(place_of(*at)));
-    }
-    assert!(rt; places.next().is_none());
-}
-
-#[test]
-fn tables_are_of_facts_and_notes(rt: HostRuntime) -> Result<(), Fail> {
-    for case in CASES {
-        let tables = tables_of(&rt, rt.alloc(), case.steps)?;
-        for (view, rows) in case.rows {
-            assert_rows(&rt, &tables, *view, rows)?;
-        }
-        for (list, places) in case.lists {
-            assert_list(&rt, &tables, *list, places);
-        }
-    }
-    for (what, steps, others, wanted) in EQUAL {
-        let equal = tables_of(&rt, rt.alloc(), steps)? == tables_of(&rt, rt.alloc(), others)?;
-        assert_eq!(rt; equal, *wanted, "{what}");
-    }
-    assert_eq!(rt; View::CentreDelay.name(), "centre-delay");
-    assert_eq!(rt; List::ExtraReceipts.name(), "extra-receipts");
-    assert_eq!(rt; Outcome::NoId.name(), "noid");
-    assert_eq!(rt; Band::Under30Seconds.name(), "under-30s");
-    Ok(())
-}
-
-/// A message that is open, and noted as that too.
-const OPEN: At = (1, CLIENT, 0);
-
-const NOTED: At = (2, CLIENT, 0);
-
-const REFUSED: At = (1, CLIENT, 49);
-
-const ONE_REFUSED: &[Row] = &[(By::Status(8), Outcome::Refused, 1)];
-
-fn refused(at: At) -> Fact {
-    let mut fact = plain(at, Outcome::Refused);
-    fact.error = Some(SubmitError::Refused { status: 8 });
-    fact
-}
-
-fn take_out(rt: &impl Abort, tally: &mut Tally, at: At) -> Result<(), AllocError> {
-    let place = place_of(at);
+/// Takes the fact of a place out, which is there.
+fn take_out(rt: &impl Abort, tally: &mut Tally, place: Place) -> Result<(), AllocError> {
     assert!(rt; tally.has_fact(place));
     tally.remove(place)
 }
 
-fn forget_open(rt: &impl Abort, tally: &mut Tally, at: At) -> Result<(), AllocError> {
-    let place = place_of(at);
-    assert!(rt; tally.is_noted(List::Open, place));
-    tally.forget(List::Open, place)
+/// Takes a note out, which is there.
+fn forget(rt: &impl Abort, tally: &mut Tally, list: List, place: Place) -> Result<(), AllocError> {
+    assert!(rt; tally.is_noted(list, place));
+    tally.forget(list, place)
 }
 
-/// Puts an open message in, which is noted as that too, another that is noted so, and a refused one.
-fn fill(rt: &impl Abort, tally: &mut Tally) -> Result<(), AllocError> {
-    add(rt, tally, plain(OPEN, Outcome::Open))?;
-    add(rt, tally, refused(REFUSED))?;
-    tally.note(List::Open, place_of(OPEN))?;
-    tally.note(List::Open, place_of(NOTED))
+fn take_step(rt: &impl Abort, tally: &mut Tally, step: &Step) -> Result<(), AllocError> {
+    match step {
+        Step::Plain(at, outcome) => add(rt, tally, plain(*at, *outcome)),
+        Step::Fact(known) => add(rt, tally, known.fact(rt)),
+        Step::Note(list, at) => tally.note(*list, place_of(*at)),
+        Step::Remove(at) => take_out(rt, tally, place_of(*at)),
+        Step::Forget(list, at) => forget(rt, tally, *list, place_of(*at)),
+        Step::Undo => Ok(tally.undo()),
+        Step::Settle => Ok(tally.settle()),
+    }
 }
 
-fn take_both(rt: &impl Abort, tally: &mut Tally) -> Result<(), AllocError> {
-    take_out(rt, tally, REFUSED)?;
-    take_out(rt, tally, OPEN)
+fn take_steps(rt: &impl Abort, tally: &mut Tally, steps: &[Step]) {
+    for step in steps {
+        take_step(rt, tally, step).expect(rt, "memory");
+    }
 }
 
-fn forget_both(rt: &impl Abort, tally: &mut Tally) -> Result<(), AllocError> {
-    forget_open(rt, tally, OPEN)?;
-    forget_open(rt, tally, NOTED)
+fn tables_of(rt: &impl Abort, alloc: Global, steps: &[Step]) -> Tables {
+    let mut tally = Tally::new(alloc);
+    take_steps(rt, &mut tally, steps);
+    tally.into_tables()
 }
 
-/// Asserts the rows of the error view and the places of open messages.
-fn assert_shown(rt: &impl Abort, tally: &Tally, errors: &[Row], open: &[At]) -> Result<(), Fail> {
-    assert_rows(rt, tally.tables(), View::Error, errors)?;
-    assert_list(rt, tally.tables(), List::Open, open);
-    Ok(())
+/// Whether a view has these rows, in order, and these counts.
+fn has_rows(rt: &impl Abort, tables: &Tables, view: View, wanted: &[Row]) -> bool {
+    let mut rows = tables.rows(view);
+    for (by, outcome, count) in wanted {
+        let value = by.value(rt);
+        if tables.count(view, &value, *outcome) != *count {
+            return false;
+        }
+        if rows.next() != Some((&value, *outcome, *count)) {
+            return false;
+        }
+    }
+    rows.next().is_none()
+}
+
+/// Whether a list has these places, in order.
+fn has_places(tables: &Tables, list: List, wanted: &[At]) -> bool {
+    let mut places = tables.list(list);
+    for at in wanted {
+        if places.next() != Some(place_of(*at)) {
+            return false;
+        }
+    }
+    places.next().is_none()
+}
+
+fn assert_case(rt: &impl Abort, alloc: Global, case: &Case) {
+    let what = case.what;
+    let tables = tables_of(rt, alloc, case.steps);
+    for (view, rows) in case.rows {
+        assert!(rt; has_rows(rt, &tables, *view, rows), "{what}");
+    }
+    for (list, places) in case.lists {
+        assert!(rt; has_places(&tables, *list, places), "{what}");
+    }
+}
+
+fn are_equal(rt: &impl Abort, alloc: Global, steps: &[Step], others: &[Step]) -> bool {
+    tables_of(rt, alloc, steps) == tables_of(rt, alloc, others)
+}
+
+fn assert_names(rt: &impl Abort) {
+    assert!(rt; View::CentreDelay.name() == "centre-delay");
+    assert!(rt; List::ExtraReceipts.name() == "extra-receipts");
+    assert!(rt; Outcome::NoId.name() == "noid");
+    assert!(rt; Band::Under30Seconds.name() == "under-30s");
 }
 
 #[test]
-fn what_goes_comes_back_until_it_is_settled(rt: HostRuntime) -> Result<(), Fail> {
+fn tables_are_of_facts_and_notes(rt: HostRuntime) {
+    for case in CASES {
+        assert_case(&rt, rt.alloc(), case);
+    }
+    for (what, steps, others, wanted) in EQUAL {
+        assert!(rt;
+            are_equal(&rt, rt.alloc(), steps, others) == *wanted,
+            "{what}"
+        );
+    }
+    assert_names(&rt);
+}
+
+/// Asserts what a tally shows after each stage.
+fn assert_stages(rt: &impl Abort, tally: &mut Tally) {
+    for (what, steps, errors, open) in STAGES {
+        take_steps(rt, tally, steps);
+        assert!(rt; has_rows(rt, tally.tables(), View::Error, errors), "{what}");
+        assert!(rt; has_places(tally.tables(), List::Open, open), "{what}");
+    }
+}
+
+#[test]
+fn what_goes_comes_back_until_it_is_settled(rt: HostRuntime) {
     let mut tally = Tally::new(rt.alloc());
-    fill(&rt, &mut tally)?;
-    tally.settle();
-    take_both(&rt, &mut tally)?;
-    assert_shown(&rt, &tally, [].as_slice(), [OPEN, NOTED].as_slice())?;
-    tally.undo();
-    assert_shown(&rt, &tally, ONE_REFUSED, [OPEN, NOTED].as_slice())?;
-    forget_both(&rt, &mut tally)?;
-    assert_shown(&rt, &tally, ONE_REFUSED, [OPEN].as_slice())?;
-    tally.settle();
-    take_out(&rt, &mut tally, OPEN)?;
-    tally.undo();
-    assert_shown(&rt, &tally, ONE_REFUSED, [OPEN].as_slice())
+    assert_stages(&rt, &mut tally);
 }
