@@ -2,11 +2,10 @@
 use smq_kit::{Dir, ErrorCode, ErrorText, LinkId, Network, Place, RouteId, SessionId};
 use smq_report::{Format, Pick, ReportFault, write_csv, write_report, write_table};
 use smq_tally::{Band, Fact, List, Outcome, SubmitError, Tables, Tally, View};
-use std::alloc::Global;
+use std::alloc::{AllocError, Global};
 use std::io;
 use std::io::Write;
 use std::process::Abort;
-use std::test::Fail;
 
 /// Why a message failed.
 enum Why {
@@ -224,21 +223,27 @@ impl Why {
     }
 }
 
+fn route(rt: &impl Abort, route: Option<(u32, &str)>) -> Option<(RouteId, Network)> {
+    match route {
+        Some((number, code)) => {
+            let network = Network::parse(code.as_bytes()).expect(rt, "a network");
+            Some((RouteId(number), network))
+        },
+        None => None,
+    }
+}
+
 impl Message {
-    fn fact(&self) -> Result<Fact, Fail> {
-        let route = match self.route {
-            Some((number, code)) => Some((RouteId(number), Network::parse(code.as_bytes())?)),
-            None => None,
-        };
-        Ok(Fact {
+    fn fact(&self, rt: &impl Abort) -> Fact {
+        Fact {
             place: place(1, Dir::FromClient, self.offset),
             link: LinkId(self.link),
-            route,
+            route: route(rt, self.route),
             outcome: self.outcome,
             error: self.why.error(),
             link_delay: self.delays.0,
             centre_delay: self.delays.1,
-        })
+        }
     }
 }
 
@@ -250,18 +255,29 @@ fn place(session: u64, dir: Dir, offset: u64) -> Place {
     }
 }
 
-/// The tables of messages and of the notes.
-fn tables_of(rt: &impl Abort, alloc: Global, messages: &[Message]) -> Result<Tables, Fail> {
-    let mut tally = Tally::new(alloc);
+/// Adds a message of a new place.
+fn add(rt: &impl Abort, tally: &mut Tally, message: &Message) -> Result<(), AllocError> {
+    let fact = message.fact(rt);
+    assert!(rt; !tally.has_fact(fact.place));
+    tally.add(fact)
+}
+
+/// Adds messages and the notes.
+fn put_in(rt: &impl Abort, tally: &mut Tally, messages: &[Message]) -> Result<(), AllocError> {
     for message in messages {
-        let fact = message.fact()?;
-        assert!(rt; !tally.has_fact(fact.place));
-        tally.add(fact)?;
+        add(rt, tally, message)?;
     }
     for (list, session, dir, offset) in NOTES {
         tally.note(*list, place(*session, *dir, *offset))?;
     }
-    Ok(tally.into_tables())
+    Ok(())
+}
+
+/// The tables of messages and of the notes.
+fn tables_of(rt: &impl Abort, alloc: Global, messages: &[Message]) -> Tables {
+    let mut tally = Tally::new(alloc);
+    put_in(rt, &mut tally, messages).expect(rt, "memory");
+    tally.into_tables()
 }
 
 /// Takes so many octets at most at each write, and fails after so many calls.
@@ -301,75 +317,94 @@ impl Write for Taker {
     }
 }
 
-/// Asserts that these lines were taken, each ended by a line feed.
-fn assert_lines(
-    rt: &impl Abort,
-    alloc: Global,
-    taker: &Taker,
-    lines: &[&str],
-    what: &str,
-) -> Result<(), Fail> {
-    let mut text = String::new(alloc);
+/// Puts lines after a text, each ended by a line feed.
+fn push_lines(text: &mut String, lines: &[&str]) -> Result<(), AllocError> {
     for line in lines {
         text.push_str(line)?;
         text.push('\n')?;
     }
+    Ok(())
+}
+
+/// Asserts that these lines were taken, each ended by a line feed.
+fn assert_lines(rt: &impl Abort, alloc: Global, taker: &Taker, lines: &[&str], what: &str) {
+    let mut text = String::new(alloc);
+    push_lines(&mut text, lines).expect(rt, "lines");
     assert_eq!(rt; taker.taken.as_slice(), text.as_bytes(), "{what}");
-    Ok(())
 }
 
-#[test]
-fn reports_have_their_lines(rt: HostRuntime) -> Result<(), Fail> {
-    let alloc = rt.alloc();
-    for (what, messages, pick, csv, table) in CASES {
-        let tables = tables_of(&rt, alloc, messages)?;
-        for most in [1, usize::MAX] {
-            let mut taker = Taker::new(alloc, most, u32::MAX);
-            assert_eq!(rt;
-                write_csv(alloc, &tables, *pick, &mut taker),
-                Ok(()),
-                "{what}"
-            );
-            assert_lines(&rt, alloc, &taker, csv, what)?;
-            let mut taker = Taker::new(alloc, most, u32::MAX);
-            assert_eq!(rt;
-                write_table(alloc, &tables, *pick, &mut taker),
-                Ok(()),
-                "{what}"
-            );
-            assert_lines(&rt, alloc, &taker, table, what)?;
-        }
-    }
+/// Asserts both reports of what a case picks, where so many octets at most are taken at each write.
+fn assert_case(rt: &impl Abort, alloc: Global, tables: &Tables, case: &Case, most: usize) {
+    let (what, _, pick, csv, table) = case;
+    let mut taker = Taker::new(alloc, most, u32::MAX);
+    assert!(rt;
+        write_csv(alloc, tables, *pick, &mut taker).is_ok(),
+        "{what}"
+    );
+    assert_lines(rt, alloc, &taker, csv, what);
+    let mut taker = Taker::new(alloc, most, u32::MAX);
+    assert!(rt;
+        write_table(alloc, tables, *pick, &mut taker).is_ok(),
+        "{what}"
+    );
+    assert_lines(rt, alloc, &taker, table, what);
+}
+
+/// Asserts the whole report of no message and no note.
+fn assert_empty(rt: &impl Abort, alloc: Global, format: Format, lines: &[&str]) {
     let empty = Tally::new(alloc).into_tables();
-    for (format, lines) in [(Format::Csv, [].as_slice()), (Format::Table, EMPTY_TABLE)] {
-        let mut taker = Taker::new(alloc, usize::MAX, u32::MAX);
-        assert_eq!(rt;
-            write_report(alloc, &empty, Pick::All, format, &mut taker),
-            Ok(())
-        );
-        assert_lines(&rt, alloc, &taker, lines, "no message and no note")?;
-    }
-    Ok(())
+    let mut taker = Taker::new(alloc, usize::MAX, u32::MAX);
+    assert!(rt; write_report(alloc, &empty, Pick::All, format, &mut taker).is_ok());
+    assert_lines(rt, alloc, &taker, lines, "no message and no note");
 }
 
 #[test]
-fn a_failed_write_is_told(rt: HostRuntime) -> Result<(), Fail> {
-    let alloc = rt.alloc();
-    let mut tally = Tally::new(alloc);
+fn reports_have_their_lines(rt: HostRuntime) {
+    for case in CASES {
+        let tables = tables_of(&rt, rt.alloc(), case.1);
+        assert_case(&rt, rt.alloc(), &tables, case, 1);
+        assert_case(&rt, rt.alloc(), &tables, case, usize::MAX);
+    }
+    assert_empty(&rt, rt.alloc(), Format::Csv, &[]);
+    assert_empty(&rt, rt.alloc(), Format::Table, EMPTY_TABLE);
+}
+
+/// Notes 8,000 places: some 200 KiB as CSV and 370 KiB as a table.
+fn note_many(tally: &mut Tally) -> Result<(), AllocError> {
     for offset in 0..8_000 {
         tally.note(List::Broken, place(1, Dir::FromClient, offset))?;
     }
-    let tables = tally.into_tables();
-    // Some 200 KiB as CSV and 370 KiB as a table, a page of 64 KiB at a time, and a flush.
-    for (format, calls) in [(Format::Csv, 4), (Format::Table, 7)] {
-        for left in 0..calls {
-            let mut taker = Taker::new(alloc, usize::MAX, left);
-            let told = write_report(alloc, &tables, Pick::All, format, &mut taker);
-            assert_eq!(rt; told, Err(ReportFault::Write), "{format:?} at call {left}");
-        }
-        let mut taker = Taker::new(alloc, usize::MAX, calls);
-        let told = write_report(alloc, &tables, Pick::All, format, &mut taker);
-        assert_eq!(rt; told, Ok(()), "{format:?}");
-    }
     Ok(())
+}
+
+fn many_noted(rt: &impl Abort, alloc: Global) -> Tables {
+    let mut tally = Tally::new(alloc);
+    note_many(&mut tally).expect(rt, "notes");
+    tally.into_tables()
+}
+
+/// What is told of a whole report where so many calls of its writer succeed.
+fn told(alloc: Global, tables: &Tables, format: Format, calls: u32) -> Result<(), ReportFault> {
+    let mut taker = Taker::new(alloc, usize::MAX, calls);
+    write_report(alloc, tables, Pick::All, format, &mut taker)
+}
+
+/// Asserts that a report takes so many calls, and is told as failed with fewer.
+fn assert_calls(rt: &impl Abort, alloc: Global, tables: &Tables, format: Format, calls: u32) {
+    for left in 0..calls {
+        let told = told(alloc, tables, format, left);
+        assert!(rt;
+            told == Err(ReportFault::Write),
+            "{format:?} at call {left}"
+        );
+    }
+    assert!(rt; told(alloc, tables, format, calls) == Ok(()), "{format:?}");
+}
+
+/// A page of 64 KiB at a time is written, and then there is a flush.
+#[test]
+fn a_failed_write_is_told(rt: HostRuntime) {
+    let tables = many_noted(&rt, rt.alloc());
+    assert_calls(&rt, rt.alloc(), &tables, Format::Csv, 4);
+    assert_calls(&rt, rt.alloc(), &tables, Format::Table, 7);
 }
