@@ -1,8 +1,9 @@
 //! Readers that give little at a time, and readers that fail.
 use smq_load::{LoadFault, read_script};
+use std::alloc::Global;
 use std::io;
 use std::io::Read;
-use std::test::Fail;
+use std::process::Abort;
 
 /// Gives a text octet by octet, and fails at one of its reads.
 #[derive(Drop)]
@@ -31,33 +32,38 @@ impl Read for Dripping<'_> {
 /// A script whose second record is bad.
 const BAD: &[u8] = b"clock,1\nclock,x\nclock,2\n";
 
-#[test]
-fn a_failed_read_is_told_before_any_row_is_judged(rt: HostRuntime) -> Result<(), Fail> {
-    for reads in 0..BAD.len() + 1 {
-        let mut failing = Dripping {
-            text: BAD,
-            reads,
-            kind: io::ErrorKind::Other,
-        };
-        let fault = read_script(rt.alloc(), &mut failing).err();
-        assert_eq!(rt; fault, Some(LoadFault::Read), "after {reads} reads");
-        let mut interrupted = Dripping {
-            text: BAD,
-            reads,
-            kind: io::ErrorKind::Interrupted,
-        };
-        let bad = read_script(rt.alloc(), &mut interrupted).err();
-        assert_eq!(rt;
-            bad,
-            Some(LoadFault::BadRow { row: 2 }),
-            "after {reads} reads"
-        );
-    }
+/// What is told of a script, of which the read after so many fails.
+fn fault_after(alloc: Global, text: &[u8], reads: usize, kind: io::ErrorKind) -> Option<LoadFault> {
+    let mut reader = Dripping { text, reads, kind };
+    read_script(alloc, &mut reader).err()
+}
+
+fn assert_faults(rt: &impl Abort, alloc: Global, reads: usize) {
+    let failed = fault_after(alloc, BAD, reads, io::ErrorKind::Other);
+    assert!(rt; failed == Some(LoadFault::Read), "after {reads} reads");
+    let interrupted = fault_after(alloc, BAD, reads, io::ErrorKind::Interrupted);
+    assert!(rt;
+        interrupted == Some(LoadFault::BadRow { row: 2 }),
+        "after {reads} reads"
+    );
+}
+
+fn rows_of_a_whole_script(alloc: Global) -> Option<usize> {
     let mut whole = Dripping {
         text: b"clock,1\nclock,2",
         reads: usize::MAX,
         kind: io::ErrorKind::Other,
     };
-    assert_eq!(rt; read_script(rt.alloc(), &mut whole)?.len(), 2);
-    Ok(())
+    match read_script(alloc, &mut whole) {
+        Ok(rows) => Some(rows.len()),
+        Err(_) => None,
+    }
+}
+
+#[test]
+fn a_failed_read_is_told_before_any_row_is_judged(rt: HostRuntime) {
+    for reads in 0..BAD.len() + 1 {
+        assert_faults(&rt, rt.alloc(), reads);
+    }
+    assert!(rt; rows_of_a_whole_script(rt.alloc()) == Some(2));
 }

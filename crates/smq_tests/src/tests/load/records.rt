@@ -2,7 +2,7 @@
 use smq_book::Edit;
 use smq_kit::{Dir, Form};
 use smq_load::{Row, read_script};
-use std::test::Fail;
+use std::process::Abort;
 
 /// A record of each kind.
 const EACH: &[u8] = b"piece,007,18446744073709551615,centre,4102444800000,00fF
@@ -78,12 +78,15 @@ fn is_edit(place: usize, edit: &Edit) -> bool {
     }
 }
 
-#[test]
-fn each_record_is_read_field_by_field(rt: HostRuntime) -> Result<(), Fail> {
-    let rows = read_script(rt.alloc(), &mut EACH)?;
-    assert_eq!(rt; rows.len(), 7);
+fn assert_read(rt: &impl Abort, rows: &[Row]) {
+    assert!(rt; rows.len() == 7);
     for (place, row) in rows.iter().enumerate() {
         assert!(rt; is_read(place, row), "record {place}");
     }
-    Ok(())
+}
+
+#[test]
+fn each_record_is_read_field_by_field(rt: HostRuntime) {
+    let rows = read_script(rt.alloc(), &mut EACH).expect(&rt, "a script");
+    assert_read(&rt, rows.as_slice());
 }

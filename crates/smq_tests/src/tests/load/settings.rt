@@ -2,13 +2,15 @@
 use smq_book::Edit;
 use smq_kit::Form;
 use smq_load::{LoadFault, Row, read_settings};
+use std::alloc::Global;
+use std::fmt;
 use std::fmt::Write;
-use std::test::Fail;
+use std::process::Abort;
 
 /// Settings, how many rows they have where they are any, and what they show.
 type Case = (&'static [u8], Option<usize>, &'static str);
 
-const LINKS: [Case; 16] = [
+const LINKS: &[Case] = &[
     (b"[[link]]\nid = 1\n", Some(1), "a link alone"),
     (
         b"\xef\xbb\xbf[[link]]\r\nid = 1",
@@ -47,7 +49,7 @@ const LINKS: [Case; 16] = [
     (b"link = [1]\n", None, "a number for a table"),
 ];
 
-const DOCUMENTS: [Case; 15] = [
+const DOCUMENTS: &[Case] = &[
     (b"", Some(0), "no octets"),
     (b"# nothing is set\n", Some(0), "a comment"),
     (b"clock = 0", Some(1), "the first moment"),
@@ -65,17 +67,25 @@ const DOCUMENTS: [Case; 15] = [
     (b"clock = 1 # \xff\n", None, "no UTF-8"),
 ];
 
+/// How many rows settings have, if they aren't bad: the greatest number at any other fault.
+fn read(alloc: Global, text: &[u8]) -> Option<usize> {
+    match read_settings(alloc, text) {
+        Ok(rows) => Some(rows.len()),
+        Err(LoadFault::BadSettings) => None,
+        Err(_) => Some(usize::MAX),
+    }
+}
+
+fn assert_cases(rt: &impl Abort, alloc: Global, cases: &[Case]) {
+    for (text, want, what) in cases {
+        assert!(rt; read(alloc, text) == *want, "{what}");
+    }
+}
+
 #[test]
 fn settings_have_rows_or_are_bad(rt: HostRuntime) {
-    for cases in [LINKS.as_slice(), DOCUMENTS.as_slice()] {
-        for (text, want, what) in cases {
-            let rows = match read_settings(rt.alloc(), text) {
-                Ok(rows) => Some(rows.len()),
-                Err(LoadFault::BadSettings) => None,
-                Err(_) => Some(usize::MAX),
-            };
-            assert_eq!(rt; rows, *want, "{what}");
-        }
+    for cases in [LINKS, DOCUMENTS] {
+        assert_cases(&rt, rt.alloc(), cases);
     }
 }
 
@@ -114,30 +124,43 @@ fn is_set(place: usize, row: &Row) -> bool {
     }
 }
 
-#[test]
-fn links_are_set_in_order_and_then_the_clock(rt: HostRuntime) -> Result<(), Fail> {
-    let rows = read_settings(rt.alloc(), EXAMPLE)?;
-    assert_eq!(rt; rows.len(), 3);
+fn assert_set(rt: &impl Abort, rows: &[Row]) {
+    assert!(rt; rows.len() == 3);
     for (place, row) in rows.iter().enumerate() {
         assert!(rt; is_set(place, row), "row {place}");
+    }
+}
+
+#[test]
+fn links_are_set_in_order_and_then_the_clock(rt: HostRuntime) {
+    let rows = read_settings(rt.alloc(), EXAMPLE).expect(&rt, "settings");
+    assert_set(&rt, rows.as_slice());
+}
+
+fn push_links(text: &mut String) -> fmt::Result {
+    for id in 0..4_096u32 {
+        writeln!(text, "[[link]]\nid = {id}")?;
     }
     Ok(())
 }
 
+fn at_most_4_096_links_are_read(rt: &impl Abort, alloc: Global) {
+    let mut text = String::new(alloc);
+    push_links(&mut text).expect(rt, "links");
+    assert!(rt; read(alloc, text.as_bytes()) == Some(4_096));
+    text.push_str("[[link]]\nid = 4096\n").expect(rt, "a link");
+    assert!(rt; read(alloc, text.as_bytes()).is_none());
+}
+
+fn at_most_1_048_576_octets_are_read(rt: &impl Abort, alloc: Global) {
+    let mut blanks = vec![in alloc; b' '; 1_048_576].expect(rt, "blanks");
+    assert!(rt; read(alloc, blanks.as_slice()) == Some(0));
+    blanks.push(b' ').expect(rt, "a blank");
+    assert!(rt; read(alloc, blanks.as_slice()).is_none());
+}
+
 #[test]
-fn settings_have_at_most_4_096_links_and_1_048_576_octets(rt: HostRuntime) -> Result<(), Fail> {
-    let mut text = String::new(rt.alloc());
-    for id in 0..4_096u32 {
-        writeln!(text, "[[link]]\nid = {id}")?;
-    }
-    assert_eq!(rt; read_settings(rt.alloc(), text.as_bytes())?.len(), 4_096);
-    text.push_str("[[link]]\nid = 4096\n")?;
-    let fault = read_settings(rt.alloc(), text.as_bytes()).err();
-    assert_eq!(rt; fault, Some(LoadFault::BadSettings));
-    let mut blanks = vec![in rt.alloc(); b' '; 1_048_576]?;
-    assert_eq!(rt; read_settings(rt.alloc(), blanks.as_slice())?.len(), 0);
-    blanks.push(b' ')?;
-    let fault = read_settings(rt.alloc(), blanks.as_slice()).err();
-    assert_eq!(rt; fault, Some(LoadFault::BadSettings));
-    Ok(())
+fn settings_have_at_most_4_096_links_and_1_048_576_octets(rt: HostRuntime) {
+    at_most_4_096_links_are_read(&rt, rt.alloc());
+    at_most_1_048_576_octets_are_read(&rt, rt.alloc());
 }
