@@ -1,5 +1,6 @@
 //! Reports of tables that are written out, and writers that take little or fail.
-use smq_kit::{Dir, ErrorCode, ErrorText, LinkId, Network, Place, RouteId, SessionId};
+use crate::tests::tallies::tables::{add, route};
+use smq_kit::{Dir, ErrorCode, ErrorText, LinkId, Place, SessionId};
 use smq_report::{Format, Pick, ReportFault, write_csv, write_report, write_table};
 use smq_tally::{Band, Fact, List, Outcome, SubmitError, Tables, Tally, View};
 use std::alloc::{AllocError, Global};
@@ -223,16 +224,6 @@ impl Why {
     }
 }
 
-fn route(rt: &impl Abort, route: Option<(u32, &str)>) -> Option<(RouteId, Network)> {
-    match route {
-        Some((number, code)) => {
-            let network = Network::parse(code.as_bytes()).expect(rt, "a network");
-            Some((RouteId(number), network))
-        },
-        None => None,
-    }
-}
-
 impl Message {
     fn fact(&self, rt: &impl Abort) -> Fact {
         Fact {
@@ -255,17 +246,10 @@ fn place(session: u64, dir: Dir, offset: u64) -> Place {
     }
 }
 
-/// Adds a message of a new place.
-fn add(rt: &impl Abort, tally: &mut Tally, message: &Message) -> Result<(), AllocError> {
-    let fact = message.fact(rt);
-    assert!(rt; !tally.has_fact(fact.place));
-    tally.add(fact)
-}
-
 /// Adds messages and the notes.
 fn put_in(rt: &impl Abort, tally: &mut Tally, messages: &[Message]) -> Result<(), AllocError> {
     for message in messages {
-        add(rt, tally, message)?;
+        add(rt, tally, message.fact(rt))?;
     }
     for (list, session, dir, offset) in NOTES {
         tally.note(*list, place(*session, *dir, *offset))?;

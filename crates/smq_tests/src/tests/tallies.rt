@@ -1,4 +1,4 @@
 //! Tables of facts and notes that are written out, names as they are printed, and refused memory.
 mod known;
 mod memory;
-mod tables;
+pub mod tables;

@@ -30,7 +30,7 @@ pub fn network(rt: &impl Abort, code: &str) -> Network {
     Network::parse(code.as_bytes()).expect(rt, "a network")
 }
 
-fn route(rt: &impl Abort, route: Option<(u32, &str)>) -> Option<(RouteId, Network)> {
+pub fn route(rt: &impl Abort, route: Option<(u32, &str)>) -> Option<(RouteId, Network)> {
     match route {
         Some((number, code)) => Some((RouteId(number), network(rt, code))),
         None => None,
