@@ -2,6 +2,7 @@
 pub mod Reached
 pub mod Withdrawn
 pub mod Appended
+pub mod AppendedNotes
 pub mod InTurn
 pub mod Reach
 pub mod Told

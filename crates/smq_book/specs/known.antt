@@ -5,3 +5,4 @@ pub mod Pairing
 pub mod Join
 pub mod Whole
 pub mod Reach
+pub mod Appended

@@ -10,13 +10,14 @@ mod whole;
 pub use join::circumstances::LAPSE_WINDOW;
 pub use laws::edits::{
     advances_change_due_messages_alone, appends_note_few_places,
-    appends_put_in_what_their_pdus_say, edits_change_as_few_places_as_they_reach,
-    edits_of_routes_stay_under_their_prefix, forms_are_set_while_their_link_is_out,
-    forms_change_their_link_alone, known_edits_reach_so_much, messages_and_receipts_stand_apart,
+    appends_put_in_the_notes_of_their_pdus, appends_put_in_what_their_pdus_say,
+    edits_change_as_few_places_as_they_reach, edits_of_routes_stay_under_their_prefix,
+    forms_are_set_while_their_link_is_out, forms_change_their_link_alone,
+    known_edits_reach_so_much, messages_and_receipts_stand_apart,
     mismatched_pairs_are_noted_at_their_request, moves_change_their_key_alone,
     moves_in_turn_change_what_each_changes, notes_follow_the_standings_of_receipts,
-    responses_answer_one_message, told_changes_cover, told_standings_give_facts,
-    withdrawals_take_what_their_session_says,
+    notes_of_known_appends, responses_answer_one_message, told_changes_cover,
+    told_standings_give_facts, withdrawals_take_what_their_session_says,
 };
 pub use laws::join::{
     clock_lapses_open_messages_alone, delays_are_of_decided_messages, each_message_has_its_fact,

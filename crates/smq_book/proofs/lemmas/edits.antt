@@ -13,8 +13,16 @@ pub mod KeyMoves
 pub mod Answered
 pub mod PushNotes
 pub mod AppendNotes
+pub mod MetPairs
+pub mod MarkedNotes
+pub mod NotedTraffic
+pub mod NotedPairs
+pub mod NotedPushes
+pub mod OwnNotes
+pub mod NotedAppends
 pub mod ReachBounds
 pub mod MismatchedNotes
 pub mod InTurn
 pub mod Told
 pub mod KnownReach
+pub mod KnownAppends

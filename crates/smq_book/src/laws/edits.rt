@@ -42,9 +42,11 @@ ghost use Rattle.smq_group.specs.Matching.{Grouping};
 ghost use Rattle.smq_book.specs.join.Moves.{IsMove, Move, standings_of, receipt_standings_of, receipt_changes_of, moved_by};
 ghost use Rattle.smq_book.specs.edits.Reached.{link_messages, link_receipts, link_takes, link_puts, without_link, key_submits, key_receipts, IsMoveOf, IsOfKey, messages_under, due_by, lapsing};
 ghost use Rattle.smq_book.specs.edits.Appended.{answered, append_moves, append_places};
+ghost use Rattle.smq_book.specs.edits.AppendedNotes.{append_notes};
 ghost use Rattle.smq_book.specs.edits.InTurn.{AreFree, facts_changed, notes_changed};
 ghost use Rattle.smq_book.specs.edits.Told.{circumstances_told, is_list_told, told_places};
 ghost use Rattle.smq_book.specs.edits.Withdrawn.{withdrawal_moves};
+ghost use Rattle.smq_book.specs.known.Appended.{KnownAppendNotes};
 ghost use Rattle.smq_book.specs.known.Reach.{KnownReach};
 ghost use Rattle.smq_book.specs.edits.Reach.{link_places, members, reach};
 
@@ -184,6 +186,18 @@ pub fn appends_put_in_what_their_pdus_say()
         (append_moves (fin.get sessions batch.session.0) batch) }
 {}
 
+/// What the PDUs of a batch leave of the notes is what they leave where each PDU in turn puts in its own, and takes out that of
+/// the PDU with which it makes a pair, and where at last the bad length is put in at which it leaves its direction broken.
+pub fn appends_put_in_the_notes_of_their_pdus()
+    ensures { (sessions : fin.FinMap nat_cmp SessionValue) (batch : BatchValue)
+        → batch.tail
+        ≡ tail_of (values (octets_in batch.dir (fin.get sessions batch.session.0)))
+        → (traffic_of (fin.insert sessions batch.session.0
+        (session_after (fin.get sessions batch.session.0) batch))).notes
+        ≡ (moved_by (traffic_of sessions)
+        (append_notes (fin.get sessions batch.session.0) batch)).notes }
+{}
+
 /// An append changes no note but at the places of the PDUs that its batch completes, at those of the PDUs with which they
 /// are pairs, and at that of the bad length at which it leaves its direction broken.
 pub fn appends_note_few_places()
@@ -300,4 +314,10 @@ pub fn edits_change_as_few_places_as_they_reach()
 /// what is of its link.
 pub fn known_edits_reach_so_much()
     ensures { KnownReach }
+{}
+
+/// What batches put into the notes and take out: a submit_sm, its response, one as another command, a stray, a response before
+/// its request, and octets that can't all be read.
+pub fn notes_of_known_appends()
+    ensures { KnownAppendNotes }
 {}

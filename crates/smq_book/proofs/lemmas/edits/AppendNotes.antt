@@ -40,7 +40,7 @@ use Rattle.smq_book.proofs.lemmas.edits.SessionTraffic.{said-at, said-put}
 use Rattle.smq_book.proofs.lemmas.pairing.UnreadPlaces.{broken-stays}
 use Rattle.smq_book.proofs.lemmas.edits.Withdrawals.{marks, note_number, noted, notes-own, notes-all}
 
-find-marks : (notes : List Listed) (q : Listed) → find listed_cmp q (marks notes) ≡ marked (list_any (eq_by_cmp listed_cmp q) notes)
+pub find-marks : (notes : List Listed) (q : Listed) → find listed_cmp q (marks notes) ≡ marked (list_any (eq_by_cmp listed_cmp q) notes)
 find-marks [] q = refl
 find-marks (note ∷ notes) q = elim (eq_by_cmp listed_cmp q note) as (λ b. cond b (Some (tt {0})) (find listed_cmp q (marks notes)) ≡ marked (b || list_any (eq_by_cmp listed_cmp q) notes)) [
   | true ↦ refl

@@ -62,7 +62,7 @@ known_client = record { offset = 0; moment = 1000; command = 4; status = 0; seq 
 abbrev known_centre : List KeptPdu
 known_centre = record { offset = 0; moment = 1200; command = 0x8000_0004; status = 0; seq = 1; content = c.SubmitAnswer (Some (codes "1")) } ∷ []
 
-client-is : kept_pdus submitted_session.client ≡ known_client
+pub client-is : kept_pdus submitted_session.client ≡ known_client
 unfolding stated_length frames_of frames_within stamped word_at body_of submit_of number_of digits_of deliver_of id_of mandatory_at address_at c_octet_at octets_at number_at tlv_at tlvs_within tlvs_of
 client-is = refl
 

@@ -122,13 +122,13 @@ module _ (v : PairingValue) (p : PlacedHeader) (g : GrowsByOne v p) (q : Place) 
 
 -- ---- the notes of a session, list by list
 
-abbrev one_list : (e : Listed) → ListName → List Place → Bool
+abbrev pub one_list : (e : Listed) → ListName → List Place → Bool
 one_list e name places = same_list_rank e.list name && list_any (eq_by_cmp place_cmp e.place) places
 
-abbrev five : Listed → List Place → List Place → List Place → List Place → List Place → Bool
+abbrev pub five : Listed → List Place → List Place → List Place → List Place → List Place → Bool
 five e w s m u d = ((one_list e list.Waiting w || one_list e list.StrayAnswers s) || one_list e list.Mismatched m) || (one_list e list.Unreadable u || one_list e list.Undecodable d)
 
-any-notes : (origin : Origin) (client centre : List KeptPdu) (e : Listed) → list_any (eq_by_cmp listed_cmp e) (notes_among origin client centre)
+pub any-notes : (origin : Origin) (client centre : List KeptPdu) (e : Listed) → list_any (eq_by_cmp listed_cmp e) (notes_among origin client centre)
     ≡ five e (waiting (pairing_among origin client centre)) (strays (pairing_among origin client centre)) (mismatched (pairing_among origin client centre)) (unreadable origin centre) (undecodable origin client centre)
 any-notes origin client centre e =
     let test = eq_by_cmp listed_cmp e in
@@ -194,25 +194,25 @@ module _ (origin : Origin) where
       let less : nat_lt y.offset x.offset ≡ true = grind (arith, nat_tests, more) in
       (λ i. less i && below d (y.offset + 1) before after x r.1 i)
 
-  next-client : (client centre after : List KeptPdu) (x : KeptPdu) → Rises 0 (client ++ x ∷ after) → IsNext (pairing_among origin client centre) (place_of origin FromClient x)
+  pub next-client : (client centre after : List KeptPdu) (x : KeptPdu) → Rises 0 (client ++ x ∷ after) → IsNext (pairing_among origin client centre) (place_of origin FromClient x)
   next-client client centre after x r = record { session = of_both origin client centre; offset = below FromClient 0 client after x r }
 
-  next-centre : (client centre after : List KeptPdu) (x : KeptPdu) → Rises 0 (centre ++ x ∷ after) → IsNext (pairing_among origin client centre) (place_of origin FromCentre x)
+  pub next-centre : (client centre after : List KeptPdu) (x : KeptPdu) → Rises 0 (centre ++ x ∷ after) → IsNext (pairing_among origin client centre) (place_of origin FromCentre x)
   next-centre client centre after x r = record { session = of_both origin client centre; offset = below FromCentre 0 centre after x r }
 
-  client-grows : (client centre after : List KeptPdu) (x : KeptPdu) → Rises 0 (client ++ x ∷ after) → AreInOrder (pairing_among origin client centre) → GrowsByOne (pairing_among origin client centre) (placed origin FromClient x)
+  pub client-grows : (client centre after : List KeptPdu) (x : KeptPdu) → Rises 0 (client ++ x ∷ after) → AreInOrder (pairing_among origin client centre) → GrowsByOne (pairing_among origin client centre) (placed origin FromClient x)
   client-grows client centre after x r o = grows (pairing_among origin client centre) (placed origin FromClient x) o (next-client client centre after x r)
 
-  centre-grows : (client centre after : List KeptPdu) (x : KeptPdu) → Rises 0 (centre ++ x ∷ after) → AreInOrder (pairing_among origin client centre) → GrowsByOne (pairing_among origin client centre) (placed origin FromCentre x)
+  pub centre-grows : (client centre after : List KeptPdu) (x : KeptPdu) → Rises 0 (centre ++ x ∷ after) → AreInOrder (pairing_among origin client centre) → GrowsByOne (pairing_among origin client centre) (placed origin FromCentre x)
   centre-grows client centre after x r o = grows (pairing_among origin client centre) (placed origin FromCentre x) o (next-centre client centre after x r)
 
-  client-order : (client centre : List KeptPdu) (x : KeptPdu) → GrowsByOne (pairing_among origin client centre) (placed origin FromClient x) → AreInOrder (pairing_among origin (client ++ x ∷ []) centre)
+  pub client-order : (client centre : List KeptPdu) (x : KeptPdu) → GrowsByOne (pairing_among origin client centre) (placed origin FromClient x) → AreInOrder (pairing_among origin (client ++ x ∷ []) centre)
   client-order client centre x g = subst AreInOrder (λ i. record { client = sym (map-append (placed origin FromClient) client (x ∷ [])) i; centre = map (placed origin FromCentre) centre }) g.in_order
 
-  centre-order : (client centre : List KeptPdu) (x : KeptPdu) → GrowsByOne (pairing_among origin client centre) (placed origin FromCentre x) → AreInOrder (pairing_among origin client (centre ++ x ∷ []))
+  pub centre-order : (client centre : List KeptPdu) (x : KeptPdu) → GrowsByOne (pairing_among origin client centre) (placed origin FromCentre x) → AreInOrder (pairing_among origin client (centre ++ x ∷ []))
   centre-order client centre x g = subst AreInOrder (λ i. record { client = map (placed origin FromClient) client; centre = sym (map-append (placed origin FromCentre) centre (x ∷ [])) i }) g.in_order
 
-  longer : (before : List KeptPdu) (x : KeptPdu) (after : List KeptPdu) → Rises 0 (before ++ x ∷ after) → Rises 0 ((before ++ x ∷ []) ++ after)
+  pub longer : (before : List KeptPdu) (x : KeptPdu) (after : List KeptPdu) → Rises 0 (before ++ x ∷ after) → Rises 0 ((before ++ x ∷ []) ++ after)
   longer before x after r = subst (λ ps. Rises 0 ps) (sym (append_assoc before (x ∷ []) after)) r
 
   -- ---- PDUs more, in turn
