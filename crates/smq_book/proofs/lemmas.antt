@@ -3,4 +3,5 @@ pub mod present
 pub mod pairing
 pub mod join
 pub mod edits
+pub mod index
 pub mod whole

@@ -1,6 +1,7 @@
 //! One book of captured sessions: what is present, its edits and their replies, and the tables of it.
 #![tactic(auto)]
 
+mod index;
 mod join;
 mod laws;
 mod pairing;

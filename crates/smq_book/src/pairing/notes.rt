@@ -25,8 +25,9 @@ pub(crate) fn push_notes(
     session: &Session,
 ) -> Result<(), AllocError>
     requires { pairing.old.pdus ≡ session_pairing (number.0, session.now) }
-    ensures { OnOk result
+    ensures notes { OnOk result
         (notes.new.items ≡ notes.old.items ++ session_notes (number.0, session.now)) }
+    ensures stays { pairing.new ≡ pairing.old }
 {
     let client = session.client.pdus();
     let centre = session.centre.pdus();
@@ -47,7 +48,8 @@ fn push_pairing_notes(
     centre: &[KeptPdu],
 ) -> Result<(), AllocError>
     requires { pairing.old.pdus ≡ pairing_among (from_session session) client.now centre.now }
-    ensures { OnOk result (notes.new.items ≡ notes.old.items ++ pairing_notes pairing.old.pdus) }
+    ensures notes { OnOk result (notes.new.items ≡ notes.old.items ++ pairing_notes pairing.old.pdus) }
+    ensures stays { pairing.new ≡ pairing.old }
 {
     push_places(notes, List::Waiting, pairing.waiting())?;
     push_places(notes, List::StrayAnswers, pairing.strays())?;

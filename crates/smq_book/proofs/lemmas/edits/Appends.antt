@@ -60,11 +60,11 @@ module _ {X : Type 0} where
     | false ↦ λ t. find-both place_cmp q xs ((k, v) ∷ []) ∙ ap (λ b. option_or (find place_cmp q xs) (cond b (Some v) None)) t ∙ or_none (find place_cmp q xs)
   ] refl
 
-  rising-sorted : (n : ℕ) (dir : Dir) (es : List (Place × X)) → Rising n dir 0 es → T (is_sorted place_cmp es)
+  pub rising-sorted : (n : ℕ) (dir : Dir) (es : List (Place × X)) → Rising n dir 0 es → T (is_sorted place_cmp es)
   rising-sorted n dir es h = subst (λ (xs : List (Place × X)). T (is_sorted place_cmp xs)) (append-nil es) (block-sorted n dir 0 es [] h tt tt)
 
   -- a map that has these entries at the places of a session, and others elsewhere
-  abbrev HasAt : ℕ → FinMap place_cmp X → List (Place × X) → FinMap place_cmp X → Type 0
+  abbrev pub HasAt : ℕ → FinMap place_cmp X → List (Place × X) → FinMap place_cmp X → Type 0
   HasAt n rest es m = (q : Place) → get m q ≡ cond (eq_by_cmp nat_cmp q.session.0 n) (find place_cmp q es) (get rest q)
 
   swap : (a b : Bool) (x y z : Option X) → (b ≡ false → a ≡ false) → cond a x (cond b y z) ≡ cond b (cond a x y) z
@@ -198,10 +198,10 @@ module _ (origin : Origin) (client centre : List KeptPdu) (next : KeptPdu) where
 
 -- Messages and receipts are those of these PDUs at the places of their session, and elsewhere as they were; the notes are
 -- as they were.
-record HasPdus (was : TrafficValue) (origin : Origin) (client centre : List KeptPdu) (t : TrafficValue) : Type 0 where
-  messages : HasAt origin.session.0 was.messages (messages_among origin client centre) t.messages
-  receipts : HasAt origin.session.0 was.receipts (receipts_among origin centre) t.receipts
-  notes : t.notes ≡ was.notes
+pub record HasPdus (was : TrafficValue) (origin : Origin) (client centre : List KeptPdu) (t : TrafficValue) : Type 0 where
+  pub messages : HasAt origin.session.0 was.messages (messages_among origin client centre) t.messages
+  pub receipts : HasAt origin.session.0 was.receipts (receipts_among origin centre) t.receipts
+  pub notes : t.notes ≡ was.notes
 
 message-own : (origin : Origin) (submit : Option Submit) (p : KeptPdu) (response : Option KeptPdu) (x : Place × Message)
     → option_map (λ (submit : Submit). (place_of origin FromClient p, message_of origin p submit response)) submit ≡ Some x → x.0.session.0 ≡ origin.session.0
@@ -209,7 +209,7 @@ message-own origin None p response x e = absurd cc
 message-own origin (Some submit) p response x e = let one : (place_of origin FromClient p, message_of origin p submit response) ≡ x = cc in ap (λ (x : Place × Message). x.0.session.0) (sym one)
 
 module _ (was : TrafficValue) (origin : Origin) where
-  client-step : (client centre : List KeptPdu) (next : KeptPdu) (t : TrafficValue) → Rises 0 (client ++ next ∷ []) → HasPdus was origin client centre t
+  pub client-step : (client centre : List KeptPdu) (next : KeptPdu) (t : TrafficValue) → Rises 0 (client ++ next ∷ []) → HasPdus was origin client centre t
       → HasPdus was origin (client ++ next ∷ []) centre (moved_by t (client_moves origin client centre next))
   client-step client centre next t rises has =
       let grown = client-push origin client centre next in
@@ -223,7 +223,7 @@ module _ (was : TrafficValue) (origin : Origin) where
         notes = has.notes;
       })
 
-  receipts-push : (centre : List KeptPdu) (next : KeptPdu) → receipts_among origin (centre ++ next ∷ []) ≡ receipts_among origin centre ++ option_to_list (receipt_at origin next)
+  pub receipts-push : (centre : List KeptPdu) (next : KeptPdu) → receipts_among origin (centre ++ next ∷ []) ≡ receipts_among origin centre ++ option_to_list (receipt_at origin next)
   receipts-push centre next =
       flat_map-append (λ p. option_to_list (receipt_at origin p)) centre (next ∷ [])
       ∙ ap (λ (es : List (Place × ReceivedReceipt)). receipts_among origin centre ++ es) (append-nil (option_to_list (receipt_at origin next)))
@@ -235,7 +235,7 @@ module _ (was : TrafficValue) (origin : Origin) where
       by None e = absurd cc
       by (Some r) e = let one : (place_of origin FromCentre next, received origin next r) ≡ x = cc in ap (λ (x : Place × ReceivedReceipt). x.0.session.0) (sym one)
 
-  centre-step : (client centre : List KeptPdu) (next : KeptPdu) (t : TrafficValue) → Rises 0 client → Rises 0 (centre ++ next ∷ []) → HasPdus was origin client centre t
+  pub centre-step : (client centre : List KeptPdu) (next : KeptPdu) (t : TrafficValue) → Rises 0 client → Rises 0 (centre ++ next ∷ []) → HasPdus was origin client centre t
       → HasPdus was origin client (centre ++ next ∷ []) (moved_by t (centre_moves origin client centre next))
   centre-step client centre next t rises centre_rises has =
       let grown = receipts-push centre next in
@@ -319,7 +319,7 @@ module _ (sessions : FinMap nat_cmp Session) (batch : BatchValue) where
   none-received : (n : ℕ) (link : LinkId) (q : Place) → find place_cmp q (session_receipts (n, record { link = link; client = []; centre = [] })) ≡ None
   none-received n link q = ap (λ ps. find place_cmp q (receipts_among (record { session = record { 0 = n }; link = link }) ps)) kept_pdus-nil
 
-  at-first : HasPdus (traffic_of sessions) place (kept_pdus before.client) (kept_pdus before.centre) (traffic_of sessions)
+  pub at-first : HasPdus (traffic_of sessions) place (kept_pdus before.client) (kept_pdus before.centre) (traffic_of sessions)
   at-first = record {
     messages = said-before session_messages messages-own none-said;
     receipts = said-before session_receipts receipts-own none-received;

@@ -18,8 +18,8 @@ on-ok : {X E P Q : Type 0} (r : Result X E) → (P → Q) → OnOk r P → OnOk 
 on-ok (Ok x) f h = f h
 on-ok (Err e) f h = h
 
-pub returns : goal.returns
-returns c =
+pub returns-clause-notes : goal.returns-clause-notes
+returns-clause-notes c =
     let o = from_session c.args.number in
     let client = c.args.session.now.client in
     let centre = c.args.session.now.centre in
@@ -37,7 +37,7 @@ returns c =
     ++ map (listed list.Undecodable) (undecodables FromCentre (kept_pdus centre)))
     ++ map (listed list.Broken) (broken FromClient (tail_of (values client))))
     ++ map (listed list.Broken) (broken FromCentre (tail_of (values centre))))
-    ∙ (λ i. ((((c.in_ok-push_pairing_notes.ensures i
+    ∙ (λ i. ((((c.in_ok-push_pairing_notes.ensures.notes i
     ++ map (listed list.Unreadable) (places_where is_unreadable o FromCentre (c.pdus-centre.ensures i)))
     ++ map (listed list.Undecodable) (undecodables FromClient (kept_pdus client)))
     ++ map (listed list.Undecodable) (undecodables FromCentre (kept_pdus centre)))
@@ -53,3 +53,6 @@ returns c =
     (places_where is_unreadable o FromCentre (kept_pdus centre))
     (undecodables FromClient (kept_pdus client)) (undecodables FromCentre (kept_pdus centre))
     (broken FromClient (tail_of (values client))) (broken FromCentre (tail_of (values centre)))) c.push_broken-2.ensures
+
+pub returns-clause-stays : goal.returns-clause-stays
+returns-clause-stays c = c.push_pairing_notes.ensures.stays

@@ -13,8 +13,8 @@ on-ok : {X E P Q : Type 0} (r : Result X E) → (P → Q) → OnOk r P → OnOk 
 on-ok (Ok x) f h = f h
 on-ok (Err e) f h = h
 
-pub returns : goal.returns
-returns c =
+pub returns-clause-notes : goal.returns-clause-notes
+returns-clause-notes c =
     let o = from_session c.args.session in
     on-ok c.push_mismatched-2.result (λ last.
     last
@@ -27,3 +27,6 @@ returns c =
     ∙ ap (λ (qs : List Place). c.args.notes.now.items ++ map (listed list.Waiting) qs) c.waiting.ensures.places) i
     ++ map (listed list.StrayAnswers) (c.strays.ensures.places i)))
     ∙ pairs-are o c.args.client.now c.args.centre.now c.args.pairing.now.pdus c.args.notes.now.items c.requires) c.push_mismatched-2.ensures.notes
+
+pub returns-clause-stays : goal.returns-clause-stays
+returns-clause-stays c = c.push_mismatched-2.ensures.stays ∙ c.push_mismatched.ensures.stays

@@ -1,0 +1,79 @@
+use Rattle.std.proofs.Common.{◌≡◌, List, None, subst, refl, ap, sym, ◌∙◌, rules}
+use Rattle.std.specs.FinMap.{get}
+use Rattle.smq_shelf.specs.Keeping.{KeepingMap}
+use Rattle.smq_kit.specs.declared.place.Place.{Place}
+use Rattle.smq_group.specs.declared.change.Change.{Change}
+use Rattle.smq_group.specs.Changes.{TellsChanges}
+use Rattle.smq_group.specs.Groups.{GroupsValue}
+use Rattle.smq_group.specs.Matching.{Grouping}
+use Rattle.smq_book.specs.index.Held.{Holding, stored_traffic}
+use Rattle.smq_book.specs.join.Keyed.{accepted_key}
+use Rattle.smq_book.specs.join.Moves.{put_message}
+use Rattle.smq_book.specs.pairing.Traffic.{Message, ReceivedReceipt}
+use Rattle.smq_book.proofs.lemmas.index.Followed.{are-stored, facts-alone, facts-told, holds, notes-alone}
+use Rattle.smq_book.proofs.lemmas.index.Followed.{notes-told, put-there, stored-accepted, stored-held, stored-refused}
+use Rattle.smq_book.proofs.lemmas.index.Members.{members-unput, receipt-absent, submit-absent}
+use Rattle.smq_book.proofs.lemmas.index.Moves.{came-submit}
+use Rattle.smq_book.proofs.lemmas.join.MoveLemmas.{put_message-moves}
+use Rattle.smq_book.proofs.index.index.Index.put_message.Goals as goal
+
+pub add_submit-requires-clause-absent : goal.add_submit-requires-clause-absent
+add_submit-requires-clause-absent c =
+    let i = c.args.self.now in
+    ap (λ (g : Grouping). get g.submits c.args.place) c.requires.are.grouped
+    ∙ submit-absent c.args.settings.now c.args.place (stored_traffic i.messages.content i.receipts.content) c.requires.absent
+
+pub add_submit-requires-clause-apart : goal.add_submit-requires-clause-apart
+add_submit-requires-clause-apart c =
+    let i = c.args.self.now in
+    ap (λ (g : Grouping). get g.receipts c.args.place) c.requires.are.grouped
+    ∙ receipt-absent c.args.settings.now c.args.place (stored_traffic i.messages.content i.receipts.content) c.requires.apart
+
+pub returns-in_default-clause-held : goal.returns-in_default-clause-held
+returns-in_default-clause-held c = λ t traffic held.
+    let s = c.args.settings.now in
+    let i = c.args.self.now in
+    let q = c.args.place in
+    let m = c.args.message in
+    let u = put_message q m t in
+    let none : get t.messages q ≡ None = sym (ap (λ (h : Holding). get h.messages q) held) ∙ c.requires.absent in
+    let free : get t.receipts q ≡ None = sym (ap (λ (h : Holding). get h.receipts q) held) ∙ c.requires.apart in
+    let gone : c.key-key.result ≡ None = search rules in
+    let refused : accepted_key s m ≡ None = sym c.key-key.ensures ∙ gone in
+    let stores = stored-refused (stored-held s t i traffic held) q m refused none free c.in_ok-set.ensures.content in
+    let move = put_message-moves q m t free in
+    let alike = sym (members-unput s q t m refused none) in
+    holds s t u i held stores traffic q move refl c.refresh.new.self
+    (ap (λ (k : KeepingMap Place Message). k.content) c.refresh.ensures.messages)
+    (ap (λ (k : KeepingMap Place ReceivedReceipt). k.content) c.refresh.ensures.receipts)
+    (ap (λ (v : GroupsValue). v.members) c.refresh.ensures.standings)
+    (c.in_ok-refresh.ensures.facts (are-stored stores) ∙ facts-alone s t u i held stores traffic q move refl alike)
+    (c.in_ok-refresh.ensures.notes (are-stored stores) ∙ notes-alone s t u i held stores traffic q move refl alike)
+
+pub returns-clause-held : goal.returns-clause-held
+returns-clause-held c = λ t traffic held.
+    let s = c.args.settings.now in
+    let i = c.args.self.now in
+    let q = c.args.place in
+    let m = c.args.message in
+    let key = c.in-Some.key in
+    let u = put_message q m t in
+    let g = i.standings.members in
+    let h = c.add_submit.new.self.members in
+    let free : get t.receipts q ≡ None = sym (ap (λ (h : Holding). get h.receipts q) held) ∙ c.requires.apart in
+    let is = sym c.key-key.ensures ∙ c.in-Some.is in
+    let stores = stored-accepted (stored-held s t i traffic held) q m key is free c.in_ok-set.ensures.content c.in_ok-changes.ensures.ok in
+    let move = put_message-moves q m t free in
+    let cs = c.as_slice.result.now in
+    let tells : TellsChanges g h cs =
+    subst (λ (l : List Change). TellsChanges g h l) (sym c.as_slice.ensures.value) c.in_ok-changes.ensures.changes in
+    let absent = ap (λ (x : Grouping). get x.submits q) c.requires.are.grouped
+    ∙ submit-absent s q (stored_traffic i.messages.content i.receipts.content) c.requires.absent in
+    let there = came-submit g h cs tells q key absent
+    (ap (λ (x : Grouping). get x.submits q) c.in_ok-changes.ensures.ok ∙ put-there g.submits q key) in
+    holds s t u i held stores traffic q move refl c.follow.new.self
+    (ap (λ (k : KeepingMap Place Message). k.content) c.follow.ensures.messages)
+    (ap (λ (k : KeepingMap Place ReceivedReceipt). k.content) c.follow.ensures.receipts)
+    (ap (λ (v : GroupsValue). v.members) c.follow.ensures.standings)
+    (c.in_ok-follow.ensures.facts (are-stored stores) ∙ facts-told s t u i held stores traffic q move refl cs tells there)
+    (c.in_ok-follow.ensures.notes (are-stored stores) ∙ notes-told s t u i held stores traffic q move refl cs tells there)

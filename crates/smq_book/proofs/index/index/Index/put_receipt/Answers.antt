@@ -1,0 +1,62 @@
+use Rattle.std.proofs.Common.{◌≡◌, List, None, subst, refl, ap, sym, ◌∙◌}
+use Rattle.std.specs.FinMap.{get}
+use Rattle.smq_shelf.specs.Keeping.{KeepingMap}
+use Rattle.smq_kit.specs.declared.place.Place.{Place}
+use Rattle.smq_group.specs.declared.change.Change.{Change}
+use Rattle.smq_group.specs.Changes.{TellsChanges}
+use Rattle.smq_group.specs.Groups.{GroupsValue, with_receipt}
+use Rattle.smq_group.specs.Matching.{Grouping}
+use Rattle.smq_book.specs.index.Held.{Holding, stored_traffic}
+use Rattle.smq_book.specs.join.Keyed.{keyed_receipt}
+use Rattle.smq_book.specs.join.Moves.{put_receipt}
+use Rattle.smq_book.specs.pairing.Traffic.{Message, ReceivedReceipt}
+use Rattle.smq_book.proofs.lemmas.index.Followed.{are-stored, facts-told, holds, notes-told, put-there, stored-held, stored-received}
+use Rattle.smq_book.proofs.lemmas.index.Members.{receipt-absent, submit-absent}
+use Rattle.smq_book.proofs.lemmas.index.Moves.{came-receipt}
+use Rattle.smq_book.proofs.lemmas.join.MoveLemmas.{put_receipt-moves}
+use Rattle.smq_book.proofs.index.index.Index.put_receipt.Goals as goal
+
+pub add_receipt-requires-clause-absent : goal.add_receipt-requires-clause-absent
+add_receipt-requires-clause-absent c =
+    let i = c.args.self.now in
+    ap (λ (g : Grouping). get g.receipts c.args.place) c.requires.are.grouped
+    ∙ receipt-absent c.args.settings.now c.args.place (stored_traffic i.messages.content i.receipts.content) c.requires.absent
+
+pub add_receipt-requires-clause-apart : goal.add_receipt-requires-clause-apart
+add_receipt-requires-clause-apart c =
+    let i = c.args.self.now in
+    ap (λ (g : Grouping). get g.submits c.args.place) c.requires.are.grouped
+    ∙ submit-absent c.args.settings.now c.args.place (stored_traffic i.messages.content i.receipts.content) c.requires.apart
+
+pub returns-clause-held : goal.returns-clause-held
+returns-clause-held c = λ t traffic held.
+    let s = c.args.settings.now in
+    let i = c.args.self.now in
+    let q = c.args.place in
+    let r : ReceivedReceipt = c.args.receipt in
+    let u = put_receipt q r t in
+    let g = i.standings.members in
+    let h = c.add_receipt.new.self.members in
+    let none : get t.receipts q ≡ None = sym (ap (λ (h : Holding). get h.receipts q) held) ∙ c.requires.absent in
+    let free : get t.messages q ≡ None = sym (ap (λ (h : Holding). get h.messages q) held) ∙ c.requires.apart in
+    let came : h ≡ with_receipt g q (keyed_receipt s r) = c.in_ok-changes.ensures.ok
+    ∙ (λ j. with_receipt g q (record {
+      key = c.key-key.ensures j;
+      moment = (ap (λ (x : ReceivedReceipt). x.moment) c.receipt.view_is) j;
+      decides = c.can_decide-decides.ensures j;
+    })) in
+    let stores = stored-received (stored-held s t i traffic held) q r free c.in_ok-set.ensures.content came in
+    let move = put_receipt-moves q r t none in
+    let cs = c.as_slice.result.now in
+    let tells : TellsChanges g h cs =
+    subst (λ (l : List Change). TellsChanges g h l) (sym c.as_slice.ensures.value) c.in_ok-changes.ensures.changes in
+    let absent = ap (λ (x : Grouping). get x.receipts q) c.requires.are.grouped
+    ∙ receipt-absent s q (stored_traffic i.messages.content i.receipts.content) c.requires.absent in
+    let there = came-receipt g h cs tells q (keyed_receipt s r) absent
+    (ap (λ (x : Grouping). get x.receipts q) came ∙ put-there g.receipts q (keyed_receipt s r)) in
+    holds s t u i held stores traffic q move refl c.follow.new.self
+    (ap (λ (k : KeepingMap Place Message). k.content) c.follow.ensures.messages)
+    (ap (λ (k : KeepingMap Place ReceivedReceipt). k.content) c.follow.ensures.receipts)
+    (ap (λ (v : GroupsValue). v.members) c.follow.ensures.standings)
+    (c.in_ok-follow.ensures.facts (are-stored stores) ∙ facts-told s t u i held stores traffic q move refl cs tells there)
+    (c.in_ok-follow.ensures.notes (are-stored stores) ∙ notes-told s t u i held stores traffic q move refl cs tells there)

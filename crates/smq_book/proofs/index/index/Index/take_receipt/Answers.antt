@@ -1,0 +1,86 @@
+use Rattle.std.proofs.Common.{◌≡◌, Option, List, Some, None, subst, refl, ap, sym, ◌∙◌, rules}
+use Rattle.std.specs.FinMap.{get}
+use Rattle.std.specs.Option.{option_copied}
+use Rattle.std.specs.Prelude.{option_map}
+use Rattle.smq_shelf.specs.Keeping.{KeepingMap}
+use Rattle.smq_kit.specs.Maps.{set_at}
+use Rattle.smq_kit.specs.declared.place.Place.{Place}
+use Rattle.smq_kit.proofs.PlaceOrders.{places_total, places_exact}
+use Rattle.smq_tally.proofs.Undone.{remove-none}
+use Rattle.smq_group.specs.declared.change.Change.{Change}
+use Rattle.smq_group.specs.Changes.{TellsChanges}
+use Rattle.smq_group.specs.Groups.{GroupsValue}
+use Rattle.smq_group.specs.Matching.{Grouping, GroupedReceipt}
+use Rattle.smq_book.specs.declared.index.index.Index.{Index}
+use Rattle.smq_book.specs.index.Held.{AreOf, Holding, held_of, list_held, receipts_in, stored_traffic, with_listing}
+use Rattle.smq_book.specs.join.Facts.{facts_of}
+use Rattle.smq_book.specs.join.Moves.{take_receipt}
+use Rattle.smq_book.specs.pairing.Traffic.{Message, ReceivedReceipt}
+use Rattle.smq_book.proofs.lemmas.index.Followed.{are-stored, facts-taken, holds, notes-taken, stored-forgotten, stored-held}
+use Rattle.smq_book.proofs.lemmas.index.Members.{receipt-there}
+use Rattle.smq_book.proofs.lemmas.index.Stored.{stored-at}
+use Rattle.smq_book.proofs.lemmas.join.MoveLemmas.{take_receipt-moves}
+use Rattle.smq_book.proofs.index.index.Index.take_receipt.Goals as goal
+
+pub returns-in_default-clause-held : goal.returns-in_default-clause-held
+returns-in_default-clause-held c = λ t traffic held.
+    let q = c.args.place in
+    let gone : ◌≡◌ {A = Option ReceivedReceipt} None (option_copied c.get.result) = search rules in
+    let none : get t.receipts q ≡ None =
+    sym (gone ∙ c.get.ensures ∙ stored-at c.args.self.now.receipts.content q ∙ ap (λ (h : Holding). get h.receipts q) held) in
+    held
+    ∙ (λ i. held_of c.args.settings.now (record {
+      messages = t.messages;
+      receipts = sym (remove-none places_total places_exact t.receipts q none) i;
+      notes = t.notes;
+    }))
+
+pub remove_receipt-requires : goal.remove_receipt-requires
+remove_receipt-requires c =
+    let i = c.args.self.now in
+    let s = c.args.settings.now in
+    let q = c.args.place in
+    let r = c.in-Some.receipt.now in
+    let some : ◌≡◌ {A = Option ReceivedReceipt} (Some r) (option_copied c.get.result) = search rules in
+    let there : get (receipts_in i.receipts.content) q ≡ Some r = sym (some ∙ c.get.ensures ∙ stored-at i.receipts.content q) in
+    record {
+      there = ap (λ (g : Grouping). option_map (λ (x : GroupedReceipt). x.key) (get g.receipts q)) c.requires.are.grouped
+          ∙ ap (option_map (λ (x : GroupedReceipt). x.key)) (receipt-there s q (stored_traffic i.messages.content i.receipts.content) r there)
+          ∙ ap Some (sym c.key-key.ensures);
+    }
+
+pub returns-clause-held : goal.returns-clause-held
+returns-clause-held c = λ t traffic held.
+    let s = c.args.settings.now in
+    let i = c.args.self.now in
+    let q = c.args.place in
+    let u = take_receipt q t in
+    let g = i.standings.members in
+    let h = c.remove_receipt.new.self.members in
+    let stores = stored-forgotten
+    (stored-held s t i traffic held) q traffic c.in_ok-remove.ensures.ordered c.in_ok-remove.ensures.content c.in_ok-changes.ensures.ok in
+    let move = take_receipt-moves q t in
+    let cs = c.as_slice.result.now in
+    let tells : TellsChanges g h cs =
+    subst (λ (l : List Change). TellsChanges g h l) (sym c.as_slice.ensures.value) c.in_ok-changes.ensures.changes in
+    let gs = ap (λ (v : GroupsValue). v.members) c.follow.ensures.standings in
+    let mc = ap (λ (k : KeepingMap Place Message). k.content) c.follow.ensures.messages in
+    let rc = ap (λ (k : KeepingMap Place ReceivedReceipt). k.content) c.follow.ensures.receipts in
+    let are = subst (λ (x : Index). AreOf s (stored_traffic x.messages.content x.receipts.content) x.standings.members)
+    (λ j. record {
+      standings = sym c.follow.ensures.standings j;
+      messages = sym c.follow.ensures.messages j;
+      receipts = sym c.follow.ensures.receipts j;
+      tally = c.follow.new.self.tally;
+    })
+    (are-stored stores) in
+    holds s t u i held stores traffic q move refl c.refresh.new.self
+    (ap (λ (k : KeepingMap Place Message). k.content) (c.refresh.ensures.messages ∙ c.follow.ensures.messages))
+    (ap (λ (k : KeepingMap Place ReceivedReceipt). k.content) (c.refresh.ensures.receipts ∙ c.follow.ensures.receipts))
+    (ap (λ (v : GroupsValue). v.members) (c.refresh.ensures.standings ∙ c.follow.ensures.standings))
+    (c.in_ok-refresh.ensures.facts are
+    ∙ (λ j. set_at (c.in_ok-follow.ensures.facts (are-stored stores) j) q (get (facts_of s (stored_traffic (mc j) (rc j))) q))
+    ∙ facts-taken s t u i held stores traffic q move refl cs tells)
+    (c.in_ok-refresh.ensures.notes are
+    ∙ (λ j. with_listing (c.in_ok-follow.ensures.notes (are-stored stores) j) q (list_held (gs j) q))
+    ∙ notes-taken s t u i held stores traffic q move refl cs tells)

@@ -1,0 +1,229 @@
+-- What is known of a stored message, and in which list a stored receipt stands; entries, facts and notes as they are stored.
+use Rattle.std.proofs.Common.{◌≡◌, ℕ, Bool, true, false, cond, List, Option, Some, None, refl, sym, ap, ◌∙◌}
+use Rattle.std.specs.Prelude.{is_some, option_and_then, option_map}
+use Rattle.std.specs.Option.{option_or}
+use Rattle.std.specs.FinMap.{FinMap, contains_key, from_entries, get, get-insert, get-remove, insert, remove, same_map}
+use Rattle.std.specs.Ordering.{eq_by_cmp}
+use Rattle.std.specs.FinSet.{FinSet}
+use Rattle.std.specs.List.Sorted.{IsStrictlySortedBy}
+use Rattle.std.specs.Map.{keys_of, lookup, remove_entry}
+use Rattle.std.specs.BTreeMap.{is_at, insert_entry}
+use Rattle.smq_kit.specs.Maps.{set_at}
+use Rattle.smq_kit.specs.Orders.{place_cmp}
+use Rattle.smq_kit.specs.declared.names.RouteId.{RouteId}
+use Rattle.smq_kit.specs.declared.place.Place.{Place}
+use Rattle.smq_kit.specs.declared.link_key.LinkKey.{LinkKey}
+use Rattle.smq_kit.proofs.PlaceOrders.{places_total, places_exact}
+use Rattle.smq_kit.proofs.MapLemmas.{get-chosen, get-removed, set-same}
+use Rattle.smq_shelf.specs.within.KeyLaws.{place_order}
+use Rattle.smq_shelf.proofs.Seen.{inserted, looked_up, removed}
+use Rattle.smq_tally.specs.declared.list.Listed.{Listed}
+use Rattle.smq_tally.specs.declared.fact.Fact.{Fact}
+use Rattle.smq_tally.specs.Lists.{listed_cmp}
+use Rattle.smq_tally.specs.within.Kept.{kept_place_cmp}
+use Rattle.smq_tally.specs.within.ListOrder.{listed_total}
+use Rattle.smq_tally.proofs.ListOrders.{listed_exact}
+use Rattle.smq_group.specs.declared.change.Standing as told
+use Rattle.smq_group.specs.Changes.{receipt_at, submit_at, told_of_receipt, told_of_submit}
+use Rattle.smq_group.specs.Matching as m
+use Rattle.smq_group.specs.Matching.{Grouping, GroupedReceipt, receipt_standing, submit_standing}
+use Rattle.smq_group.specs.Standings.{standing_at}
+use Rattle.smq_book.specs.present.Settings.{SettingsValue}
+use Rattle.smq_book.specs.pairing.Traffic.{Message, ReceivedReceipt, TrafficValue}
+use Rattle.smq_book.specs.join.Circumstances.{circumstances, decider_in, lapsed_in, route_in, standing_in}
+use Rattle.smq_book.specs.join.Facts.{fact_by, facts_of}
+use Rattle.smq_book.specs.join.Keyed.{accepted_key, grouping_of, keyed_receipt}
+use Rattle.smq_book.specs.join.Listings.{list_of_standing}
+use Rattle.smq_book.specs.join.Outcomes.{is_shared}
+use Rattle.smq_book.specs.edits.Told.{list_told}
+use Rattle.smq_book.specs.index.Stored.{circumstances_by, is_told_shared}
+use Rattle.smq_book.specs.index.Held.{AreOf, decider_held, list_by, list_held, noted}
+
+-- ---- stored entries as finite maps
+
+-- the order of places as maps of std compare them
+place-order : kept_place_cmp ≡ place_cmp
+place-order = λ i a b. place_order a b i
+
+module _ {X : Type 0} where
+  -- what is looked up at a place is what the map has there
+  pub stored-at : (es : List (Place × X)) (q : Place) → lookup (is_at (kept_place_cmp q)) es ≡ get (from_entries {R = place_cmp} es) q
+  stored-at es q = sym (looked_up places_total places_exact place-order es q)
+
+  -- the map where a place is set
+  pub stored-put : (es : List (Place × X)) (q : Place) (x : X) → from_entries {R = place_cmp} (insert_entry kept_place_cmp es q x)
+      ≡ insert (from_entries es) q x
+  stored-put es q x = inserted places_total places_exact place-order es q x
+
+  -- the map where a place is taken out
+  pub stored-gone : (es : List (Place × X)) (q : Place) → IsStrictlySortedBy kept_place_cmp (keys_of es)
+      → from_entries {R = place_cmp} (remove_entry (is_at (kept_place_cmp q)) es) ≡ remove (from_entries es) q
+  stored-gone es q sorted = removed places_total places_exact place-order es q sorted
+
+-- ---- facts and notes that are set
+
+-- where a place has no fact, none is taken out
+pub fact-free : (facts : FinMap place_cmp Fact) (q : Place) → contains_key facts q ≡ false → facts ≡ remove facts q
+fact-free facts q free = sym (ap (set_at facts q) (sym (none (get facts q) free)) ∙ set-same places_total places_exact facts q)
+  where
+    none : (x : Option Fact) → is_some x ≡ false → x ≡ None
+    none None h = refl
+    none (Some f) h = absurd cc
+
+-- a place whose fact was taken out has none
+pub fact-gone : (facts : FinMap place_cmp Fact) (q : Place) (f : Fact) → f.place ≡ q → get (remove facts q) f.place ≡ None
+fact-gone facts q f own = ap (get (remove facts q)) own ∙ get-removed places_total places_exact facts q
+
+-- a fact that comes after the one at its place was taken out takes that place
+pub fact-set : (facts : FinMap place_cmp Fact) (q : Place) (f : Fact) → f.place ≡ q → insert (remove facts q) f.place f ≡ insert facts q f
+fact-set facts q f own = ap (λ (p : Place). insert (remove facts q) p f) own ∙ same_map places_total places_exact _ _ (λ p.
+    get-insert places_total (remove facts q) q f p
+    ∙ ap (cond (eq_by_cmp place_cmp p q) (Some f)) (get-remove places_total facts q p)
+    ∙ hidden (eq_by_cmp place_cmp p q) (get facts p)
+    ∙ sym (get-insert places_total facts q f p))
+  where
+    hidden : (b : Bool) (x : Option Fact) → cond b (Some f) (cond b None x) ≡ cond b (Some f) x
+    hidden true x = refl
+    hidden false x = refl
+
+-- a note that is as it shall be is set to that
+pub note-same : (notes : FinSet listed_cmp) (note : Listed) (is_noted : Bool) → contains_key notes note ≡ is_noted
+    → notes ≡ set_at notes note (noted is_noted)
+note-same notes note is_noted h = sym (ap (set_at notes note) (by (get notes note) is_noted h) ∙ set-same listed_total listed_exact notes note)
+  where
+    by : (x : Option (Unit {0})) (b : Bool) → is_some x ≡ b → noted b ≡ x
+    by None true h = absurd cc
+    by None false h = refl
+    by (Some u) true h = refl
+    by (Some u) false h = absurd cc
+
+-- a note that isn't there
+pub none-noted : (notes : FinSet listed_cmp) (note : Listed) → contains_key notes note ≡ false → get notes note ≡ None
+none-noted notes note h = by (get notes note) h
+  where
+    by : (x : Option (Unit {0})) → is_some x ≡ false → x ≡ None
+    by None e = refl
+    by (Some u) e = absurd cc
+
+-- ---- standings as they are told
+
+told-shared : (o : Option m.Standing) → is_told_shared (option_map told_of_submit o) ≡ is_shared o
+told-shared None = refl
+told-shared (Some (m.Single p)) = refl
+told-shared (Some m.Shared) = refl
+
+told-decider : (u : TrafficValue) (o : Option m.Standing) → decider_held u.receipts (option_map told_of_submit o) ≡ decider_in u o
+told-decider u None = refl
+told-decider u (Some (m.Single None)) = refl
+told-decider u (Some (m.Single (Some p))) = refl
+told-decider u (Some m.Shared) = refl
+
+told-list : (r : m.ReceiptStanding) → list_told (told_of_receipt r) ≡ list_of_standing r
+told-list m.Stray = refl
+told-list m.Deciding = refl
+told-list m.Extra = refl
+told-list m.Noted = refl
+told-list m.KeyShared = refl
+
+or-none : {X : Type 0} (a : Option X) → option_or a None ≡ a
+or-none None = refl
+or-none (Some x) = refl
+
+-- ---- of one place
+
+module _ (s : SettingsValue) (u : TrafficValue) (g : Grouping) (are : AreOf s u g) (q : Place) where
+  at-submits : get g.submits q ≡ option_and_then (λ (m : Message). accepted_key s m) (get u.messages q)
+  at-submits = ap (λ (x : Grouping). get x.submits q) are.grouped ∙ get-chosen places_total places_exact (λ place m. accepted_key s m) u.messages q
+
+  at-receipts : get g.receipts q ≡ option_and_then (λ (r : ReceivedReceipt). Some (keyed_receipt s r)) (get u.receipts q)
+  at-receipts = ap (λ (x : Grouping). get x.receipts q) are.grouped
+      ∙ get-chosen places_total places_exact (λ place r. Some (keyed_receipt s r)) u.receipts q
+
+  -- a message's standing is that of its key
+  pub message-standing : (m : Message) → get u.messages q ≡ Some m → standing_at g q ≡ option_map told_of_submit (standing_in g s m)
+  message-standing m there =
+      (λ i. option_or (submits i) (receipts i)) ∙ or-none (option_map told_of_submit (standing_in g s m))
+    where
+      by : (o : Option LinkKey) → option_map (λ key. told_of_submit (submit_standing g key)) o
+          ≡ option_map told_of_submit (option_map (submit_standing g) o)
+      by None = refl
+      by (Some key) = refl
+
+      submits : submit_at g q ≡ option_map told_of_submit (standing_in g s m)
+      submits = ap (option_map (λ key. told_of_submit (submit_standing g key))) (at-submits
+          ∙ ap (option_and_then (λ (m : Message). accepted_key s m)) there) ∙ by (accepted_key s m)
+
+      receipts : receipt_at g q ≡ None
+      receipts = ap (option_map (λ (r : GroupedReceipt). told_of_receipt (receipt_standing g q r)))
+          (at-receipts ∙ ap (option_and_then (λ (r : ReceivedReceipt). Some (keyed_receipt s r))) (are.apart q m there))
+
+  -- what is known of it
+  pub fact-there : (m : Message) → get u.messages q ≡ Some m → get (facts_of s u) q
+      ≡ Some (fact_by q m (record {
+        standing = standing_in g s m;
+        decider = decider_held u.receipts (standing_at g q);
+        route = route_in s.versions m;
+        lapsed = lapsed_in s m;
+      }))
+  fact-there m there =
+      get-chosen places_total places_exact (λ place m. Some (fact_by place m (circumstances s u m))) u.messages q
+      ∙ ap (option_and_then (λ (m : Message). Some (fact_by q m (circumstances s u m)))) there
+      ∙ (λ i. Some (fact_by q m (record {
+        standing = standing_in (grouped i) s m;
+        decider = (decider i);
+        route = route_in s.versions m;
+        lapsed = lapsed_in s m;
+      })))
+    where
+      grouped : grouping_of s u ≡ g
+      grouped = sym are.grouped
+
+      decider : decider_in u (standing_in (grouping_of s u) s m) ≡ decider_held u.receipts (standing_at g q)
+      decider = ap (λ (x : Grouping). decider_in u (standing_in x s m)) grouped ∙ sym (told-decider u (standing_in g s m))
+          ∙ sym (ap (decider_held u.receipts) (message-standing m there))
+
+  pub fact-absent : get u.messages q ≡ None → get (facts_of s u) q ≡ None
+  fact-absent none =
+      get-chosen places_total places_exact (λ place m. Some (fact_by place m (circumstances s u m))) u.messages q
+      ∙ ap (option_and_then (λ (m : Message). Some (fact_by q m (circumstances s u m)))) none
+
+  pub shared-there : (m : Message) → get u.messages q ≡ Some m → is_shared (standing_in g s m) ≡ is_told_shared (standing_at g q)
+  shared-there m there = sym (told-shared (standing_in g s m)) ∙ sym (ap is_told_shared (message-standing m there))
+
+  -- a fact by the standing that is told, the receipt that it gives, and what is set
+  pub fact-is : (m : Message) (standing : Option told.Standing) (decider : Option ReceivedReceipt) (route : Option (RouteId × List ℕ))
+      (lapsed : Bool) (f : Fact)
+      → get u.messages q ≡ Some m → standing ≡ standing_at g q → decider ≡ decider_held u.receipts standing → route ≡ route_in s.versions m
+      → lapsed ≡ lapsed_in s m
+      → f ≡ fact_by q m (circumstances_by (standing_in g s m) decider route lapsed)
+      → Some f ≡ get (facts_of s u) q
+  fact-is m standing decider route lapsed f there told decides routed lapses is =
+      ap Some is
+      ∙ (λ i. Some (fact_by q m (circumstances_by (standing_in g s m) ((decides ∙ ap (decider_held u.receipts) told) i) (routed i) (lapses i))))
+      ∙ sym (fact-there m there)
+
+  -- the list of a receipt
+  pub list-there : list_by (is_some (get u.receipts q)) (standing_at g q) ≡ list_held g q
+  list-there = from (get u.receipts q) refl (get u.messages q) refl
+    where
+      from : (o : Option ReceivedReceipt) → get u.receipts q ≡ o → (x : Option Message) → get u.messages q ≡ x
+          → list_by (is_some o) (standing_at g q) ≡ list_held g q
+      from None none x there =
+          sym (ap (option_and_then (λ (r : GroupedReceipt). list_of_standing (receipt_standing g q r))) (at-receipts
+          ∙ ap (option_and_then (λ (r : ReceivedReceipt). Some (keyed_receipt s r))) none))
+      from (Some r) here (Some m) there = let no : ◌≡◌ {A = Option ReceivedReceipt} None (Some r) = sym (are.apart q m there) ∙ here in absurd cc
+      from (Some r) here None there =
+          ap (option_and_then list_told)
+          ((λ i. option_or (gone i) (stands i)))
+          ∙ told-list (receipt_standing g q (keyed_receipt s r))
+          ∙ sym (ap (option_and_then (λ (r : GroupedReceipt). list_of_standing (receipt_standing g q r))) grouped)
+        where
+          grouped : get g.receipts q ≡ Some (keyed_receipt s r)
+          grouped = at-receipts ∙ ap (option_and_then (λ (r : ReceivedReceipt). Some (keyed_receipt s r))) here
+
+          gone : submit_at g q ≡ None
+          gone = ap (option_map (λ key. told_of_submit (submit_standing g key))) (at-submits
+              ∙ ap (option_and_then (λ (m : Message). accepted_key s m)) there)
+
+          stands : receipt_at g q ≡ Some (told_of_receipt (receipt_standing g q (keyed_receipt s r)))
+          stands = ap (option_map (λ (r : GroupedReceipt). told_of_receipt (receipt_standing g q r))) grouped

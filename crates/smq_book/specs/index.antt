@@ -1,0 +1,10 @@
+-- What the book stores of its traffic, by place, by number and by moment.
+pub mod Stored
+pub mod PlacedKeys
+pub mod Numbered
+pub mod Due
+pub mod DueKeys
+pub mod Coming
+pub mod Held
+pub mod Opening
+pub mod Pairs

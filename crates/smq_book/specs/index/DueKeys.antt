@@ -1,0 +1,29 @@
+-- Moments at places as a shelf keeps them: those that compare equal are one.
+use Rattle.std.specs.Prelude.{◌≡◌, ℕ}
+use Rattle.std.proofs.Common.{ap, ◌∙◌}
+use Rattle.std.specs.Ordering.{nat_cmp}
+use Rattle.std.specs.declared.cmp.Ordering.{Ordering}
+use Rattle.std.specs.declared.cmp.Ordering.TheVariants.{Equal}
+use Rattle.std.specs.FinMap.{nat_cmp-IsAntisymmetric}
+use Rattle.smq_kit.specs.declared.place.Place.{Place}
+use Rattle.smq_kit.specs.contracts.place.PlaceOrd.TheImpl as place_ord
+use Rattle.smq_kit.proofs.Comparisons.{then_first, then_second}
+use Rattle.smq_shelf.specs.within.KeyLaws.{one_place}
+use Rattle.smq_book.specs.declared.index.due_at.DueAt.{DueAt}
+use Rattle.smq_book.specs.contracts.index.due_at.DueAtOrd.TheImpl as due_ord
+use Rattle.smq_book.specs.index.Due.{due_at}
+
+-- the order by which a shelf compares places
+abbrev pub kept_place_cmp : Place → Place → Ordering
+kept_place_cmp = (place_ord.ghosts).cmp
+
+-- the order by which a shelf compares moments at places
+abbrev pub kept_due_cmp : DueAt → DueAt → Ordering
+kept_due_cmp = (due_ord.ghosts).cmp
+
+pub one_due : (x y : DueAt) → kept_due_cmp x y ≡ Equal → x ≡ y
+one_due x y h =
+    let moments : Ordering = nat_cmp x.moment y.moment in
+    let places : Ordering = kept_place_cmp x.place y.place in
+    ap (due_at x.moment) (one_place x.place y.place (then_second moments places h))
+    ∙ ap (λ (n : ℕ). due_at n y.place) (nat_cmp-IsAntisymmetric x.moment y.moment (then_first moments places h))

@@ -1,0 +1,162 @@
+-- What an index holds, by place.
+use Rattle.std.specs.Prelude.{◌≡◌, ⊤, Bool, true, false, if◌then◌else◌, List, fold, Option, Some, None, option_and_then}
+use Rattle.std.specs.FinMap as fin
+use Rattle.std.specs.FinSet.{FinSet}
+use Rattle.smq_kit.specs.declared.place.Dir.TheVariants.{FromClient, FromCentre}
+use Rattle.smq_kit.specs.declared.place.Place.{Place}
+use Rattle.smq_kit.specs.Maps.{chosen, set_at}
+use Rattle.smq_kit.specs.Orders.{place_cmp}
+use Rattle.smq_tally.specs.Lists.{listed, listed_cmp}
+use Rattle.smq_tally.specs.declared.list.List as l
+use Rattle.smq_tally.specs.declared.list.List.TheVariants.{StrayReceipts, AmbiguousReceipts, ExtraReceipts}
+use Rattle.smq_group.specs.declared.change.Change.{Change}
+use Rattle.smq_tally.specs.declared.fact.Fact.{Fact}
+use Rattle.smq_group.specs.declared.change.Standing as told
+use Rattle.smq_group.specs.declared.change.Standing.TheVariants as t
+use Rattle.smq_group.specs.Matching.{Grouping, receipt_standing}
+use Rattle.smq_book.specs.present.Settings.{SettingsValue}
+use Rattle.smq_book.specs.declared.index.index.Index.{Index}
+use Rattle.smq_book.specs.pairing.Traffic.{Message, ReceivedReceipt, TrafficValue}
+use Rattle.smq_book.specs.join.Facts.{facts_of}
+use Rattle.smq_book.specs.join.Keyed.{grouping_of}
+use Rattle.smq_book.specs.edits.Told.{list_told}
+use Rattle.smq_book.specs.join.Listings.{list_of_standing, notes_of}
+use Rattle.smq_book.specs.join.Moves.{Move, PutMessage, TakeMessage, PutReceipt, TakeReceipt, PutNote, TakeNote}
+
+-- messages and receipts that are stored as finite maps
+abbrev pub messages_in : List (Place × Message) → fin.FinMap place_cmp Message
+messages_in es = fin.from_entries es
+
+abbrev pub receipts_in : List (Place × ReceivedReceipt) → fin.FinMap place_cmp ReceivedReceipt
+receipts_in es = fin.from_entries es
+
+-- the receipt that decides a message of this standing
+abbrev pub decider_held : fin.FinMap place_cmp ReceivedReceipt → Option told.Standing → Option ReceivedReceipt
+decider_held receipts (Some (t.Single (Some place))) = fin.get receipts place
+decider_held receipts _ = None
+
+-- what a set has at what is noted
+abbrev pub noted : Bool → Option ⊤
+noted true = Some tt
+noted false = None
+
+-- the list of the receipt at a place, by its standing, if it has one
+abbrev pub list_held : Grouping → Place → Option l.List
+list_held g place = option_and_then (λ r. list_of_standing (receipt_standing g place r)) (fin.get g.receipts place)
+
+-- the same of a standing that is told, where it is a receipt's
+abbrev pub list_by : Bool → Option told.Standing → Option l.List
+list_by false standing = None
+list_by true standing = option_and_then list_told standing
+
+abbrev pub is_stray : Option l.List → Bool
+is_stray (Some StrayReceipts) = true
+is_stray _ = false
+
+abbrev pub is_ambiguous : Option l.List → Bool
+is_ambiguous (Some AmbiguousReceipts) = true
+is_ambiguous _ = false
+
+abbrev pub is_extra : Option l.List → Bool
+is_extra (Some ExtraReceipts) = true
+is_extra _ = false
+
+-- notes where a receipt's place stands in this list of receipts alone, or in none of the three
+abbrev pub with_listing : FinSet listed_cmp → Place → Option l.List → FinSet listed_cmp
+with_listing notes place list =
+    set_at (set_at (set_at notes (listed StrayReceipts place) (noted (is_stray list)))
+    (listed AmbiguousReceipts place) (noted (is_ambiguous list)))
+    (listed ExtraReceipts place) (noted (is_extra list))
+
+-- facts where those of places are set anew
+abbrev pub facts_anew : (Place → Option Fact) → fin.FinMap place_cmp Fact → List Change → fin.FinMap place_cmp Fact
+facts_anew fact facts changes = fold (λ m c. set_at m c.place (fact c.place)) facts changes
+
+-- notes where the listings of places are set anew
+abbrev pub notes_anew : Grouping → FinSet listed_cmp → List Change → FinSet listed_cmp
+notes_anew g notes changes = fold (λ n c. with_listing n c.place (list_held g c.place)) notes changes
+
+-- the traffic that stored messages and receipts are, without notes
+abbrev pub stored_traffic : List (Place × Message) → List (Place × ReceivedReceipt) → TrafficValue
+stored_traffic messages receipts =
+    record { messages = messages_in messages; receipts = receipts_in receipts; notes = fin.empty }
+
+-- Members are those of traffic, in which no receipt stands at the place of a message.
+pub record AreOf (s : SettingsValue) (t : TrafficValue) (g : Grouping) : Type 0 where
+  pub grouped : g ≡ grouping_of s t
+  pub apart : (place : Place) (m : Message) → fin.get t.messages place ≡ Some m → fin.get t.receipts place ≡ None
+
+-- Traffic as sessions say it: messages stand in the client's direction and receipts in the centre's, and no note is in a list
+-- of receipts.
+pub record IsTraffic (t : TrafficValue) : Type 0 where
+  pub messages : (place : Place) (m : Message) → fin.get t.messages place ≡ Some m → place.dir ≡ FromClient
+  pub receipts : (place : Place) (r : ReceivedReceipt) → fin.get t.receipts place ≡ Some r → place.dir ≡ FromCentre
+  pub strays : (place : Place) → fin.get t.notes (listed StrayReceipts place) ≡ None
+  pub ambiguous : (place : Place) → fin.get t.notes (listed AmbiguousReceipts place) ≡ None
+  pub extras : (place : Place) → fin.get t.notes (listed ExtraReceipts place) ≡ None
+
+-- a list isn't one of those of receipts
+abbrev pub is_traffic_list : l.List → Bool
+is_traffic_list StrayReceipts = false
+is_traffic_list AmbiguousReceipts = false
+is_traffic_list ExtraReceipts = false
+is_traffic_list _ = true
+
+-- A move leaves such traffic so.
+abbrev pub KeepsTraffic : Move → Type 0
+KeepsTraffic (PutMessage e) = e.0.dir ≡ FromClient
+KeepsTraffic (TakeMessage q) = ⊤
+KeepsTraffic (PutReceipt e) = e.0.dir ≡ FromCentre
+KeepsTraffic (TakeReceipt q) = ⊤
+KeepsTraffic (PutNote note) = is_traffic_list note.list ≡ true
+KeepsTraffic (TakeNote note) = ⊤
+
+-- messages, receipts, members, facts and notes
+pub record Holding : Type 0 where
+  pub messages : fin.FinMap place_cmp Message
+  pub receipts : fin.FinMap place_cmp ReceivedReceipt
+  pub members : Grouping
+  pub facts : fin.FinMap place_cmp Fact
+  pub notes : FinSet listed_cmp
+
+-- those of traffic under what is set
+abbrev pub held_of : SettingsValue → TrafficValue → Holding
+held_of s t = record {
+  messages = t.messages;
+  receipts = t.receipts;
+  members = grouping_of s t;
+  facts = facts_of s t;
+  notes = notes_of s t;
+}
+
+-- those that an index holds now, and those that were settled
+abbrev pub held_now : Index → Holding
+held_now i = record {
+  messages = messages_in i.messages.content;
+  receipts = receipts_in i.receipts.content;
+  members = i.standings.members;
+  facts = i.tally.facts;
+  notes = i.tally.notes;
+}
+
+abbrev pub held_settled : Index → Holding
+held_settled i = record {
+  messages = messages_in i.messages.settled;
+  receipts = receipts_in i.receipts.settled;
+  members = i.standings.settled;
+  facts = i.tally.settled.facts;
+  notes = i.tally.settled.notes;
+}
+
+-- the notes of traffic: those in no list of receipts
+abbrev pub traffic_notes : FinSet listed_cmp → FinSet listed_cmp
+traffic_notes notes = chosen (λ note _. if is_traffic_list note.list then Some tt else None) notes
+
+-- the traffic of which this is held
+abbrev pub traffic_held : Holding → TrafficValue
+traffic_held h = record { messages = h.messages; receipts = h.receipts; notes = traffic_notes h.notes }
+
+-- What is held is that of its traffic, as sessions say it, under what is set.
+pub record IsHeld (s : SettingsValue) (h : Holding) : Type 0 where
+  pub held : h ≡ held_of s (traffic_held h)
+  pub traffic : IsTraffic (traffic_held h)

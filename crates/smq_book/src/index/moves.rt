@@ -1,0 +1,152 @@
+//! Messages, delivery receipts and notes that are put in what is stored, or taken out. On an error what is held is of no
+//! use: the caller undoes it.
+ghost use Rattle.std.specs.Prelude.{◌≡◌, true, None, OnOk};
+ghost use Rattle.std.specs.FinMap as fin;
+ghost use Rattle.smq_tally.specs.Lists.{listed};
+ghost use Rattle.smq_book.specs.index.Held.{AreOf, IsTraffic, held_now, held_of, held_settled, is_traffic_list, messages_in, receipts_in, stored_traffic};
+ghost use Rattle.smq_book.specs.join.Moves as moves;
+ghost use Rattle.smq_book.specs.join.Moves.{PutNote, TakeNote, moved};
+ghost use Rattle.smq_book.specs.pairing.Traffic.{TrafficValue};
+ghost use Rattle.smq_book.specs.present.Settings.{SettingsValue};
+
+use crate::List;
+use crate::index::index::Index;
+use crate::index::stored::{StoredMessage, StoredReceipt};
+use crate::present::settings::Settings;
+use smq_kit::Place;
+use std::alloc::AllocError;
+
+impl Index {
+    /// Puts a message in, at a place where nothing stands.
+    pub(crate) fn put_message(
+        &mut self,
+        settings: &Settings,
+        place: Place,
+        message: StoredMessage,
+    ) -> Result<(), AllocError>
+        requires are { AreOf settings.now
+            (stored_traffic self.old.messages.content self.old.receipts.content)
+            self.old.standings.members }
+        requires absent { fin.get (messages_in self.old.messages.content) place ≡ None }
+        requires apart { fin.get (receipts_in self.old.receipts.content) place ≡ None }
+        ensures held { (t : TrafficValue) → IsTraffic t → held_now self.old ≡ held_of settings.now t
+            → OnOk result
+            (held_now self.new ≡ held_of settings.now (moves.put_message place message t)) }
+        ensures settled { held_settled self.new ≡ held_settled self.old }
+    {
+        let key = message.key(settings);
+        self.messages.set(place, message)?;
+        let Some(key) = key else {
+            self.refresh(settings, place)?;
+            return Ok(());
+        };
+        let changes = self.standings.add_submit(key.link, key.key, place)?;
+        self.follow(settings, changes.as_slice())?;
+        Ok(())
+    }
+
+    /// Takes the message at a place out, if there is one.
+    pub(crate) fn take_message(
+        &mut self,
+        settings: &Settings,
+        place: Place,
+    ) -> Result<(), AllocError>
+        requires are { AreOf settings.now
+            (stored_traffic self.old.messages.content self.old.receipts.content)
+            self.old.standings.members }
+        ensures held { (t : TrafficValue) → IsTraffic t → held_now self.old ≡ held_of settings.now t
+            → OnOk result
+            (held_now self.new ≡ held_of settings.now (moves.take_message place t)) }
+        ensures settled { held_settled self.new ≡ held_settled self.old }
+    {
+        let Some(message) = self.messages.get(&place) else {
+            return Ok(());
+        };
+        let key = message.key(settings);
+        self.messages.remove(&place)?;
+        let Some(key) = key else {
+            self.refresh(settings, place)?;
+            return Ok(());
+        };
+        let changes = self.standings.remove_submit(key.link, &key.key, place)?;
+        self.follow(settings, changes.as_slice())?;
+        self.refresh(settings, place)?;
+        Ok(())
+    }
+
+    /// Puts a delivery receipt in, at a place where nothing stands.
+    pub(crate) fn put_receipt(
+        &mut self,
+        settings: &Settings,
+        place: Place,
+        receipt: StoredReceipt,
+    ) -> Result<(), AllocError>
+        requires are { AreOf settings.now
+            (stored_traffic self.old.messages.content self.old.receipts.content)
+            self.old.standings.members }
+        requires absent { fin.get (receipts_in self.old.receipts.content) place ≡ None }
+        requires apart { fin.get (messages_in self.old.messages.content) place ≡ None }
+        ensures held { (t : TrafficValue) → IsTraffic t → held_now self.old ≡ held_of settings.now t
+            → OnOk result
+            (held_now self.new ≡ held_of settings.now (moves.put_receipt place receipt t)) }
+        ensures settled { held_settled self.new ≡ held_settled self.old }
+    {
+        let key = receipt.key(settings);
+        let moment = receipt.moment;
+        let decides = receipt.can_decide();
+        self.receipts.set(place, receipt)?;
+        let changes = self
+            .standings
+            .add_receipt(key.link, key.key, place, moment, decides)?;
+        self.follow(settings, changes.as_slice())?;
+        Ok(())
+    }
+
+    /// Takes the delivery receipt at a place out, if there is one.
+    pub(crate) fn take_receipt(
+        &mut self,
+        settings: &Settings,
+        place: Place,
+    ) -> Result<(), AllocError>
+        requires are { AreOf settings.now
+            (stored_traffic self.old.messages.content self.old.receipts.content)
+            self.old.standings.members }
+        ensures held { (t : TrafficValue) → IsTraffic t → held_now self.old ≡ held_of settings.now t
+            → OnOk result
+            (held_now self.new ≡ held_of settings.now (moves.take_receipt place t)) }
+        ensures settled { held_settled self.new ≡ held_settled self.old }
+    {
+        let Some(receipt) = self.receipts.get(&place) else {
+            return Ok(());
+        };
+        let key = receipt.key(settings);
+        self.receipts.remove(&place)?;
+        let changes = self.standings.remove_receipt(key.link, &key.key, place)?;
+        self.follow(settings, changes.as_slice())?;
+        self.refresh(settings, place)?;
+        Ok(())
+    }
+
+    /// Notes a place in a list.
+    pub(crate) fn put_note(&mut self, list: List, place: Place) -> Result<(), AllocError>
+        ensures held { (s : SettingsValue) (t : TrafficValue) → held_now self.old ≡ held_of s t
+            → OnOk result (held_now self.new ≡ held_of s (moved t (PutNote (listed list place)))) }
+        ensures settled { held_settled self.new ≡ held_settled self.old }
+    {
+        self.tally.note(list, place)?;
+        Ok(())
+    }
+
+    /// Forgets a place in a list that isn't one of those of receipts, if it is noted there.
+    pub(crate) fn take_note(&mut self, list: List, place: Place) -> Result<(), AllocError>
+        ensures held { (s : SettingsValue) (t : TrafficValue) → is_traffic_list list ≡ true
+            → held_now self.old ≡ held_of s t
+            → OnOk result (held_now self.new ≡ held_of s (moved t (TakeNote (listed list place)))) }
+        ensures settled { held_settled self.new ≡ held_settled self.old }
+    {
+        if self.tally.is_noted(list, place) {
+            self.tally.forget(list, place)?;
+        }
+        Ok(())
+    }
+}

@@ -1,0 +1,131 @@
+//! The pairs of each session that is present.
+ghost use Rattle.std.specs.Prelude.{◌≡◌, ◌≢◌, ◌++◌, ℕ, IfOk, IsSome, OnOk};
+ghost use Rattle.smq_pair.specs.Growth.{IsNext, pushed};
+ghost use Rattle.smq_pair.specs.Paired.{no_pdus};
+ghost use Rattle.smq_pair.specs.Pairing.{pair_at, placed_header};
+ghost use Rattle.smq_book.specs.pairing.Traffic.{session_notes, session_pairing};
+ghost use Rattle.smq_book.specs.index.Pairs.{pairs_now, pairs_settled, stored_of};
+
+use crate::pairing::notes::push_notes;
+use crate::{Listed, Session};
+use smq_kit::{Place, SessionId};
+use smq_pair::{Pair, Pairing};
+use std::alloc::{AllocError, Global};
+use std::collections::BTreeMap;
+
+/// The pairs among the PDUs of each session, by its number. A session that isn't there has no PDUs.
+#[derive(Drop)]
+pub(crate) struct Pairings {
+    pub alloc: Global,
+    pub by_session: BTreeMap<u64, Pairing>,
+}
+
+impl Pairings {
+    /// No pairs.
+    pub(crate) fn new(alloc: Global) -> Pairings
+        ensures now { (number : ℕ) → pairs_now result number ≡ no_pdus }
+        ensures settled { (number : ℕ) → pairs_settled result number ≡ no_pdus }
+    {
+        Pairings {
+            alloc,
+            by_session: BTreeMap::new(alloc),
+        }
+    }
+
+    /// Takes the next PDU of a direction of a session, and gives the pair that it makes, if any. On an error
+    /// the pairs of the session are of no use: the caller undoes them.
+    pub(crate) fn add(
+        &mut self,
+        session: SessionId,
+        place: Place,
+        seq: u32,
+        command: u32,
+        status: u32,
+    ) -> Result<Option<Pair>, AllocError>
+        requires next { IsNext (pairs_now self.old session.0) place }
+        ensures added { OnOk result (pairs_now self.new session.0
+            ≡ pushed (pairs_now self.old session.0) (placed_header place command status seq)) }
+        ensures made { IfOk result (λ made. made ≡ pair_at (pairs_now self.new session.0) place) }
+        ensures others { (number : ℕ) → number ≢ session.0
+            → pairs_now self.new number ≡ pairs_now self.old number }
+        ensures settled { (number : ℕ) → pairs_settled self.new number ≡ pairs_settled self.old number }
+    {
+        self.ensure(session)?;
+        match self.by_session.get_mut(&session.0) {
+            Some(pairing) => pairing.add(place, seq, command, status),
+            None => Ok(None),
+        }
+    }
+
+    /// Makes room for the pairs of a session, where there is none. It changes no pair.
+    fn ensure(&mut self, session: SessionId) -> Result<(), AllocError>
+        ensures there { OnOk result (IsSome (stored_of self.new.by_session session.0)) }
+        ensures now { (number : ℕ) → pairs_now self.new number ≡ pairs_now self.old number }
+        ensures settled { (number : ℕ) → pairs_settled self.new number ≡ pairs_settled self.old number }
+    {
+        if self.by_session.get(&session.0).is_some() {
+            return Ok(());
+        }
+        let pairing = Pairing::new(self.alloc);
+        self.by_session.insert(session.0, pairing)?;
+        Ok(())
+    }
+
+    /// Brings back the pairs of a session that were settled. It takes no memory.
+    pub(crate) fn undo(&mut self, session: SessionId)
+        ensures now { pairs_now self.new session.0 ≡ pairs_settled self.old session.0 }
+        ensures others { (number : ℕ) → number ≢ session.0
+            → pairs_now self.new number ≡ pairs_now self.old number }
+        ensures settled { (number : ℕ) → pairs_settled self.new number ≡ pairs_settled self.old number }
+    {
+        match self.by_session.get_mut(&session.0) {
+            Some(pairing) => pairing.undo(),
+            None => {}
+        }
+    }
+
+    /// Makes the pairs of a session those that `undo` brings back. It takes no memory.
+    pub(crate) fn settle(&mut self, session: SessionId)
+        ensures now { (number : ℕ) → pairs_now self.new number ≡ pairs_now self.old number }
+        ensures settled { pairs_settled self.new session.0 ≡ pairs_now self.old session.0 }
+        ensures others { (number : ℕ) → number ≢ session.0
+            → pairs_settled self.new number ≡ pairs_settled self.old number }
+    {
+        match self.by_session.get_mut(&session.0) {
+            Some(pairing) => pairing.settle(),
+            None => {}
+        }
+    }
+
+    /// Takes a session out, so that nothing brings its pairs back. It takes no memory.
+    pub(crate) fn remove(&mut self, session: SessionId)
+        ensures now { pairs_now self.new session.0 ≡ no_pdus }
+        ensures settled { pairs_settled self.new session.0 ≡ no_pdus }
+        ensures others { (number : ℕ) → number ≢ session.0
+            → pairs_now self.new number ≡ pairs_now self.old number }
+        ensures others_settled { (number : ℕ) → number ≢ session.0
+            → pairs_settled self.new number ≡ pairs_settled self.old number }
+    {
+        self.by_session.remove(&session.0);
+    }
+
+    /// Puts the notes of a session after what is there.
+    pub(crate) fn push_notes(
+        &mut self,
+        notes: &mut Vec<Listed>,
+        number: SessionId,
+        session: &Session,
+    ) -> Result<(), AllocError>
+        requires { pairs_now self.old number.0 ≡ session_pairing (number.0, session.now) }
+        ensures notes { OnOk result
+            (notes.new.items ≡ notes.old.items ++ session_notes (number.0, session.now)) }
+        ensures now { (other : ℕ) → pairs_now self.new other ≡ pairs_now self.old other }
+        ensures settled { (other : ℕ) → pairs_settled self.new other ≡ pairs_settled self.old other }
+    {
+        self.ensure(number)?;
+        match self.by_session.get_mut(&number.0) {
+            Some(pairing) => push_notes(notes, pairing, number, session),
+            None => Ok(()),
+        }
+    }
+}

@@ -1,0 +1,132 @@
+//! What is stored of messages and delivery receipts: what their PDUs say, whatever is set.
+ghost use Rattle.std.specs.Prelude.{◌≡◌, pos, ◌-ℤ◌};
+ghost use Rattle.std.specs.Option.{option_copied};
+ghost use Rattle.smq_book.specs.join.Circumstances.{lapsed_in, route_in};
+ghost use Rattle.smq_book.specs.join.Keyed as keyed;
+ghost use Rattle.smq_book.specs.join.Keyed.{accepted_id, accepted_key, receipt_key};
+
+use crate::join::circumstances::LAPSE_WINDOW;
+use crate::present::settings::Settings;
+use smq_kit::{Digits, LinkId, LinkKey, MessageId, Moment, Network, RouteId};
+use smq_receipt::Receipt;
+use std::marker::Model;
+
+/// What a response says to its request. A contract sees it as the definitions have it.
+#[derive(Drop)]
+pub(crate) struct StoredResponse {
+    /// Whether its command is that of the request's response.
+    pub agrees: bool,
+    /// command_status (SMPP 3.4, 5.1.3).
+    pub status: u32,
+    pub id: Option<MessageId>,
+}
+
+impl Model for StoredResponse {
+    ghost use Rattle.smq_book.specs.pairing.Traffic.{Response};
+
+    ghost Value = { Response };
+
+    ghost view = { λ r. record { agrees = r.agrees; status = r.status; id = r.id } };
+}
+
+/// A message with its response, where it has one.
+#[derive(Drop)]
+pub(crate) struct StoredMessage {
+    pub link: LinkId,
+    pub moment: Moment,
+    /// The number that it is sent to, where it has one.
+    pub number: Option<Digits>,
+    pub asks_receipt: bool,
+    pub response: Option<StoredResponse>,
+}
+
+impl Model for StoredMessage {
+    ghost use Rattle.smq_book.specs.pairing.Traffic.{Message};
+
+    ghost Value = { Message };
+
+    ghost view = { λ m. record {
+      link = m.link;
+      moment = m.moment;
+      number = m.number;
+      asks_receipt = m.asks_receipt;
+      response = m.response;
+    } };
+}
+
+/// A delivery receipt.
+#[derive(Drop)]
+pub(crate) struct StoredReceipt {
+    pub link: LinkId,
+    pub moment: Moment,
+    pub receipt: Receipt,
+}
+
+impl Model for StoredReceipt {
+    ghost use Rattle.smq_book.specs.pairing.Traffic.{ReceivedReceipt};
+
+    ghost Value = { ReceivedReceipt };
+
+    ghost view = { λ r. record { link = r.link; moment = r.moment; receipt = r.receipt } };
+}
+
+impl StoredMessage {
+    /// The id with which it is accepted, where it is.
+    fn accepted_id(&self) -> Option<&MessageId>
+        ensures { option_copied result ≡ accepted_id self.now.response }
+    {
+        let response = self.response.as_ref()?;
+        if !response.agrees || response.status != 0 {
+            return None;
+        }
+        response.id.as_ref()
+    }
+
+    /// The key of that id, under what is set.
+    pub(crate) fn key(&self, settings: &Settings) -> Option<LinkKey>
+        ensures { result ≡ accepted_key settings.now self.now }
+    {
+        let id = self.accepted_id()?;
+        let forms = settings.forms_of(self.link);
+        Some(LinkKey::of(self.link, forms.response, id))
+    }
+
+    /// The route and network of its number at its moment, where it has a number that has them.
+    pub(crate) fn route(&self, settings: &Settings) -> Option<(RouteId, Network)>
+        ensures { result ≡ route_in settings.now.versions self.now }
+    {
+        let number = self.number.as_ref()?;
+        settings.route_at(number, self.moment)
+    }
+
+    /// Whether the clock is at the end of its window, or past it.
+    pub(crate) fn has_lapsed(&self, settings: &Settings) -> bool
+        ensures { result ≡ lapsed_in settings.now self.now }
+    {
+        self.moment.milliseconds() + LAPSE_WINDOW <= settings.clock().milliseconds()
+    }
+}
+
+impl StoredReceipt {
+    /// The key of its id, under what is set.
+    pub(crate) fn key(&self, settings: &Settings) -> LinkKey
+        ensures { result ≡ receipt_key settings.now self.now }
+    {
+        let forms = settings.forms_of(self.link);
+        LinkKey::of(self.link, forms.receipt, &self.receipt.id)
+    }
+
+    /// Whether its state is final and it isn't an intermediate notification.
+    pub(crate) fn can_decide(&self) -> bool
+        ensures { result ≡ keyed.can_decide self.now.receipt }
+    {
+        self.receipt.state.is_final() && !self.receipt.interim
+    }
+
+    /// The delay in ms from a moment to its own, which is negative where it stands before it.
+    pub(crate) fn delay_after(&self, moment: Moment) -> i64
+        ensures { result ≡ (pos self.now.moment -ℤ pos moment) }
+    {
+        self.moment.milliseconds() as i64 - moment.milliseconds() as i64
+    }
+}
