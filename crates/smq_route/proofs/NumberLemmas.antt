@@ -1,12 +1,12 @@
 -- Numbers at places in a shelf, seen as a finite set, and how many places of a prefix are vacant as they come and go.
-use Rattle.std.proofs.Common.{◌≡◌, ◌≤◌, ◌+◌, ℕ, arith, Bool, cond, List, [], ◌∷◌, Some, None, refl, subst, ap, ◌∙◌}
-use Rattle.std.specs.Prelude.{IsSome, count_by}
+use Rattle.std.proofs.Common.{◌≡◌, ◌≤◌, ◌+◌, ℕ, arith, Bool, cond, List, [], ◌∷◌, Option, Some, None, refl, ap, ◌∙◌}
+use Rattle.std.specs.Prelude.{IsSome, count_by, is_some}
 use Rattle.std.specs.declared.cmp.Ordering.TheVariants.{Less, Equal, Greater}
 use Rattle.std.specs.Ordering.{match_ordering}
 use Rattle.std.specs.List.Sorted.{IsStrictlySortedBy}
 use Rattle.std.specs.Map.{keys_of, lookup, remove_entry}
 use Rattle.std.specs.BTreeMap.{is_at, insert_entry}
-use Rattle.std.specs.FinMap.{get, insert, remove}
+use Rattle.std.specs.FinMap.{insert, remove}
 use Rattle.std.proofs.lemmas.List.Sums.{sum_by-cons}
 use Rattle.smq_shelf.specs.Places.{places_of}
 use Rattle.smq_shelf.proofs.Seen as seen
@@ -24,9 +24,6 @@ number-put es fs k u put = ap numbers_in put ∙ seen.inserted numbers_total num
 
 pub number-taken : (es fs : Entries) (k : NumberAt) → IsStrictlySortedBy kept_number_cmp (keys_of es) → fs ≡ remove_entry (is_at (kept_number_cmp k)) es → numbers_in fs ≡ remove (numbers_in es) k
 number-taken es fs k sorted took = ap numbers_in took ∙ seen.removed numbers_total numbers_exact number-order es k sorted
-
-pub number-there : (es : Entries) (k : NumberAt) → IsSome (get (numbers_in es) k) → IsSome (lookup (is_at (kept_number_cmp k)) es)
-number-there es k there = subst IsSome (seen.looked_up numbers_total numbers_exact number-order es k) there
 
 -- ---- vacant places
 
@@ -73,6 +70,17 @@ module _ (prefix : List ℕ) where
         | Equal ↦ λ r. (let a = vacant_first e.0 es in let l = less e es in let s = ap (λ (j : NumberAt). share j.number) (one_number k e.0 r) in omega (arith, a, l, s))
         | Greater ↦ λ r. more e (insert_entry kept_number_cmp es k None) es (share k.number) (vacant-more k es)
       ] refl
+
+  -- where it wasn't there, none is vacant that wasn't
+  pub vacant-taken : (k : NumberAt) (es : Entries) (spots later : List Spot)
+      → (IsSome (lookup (is_at (kept_number_cmp k)) es) → later ≡ insert_entry kept_number_cmp spots k None)
+      → (lookup (is_at (kept_number_cmp k)) es ≡ None → later ≡ spots)
+      → vacant later ≤ vacant spots + share k.number
+  vacant-taken k es spots later taken absent = by (lookup (is_at (kept_number_cmp k)) es) refl
+    where
+      by : (x : Option (Unit {0})) → lookup (is_at (kept_number_cmp k)) es ≡ x → vacant later ≤ vacant spots + share k.number
+      by None is = let same = ap vacant (absent is) in omega (arith, same)
+      by (Some u) is = let same = ap vacant (taken (ap is_some is)) in let more = vacant-more k spots in omega (arith, same, more)
 
 -- where each place holds a number, none is vacant
 none_vacant : (es : Entries) → vacant_numbers (places_of es) ≡ []

@@ -1,5 +1,5 @@
 //! Numbers of messages: at which places stand those to the numbers of a prefix.
-ghost use Rattle.std.specs.Prelude.{◌≡◌, ◌≤◌, ◌+◌, ◌*◌, ℕ, List, [], length, None, IsSome, IfOk, OnOk, OnErr, if◌then◌else◌};
+ghost use Rattle.std.specs.Prelude.{◌≡◌, ◌≤◌, ◌+◌, ◌*◌, ℕ, List, [], length, IfOk, OnOk, OnErr, if◌then◌else◌};
 ghost use Rattle.std.specs.FinMap as fin;
 ghost use Rattle.smq_shelf.specs.Shown.{touched};
 ghost use Rattle.smq_route.specs.Numbers.{no_numbers, number_at, places_under, vacancies, with_touches};
@@ -68,9 +68,8 @@ impl Numbers {
         }
     }
 
-    /// Adds the number of the message at a place, where it doesn't have it yet. An error changes nothing but the touches.
+    /// Adds the number of the message at a place. One that is there stays. An error changes nothing but the touches.
     pub fn add(&mut self, number: Digits, place: Place) -> Result<(), AllocError>
-        requires absent { fin.get self.old.numbers (number_at number place) ≡ None }
         ensures ok { OnOk result (self.new.numbers
             ≡ fin.insert self.old.numbers (number_at number place) tt) }
         ensures err { OnErr result (self.new ≡ with_touches self.new.touches self.old) }
@@ -86,9 +85,8 @@ impl Numbers {
         Ok(())
     }
 
-    /// Takes the number of the message at a place out. An error changes nothing but the touches.
+    /// Takes the number of the message at a place out, if it is there. An error changes nothing but the touches.
     pub fn remove(&mut self, number: &Digits, place: Place) -> Result<(), AllocError>
-        requires there { IsSome (fin.get self.old.numbers (number_at number.now place)) }
         ensures ok { OnOk result (self.new.numbers
             ≡ fin.remove self.old.numbers (number_at number.now place)) }
         ensures err { OnErr result (self.new ≡ with_touches self.new.touches self.old) }
