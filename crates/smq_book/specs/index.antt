@@ -8,3 +8,9 @@ pub mod Coming
 pub mod Held
 pub mod Opening
 pub mod Pairs
+pub mod Kept
+pub mod Touches
+pub mod Pushed
+pub mod Taken
+pub mod Refreshed
+pub mod LinkOut

@@ -1,7 +1,14 @@
-//! What is stored of messages and delivery receipts, by place.
+//! What is stored of messages and delivery receipts, by place, and how each edit changes it.
+pub mod append;
+pub mod clock;
 pub mod due_at;
 pub mod fact;
+pub mod forms;
 pub mod index;
 pub mod moves;
+pub mod notes;
 pub mod pairings;
+pub mod push;
+pub mod routes;
 pub mod stored;
+pub mod withdraw;

@@ -1,5 +1,6 @@
 -- Lemmas of what the book stores of its traffic.
 pub mod Stored
+pub mod Unlisted
 pub mod PlacedKeys
 pub mod Numbered
 pub mod Due
@@ -10,3 +11,17 @@ pub mod Moves
 pub mod Followed
 pub mod Edits
 pub mod Pairs
+pub mod Kept
+pub mod Nothing
+pub mod KeptPairs
+pub mod Routed
+pub mod Pushed
+pub mod PushedAll
+pub mod Answering
+pub mod Said
+pub mod Appending
+pub mod Taken
+pub mod Refreshed
+pub mod Ended
+pub mod LinkOut
+pub mod FormsSet

@@ -14,6 +14,10 @@ use Rattle.smq_tally.specs.declared.fact.Fact.{Fact}
 use Rattle.smq_group.specs.declared.change.Standing as told
 use Rattle.smq_group.specs.declared.change.Standing.TheVariants as t
 use Rattle.smq_group.specs.Matching.{Grouping, receipt_standing}
+use Rattle.smq_route.specs.Numbers.{number_cmp}
+use Rattle.smq_book.specs.declared.index.due_at.DueAt.{DueAt}
+use Rattle.smq_book.specs.index.Due.{due_cmp, due_in, due_of}
+use Rattle.smq_book.specs.index.Numbered.{numbers_of}
 use Rattle.smq_book.specs.present.Settings.{SettingsValue}
 use Rattle.smq_book.specs.declared.index.index.Index.{Index}
 use Rattle.smq_book.specs.pairing.Traffic.{Message, ReceivedReceipt, TrafficValue}
@@ -29,6 +33,10 @@ messages_in es = fin.from_entries es
 
 abbrev pub receipts_in : List (Place × ReceivedReceipt) → fin.FinMap place_cmp ReceivedReceipt
 receipts_in es = fin.from_entries es
+
+-- keys of open messages that are stored as a set
+abbrev pub dues_in : List (DueAt × ⊤) → FinSet due_cmp
+dues_in es = fin.from_entries es
 
 -- the receipt that decides a message of this standing
 abbrev pub decider_held : fin.FinMap place_cmp ReceivedReceipt → Option told.Standing → Option ReceivedReceipt
@@ -102,6 +110,14 @@ is_traffic_list AmbiguousReceipts = false
 is_traffic_list ExtraReceipts = false
 is_traffic_list _ = true
 
+-- A place is noted in no list of receipts.
+pub record IsUnlisted (notes : FinSet listed_cmp) (place : Place) : Type 0 where
+  pub none : (list : l.List) → is_traffic_list list ≡ false → fin.get notes (listed list place) ≡ None
+
+-- No place of a message is.
+pub record AreUnlisted (messages : fin.FinMap place_cmp Message) (notes : FinSet listed_cmp) : Type 0 where
+  pub each : (place : Place) (m : Message) → fin.get messages place ≡ Some m → IsUnlisted notes place
+
 -- A move leaves such traffic so.
 abbrev pub KeepsTraffic : Move → Type 0
 KeepsTraffic (PutMessage e) = e.0.dir ≡ FromClient
@@ -111,13 +127,15 @@ KeepsTraffic (TakeReceipt q) = ⊤
 KeepsTraffic (PutNote note) = is_traffic_list note.list ≡ true
 KeepsTraffic (TakeNote note) = ⊤
 
--- messages, receipts, members, facts and notes
+-- messages, receipts, members, facts and notes, and where the open messages and the numbers stand
 pub record Holding : Type 0 where
   pub messages : fin.FinMap place_cmp Message
   pub receipts : fin.FinMap place_cmp ReceivedReceipt
   pub members : Grouping
   pub facts : fin.FinMap place_cmp Fact
   pub notes : FinSet listed_cmp
+  pub due : FinSet due_cmp
+  pub numbers : FinSet number_cmp
 
 -- those of traffic under what is set
 abbrev pub held_of : SettingsValue → TrafficValue → Holding
@@ -127,7 +145,13 @@ held_of s t = record {
   members = grouping_of s t;
   facts = facts_of s t;
   notes = notes_of s t;
+  due = due_of s t;
+  numbers = numbers_of t;
 }
+
+-- the same where these are the facts, of which some may be those of other routes or another clock
+abbrev pub held_by : SettingsValue → TrafficValue → fin.FinMap place_cmp Fact → Holding
+held_by s t facts = record (held_of s t) { facts = facts; due = due_in t.messages facts }
 
 -- those that an index holds now, and those that were settled
 abbrev pub held_now : Index → Holding
@@ -137,6 +161,8 @@ held_now i = record {
   members = i.standings.members;
   facts = i.tally.facts;
   notes = i.tally.notes;
+  due = dues_in i.due.content;
+  numbers = i.numbers.numbers;
 }
 
 abbrev pub held_settled : Index → Holding
@@ -146,6 +172,8 @@ held_settled i = record {
   members = i.standings.settled;
   facts = i.tally.settled.facts;
   notes = i.tally.settled.notes;
+  due = dues_in i.due.settled;
+  numbers = i.numbers.settled;
 }
 
 -- the notes of traffic: those in no list of receipts

@@ -3,7 +3,14 @@ use Rattle.std.specs.FinMap as fin
 use Rattle.smq_group.specs.Groups.{no_members}
 use Rattle.smq_book.specs.index.Held.{Holding}
 
--- no messages, receipts, members, facts and notes
+-- no messages, receipts, members, facts, notes, open messages and numbers
 abbrev pub nothing_held : Holding
-nothing_held =
-    record { messages = fin.empty; receipts = fin.empty; members = no_members; facts = fin.empty; notes = fin.empty }
+nothing_held = record {
+  messages = fin.empty;
+  receipts = fin.empty;
+  members = no_members;
+  facts = fin.empty;
+  notes = fin.empty;
+  due = fin.empty;
+  numbers = fin.empty;
+}

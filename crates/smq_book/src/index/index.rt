@@ -2,23 +2,30 @@
 //!
 //! Each call that puts a message or a receipt in, or takes one out, sets the facts and the listings of the places alone
 //! whose standings it changes.
-ghost use Rattle.std.specs.Prelude.{◌≡◌, Some, None, OnOk};
+ghost use Rattle.std.specs.Prelude.{◌≡◌, true, Some, is_some, IfOk, OnOk};
 ghost use Rattle.std.specs.Option.{option_copied};
 ghost use Rattle.std.specs.FinMap as fin;
 ghost use Rattle.smq_kit.specs.Maps.{set_at};
+ghost use Rattle.smq_kit.specs.Orders.{place_cmp};
 ghost use Rattle.smq_tally.specs.Lists.{listed};
 ghost use Rattle.smq_tally.specs.declared.fact.Fact.{Fact as FactOf};
 ghost use Rattle.smq_book.specs.index.Opening.{nothing_held};
+ghost use Rattle.smq_book.specs.index.Due.{due_in, is_open_fact};
 ghost use Rattle.smq_book.specs.index.Stored.{is_told_shared};
-ghost use Rattle.smq_book.specs.index.Held.{AreOf, decider_held, facts_anew, held_now, held_settled, list_by, list_held, noted, notes_anew, receipts_in, stored_traffic, with_listing};
+ghost use Rattle.smq_book.specs.index.Held.{AreOf, AreUnlisted, IsTraffic, decider_held, dues_in, facts_anew, held_by, held_now, held_settled, list_by, list_held, messages_in, noted, notes_anew, receipts_in, stored_traffic, with_listing};
+ghost use Rattle.smq_book.specs.index.Touches.{index_touches};
 ghost use Rattle.smq_book.specs.join.Facts.{facts_of};
+ghost use Rattle.smq_book.specs.pairing.Traffic.{TrafficValue};
+ghost use Rattle.smq_book.specs.present.Settings.{SettingsValue};
 
+use crate::index::due_at::DueAt;
 use crate::index::fact::fact_of;
 use crate::index::stored::{StoredMessage, StoredReceipt};
 use crate::present::settings::Settings;
-use crate::{Fact, List};
+use crate::{Fact, List, Outcome};
 use smq_group::{Change, Standing, Standings};
-use smq_kit::Place;
+use smq_kit::{Moment, Place};
+use smq_route::{Numbers, Routes};
 use smq_shelf::KeptMap;
 use smq_tally::Tally;
 use std::alloc::{AllocError, Global};
@@ -31,6 +38,10 @@ pub(crate) struct Index {
     pub messages: KeptMap<Place, StoredMessage>,
     pub receipts: KeptMap<Place, StoredReceipt>,
     pub tally: Tally,
+    /// The moments of the open messages.
+    pub due: KeptMap<DueAt, ()>,
+    /// The numbers of the messages.
+    pub numbers: Numbers,
 }
 
 impl Index {
@@ -38,12 +49,15 @@ impl Index {
     pub(crate) fn new(alloc: Global) -> Index
         ensures held { held_now result ≡ nothing_held }
         ensures settled { held_settled result ≡ nothing_held }
+        ensures touches { index_touches result ≡ 0 }
     {
         Index {
             standings: Standings::new(alloc),
             messages: KeptMap::new(alloc),
             receipts: KeptMap::new(alloc),
             tally: Tally::new(alloc),
+            due: KeptMap::new(alloc),
+            numbers: Numbers::new(alloc),
         }
     }
 
@@ -56,6 +70,8 @@ impl Index {
         self.messages.undo();
         self.receipts.undo();
         self.tally.undo();
+        self.due.undo();
+        self.numbers.undo();
     }
 
     /// Makes what it holds what `undo` brings back. It takes no memory.
@@ -67,6 +83,19 @@ impl Index {
         self.messages.settle();
         self.receipts.settle();
         self.tally.settle();
+        self.due.settle();
+        self.numbers.settle();
+    }
+
+    /// How often its shelves were touched, up to the greatest u64.
+    pub(crate) fn touches(&self) -> u64
+        ensures { result ≡ index_touches self.now }
+    {
+        let of_groups = self.standings.touches();
+        let of_facts = self.tally.touches();
+        of_groups
+            .saturating_add(of_facts)
+            .saturating_add(self.numbers.touches())
     }
 
     /// Sets the fact and the listing of a place anew.
@@ -74,27 +103,50 @@ impl Index {
         ensures messages { self.new.messages ≡ self.old.messages }
         ensures receipts { self.new.receipts ≡ self.old.receipts }
         ensures standings { self.new.standings ≡ self.old.standings }
+        ensures numbers { self.new.numbers ≡ self.old.numbers }
         ensures settled { self.new.tally.settled ≡ self.old.tally.settled }
+        ensures settled_due { self.new.due.settled ≡ self.old.due.settled }
         ensures facts { let traffic = stored_traffic self.old.messages.content self.old.receipts.content in
             AreOf settings.now traffic self.old.standings.members
             → OnOk result (self.new.tally.facts
             ≡ set_at self.old.tally.facts place (fin.get (facts_of settings.now traffic) place)) }
         ensures notes { let traffic = stored_traffic self.old.messages.content self.old.receipts.content in
             AreOf settings.now traffic self.old.standings.members
+            → AreUnlisted traffic.messages self.old.tally.notes
             → OnOk result (self.new.tally.notes
             ≡ with_listing self.old.tally.notes place (list_held self.old.standings.members place)) }
+        ensures unlisted { let traffic = stored_traffic self.old.messages.content self.old.receipts.content in
+            AreOf settings.now traffic self.old.standings.members
+            → AreUnlisted traffic.messages self.old.tally.notes
+            → OnOk result (AreUnlisted traffic.messages self.new.tally.notes) }
+        ensures due { let messages = messages_in self.old.messages.content in
+            dues_in self.old.due.content ≡ due_in messages self.old.tally.facts
+            → OnOk result (dues_in self.new.due.content ≡ due_in messages self.new.tally.facts) }
     {
-        let fact = fact_at(
-            &self.messages,
-            &self.receipts,
-            &self.standings,
-            settings,
-            place,
-        );
-        let is_receipt = self.receipts.get(&place).is_some();
-        let list = list_of(self.standings.standing(place), is_receipt);
-        set_fact(&mut self.tally, place, fact)?;
+        let is_message = self.set_fact_by(settings.routes(), settings.clock(), place)?;
+        if is_message {
+            return Ok(());
+        }
+        let list = list_at(&self.receipts, &self.standings, place);
         set_listing(&mut self.tally, place, list)?;
+        Ok(())
+    }
+
+    /// Sets the fact of the message at a place anew by routes and a clock, where its standing stays.
+    pub(crate) fn refresh_by(
+        &mut self,
+        routes: &Routes,
+        clock: Moment,
+        place: Place,
+    ) -> Result<(), AllocError>
+        ensures held { (z : SettingsValue) (t : TrafficValue) (facts : fin.FinMap place_cmp FactOf)
+            → IsTraffic t → z.versions ≡ routes.now.versions → z.clock ≡ clock
+            → held_now self.old ≡ held_by z t facts
+            → OnOk result (held_now self.new
+            ≡ held_by z t (set_at facts place (fin.get (facts_of z t) place))) }
+        ensures settled { held_settled self.new ≡ held_settled self.old }
+    {
+        self.set_fact_by(routes, clock, place)?;
         Ok(())
     }
 
@@ -107,46 +159,129 @@ impl Index {
         ensures messages { self.new.messages ≡ self.old.messages }
         ensures receipts { self.new.receipts ≡ self.old.receipts }
         ensures standings { self.new.standings ≡ self.old.standings }
+        ensures numbers { self.new.numbers ≡ self.old.numbers }
         ensures settled { self.new.tally.settled ≡ self.old.tally.settled }
+        ensures settled_due { self.new.due.settled ≡ self.old.due.settled }
         ensures facts { let traffic = stored_traffic self.old.messages.content self.old.receipts.content in
             AreOf settings.now traffic self.old.standings.members
             → OnOk result (self.new.tally.facts
             ≡ facts_anew (fin.get (facts_of settings.now traffic)) self.old.tally.facts changes.now) }
         ensures notes { let traffic = stored_traffic self.old.messages.content self.old.receipts.content in
             AreOf settings.now traffic self.old.standings.members
+            → AreUnlisted traffic.messages self.old.tally.notes
             → OnOk result (self.new.tally.notes
             ≡ notes_anew self.old.standings.members self.old.tally.notes changes.now) }
+        ensures unlisted { let traffic = stored_traffic self.old.messages.content self.old.receipts.content in
+            AreOf settings.now traffic self.old.standings.members
+            → AreUnlisted traffic.messages self.old.tally.notes
+            → OnOk result (AreUnlisted traffic.messages self.new.tally.notes) }
+        ensures due { let messages = messages_in self.old.messages.content in
+            dues_in self.old.due.content ≡ due_in messages self.old.tally.facts
+            → OnOk result (dues_in self.new.due.content ≡ due_in messages self.new.tally.facts) }
     {
         for change in changes {
             self.refresh(settings, change.place)?;
         }
         Ok(())
     }
+
+    /// Sets the fact of a place anew by routes and a clock, and whether its message is among the open ones. It tells whether
+    /// a message stands there.
+    fn set_fact_by(
+        &mut self,
+        routes: &Routes,
+        clock: Moment,
+        place: Place,
+    ) -> Result<bool, AllocError>
+        ensures is_message { IfOk result (λ is_message. is_message
+            ≡ is_some (fin.get (messages_in self.old.messages.content) place)) }
+        ensures messages { self.new.messages ≡ self.old.messages }
+        ensures receipts { self.new.receipts ≡ self.old.receipts }
+        ensures standings { self.new.standings ≡ self.old.standings }
+        ensures numbers { self.new.numbers ≡ self.old.numbers }
+        ensures notes { self.new.tally.notes ≡ self.old.tally.notes }
+        ensures settled { self.new.tally.settled ≡ self.old.tally.settled }
+        ensures settled_due { self.new.due.settled ≡ self.old.due.settled }
+        ensures facts { (z : SettingsValue) → z.versions ≡ routes.now.versions → z.clock ≡ clock
+            → (let traffic = stored_traffic self.old.messages.content self.old.receipts.content in
+            AreOf z traffic self.old.standings.members
+            → OnOk result (self.new.tally.facts
+            ≡ set_at self.old.tally.facts place (fin.get (facts_of z traffic) place))) }
+        ensures due { let messages = messages_in self.old.messages.content in
+            dues_in self.old.due.content ≡ due_in messages self.old.tally.facts
+            → OnOk result (dues_in self.new.due.content ≡ due_in messages self.new.tally.facts) }
+    {
+        let Some(message) = self.messages.get(&place) else {
+            take_fact(&mut self.tally, place)?;
+            return Ok(false);
+        };
+        let due = DueAt {
+            moment: message.moment,
+            place,
+        };
+        let fact = fact_at(
+            &self.receipts,
+            &self.standings,
+            routes,
+            clock,
+            place,
+            message,
+        );
+        let is_open = is_open(&fact);
+        set_fact(&mut self.tally, fact)?;
+        set_due(&mut self.due, due, is_open)?;
+        Ok(true)
+    }
 }
 
-/// What is known of the message at a place, if one is stored there.
-pub(crate) fn fact_at(
-    messages: &KeptMap<Place, StoredMessage>,
+/// What is known of a message at its place, by routes and a clock.
+fn fact_at(
     receipts: &KeptMap<Place, StoredReceipt>,
     standings: &Standings,
-    settings: &Settings,
+    routes: &Routes,
+    clock: Moment,
     place: Place,
-) -> Option<Fact>
-    ensures value { let traffic = stored_traffic messages.now.content receipts.now.content in
-        AreOf settings.now traffic standings.now.members
-        → result ≡ fin.get (facts_of settings.now traffic) place }
-    ensures place { (f : FactOf) → result ≡ Some f → f.place ≡ place }
+    message: &StoredMessage,
+) -> Fact
+    ensures value { (z : SettingsValue) (t : TrafficValue) → z.versions ≡ routes.now.versions
+        → z.clock ≡ clock → AreOf z t standings.now.members
+        → receipts_in receipts.now.content ≡ t.receipts
+        → fin.get t.messages place ≡ Some message.now
+        → Some result ≡ fin.get (facts_of z t) place }
+    ensures place { result.place ≡ place }
 {
-    let message = messages.get(&place)?;
     let standing = standings.standing(place);
-    Some(fact_of(
+    fact_of(
         place,
         message,
-        message.route(settings),
-        message.has_lapsed(settings),
+        message.route(routes),
+        message.has_lapsed(clock),
         is_shared(standing),
         decider_of(receipts, standing),
-    ))
+    )
+}
+
+/// Whether a fact is that of an open message.
+fn is_open(fact: &Fact) -> bool
+    ensures { result ≡ is_open_fact (Some fact.now) }
+{
+    matches!(fact.outcome, Outcome::Open)
+}
+
+/// The list of the receipt at a place, if one stands there and it has one.
+fn list_at(
+    receipts: &KeptMap<Place, StoredReceipt>,
+    standings: &Standings,
+    place: Place,
+) -> Option<List>
+    ensures { (z : SettingsValue) (t : TrafficValue) → AreOf z t standings.now.members
+        → receipts_in receipts.now.content ≡ t.receipts
+        → result ≡ list_held standings.now.members place }
+{
+    if receipts.get(&place).is_none() {
+        return None;
+    }
+    list_of(standings.standing(place))
 }
 
 /// Whether a message of this standing shares its key.
@@ -169,22 +304,19 @@ fn decider_of(
     }
 }
 
-/// Sets the fact of a place, or takes it out where there is none.
-fn set_fact(tally: &mut Tally, place: Place, fact: Option<Fact>) -> Result<(), AllocError>
-    requires { (f : FactOf) → fact ≡ Some f → f.place ≡ place }
-    ensures facts { OnOk result (tally.new.facts ≡ set_at tally.old.facts place fact) }
+/// Sets the fact of the place that it has.
+fn set_fact(tally: &mut Tally, fact: Fact) -> Result<(), AllocError>
+    ensures facts { OnOk result (tally.new.facts ≡ fin.insert tally.old.facts fact.place fact) }
     ensures notes { tally.new.notes ≡ tally.old.notes }
     ensures settled { tally.new.settled ≡ tally.old.settled }
 {
-    take_fact(tally, place)?;
-    if let Some(fact) = fact {
-        tally.add(fact)?;
-    }
+    take_fact(tally, fact.place)?;
+    tally.add(fact)?;
     Ok(())
 }
 
 /// Takes the fact of a place out, if there is one.
-fn take_fact(tally: &mut Tally, place: Place) -> Result<(), AllocError>
+pub(crate) fn take_fact(tally: &mut Tally, place: Place) -> Result<(), AllocError>
     ensures facts { OnOk result (tally.new.facts ≡ fin.remove tally.old.facts place) }
     ensures notes { tally.new.notes ≡ tally.old.notes }
     ensures settled { tally.new.settled ≡ tally.old.settled }
@@ -192,6 +324,24 @@ fn take_fact(tally: &mut Tally, place: Place) -> Result<(), AllocError>
     if tally.has_fact(place) {
         tally.remove(place)?;
     }
+    Ok(())
+}
+
+/// Puts a moment at a place in, or takes it out.
+pub(crate) fn set_due(
+    due: &mut KeptMap<DueAt, ()>,
+    key: DueAt,
+    is_open: bool,
+) -> Result<(), AllocError>
+    ensures value { OnOk result
+        (dues_in due.new.content ≡ set_at (dues_in due.old.content) key (noted is_open)) }
+    ensures settled { due.new.settled ≡ due.old.settled }
+{
+    if is_open {
+        due.set(key, ())?;
+        return Ok(());
+    }
+    due.remove(&key)?;
     Ok(())
 }
 
@@ -212,13 +362,10 @@ fn set_note(tally: &mut Tally, list: List, place: Place, is_noted: bool) -> Resu
     }
 }
 
-/// The list of a receipt of this standing, if it has one, and of a place without a receipt none.
-fn list_of(standing: Option<Standing>, is_receipt: bool) -> Option<List>
-    ensures { result ≡ list_by is_receipt standing }
+/// The list of a receipt of this standing, if it has one.
+fn list_of(standing: Option<Standing>) -> Option<List>
+    ensures { result ≡ list_by true standing }
 {
-    if !is_receipt {
-        return None;
-    }
     match standing {
         Some(Standing::Stray) => Some(List::StrayReceipts),
         Some(Standing::Shared) => Some(List::AmbiguousReceipts),

@@ -3,6 +3,8 @@
 ghost use Rattle.std.specs.Prelude.{◌≡◌, true, None, OnOk};
 ghost use Rattle.std.specs.FinMap as fin;
 ghost use Rattle.smq_tally.specs.Lists.{listed};
+ghost use Rattle.smq_book.specs.index.Numbered.{numbered};
+ghost use Rattle.smq_book.specs.index.PlacedKeys.{with_key, without_key};
 ghost use Rattle.smq_book.specs.index.Held.{AreOf, IsTraffic, held_now, held_of, held_settled, is_traffic_list, messages_in, receipts_in, stored_traffic};
 ghost use Rattle.smq_book.specs.join.Moves as moves;
 ghost use Rattle.smq_book.specs.join.Moves.{PutNote, TakeNote, moved};
@@ -10,10 +12,12 @@ ghost use Rattle.smq_book.specs.pairing.Traffic.{TrafficValue};
 ghost use Rattle.smq_book.specs.present.Settings.{SettingsValue};
 
 use crate::List;
-use crate::index::index::Index;
+use crate::index::due_at::DueAt;
+use crate::index::index::{Index, set_due, take_fact};
 use crate::index::stored::{StoredMessage, StoredReceipt};
 use crate::present::settings::Settings;
 use smq_kit::Place;
+use smq_route::Numbers;
 use std::alloc::AllocError;
 
 impl Index {
@@ -35,6 +39,7 @@ impl Index {
         ensures settled { held_settled self.new ≡ held_settled self.old }
     {
         let key = message.key(settings);
+        put_number(&mut self.numbers, place, &message)?;
         self.messages.set(place, message)?;
         let Some(key) = key else {
             self.refresh(settings, place)?;
@@ -63,14 +68,20 @@ impl Index {
             return Ok(());
         };
         let key = message.key(settings);
+        let due = DueAt {
+            moment: message.moment,
+            place,
+        };
+        take_number(&mut self.numbers, place, message)?;
+        set_due(&mut self.due, due, false)?;
         self.messages.remove(&place)?;
         let Some(key) = key else {
-            self.refresh(settings, place)?;
+            take_fact(&mut self.tally, place)?;
             return Ok(());
         };
         let changes = self.standings.remove_submit(key.link, &key.key, place)?;
         self.follow(settings, changes.as_slice())?;
-        self.refresh(settings, place)?;
+        take_fact(&mut self.tally, place)?;
         Ok(())
     }
 
@@ -149,4 +160,36 @@ impl Index {
         }
         Ok(())
     }
+}
+
+/// Puts the number of a message in, if it has one.
+fn put_number(
+    numbers: &mut Numbers,
+    place: Place,
+    message: &StoredMessage,
+) -> Result<(), AllocError>
+    ensures value { OnOk result
+        (numbers.new.numbers ≡ with_key (numbered place message.now) numbers.old.numbers) }
+    ensures settled { numbers.new.settled ≡ numbers.old.settled }
+{
+    if let Some(number) = message.number.as_ref() {
+        numbers.add(number.copy(), place)?;
+    }
+    Ok(())
+}
+
+/// Takes the number of a message out, if it has one.
+fn take_number(
+    numbers: &mut Numbers,
+    place: Place,
+    message: &StoredMessage,
+) -> Result<(), AllocError>
+    ensures value { OnOk result
+        (numbers.new.numbers ≡ without_key (numbered place message.now) numbers.old.numbers) }
+    ensures settled { numbers.new.settled ≡ numbers.old.settled }
+{
+    if let Some(number) = message.number.as_ref() {
+        numbers.remove(number, place)?;
+    }
+    Ok(())
 }

@@ -1,9 +1,10 @@
 //! The pairs of each session that is present.
-ghost use Rattle.std.specs.Prelude.{◌≡◌, ◌≢◌, ◌++◌, ℕ, IfOk, IsSome, OnOk};
+ghost use Rattle.std.specs.Prelude.{◌≡◌, ◌≢◌, ◌++◌, ◌+◌, ◌-◌, ℕ, IfOk, IsSome, OnOk};
 ghost use Rattle.smq_pair.specs.Growth.{IsNext, pushed};
 ghost use Rattle.smq_pair.specs.Paired.{no_pdus};
 ghost use Rattle.smq_pair.specs.Pairing.{pair_at, placed_header};
 ghost use Rattle.smq_book.specs.pairing.Traffic.{session_notes, session_pairing};
+ghost use Rattle.smq_book.specs.index.Touches.{counted};
 ghost use Rattle.smq_book.specs.index.Pairs.{pairs_now, pairs_settled, stored_of};
 
 use crate::pairing::notes::push_notes;
@@ -18,6 +19,8 @@ use std::collections::BTreeMap;
 pub(crate) struct Pairings {
     pub alloc: Global,
     pub by_session: BTreeMap<u64, Pairing>,
+    /// How often the shelves of these pairs were touched, and of those that went, up to the greatest u64.
+    pub touches: u64,
 }
 
 impl Pairings {
@@ -25,10 +28,12 @@ impl Pairings {
     pub(crate) fn new(alloc: Global) -> Pairings
         ensures now { (number : ℕ) → pairs_now result number ≡ no_pdus }
         ensures settled { (number : ℕ) → pairs_settled result number ≡ no_pdus }
+        ensures touches { result.touches ≡ 0 }
     {
         Pairings {
             alloc,
             by_session: BTreeMap::new(alloc),
+            touches: 0,
         }
     }
 
@@ -52,7 +57,12 @@ impl Pairings {
     {
         self.ensure(session)?;
         match self.by_session.get_mut(&session.0) {
-            Some(pairing) => pairing.add(place, seq, command, status),
+            Some(pairing) => {
+                let before = pairing.touches();
+                let made = pairing.add(place, seq, command, status);
+                count(&mut self.touches, before, pairing.touches());
+                made
+            }
             None => Ok(None),
         }
     }
@@ -79,7 +89,11 @@ impl Pairings {
         ensures settled { (number : ℕ) → pairs_settled self.new number ≡ pairs_settled self.old number }
     {
         match self.by_session.get_mut(&session.0) {
-            Some(pairing) => pairing.undo(),
+            Some(pairing) => {
+                let before = pairing.touches();
+                pairing.undo();
+                count(&mut self.touches, before, pairing.touches());
+            }
             None => {}
         }
     }
@@ -92,7 +106,11 @@ impl Pairings {
             → pairs_settled self.new number ≡ pairs_settled self.old number }
     {
         match self.by_session.get_mut(&session.0) {
-            Some(pairing) => pairing.settle(),
+            Some(pairing) => {
+                let before = pairing.touches();
+                pairing.settle();
+                count(&mut self.touches, before, pairing.touches());
+            }
             None => {}
         }
     }
@@ -124,8 +142,20 @@ impl Pairings {
     {
         self.ensure(number)?;
         match self.by_session.get_mut(&number.0) {
-            Some(pairing) => push_notes(notes, pairing, number, session),
+            Some(pairing) => {
+                let before = pairing.touches();
+                let pushed = push_notes(notes, pairing, number, session);
+                count(&mut self.touches, before, pairing.touches());
+                pushed
+            }
             None => Ok(()),
         }
     }
+}
+
+/// Adds the touches of a pairing from one number to another.
+fn count(touches: &mut u64, before: u64, after: u64)
+    ensures { touches.new ≡ counted (touches.old + (after - before)) }
+{
+    *touches = touches.saturating_add(after.saturating_sub(before));
 }

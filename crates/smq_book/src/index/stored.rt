@@ -1,7 +1,8 @@
 //! What is stored of messages and delivery receipts: what their PDUs say, whatever is set.
 ghost use Rattle.std.specs.Prelude.{◌≡◌, pos, ◌-ℤ◌};
 ghost use Rattle.std.specs.Option.{option_copied};
-ghost use Rattle.smq_book.specs.join.Circumstances.{lapsed_in, route_in};
+ghost use Rattle.smq_book.specs.index.Due.{has_ended};
+ghost use Rattle.smq_book.specs.join.Circumstances.{route_in};
 ghost use Rattle.smq_book.specs.join.Keyed as keyed;
 ghost use Rattle.smq_book.specs.join.Keyed.{accepted_id, accepted_key, receipt_key};
 
@@ -9,6 +10,7 @@ use crate::join::circumstances::LAPSE_WINDOW;
 use crate::present::settings::Settings;
 use smq_kit::{Digits, LinkId, LinkKey, MessageId, Moment, Network, RouteId};
 use smq_receipt::Receipt;
+use smq_route::Routes;
 use std::marker::Model;
 
 /// What a response says to its request. A contract sees it as the definitions have it.
@@ -70,7 +72,42 @@ impl Model for StoredReceipt {
     ghost view = { λ r. record { link = r.link; moment = r.moment; receipt = r.receipt } };
 }
 
+impl StoredResponse {
+    /// An equal value. It takes no memory.
+    fn copy(&self) -> StoredResponse
+        ensures { result ≡ self.now }
+    {
+        StoredResponse {
+            agrees: self.agrees,
+            status: self.status,
+            id: match &self.id {
+                None => None,
+                Some(id) => Some(id.copy()),
+            },
+        }
+    }
+}
+
 impl StoredMessage {
+    /// An equal value. It takes no memory.
+    pub(crate) fn copy(&self) -> StoredMessage
+        ensures { result ≡ self.now }
+    {
+        StoredMessage {
+            link: self.link,
+            moment: self.moment,
+            number: match &self.number {
+                None => None,
+                Some(number) => Some(number.copy()),
+            },
+            asks_receipt: self.asks_receipt,
+            response: match &self.response {
+                None => None,
+                Some(response) => Some(response.copy()),
+            },
+        }
+    }
+
     /// The id with which it is accepted, where it is.
     fn accepted_id(&self) -> Option<&MessageId>
         ensures { option_copied result ≡ accepted_id self.now.response }
@@ -92,22 +129,33 @@ impl StoredMessage {
     }
 
     /// The route and network of its number at its moment, where it has a number that has them.
-    pub(crate) fn route(&self, settings: &Settings) -> Option<(RouteId, Network)>
-        ensures { result ≡ route_in settings.now.versions self.now }
+    pub(crate) fn route(&self, routes: &Routes) -> Option<(RouteId, Network)>
+        ensures { result ≡ route_in routes.now.versions self.now }
     {
         let number = self.number.as_ref()?;
-        settings.route_at(number, self.moment)
+        routes.at(number, self.moment)
     }
 
-    /// Whether the clock is at the end of its window, or past it.
-    pub(crate) fn has_lapsed(&self, settings: &Settings) -> bool
-        ensures { result ≡ lapsed_in settings.now self.now }
+    /// Whether a clock is at the end of its window, or past it.
+    pub(crate) fn has_lapsed(&self, clock: Moment) -> bool
+        ensures { result ≡ has_ended clock self.now.moment }
     {
-        self.moment.milliseconds() + LAPSE_WINDOW <= settings.clock().milliseconds()
+        self.moment.milliseconds() + LAPSE_WINDOW <= clock.milliseconds()
     }
 }
 
 impl StoredReceipt {
+    /// An equal value. It takes no memory.
+    pub(crate) fn copy(&self) -> StoredReceipt
+        ensures { result ≡ self.now }
+    {
+        StoredReceipt {
+            link: self.link,
+            moment: self.moment,
+            receipt: self.receipt.copy(),
+        }
+    }
+
     /// The key of its id, under what is set.
     pub(crate) fn key(&self, settings: &Settings) -> LinkKey
         ensures { result ≡ receipt_key settings.now self.now }

@@ -123,7 +123,7 @@ fn response_of<'a>(
 }
 
 /// Whether bits 1 and 0 of registered_delivery ask for a delivery receipt (SMPP 3.4, 5.2.17).
-fn asks_receipt(registered_delivery: u8) -> bool
+pub(crate) fn asks_receipt(registered_delivery: u8) -> bool
     ensures { result ≡ traffic.asks_receipt registered_delivery }
 {
     registered_delivery % 4 != 0

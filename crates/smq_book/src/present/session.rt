@@ -1,5 +1,5 @@
 //! One captured session: its link, which it keeps, and the octets of both directions.
-ghost use Rattle.std.specs.Prelude.{◌≡◌, None, Some, MatchResult, MatchOption, Err};
+ghost use Rattle.std.specs.Prelude.{◌≡◌, [], None, Some, MatchResult, MatchOption, Err};
 ghost use Rattle.smq_book.specs.present.Present.{direction};
 ghost use Rattle.smq_kit.specs.Replies.{IsReply, first_of};
 ghost use Rattle.smq_book.specs.present.Replies.{append_refusals};
@@ -28,17 +28,34 @@ impl Session {
         }
     }
 
+    /// What refuses a batch, if anything: want of memory aside.
+    pub(crate) fn refusal(&self, batch: &Batch) -> Option<Refusal>
+        ensures { result ≡ first_of (append_refusals (Some self.now) batch.now) }
+    {
+        if self.link.0 != batch.link.0 {
+            return Some(Refusal::OtherLink { link: self.link });
+        }
+        self.direction(batch.dir).refusal(batch)
+    }
+
+    /// A session of a link without octets.
+    pub(crate) fn new(alloc: Global, link: LinkId) -> Session
+        ensures { result ≡ (record { link = link; client = []; centre = [] }) }
+    {
+        Session {
+            link,
+            client: Direction::new(alloc),
+            centre: Direction::new(alloc),
+        }
+    }
+
     /// The session that a first batch makes.
     pub(crate) fn from_batch(alloc: Global, batch: Batch) -> Result<Session, Refusal>
         ensures { MatchOption (first_of (append_refusals None batch))
             (MatchResult result (λ s. s ≡ session_after None batch) (λ e. e ≡ Refusal.Memory))
             (λ refusal. result ≡ Err refusal) }
     {
-        let mut session = Session {
-            link: batch.link,
-            client: Direction::new(alloc),
-            centre: Direction::new(alloc),
-        };
+        let mut session = Session::new(alloc, batch.link);
         match session.append(batch) {
             Ok(()) => Ok(session),
             Err(refusal) => Err(refusal),

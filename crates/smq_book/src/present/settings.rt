@@ -75,6 +75,13 @@ impl Settings {
         self.routes.versions()
     }
 
+    /// The dated routes.
+    pub(crate) fn routes(&self) -> &Routes
+        ensures { result.now.versions ≡ self.now.versions }
+    {
+        &self.routes
+    }
+
     /// The route and network of a number at a moment: those of the version that holds then with the longest prefix of
     /// the number, or none where no version does.
     pub fn route_at(&self, number: &Digits, at: Moment) -> Option<(RouteId, Network)>

@@ -2,7 +2,7 @@
 //! moment, which are always those of the octets.
 //!
 //! Who changes `grow` takes all memory before the first change: what comes after that can't fail.
-ghost use Rattle.std.specs.Prelude.{◌≡◌, ◌<◌, ◌++◌, [], length, map, OnOk, OnErr};
+ghost use Rattle.std.specs.Prelude.{◌≡◌, ◌<◌, ◌++◌, [], length, map, IfNone, OnOk, OnErr};
 ghost use Rattle.smq_frame.specs.Stream.{handed_in, values, frames_after};
 ghost use Rattle.smq_frame.specs.Tail.{tail_of, tail_after};
 ghost use Rattle.smq_pdu.specs.Placed.{placed_pdu};
@@ -139,19 +139,31 @@ impl Direction {
         Ok(())
     }
 
+    /// What refuses a batch, if anything: want of memory aside.
+    #[tactic(auto, using(crate::proofs::lemmas::present::Growth::offset_facts))]
+    pub(crate) fn refusal(&self, batch: &Batch) -> Option<Refusal>
+        ensures value { result ≡ first_of (stream_refusals self.now batch.now) }
+        ensures in_step { IfNone result (batch.now.tail ≡ tail_of (values self.now)) }
+    {
+        if !batch.piece.tail.is_same(&self.tail) {
+            return Some(Refusal::OutOfStep {
+                offset: self.tail.offset(),
+            });
+        }
+        if batch.moment < self.last {
+            return Some(Refusal::Backward { last: self.last });
+        }
+        None
+    }
+
     /// Puts a batch after the octets. A refusal changes nothing.
     #[tactic(auto, using(crate::proofs::lemmas::present::Growth::offset_facts))]
     pub(crate) fn append(&mut self, batch: Batch) -> Result<(), Refusal>
         ensures { IsReply (first_of (stream_refusals self.old batch)) result
             (self.new ≡ self.old ++ handed_in batch.moment batch.octets) (self.new ≡ self.old) }
     {
-        if !batch.piece.tail.is_same(&self.tail) {
-            return Err(Refusal::OutOfStep {
-                offset: self.tail.offset(),
-            });
-        }
-        if batch.moment < self.last {
-            return Err(Refusal::Backward { last: self.last });
+        if let Some(refusal) = self.refusal(&batch) {
+            return Err(refusal);
         }
         let Batch {
             link: _,

@@ -24,7 +24,7 @@ second_of_both : (a b : Bool) → (a && b) ≡ true → b ≡ true
 second_of_both true b e = e
 second_of_both false b e = absurd (false≢true e)
 
-count-push : (test : Header → Bool) (before : List KeptPdu) (p : KeptPdu) → count_by test (headers_of (before ++ p ∷ [])) ≡ count_by test (headers_of before) + cond (test (header_of p)) 1 0
+pub count-push : (test : Header → Bool) (before : List KeptPdu) (p : KeptPdu) → count_by test (headers_of (before ++ p ∷ [])) ≡ count_by test (headers_of before) + cond (test (header_of p)) 1 0
 count-push test [] p = sum_by-cons (λ h. cond (test h) 1 0) (header_of p) [] ∙ omega arith
 count-push test (x ∷ before) p =
     let here = sum_by-cons (λ h. cond (test h) 1 0) (header_of x) (headers_of (before ++ p ∷ [])) in
@@ -33,24 +33,24 @@ count-push test (x ∷ before) p =
     omega (arith, here, there, rest)
 
 module _ (origin : Origin) (centre : List KeptPdu) (next : KeptPdu) where
-  abbrev answers : List KeptPdu × KeptPdu → List (Place × Message)
+  abbrev pub answers : List KeptPdu × KeptPdu → List (Place × Message)
   answers e = cond (is_next_response centre next e.0 e.1) (option_to_list (message_at origin (centre ++ next ∷ []) e.0 e.1)) []
 
   -- how many responses of its sequence number came before it
-  abbrev turn : ℕ
+  abbrev pub turn : ℕ
   turn = count_by (is_response_of next.seq) (headers_of centre)
 
-  of_number : (before : List KeptPdu) (p : KeptPdu) → is_next_response centre next before p ≡ true → p.seq ≡ next.seq
+  pub of_number : (before : List KeptPdu) (p : KeptPdu) → is_next_response centre next before p ≡ true → p.seq ≡ next.seq
   of_number before p e = sym (eqb-true next.seq p.seq (second_of_both (is_response (header_of next)) (next.seq == p.seq) (first_of_both (is_response_of p.seq (header_of next)) _ e)))
 
-  in_turn : (before : List KeptPdu) (p : KeptPdu) → is_next_response centre next before p ≡ true → rank_after before next.seq ≡ turn
+  pub in_turn : (before : List KeptPdu) (p : KeptPdu) → is_next_response centre next before p ≡ true → rank_after before next.seq ≡ turn
   in_turn before p e =
       let seq = of_number before p e in
       subst (λ (n : ℕ). rank_after before n ≡ count_by (is_response_of n) (headers_of centre)) seq
       (eqb-true (rank_after before p.seq) (count_by (is_response_of p.seq) (headers_of centre)) (second_of_both (is_response_of p.seq (header_of next)) _ e))
 
   -- once its turn has passed, it answers none
-  none-later : (before ps : List KeptPdu) → turn < rank_after before next.seq → flat_map answers (with_earlier before ps) ≡ []
+  pub none-later : (before ps : List KeptPdu) → turn < rank_after before next.seq → flat_map answers (with_earlier before ps) ≡ []
   none-later before [] past = refl
   none-later before (p ∷ ps) past =
       let grown = count-push (is_request_of next.seq) before p in
@@ -60,7 +60,7 @@ module _ (origin : Origin) (centre : List KeptPdu) (next : KeptPdu) where
         | false ↦ λ t. rest
       ] refl
 
-  later-asks : (p : KeptPdu) (ps : List KeptPdu) → SubmitsAreRequests (p ∷ ps) → SubmitsAreRequests ps
+  pub later-asks : (p : KeptPdu) (ps : List KeptPdu) → SubmitsAreRequests (p ∷ ps) → SubmitsAreRequests ps
   later-asks p ps h = record { each = λ i x submit at said. h.each (suc i) x submit at said }
 
   both : (a b : Bool) → a ≡ true → b ≡ true → (a && b) ≡ true

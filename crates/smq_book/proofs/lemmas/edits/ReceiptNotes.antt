@@ -145,7 +145,7 @@ any-of-list list other q (k ∷ ks) =
     by Equal = refl
     by Greater = refl
 
-never : (list : l.List) (x : Option ReceiptStanding) → same_list_rank list StrayReceipts ≡ false → same_list_rank list AmbiguousReceipts ≡ false → same_list_rank list ExtraReceipts ≡ false
+pub never : (list : l.List) (x : Option ReceiptStanding) → same_list_rank list StrayReceipts ≡ false → same_list_rank list AmbiguousReceipts ≡ false → same_list_rank list ExtraReceipts ≡ false
     → in_list_by list (option_and_then list_of_standing x) ≡ false
 unfolding in_list_by
 never list None s a e = refl

@@ -8,7 +8,10 @@ use Rattle.std.specs.declared.cmp.Ordering.TheVariants.{Less, Equal, Greater}
 use Rattle.std.specs.Ordering.{eq_by_cmp, is_eq, nat_cmp, ordering_then}
 use Rattle.std.specs.Cmp.{IsTotalOrder, ranked, tied_itself}
 use Rattle.std.specs.FinMap.{FinMap, IsAntisymmetric, get, insert, remove, keys, get-insert, get-remove, same_map}
+use Rattle.std.specs.BTreeMap.{insert_entry, is_at}
 use Rattle.std.specs.FinSet.{FinSet}
+use Rattle.std.specs.List.Sorted.{IsStrictlySortedBy}
+use Rattle.std.specs.Map.{keys_of, remove_entry}
 use Rattle.std.proofs.lemmas.Bool.Decides.{nat_tests}
 use Rattle.std.proofs.lemmas.Cmp.{on_total, then_total, nat_cmp_total}
 use Rattle.smq_kit.specs.declared.place.Place.{Place}
@@ -18,6 +21,7 @@ use Rattle.smq_kit.proofs.Comparisons.{then_equal}
 use Rattle.smq_kit.proofs.MapLemmas as maps
 use Rattle.smq_kit.proofs.PlaceOrders.{places_total, places_exact}
 use Rattle.smq_shelf.specs.within.KeyLaws.{place_order}
+use Rattle.smq_shelf.proofs.Seen.{inserted, removed}
 use Rattle.smq_tally.specs.declared.fact.Fact.{Fact}
 use Rattle.smq_tally.proofs.Listings.{marked}
 use Rattle.smq_book.specs.declared.index.due_at.DueAt.{DueAt}
@@ -28,6 +32,7 @@ use Rattle.smq_book.specs.join.Facts.{fact_by, facts_of}
 use Rattle.smq_book.specs.edits.Reached.{due_by, is_open, outcome_in}
 use Rattle.smq_book.specs.index.Due.{due_at, due_by_fact, due_cmp, due_in, due_of, has_ended, is_open_fact, places_due}
 use Rattle.smq_book.specs.index.DueKeys.{kept_due_cmp, one_due}
+use Rattle.smq_book.specs.index.Held.{dues_in, noted}
 use Rattle.smq_book.specs.index.PlacedKeys.{passes, with_key, without_key}
 use Rattle.smq_book.proofs.lemmas.edits.Passing.{passing-at, passing-none}
 use Rattle.smq_book.proofs.lemmas.join.MoveLemmas.{fact-at}
@@ -44,6 +49,23 @@ due_total = then_total (on_total (λ k. k.moment) nat_cmp_total) (on_total (λ k
 
 pub due_exact : IsAntisymmetric due_cmp
 due_exact a b e = one_due a b (ap (λ (R : DueAt → DueAt → Ordering). R a b) due-order ∙ e)
+
+-- ---- as they are stored
+
+-- a key that is put in or taken out
+pub due-stored : (es : List (DueAt × Unit {0})) (k : DueAt) → dues_in (insert_entry kept_due_cmp es k tt) ≡ insert (dues_in es) k tt
+due-stored es k = inserted due_total due_exact due-order es k tt
+
+pub due-gone : (es : List (DueAt × Unit {0})) (k : DueAt) → IsStrictlySortedBy kept_due_cmp (keys_of es)
+    → dues_in (remove_entry (is_at (kept_due_cmp k)) es) ≡ remove (dues_in es) k
+due-gone es k sorted = removed due_total due_exact due-order es k sorted
+
+-- what a set has at what is noted is what it has at what is marked
+pub noted-marked : (b : Bool) → noted b ≡ marked b
+noted-marked true = refl
+noted-marked false = refl
+
+-- ---- their places
 
 abbrev place_of_due : DueAt → Place
 place_of_due k = k.place

@@ -1,11 +1,15 @@
 -- What an index holds after a move, where it follows what groups tell.
-use Rattle.std.proofs.Common.{◌≡◌, Bool, true, false, cond, List, Option, Some, None, subst, refl, sym, ap, ◌∙◌}
+use Rattle.std.proofs.Common.{◌≡◌, Bool, true, false, cond, ◌||◌, List, Option, Some, None, subst, refl, sym, ap, ◌∙◌}
 use Rattle.std.specs.BTreeMap.{is_at, insert_entry}
 use Rattle.std.specs.Cmp.{tied_itself}
 use Rattle.std.specs.FinMap.{FinMap, empty, get, get-insert, insert, remove}
 use Rattle.std.specs.List.Sorted.{IsStrictlySortedBy}
 use Rattle.std.specs.Map.{keys_of, remove_entry}
+use Rattle.std.specs.FinSet.{FinSet}
+use Rattle.std.specs.Prelude.{option_and_then, option_map}
 use Rattle.std.specs.Ordering.{eq_by_cmp, is_eq}
+use Rattle.smq_shelf.specs.Keeping.{KeepingMap}
+use Rattle.std.proofs.lemmas.Bool.{false≢true}
 use Rattle.smq_kit.specs.declared.link_key.LinkKey.{LinkKey}
 use Rattle.smq_kit.specs.declared.place.Place.{Place}
 use Rattle.smq_kit.specs.Maps.{set_at}
@@ -13,24 +17,38 @@ use Rattle.smq_kit.specs.Orders.{place_cmp}
 use Rattle.smq_kit.proofs.MapLemmas.{same_key}
 use Rattle.smq_kit.proofs.PlaceOrders.{places_total, places_exact}
 use Rattle.smq_tally.specs.declared.fact.Fact.{Fact}
+use Rattle.smq_tally.specs.declared.list.List as list
+use Rattle.smq_tally.specs.declared.list.List.TheVariants as l
+use Rattle.smq_tally.specs.Lists.{listed}
 use Rattle.smq_tally.specs.within.Kept.{kept_place_cmp}
 use Rattle.smq_group.specs.declared.change.Change.{Change}
 use Rattle.smq_group.specs.Changes.{TellsChanges}
-use Rattle.smq_group.specs.Groups.{with_receipt, with_submit, without_receipt, without_submit}
+use Rattle.smq_group.specs.Groups.{GroupsValue, with_receipt, with_submit, without_receipt, without_submit}
 use Rattle.smq_group.specs.Matching.{Grouping}
+use Rattle.smq_route.specs.Numbers.{NumbersValue, number_cmp}
 use Rattle.smq_book.specs.declared.index.index.Index.{Index}
 use Rattle.smq_book.specs.present.Settings.{SettingsValue}
 use Rattle.smq_book.specs.pairing.Traffic.{Message, ReceivedReceipt, TrafficValue}
-use Rattle.smq_book.specs.join.Facts.{facts_of}
+use Rattle.smq_book.specs.join.Circumstances.{circumstances}
+use Rattle.smq_book.specs.join.Facts.{fact_by, facts_of}
 use Rattle.smq_book.specs.join.Keyed.{accepted_key, grouping_of, keyed_receipt}
 use Rattle.smq_book.specs.join.Listings.{notes_of}
 use Rattle.smq_book.specs.join.Moves.{IsMove, TakeMessage, TakeReceipt, put_message, put_receipt, take_message, take_receipt}
-use Rattle.smq_book.specs.index.Held.{AreOf, Holding, IsTraffic, facts_anew, held_now, held_of}
+use Rattle.smq_book.specs.index.Due.{due_at, due_cmp, due_in}
+use Rattle.smq_book.specs.index.Held.{AreOf, AreUnlisted, Holding, IsTraffic, IsUnlisted, dues_in, facts_anew, held_by, held_now, held_of}
+use Rattle.smq_book.specs.index.Held.{is_ambiguous, is_extra, is_stray, is_traffic_list, noted}
 use Rattle.smq_book.specs.index.Held.{list_held, messages_in, notes_anew, receipts_in, stored_traffic, with_listing}
+use Rattle.smq_book.specs.index.Numbered.{numbered, numbers_of}
+use Rattle.smq_book.specs.index.PlacedKeys.{with_key, without_key}
+use Rattle.smq_book.proofs.lemmas.join.MoveLemmas.{fact-at}
+use Rattle.smq_book.proofs.lemmas.index.Due.{due-fact-absent, due-put, due-taken}
+use Rattle.smq_book.proofs.lemmas.index.Numbered.{number-comes, number-goes}
 use Rattle.smq_book.proofs.lemmas.index.Members.{kept-traffic, members-put, members-taken, members-unput}
 use Rattle.smq_book.proofs.lemmas.index.Members.{members-untaken, received-put, received-taken, traffic-apart}
+use Rattle.smq_book.proofs.lemmas.index.Moves.{ambiguous-now, extra-now, stray-now}
 use Rattle.smq_book.proofs.lemmas.index.Moves.{alone-facts, alone-notes, taken-facts, taken-notes, tells_of, told-facts, told-notes}
-use Rattle.smq_book.proofs.lemmas.index.Stored.{stored-gone, stored-put}
+use Rattle.smq_book.proofs.lemmas.index.Stored.{fact-absent, stored-gone, stored-put}
+use Rattle.smq_book.proofs.lemmas.index.Unlisted.{unheld, unlisted-anew, unlisted-same}
 
 -- what is put in is there
 pub put-there : {X : Type 0} (m : FinMap place_cmp X) (q : Place) (v : X) → get (insert m q v) q ≡ Some v
@@ -53,14 +71,18 @@ pub record Stores (s : SettingsValue) (u : TrafficValue) (ms : List (Place × Me
 traffic-stands : (s : SettingsValue) (t : TrafficValue) → IsTraffic t → StandsApart t
 traffic-stands s t traffic = record { apart = (traffic-apart s t traffic).apart }
 
-pub stored-held : (s : SettingsValue) (t : TrafficValue) (i : Index) → IsTraffic t → held_now i ≡ held_of s t
+stored-by : (s : SettingsValue) (t : TrafficValue) (facts : FinMap place_cmp Fact) (i : Index) → IsTraffic t → held_now i ≡ held_by s t facts
     → Stores s t i.messages.content i.receipts.content i.standings.members
-stored-held s t i traffic held = record {
+stored-by s t facts i traffic held = record {
   messages = ap (λ (h : Holding). h.messages) held;
   receipts = ap (λ (h : Holding). h.receipts) held;
   members = ap (λ (h : Holding). h.members) held;
   stands = traffic-stands s t traffic;
 }
+
+pub stored-held : (s : SettingsValue) (t : TrafficValue) (i : Index) → IsTraffic t → held_now i ≡ held_of s t
+    → Stores s t i.messages.content i.receipts.content i.standings.members
+stored-held s t i traffic held = stored-by s t (facts_of s t) i traffic held
 
 module _ {s : SettingsValue} {u : TrafficValue} {ms : List (Place × Message)} {rs : List (Place × ReceivedReceipt)} {g : Grouping}
     (stores : Stores s u ms rs g) where
@@ -81,10 +103,51 @@ module _ {s : SettingsValue} {u : TrafficValue} {ms : List (Place × Message)} {
         ∙ stores.stands.apart q m (ap (λ (x : FinMap place_cmp Message). get x q) (sym stores.messages) ∙ there);
   }
 
+  -- where no message stands, a fact that is taken out leaves the open messages
+  pub due-dropped : {later : FinMap place_cmp Fact} (q : Place) → get u.messages q ≡ None → (facts : FinMap place_cmp Fact) → later ≡ remove facts q
+      → due_in (messages_in ms) facts ≡ due_in (messages_in ms) later
+  due-dropped q none facts took =
+      sym (due-fact-absent (messages_in ms) facts q None (ap (λ (x : FinMap place_cmp Message). get x q) stores.messages ∙ none))
+      ∙ ap (due_in (messages_in ms)) (sym took)
+
 -- members that an index holds of traffic are those of what it stores
 pub are-held : (s : SettingsValue) (t : TrafficValue) (i : Index) → IsTraffic t → held_now i ≡ held_of s t
     → AreOf s (stored_traffic i.messages.content i.receipts.content) i.standings.members
 are-held s t i traffic held = are-stored (stored-held s t i traffic held)
+
+-- ---- a fact that is set anew by other routes or another clock
+
+module _ (z : SettingsValue) (t : TrafficValue) (facts : FinMap place_cmp Fact) (i : Index) (traffic : IsTraffic t)
+    (held : held_now i ≡ held_by z t facts) where
+  are-by : AreOf z (stored_traffic i.messages.content i.receipts.content) i.standings.members
+  are-by = are-stored (stored-by z t facts i traffic held)
+
+  -- the open messages that are held are those of these facts
+  due-by : dues_in i.due.content ≡ due_in (messages_in i.messages.content) i.tally.facts
+  due-by =
+      ap (λ (h : Holding). h.due) held
+      ∙ (λ k. due_in (sym (ap (λ (h : Holding). h.messages) held) k) (sym (ap (λ (h : Holding). h.facts) held) k))
+
+  -- where what is stored stays, so does all that is held but the fact of the place
+  pub held-refreshed : (j : Index) (q : Place) → j.messages ≡ i.messages → j.receipts ≡ i.receipts → j.standings ≡ i.standings
+      → j.numbers ≡ i.numbers → j.tally.notes ≡ i.tally.notes
+      → (AreOf z (stored_traffic i.messages.content i.receipts.content) i.standings.members
+      → j.tally.facts ≡ set_at i.tally.facts q (get (facts_of z (stored_traffic i.messages.content i.receipts.content)) q))
+      → (dues_in i.due.content ≡ due_in (messages_in i.messages.content) i.tally.facts
+      → dues_in j.due.content ≡ due_in (messages_in i.messages.content) j.tally.facts)
+      → held_now j ≡ held_by z t (set_at facts q (get (facts_of z t) q))
+  held-refreshed j q messages receipts standings numbers notes sets dues = λ k. record {
+    messages = (ap (λ (m : KeepingMap Place Message). messages_in m.content) messages ∙ ap (λ (h : Holding). h.messages) held) k;
+    receipts = (ap (λ (r : KeepingMap Place ReceivedReceipt). receipts_in r.content) receipts ∙ ap (λ (h : Holding). h.receipts) held) k;
+    members = (ap (λ (v : GroupsValue). v.members) standings ∙ ap (λ (h : Holding). h.members) held) k;
+    facts = set k;
+    notes = (notes ∙ ap (λ (h : Holding). h.notes) held) k;
+    due = (dues due-by ∙ (λ l. due_in (held l).messages (set l))) k;
+    numbers = (ap (λ (n : NumbersValue). n.numbers) numbers ∙ ap (λ (h : Holding). h.numbers) held) k;
+  }
+    where
+      set : j.tally.facts ≡ set_at facts q (get (facts_of z t) q)
+      set = sets are-by ∙ (λ l. set_at (held l).facts q (get (facts-stored (stored-by z t facts i traffic held) l) q))
 
 -- ---- after a move
 
@@ -181,6 +244,68 @@ module _ {s : SettingsValue} {t : TrafficValue} {ms : List (Place × Message)} {
     stands = traffic-stands s (take_receipt q t) (kept-traffic t traffic (TakeReceipt q) tt);
   }
 
+-- ---- open messages and numbers
+
+module _ (s : SettingsValue) (t : TrafficValue) (i : Index) (held : held_now i ≡ held_of s t) where
+  due-local : dues_in i.due.content ≡ due_in t.messages i.tally.facts
+  due-local = ap (λ (h : Holding). h.due) held ∙ ap (due_in t.messages) (sym (ap (λ (h : Holding). h.facts) held))
+
+  module _ {now : FinMap place_cmp Message} where
+    -- the open messages stay where messages do
+    pub due-kept : now ≡ t.messages → dues_in i.due.content ≡ due_in now i.tally.facts
+    due-kept same = due-local ∙ ap (λ m. due_in m i.tally.facts) (sym same)
+
+    -- a message that is put in has no fact yet
+    pub due-came : (q : Place) (m : Message) → get t.messages q ≡ None → now ≡ insert t.messages q m
+        → dues_in i.due.content ≡ due_in now i.tally.facts
+    due-came q m none same =
+        due-local ∙ sym (due-put t.messages i.tally.facts q m none unknown) ∙ ap (λ m. due_in m i.tally.facts) (sym same)
+      where
+        unknown : get i.tally.facts q ≡ None
+        unknown =
+            ap (λ (h : Holding). get h.facts q) held
+            ∙ fact-at s t q
+            ∙ ap (option_map (λ (m : Message). fact_by q m (circumstances s t m))) none
+
+    -- a message that is taken out takes its moment with it
+    pub due-went : {dues : FinSet due_cmp} (q : Place) (m : Message) → get t.messages q ≡ Some m → now ≡ remove t.messages q
+        → dues ≡ remove (dues_in i.due.content) (due_at m.moment q) → dues ≡ due_in now i.tally.facts
+    due-went q m there same gone =
+        gone
+        ∙ ap (λ (d : FinSet due_cmp). remove d (due_at m.moment q)) due-local
+        ∙ sym (due-taken t.messages i.tally.facts q m there)
+        ∙ ap (λ m. due_in m i.tally.facts) (sym same)
+
+  -- the numbers where a message is put in, and where one is taken out
+  pub numbers-came : {numbers : FinSet number_cmp} (q : Place) (m : Message) → get t.messages q ≡ None
+      → numbers ≡ with_key (numbered q m) i.numbers.numbers → numbers ≡ numbers_of (put_message q m t)
+  numbers-came q m none put =
+      put ∙ ap (λ (h : Holding). with_key (numbered q m) h.numbers) held ∙ sym (number-comes q m t none)
+
+  pub numbers-went : {numbers : FinSet number_cmp} (q : Place) (m : Message) → get t.messages q ≡ Some m
+      → numbers ≡ without_key (numbered q m) i.numbers.numbers → numbers ≡ numbers_of (take_message q t)
+  numbers-went q m there took =
+      took
+      ∙ ap (λ (h : Holding). without_key (numbered q m) h.numbers) held
+      ∙ ap (λ x. without_key (option_and_then (numbered q) x) (numbers_of t)) (sym there)
+      ∙ sym (number-goes q t)
+
+-- ---- places that no list of receipts notes
+
+module _ (s : SettingsValue) (t : TrafficValue) (i : Index) (held : held_now i ≡ held_of s t) (traffic : IsTraffic t) where
+  -- where no receipt stands, none does
+  pub unlisted-at : (p : Place) → get t.receipts p ≡ None → IsUnlisted i.tally.notes p
+  unlisted-at p none = record { none = λ name of_receipts. ap (λ (h : Holding). get h.notes (listed name p)) held ∙ by name of_receipts }
+    where
+      unlisted : list_held (grouping_of s t) p ≡ None
+      unlisted = unheld s t (grouping_of s t) (traffic-apart s t traffic) p none
+
+      by : (name : list.List) → is_traffic_list name ≡ false → get (notes_of s t) (listed name p) ≡ None
+      by l.StrayReceipts e = stray-now s t t refl traffic p ∙ ap (λ x. noted (is_stray x)) unlisted
+      by l.AmbiguousReceipts e = ambiguous-now s t t refl traffic p ∙ ap (λ x. noted (is_ambiguous x)) unlisted
+      by l.ExtraReceipts e = extra-now s t t refl traffic p ∙ ap (λ x. noted (is_extra x)) unlisted
+      by _ e = absurd (false≢true (sym e))
+
 -- ---- facts and notes that follow
 
 module _ (s : SettingsValue) (t u : TrafficValue) (i : Index) {ms : List (Place × Message)} {rs : List (Place × ReceivedReceipt)} {h : Grouping}
@@ -198,15 +323,19 @@ module _ (s : SettingsValue) (t u : TrafficValue) (i : Index) {ms : List (Place 
   were_noted : i.tally.notes ≡ notes_of s t
   were_noted = ap (λ (x : Holding). x.notes) held
 
-  -- where messages, receipts, members, facts and notes of an index are those of the traffic, it holds that
+  -- where messages, receipts, members, facts, notes and numbers of an index are those of the traffic, and the open messages are
+  -- those of its facts, it holds that
   pub holds : (j : Index) → j.messages.content ≡ ms → j.receipts.content ≡ rs → j.standings.members ≡ h → j.tally.facts ≡ facts_of s u
-      → j.tally.notes ≡ notes_of s u → held_now j ≡ held_of s u
-  holds j messages receipts members facts notes = λ k. record {
+      → j.tally.notes ≡ notes_of s u → dues_in j.due.content ≡ due_in (messages_in ms) j.tally.facts → j.numbers.numbers ≡ numbers_of u
+      → held_now j ≡ held_of s u
+  holds j messages receipts members facts notes due numbers = λ k. record {
     messages = (ap messages_in messages ∙ stores.messages) k;
     receipts = (ap receipts_in receipts ∙ stores.receipts) k;
     members = (members ∙ stores.members) k;
     facts = facts k;
     notes = notes k;
+    due = (due ∙ (λ l. due_in (stores.messages l) (facts l))) k;
+    numbers = numbers k;
   }
 
   module _ (cs : List Change) (tells : TellsChanges i.standings.members h cs) where
@@ -237,3 +366,49 @@ module _ (s : SettingsValue) (t u : TrafficValue) (i : Index) {ms : List (Place 
 
   pub notes-alone : grouping_of s t ≡ grouping_of s u → with_listing i.tally.notes q (list_held h q) ≡ notes_of s u
   notes-alone alike = (λ k. with_listing (were_noted k) q (list_held (stores.members k) q)) ∙ alone-notes s t u same traffic q alike
+
+  -- ---- where listings and facts need no look
+
+  -- no place of a message is noted in a list of receipts, where the message of this place comes where no receipt was
+  pub unlisted : ((m : Message) → get u.messages q ≡ Some m → get t.receipts q ≡ None) → AreUnlisted (messages_in ms) i.tally.notes
+  unlisted free = record {
+    each = λ p m e. unlisted-at s t i held traffic p
+        (by p m (eq_by_cmp place_cmp p q) refl (ap (λ (x : FinMap place_cmp Message). get x p) (sym stores.messages) ∙ e));
+  }
+    where
+      by : (p : Place) (m : Message) (b : Bool) → eq_by_cmp place_cmp p q ≡ b → get u.messages p ≡ Some m → get t.receipts p ≡ None
+      by p m true same e =
+          let here : p ≡ q = same_key places_total places_exact p q same in
+          ap (get t.receipts) here ∙ free m (ap (get u.messages) (sym here) ∙ e)
+      by p m false apart e = move.receipts.at p (ap (λ b. b || false) apart) ∙ stores.stands.apart p m e
+
+  module _ (gone : get u.messages q ≡ None) (before : get t.receipts q ≡ None) (after : get u.receipts q ≡ None) where
+    unknown : now q ≡ None
+    unknown = fact-absent s (stored_traffic ms rs) h (are-stored stores) q (ap (λ (x : FinMap place_cmp Message). get x q) stores.messages ∙ gone)
+
+    none_held : list_held h q ≡ None
+    none_held =
+        unheld s (stored_traffic ms rs) h (are-stored stores) q (ap (λ (x : FinMap place_cmp ReceivedReceipt). get x q) stores.receipts ∙ after)
+
+    -- of a message that was taken out: its fact goes last, and its place is noted in no list
+    module _ (cs : List Change) (tells : TellsChanges i.standings.members h cs) where
+      pub facts-gone : remove (facts_anew now i.tally.facts cs) q ≡ facts_of s u
+      facts-gone = ap (set_at (facts_anew now i.tally.facts cs) q) (sym unknown) ∙ facts-taken cs tells
+
+      pub notes-gone : notes_anew h i.tally.notes cs ≡ notes_of s u
+      notes-gone =
+          sym (unlisted-same q (notes_anew h i.tally.notes cs)
+          (unlisted-anew q h none_held i.tally.notes (unlisted-at s t i held traffic q before) cs))
+          ∙ ap (with_listing (notes_anew h i.tally.notes cs) q) (sym none_held)
+          ∙ notes-taken cs tells
+
+    -- the same of one that wasn't accepted
+    module _ (alike : grouping_of s t ≡ grouping_of s u) where
+      pub facts-left : remove i.tally.facts q ≡ facts_of s u
+      facts-left = ap (set_at i.tally.facts q) (sym unknown) ∙ facts-alone alike
+
+      pub notes-left : i.tally.notes ≡ notes_of s u
+      notes-left =
+          sym (unlisted-same q i.tally.notes (unlisted-at s t i held traffic q before))
+          ∙ ap (with_listing i.tally.notes q) (sym none_held)
+          ∙ notes-alone alike

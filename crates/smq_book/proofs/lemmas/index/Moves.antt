@@ -249,7 +249,7 @@ module _ (s : SettingsValue) (t u : TrafficValue) (same : t.notes ≡ u.notes) (
       ap (λ (v : Option (Unit {0})). marked (is_some v || in_list_by e.list (option_and_then list_of_standing x)))
       (ap (λ (notes : FinSet listed_cmp). get notes e) (sym same) ∙ none)
 
-  stray-now : (p : Place) → get noted_now (listed StrayReceipts p) ≡ noted (is_stray (list_held h p))
+  pub stray-now : (p : Place) → get noted_now (listed StrayReceipts p) ≡ noted (is_stray (list_held h p))
   stray-now p =
       let x : Option ReceiptStanding = get (receipt_standings_of h) p in
       note-by s u StrayReceipts p x refl
@@ -257,7 +257,7 @@ module _ (s : SettingsValue) (t u : TrafficValue) (same : t.notes ≡ u.notes) (
       ∙ stray-by x
       ∙ ap (λ list. noted (is_stray list)) (held-by h p)
 
-  ambiguous-now : (p : Place) → get noted_now (listed AmbiguousReceipts p) ≡ noted (is_ambiguous (list_held h p))
+  pub ambiguous-now : (p : Place) → get noted_now (listed AmbiguousReceipts p) ≡ noted (is_ambiguous (list_held h p))
   ambiguous-now p =
       let x : Option ReceiptStanding = get (receipt_standings_of h) p in
       note-by s u AmbiguousReceipts p x refl
@@ -265,7 +265,7 @@ module _ (s : SettingsValue) (t u : TrafficValue) (same : t.notes ≡ u.notes) (
       ∙ ambiguous-by x
       ∙ ap (λ list. noted (is_ambiguous list)) (held-by h p)
 
-  extra-now : (p : Place) → get noted_now (listed ExtraReceipts p) ≡ noted (is_extra (list_held h p))
+  pub extra-now : (p : Place) → get noted_now (listed ExtraReceipts p) ≡ noted (is_extra (list_held h p))
   extra-now p =
       let x : Option ReceiptStanding = get (receipt_standings_of h) p in
       note-by s u ExtraReceipts p x refl

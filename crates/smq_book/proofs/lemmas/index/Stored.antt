@@ -135,7 +135,7 @@ module _ (s : SettingsValue) (u : TrafficValue) (g : Grouping) (are : AreOf s u 
   at-submits : get g.submits q ≡ option_and_then (λ (m : Message). accepted_key s m) (get u.messages q)
   at-submits = ap (λ (x : Grouping). get x.submits q) are.grouped ∙ get-chosen places_total places_exact (λ place m. accepted_key s m) u.messages q
 
-  at-receipts : get g.receipts q ≡ option_and_then (λ (r : ReceivedReceipt). Some (keyed_receipt s r)) (get u.receipts q)
+  pub at-receipts : get g.receipts q ≡ option_and_then (λ (r : ReceivedReceipt). Some (keyed_receipt s r)) (get u.receipts q)
   at-receipts = ap (λ (x : Grouping). get x.receipts q) are.grouped
       ∙ get-chosen places_total places_exact (λ place r. Some (keyed_receipt s r)) u.receipts q
 

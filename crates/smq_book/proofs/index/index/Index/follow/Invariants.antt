@@ -1,7 +1,8 @@
 -- What is stored stays, and the facts and the listings of the places so far are set anew.
 use Rattle.std.proofs.Common.{◌≡◌, take}
 use Rattle.std.specs.FinMap as fin
-use Rattle.smq_book.specs.index.Held.{AreOf, facts_anew, notes_anew, stored_traffic}
+use Rattle.smq_book.specs.index.Due.{due_in}
+use Rattle.smq_book.specs.index.Held.{AreOf, AreUnlisted, dues_in, facts_anew, messages_in, notes_anew, stored_traffic}
 use Rattle.smq_book.specs.join.Facts.{facts_of}
 use Rattle.smq_book.proofs.index.index.Index.follow.Given as goal
 
@@ -10,11 +11,19 @@ invariant-loop-change l = record {
   messages : l.self.messages ≡ l.fn.self.messages;
   receipts : l.self.receipts ≡ l.fn.self.receipts;
   standings : l.self.standings ≡ l.fn.self.standings;
+  numbers : l.self.numbers ≡ l.fn.self.numbers;
   settled : l.self.tally.settled ≡ l.fn.self.tally.settled;
+  settled_due : l.self.due.settled ≡ l.fn.self.due.settled;
   facts : AreOf l.settings (stored_traffic l.fn.self.messages.content l.fn.self.receipts.content) l.fn.self.standings.members
       → l.self.tally.facts ≡ facts_anew
       (fin.get (facts_of l.settings (stored_traffic l.fn.self.messages.content l.fn.self.receipts.content)))
       l.fn.self.tally.facts (take l.change-index l.changes);
+  unlisted : AreOf l.settings (stored_traffic l.fn.self.messages.content l.fn.self.receipts.content) l.fn.self.standings.members
+      → AreUnlisted (messages_in l.fn.self.messages.content) l.fn.self.tally.notes
+      → AreUnlisted (messages_in l.fn.self.messages.content) l.self.tally.notes;
   notes : AreOf l.settings (stored_traffic l.fn.self.messages.content l.fn.self.receipts.content) l.fn.self.standings.members
+      → AreUnlisted (messages_in l.fn.self.messages.content) l.fn.self.tally.notes
       → l.self.tally.notes ≡ notes_anew l.fn.self.standings.members l.fn.self.tally.notes (take l.change-index l.changes);
+  due : dues_in l.fn.self.due.content ≡ due_in (messages_in l.fn.self.messages.content) l.fn.self.tally.facts
+      → dues_in l.self.due.content ≡ due_in (messages_in l.fn.self.messages.content) l.self.tally.facts;
 }

@@ -6,12 +6,13 @@ use Rattle.smq_group.specs.declared.change.Change.{Change}
 use Rattle.smq_group.specs.Changes.{TellsChanges}
 use Rattle.smq_group.specs.Groups.{GroupsValue}
 use Rattle.smq_group.specs.Matching.{Grouping}
+use Rattle.smq_route.specs.Numbers.{NumbersValue}
 use Rattle.smq_book.specs.index.Held.{Holding, stored_traffic}
 use Rattle.smq_book.specs.join.Keyed.{accepted_key}
 use Rattle.smq_book.specs.join.Moves.{put_message}
 use Rattle.smq_book.specs.pairing.Traffic.{Message, ReceivedReceipt}
-use Rattle.smq_book.proofs.lemmas.index.Followed.{are-stored, facts-alone, facts-told, holds, notes-alone}
-use Rattle.smq_book.proofs.lemmas.index.Followed.{notes-told, put-there, stored-accepted, stored-held, stored-refused}
+use Rattle.smq_book.proofs.lemmas.index.Followed.{are-stored, due-came, facts-alone, facts-told, holds, notes-alone, numbers-came}
+use Rattle.smq_book.proofs.lemmas.index.Followed.{notes-told, put-there, stored-accepted, stored-held, stored-refused, unlisted}
 use Rattle.smq_book.proofs.lemmas.index.Members.{members-unput, receipt-absent, submit-absent}
 use Rattle.smq_book.proofs.lemmas.index.Moves.{came-submit}
 use Rattle.smq_book.proofs.lemmas.join.MoveLemmas.{put_message-moves}
@@ -40,6 +41,7 @@ returns-in_default-clause-held c = λ t traffic held.
     let free : get t.receipts q ≡ None = sym (ap (λ (h : Holding). get h.receipts q) held) ∙ c.requires.apart in
     let gone : c.key-key.result ≡ None = search rules in
     let refused : accepted_key s m ≡ None = sym c.key-key.ensures ∙ gone in
+    let numbered = c.in_ok-put_number.ensures.value in
     let stores = stored-refused (stored-held s t i traffic held) q m refused none free c.in_ok-set.ensures.content in
     let move = put_message-moves q m t free in
     let alike = sym (members-unput s q t m refused none) in
@@ -48,7 +50,10 @@ returns-in_default-clause-held c = λ t traffic held.
     (ap (λ (k : KeepingMap Place ReceivedReceipt). k.content) c.refresh.ensures.receipts)
     (ap (λ (v : GroupsValue). v.members) c.refresh.ensures.standings)
     (c.in_ok-refresh.ensures.facts (are-stored stores) ∙ facts-alone s t u i held stores traffic q move refl alike)
-    (c.in_ok-refresh.ensures.notes (are-stored stores) ∙ notes-alone s t u i held stores traffic q move refl alike)
+    (c.in_ok-refresh.ensures.notes (are-stored stores) (unlisted s t u i held stores traffic q move refl (λ m e. free))
+    ∙ notes-alone s t u i held stores traffic q move refl alike)
+    (c.in_ok-refresh.ensures.due (due-came s t i held q m none stores.messages))
+    (ap (λ (n : NumbersValue). n.numbers) c.refresh.ensures.numbers ∙ numbers-came s t i held q m none numbered)
 
 pub returns-clause-held : goal.returns-clause-held
 returns-clause-held c = λ t traffic held.
@@ -60,6 +65,8 @@ returns-clause-held c = λ t traffic held.
     let u = put_message q m t in
     let g = i.standings.members in
     let h = c.add_submit.new.self.members in
+    let none : get t.messages q ≡ None = sym (ap (λ (h : Holding). get h.messages q) held) ∙ c.requires.absent in
+    let numbered = c.in_ok-put_number.ensures.value in
     let free : get t.receipts q ≡ None = sym (ap (λ (h : Holding). get h.receipts q) held) ∙ c.requires.apart in
     let is = sym c.key-key.ensures ∙ c.in-Some.is in
     let stores = stored-accepted (stored-held s t i traffic held) q m key is free c.in_ok-set.ensures.content c.in_ok-changes.ensures.ok in
@@ -76,4 +83,7 @@ returns-clause-held c = λ t traffic held.
     (ap (λ (k : KeepingMap Place ReceivedReceipt). k.content) c.follow.ensures.receipts)
     (ap (λ (v : GroupsValue). v.members) c.follow.ensures.standings)
     (c.in_ok-follow.ensures.facts (are-stored stores) ∙ facts-told s t u i held stores traffic q move refl cs tells there)
-    (c.in_ok-follow.ensures.notes (are-stored stores) ∙ notes-told s t u i held stores traffic q move refl cs tells there)
+    (c.in_ok-follow.ensures.notes (are-stored stores) (unlisted s t u i held stores traffic q move refl (λ m e. free))
+    ∙ notes-told s t u i held stores traffic q move refl cs tells there)
+    (c.in_ok-follow.ensures.due (due-came s t i held q m none stores.messages))
+    (ap (λ (n : NumbersValue). n.numbers) c.follow.ensures.numbers ∙ numbers-came s t i held q m none numbered)

@@ -16,4 +16,6 @@ returns-clause-held c = λ s t held.
       facts = (ap (λ (v : TallyValue). v.facts) c.in_ok-note.ensures.ok ∙ ap (λ (h : Holding). h.facts) held) i;
       notes = (ap (λ (v : TallyValue). v.notes) c.in_ok-note.ensures.ok
           ∙ ap (λ (h : Holding). insert h.notes note tt) held ∙ sym (note-put s t note)) i;
+      due = (held i).due;
+      numbers = (held i).numbers;
     }

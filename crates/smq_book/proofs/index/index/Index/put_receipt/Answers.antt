@@ -6,11 +6,13 @@ use Rattle.smq_group.specs.declared.change.Change.{Change}
 use Rattle.smq_group.specs.Changes.{TellsChanges}
 use Rattle.smq_group.specs.Groups.{GroupsValue, with_receipt}
 use Rattle.smq_group.specs.Matching.{Grouping}
+use Rattle.smq_route.specs.Numbers.{NumbersValue}
 use Rattle.smq_book.specs.index.Held.{Holding, stored_traffic}
 use Rattle.smq_book.specs.join.Keyed.{keyed_receipt}
 use Rattle.smq_book.specs.join.Moves.{put_receipt}
 use Rattle.smq_book.specs.pairing.Traffic.{Message, ReceivedReceipt}
-use Rattle.smq_book.proofs.lemmas.index.Followed.{are-stored, facts-told, holds, notes-told, put-there, stored-held, stored-received}
+use Rattle.smq_book.proofs.lemmas.index.Followed.{are-stored, due-kept, facts-told, holds, notes-told, put-there}
+use Rattle.smq_book.proofs.lemmas.index.Followed.{stored-held, stored-received, unlisted}
 use Rattle.smq_book.proofs.lemmas.index.Members.{receipt-absent, submit-absent}
 use Rattle.smq_book.proofs.lemmas.index.Moves.{came-receipt}
 use Rattle.smq_book.proofs.lemmas.join.MoveLemmas.{put_receipt-moves}
@@ -59,4 +61,7 @@ returns-clause-held c = λ t traffic held.
     (ap (λ (k : KeepingMap Place ReceivedReceipt). k.content) c.follow.ensures.receipts)
     (ap (λ (v : GroupsValue). v.members) c.follow.ensures.standings)
     (c.in_ok-follow.ensures.facts (are-stored stores) ∙ facts-told s t u i held stores traffic q move refl cs tells there)
-    (c.in_ok-follow.ensures.notes (are-stored stores) ∙ notes-told s t u i held stores traffic q move refl cs tells there)
+    (c.in_ok-follow.ensures.notes (are-stored stores) (unlisted s t u i held stores traffic q move refl (λ m e. none))
+    ∙ notes-told s t u i held stores traffic q move refl cs tells there)
+    (c.in_ok-follow.ensures.due (due-kept s t i held stores.messages))
+    (ap (λ (n : NumbersValue). n.numbers) c.follow.ensures.numbers ∙ ap (λ (h : Holding). h.numbers) held)

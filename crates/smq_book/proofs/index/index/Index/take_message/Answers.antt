@@ -1,22 +1,22 @@
 use Rattle.std.proofs.Common.{◌≡◌, Option, List, Some, None, subst, refl, ap, sym, ◌∙◌, rules}
-use Rattle.std.specs.FinMap.{get}
+use Rattle.std.specs.FinMap.{get, remove}
 use Rattle.std.specs.Option.{option_copied}
 use Rattle.smq_shelf.specs.Keeping.{KeepingMap}
-use Rattle.smq_kit.specs.Maps.{set_at}
 use Rattle.smq_kit.specs.declared.place.Place.{Place}
+use Rattle.smq_kit.proofs.MapLemmas.{get-removed}
 use Rattle.smq_kit.proofs.PlaceOrders.{places_total, places_exact}
 use Rattle.smq_tally.proofs.Undone.{remove-none}
 use Rattle.smq_group.specs.declared.change.Change.{Change}
 use Rattle.smq_group.specs.Changes.{TellsChanges}
 use Rattle.smq_group.specs.Groups.{GroupsValue}
 use Rattle.smq_group.specs.Matching.{Grouping}
-use Rattle.smq_book.specs.declared.index.index.Index.{Index}
-use Rattle.smq_book.specs.index.Held.{AreOf, Holding, held_of, list_held, messages_in, stored_traffic, with_listing}
-use Rattle.smq_book.specs.join.Facts.{facts_of}
+use Rattle.smq_route.specs.Numbers.{NumbersValue}
+use Rattle.smq_book.specs.index.Due.{due_at}
+use Rattle.smq_book.specs.index.Held.{Holding, dues_in, held_of, messages_in, stored_traffic}
 use Rattle.smq_book.specs.join.Moves.{take_message}
 use Rattle.smq_book.specs.pairing.Traffic.{Message, ReceivedReceipt}
-use Rattle.smq_book.proofs.lemmas.index.Followed.{are-stored, facts-alone, facts-taken, holds}
-use Rattle.smq_book.proofs.lemmas.index.Followed.{notes-alone, notes-taken, stored-dropped, stored-held, stored-withdrawn}
+use Rattle.smq_book.proofs.lemmas.index.Followed.{are-stored, due-dropped, due-went, facts-gone, facts-left, holds, notes-gone, notes-left}
+use Rattle.smq_book.proofs.lemmas.index.Followed.{numbers-went, stored-dropped, stored-held, stored-withdrawn, unlisted}
 use Rattle.smq_book.proofs.lemmas.index.Members.{members-untaken, submit-there}
 use Rattle.smq_book.proofs.lemmas.index.Stored.{stored-at}
 use Rattle.smq_book.proofs.lemmas.join.MoveLemmas.{take_message-moves}
@@ -60,16 +60,29 @@ returns-in_default-key-clause-held c = λ t traffic held.
     let there : get t.messages q ≡ Some m =
     sym (ap (λ (h : Holding). get h.messages q) held) ∙ sym (some ∙ c.get.ensures ∙ stored-at i.messages.content q) in
     let gone : c.key-key.result ≡ None = search rules in
+    let gone-due = c.in_ok-set_due.ensures.value
+    ∙ (λ j. remove (dues_in i.due.content) (due_at (c.message.view_is j).moment q)) in
     let none = submit-there s q t m there ∙ sym c.key-key.ensures ∙ gone in
     let stores = stored-dropped (stored-held s t i traffic held) q traffic none c.in_ok-remove.ensures.ordered c.in_ok-remove.ensures.content in
-    let move = take_message-moves q t ((stored-held s t i traffic held).stands.apart q m there) in
+    let apart = (stored-held s t i traffic held).stands.apart q m there in
+    let free : get u.messages q ≡ None = get-removed places_total places_exact t.messages q in
+    let move = take_message-moves q t apart in
     let alike = sym (members-untaken s q t none) in
-    holds s t u i held stores traffic q move refl c.refresh.new.self
-    (ap (λ (k : KeepingMap Place Message). k.content) c.refresh.ensures.messages)
-    (ap (λ (k : KeepingMap Place ReceivedReceipt). k.content) c.refresh.ensures.receipts)
-    (ap (λ (v : GroupsValue). v.members) c.refresh.ensures.standings)
-    (c.in_ok-refresh.ensures.facts (are-stored stores) ∙ facts-alone s t u i held stores traffic q move refl alike)
-    (c.in_ok-refresh.ensures.notes (are-stored stores) ∙ notes-alone s t u i held stores traffic q move refl alike)
+    let taken = c.in_ok-take_fact.ensures.facts in
+    holds s t u i held stores traffic q move refl
+    (record {
+      standings = i.standings;
+      messages = c.remove.new.self;
+      receipts = i.receipts;
+      tally = c.take_fact.new.tally;
+      due = c.set_due.new.due;
+      numbers = c.take_number.new.numbers;
+    })
+    refl refl refl
+    (taken ∙ facts-left s t u i held stores traffic q move refl free apart apart alike)
+    (c.take_fact.ensures.notes ∙ notes-left s t u i held stores traffic q move refl free apart apart alike)
+    (due-went s t i held q m there stores.messages gone-due ∙ due-dropped stores q free i.tally.facts taken)
+    (numbers-went s t i held q m there c.in_ok-take_number.ensures.value)
 
 pub returns-clause-held : goal.returns-clause-held
 returns-clause-held c = λ t traffic held.
@@ -85,28 +98,33 @@ returns-clause-held c = λ t traffic held.
     sym (ap (λ (h : Holding). get h.messages q) held) ∙ sym (some ∙ c.get.ensures ∙ stored-at i.messages.content q) in
     let stores = stored-withdrawn
     (stored-held s t i traffic held) q traffic c.in_ok-remove.ensures.ordered c.in_ok-remove.ensures.content c.in_ok-changes.ensures.ok in
-    let move = take_message-moves q t ((stored-held s t i traffic held).stands.apart q m there) in
+    let apart = (stored-held s t i traffic held).stands.apart q m there in
+    let free : get u.messages q ≡ None = get-removed places_total places_exact t.messages q in
+    let move = take_message-moves q t apart in
     let cs = c.as_slice.result.now in
     let tells : TellsChanges g h cs =
     subst (λ (l : List Change). TellsChanges g h l) (sym c.as_slice.ensures.value) c.in_ok-changes.ensures.changes in
-    let gs = ap (λ (v : GroupsValue). v.members) c.follow.ensures.standings in
-    let mc = ap (λ (k : KeepingMap Place Message). k.content) c.follow.ensures.messages in
-    let rc = ap (λ (k : KeepingMap Place ReceivedReceipt). k.content) c.follow.ensures.receipts in
-    let are = subst (λ (x : Index). AreOf s (stored_traffic x.messages.content x.receipts.content) x.standings.members)
-    (λ j. record {
-      standings = sym c.follow.ensures.standings j;
-      messages = sym c.follow.ensures.messages j;
-      receipts = sym c.follow.ensures.receipts j;
-      tally = c.follow.new.self.tally;
+    let gone-due = c.in_ok-set_due.ensures.value
+    ∙ (λ j. remove (dues_in i.due.content) (due_at (c.message.view_is j).moment q)) in
+    let taken = c.in_ok-take_fact-2.ensures.facts in
+    holds s t u i held stores traffic q move refl
+    (record {
+      standings = c.follow.new.self.standings;
+      messages = c.follow.new.self.messages;
+      receipts = c.follow.new.self.receipts;
+      tally = c.take_fact-2.new.tally;
+      due = c.follow.new.self.due;
+      numbers = c.follow.new.self.numbers;
     })
-    (are-stored stores) in
-    holds s t u i held stores traffic q move refl c.refresh-2.new.self
-    (ap (λ (k : KeepingMap Place Message). k.content) (c.refresh-2.ensures.messages ∙ c.follow.ensures.messages))
-    (ap (λ (k : KeepingMap Place ReceivedReceipt). k.content) (c.refresh-2.ensures.receipts ∙ c.follow.ensures.receipts))
-    (ap (λ (v : GroupsValue). v.members) (c.refresh-2.ensures.standings ∙ c.follow.ensures.standings))
-    (c.in_ok-refresh-2.ensures.facts are
-    ∙ (λ j. set_at (c.in_ok-follow.ensures.facts (are-stored stores) j) q (get (facts_of s (stored_traffic (mc j) (rc j))) q))
-    ∙ facts-taken s t u i held stores traffic q move refl cs tells)
-    (c.in_ok-refresh-2.ensures.notes are
-    ∙ (λ j. with_listing (c.in_ok-follow.ensures.notes (are-stored stores) j) q (list_held (gs j) q))
-    ∙ notes-taken s t u i held stores traffic q move refl cs tells)
+    (ap (λ (k : KeepingMap Place Message). k.content) c.follow.ensures.messages)
+    (ap (λ (k : KeepingMap Place ReceivedReceipt). k.content) c.follow.ensures.receipts)
+    (ap (λ (v : GroupsValue). v.members) c.follow.ensures.standings)
+    (taken
+    ∙ (λ j. remove (c.in_ok-follow.ensures.facts (are-stored stores) j) q)
+    ∙ facts-gone s t u i held stores traffic q move refl free apart apart cs tells)
+    (c.take_fact-2.ensures.notes
+    ∙ c.in_ok-follow.ensures.notes (are-stored stores) (unlisted s t u i held stores traffic q move refl (λ m e. apart))
+    ∙ notes-gone s t u i held stores traffic q move refl free apart apart cs tells)
+    (c.in_ok-follow.ensures.due (due-went s t i held q m there stores.messages gone-due)
+    ∙ due-dropped stores q free c.follow.new.self.tally.facts taken)
+    (ap (λ (n : NumbersValue). n.numbers) c.follow.ensures.numbers ∙ numbers-went s t i held q m there c.in_ok-take_number.ensures.value)

@@ -18,6 +18,8 @@ returns-in_ok-forget-clause-held c = λ s t of_traffic held.
       members = (held i).members;
       facts = (c.in_ok-forget.ensures.facts ∙ ap (λ (h : Holding). h.facts) held) i;
       notes = (c.in_ok-forget.ensures.ok ∙ ap (λ (h : Holding). remove h.notes note) held ∙ sym (note-taken s t note of_traffic)) i;
+      due = (held i).due;
+      numbers = (held i).numbers;
     }
 
 pub returns-else-is_noted-clause-held : goal.returns-else-is_noted-clause-held
@@ -32,4 +34,6 @@ returns-else-is_noted-clause-held c = λ s t of_traffic held.
       facts = (held i).facts;
       notes = (sym (remove-none listed_total listed_exact c.args.self.now.tally.notes note none)
           ∙ ap (λ (h : Holding). remove h.notes note) held ∙ sym (note-taken s t note of_traffic)) i;
+      due = (held i).due;
+      numbers = (held i).numbers;
     }

@@ -1,9 +1,10 @@
 use Rattle.std.proofs.Common.{◌≡◌, Option, List, Some, None, subst, refl, ap, sym, ◌∙◌, rules}
-use Rattle.std.specs.FinMap.{get}
+use Rattle.std.specs.FinMap.{FinMap, get}
 use Rattle.std.specs.Option.{option_copied}
 use Rattle.std.specs.Prelude.{option_map}
 use Rattle.smq_shelf.specs.Keeping.{KeepingMap}
 use Rattle.smq_kit.specs.Maps.{set_at}
+use Rattle.smq_kit.specs.Orders.{place_cmp}
 use Rattle.smq_kit.specs.declared.place.Place.{Place}
 use Rattle.smq_kit.proofs.PlaceOrders.{places_total, places_exact}
 use Rattle.smq_tally.proofs.Undone.{remove-none}
@@ -12,11 +13,13 @@ use Rattle.smq_group.specs.Changes.{TellsChanges}
 use Rattle.smq_group.specs.Groups.{GroupsValue}
 use Rattle.smq_group.specs.Matching.{Grouping, GroupedReceipt}
 use Rattle.smq_book.specs.declared.index.index.Index.{Index}
-use Rattle.smq_book.specs.index.Held.{AreOf, Holding, held_of, list_held, receipts_in, stored_traffic, with_listing}
+use Rattle.smq_route.specs.Numbers.{NumbersValue}
+use Rattle.smq_book.specs.index.Due.{due_in}
+use Rattle.smq_book.specs.index.Held.{AreOf, AreUnlisted, Holding, held_of, list_held, messages_in, receipts_in, stored_traffic, with_listing}
 use Rattle.smq_book.specs.join.Facts.{facts_of}
 use Rattle.smq_book.specs.join.Moves.{take_receipt}
 use Rattle.smq_book.specs.pairing.Traffic.{Message, ReceivedReceipt}
-use Rattle.smq_book.proofs.lemmas.index.Followed.{are-stored, facts-taken, holds, notes-taken, stored-forgotten, stored-held}
+use Rattle.smq_book.proofs.lemmas.index.Followed.{are-stored, due-kept, facts-taken, holds, notes-taken, stored-forgotten, stored-held, unlisted}
 use Rattle.smq_book.proofs.lemmas.index.Members.{receipt-there}
 use Rattle.smq_book.proofs.lemmas.index.Stored.{stored-at}
 use Rattle.smq_book.proofs.lemmas.join.MoveLemmas.{take_receipt-moves}
@@ -63,6 +66,7 @@ returns-clause-held c = λ t traffic held.
     let cs = c.as_slice.result.now in
     let tells : TellsChanges g h cs =
     subst (λ (l : List Change). TellsChanges g h l) (sym c.as_slice.ensures.value) c.in_ok-changes.ensures.changes in
+    let free = unlisted s t u i held stores traffic q move refl ((stored-held s t i traffic held).stands.apart q) in
     let gs = ap (λ (v : GroupsValue). v.members) c.follow.ensures.standings in
     let mc = ap (λ (k : KeepingMap Place Message). k.content) c.follow.ensures.messages in
     let rc = ap (λ (k : KeepingMap Place ReceivedReceipt). k.content) c.follow.ensures.receipts in
@@ -72,6 +76,8 @@ returns-clause-held c = λ t traffic held.
       messages = sym c.follow.ensures.messages j;
       receipts = sym c.follow.ensures.receipts j;
       tally = c.follow.new.self.tally;
+      due = c.follow.new.self.due;
+      numbers = c.follow.new.self.numbers;
     })
     (are-stored stores) in
     holds s t u i held stores traffic q move refl c.refresh.new.self
@@ -82,5 +88,11 @@ returns-clause-held c = λ t traffic held.
     ∙ (λ j. set_at (c.in_ok-follow.ensures.facts (are-stored stores) j) q (get (facts_of s (stored_traffic (mc j) (rc j))) q))
     ∙ facts-taken s t u i held stores traffic q move refl cs tells)
     (c.in_ok-refresh.ensures.notes are
-    ∙ (λ j. with_listing (c.in_ok-follow.ensures.notes (are-stored stores) j) q (list_held (gs j) q))
+    (subst (λ (m : FinMap place_cmp Message). AreUnlisted m c.follow.new.self.tally.notes) (sym (ap messages_in mc))
+    (c.in_ok-follow.ensures.unlisted (are-stored stores) free))
+    ∙ (λ j. with_listing (c.in_ok-follow.ensures.notes (are-stored stores) free j) q (list_held (gs j) q))
     ∙ notes-taken s t u i held stores traffic q move refl cs tells)
+    (c.in_ok-refresh.ensures.due (c.in_ok-follow.ensures.due (due-kept s t i held stores.messages)
+    ∙ (λ j. due_in (messages_in (sym mc j)) c.follow.new.self.tally.facts))
+    ∙ (λ j. due_in (messages_in (mc j)) c.refresh.new.self.tally.facts))
+    (ap (λ (n : NumbersValue). n.numbers) (c.refresh.ensures.numbers ∙ c.follow.ensures.numbers) ∙ ap (λ (h : Holding). h.numbers) held)

@@ -1,0 +1,24 @@
+-- What is held and paired is what the PDUs so far leave of it.
+use Rattle.std.proofs.Common.{◌≡◌, ◌≢◌, ℕ, ◌++◌, take}
+use Rattle.smq_kit.specs.declared.place.Dir.TheVariants.{FromCentre}
+use Rattle.smq_book.specs.index.Held.{held_now, held_settled, traffic_held}
+use Rattle.smq_book.specs.index.Pairs.{pairs_now, pairs_settled}
+use Rattle.smq_book.specs.index.Pushed.{IsHeldAfter, IsSaidBy, origin_at, pushed_moves}
+use Rattle.smq_book.specs.pairing.Traffic.{pairing_among}
+use Rattle.smq_book.specs.present.Kept.{kept_pdus}
+use Rattle.smq_book.proofs.index.append.push_all_of_centre.Given as goal
+
+abbrev pub invariant-loop-pdu : goal.invariant-loop-pdu
+invariant-loop-pdu l = record {
+  held : IsHeldAfter l.settings (held_now l.initial.index)
+      (pushed_moves (origin_at l.number l.session.link) FromCentre (kept_pdus l.session.client) (kept_pdus l.session.centre)
+      (take l.pdu-index l.pdus))
+      (held_now l.index);
+  said : IsSaidBy (origin_at l.number l.session.link) (kept_pdus l.session.client) (kept_pdus l.session.centre ++ take l.pdu-index l.pdus)
+      (traffic_held (held_now l.index));
+  pairs : pairs_now l.pairings l.number.0
+      ≡ pairing_among (origin_at l.number l.session.link) (kept_pdus l.session.client) (kept_pdus l.session.centre ++ take l.pdu-index l.pdus);
+  settled : held_settled l.index ≡ held_settled l.initial.index;
+  other_pairs : (other : ℕ) → other ≢ l.number.0 → pairs_now l.pairings other ≡ pairs_now l.initial.pairings other;
+  settled_pairs : (other : ℕ) → pairs_settled l.pairings other ≡ pairs_settled l.initial.pairings other;
+}

@@ -1,0 +1,63 @@
+use Rattle.std.proofs.Common.{List, ◌++◌, take, sym, ap, subst, ◌∙◌}
+use Rattle.smq_kit.specs.declared.place.Dir.TheVariants.{FromClient}
+use Rattle.smq_pair.specs.Growth.{IsNext, pushed}
+use Rattle.smq_pair.specs.Pairing.{PairingValue}
+use Rattle.smq_book.specs.declared.present.kept.KeptPdu.{KeptPdu}
+use Rattle.smq_book.specs.present.Kept.{kept_pdus}
+use Rattle.smq_book.specs.index.Held.{held_now, traffic_held}
+use Rattle.smq_book.specs.index.Pushed.{IsHeldAfter, origin_at, pdu_moves}
+use Rattle.smq_book.specs.pairing.Traffic.{pairing_among, place_of, placed}
+use Rattle.smq_book.specs.within.Pairs.{Rises}
+use Rattle.smq_book.proofs.lemmas.pairing.PlacesRise.{kept-rise}
+use Rattle.smq_book.proofs.lemmas.index.Said.{asks-to, client-free, client-held, client-next, client-pairs, client-said, rises-to}
+use Rattle.smq_book.proofs.index.append.push_all_of_client.Goals as goal
+
+pub push_of_client-requires-clause-absent : goal.push_of_client-requires-clause-absent
+push_of_client-requires-clause-absent c =
+    let s = c.args.session.now in
+    client-free (origin_at c.args.number s.link) (kept_pdus s.client) (kept_pdus s.centre) c.args.pdus.now c.loop-pdu.pdu-index c.pdu-item.result
+    c.loop-pdu-test.true c.pdu-item.is c.requires.rises (traffic_held (held_now c.loop-pdu.index)) c.loop-pdu.invariant.said
+
+pub push_of_client-requires-clause-next : goal.push_of_client-requires-clause-next
+push_of_client-requires-clause-next c =
+    let s = c.args.session.now in
+    let origin = origin_at c.args.number s.link in
+    subst (λ (v : PairingValue). IsNext v (place_of origin FromClient c.pdu-item.result)) (sym c.loop-pdu.invariant.pairs)
+    (client-next origin (kept_pdus s.client) (kept_pdus s.centre) c.args.pdus.now c.loop-pdu.pdu-index c.pdu-item.result
+    c.loop-pdu-test.true c.pdu-item.is c.requires.rises)
+
+pub push_of_client-requires-clause-centre : goal.push_of_client-requires-clause-centre
+push_of_client-requires-clause-centre c =
+    subst (λ (ps : List KeptPdu). Rises 0 ps) (sym c.pdus-centre.ensures) (kept-rise c.args.session.now.centre)
+
+-- What the PDU leaves is what it leaves among those that came, and so it is with those that come next.
+pub loop-pdu-preserved : goal.loop-pdu-preserved
+loop-pdu-preserved c =
+    let s = c.args.session.now in
+    let origin = origin_at c.args.number s.link in
+    let client = kept_pdus s.client in
+    let centre = kept_pdus s.centre in
+    let pdus = c.args.pdus.now in
+    let i = c.loop-pdu.pdu-index in
+    let x = c.pdu-item.result in
+    let before = held_now c.loop-pdu.index in
+    let after = held_now c.push_of_client.new.index in
+    let rises = rises-to origin client centre pdus i x c.loop-pdu-test.true c.pdu-item.is client c.requires.rises in
+    let asks = asks-to origin client centre pdus i x c.loop-pdu-test.true c.pdu-item.is client c.requires.asks in
+    let step : IsHeldAfter c.args.settings.now before (pdu_moves origin FromClient (client ++ take i pdus) centre x) after =
+    subst (λ (ps : List KeptPdu). IsHeldAfter c.args.settings.now before (pdu_moves origin FromClient (client ++ take i pdus) ps x) after)
+    c.pdus-centre.ensures
+    (c.in_ok-push_of_client.ensures.held (client ++ take i pdus) rises asks
+    (c.loop-pdu.invariant.pairs ∙ ap (λ (ps : List KeptPdu). pairing_among origin (client ++ take i pdus) ps) (sym c.pdus-centre.ensures))) in
+    record {
+      held = client-held origin client centre pdus i x c.loop-pdu-test.true c.pdu-item.is c.args.settings.now (held_now c.args.index.now) before after
+          c.loop-pdu.invariant.held step;
+      said = client-said origin client centre pdus i x c.loop-pdu-test.true c.pdu-item.is c.requires.rises (traffic_held before) (traffic_held after)
+          c.loop-pdu.invariant.said step.traffic;
+      pairs = c.in_ok-push_of_client.ensures.pairs
+          ∙ ap (λ (v : PairingValue). pushed v (placed origin FromClient x)) c.loop-pdu.invariant.pairs
+          ∙ client-pairs origin client centre pdus i x c.loop-pdu-test.true c.pdu-item.is;
+      settled = c.push_of_client.ensures.settled ∙ c.loop-pdu.invariant.settled;
+      other_pairs = λ other apart. c.push_of_client.ensures.other_pairs other apart ∙ c.loop-pdu.invariant.other_pairs other apart;
+      settled_pairs = λ other. c.push_of_client.ensures.settled_pairs other ∙ c.loop-pdu.invariant.settled_pairs other;
+    }

@@ -1,0 +1,18 @@
+-- What is held, with those that are left, is what all leave.
+use Rattle.std.proofs.Common.{◌≡◌}
+use Rattle.std.specs.Prelude.{map}
+use Rattle.std.specs.Vec.Iter.{into_iter_items}
+use Rattle.smq_kit.specs.declared.place.Dir.TheVariants.{FromClient}
+use Rattle.smq_book.specs.index.Held.{IsHeld, held_now, held_settled, traffic_held}
+use Rattle.smq_book.specs.index.LinkOut.{AllFrom}
+use Rattle.smq_book.specs.join.Moves.{PutMessage, moved_by}
+use Rattle.smq_book.proofs.index.forms.put_messages.Given as goal
+
+abbrev pub invariant-loop-place : goal.invariant-loop-place
+invariant-loop-place l = record {
+  held : IsHeld l.settings (held_now l.index);
+  traffic : moved_by (traffic_held (held_now l.index)) (map PutMessage (into_iter_items l.place-iterator))
+      ≡ moved_by (traffic_held (held_now l.initial.index)) (map PutMessage l.fn.messages.items);
+  dirs : AllFrom FromClient (into_iter_items l.place-iterator);
+  settled : held_settled l.index ≡ held_settled l.initial.index;
+}

@@ -1,0 +1,49 @@
+use Rattle.std.proofs.Common.{◌∷◌, [], ap, ◌∙◌}
+use Rattle.std.specs.FinMap.{FinMap, get}
+use Rattle.smq_kit.specs.Orders.{place_cmp}
+use Rattle.smq_kit.proofs.MapLemmas.{get-removed}
+use Rattle.smq_kit.proofs.PlaceOrders.{places_total, places_exact}
+use Rattle.smq_book.specs.index.Held.{Holding, held_now, traffic_held}
+use Rattle.smq_book.specs.index.Pushed.{IsHeldAfter}
+use Rattle.smq_book.specs.join.Moves.{PutReceipt, TakeReceipt}
+use Rattle.smq_book.specs.pairing.Traffic.{ReceivedReceipt}
+use Rattle.smq_book.proofs.lemmas.index.Followed.{are-held}
+use Rattle.smq_book.proofs.lemmas.index.LinkOut.{put-anew}
+use Rattle.smq_book.proofs.lemmas.index.Pushed.{after-both, after-one}
+use Rattle.smq_book.proofs.index.forms.put_receipt_at.Goals as goal
+
+pub put_receipt-requires-clause-are : goal.put_receipt-requires-clause-are
+put_receipt-requires-clause-are c =
+    let s = c.args.settings.now in
+    let g = held_now c.args.index.now in
+    let taken = held_now c.take_receipt.new.self in
+    let first = after-one s g taken (TakeReceipt c.args.place) c.requires.held tt
+    (c.in_ok-take_receipt.ensures.held (traffic_held g) c.requires.held.traffic c.requires.held.held) in
+    are-held s (traffic_held taken) c.take_receipt.new.self first.held.traffic first.held.held
+
+pub put_receipt-requires-clause-absent : goal.put_receipt-requires-clause-absent
+put_receipt-requires-clause-absent c =
+    let g = held_now c.args.index.now in
+    ap (λ (h : Holding). get h.receipts c.args.place)
+    (c.in_ok-take_receipt.ensures.held (traffic_held g) c.requires.held.traffic c.requires.held.held)
+    ∙ get-removed places_total places_exact g.receipts c.args.place
+
+-- What was there is taken out before, which leaves what is put in.
+pub returns-clause-held : goal.returns-clause-held
+returns-clause-held c =
+    let s = c.args.settings.now in
+    let g = held_now c.args.index.now in
+    let q = c.args.place in
+    let x : ReceivedReceipt = c.args.receipt in
+    let taken = held_now c.take_receipt.new.self in
+    let put = held_now c.put_receipt.new.self in
+    let first = after-one s g taken (TakeReceipt q) c.requires.held tt
+    (c.in_ok-take_receipt.ensures.held (traffic_held g) c.requires.held.traffic c.requires.held.held) in
+    let second = after-one s taken put (PutReceipt (q, x)) first.held c.requires.dir
+    (c.in_ok-put_receipt.ensures.held (traffic_held taken) first.held.traffic first.held.held) in
+    let both : IsHeldAfter s g (TakeReceipt q ∷ PutReceipt (q, x) ∷ []) put = after-both s g taken put first second in
+    record {
+      held = both.held;
+      traffic = both.traffic ∙ ap (λ (m : FinMap place_cmp ReceivedReceipt). record (traffic_held g) { receipts = m })
+          (put-anew g.receipts q x);
+    }

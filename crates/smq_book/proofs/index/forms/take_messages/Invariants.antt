@@ -1,0 +1,16 @@
+-- What is held is what the places so far leave of it, and what stood there is taken.
+use Rattle.std.proofs.Common.{◌≡◌, drop}
+use Rattle.std.specs.Prelude.{map}
+use Rattle.smq_book.specs.index.Held.{IsHeld, held_now, held_settled, traffic_held}
+use Rattle.smq_book.specs.index.LinkOut.{TakesOut}
+use Rattle.smq_book.specs.join.Moves.{TakeMessage, moved_by}
+use Rattle.smq_book.proofs.index.forms.take_messages.Given as goal
+
+abbrev pub invariant-loop-place : goal.invariant-loop-place
+invariant-loop-place l = record {
+  held : IsHeld l.settings (held_now l.index);
+  traffic : moved_by (traffic_held (held_now l.index)) (map TakeMessage (drop l.place-index l.places))
+      ≡ moved_by (traffic_held (held_now l.initial.index)) (map TakeMessage l.places);
+  taken : TakesOut (held_now l.initial.index).messages l.taken.items (held_now l.index).messages;
+  settled : held_settled l.index ≡ held_settled l.initial.index;
+}

@@ -1,0 +1,16 @@
+-- What is held is what the places so far leave of it, and what stood there is taken.
+use Rattle.std.proofs.Common.{◌≡◌, drop}
+use Rattle.std.specs.Prelude.{map}
+use Rattle.smq_book.specs.index.Held.{IsHeld, held_now, held_settled, traffic_held}
+use Rattle.smq_book.specs.index.LinkOut.{TakesOut}
+use Rattle.smq_book.specs.join.Moves.{TakeReceipt, moved_by}
+use Rattle.smq_book.proofs.index.forms.take_receipts.Given as goal
+
+abbrev pub invariant-loop-place : goal.invariant-loop-place
+invariant-loop-place l = record {
+  held : IsHeld l.settings (held_now l.index);
+  traffic : moved_by (traffic_held (held_now l.index)) (map TakeReceipt (drop l.place-index l.places))
+      ≡ moved_by (traffic_held (held_now l.initial.index)) (map TakeReceipt l.places);
+  taken : TakesOut (held_now l.initial.index).receipts l.taken.items (held_now l.index).receipts;
+  settled : held_settled l.index ≡ held_settled l.initial.index;
+}

@@ -1,0 +1,78 @@
+use Rattle.std.proofs.Common.{◌≡◌, Option, Some, None, refl, ap, sym, ◌∙◌, rules}
+use Rattle.std.specs.FinMap.{get, insert}
+use Rattle.std.specs.Option.{option_copied}
+use Rattle.std.specs.Prelude.{is_some}
+use Rattle.smq_kit.specs.Maps.{set_at}
+use Rattle.smq_kit.specs.declared.place.Place.{Place}
+use Rattle.smq_tally.specs.declared.fact.Fact.{Fact}
+use Rattle.smq_book.specs.index.Due.{due_at, due_in, is_open_fact}
+use Rattle.smq_book.specs.index.Held.{messages_in, noted, stored_traffic}
+use Rattle.smq_book.specs.pairing.Traffic.{Message}
+use Rattle.smq_book.proofs.lemmas.index.Due.{due-fact, due-fact-absent, noted-marked}
+use Rattle.smq_book.proofs.lemmas.index.Stored.{fact-absent, stored-at}
+use Rattle.smq_book.proofs.index.index.Index.set_fact_by.Goals as goal
+
+pub returns-in_default-clause-is_message : goal.returns-in_default-clause-is_message
+returns-in_default-clause-is_message c =
+    let i = c.args.self.now in
+    let q = c.args.place in
+    let gone : ◌≡◌ {A = Option Message} None (option_copied c.get.result) = search rules in
+    let none : get (messages_in i.messages.content) q ≡ None = sym (gone ∙ c.get.ensures ∙ stored-at i.messages.content q) in
+    ap is_some (sym none)
+
+pub returns-in_default-clause-facts : goal.returns-in_default-clause-facts
+returns-in_default-clause-facts c = λ z versions clock are.
+    let i = c.args.self.now in
+    let q = c.args.place in
+    let gone : ◌≡◌ {A = Option Message} None (option_copied c.get.result) = search rules in
+    let none : get (messages_in i.messages.content) q ≡ None = sym (gone ∙ c.get.ensures ∙ stored-at i.messages.content q) in
+    c.in_ok-take_fact.ensures.facts
+    ∙ ap (set_at i.tally.facts q)
+    (sym (fact-absent z (stored_traffic i.messages.content i.receipts.content) i.standings.members are q none))
+
+pub returns-in_default-clause-due : goal.returns-in_default-clause-due
+returns-in_default-clause-due c = λ same.
+    let i = c.args.self.now in
+    let q = c.args.place in
+    let gone : ◌≡◌ {A = Option Message} None (option_copied c.get.result) = search rules in
+    let none : get (messages_in i.messages.content) q ≡ None = sym (gone ∙ c.get.ensures ∙ stored-at i.messages.content q) in
+    same
+    ∙ sym (due-fact-absent (messages_in i.messages.content) i.tally.facts q None none)
+    ∙ ap (due_in (messages_in i.messages.content)) (sym c.in_ok-take_fact.ensures.facts)
+
+pub returns-clause-is_message : goal.returns-clause-is_message
+returns-clause-is_message c =
+    let i = c.args.self.now in
+    let q = c.args.place in
+    let m = c.in-Some.message.now in
+    let some : ◌≡◌ {A = Option Message} (Some m) (option_copied c.get.result) = search rules in
+    let there : get (messages_in i.messages.content) q ≡ Some m = sym (some ∙ c.get.ensures ∙ stored-at i.messages.content q) in
+    ap is_some (sym there)
+
+pub returns-clause-facts : goal.returns-clause-facts
+returns-clause-facts c = λ z versions clock are.
+    let i = c.args.self.now in
+    let q = c.args.place in
+    let m = c.in-Some.message.now in
+    let some : ◌≡◌ {A = Option Message} (Some m) (option_copied c.get.result) = search rules in
+    let there : get (messages_in i.messages.content) q ≡ Some m = sym (some ∙ c.get.ensures ∙ stored-at i.messages.content q) in
+    c.in_ok-set_fact.ensures.facts
+    ∙ ap (λ (p : Place). insert i.tally.facts p c.fact_at-fact.result) c.fact_at-fact.ensures.place
+    ∙ ap (set_at i.tally.facts q)
+    (c.fact_at-fact.ensures.value z (stored_traffic i.messages.content i.receipts.content) versions clock are refl there)
+
+pub returns-clause-due : goal.returns-clause-due
+returns-clause-due c = λ same.
+    let i = c.args.self.now in
+    let q = c.args.place in
+    let m = c.in-Some.message.now in
+    let ms = messages_in i.messages.content in
+    let fact : Fact = c.fact_at-fact.result in
+    let some : ◌≡◌ {A = Option Message} (Some m) (option_copied c.get.result) = search rules in
+    let there : get ms q ≡ Some m = sym (some ∙ c.get.ensures ∙ stored-at i.messages.content q) in
+    let sets = c.in_ok-set_fact.ensures.facts ∙ ap (λ (p : Place). insert i.tally.facts p fact) c.fact_at-fact.ensures.place in
+    c.in_ok-set_due.ensures.value
+    ∙ (λ j. set_at (same j) (due_at (c.message.view_is j).moment q) (noted (c.is_open-is_open.ensures j)))
+    ∙ ap (set_at (due_in ms i.tally.facts) (due_at m.moment q)) (noted-marked (is_open_fact (Some fact)))
+    ∙ sym (due-fact ms i.tally.facts q (Some fact) m there)
+    ∙ ap (due_in ms) (sym sets)

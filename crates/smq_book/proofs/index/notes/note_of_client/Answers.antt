@@ -1,0 +1,22 @@
+use Rattle.std.proofs.Common.{◌++◌}
+use Rattle.smq_kit.specs.declared.place.Dir.TheVariants.{FromClient}
+use Rattle.smq_pair.specs.Pairing.{placed_header}
+use Rattle.smq_book.specs.edits.AppendedNotes.{met_moves, undecodable_moves}
+use Rattle.smq_book.specs.index.Held.{held_now}
+use Rattle.smq_book.specs.index.Pushed.{noted_moves}
+use Rattle.smq_book.specs.within.Pairs.{from_session}
+use Rattle.smq_book.proofs.lemmas.index.Pushed.{after-both, after-same, noted-client}
+use Rattle.smq_book.proofs.index.notes.note_of_client.Goals as goal
+
+pub returns-clause-held : goal.returns-clause-held
+returns-clause-held c = λ s is.
+    let origin = from_session c.args.session in
+    let next = c.args.pdu.now in
+    let q = c.place_of-place.result in
+    let first = c.in_ok-note_met.ensures.held s is in
+    after-same s (held_now c.args.index.now) (held_now c.note_undecodable.new.index)
+    (met_moves (placed_header q next.command 0 0) c.args.made ++ undecodable_moves origin FromClient next)
+    (noted_moves origin FromClient next c.args.made)
+    (noted-client origin next c.args.made q c.place_of-place.ensures)
+    (after-both s (held_now c.args.index.now) (held_now c.note_met.new.index) (held_now c.note_undecodable.new.index) first
+    (c.in_ok-note_undecodable.ensures.held s first.held))

@@ -1,0 +1,18 @@
+-- The facts of the places so far are set anew.
+use Rattle.std.proofs.Common.{◌≡◌, take}
+use Rattle.std.specs.FinMap.{FinMap}
+use Rattle.smq_kit.specs.Orders.{place_cmp}
+use Rattle.smq_tally.specs.declared.fact.Fact.{Fact}
+use Rattle.smq_book.specs.present.Settings.{SettingsValue}
+use Rattle.smq_book.specs.pairing.Traffic.{TrafficValue}
+use Rattle.smq_book.specs.index.Held.{IsTraffic, held_by, held_now, held_settled}
+use Rattle.smq_book.specs.index.Refreshed.{refreshed}
+use Rattle.smq_book.proofs.index.routes.refresh_at.Given as goal
+
+abbrev pub invariant-loop-place : goal.invariant-loop-place
+invariant-loop-place l = record {
+  held : (z : SettingsValue) (t : TrafficValue) (facts : FinMap place_cmp Fact)
+      → IsTraffic t → z.versions ≡ l.routes.versions → z.clock ≡ l.clock → held_now l.initial.index ≡ held_by z t facts
+      → held_now l.index ≡ held_by z t (refreshed z t facts (take l.place-index l.places));
+  settled : held_settled l.index ≡ held_settled l.initial.index;
+}

@@ -1,0 +1,13 @@
+-- What is held is what the PDUs so far leave of it.
+use Rattle.std.proofs.Common.{◌≡◌, take}
+use Rattle.smq_book.specs.index.Held.{held_now, held_settled}
+use Rattle.smq_book.specs.index.Pushed.{IsHeldAfter}
+use Rattle.smq_book.specs.index.Taken.{receipt_takes}
+use Rattle.smq_book.specs.within.Pairs.{from_session}
+use Rattle.smq_book.proofs.index.withdraw.take_receipts.Given as goal
+
+abbrev pub invariant-loop-pdu : goal.invariant-loop-pdu
+invariant-loop-pdu l = record {
+  held : IsHeldAfter l.settings (held_now l.initial.index) (receipt_takes (from_session l.number) (take l.pdu-index l.centre)) (held_now l.index);
+  settled : held_settled l.index ≡ held_settled l.initial.index;
+}

@@ -1,0 +1,39 @@
+use Rattle.std.proofs.Common.{◌≡◌, [], ◌∷◌, Option, Some, None, ◌∙◌, rules}
+use Rattle.std.specs.Option.{option_copied}
+use Rattle.smq_receipt.specs.declared.reading.Receipt.{Receipt}
+use Rattle.smq_book.specs.index.Held.{held_now, traffic_held}
+use Rattle.smq_book.specs.index.Taken.{receipt_take}
+use Rattle.smq_book.specs.join.Moves.{TakeReceipt}
+use Rattle.smq_book.specs.within.Pairs.{from_session}
+use Rattle.smq_book.proofs.lemmas.index.Followed.{are-held}
+use Rattle.smq_book.proofs.lemmas.index.Pushed.{after-none, after-one, after-same}
+use Rattle.smq_book.proofs.lemmas.index.Taken.{receipt-absent, receipt-taken}
+use Rattle.smq_book.proofs.index.withdraw.take_received.Goals as goal
+
+pub returns-in_default-clause-held : goal.returns-in_default-clause-held
+returns-in_default-clause-held c =
+    let s = c.args.settings.now in
+    let g = held_now c.args.index.now in
+    let origin = from_session c.args.number in
+    let gone : ◌≡◌ {A = Option Receipt} None (option_copied c.receipt.result) = search rules in
+    after-same s g g [] (receipt_take origin c.args.pdu.now) (receipt-absent origin c.args.pdu.now (gone ∙ c.receipt.ensures))
+    (after-none s g c.requires)
+
+pub take_receipt-requires : goal.take_receipt-requires
+take_receipt-requires c = record {
+  are = are-held c.args.settings.now (traffic_held (held_now c.args.index.now)) c.args.index.now c.requires.traffic c.requires.held;
+}
+
+pub returns-clause-held : goal.returns-clause-held
+returns-clause-held c =
+    let s = c.args.settings.now in
+    let g = held_now c.args.index.now in
+    let h = held_now c.take_receipt.new.self in
+    let origin = from_session c.args.number in
+    let q = c.place_of.result in
+    let receipt = c.in-Some.field-0.now in
+    let some : ◌≡◌ {A = Option Receipt} (Some receipt) (option_copied c.receipt.result) = search rules in
+    after-same s g h (TakeReceipt q ∷ []) (receipt_take origin c.args.pdu.now)
+    (receipt-taken origin c.args.pdu.now q receipt c.place_of.ensures (some ∙ c.receipt.ensures))
+    (after-one s g h (TakeReceipt q) c.requires tt
+    (c.in_ok-take_receipt.ensures.held (traffic_held g) c.requires.traffic c.requires.held))

@@ -1,0 +1,43 @@
+use Rattle.std.proofs.Common.{◌≡◌, ◌++◌, List, subst, ap, sym, ◌∙◌}
+use Rattle.smq_tally.specs.declared.list.Listed.{Listed}
+use Rattle.smq_book.specs.present.Settings.{SettingsValue}
+use Rattle.smq_book.specs.pairing.Traffic.{session_notes}
+use Rattle.smq_book.specs.index.Held.{IsHeld, held_now}
+use Rattle.smq_book.specs.index.Taken.{AllTraffic}
+use Rattle.smq_book.proofs.lemmas.index.Pushed.{after-both}
+use Rattle.smq_book.proofs.lemmas.index.Taken.{session-lists, withdrawn-after}
+use Rattle.smq_book.proofs.index.withdraw.withdraw.Goals as goal
+
+pub take_messages-requires : goal.take_messages-requires
+take_messages-requires c = subst (λ (s : SettingsValue). IsHeld s (held_now c.args.index.now)) (sym c.settings-settings.ensures) c.requires.held
+
+pub take_receipts-requires : goal.take_receipts-requires
+take_receipts-requires c = c.in_ok-take_messages.ensures.held.held
+
+pub take_notes-requires : goal.take_notes-requires
+take_notes-requires c =
+    let noted : c.as_slice.result.now ≡ session_notes (c.args.number.0, c.args.session.now) =
+    c.as_slice.ensures.value ∙ c.in_ok-push_notes.ensures.notes
+    ∙ ap (λ (before : List Listed). before ++ session_notes (c.args.number.0, c.args.session.now)) c.new-notes.ensures.items in
+    subst AllTraffic (sym noted) (session-lists (c.args.number.0, c.args.session.now))
+
+pub returns-clause-held : goal.returns-clause-held
+returns-clause-held c =
+    let last = c.in_ok-take_notes.ensures.held c.settings-settings.result.now c.in_ok-take_receipts.ensures.held.held in
+    subst (λ (s : SettingsValue). IsHeld s (held_now c.take_notes.new.index)) c.settings-settings.ensures last.held
+
+pub returns-clause-traffic : goal.returns-clause-traffic
+returns-clause-traffic c =
+    let s = c.settings-settings.result.now in
+    let g = held_now c.args.index.now in
+    let taken = held_now c.take_messages.new.index in
+    let received = held_now c.take_receipts.new.index in
+    let last = held_now c.take_notes.new.index in
+    let noted : c.as_slice.result.now ≡ session_notes (c.args.number.0, c.args.session.now) =
+    c.as_slice.ensures.value ∙ c.in_ok-push_notes.ensures.notes
+    ∙ ap (λ (before : List Listed). before ++ session_notes (c.args.number.0, c.args.session.now)) c.new-notes.ensures.items in
+    withdrawn-after c.args.present.now.sessions c.args.number.0 c.args.session.now c.requires.there s g last
+    c.pdus.result.now c.pdus-2.result.now c.as_slice.result.now c.pdus.ensures c.pdus-2.ensures noted c.requires.traffic
+    (after-both s g taken last c.in_ok-take_messages.ensures.held
+    (after-both s taken received last c.in_ok-take_receipts.ensures.held
+    (c.in_ok-take_notes.ensures.held s c.in_ok-take_receipts.ensures.held.held)))

@@ -1,0 +1,63 @@
+-- Forms of a link that are set while all of it is out, and forms that are brought back.
+use Rattle.std.proofs.Common.{◌≡◌, ◌≢◌, ℕ, Bool, true, false, cond, List, Option, Some, refl, sym, ap, ◌∙◌, subst}
+use Rattle.std.specs.Prelude.{unwrap_or}
+use Rattle.std.specs.Option.{IsSome}
+use Rattle.std.specs.Cmp.{nat_cmp_total, tied_itself}
+use Rattle.std.specs.Ordering.{eq_by_cmp, is_eq, nat_cmp}
+use Rattle.std.specs.FinMap.{FinMap, get, get-insert, insert, same_map, nat_cmp-IsAntisymmetric}
+use Rattle.smq_kit.specs.declared.names.LinkId.{LinkId}
+use Rattle.smq_kit.specs.declared.place.Place.{Place}
+use Rattle.smq_kit.specs.Maps.{set_at}
+use Rattle.smq_kit.proofs.MapLemmas as maps
+use Rattle.smq_book.specs.declared.present.forms.Forms.{Forms}
+use Rattle.smq_book.specs.present.Settings.{SettingsValue, forms_of, opening_forms, set_forms_of}
+use Rattle.smq_book.specs.present.Steps.{with_forms}
+use Rattle.smq_book.specs.pairing.Traffic.{Message, ReceivedReceipt, TrafficValue}
+use Rattle.smq_book.specs.index.Held.{Holding, IsHeld, traffic_held}
+use Rattle.smq_book.specs.index.LinkOut.{IsOut}
+use Rattle.smq_book.proofs.lemmas.index.LinkOut.{held-idle}
+
+module _ (m : FinMap nat_cmp Forms) (k : ℕ) (f : Forms) where
+  -- forms that are set are there
+  pub set-there : get (insert m k f) k ≡ Some f
+  set-there = get-insert nat_cmp_total m k f k ∙ ap (λ b. cond b (Some f) (get m k)) (ap is_eq (tied_itself nat_cmp_total k))
+
+  -- and where those before them are brought back, all are as they were
+  set-back : set_at (insert m k f) k (get m k) ≡ m
+  set-back = same_map nat_cmp_total nat_cmp-IsAntisymmetric _ _ (λ q.
+      maps.get-set_at nat_cmp_total nat_cmp-IsAntisymmetric (insert m k f) k (get m k) q
+      ∙ ap (cond (eq_by_cmp nat_cmp q k) (get m k)) (get-insert nat_cmp_total m k f q)
+      ∙ by q (eq_by_cmp nat_cmp q k) refl)
+    where
+      by : (q : ℕ) (b : Bool) → eq_by_cmp nat_cmp q k ≡ b → cond b (get m k) (cond b (Some f) (get m q)) ≡ get m q
+      by q true t = ap (get m) (sym (maps.same_key nat_cmp_total nat_cmp-IsAntisymmetric q k t))
+      by q false t = refl
+
+module _ (s : SettingsValue) (link : LinkId) (f : Forms) (z : SettingsValue) (set : z ≡ with_forms s link f) where
+  -- the forms of other links stay
+  others-stay : (other : LinkId) → other ≢ link → forms_of s other ≡ forms_of (with_forms s link f) other
+  others-stay other apart =
+      ap (λ (x : Option Forms). unwrap_or x opening_forms)
+      (sym (get-insert nat_cmp_total s.forms link.0 f other.0 ∙ by (eq_by_cmp nat_cmp other.0 link.0) refl))
+    where
+      by : (b : Bool) → eq_by_cmp nat_cmp other.0 link.0 ≡ b → cond b (Some f) (get s.forms other.0) ≡ get s.forms other.0
+      by true t = absurd (apart (λ i. record { 0 = maps.same_key nat_cmp_total nat_cmp-IsAntisymmetric other.0 link.0 t i }))
+      by false t = refl
+
+  -- what is held while nothing of the link is there, is held under its new forms
+  pub held-set : (t : TrafficValue) (ms : List (Place × Message)) (rs : List (Place × ReceivedReceipt)) (h : Holding) → IsHeld s h
+      → IsOut link t ms rs (traffic_held h) → IsHeld z h
+  held-set t ms rs h held out =
+      subst (λ (z : SettingsValue). IsHeld z h) (sym set)
+      (held-idle s (with_forms s link f) link h refl refl others-stay held out.no_message out.no_receipt)
+
+  -- the link has forms
+  pub forms-there : IsSome (set_forms_of z link.0)
+  forms-there = subst IsSome (sym (ap (λ (z : SettingsValue). get z.forms link.0) set ∙ set-there s.forms link.0 f)) refl
+
+  -- where those before are brought back, all that is set is as it was
+  pub forms-back : (before : Option Forms) (w : SettingsValue) → before ≡ set_forms_of s link.0
+      → w ≡ record z { forms = set_at z.forms link.0 before } → w ≡ s
+  forms-back before w was is =
+      is ∙ (λ i. record (set i) { forms = set_at (set i).forms link.0 (was i) })
+      ∙ ap (λ (m : FinMap nat_cmp Forms). record s { forms = m }) (set-back s.forms link.0 f)

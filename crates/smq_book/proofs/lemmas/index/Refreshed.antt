@@ -1,0 +1,79 @@
+-- What is held where the facts of places are set anew, by routes or by a clock, is that of the same traffic under what is set then.
+use Rattle.std.proofs.Common.{◌≡◌, ℕ, ◌+◌, ◌<◌, ◌≤◌, List, length, get_or, take, sym, ap, ◌∙◌}
+use Rattle.std.specs.FinMap.{FinMap, get, keys}
+use Rattle.std.specs.FinSet.{FinSet}
+use Rattle.std.proofs.lemmas.List.{take_all}
+use Rattle.std.proofs.lemmas.List.Sums.{fold_more}
+use Rattle.smq_kit.specs.declared.place.Place.{Place}
+use Rattle.smq_kit.specs.Maps.{SameOutside, set_at}
+use Rattle.smq_kit.specs.Orders.{place_cmp}
+use Rattle.smq_tally.specs.declared.fact.Fact.{Fact}
+use Rattle.smq_route.specs.Numbers.{number_cmp, places_under}
+use Rattle.smq_route.specs.Versions.{Versions}
+use Rattle.smq_book.specs.present.Settings.{SettingsValue, with_clock, with_versions}
+use Rattle.smq_book.specs.pairing.Traffic.{TrafficValue}
+use Rattle.smq_book.specs.join.Facts.{facts_of}
+use Rattle.smq_book.specs.edits.Reached.{messages_under}
+use Rattle.smq_book.specs.index.Due.{places_due}
+use Rattle.smq_book.specs.index.Held.{Holding, IsHeld, held_by, held_of, traffic_held}
+use Rattle.smq_book.specs.index.Refreshed.{refreshed}
+use Rattle.smq_book.proofs.lemmas.index.Anew.{clocked, outside-alike, set-anew}
+use Rattle.smq_book.proofs.lemmas.index.Kept.{kept}
+use Rattle.smq_book.proofs.lemmas.index.Numbered.{under-is}
+
+-- ---- in turn
+
+module _ (z : SettingsValue) (t : TrafficValue) (facts : FinMap place_cmp Fact) (places : List Place) (i : ℕ) where
+  pub refreshed-next : (d : Place) (k : Holding) → i < length places
+      → k ≡ held_by z t (set_at (refreshed z t facts (take i places)) (get_or places i d) (get (facts_of z t) (get_or places i d)))
+      → k ≡ held_by z t (refreshed z t facts (take (i + 1) places))
+  refreshed-next d k within set =
+      set ∙ ap (held_by z t) (sym (fold_more (λ m q. set_at m q (get (facts_of z t) q)) facts places i d within))
+
+  pub refreshed-all : (h : Holding) → length places ≤ i → h ≡ held_by z t (refreshed z t facts (take i places))
+      → h ≡ held_by z t (refreshed z t facts places)
+  refreshed-all h all set = set ∙ ap (λ (ps : List Place). held_by z t (refreshed z t facts ps)) (take_all i places all)
+
+-- ---- at last
+
+-- numbers that were read are as they were
+pub told-numbers : (g : Holding) (numbers : FinSet number_cmp) → numbers ≡ g.numbers → record g { numbers = numbers } ≡ g
+told-numbers g numbers same = λ i. record g { numbers = same i }
+
+-- traffic stays, whatever the facts are
+pub traffic-stays : (s : SettingsValue) (versions : Versions) (clock : ℕ) (g h : Holding) (facts : FinMap place_cmp Fact) → IsHeld s g
+    → h ≡ held_by (with_clock (with_versions s versions) clock) (traffic_held g) facts → traffic_held h ≡ traffic_held g
+traffic-stays s versions clock g h facts is set = ap traffic_held set ∙ ap traffic_held (sym is.held)
+
+module _ (s : SettingsValue) (g h : Holding) (is : IsHeld s g) where
+  -- routes that differ in versions of a prefix
+  pub routes-held : (versions : Versions) (prefix : List ℕ) (places : List Place)
+      → SameOutside (keys (messages_under prefix (traffic_held g))) (facts_of s (traffic_held g))
+      (facts_of (with_versions s versions) (traffic_held g))
+      → places ≡ places_under g.numbers prefix
+      → h ≡ held_by (with_versions s versions) (traffic_held g)
+      (refreshed (with_versions s versions) (traffic_held g) (facts_of s (traffic_held g)) places)
+      → IsHeld (with_versions s versions) h
+  routes-held versions prefix places same are set =
+      let z = with_versions s versions in
+      let t = traffic_held g in
+      kept z t h is.traffic
+      (set
+      ∙ ap (λ (ps : List Place). held_by z t (refreshed z t (facts_of s t) ps))
+      (are ∙ ap (λ (x : Holding). places_under x.numbers prefix) is.held)
+      ∙ ap (held_by z t) (set-anew (places_under (held_of s t).numbers prefix) (facts_of s t) (facts_of z t)
+      (outside-alike (places_under (held_of s t).numbers prefix) (keys (messages_under prefix t)) (facts_of s t) (facts_of z t)
+      (under-is t prefix) same)))
+
+  -- a clock that goes on
+  pub clock-held : (clock : ℕ) (places : List Place) → s.clock ≤ clock → places ≡ places_due g.due clock
+      → h ≡ held_by (with_clock s clock) (traffic_held g)
+      (refreshed (with_clock s clock) (traffic_held g) (facts_of s (traffic_held g)) places)
+      → IsHeld (with_clock s clock) h
+  clock-held clock places forward are set =
+      let z = with_clock s clock in
+      let t = traffic_held g in
+      kept z t h is.traffic
+      (set
+      ∙ ap (λ (ps : List Place). held_by z t (refreshed z t (facts_of s t) ps)) (are ∙ ap (λ (x : Holding). places_due x.due clock) is.held)
+      ∙ ap (held_by z t) (clocked s t clock forward))

@@ -1,0 +1,276 @@
+-- Traffic that says what the PDUs of a session say goes on to say it as PDUs more come, each with its notes.
+use Rattle.std.proofs.Common.{◌≡◌, ℕ, zero, suc, ◌+◌, ◌<◌, Bool, true, false, cond, List, [], ◌∷◌, ◌++◌, length, take, drop, get_or}
+use Rattle.std.proofs.Common.{Option, Some, None, refl, sym, ap, ◌∙◌, subst, arith, append_assoc, append-nil, take-append-drop}
+use Rattle.std.specs.Prelude.{map, slice_get, option_map, option_to_list}
+use Rattle.std.specs.FinMap.{FinMap, find, get, nat_cmp-IsAntisymmetric}
+use Rattle.std.specs.Cmp.{nat_cmp_total, tied_itself}
+use Rattle.std.specs.Ordering.{eq_by_cmp, is_eq, nat_cmp}
+use Rattle.std.proofs.lemmas.List.{drop_more, map-append, take_more}
+use Rattle.smq_kit.specs.declared.place.Dir.TheVariants.{FromClient, FromCentre}
+use Rattle.smq_kit.specs.declared.place.Place.{Place}
+use Rattle.smq_kit.specs.Orders.{place_cmp}
+use Rattle.smq_kit.proofs.MapLemmas.{same_key}
+use Rattle.smq_receipt.specs.declared.reading.Receipt.{Receipt}
+use Rattle.smq_pair.specs.Growth.{IsNext, made_by, pushed}
+use Rattle.smq_book.specs.declared.present.kept.KeptPdu.{KeptPdu}
+use Rattle.smq_book.specs.present.Kept.{receipt_in}
+use Rattle.smq_book.specs.present.Settings.{SettingsValue}
+use Rattle.smq_book.specs.pairing.Traffic.{Message, Origin, ReceivedReceipt, TrafficValue}
+use Rattle.smq_book.specs.pairing.Traffic.{messages_among, pairing_among, place_of, placed, received, receipts_among}
+use Rattle.smq_book.specs.within.Pairs.{Rises, SubmitsAreRequests}
+use Rattle.smq_book.specs.join.Moves.{Move, moved_by}
+use Rattle.smq_book.specs.edits.Appended.{centre_moves, client_moves}
+use Rattle.smq_book.specs.edits.AppendedNotes.{next_moves}
+use Rattle.smq_book.specs.index.Held.{Holding, IsTraffic}
+use Rattle.smq_book.specs.index.Pushed.{IsHeldAfter, IsSaidBy, centre_by, pdu_moves, pushed_moves, receipt_moves}
+use Rattle.smq_book.proofs.lemmas.edits.Appends.{HasPdus, centre-step, client-step, rises-front}
+use Rattle.smq_book.proofs.lemmas.edits.Moved.{moved-both}
+use Rattle.smq_book.proofs.lemmas.edits.PushNotes as places
+use Rattle.smq_book.proofs.lemmas.pairing.Paired.{above}
+use Rattle.smq_book.proofs.lemmas.index.Answering.{answers-are, elsewhere, none-above}
+use Rattle.smq_book.proofs.lemmas.index.Pushed.{AreOfNotes, after-both, after-same, messages-stay, receipts-stay}
+use Rattle.smq_book.proofs.lemmas.index.PushedAll.{messages-by, next-of-notes, receipts-by}
+
+-- ---- told by the places of the session, or of all places
+
+module _ (origin : Origin) (client centre : List KeptPdu) where
+  module _ {X : Type 0} (m : FinMap place_cmp X) (es : List (Place × X)) where
+    everywhere : ((q : Place) → q.session.0 ≡ origin.session.0 → get m q ≡ find place_cmp q es)
+        → (q : Place) → get m q ≡ cond (eq_by_cmp nat_cmp q.session.0 origin.session.0) (find place_cmp q es) (get m q)
+    everywhere said q = by (eq_by_cmp nat_cmp q.session.0 origin.session.0) refl
+      where
+        by : (b : Bool) → eq_by_cmp nat_cmp q.session.0 origin.session.0 ≡ b → get m q ≡ cond b (find place_cmp q es) (get m q)
+        by true t = said q (same_key nat_cmp_total nat_cmp-IsAntisymmetric q.session.0 origin.session.0 t)
+        by false t = refl
+
+    inside : (rest : FinMap place_cmp X)
+        → ((q : Place) → get m q ≡ cond (eq_by_cmp nat_cmp q.session.0 origin.session.0) (find place_cmp q es) (get rest q))
+        → (q : Place) → q.session.0 ≡ origin.session.0 → get m q ≡ find place_cmp q es
+    inside rest has q at =
+        has q
+        ∙ ap (λ b. cond b (find place_cmp q es) (get rest q))
+        (ap (eq_by_cmp nat_cmp q.session.0) (sym at) ∙ ap is_eq (tied_itself nat_cmp_total q.session.0))
+
+  said-has : (t : TrafficValue) → IsSaidBy origin client centre t → HasPdus t origin client centre t
+  said-has t said = record {
+    messages = everywhere t.messages (messages_among origin client centre) said.messages;
+    receipts = everywhere t.receipts (receipts_among origin centre) said.receipts;
+    notes = refl;
+  }
+
+  pub has-said : (was t : TrafficValue) → HasPdus was origin client centre t → IsSaidBy origin client centre t
+  has-said was t has = record {
+    messages = inside t.messages (messages_among origin client centre) was.messages has.messages;
+    receipts = inside t.receipts (receipts_among origin centre) was.receipts has.receipts;
+  }
+
+  -- notes don't matter
+  said-again : (t u : TrafficValue) → u.messages ≡ t.messages → u.receipts ≡ t.receipts → IsSaidBy origin client centre t
+      → IsSaidBy origin client centre u
+  said-again t u messages receipts said = record {
+    messages = λ q at. ap (λ (m : FinMap place_cmp Message). get m q) messages ∙ said.messages q at;
+    receipts = λ q at. ap (λ (m : FinMap place_cmp ReceivedReceipt). get m q) receipts ∙ said.receipts q at;
+  }
+
+-- moves of notes that come first leave what others leave of messages and receipts
+module _ (t : TrafficValue) (notes pdus : List Move) (of : AreOfNotes notes) where
+  messages-after : (moved_by t (notes ++ pdus)).messages ≡ (moved_by t pdus).messages
+  messages-after =
+      ap (λ (v : TrafficValue). v.messages) (moved-both t notes pdus)
+      ∙ messages-by (moved_by t notes) t pdus (messages-stay t notes of)
+
+  receipts-after : (moved_by t (notes ++ pdus)).receipts ≡ (moved_by t pdus).receipts
+  receipts-after =
+      ap (λ (v : TrafficValue). v.receipts) (moved-both t notes pdus)
+      ∙ receipts-by (moved_by t notes) t pdus (receipts-stay t notes of)
+
+-- ---- one PDU more
+
+asks-front : (ps qs : List KeptPdu) → SubmitsAreRequests (ps ++ qs) → SubmitsAreRequests ps
+asks-front ps qs asks = record { each = λ i p submit at said. asks.each i p submit (at-front ps i p at) said }
+  where
+    at-front : (ps : List KeptPdu) (i : ℕ) (p : KeptPdu) → slice_get ps i ≡ Some p → slice_get (ps ++ qs) i ≡ Some p
+    at-front [] i p at = absurd cc
+    at-front (x ∷ ps) zero p at = at
+    at-front (x ∷ ps) (suc i) p at = at-front ps i p at
+
+module _ (origin : Origin) where
+  said-client : (client centre : List KeptPdu) (next : KeptPdu) (t : TrafficValue) → Rises 0 (client ++ next ∷ [])
+      → IsSaidBy origin client centre t
+      → IsSaidBy origin (client ++ next ∷ []) centre (moved_by t (pdu_moves origin FromClient client centre next))
+  said-client client centre next t rises said =
+      let notes = next_moves origin FromClient client centre next in
+      let pdus = client_moves origin client centre next in
+      let of = next-of-notes origin FromClient client centre next in
+      said-again origin (client ++ next ∷ []) centre (moved_by t pdus) (moved_by t (notes ++ pdus))
+      (messages-after t notes pdus of) (receipts-after t notes pdus of)
+      (has-said origin (client ++ next ∷ []) centre t (moved_by t pdus)
+      (client-step t origin client centre next t rises (said-has origin client centre t said)))
+
+  said-centre : (client centre : List KeptPdu) (next : KeptPdu) (t : TrafficValue) → Rises 0 client → Rises 0 (centre ++ next ∷ [])
+      → IsSaidBy origin client centre t
+      → IsSaidBy origin client (centre ++ next ∷ []) (moved_by t (pdu_moves origin FromCentre client centre next))
+  said-centre client centre next t client_rises rises said =
+      let notes = next_moves origin FromCentre client centre next in
+      let pdus = centre_moves origin client centre next in
+      let of = next-of-notes origin FromCentre client centre next in
+      said-again origin client (centre ++ next ∷ []) (moved_by t pdus) (moved_by t (notes ++ pdus))
+      (messages-after t notes pdus of) (receipts-after t notes pdus of)
+      (has-said origin client (centre ++ next ∷ []) t (moved_by t pdus)
+      (centre-step t origin client centre next t client_rises rises (said-has origin client centre t said)))
+
+  -- nothing stands at its place yet
+  said_as : KeptPdu → Option Receipt → Option (Place × ReceivedReceipt)
+  said_as p receipt = option_map (λ (receipt : Receipt). (place_of origin FromCentre p, received origin p receipt)) receipt
+
+  passes : (q : Place) (p : KeptPdu) (receipt : Option Receipt) (rest : List (Place × ReceivedReceipt))
+      → eq_by_cmp place_cmp q (place_of origin FromCentre p) ≡ false
+      → find place_cmp q (option_to_list (said_as p receipt) ++ rest) ≡ find place_cmp q rest
+  unfolding said_as
+  passes q p None rest apart = refl
+  passes q p (Some receipt) rest apart = ap (λ b. cond b (Some (received origin p receipt)) (find place_cmp q rest)) apart
+
+  no-receipt-above : (ps : List KeptPdu) (low : ℕ) (p : KeptPdu) → Rises low (ps ++ p ∷ [])
+      → find place_cmp (place_of origin FromCentre p) (receipts_among origin ps) ≡ None
+  unfolding said_as
+  no-receipt-above [] low p rises = refl
+  no-receipt-above (x ∷ ps) low p rises =
+      let more = above (x.offset + 1) ps [] p rises.1 in
+      passes (place_of origin FromCentre p) x (receipt_in x.content) (receipts_among origin ps)
+      (elsewhere origin FromCentre p x (λ same. omega (arith, more, same)))
+      ∙ no-receipt-above ps (x.offset + 1) p rises.1
+
+  client-absent : (client centre : List KeptPdu) (next : KeptPdu) (t : TrafficValue) → Rises 0 (client ++ next ∷ [])
+      → IsSaidBy origin client centre t → get t.messages (place_of origin FromClient next) ≡ None
+  client-absent client centre next t rises said =
+      said.messages (place_of origin FromClient next) refl ∙ none-above origin centre [] client 0 next rises
+
+  centre-absent : (client centre : List KeptPdu) (next : KeptPdu) (t : TrafficValue) → Rises 0 (centre ++ next ∷ [])
+      → IsSaidBy origin client centre t → get t.receipts (place_of origin FromCentre next) ≡ None
+  centre-absent client centre next t rises said =
+      said.receipts (place_of origin FromCentre next) refl ∙ no-receipt-above centre 0 next rises
+
+  -- ---- PDUs so far, and one more
+
+  clients-more : (client centre done : List KeptPdu) (next : KeptPdu)
+      → pushed_moves origin FromClient client centre (done ++ next ∷ [])
+      ≡ pushed_moves origin FromClient client centre done ++ pdu_moves origin FromClient (client ++ done) centre next
+  clients-more client centre [] next =
+      append-nil (pdu_moves origin FromClient client centre next)
+      ∙ ap (λ ps. pdu_moves origin FromClient ps centre next) (sym (append-nil client))
+  clients-more client centre (x ∷ done) next =
+      let first = pdu_moves origin FromClient client centre x in
+      let rest = pushed_moves origin FromClient (client ++ x ∷ []) centre done in
+      ap (λ ms. first ++ ms) (clients-more (client ++ x ∷ []) centre done next
+      ∙ ap (λ ps. rest ++ pdu_moves origin FromClient ps centre next) (append_assoc client (x ∷ []) done))
+      ∙ sym (append_assoc first rest (pdu_moves origin FromClient (client ++ x ∷ done) centre next))
+
+  centres-more : (client centre done : List KeptPdu) (next : KeptPdu)
+      → pushed_moves origin FromCentre client centre (done ++ next ∷ [])
+      ≡ pushed_moves origin FromCentre client centre done ++ pdu_moves origin FromCentre client (centre ++ done) next
+  centres-more client centre [] next =
+      append-nil (pdu_moves origin FromCentre client centre next)
+      ∙ ap (λ ps. pdu_moves origin FromCentre client ps next) (sym (append-nil centre))
+  centres-more client centre (x ∷ done) next =
+      let first = pdu_moves origin FromCentre client centre x in
+      let rest = pushed_moves origin FromCentre client (centre ++ x ∷ []) done in
+      ap (λ ms. first ++ ms) (centres-more client (centre ++ x ∷ []) done next
+      ∙ ap (λ ps. rest ++ pdu_moves origin FromCentre client ps next) (append_assoc centre (x ∷ []) done))
+      ∙ sym (append_assoc first rest (pdu_moves origin FromCentre client (centre ++ x ∷ done) next))
+
+-- ---- PDUs by their number among those that come
+
+module _ (origin : Origin) (client centre pdus : List KeptPdu) (i : ℕ) (x : KeptPdu) (within : i < length pdus) (is : x ≡ get_or pdus i x) where
+  more : take (i + 1) pdus ≡ take i pdus ++ x ∷ []
+  more = take_more pdus i x within ∙ ap (λ (y : KeptPdu). take i pdus ++ y ∷ []) (sym is)
+
+  module _ (old : List KeptPdu) where
+    all : old ++ pdus ≡ (old ++ take i pdus) ++ x ∷ drop (i + 1) pdus
+    all =
+        ap (λ ps. old ++ ps) (sym (take-append-drop i pdus)
+        ∙ ap (λ ps. take i pdus ++ ps) (drop_more pdus i x within ∙ ap (λ (y : KeptPdu). y ∷ drop (i + 1) pdus) (sym is)))
+        ∙ sym (append_assoc old (take i pdus) (x ∷ drop (i + 1) pdus))
+
+    in-parts : old ++ pdus ≡ ((old ++ take i pdus) ++ x ∷ []) ++ drop (i + 1) pdus
+    in-parts = all ∙ sym (append_assoc (old ++ take i pdus) (x ∷ []) (drop (i + 1) pdus))
+
+    grown : (old ++ take i pdus) ++ x ∷ [] ≡ old ++ take (i + 1) pdus
+    grown = append_assoc old (take i pdus) (x ∷ []) ∙ ap (λ ps. old ++ ps) (sym more)
+
+    pub rises-to : Rises 0 (old ++ pdus) → Rises 0 ((old ++ take i pdus) ++ x ∷ [])
+    rises-to rises = rises-front 0 ((old ++ take i pdus) ++ x ∷ []) (drop (i + 1) pdus) (subst (λ ps. Rises 0 ps) in-parts rises)
+
+    pub asks-to : SubmitsAreRequests (old ++ pdus) → SubmitsAreRequests ((old ++ take i pdus) ++ x ∷ [])
+    asks-to asks = asks-front ((old ++ take i pdus) ++ x ∷ []) (drop (i + 1) pdus) (subst SubmitsAreRequests in-parts asks)
+
+  -- ---- of the client
+
+  module _ (rises : Rises 0 (client ++ pdus)) where
+    pub client-next : IsNext (pairing_among origin (client ++ take i pdus) centre) (place_of origin FromClient x)
+    client-next = places.next-client origin (client ++ take i pdus) centre (drop (i + 1) pdus) x (subst (λ ps. Rises 0 ps) (all client) rises)
+
+    pub client-free : (t : TrafficValue) → IsSaidBy origin (client ++ take i pdus) centre t → get t.messages (place_of origin FromClient x) ≡ None
+    client-free t said = client-absent origin (client ++ take i pdus) centre x t (rises-to client rises) said
+
+    pub client-said : (t u : TrafficValue) → IsSaidBy origin (client ++ take i pdus) centre t
+        → u ≡ moved_by t (pdu_moves origin FromClient (client ++ take i pdus) centre x) → IsSaidBy origin (client ++ take (i + 1) pdus) centre u
+    client-said t u said after =
+        subst (IsSaidBy origin (client ++ take (i + 1) pdus) centre) (sym after)
+        (subst (λ ps. IsSaidBy origin ps centre (moved_by t (pdu_moves origin FromClient (client ++ take i pdus) centre x))) (grown client)
+        (said-client origin (client ++ take i pdus) centre x t (rises-to client rises) said))
+
+  pub client-pairs : pushed (pairing_among origin (client ++ take i pdus) centre) (placed origin FromClient x)
+      ≡ pairing_among origin (client ++ take (i + 1) pdus) centre
+  client-pairs =
+      let same = sym (map-append (placed origin FromClient) (client ++ take i pdus) (x ∷ [])) ∙ ap (map (placed origin FromClient)) (grown client) in
+      λ k. record { client = same k; centre = map (placed origin FromCentre) centre }
+
+  module _ (s : SettingsValue) (g h k : Holding) where
+    pub client-held : IsHeldAfter s g (pushed_moves origin FromClient client centre (take i pdus)) h
+        → IsHeldAfter s h (pdu_moves origin FromClient (client ++ take i pdus) centre x) k
+        → IsHeldAfter s g (pushed_moves origin FromClient client centre (take (i + 1) pdus)) k
+    client-held done next =
+        after-same s g k (pushed_moves origin FromClient client centre (take i pdus) ++ pdu_moves origin FromClient (client ++ take i pdus) centre x)
+        (pushed_moves origin FromClient client centre (take (i + 1) pdus))
+        (sym (clients-more origin client centre (take i pdus) x) ∙ ap (pushed_moves origin FromClient client centre) (sym more))
+        (after-both s g h k done next)
+
+  -- ---- of the centre
+
+  module _ (client_rises : Rises 0 client) (rises : Rises 0 (centre ++ pdus)) where
+    pub centre-next : IsNext (pairing_among origin client (centre ++ take i pdus)) (place_of origin FromCentre x)
+    centre-next = places.next-centre origin client (centre ++ take i pdus) (drop (i + 1) pdus) x (subst (λ ps. Rises 0 ps) (all centre) rises)
+
+    pub centre-free : (t : TrafficValue) → IsSaidBy origin client (centre ++ take i pdus) t → get t.receipts (place_of origin FromCentre x) ≡ None
+    centre-free t said = centre-absent origin client (centre ++ take i pdus) x t (rises-to centre rises) said
+
+    pub centre-said : (t u : TrafficValue) → IsSaidBy origin client (centre ++ take i pdus) t
+        → u ≡ moved_by t (pdu_moves origin FromCentre client (centre ++ take i pdus) x) → IsSaidBy origin client (centre ++ take (i + 1) pdus) u
+    centre-said t u said after =
+        subst (IsSaidBy origin client (centre ++ take (i + 1) pdus)) (sym after)
+        (subst (λ ps. IsSaidBy origin client ps (moved_by t (pdu_moves origin FromCentre client (centre ++ take i pdus) x))) (grown centre)
+        (said-centre origin client (centre ++ take i pdus) x t client_rises (rises-to centre rises) said))
+
+    -- the pair that it makes tells the message that it answers
+    pub centre-moves : (t : TrafficValue) → IsTraffic t → IsSaidBy origin client (centre ++ take i pdus) t → SubmitsAreRequests client
+        → centre_by origin t.messages x (made_by (pairing_among origin client (centre ++ take i pdus)) (placed origin FromCentre x))
+        ≡ pdu_moves origin FromCentre client (centre ++ take i pdus) x
+    centre-moves t is said asks =
+        ap (λ ms. next_moves origin FromCentre client (centre ++ take i pdus) x ++ (ms ++ receipt_moves origin x))
+        (answers-are origin client (centre ++ take i pdus) x t is said client_rises (rises-to centre rises) asks)
+
+  pub centre-pairs : pushed (pairing_among origin client (centre ++ take i pdus)) (placed origin FromCentre x)
+      ≡ pairing_among origin client (centre ++ take (i + 1) pdus)
+  centre-pairs =
+      let same = sym (map-append (placed origin FromCentre) (centre ++ take i pdus) (x ∷ [])) ∙ ap (map (placed origin FromCentre)) (grown centre) in
+      λ k. record { client = map (placed origin FromClient) client; centre = same k }
+
+  module _ (s : SettingsValue) (g h k : Holding) where
+    pub centre-held : IsHeldAfter s g (pushed_moves origin FromCentre client centre (take i pdus)) h
+        → IsHeldAfter s h (pdu_moves origin FromCentre client (centre ++ take i pdus) x) k
+        → IsHeldAfter s g (pushed_moves origin FromCentre client centre (take (i + 1) pdus)) k
+    centre-held done next =
+        after-same s g k (pushed_moves origin FromCentre client centre (take i pdus) ++ pdu_moves origin FromCentre client (centre ++ take i pdus) x)
+        (pushed_moves origin FromCentre client centre (take (i + 1) pdus))
+        (sym (centres-more origin client centre (take i pdus) x) ∙ ap (pushed_moves origin FromCentre client centre) (sym more))
+        (after-both s g h k done next)

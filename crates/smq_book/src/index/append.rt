@@ -1,0 +1,215 @@
+//! What an append changes: what each PDU says that its batch completes, in turn, and the bad length at which the batch leaves its
+//! direction broken.
+ghost use Rattle.std.specs.Prelude.{◌≡◌, ◌≢◌, ℕ, ◌++◌, Some, None, IfSome, OnOk};
+ghost use Rattle.std.specs.FinMap as fin;
+ghost use Rattle.smq_frame.specs.Stream.{handed_in, values};
+ghost use Rattle.smq_frame.specs.Tail.{tail_of};
+ghost use Rattle.smq_kit.specs.declared.place.Dir.TheVariants.{FromClient, FromCentre};
+ghost use Rattle.smq_book.specs.edits.AppendedNotes.{broken_moves};
+ghost use Rattle.smq_book.specs.index.Held.{IsHeld, held_now, held_settled, traffic_held};
+ghost use Rattle.smq_book.specs.index.Pairs.{pairing_in, pairs_now, pairs_settled};
+ghost use Rattle.smq_book.specs.index.Pushed.{IsHeldAfter, IsSaidBy, origin_at, pairing_with, pushed_moves};
+ghost use Rattle.smq_book.specs.pairing.Traffic.{session_pairing, traffic_of};
+ghost use Rattle.smq_book.specs.present.Batch.{batch_pdus, next_tail};
+ghost use Rattle.smq_book.specs.present.Kept.{kept_pdus};
+ghost use Rattle.smq_book.specs.present.Present.{direction, octets_in};
+ghost use Rattle.smq_book.specs.present.Steps.{session_after, session_with};
+ghost use Rattle.smq_book.specs.within.Pairs.{Rises, SubmitsAreRequests};
+
+use crate::index::index::Index;
+use crate::index::notes::note_broken;
+use crate::index::pairings::Pairings;
+use crate::index::push::{push_of_centre, push_of_client};
+use crate::present::settings::Settings;
+use crate::{Batch, KeptPdu, Present, Session};
+use smq_kit::{Dir, SessionId};
+use std::alloc::AllocError;
+
+/// Takes what a batch says, which is the next of its direction in its session, or in a new one. On an error what is held of
+/// its session is of no use: the caller undoes it.
+pub(crate) fn append(
+    index: &mut Index,
+    pairings: &mut Pairings,
+    present: &Present,
+    batch: &Batch,
+) -> Result<(), AllocError>
+    requires held { IsHeld present.now.settings (held_now index.old) }
+    requires traffic { traffic_held (held_now index.old) ≡ traffic_of present.now.sessions }
+    requires pairs { pairs_now pairings.old batch.now.session.0
+        ≡ pairing_in present.now.sessions batch.now.session.0 }
+    requires in_step { batch.now.tail ≡ tail_of (values
+        (octets_in batch.now.dir (fin.get present.now.sessions batch.now.session.0))) }
+    requires link { IfSome (fin.get present.now.sessions batch.now.session.0)
+        (λ session. session.link ≡ batch.now.link) }
+    ensures held { OnOk result (IsHeld present.now.settings (held_now index.new)) }
+    ensures traffic { let number = batch.now.session.0 in OnOk result (traffic_held (held_now index.new)
+        ≡ traffic_of (fin.insert present.now.sessions number
+        (session_after (fin.get present.now.sessions number) batch.now))) }
+    ensures pairs { let number = batch.now.session.0 in OnOk result (pairs_now pairings.new number
+        ≡ pairing_in (fin.insert present.now.sessions number
+        (session_after (fin.get present.now.sessions number) batch.now)) number) }
+    ensures other_pairs { (number : ℕ) → number ≢ batch.now.session.0
+        → pairs_now pairings.new number ≡ pairs_now pairings.old number }
+    ensures settled { held_settled index.new ≡ held_settled index.old }
+    ensures settled_pairs { (number : ℕ)
+        → pairs_settled pairings.new number ≡ pairs_settled pairings.old number }
+{
+    match present.session(batch.session()) {
+        Some(session) => append_to(index, pairings, present.settings(), session, batch),
+        None => {
+            let session = Session::new(pairings.alloc, batch.link());
+            append_to(index, pairings, present.settings(), &session, batch)
+        }
+    }
+}
+
+/// Takes what a batch says, which is the next of its direction in this session.
+fn append_to(
+    index: &mut Index,
+    pairings: &mut Pairings,
+    settings: &Settings,
+    session: &Session,
+    batch: &Batch,
+) -> Result<(), AllocError>
+    requires held { IsHeld settings.now (held_now index.old) }
+    requires said { IsSaidBy (origin_at batch.now.session session.now.link)
+        (kept_pdus session.now.client) (kept_pdus session.now.centre)
+        (traffic_held (held_now index.old)) }
+    requires pairs { pairs_now pairings.old batch.now.session.0
+        ≡ session_pairing (batch.now.session.0, session.now) }
+    requires in_step { batch.now.tail ≡ tail_of (values (direction batch.now.dir session.now)) }
+    ensures held { let origin = origin_at batch.now.session session.now.link in
+        OnOk result (IsHeldAfter settings.now (held_now index.old)
+        (pushed_moves origin batch.now.dir
+        (kept_pdus session.now.client) (kept_pdus session.now.centre) (batch_pdus batch.now)
+        ++ broken_moves origin batch.now.dir (next_tail batch.now))
+        (held_now index.new)) }
+    ensures settled { held_settled index.new ≡ held_settled index.old }
+    ensures pairs { let octets = handed_in batch.now.moment batch.now.octets in
+        OnOk result (pairs_now pairings.new batch.now.session.0 ≡ session_pairing
+        (batch.now.session.0, session_with batch.now.dir octets session.now)) }
+    ensures other_pairs { (number : ℕ) → number ≢ batch.now.session.0
+        → pairs_now pairings.new number ≡ pairs_now pairings.old number }
+    ensures settled_pairs { (number : ℕ)
+        → pairs_settled pairings.new number ≡ pairs_settled pairings.old number }
+{
+    let number = batch.session();
+    let dir = batch.dir();
+    push_all(
+        index,
+        pairings,
+        settings,
+        number,
+        session,
+        dir,
+        batch.pdus(),
+    )?;
+    note_broken(index, number, dir, batch.next())?;
+    Ok(())
+}
+
+/// Takes the next PDUs of a direction of this session.
+fn push_all(
+    index: &mut Index,
+    pairings: &mut Pairings,
+    settings: &Settings,
+    number: SessionId,
+    session: &Session,
+    dir: Dir,
+    pdus: &[KeptPdu],
+) -> Result<(), AllocError>
+    requires held { IsHeld settings.now (held_now index.old) }
+    requires said { IsSaidBy (origin_at number session.now.link)
+        (kept_pdus session.now.client) (kept_pdus session.now.centre)
+        (traffic_held (held_now index.old)) }
+    requires pairs { pairs_now pairings.old number.0 ≡ session_pairing (number.0, session.now) }
+    requires rises { Rises 0 (kept_pdus (direction dir session.now) ++ pdus.now) }
+    requires asks { SubmitsAreRequests (kept_pdus (direction dir session.now) ++ pdus.now) }
+    ensures held { OnOk result (IsHeldAfter settings.now (held_now index.old)
+        (pushed_moves (origin_at number session.now.link) dir
+        (kept_pdus session.now.client) (kept_pdus session.now.centre) pdus.now)
+        (held_now index.new)) }
+    ensures settled { held_settled index.new ≡ held_settled index.old }
+    ensures pairs { OnOk result (pairs_now pairings.new number.0
+        ≡ pairing_with (origin_at number session.now.link) dir
+        (kept_pdus session.now.client) (kept_pdus session.now.centre) pdus.now) }
+    ensures other_pairs { (other : ℕ) → other ≢ number.0
+        → pairs_now pairings.new other ≡ pairs_now pairings.old other }
+    ensures settled_pairs { (other : ℕ)
+        → pairs_settled pairings.new other ≡ pairs_settled pairings.old other }
+{
+    match dir {
+        Dir::FromClient => push_all_of_client(index, pairings, settings, number, session, pdus),
+        Dir::FromCentre => push_all_of_centre(index, pairings, settings, number, session, pdus),
+    }
+}
+
+/// Takes the next PDUs of the client of this session.
+fn push_all_of_client(
+    index: &mut Index,
+    pairings: &mut Pairings,
+    settings: &Settings,
+    number: SessionId,
+    session: &Session,
+    pdus: &[KeptPdu],
+) -> Result<(), AllocError>
+    requires held { IsHeld settings.now (held_now index.old) }
+    requires said { IsSaidBy (origin_at number session.now.link)
+        (kept_pdus session.now.client) (kept_pdus session.now.centre)
+        (traffic_held (held_now index.old)) }
+    requires pairs { pairs_now pairings.old number.0 ≡ session_pairing (number.0, session.now) }
+    requires rises { Rises 0 (kept_pdus session.now.client ++ pdus.now) }
+    requires asks { SubmitsAreRequests (kept_pdus session.now.client ++ pdus.now) }
+    ensures held { OnOk result (IsHeldAfter settings.now (held_now index.old)
+        (pushed_moves (origin_at number session.now.link) FromClient
+        (kept_pdus session.now.client) (kept_pdus session.now.centre) pdus.now)
+        (held_now index.new)) }
+    ensures settled { held_settled index.new ≡ held_settled index.old }
+    ensures pairs { OnOk result (pairs_now pairings.new number.0
+        ≡ pairing_with (origin_at number session.now.link) FromClient
+        (kept_pdus session.now.client) (kept_pdus session.now.centre) pdus.now) }
+    ensures other_pairs { (other : ℕ) → other ≢ number.0
+        → pairs_now pairings.new other ≡ pairs_now pairings.old other }
+    ensures settled_pairs { (other : ℕ)
+        → pairs_settled pairings.new other ≡ pairs_settled pairings.old other }
+{
+    for pdu in pdus {
+        let centre = session.centre.pdus();
+        push_of_client(index, pairings, settings, number, session.link, centre, pdu)?;
+    }
+    Ok(())
+}
+
+/// Takes the next PDUs of the centre of this session.
+fn push_all_of_centre(
+    index: &mut Index,
+    pairings: &mut Pairings,
+    settings: &Settings,
+    number: SessionId,
+    session: &Session,
+    pdus: &[KeptPdu],
+) -> Result<(), AllocError>
+    requires held { IsHeld settings.now (held_now index.old) }
+    requires said { IsSaidBy (origin_at number session.now.link)
+        (kept_pdus session.now.client) (kept_pdus session.now.centre)
+        (traffic_held (held_now index.old)) }
+    requires pairs { pairs_now pairings.old number.0 ≡ session_pairing (number.0, session.now) }
+    requires rises { Rises 0 (kept_pdus session.now.centre ++ pdus.now) }
+    ensures held { OnOk result (IsHeldAfter settings.now (held_now index.old)
+        (pushed_moves (origin_at number session.now.link) FromCentre
+        (kept_pdus session.now.client) (kept_pdus session.now.centre) pdus.now)
+        (held_now index.new)) }
+    ensures settled { held_settled index.new ≡ held_settled index.old }
+    ensures pairs { OnOk result (pairs_now pairings.new number.0
+        ≡ pairing_with (origin_at number session.now.link) FromCentre
+        (kept_pdus session.now.client) (kept_pdus session.now.centre) pdus.now) }
+    ensures other_pairs { (other : ℕ) → other ≢ number.0
+        → pairs_now pairings.new other ≡ pairs_now pairings.old other }
+    ensures settled_pairs { (other : ℕ)
+        → pairs_settled pairings.new other ≡ pairs_settled pairings.old other }
+{
+    for pdu in pdus {
+        push_of_centre(index, pairings, settings, number, session.link, pdu)?;
+    }
+    Ok(())
+}

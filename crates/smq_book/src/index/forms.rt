@@ -1,0 +1,358 @@
+//! What the forms of a link's message ids change: the keys of its messages and delivery receipts. All of the link is taken
+//! out before its forms are set, and put in again after it. On an error what is held is of no use: the caller undoes it.
+ghost use Rattle.std.specs.Prelude.{◌≡◌, ◌++◌, [], ◌∷◌, map, option_map, option_to_list, IfOk, OnOk};
+ghost use Rattle.std.specs.List.{flat_map};
+ghost use Rattle.std.specs.Option.{option_copied};
+ghost use Rattle.std.specs.FinMap as fin;
+ghost use Rattle.smq_kit.specs.declared.place.Dir.TheVariants.{FromClient, FromCentre};
+ghost use Rattle.smq_book.specs.index.Held.{IsHeld, held_now, held_settled, traffic_held};
+ghost use Rattle.smq_book.specs.index.LinkOut as out;
+ghost use Rattle.smq_book.specs.index.LinkOut.{AllFrom, IsOut, TakesOut, is_receipt, is_submit, of_link, puts_of};
+ghost use Rattle.smq_book.specs.index.Pushed.{IsHeldAfter};
+ghost use Rattle.smq_book.specs.join.Moves.{PutMessage, PutReceipt, TakeMessage, TakeReceipt};
+ghost use Rattle.smq_book.specs.pairing.Traffic.{places_where, traffic_of};
+ghost use Rattle.smq_book.specs.within.Pairs.{from_session};
+
+use crate::index::index::Index;
+use crate::index::stored::{StoredMessage, StoredReceipt};
+use crate::pairing::pairs::place_of;
+use crate::present::settings::Settings;
+use crate::{KeptPdu, Present, Session};
+use smq_kit::{Dir, LinkId, Place, SessionId};
+use std::alloc::{AllocError, Global};
+
+/// The messages and the delivery receipts that are taken out, at their places.
+#[derive(Drop)]
+pub(crate) struct Taken {
+    pub messages: Vec<(Place, StoredMessage)>,
+    pub receipts: Vec<(Place, StoredReceipt)>,
+}
+
+/// Takes all of a link out.
+pub(crate) fn take_link(
+    alloc: Global,
+    index: &mut Index,
+    present: &Present,
+    link: LinkId,
+) -> Result<Taken, AllocError>
+    requires held { IsHeld present.now.settings (held_now index.old) }
+    requires traffic { traffic_held (held_now index.old) ≡ traffic_of present.now.sessions }
+    ensures held { OnOk result (IsHeld present.now.settings (held_now index.new)) }
+    ensures out { IfOk result (λ taken. IsOut link (traffic_of present.now.sessions)
+        taken.messages.items taken.receipts.items (traffic_held (held_now index.new))) }
+    ensures settled { held_settled index.new ≡ held_settled index.old }
+{
+    let settings = present.settings();
+    let of_messages = message_places(alloc, present, link)?;
+    let of_receipts = receipt_places(alloc, present, link)?;
+    let messages = take_messages(alloc, index, settings, of_messages.as_slice())?;
+    let receipts = take_receipts(alloc, index, settings, of_receipts.as_slice())?;
+    Ok(Taken { messages, receipts })
+}
+
+/// Puts what was taken out in again.
+pub(crate) fn put_link(
+    index: &mut Index,
+    settings: &Settings,
+    taken: Taken,
+) -> Result<(), AllocError>
+    requires held { IsHeld settings.now (held_now index.old) }
+    requires messages { AllFrom FromClient taken.messages.items }
+    requires receipts { AllFrom FromCentre taken.receipts.items }
+    ensures held { OnOk result (IsHeldAfter settings.now (held_now index.old)
+        (puts_of taken.messages.items taken.receipts.items) (held_now index.new)) }
+    ensures settled { held_settled index.new ≡ held_settled index.old }
+{
+    let Taken { messages, receipts } = taken;
+    put_messages(index, settings, messages)?;
+    put_receipts(index, settings, receipts)?;
+    Ok(())
+}
+
+/// The places of a link's messages.
+fn message_places(alloc: Global, present: &Present, link: LinkId) -> Result<Vec<Place>, AllocError>
+    ensures { IfOk result (λ places. places.items
+        ≡ flat_map (of_link out.submit_places link) (fin.entries present.now.sessions)) }
+{
+    let mut places = Vec::new(alloc);
+    for (number, session) in present.sessions() {
+        push_link_messages(&mut places, link, SessionId(*number), session)?;
+    }
+    Ok(places)
+}
+
+/// The places of a link's delivery receipts.
+fn receipt_places(alloc: Global, present: &Present, link: LinkId) -> Result<Vec<Place>, AllocError>
+    ensures { IfOk result (λ places. places.items
+        ≡ flat_map (of_link out.receipt_places link) (fin.entries present.now.sessions)) }
+{
+    let mut places = Vec::new(alloc);
+    for (number, session) in present.sessions() {
+        push_link_receipts(&mut places, link, SessionId(*number), session)?;
+    }
+    Ok(places)
+}
+
+/// Puts the places of a session's messages after what is there, where it is of a link.
+fn push_link_messages(
+    places: &mut Vec<Place>,
+    link: LinkId,
+    number: SessionId,
+    session: &Session,
+) -> Result<(), AllocError>
+    ensures { OnOk result (places.new.items
+        ≡ places.old.items ++ of_link out.submit_places link (number.0, session.now)) }
+{
+    if session.link.0 != link.0 {
+        return Ok(());
+    }
+    push_places_of_messages(places, number, session.client.pdus())
+}
+
+/// Puts the places of a session's delivery receipts after what is there, where it is of a link.
+fn push_link_receipts(
+    places: &mut Vec<Place>,
+    link: LinkId,
+    number: SessionId,
+    session: &Session,
+) -> Result<(), AllocError>
+    ensures { OnOk result (places.new.items
+        ≡ places.old.items ++ of_link out.receipt_places link (number.0, session.now)) }
+{
+    if session.link.0 != link.0 {
+        return Ok(());
+    }
+    push_places_of_receipts(places, number, session.centre.pdus())
+}
+
+/// Puts the places of the messages that PDUs of the client are after what is there.
+fn push_places_of_messages(
+    places: &mut Vec<Place>,
+    number: SessionId,
+    client: &[KeptPdu],
+) -> Result<(), AllocError>
+    ensures { OnOk result (places.new.items
+        ≡ places.old.items ++ places_where is_submit (from_session number) FromClient client.now) }
+{
+    for pdu in client {
+        if is_message(pdu) {
+            places.push(place_of(number, Dir::FromClient, pdu))?;
+        }
+    }
+    Ok(())
+}
+
+/// Puts the places of the delivery receipts that PDUs of the centre are after what is there.
+fn push_places_of_receipts(
+    places: &mut Vec<Place>,
+    number: SessionId,
+    centre: &[KeptPdu],
+) -> Result<(), AllocError>
+    ensures { OnOk result (places.new.items
+        ≡ places.old.items ++ places_where is_receipt (from_session number) FromCentre centre.now) }
+{
+    for pdu in centre {
+        if is_received(pdu) {
+            places.push(place_of(number, Dir::FromCentre, pdu))?;
+        }
+    }
+    Ok(())
+}
+
+/// Whether a PDU is a decodable submit_sm.
+fn is_message(pdu: &KeptPdu) -> bool
+    ensures { result ≡ is_submit pdu.now.content }
+{
+    pdu.content.submit().is_some()
+}
+
+/// Whether a PDU is a delivery receipt.
+fn is_received(pdu: &KeptPdu) -> bool
+    ensures { result ≡ is_receipt pdu.now.content }
+{
+    pdu.content.receipt().is_some()
+}
+
+/// Takes the messages at places out, and gives them.
+fn take_messages(
+    alloc: Global,
+    index: &mut Index,
+    settings: &Settings,
+    places: &[Place],
+) -> Result<Vec<(Place, StoredMessage)>, AllocError>
+    requires { IsHeld settings.now (held_now index.old) }
+    ensures held { OnOk result (IsHeldAfter settings.now (held_now index.old)
+        (map TakeMessage places.now) (held_now index.new)) }
+    ensures taken { IfOk result (λ taken. TakesOut (held_now index.old).messages taken.items
+        (held_now index.new).messages) }
+    ensures settled { held_settled index.new ≡ held_settled index.old }
+{
+    let mut taken = Vec::new(alloc);
+    for place in places {
+        take_message_at(index, settings, &mut taken, *place)?;
+    }
+    Ok(taken)
+}
+
+/// Takes the delivery receipts at places out, and gives them.
+fn take_receipts(
+    alloc: Global,
+    index: &mut Index,
+    settings: &Settings,
+    places: &[Place],
+) -> Result<Vec<(Place, StoredReceipt)>, AllocError>
+    requires { IsHeld settings.now (held_now index.old) }
+    ensures held { OnOk result (IsHeldAfter settings.now (held_now index.old)
+        (map TakeReceipt places.now) (held_now index.new)) }
+    ensures taken { IfOk result (λ taken. TakesOut (held_now index.old).receipts taken.items
+        (held_now index.new).receipts) }
+    ensures settled { held_settled index.new ≡ held_settled index.old }
+{
+    let mut taken = Vec::new(alloc);
+    for place in places {
+        take_receipt_at(index, settings, &mut taken, *place)?;
+    }
+    Ok(taken)
+}
+
+/// Takes the message at a place out, if there is one, and puts it after those that were taken.
+fn take_message_at(
+    index: &mut Index,
+    settings: &Settings,
+    taken: &mut Vec<(Place, StoredMessage)>,
+    place: Place,
+) -> Result<(), AllocError>
+    requires { IsHeld settings.now (held_now index.old) }
+    ensures held { OnOk result (IsHeldAfter settings.now (held_now index.old)
+        (TakeMessage place ∷ []) (held_now index.new)) }
+    ensures taken { OnOk result (taken.new.items ≡ taken.old.items
+        ++ option_to_list (option_map (λ m. (place, m))
+        (fin.get (held_now index.old).messages place))) }
+    ensures settled { held_settled index.new ≡ held_settled index.old }
+{
+    push_message(taken, place, index.messages.get(&place))?;
+    index.take_message(settings, place)?;
+    Ok(())
+}
+
+/// Puts a copy of the message at a place after what is there, if there is one.
+fn push_message(
+    taken: &mut Vec<(Place, StoredMessage)>,
+    place: Place,
+    message: Option<&StoredMessage>,
+) -> Result<(), AllocError>
+    ensures { OnOk result (taken.new.items ≡ taken.old.items
+        ++ option_to_list (option_map (λ m. (place, m)) (option_copied message.entry))) }
+{
+    if let Some(message) = message {
+        taken.push((place, message.copy()))?;
+    }
+    Ok(())
+}
+
+/// Takes the delivery receipt at a place out, if there is one, and puts it after those that were taken.
+fn take_receipt_at(
+    index: &mut Index,
+    settings: &Settings,
+    taken: &mut Vec<(Place, StoredReceipt)>,
+    place: Place,
+) -> Result<(), AllocError>
+    requires { IsHeld settings.now (held_now index.old) }
+    ensures held { OnOk result (IsHeldAfter settings.now (held_now index.old)
+        (TakeReceipt place ∷ []) (held_now index.new)) }
+    ensures taken { OnOk result (taken.new.items ≡ taken.old.items
+        ++ option_to_list (option_map (λ r. (place, r))
+        (fin.get (held_now index.old).receipts place))) }
+    ensures settled { held_settled index.new ≡ held_settled index.old }
+{
+    push_receipt(taken, place, index.receipts.get(&place))?;
+    index.take_receipt(settings, place)?;
+    Ok(())
+}
+
+/// Puts a copy of the delivery receipt at a place after what is there, if there is one.
+fn push_receipt(
+    taken: &mut Vec<(Place, StoredReceipt)>,
+    place: Place,
+    receipt: Option<&StoredReceipt>,
+) -> Result<(), AllocError>
+    ensures { OnOk result (taken.new.items ≡ taken.old.items
+        ++ option_to_list (option_map (λ r. (place, r)) (option_copied receipt.entry))) }
+{
+    if let Some(receipt) = receipt {
+        taken.push((place, receipt.copy()))?;
+    }
+    Ok(())
+}
+
+/// Puts messages in at their places.
+fn put_messages(
+    index: &mut Index,
+    settings: &Settings,
+    messages: Vec<(Place, StoredMessage)>,
+) -> Result<(), AllocError>
+    requires held { IsHeld settings.now (held_now index.old) }
+    requires messages { AllFrom FromClient messages.items }
+    ensures held { OnOk result (IsHeldAfter settings.now (held_now index.old)
+        (map PutMessage messages.items) (held_now index.new)) }
+    ensures settled { held_settled index.new ≡ held_settled index.old }
+{
+    for (place, message) in messages {
+        put_message_at(index, settings, place, message)?;
+    }
+    Ok(())
+}
+
+/// Puts delivery receipts in at their places.
+fn put_receipts(
+    index: &mut Index,
+    settings: &Settings,
+    receipts: Vec<(Place, StoredReceipt)>,
+) -> Result<(), AllocError>
+    requires held { IsHeld settings.now (held_now index.old) }
+    requires receipts { AllFrom FromCentre receipts.items }
+    ensures held { OnOk result (IsHeldAfter settings.now (held_now index.old)
+        (map PutReceipt receipts.items) (held_now index.new)) }
+    ensures settled { held_settled index.new ≡ held_settled index.old }
+{
+    for (place, receipt) in receipts {
+        put_receipt_at(index, settings, place, receipt)?;
+    }
+    Ok(())
+}
+
+/// Puts a message in, in the place of one that is there.
+fn put_message_at(
+    index: &mut Index,
+    settings: &Settings,
+    place: Place,
+    message: StoredMessage,
+) -> Result<(), AllocError>
+    requires held { IsHeld settings.now (held_now index.old) }
+    requires dir { place.dir ≡ FromClient }
+    ensures held { OnOk result (IsHeldAfter settings.now (held_now index.old)
+        (PutMessage (place, message) ∷ []) (held_now index.new)) }
+    ensures settled { held_settled index.new ≡ held_settled index.old }
+{
+    index.take_message(settings, place)?;
+    index.put_message(settings, place, message)?;
+    Ok(())
+}
+
+/// Puts a delivery receipt in, in the place of one that is there.
+fn put_receipt_at(
+    index: &mut Index,
+    settings: &Settings,
+    place: Place,
+    receipt: StoredReceipt,
+) -> Result<(), AllocError>
+    requires held { IsHeld settings.now (held_now index.old) }
+    requires dir { place.dir ≡ FromCentre }
+    ensures held { OnOk result (IsHeldAfter settings.now (held_now index.old)
+        (PutReceipt (place, receipt) ∷ []) (held_now index.new)) }
+    ensures settled { held_settled index.new ≡ held_settled index.old }
+{
+    index.take_receipt(settings, place)?;
+    index.put_receipt(settings, place, receipt)?;
+    Ok(())
+}

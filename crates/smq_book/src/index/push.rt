@@ -1,0 +1,256 @@
+//! One PDU more of a session: it makes a pair or waits for one, puts in the message or the delivery receipt that it is, and gives
+//! a message its response.
+ghost use Rattle.std.specs.Prelude.{◌≡◌, ◌≢◌, ℕ, List, [], ◌∷◌, ◌++◌, Some, None, OnOk};
+ghost use Rattle.std.specs.FinMap as fin;
+ghost use Rattle.smq_kit.specs.declared.place.Dir.TheVariants.{FromClient, FromCentre};
+ghost use Rattle.smq_kit.specs.declared.names.SessionId.{SessionId as SessionIdOf};
+ghost use Rattle.smq_pair.specs.Growth.{IsNext, made_by, pushed as pushed_pairs};
+ghost use Rattle.smq_book.specs.index.Held.{IsHeld, held_now, held_settled};
+ghost use Rattle.smq_book.specs.index.Pairs.{pairs_now, pairs_settled};
+ghost use Rattle.smq_book.specs.index.Pushed as pushed;
+ghost use Rattle.smq_book.specs.index.Pushed.{IsHeldAfter, answer_moves, centre_by, origin_at, pdu_moves, receipt_moves, said_by, submit_moves};
+ghost use Rattle.smq_book.specs.pairing.Traffic as traffic;
+ghost use Rattle.smq_book.specs.pairing.Traffic.{pairing_among, placed};
+ghost use Rattle.smq_book.specs.declared.present.kept.KeptPdu.{KeptPdu as KeptPduOf};
+ghost use Rattle.smq_book.specs.within.Pairs.{Rises, SubmitsAreRequests, from_session};
+
+use crate::KeptPdu;
+use crate::index::index::Index;
+use crate::index::notes::{note_of_centre, note_of_client};
+use crate::index::pairings::Pairings;
+use crate::index::stored::{StoredMessage, StoredReceipt, StoredResponse};
+use crate::pairing::pairs::{pdu_at, place_of};
+use crate::pairing::submits::asks_receipt;
+use crate::present::settings::Settings;
+use smq_kit::{Dir, LinkId, SessionId};
+use smq_pair::Pair;
+use smq_pdu::Submit;
+use std::alloc::AllocError;
+
+/// What the response of a pair says to its request.
+fn said(pair: Pair, response: &KeptPdu) -> StoredResponse
+    ensures { result ≡ said_by pair response.now }
+{
+    StoredResponse {
+        agrees: pair.agrees,
+        status: pair.status,
+        id: match response.content.message_id() {
+            None => None,
+            Some(id) => Some(id.copy()),
+        },
+    }
+}
+
+/// The same where a pair is made whose response is one of these PDUs of the centre.
+fn said_in(centre: &[KeptPdu], made: Option<Pair>) -> Option<StoredResponse>
+    requires { Rises 0 centre.now }
+    ensures { result ≡ pushed.said_in centre.now made }
+{
+    let pair = made?;
+    let response = pdu_at(centre, pair.response.offset)?;
+    Some(said(pair, response))
+}
+
+/// The message that a submit_sm is, with what its response says, where it has one.
+fn message_with(
+    link: LinkId,
+    pdu: &KeptPdu,
+    submit: &Submit,
+    response: Option<StoredResponse>,
+) -> StoredMessage
+    ensures { (session : SessionIdOf)
+        → result ≡ pushed.message_with (origin_at session link) pdu.now submit.now response }
+{
+    StoredMessage {
+        link,
+        moment: pdu.moment,
+        number: match &submit.number {
+            None => None,
+            Some(number) => Some(number.copy()),
+        },
+        asks_receipt: asks_receipt(submit.registered_delivery),
+        response,
+    }
+}
+
+/// Puts in the message that a PDU of the client is, if any, with what its response says, where it has one.
+fn put_submit(
+    index: &mut Index,
+    settings: &Settings,
+    session: SessionId,
+    link: LinkId,
+    pdu: &KeptPdu,
+    response: Option<StoredResponse>,
+) -> Result<(), AllocError>
+    requires held { IsHeld settings.now (held_now index.old) }
+    requires absent { fin.get (held_now index.old).messages
+        (traffic.place_of (from_session session) FromClient pdu.now) ≡ None }
+    ensures held { OnOk result (IsHeldAfter settings.now (held_now index.old)
+        (submit_moves (origin_at session link) pdu.now response) (held_now index.new)) }
+    ensures settled { held_settled index.new ≡ held_settled index.old }
+{
+    let Some(submit) = pdu.content.submit() else {
+        return Ok(());
+    };
+    let message = message_with(link, pdu, submit, response);
+    index.put_message(settings, place_of(session, Dir::FromClient, pdu), message)?;
+    Ok(())
+}
+
+/// Takes the next PDU of the client, whose session has these PDUs of the centre.
+pub(crate) fn push_of_client(
+    index: &mut Index,
+    pairings: &mut Pairings,
+    settings: &Settings,
+    session: SessionId,
+    link: LinkId,
+    centre: &[KeptPdu],
+    pdu: &KeptPdu,
+) -> Result<(), AllocError>
+    requires held { IsHeld settings.now (held_now index.old) }
+    requires absent { fin.get (held_now index.old).messages
+        (traffic.place_of (from_session session) FromClient pdu.now) ≡ None }
+    requires next { IsNext (pairs_now pairings.old session.0)
+        (traffic.place_of (from_session session) FromClient pdu.now) }
+    requires centre { Rises 0 centre.now }
+    ensures held { (client : List KeptPduOf) → Rises 0 (client ++ pdu.now ∷ [])
+        → SubmitsAreRequests (client ++ pdu.now ∷ [])
+        → pairs_now pairings.old session.0 ≡ pairing_among (from_session session) client centre.now
+        → OnOk result (IsHeldAfter settings.now (held_now index.old)
+        (pdu_moves (origin_at session link) FromClient client centre.now pdu.now)
+        (held_now index.new)) }
+    ensures settled { held_settled index.new ≡ held_settled index.old }
+    ensures pairs { OnOk result (pairs_now pairings.new session.0
+        ≡ pushed_pairs (pairs_now pairings.old session.0)
+        (placed (from_session session) FromClient pdu.now)) }
+    ensures other_pairs { (number : ℕ) → number ≢ session.0
+        → pairs_now pairings.new number ≡ pairs_now pairings.old number }
+    ensures settled_pairs { (number : ℕ)
+        → pairs_settled pairings.new number ≡ pairs_settled pairings.old number }
+{
+    let place = place_of(session, Dir::FromClient, pdu);
+    let made = pairings.add(session, place, pdu.seq, pdu.command, pdu.status)?;
+    note_of_client(index, session, pdu, made)?;
+    let response = said_in(centre, made);
+    put_submit(index, settings, session, link, pdu, response)?;
+    Ok(())
+}
+
+/// A message with what its response says.
+fn with_response(message: &StoredMessage, response: StoredResponse) -> StoredMessage
+    ensures { result ≡ pushed.with_response message.now response }
+{
+    StoredMessage {
+        link: message.link,
+        moment: message.moment,
+        number: match &message.number {
+            None => None,
+            Some(number) => Some(number.copy()),
+        },
+        asks_receipt: message.asks_receipt,
+        response: Some(response),
+    }
+}
+
+/// Puts the message at the request of a pair, if one is stored there, in anew with what its response says.
+fn answer(
+    index: &mut Index,
+    settings: &Settings,
+    pair: Pair,
+    response: &KeptPdu,
+) -> Result<(), AllocError>
+    requires held { IsHeld settings.now (held_now index.old) }
+    ensures held { OnOk result (IsHeldAfter settings.now (held_now index.old)
+        (answer_moves (held_now index.old).messages (Some pair) response.now)
+        (held_now index.new)) }
+    ensures settled { held_settled index.new ≡ held_settled index.old }
+{
+    let Some(message) = index.messages.get(&pair.request) else {
+        return Ok(());
+    };
+    let answered = with_response(message, said(pair, response));
+    index.take_message(settings, pair.request)?;
+    index.put_message(settings, pair.request, answered)?;
+    Ok(())
+}
+
+/// The same where a pair is made.
+fn answer_made(
+    index: &mut Index,
+    settings: &Settings,
+    made: Option<Pair>,
+    response: &KeptPdu,
+) -> Result<(), AllocError>
+    requires held { IsHeld settings.now (held_now index.old) }
+    ensures held { OnOk result (IsHeldAfter settings.now (held_now index.old)
+        (answer_moves (held_now index.old).messages made response.now) (held_now index.new)) }
+    ensures settled { held_settled index.new ≡ held_settled index.old }
+{
+    match made {
+        Some(pair) => answer(index, settings, pair, response),
+        None => Ok(()),
+    }
+}
+
+/// Puts in the delivery receipt that a PDU of the centre is, if any.
+fn put_received(
+    index: &mut Index,
+    settings: &Settings,
+    session: SessionId,
+    link: LinkId,
+    pdu: &KeptPdu,
+) -> Result<(), AllocError>
+    requires held { IsHeld settings.now (held_now index.old) }
+    requires absent { fin.get (held_now index.old).receipts
+        (traffic.place_of (from_session session) FromCentre pdu.now) ≡ None }
+    ensures held { OnOk result (IsHeldAfter settings.now (held_now index.old)
+        (receipt_moves (origin_at session link) pdu.now) (held_now index.new)) }
+    ensures settled { held_settled index.new ≡ held_settled index.old }
+{
+    let Some(receipt) = pdu.content.receipt() else {
+        return Ok(());
+    };
+    let received = StoredReceipt {
+        link,
+        moment: pdu.moment,
+        receipt: receipt.copy(),
+    };
+    index.put_receipt(settings, place_of(session, Dir::FromCentre, pdu), received)?;
+    Ok(())
+}
+
+/// Takes the next PDU of the centre.
+pub(crate) fn push_of_centre(
+    index: &mut Index,
+    pairings: &mut Pairings,
+    settings: &Settings,
+    session: SessionId,
+    link: LinkId,
+    pdu: &KeptPdu,
+) -> Result<(), AllocError>
+    requires held { IsHeld settings.now (held_now index.old) }
+    requires absent { fin.get (held_now index.old).receipts
+        (traffic.place_of (from_session session) FromCentre pdu.now) ≡ None }
+    requires next { IsNext (pairs_now pairings.old session.0)
+        (traffic.place_of (from_session session) FromCentre pdu.now) }
+    ensures held { OnOk result (IsHeldAfter settings.now (held_now index.old)
+        (centre_by (origin_at session link) (held_now index.old).messages pdu.now
+        (made_by (pairs_now pairings.old session.0)
+        (placed (from_session session) FromCentre pdu.now)))
+        (held_now index.new)) }
+    ensures settled { held_settled index.new ≡ held_settled index.old }
+    ensures pairs { OnOk result (pairs_now pairings.new session.0
+        ≡ pushed_pairs (pairs_now pairings.old session.0)
+        (placed (from_session session) FromCentre pdu.now)) }
+    ensures other_pairs { (number : ℕ) → number ≢ session.0
+        → pairs_now pairings.new number ≡ pairs_now pairings.old number }
+    ensures settled_pairs { (number : ℕ)
+        → pairs_settled pairings.new number ≡ pairs_settled pairings.old number }
+{
+    let place = place_of(session, Dir::FromCentre, pdu);
+    let made = pairings.add(session, place, pdu.seq, pdu.command, pdu.status)?;
+    note_of_centre(index, session, pdu, made)?;
+    answer_made(index, settings, made, pdu)?;
+    put_received(index, settings, session, link, pdu)?;
+    Ok(())
+}

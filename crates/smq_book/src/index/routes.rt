@@ -1,0 +1,59 @@
+//! What a route changes: the facts of the messages whose numbers its prefix begins.
+ghost use Rattle.std.specs.Prelude.{◌≡◌, [], Ok, OnOk};
+ghost use Rattle.std.specs.FinMap as fin;
+ghost use Rattle.smq_kit.specs.Maps.{SameOutside};
+ghost use Rattle.smq_kit.specs.Orders.{place_cmp};
+ghost use Rattle.smq_tally.specs.declared.fact.Fact.{Fact as FactOf};
+ghost use Rattle.smq_book.specs.edits.Reached.{messages_under};
+ghost use Rattle.smq_book.specs.index.Held.{IsHeld, IsTraffic, held_by, held_now, held_settled, traffic_held};
+ghost use Rattle.smq_book.specs.index.Refreshed.{refreshed};
+ghost use Rattle.smq_book.specs.join.Facts.{facts_of};
+ghost use Rattle.smq_book.specs.pairing.Traffic.{TrafficValue};
+ghost use Rattle.smq_book.specs.present.Settings.{SettingsValue, with_versions};
+
+use crate::index::index::Index;
+use smq_kit::{Digits, Moment, Place};
+use smq_route::Routes;
+use std::alloc::AllocError;
+
+/// Sets the facts of the messages whose numbers a prefix begins anew, by routes that differ in versions of that prefix alone.
+/// On an error what is held is of no use: the caller undoes it.
+pub(crate) fn set_routes(
+    index: &mut Index,
+    routes: &Routes,
+    clock: Moment,
+    prefix: &Digits,
+) -> Result<(), AllocError>
+    ensures held { (s : SettingsValue) → s.clock ≡ clock → IsHeld s (held_now index.old)
+        → (let traffic = traffic_held (held_now index.old) in
+        SameOutside (fin.keys (messages_under prefix.now traffic)) (facts_of s traffic)
+        (facts_of (with_versions s routes.now.versions) traffic))
+        → OnOk result (IsHeld (with_versions s routes.now.versions) (held_now index.new)) }
+    ensures traffic { (s : SettingsValue) → IsHeld s (held_now index.old)
+        → OnOk result (traffic_held (held_now index.new) ≡ traffic_held (held_now index.old)) }
+    ensures settled { held_settled index.new ≡ held_settled index.old }
+{
+    let places = index.numbers.under(prefix)?;
+    refresh_at(index, routes, clock, places.as_slice())?;
+    Ok(())
+}
+
+/// Sets the facts of the messages at places anew by routes and a clock, in turn. Where there is no place, it takes no memory.
+pub(crate) fn refresh_at(
+    index: &mut Index,
+    routes: &Routes,
+    clock: Moment,
+    places: &[Place],
+) -> Result<(), AllocError>
+    ensures held { (z : SettingsValue) (t : TrafficValue) (facts : fin.FinMap place_cmp FactOf)
+        → IsTraffic t → z.versions ≡ routes.now.versions → z.clock ≡ clock
+        → held_now index.old ≡ held_by z t facts
+        → OnOk result (held_now index.new ≡ held_by z t (refreshed z t facts places.now)) }
+    ensures none { places.now ≡ [] → result ≡ Ok tt }
+    ensures settled { held_settled index.new ≡ held_settled index.old }
+{
+    for place in places {
+        index.refresh_by(routes, clock, *place)?;
+    }
+    Ok(())
+}

@@ -1,0 +1,134 @@
+//! What a withdrawal takes out: the messages, the delivery receipts and the notes of its session.
+ghost use Rattle.std.specs.Prelude.{◌≡◌, ℕ, OnOk, Some};
+ghost use Rattle.std.specs.FinMap as fin;
+ghost use Rattle.smq_book.specs.index.Held.{IsHeld, held_now, held_settled, traffic_held};
+ghost use Rattle.smq_book.specs.index.Pairs.{pairs_now, pairs_settled};
+ghost use Rattle.smq_book.specs.index.Pushed.{IsHeldAfter};
+ghost use Rattle.smq_book.specs.index.Taken.{AllTraffic, note_takes, receipt_take, receipt_takes, submit_take, submit_takes};
+ghost use Rattle.smq_book.specs.pairing.Traffic.{session_pairing, traffic_of};
+ghost use Rattle.smq_book.specs.present.Settings.{SettingsValue};
+ghost use Rattle.smq_book.specs.within.Pairs.{from_session};
+
+use crate::index::index::Index;
+use crate::index::pairings::Pairings;
+use crate::pairing::pairs::place_of;
+use crate::present::settings::Settings;
+use crate::{KeptPdu, Listed, Present, Session};
+use smq_kit::{Dir, SessionId};
+use std::alloc::AllocError;
+
+/// Takes what a session says out, whose pairs these are. On an error what is held is of no use: the caller undoes it.
+pub(crate) fn withdraw(
+    index: &mut Index,
+    pairings: &mut Pairings,
+    present: &Present,
+    number: SessionId,
+    session: &Session,
+) -> Result<(), AllocError>
+    requires held { IsHeld present.now.settings (held_now index.old) }
+    requires traffic { traffic_held (held_now index.old) ≡ traffic_of present.now.sessions }
+    requires there { fin.get present.now.sessions number.0 ≡ Some session.now }
+    requires pairs { pairs_now pairings.old number.0 ≡ session_pairing (number.0, session.now) }
+    ensures held { OnOk result (IsHeld present.now.settings (held_now index.new)) }
+    ensures traffic { OnOk result (traffic_held (held_now index.new)
+        ≡ traffic_of (fin.remove present.now.sessions number.0)) }
+    ensures settled { held_settled index.new ≡ held_settled index.old }
+    ensures pairs { (other : ℕ) → pairs_now pairings.new other ≡ pairs_now pairings.old other }
+    ensures settled_pairs { (other : ℕ) → pairs_settled pairings.new other ≡ pairs_settled pairings.old other }
+{
+    let settings = present.settings();
+    take_messages(index, settings, number, session.client.pdus())?;
+    take_receipts(index, settings, number, session.centre.pdus())?;
+    let mut notes = Vec::new(pairings.alloc);
+    pairings.push_notes(&mut notes, number, session)?;
+    take_notes(index, notes.as_slice())?;
+    Ok(())
+}
+
+/// Takes the messages that PDUs of the client are out.
+fn take_messages(
+    index: &mut Index,
+    settings: &Settings,
+    number: SessionId,
+    client: &[KeptPdu],
+) -> Result<(), AllocError>
+    requires { IsHeld settings.now (held_now index.old) }
+    ensures held { OnOk result (IsHeldAfter settings.now (held_now index.old)
+        (submit_takes (from_session number) client.now) (held_now index.new)) }
+    ensures settled { held_settled index.new ≡ held_settled index.old }
+{
+    for pdu in client {
+        take_submit(index, settings, number, pdu)?;
+    }
+    Ok(())
+}
+
+/// Takes the message that a PDU of the client is out, if it is one.
+fn take_submit(
+    index: &mut Index,
+    settings: &Settings,
+    number: SessionId,
+    pdu: &KeptPdu,
+) -> Result<(), AllocError>
+    requires { IsHeld settings.now (held_now index.old) }
+    ensures held { OnOk result (IsHeldAfter settings.now (held_now index.old)
+        (submit_take (from_session number) pdu.now) (held_now index.new)) }
+    ensures settled { held_settled index.new ≡ held_settled index.old }
+{
+    let Some(_) = pdu.content.submit() else {
+        return Ok(());
+    };
+    index.take_message(settings, place_of(number, Dir::FromClient, pdu))?;
+    Ok(())
+}
+
+/// Takes the delivery receipts that PDUs of the centre are out.
+fn take_receipts(
+    index: &mut Index,
+    settings: &Settings,
+    number: SessionId,
+    centre: &[KeptPdu],
+) -> Result<(), AllocError>
+    requires { IsHeld settings.now (held_now index.old) }
+    ensures held { OnOk result (IsHeldAfter settings.now (held_now index.old)
+        (receipt_takes (from_session number) centre.now) (held_now index.new)) }
+    ensures settled { held_settled index.new ≡ held_settled index.old }
+{
+    for pdu in centre {
+        take_received(index, settings, number, pdu)?;
+    }
+    Ok(())
+}
+
+/// Takes the delivery receipt that a PDU of the centre is out, if it is one.
+fn take_received(
+    index: &mut Index,
+    settings: &Settings,
+    number: SessionId,
+    pdu: &KeptPdu,
+) -> Result<(), AllocError>
+    requires { IsHeld settings.now (held_now index.old) }
+    ensures held { OnOk result (IsHeldAfter settings.now (held_now index.old)
+        (receipt_take (from_session number) pdu.now) (held_now index.new)) }
+    ensures settled { held_settled index.new ≡ held_settled index.old }
+{
+    let Some(_) = pdu.content.receipt() else {
+        return Ok(());
+    };
+    index.take_receipt(settings, place_of(number, Dir::FromCentre, pdu))?;
+    Ok(())
+}
+
+/// Takes notes out, of which none is in a list of receipts.
+fn take_notes(index: &mut Index, notes: &[Listed]) -> Result<(), AllocError>
+    requires { AllTraffic notes.now }
+    ensures held { (s : SettingsValue) → IsHeld s (held_now index.old)
+        → OnOk result (IsHeldAfter s (held_now index.old)
+        (note_takes notes.now) (held_now index.new)) }
+    ensures settled { held_settled index.new ≡ held_settled index.old }
+{
+    for note in notes {
+        index.take_note(note.list, note.place)?;
+    }
+    Ok(())
+}
