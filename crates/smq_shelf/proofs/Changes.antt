@@ -1,5 +1,5 @@
 -- What a change does to entries in order, and what takes it back.
-use Rattle.std.proofs.Common.{◌≡◌, Bool, true, false, List, [], ◌∷◌, ◌++◌, Option, Some, None, refl, sym, ap, ◌∙◌, subst, cond, reverse, ◌||◌}
+use Rattle.std.proofs.Common.{◌≡◌, Bool, true, false, List, [], ◌∷◌, ◌++◌, Option, Some, None, refl, sym, ap, ◌∙◌, subst, cond, reverse, ◌||◌, ◌&&◌}
 use Rattle.std.specs.Prelude.{IsSome, is_some}
 use Rattle.std.proofs.Common.{Ordering}
 use Rattle.std.specs.declared.cmp.Ordering.TheVariants.{Less, Equal, Greater}
@@ -13,7 +13,7 @@ use Rattle.std.proofs.lemmas.Cmp.{tied_itself, alike_right}
 use Rattle.std.proofs.lemmas.Map.Keys.{sorted_head, sorted_tail}
 use Rattle.std.proofs.lemmas.Map.Lookups.{CmpEqualImpliesEq}
 use Rattle.smq_shelf.specs.Places.{content_of, with_place}
-use Rattle.smq_shelf.specs.within.Undoing.{reverted, undone, pasts, CanUndo, IsKept, Logged, flatten, cleared, is_vacant}
+use Rattle.smq_shelf.specs.within.Undoing.{reverted, undone, pasts, CanUndo, IsKept, IsMade, Logged, flatten, has_value, cleared, cleared_after, is_vacant}
 use Rattle.std.proofs.lemmas.List.{reverse-append}
 use Rattle.std.proofs.lemmas.Bool.{false≢true}
 use Rattle.std.proofs.lemmas.List.Sorted.{list_any-IsPermutation, IsPermutation-reverse}
@@ -164,12 +164,16 @@ module _ {K : Type 0} {R : K → K → Ordering} (o : IsTotalOrder R) where
     pub entries : next ≡ insert_entry R es k w
     pub ordered : IsStrictlySortedBy R (keys_of next)
     pub logged : after ≡ log ++ (k, lookup (is_at (R k)) es) ∷ []
+    pub filled : has_value (lookup (is_at (R k)) es) ≡ false → is_vacant (Some w) ≡ false
     pub kept : IsKept R log es
 
   pub IsKept-put : {V : Type 0} {k : K} {w : Option V} {log after : List (Logged K V)} {es next : List (K × Option V)} → Puts k w log es after next → IsKept R after next
   IsKept-put {k = k} {w = w} {log = log} {es = es} p = record {
     ordered = p.ordered;
-    undoable = rw (p.logged, p.entries) (rw (reverse-append log ((k, lookup (is_at (R k)) es) ∷ [])) (rw (lookup-insert_entry k w es) refl, rw (reverted-insert_entry k w es p.kept.ordered) p.kept.undoable));
+    undoable = rw (p.logged, p.entries) (rw (reverse-append log ((k, lookup (is_at (R k)) es) ∷ [])) (
+      record { there = rw (lookup-insert_entry k w es) refl; filled = λ n. rw (lookup-insert_entry k w es) (p.filled n) },
+      rw (reverted-insert_entry k w es p.kept.ordered) p.kept.undoable,
+    ));
   }
 
   pub undone-put : {V : Type 0} {k : K} {w : Option V} {log after : List (Logged K V)} {es next : List (K × Option V)} → Puts k w log es after next
@@ -202,7 +206,7 @@ module _ {K : Type 0} {R : K → K → Ordering} (o : IsTotalOrder R) where
   pub can_pop : {V : Type 0} (all log : List (Logged K V)) (c : Logged K V) (es : List (K × Option V)) → all ≡ log ++ c ∷ [] → IsKept R all es → IsSome (lookup (is_at (R c.0)) es)
   can_pop {V} all log c es a k =
       let u : CanUndo R (reverse (log ++ c ∷ [])) es = subst (λ (cs : List (Logged K V)). CanUndo R (reverse cs) es) a k.undoable in
-      (rw (reverse-append log (c ∷ [])) at u).0
+      (rw (reverse-append log (c ∷ [])) at u).0.there
 
   pub content_of-put_some : {V : Type 0} → CmpEqualImpliesEq R → {k : K} {v : V} {log after : List (Logged K V)} {es next : List (K × Option V)} → Puts k (Some v) log es after next
       → content_of next ≡ insert_entry R (content_of es) k v
@@ -247,11 +251,15 @@ module _ {K : Type 0} {R : K → K → Ordering} (o : IsTotalOrder R) where
 
   pub has_place-pop : {V : Type 0} (log₀ : List (Logged K V)) (es₀ : List (K × Option V)) (log : List (Logged K V)) (c : Logged K V) (es : List (K × Option V))
       → IsUndoing log₀ es₀ (log ++ c ∷ []) es → IsSome (lookup (is_at (R c.0)) es)
-  has_place-pop log₀ es₀ log c es u = (rw (reverse-append log (c ∷ [])) at u.kept.undoable).0
+  has_place-pop log₀ es₀ log c es u = (rw (reverse-append log (c ∷ [])) at u.kept.undoable).0.there
 
-  -- a change is of the key q
+  -- a change is of the key q, which had a value before it
+  abbrev pub is_change_of : {V : Type 0} → K → Logged K V → Bool
+  is_change_of q c = is_at (R q) c.0 && has_value c.1
+
+  -- some change is
   abbrev pub is_logged : {V : Type 0} → K → List (Logged K V) → Bool
-  is_logged q log = list_any (λ c. is_at (R q) c.0) log
+  is_logged q log = list_any (is_change_of q) log
 
   pub record IsSettling {V : Type 0} (es₀ : List (K × Option V)) (log : List (Logged K V)) (es : List (K × Option V)) : Type 0 where
     pub ordered : IsStrictlySortedBy R (keys_of es)
@@ -291,22 +299,10 @@ module _ {K : Type 0} {R : K → K → Ordering} (o : IsTotalOrder R) where
   none_vacant q [] a h = cc
   none_vacant q (e ∷ es) a h = none_vacant_at (is_at (R q) e.0) e.1 (lookup (is_at (R q)) es) a.0 (none_vacant q es a.1) h
 
-  or_true : (a b : Bool) → (a ≡ false → b ≡ true) → (a || b) ≡ true
-  or_true true b h = refl
-  or_true false b h = h refl
-
-  -- each vacant place is of a change, the newest first
-  vacant_undoable : {V : Type 0} (q : K) (cs : List (Logged K V)) (es : List (K × Option V)) → CanUndo R cs es → lookup (is_at (R q)) es ≡ Some None → is_logged q cs ≡ true
-  vacant_undoable q [] es u h = absurd (none_vacant q es u h)
-  vacant_undoable q (c ∷ cs) es u h =
-      or_true (is_at (R q) c.0) (is_logged q cs) (λ n. vacant_undoable q cs (reverted R c.0 c.1 es) u.1 (lookup-reverted_other c.0 q c.1 es n ∙ h))
-
-  pub IsSettling-from_kept : {V : Type 0} (log : List (Logged K V)) (es : List (K × Option V)) → IsKept R log es → IsSettling es log es
-  IsSettling-from_kept log es k = record {
-    ordered = k.ordered;
-    same = refl;
-    vacant = λ q h. list_any-IsPermutation (λ c. is_at (R q) c.0) log (reverse log) (IsPermutation-reverse log) ∙ vacant_undoable q (reverse log) es k.undoable h;
-  }
+  or_true : (a s b : Bool) → (a ≡ false → b ≡ true) → (a ≡ true → s ≡ false → ⊥) → ((a && s) || b) ≡ true
+  or_true true true b h n = refl
+  or_true true false b h n = absurd (n refl refl)
+  or_true false s b h n = h refl
 
   pub equal_from_is_eq : (r : Ordering) → is_eq r ≡ true → r ≡ Equal
   equal_from_is_eq Less h = absurd (false≢true h)
@@ -316,6 +312,24 @@ module _ {K : Type 0} {R : K → K → Ordering} (o : IsTotalOrder R) where
   pub lookup_alike : {X : Type 0} (q k : K) (es : List (K × X)) → R q k ≡ Equal → lookup (is_at (R q)) es ≡ lookup (is_at (R k)) es
   lookup_alike q k [] h = refl
   lookup_alike q k (e ∷ es) h = rw (o.congr q k e.0 h) (rw (lookup_alike q k es h) refl)
+
+  -- a change of a key that had no value leaves its place with one
+  made_filled : {V : Type 0} (q : K) (c : Logged K V) (es : List (K × Option V)) → IsMade R c es → lookup (is_at (R q)) es ≡ Some None → is_at (R q) c.0 ≡ true → has_value c.1 ≡ false → ⊥
+  made_filled q c es m h t n =
+      false≢true (sym (m.filled n) ∙ ap is_vacant (sym (lookup_alike q c.0 es (equal_from_is_eq (R q c.0) t)) ∙ h))
+
+  -- each vacant place is of a change, the newest first
+  vacant_undoable : {V : Type 0} (q : K) (cs : List (Logged K V)) (es : List (K × Option V)) → CanUndo R cs es → lookup (is_at (R q)) es ≡ Some None → is_logged q cs ≡ true
+  vacant_undoable q [] es u h = absurd (none_vacant q es u h)
+  vacant_undoable q (c ∷ cs) es u h =
+      or_true (is_at (R q) c.0) (has_value c.1) (is_logged q cs) (λ n. vacant_undoable q cs (reverted R c.0 c.1 es) u.1 (lookup-reverted_other c.0 q c.1 es n ∙ h)) (made_filled q c es u.0 h)
+
+  pub IsSettling-from_kept : {V : Type 0} (log : List (Logged K V)) (es : List (K × Option V)) → IsKept R log es → IsSettling es log es
+  IsSettling-from_kept log es k = record {
+    ordered = k.ordered;
+    same = refl;
+    vacant = λ q h. list_any-IsPermutation (is_change_of q) log (reverse log) (IsPermutation-reverse log) ∙ vacant_undoable q (reverse log) es k.undoable h;
+  }
 
   lookup_removed_at : {X : Type 0} (k : K) (e : K × X) (es : List (K × X)) → IsStrictlySortedBy R (keys_of (e ∷ es)) → lookup (is_at (R k)) (remove_entry (is_at (R k)) es) ≡ None
       → (r : Ordering) → R k e.0 ≡ r → lookup (is_at (R k)) (cond (is_eq r) es (e ∷ remove_entry (is_at (R k)) es)) ≡ None
@@ -342,14 +356,18 @@ module _ {K : Type 0} {R : K → K → Ordering} (o : IsTotalOrder R) where
   vacant_from_is_vacant (Some None) h = refl
   vacant_from_is_vacant (Some (Some v)) h = absurd (false≢true h)
 
-  logged_before : {V : Type 0} (q : K) (log : List (Logged K V)) (c : Logged K V) → is_logged q (log ++ c ∷ []) ≡ true → is_at (R q) c.0 ≡ false → is_logged q log ≡ true
+  logged_before : {V : Type 0} (q : K) (log : List (Logged K V)) (c : Logged K V) → is_logged q (log ++ c ∷ []) ≡ true → is_change_of q c ≡ false → is_logged q log ≡ true
   logged_before q log c h n =
-      let e : (is_logged q log || (is_at (R q) c.0 || false)) ≡ true = sym (list_any-append (λ d. is_at (R q) d.0) log (c ∷ [])) ∙ h in
-      or_left (is_logged q log) (is_at (R q) c.0) e n
+      let e : (is_logged q log || (is_change_of q c || false)) ≡ true = sym (list_any-append (is_change_of q) log (c ∷ [])) ∙ h in
+      or_left (is_logged q log) (is_change_of q c) e n
     where
       or_left : (a b : Bool) → (a || (b || false)) ≡ true → b ≡ false → a ≡ true
       or_left true b e n = refl
       or_left false b e n = absurd (false≢true (sym (ap (λ x. x || false) n) ∙ e))
+
+  and_false : (a b : Bool) → b ≡ false → (a && b) ≡ false
+  and_false true b h = h
+  and_false false b h = refl
 
   -- once the place of the last change is cleared, each vacant place is of an earlier change
   vacant-pop : {V : Type 0} (log : List (Logged K V)) (c : Logged K V) (es : List (K × Option V)) → IsStrictlySortedBy R (keys_of es)
@@ -357,22 +375,32 @@ module _ {K : Type 0} {R : K → K → Ordering} (o : IsTotalOrder R) where
       → (q : K) (t : Bool) → is_at (R q) c.0 ≡ t → lookup (is_at (R q)) (cond b (remove_entry (is_at (R c.0)) es) es) ≡ Some None → is_logged q log ≡ true
   vacant-pop log c es s v true i q true t h =
       let none : lookup (is_at (R q)) (remove_entry (is_at (R c.0)) es) ≡ None = lookup_alike q c.0 (remove_entry (is_at (R c.0)) es) (equal_from_is_eq (R q c.0) t) ∙ lookup-removed c.0 es s in cc
-  vacant-pop log c es s v true i q false t h = logged_before q log c (v q (sym (lookup-remove_other c.0 q es t) ∙ h)) t
+  vacant-pop log c es s v true i q false t h = logged_before q log c (v q (sym (lookup-remove_other c.0 q es t) ∙ h)) (ap (λ x. x && has_value c.1) t)
   vacant-pop log c es s v false i q true t h =
       absurd (false≢true (sym i ∙ ap is_vacant (sym (lookup_alike q c.0 es (equal_from_is_eq (R q c.0) t)) ∙ h)))
-  vacant-pop log c es s v false i q false t h = logged_before q log c (v q h) t
+  vacant-pop log c es s v false i q false t h = logged_before q log c (v q h) (ap (λ x. x && has_value c.1) t)
+
+  -- the same, whether it is cleared or its key had no value before that change
+  vacant_after : {V : Type 0} (log : List (Logged K V)) (c : Logged K V) (es : List (K × Option V)) → IsStrictlySortedBy R (keys_of es)
+      → ((q : K) → lookup (is_at (R q)) es ≡ Some None → is_logged q (log ++ c ∷ []) ≡ true) → (b : Bool) → has_value c.1 ≡ b
+      → (q : K) → lookup (is_at (R q)) (cond b (cleared R c.0 es) es) ≡ Some None → is_logged q log ≡ true
+  vacant_after log c es s v true i q h = vacant-pop log c es s v (is_vacant (lookup (is_at (R c.0)) es)) refl q (is_at (R q) c.0) refl h
+  vacant_after log c es s v false i q h = logged_before q log c (v q h) (and_false (is_at (R q) c.0) (has_value c.1) i)
 
   content_of-cleared : {V : Type 0} (k : K) (es : List (K × Option V)) (b : Bool) → is_vacant (lookup (is_at (R k)) es) ≡ b → content_of (cond b (remove_entry (is_at (R k)) es) es) ≡ content_of es
   content_of-cleared k es true h = content_of-remove_vacant k es (vacant_from_is_vacant (lookup (is_at (R k)) es) h)
   content_of-cleared k es false h = refl
 
+  content_of-cleared_after : {V : Type 0} (k : K) (es : List (K × Option V)) (b : Bool) → content_of (cond b (cleared R k es) es) ≡ content_of es
+  content_of-cleared_after k es true = content_of-cleared k es (is_vacant (lookup (is_at (R k)) es)) refl
+  content_of-cleared_after k es false = refl
+
   pub IsSettling-pop : {V : Type 0} (es₀ : List (K × Option V)) (all log : List (Logged K V)) (c : Logged K V) (es next : List (K × Option V))
-      → all ≡ log ++ c ∷ [] → next ≡ cleared R c.0 es → IsStrictlySortedBy R (keys_of next) → IsSettling es₀ all es → IsSettling es₀ log next
+      → all ≡ log ++ c ∷ [] → next ≡ cleared_after R c es → IsStrictlySortedBy R (keys_of next) → IsSettling es₀ all es → IsSettling es₀ log next
   IsSettling-pop es₀ all log c es next a n s u = record {
     ordered = s;
-    same = ap content_of n ∙ content_of-cleared c.0 es (is_vacant (lookup (is_at (R c.0)) es)) refl ∙ u.same;
-    vacant = λ q h. vacant-pop log c es u.ordered (λ p v. ap (is_logged p) (sym a) ∙ u.vacant p v) (is_vacant (lookup (is_at (R c.0)) es)) refl q (is_at (R q) c.0) refl
-        (ap (lookup (is_at (R q))) (sym n) ∙ h);
+    same = ap content_of n ∙ content_of-cleared_after c.0 es (has_value c.1) ∙ u.same;
+    vacant = λ q h. vacant_after log c es u.ordered (λ p v. ap (is_logged p) (sym a) ∙ u.vacant p v) (has_value c.1) refl q (ap (lookup (is_at (R q))) (sym n) ∙ h);
   }
 
   occupied_at : {V : Type 0} (x : Option V) → (x ≡ None → ⊥) → IsSome x

@@ -1,5 +1,6 @@
 pub mod Finds
 pub mod Changes
+pub mod Replacing
 pub mod Walks
 pub mod Seen
 pub mod Steps

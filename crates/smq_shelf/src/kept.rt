@@ -1,5 +1,5 @@
 //! A shelf whose changes since it was last settled can be undone.
-ghost use Rattle.std.specs.Prelude.{◌≡◌, [], ◌∷◌, List, Option, ◌++◌, ◌+◌, ◌-◌, ◌*◌, ◌≤◌, ◌<◌, ◌^◌, OnOk, OnErr, None, Some, IsSome, is_some, find, length};
+ghost use Rattle.std.specs.Prelude.{◌≡◌, [], ◌∷◌, List, Option, ◌++◌, ◌+◌, ◌-◌, ◌*◌, ◌≤◌, ◌<◌, ◌^◌, IfOk, OnOk, OnErr, None, Some, IsSome, is_some, find, length, if◌then◌else◌};
 ghost use Rattle.std.specs.Option.{option_copied, option_map};
 ghost use Rattle.std.specs.Map.Iter.{deref_pair};
 ghost use Rattle.std.specs.Ordering.{is_le, is_lt};
@@ -9,7 +9,7 @@ ghost use Rattle.std.specs.BTreeMap.{is_at, insert_entry};
 ghost use Rattle.smq_shelf.specs.Keeping.{with_touches};
 ghost use Rattle.smq_shelf.specs.Shown.{touched};
 ghost use Rattle.smq_shelf.specs.Places.{content_of, places_of};
-ghost use Rattle.smq_shelf.specs.within.Undoing.{flatten, reverted, cleared};
+ghost use Rattle.smq_shelf.specs.within.Undoing.{flatten, has_value, reverted, cleared_after};
 
 use crate::{Shelf, ShelfKey};
 use std::alloc::{AllocError, Global};
@@ -91,8 +91,8 @@ impl<K: ShelfKey, V: Drop> Kept<K, V> {
         Ok(())
     }
 
-    /// Takes a key out: one touch, and one more where it has a value. Its place then stays, vacant, until the map is
-    /// settled or undone. An error changes nothing but the touches.
+    /// Takes a key out: one touch. Its place then stays, vacant, until the map is settled or undone. An error changes
+    /// nothing but the touches.
     pub fn remove(&mut self, key: &K) -> Result<(), AllocError>
         ensures content { OnOk result (self.new.content
             ≡ remove_entry (is_at (K.cmp key.now)) self.old.content) }
@@ -115,10 +115,8 @@ impl<K: ShelfKey, V: Drop> Kept<K, V> {
         ensures touches { self.new.touches ≤ self.old.touches + 2 }
         ensures counted { self.old.touches ≤ self.new.touches }
     {
-        let own = key.copy();
-        if has_value(&mut self.shelf, key) {
+        if vacate(&mut self.shelf, &mut self.log, key)? {
             self.has_vacant = true;
-            put(&mut self.shelf, &mut self.log, own, None)?;
         }
         Ok(())
     }
@@ -303,16 +301,35 @@ fn put<K: ShelfKey, V: Drop>(
     }
 }
 
-// Whether `key` has a place that isn't vacant.
-fn has_value<K: ShelfKey, V: Drop>(shelf: &mut Shelf<K, Option<V>>, key: &K) -> bool
-    ensures value { result
-        ≡ is_some (flatten (lookup (is_at (K.cmp key.now)) shelf.old.entries)) }
-    ensures entries { shelf.new.entries ≡ shelf.old.entries }
+// Makes the place of a key vacant, and puts the value that was there into the log. It tells whether there was one.
+fn vacate<K: ShelfKey, V: Drop>(
+    shelf: &mut Shelf<K, Option<V>>,
+    log: &mut Vec<(K, Option<Option<V>>)>,
+    key: &K,
+) -> Result<bool, AllocError>
+    ensures had { IfOk result (λ had. had
+        ≡ has_value (lookup (is_at (K.cmp key.now)) shelf.old.entries)) }
+    ensures entries { IfOk result (λ had. shelf.new.entries
+        ≡ if had then insert_entry K.cmp shelf.old.entries key.now None else shelf.old.entries) }
+    ensures log { IfOk result (λ had. log.new.items ≡ (if had
+        then log.old.items ++ (key.now, lookup (is_at (K.cmp key.now)) shelf.old.entries) ∷ []
+        else log.old.items)) }
+    ensures ordered { OnOk result (IsStrictlySortedBy K.cmp (keys_of shelf.new.entries)) }
+    ensures touched { OnOk result (shelf.new.touches ≡ touched shelf.old.touches) }
+    ensures err { OnErr result (shelf.new.entries ≡ shelf.old.entries) }
+    ensures err_log { OnErr result (log.new.items ≡ log.old.items) }
     ensures touches { shelf.new.touches ≤ shelf.old.touches + 1 }
     ensures counted { shelf.old.touches ≤ shelf.new.touches }
-    ensures touched { touched shelf.old.touches ≤ shelf.new.touches }
 {
-    matches!(shelf.get(key), Some(Some(_)))
+    log.reserve(1)?;
+    match shelf.replace(key, None) {
+        Some(Some(value)) => {
+            log.push((key.copy(), Some(Some(value))))?;
+            Ok(true)
+        }
+        Some(None) => Ok(false),
+        None => Ok(false),
+    }
 }
 
 // Takes one change back. The key has a place, so this takes no memory.
@@ -335,18 +352,21 @@ fn revert<K: ShelfKey, V: Drop>(shelf: &mut Shelf<K, Option<V>>, change: (K, Opt
     }
 }
 
-// Takes out the place of a change's key where it is vacant.
+// Takes out the place of a change's key where it is vacant. Only a key that had a value can have been taken out by the
+// change, so that no other is looked up.
 fn clear_vacant<K: ShelfKey, V: Drop>(
     shelf: &mut Shelf<K, Option<V>>,
     change: (K, Option<Option<V>>),
 )
-    ensures entries { shelf.new.entries ≡ cleared K.cmp change.0 shelf.old.entries }
+    ensures entries { shelf.new.entries ≡ cleared_after K.cmp change shelf.old.entries }
     ensures ordered { IsStrictlySortedBy K.cmp (keys_of shelf.old.entries)
         → IsStrictlySortedBy K.cmp (keys_of shelf.new.entries) }
     ensures touches { shelf.new.touches ≤ shelf.old.touches + 2 }
     ensures counted { shelf.old.touches ≤ shelf.new.touches }
 {
-    let (key, _before) = change;
+    let (key, Some(Some(_))) = change else {
+        return;
+    };
     let is_vacant = matches!(shelf.get(&key), Some(None));
     if is_vacant {
         shelf.remove(&key);

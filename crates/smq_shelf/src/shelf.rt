@@ -3,7 +3,7 @@ ghost use Rattle.std.specs.Prelude.{◌≡◌, ◌≤◌, [], IfOk, OnOk, IfErr,
 ghost use Rattle.std.specs.Ordering.{is_le, is_lt};
 ghost use Rattle.std.specs.Option.{option_copied, option_map};
 ghost use Rattle.std.specs.Map.Iter.{deref_pair};
-ghost use Rattle.std.specs.Map.{keys_of, lookup, remove_entry};
+ghost use Rattle.std.specs.Map.{keys_of, lookup, remove_entry, set_value};
 ghost use Rattle.std.specs.BTreeMap.{is_at, insert_entry};
 ghost use Rattle.std.specs.List.Sorted.{IsStrictlySortedBy};
 ghost use Rattle.smq_shelf.specs.Shown.{touched};
@@ -11,6 +11,7 @@ ghost use Rattle.smq_shelf.specs.Shown.{touched};
 use std::alloc::Global;
 use std::collections::BTreeMap;
 use std::marker::Model;
+use std::mem::replace;
 use std::ops::Bound;
 
 /// An ordered map with a number of touches: how many calls of `get`, `insert`, `remove`, `first_from` and
@@ -91,6 +92,26 @@ impl<K: Ord, V> Shelf<K, V> {
     {
         self.count = self.count.saturating_add(1);
         self.map.remove(key)
+    }
+
+    // Puts a value in the place of the one at a key, and gives that one. Where the key has none, nothing changes. It
+    // takes no memory. One touch.
+    pub(crate) fn replace(&mut self, key: &K, value: V) -> Option<V>
+    where
+        V: Drop,
+        ensures touches { self.new.touches ≡ touched self.old.touches }
+        ensures counted { self.old.touches ≤ self.new.touches }
+        ensures old { result ≡ lookup (is_at (K.cmp key.now)) self.old.entries }
+        ensures entries { self.new.entries
+            ≡ set_value (is_at (K.cmp key.now)) self.old.entries value }
+        ensures ordered { IsStrictlySortedBy K.cmp (keys_of self.new.entries) }
+        ensures was_ordered { IsStrictlySortedBy K.cmp (keys_of self.old.entries) }
+    {
+        self.count = self.count.saturating_add(1);
+        match self.map.get_mut(key) {
+            Some(place) => Some(replace(place, value)),
+            None => None,
+        }
     }
 }
 

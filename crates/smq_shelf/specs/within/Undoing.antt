@@ -1,5 +1,5 @@
 -- A log that takes changes back.
-use Rattle.std.specs.Prelude.{◌≡◌, cond, Bool, true, false, List, [], ◌∷◌, Option, Some, None, IsSome, reverse}
+use Rattle.std.specs.Prelude.{◌≡◌, cond, Bool, true, false, List, [], ◌∷◌, Option, Some, None, IsSome, is_some, reverse}
 use Rattle.std.specs.declared.cmp.Ordering.{Ordering}
 use Rattle.std.specs.Map.{lookup, remove_entry, keys_of}
 use Rattle.std.specs.List.{AllByRecursion}
@@ -17,6 +17,10 @@ is_vacant None = false
 is_vacant (Some None) = true
 is_vacant (Some (Some x)) = false
 
+-- a place is there, and has a value
+abbrev pub has_value : {V : Type 0} → Option (Option V) → Bool
+has_value p = is_some (flatten p)
+
 -- a key and its entry's value before a change: `None` where the key had no place
 abbrev pub Logged : Type 0 → Type 0 → Type 0
 Logged K V = K × Option (Option V)
@@ -31,6 +35,10 @@ module _ {K V : Type 0} (cmp : K → K → Ordering) where
   abbrev pub cleared : K → List (K × Option V) → List (K × Option V)
   cleared k es = cond (is_vacant (lookup (is_at (cmp k)) es)) (remove_entry (is_at (cmp k)) es) es
 
+  -- the same of the place of a change's key, where it had a value before the change: no other change leaves one vacant
+  abbrev pub cleared_after : Logged K V → List (K × Option V) → List (K × Option V)
+  cleared_after c es = cond (has_value c.1) (cleared c.0 es) es
+
   -- the entries before the changes of a log, the newest first
   abbrev pub undone : List (Logged K V) → List (K × Option V) → List (K × Option V)
   undone [] es = es
@@ -41,10 +49,15 @@ module _ {K V : Type 0} (cmp : K → K → Ordering) where
   pasts [] es = []
   pasts (c ∷ cs) es = reverted c.0 c.1 es ∷ pasts cs (reverted c.0 c.1 es)
 
-  -- each change's key has a place when it is taken back, and none is vacant in the end
+  -- a change made the entries: its key has a place, which isn't vacant unless it had a value before
+  pub record IsMade (c : Logged K V) (es : List (K × Option V)) : Type 0 where
+    pub there : IsSome (lookup (is_at (cmp c.0)) es)
+    pub filled : has_value c.1 ≡ false → is_vacant (lookup (is_at (cmp c.0)) es) ≡ false
+
+  -- each change made the entries from which it is taken back, and none of them is vacant in the end
   abbrev pub CanUndo : List (Logged K V) → List (K × Option V) → Type 0
   CanUndo [] es = AllByRecursion (λ e. IsSome e.1) es
-  CanUndo (c ∷ cs) es = IsSome (lookup (is_at (cmp c.0)) es) × CanUndo cs (reverted c.0 c.1 es)
+  CanUndo (c ∷ cs) es = IsMade c es × CanUndo cs (reverted c.0 c.1 es)
 
 -- the entries of a shelf and its log: the keys ascend, and each change can be taken back
 pub record IsKept {K V : Type 0} (cmp : K → K → Ordering) (log : List (Logged K V)) (es : List (K × Option V)) : Type 0 where

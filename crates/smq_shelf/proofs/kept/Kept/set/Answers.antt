@@ -1,4 +1,4 @@
-use Rattle.std.proofs.Common.{Some, ap}
+use Rattle.std.proofs.Common.{Some, ap, refl}
 use Rattle.smq_shelf.specs.Places.{content_of}
 use Rattle.smq_shelf.proofs.Changes.{Puts, undone-put, pasts-put, content_of-put_some}
 use Rattle.smq_shelf.proofs.Vacancies.{IsKeptBy-set}
@@ -11,6 +11,7 @@ puts g c = record {
   entries = c.in_ok-put.ensures.entries;
   ordered = c.in_ok-put.ensures.ordered;
   logged = c.in_ok-put.ensures.log;
+  filled = λ new. refl;
   kept = c.self.invariant.kept;
 }
 
