@@ -2,6 +2,7 @@
 //! written before all rows were read and played.
 ghost use Rattle.std.specs.Prelude.{◌≡◌, ◌≢◌, ◌⊎◌, ◌++◌, IfOk, IfErr, IfSome, IsErrAnd, None, OnOk};
 ghost use Rattle.std.specs.Io.KnownBytes.{Appends, Keeps};
+ghost use Rattle.smq_book.specs.present.Present.{empty};
 ghost use Rattle.smq_book.specs.whole.Scratch.{scratch};
 ghost use Rattle.smq_load.specs.Settings.{settings_of};
 ghost use Rattle.smq_report.specs.Report.{report_text};
@@ -9,7 +10,7 @@ ghost use Rattle.smq.specs.IsRun.{IsRun, TellsRun, WasRead, run_fault, unwritten
 ghost use Rattle.smq.specs.Play.{present_of, refused_of};
 
 use crate::play::play;
-use smq_book::{Book, Tables};
+use smq_book::Book;
 use smq_kit::Refusal;
 use smq_load::{LoadFault, Row, read_script, read_settings};
 use smq_report::{ReportFault, write_report};
@@ -111,44 +112,81 @@ pub fn run<RT: AllocGlobal, R: Read, W: Write>(
 {
     let settings_rows = read_settings(rt.alloc(), settings)?;
     let rows = read_script(rt.alloc(), reader)?;
-    let Ok((tables, refused)) = play_all(rt.alloc(), settings_rows, rows) else {
+    let Ok((book, refused)) = play_all(rt.alloc(), settings_rows, rows) else {
         return Err(RunFault::Memory);
     };
-    write_query(rt.alloc(), &tables, query, writer)?;
-    forget(tables);
+    write_tables(rt.alloc(), book, query, writer)?;
     Ok(Ran { refused })
 }
 
-/// The tables of what settings and a script leave present, and the rows of the script that are refused.
+/// The book that settings and a script leave, and the rows of the script that are refused.
 fn play_all(
     alloc: Global,
     settings_rows: Vec<Row>,
     rows: Vec<Row>,
-) -> Result<(Tables, Vec<(u64, Refusal)>), AllocError>
-    ensures tables { IfOk result (λ made. made.0.shown
-        ≡ scratch (present_of settings_rows.items rows.items)) }
+) -> Result<(Box<Book>, Vec<(u64, Refusal)>), AllocError>
+    ensures present { IfOk result (λ made. made.0.value.present
+        ≡ present_of settings_rows.items rows.items) }
     ensures refused { IfOk result (λ made.
         made.1.items ≡ refused_of settings_rows.items rows.items) }
 {
-    let mut book = Book::new(alloc);
-    play(alloc, &mut book, settings_rows)?;
-    let refused = play(alloc, &mut book, rows)?;
-    let tables = book.tables()?;
-    forget(book);
-    Ok((tables, refused))
+    let mut book = new_book(alloc)?;
+    let refused = play_both(alloc, &mut book, settings_rows, rows)?;
+    Ok((book, refused))
 }
 
-/// Writes what the query asks of the report of tables.
-fn write_query<W: Write>(
+/// Plays settings and then a script on a book of nothing, and gives the rows of the script that are refused.
+fn play_both(
     alloc: Global,
-    tables: &Tables,
+    book: &mut Book,
+    settings_rows: Vec<Row>,
+    rows: Vec<Row>,
+) -> Result<Vec<(u64, Refusal)>, AllocError>
+    requires { book.old.present ≡ empty }
+    ensures present { OnOk result
+        (book.new.present ≡ present_of settings_rows.items rows.items) }
+    ensures refused { IfOk result (λ refused.
+        refused.items ≡ refused_of settings_rows.items rows.items) }
+{
+    play(alloc, book, settings_rows)?;
+    let refused = play(alloc, book, rows)?;
+    Ok(refused)
+}
+
+/// A new book, on the heap: who owns it owns an address.
+fn new_book(alloc: Global) -> Result<Box<Book>, AllocError>
+    ensures { IfOk result (λ book. book.value.present ≡ empty) }
+{
+    Ok(Box::new(alloc, Book::new(alloc))?)
+}
+
+/// Writes what the query asks of the report of a book, and leaves the book to the system.
+fn write_tables<W: Write>(
+    alloc: Global,
+    book: Box<Book>,
     query: Query,
     writer: &mut W,
 ) -> Result<(), RunFault>
     ensures ok { OnOk result (Appends (W.contents writer.old) (W.contents writer.new)
-        (report_text query.pick query.format tables.now.shown)) }
+        (report_text query.pick query.format (scratch book.value.present))) }
     ensures fault { IfErr result (λ fault. (fault ≡ RunFault.Write) ⊎ (fault ≡ RunFault.Memory)) }
 {
-    write_report(alloc, tables, query.pick, query.format, writer)?;
+    let written = write_query(alloc, &book, query, writer);
+    forget(book);
+    written
+}
+
+/// Writes what the query asks of the report of a book.
+fn write_query<W: Write>(
+    alloc: Global,
+    book: &Book,
+    query: Query,
+    writer: &mut W,
+) -> Result<(), RunFault>
+    ensures ok { OnOk result (Appends (W.contents writer.old) (W.contents writer.new)
+        (report_text query.pick query.format (scratch book.now.present))) }
+    ensures fault { IfErr result (λ fault. (fault ≡ RunFault.Write) ⊎ (fault ≡ RunFault.Memory)) }
+{
+    write_report(alloc, book.tables(), query.pick, query.format, writer)?;
     Ok(())
 }

@@ -57,4 +57,5 @@ pub use present::stream::{Direction, Piece};
 pub use smq_tally::{
     Band, CountKey, Fact, List, Listed, Outcome, Places, Rows, SubmitError, Tables, Value, View,
 };
-pub use whole::book::{Book, tables_of_edits};
+pub use whole::anew::tables_anew;
+pub use whole::book::{Book, book_of_edits};

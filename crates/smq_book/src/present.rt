@@ -6,5 +6,6 @@ pub mod kept;
 pub mod piece_row;
 pub mod present;
 pub mod session;
+pub mod sessions;
 pub mod settings;
 pub mod stream;

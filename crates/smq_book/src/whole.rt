@@ -1,2 +1,4 @@
-//! The book: edits of what is present, and the tables of it.
+//! The book: edits of what is present, and the tables of it, kept current and counted anew.
+pub mod anew;
 pub mod book;
+pub mod kept_book;

@@ -1,11 +1,14 @@
 //! What no clause says of a desk: that its calls succeed with ample memory and room, what they answer then, and that two
 //! threads share it.
+ghost use Rattle.std.specs.Prelude.{◌≤◌};
+ghost use Rattle.smq_desk.specs.declared.ledger.TheConstants.{LONGEST_HISTORY};
+
 use bytes::Bytes;
 use smq_book::{Edit, Outcome, Tables, Value, View, prepare};
-use smq_desk::{CloseFault, Desk, Seat};
+use smq_desk::{CloseFault, Closed, Desk, Seat};
 use smq_frame::Tail;
 use smq_kit::{Dir, LinkId, Moment, Refusal, SessionId};
-use std::alloc::{AllocGlobal, Global};
+use std::alloc::{AllocError, AllocGlobal, Global};
 use std::process::Abort;
 use std::sync::Wait;
 use std::sync::atomic::{AtomicBool, Ordering};
@@ -85,22 +88,67 @@ fn count(tables: &Tables, link: u32, outcome: Outcome) -> u64 {
     tables.count(View::Link, &Value::Link(LinkId(link)), outcome)
 }
 
+/// What a close comes to. A desk stands on the heap here: a proof that owns an address is short, and one that owns all parts
+/// of a book is not.
+#[derive(Drop)]
+enum Ended {
+    Closed(Box<Closed>),
+    Open(CloseFault, Box<Desk>, Vec<Seat>),
+}
+
+fn boxed_desk(alloc: Global, desk: Desk) -> Result<Box<Desk>, AllocError> {
+    Ok(Box::new(alloc, desk)?)
+}
+
+fn boxed_closed(alloc: Global, closed: Closed) -> Result<Box<Closed>, AllocError> {
+    Ok(Box::new(alloc, closed)?)
+}
+
+/// Closes a desk for seats.
+fn end(alloc: Global, desk: Box<Desk>, seats: Vec<Seat>) -> Result<Ended, AllocError> {
+    match Box::into_inner(desk).close(seats) {
+        Ok(closed) => Ok(Ended::Closed(boxed_closed(alloc, closed)?)),
+        Err((fault, desk, seats)) => Ok(Ended::Open(fault, boxed_desk(alloc, desk)?, seats)),
+    }
+}
+
+/// How many entries the desk has that these seats close, if they do.
+fn entries_of(ended: &Ended) -> Option<usize> {
+    match ended {
+        Ended::Closed(closed) => Some(closed.entries().count()),
+        Ended::Open(_, _, _) => None,
+    }
+}
+
+/// A desk of an empty book, for so many entries at most.
+fn new_desk<R: AllocGlobal>(rt: &R, limit: u64) -> Result<Box<Desk>, Refusal>
+    requires { (1 ≤ limit) × (limit ≤ LONGEST_HISTORY) }
+{
+    let desk = Desk::new(rt, limit)?;
+    boxed_desk(rt.alloc(), desk).map_err(|_| Refusal::Memory)
+}
+
 /// Whether the desk closes with six entries, and its book's tables are as wanted.
-fn closes_whole(rt: &impl Abort, desk: Desk, seats: Vec<Seat>) -> bool {
-    let Ok(closed) = desk.close(seats) else {
-        return false;
-    };
-    let tables = closed.book().tables().expect(rt, "tables");
+fn closes_whole(alloc: Global, desk: Box<Desk>, seats: Vec<Seat>) -> bool {
+    match end(alloc, desk, seats) {
+        Ok(Ended::Closed(closed)) => is_whole(&closed),
+        _ => false,
+    }
+}
+
+/// Whether a desk that is closed has six entries, and its book's tables are as wanted.
+fn is_whole(closed: &Closed) -> bool {
+    let tables = closed.book().tables();
     closed.entries().count() == 6
-        && count(&tables, 1, Outcome::Open) == 1
-        && count(&tables, 2, Outcome::Open) == 1
-        && count(&tables, 3, Outcome::Waiting) == 1
+        && count(tables, 1, Outcome::Open) == 1
+        && count(tables, 2, Outcome::Open) == 1
+        && count(tables, 3, Outcome::Waiting) == 1
 }
 
 #[test]
 fn four_seats_commit_one_after_the_other(rt: HostRuntime) -> Result<(), Fail> {
     let alloc = rt.alloc();
-    let desk = Desk::new(&rt, 100)?;
+    let desk = new_desk(&rt, 100)?;
     let mut one = desk.seat(&rt)?;
     let mut two = desk.seat(&rt)?;
     let mut three = desk.seat(&rt)?;
@@ -118,7 +166,7 @@ fn four_seats_commit_one_after_the_other(rt: HostRuntime) -> Result<(), Fail> {
     let refused = put_at_start(&rt, alloc, &desk, &mut four);
     assert_eq!(rt; refused, Err(Refusal::OutOfStep { offset: 49 }));
     let seats = vec![in alloc; one, two, three, four]?;
-    let closes = closes_whole(&rt, desk, seats);
+    let closes = closes_whole(alloc, desk, seats);
     assert!(rt; closes);
     Ok(())
 }
@@ -136,7 +184,7 @@ fn meet(ours: &AtomicBool, theirs: &AtomicBool) {
 #[test]
 fn two_threads_commit_in_their_own_order(rt: HostRuntime) -> Result<(), Fail> {
     let alloc = rt.alloc();
-    let desk = Desk::new(&rt, 100)?;
+    let desk = new_desk(&rt, 100)?;
     let mut one = desk.seat(&rt)?;
     let mut two = desk.seat(&rt)?;
     let mut three = desk.seat(&rt)?;
@@ -159,15 +207,15 @@ fn two_threads_commit_in_their_own_order(rt: HostRuntime) -> Result<(), Fail> {
     let refused = put_at_start(&rt, alloc, &desk, &mut four);
     assert_eq!(rt; refused, Err(Refusal::OutOfStep { offset: 49 }));
     let seats = vec![in alloc; one, two, three, four]?;
-    let closes = closes_whole(&rt, desk, seats);
+    let closes = closes_whole(alloc, desk, seats);
     assert!(rt; closes);
     Ok(())
 }
 
 /// The desk and the seats that a close hands back, where it says that seats are missing.
-fn kept_open(desk: Desk, seats: Vec<Seat>) -> Option<(Desk, Vec<Seat>)> {
-    match desk.close(seats) {
-        Err((CloseFault::SeatsOut, desk, seats)) => Some((desk, seats)),
+fn kept_open(alloc: Global, desk: Box<Desk>, seats: Vec<Seat>) -> Option<(Box<Desk>, Vec<Seat>)> {
+    match end(alloc, desk, seats) {
+        Ok(Ended::Open(CloseFault::SeatsOut, desk, seats)) => Some((desk, seats)),
         _ => None,
     }
 }
@@ -177,7 +225,7 @@ fn a_full_history_takes_no_entry_and_a_missing_seat_keeps_the_desk_open(
     rt: HostRuntime,
 ) -> Result<(), Fail> {
     let alloc = rt.alloc();
-    let desk = Desk::new(&rt, 2)?;
+    let desk = new_desk(&rt, 2)?;
     let mut one = desk.seat(&rt)?;
     let two = desk.seat(&rt)?;
     assert_eq!(rt;
@@ -187,19 +235,17 @@ fn a_full_history_takes_no_entry_and_a_missing_seat_keeps_the_desk_open(
     let full = put_at_start(&rt, alloc, &desk, &mut one);
     assert_eq!(rt; full, Err(Refusal::HistoryFull));
     let seats = vec![in alloc; one]?;
-    let (desk, mut seats) = kept_open(desk, seats).expect(&rt, "a desk that a seat keeps open");
+    let kept = kept_open(alloc, desk, seats);
+    let (desk, mut seats) = kept.expect(&rt, "a desk that a seat keeps open");
     seats.push(two)?;
-    let entries = match desk.close(seats) {
-        Ok(closed) => closed.entries().count(),
-        Err(_) => 0,
-    };
-    assert_eq!(rt; entries, 2);
+    let ended = end(alloc, desk, seats)?;
+    assert_eq!(rt; entries_of(&ended), Some(2));
     Ok(())
 }
 
 #[test]
 fn the_desk_gives_out_65536_seats(rt: HostRuntime) -> Result<(), Fail> {
-    let desk = Desk::new(&rt, 1)?;
+    let desk = new_desk(&rt, 1)?;
     let mut last = 0;
     for _ in 0..65_536 {
         last = desk.seat(&rt)?.number();
@@ -214,8 +260,11 @@ fn the_desk_gives_out_65536_seats(rt: HostRuntime) -> Result<(), Fail> {
 type Clock = (bool, u64);
 
 /// A desk with its two seats, after these commits. Those that the book refuses have an entry and a call, too.
-fn played<R: Wait + AllocGlobal>(rt: &R, commits: &[Clock]) -> Result<(Desk, Seat, Seat), Refusal> {
-    let desk = Desk::new(rt, 100)?;
+fn played<R: Wait + AllocGlobal>(
+    rt: &R,
+    commits: &[Clock],
+) -> Result<(Box<Desk>, Seat, Seat), Refusal> {
+    let desk = new_desk(rt, 100)?;
     let mut one = desk.seat(rt)?;
     let mut two = desk.seat(rt)?;
     for (first, clock) in commits {
@@ -264,12 +313,17 @@ fn told<R: Wait + AllocGlobal>(
     put_seat(&mut seats, two, own.1)?;
     put_seat(&mut seats, their_one, other.0)?;
     put_seat(&mut seats, their_two, other.1)?;
-    let told = match desk.close(seats) {
-        Ok(_) => None,
-        Err((CloseFault::SeatsOut, _, _)) => Some((0, 0)),
-        Err((CloseFault::Torn { seat, number }, _, _)) => Some((seat, number)),
-    };
-    Ok(told)
+    let ended = end(alloc, desk, seats).map_err(|_| Refusal::Memory)?;
+    Ok(fault_of(&ended))
+}
+
+/// The seat and number that are told as torn: of no seat where the desk closes, of seat 0 where seats are out.
+fn fault_of(ended: &Ended) -> Option<(u32, u64)> {
+    match ended {
+        Ended::Closed(_) => None,
+        Ended::Open(CloseFault::SeatsOut, _, _) => Some((0, 0)),
+        Ended::Open(CloseFault::Torn { seat, number }, _, _) => Some((*seat, *number)),
+    }
 }
 
 const CLOSES: &[Close] = &[
@@ -383,7 +437,7 @@ fn put_again<R: Wait>(rt: &R, alloc: Global, desk: &Desk, seat: &mut Seat) -> bo
 /// book as they were, and the same call is answered as ever.
 #[test]
 fn want_of_memory_leaves_the_desk_as_it_was(rt: HostRuntime) -> Result<(), Fail> {
-    let desk = Desk::new(&rt, 100)?;
+    let desk = new_desk(&rt, 100)?;
     let mut seat = desk.seat(&rt)?;
     for _ in 0..9 {
         let is_put = put_again(&rt, rt.alloc(), &desk, &mut seat);
@@ -391,10 +445,7 @@ fn want_of_memory_leaves_the_desk_as_it_was(rt: HostRuntime) -> Result<(), Fail>
     }
     let mut seats = Vec::new(rt.alloc());
     seats.push(seat)?;
-    let entries = match desk.close(seats) {
-        Ok(closed) => closed.entries().count(),
-        Err(_) => 0,
-    };
-    assert_eq!(rt; entries, 9);
+    let ended = end(rt.alloc(), desk, seats)?;
+    assert_eq!(rt; entries_of(&ended), Some(9));
     Ok(())
 }

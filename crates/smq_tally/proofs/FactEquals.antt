@@ -47,7 +47,7 @@ bands a b = search rules
 errors : (a b : SubmitError) → Decides (error_eq.ghosts.eq a b) (a ≡ b)
 errors a b = search rules
 
-options : {X : Type 0} (eq : X → X → Bool) → ((x y : X) → Decides (eq x y) (x ≡ y)) → (a b : Option X) → Decides (option_eq eq a b) (a ≡ b)
+pub options : {X : Type 0} (eq : X → X → Bool) → ((x y : X) → Decides (eq x y) (x ≡ y)) → (a b : Option X) → Decides (option_eq eq a b) (a ≡ b)
 options eq decides None None = (λ h. refl, λ e. refl)
 options eq decides None (Some y) = (λ h. absurd cc, λ e. absurd cc)
 options eq decides (Some x) None = (λ h. absurd cc, λ e. absurd cc)

@@ -1,5 +1,5 @@
 -- What a tally holds, in maps that can be undone, and its tables.
-use Rattle.std.proofs.Common.{◌≡◌, ℕ, ◌+◌, ◌<◌, ◌≤◌, ◌^◌, Bool, true, false, suc, List, [], ◌∷◌, length, Option, Some, None, subst, refl, sym, ap, ◌∙◌, arith}
+use Rattle.std.proofs.Common.{◌≡◌, ℕ, ◌+◌, ◌<◌, ◌≤◌, ◌^◌, Bool, true, false, cond, suc, List, [], ◌∷◌, length, Option, Some, None, subst, refl, sym, ap, ◌∙◌, arith}
 use Rattle.std.specs.Prelude.{IsSome, map, option_to_list}
 use Rattle.std.specs.List.{list_any}
 use Rattle.std.specs.List.Sorted.{IsStrictlySortedBy}
@@ -19,11 +19,11 @@ use Rattle.smq_tally.specs.declared.list.Listed.{Listed}
 use Rattle.smq_tally.specs.Lists.{listed_cmp, listings_of_fact}
 use Rattle.smq_tally.specs.Tables.{TablesValue, tables_of}
 use Rattle.smq_tally.specs.within.Counting.{count_of, one_more, one_less}
-use Rattle.smq_tally.specs.within.Kept.{kept_place_cmp, facts_in, places_in, StandAtTheirPlaces, Tallies}
+use Rattle.smq_tally.specs.within.Kept.{kept_place_cmp, facts_in, StandAtTheirPlaces, Tallies}
 use Rattle.smq_tally.specs.within.ListOrder.{lists}
 use Rattle.smq_tally.proofs.ListOrders.{place-order}
 use Rattle.smq_tally.proofs.ListedFacts.{stand-with, stand-without, stand-none, note-listed, note-stays, note-unlisted}
-use Rattle.smq_tally.proofs.Tallies.{number-bound, added-tables, removed-tables}
+use Rattle.smq_tally.proofs.Tallies.{number-bound, added-tables, removed-tables, replaced-tables}
 
 abbrev Facts : Type 0
 Facts = FinMap place_cmp Fact
@@ -43,6 +43,11 @@ fact-found es q = seen.looked_up places_total places_exact kept-order es q
 
 pub fact-put : (es fs : Entries) (k : Place) (f : Fact) → fs ≡ insert_entry kept_place_cmp es k f → facts_in fs ≡ insert (facts_in es) k f
 fact-put es fs k f put = ap facts_in put ∙ seen.inserted places_total places_exact kept-order es k f
+
+-- the same at the place of an equal fact
+pub copy-put : (es fs : Entries) (f copy : Fact) → copy ≡ f → fs ≡ insert_entry kept_place_cmp es copy.place f
+    → facts_in fs ≡ insert (facts_in es) f.place f
+copy-put es fs f copy same put = fact-put es fs copy.place f put ∙ (λ i. insert (facts_in es) (same i).place f)
 
 pub fact-taken : (es fs : Entries) (k : Place) → IsStrictlySortedBy kept_place_cmp (keys_of es) → fs ≡ remove_entry (is_at (kept_place_cmp k)) es
     → facts_in fs ≡ remove (facts_in es) k
@@ -85,16 +90,35 @@ noted-tables : (facts : Facts) (notes : Notes) (note : Listed)
 noted-tables facts notes note = λ i. record { counts = (tables_of facts notes).counts; places = note-listed facts notes note i }
 
 -- a tally of nothing
-pub holds-nothing : (es settled : Entries) (ns settled_notes : List (Listed × Unit {0})) (shown before : TablesValue) → es ≡ [] → settled ≡ []
-    → ns ≡ [] → settled_notes ≡ []
+pub holds-nothing : (es settled : Entries) (ns settled_notes : Notes) (shown before : TablesValue) → es ≡ [] → settled ≡ []
+    → ns ≡ empty → settled_notes ≡ empty
     → shown ≡ tables_of empty empty → before ≡ tables_of empty empty
-    → Tallies (facts_in es) (facts_in settled) (places_in ns) (places_in settled_notes) shown before
+    → Tallies (facts_in es) (facts_in settled) ns settled_notes shown before
 holds-nothing es settled ns settled_notes shown before none none_settled clear clear_settled now then = record {
-  now = now ∙ (λ i. tables_of (facts_in (sym none i)) (places_in (sym clear i)));
-  before = then ∙ (λ i. tables_of (facts_in (sym none_settled i)) (places_in (sym clear_settled i)));
+  now = now ∙ (λ i. tables_of (facts_in (sym none i)) (sym clear i));
+  before = then ∙ (λ i. tables_of (facts_in (sym none_settled i)) (sym clear_settled i));
   places = subst (λ (xs : Entries). StandAtTheirPlaces (facts_in xs)) (sym none) stand-none;
   places_before = subst (λ (xs : Entries). StandAtTheirPlaces (facts_in xs)) (sym none_settled) stand-none;
 }
+
+-- tables that are those of facts and notes, and the tables and facts after a change
+module _ (facts : Facts) (notes : Notes) {now : Facts} {shown new : TablesValue} (is : shown ≡ tables_of facts notes) where
+  -- a fact was added
+  pub shown-added : (f : Fact) → get facts f.place ≡ None → now ≡ insert facts f.place f → new ≡ one_more shown f → new ≡ tables_of now notes
+  shown-added f none put counted =
+      counted ∙ ap (λ (t : TablesValue). one_more t f) is ∙ added-tables facts notes f none ∙ ap (λ (m : Facts). tables_of m notes) (sym put)
+
+  -- a fact was put in the place of another
+  pub shown-replaced : (there f : Fact) (stays : Bool) → StandAtTheirPlaces facts → get facts f.place ≡ Some there
+      → stays ≡ list_any (contains_key notes) (listings_of_fact there)
+      → now ≡ insert facts f.place f → new ≡ one_more (one_less shown there stays) f → new ≡ tables_of now notes
+  shown-replaced there f stays own has noted put counted =
+      counted ∙ (λ i. one_more (one_less (is i) there (noted i)) f) ∙ replaced-tables facts notes there f own has
+      ∙ ap (λ (m : Facts). tables_of m notes) (sym put)
+
+-- a fact that is there, put in again, changes nothing
+pub fact-same : (facts : Facts) (k : Place) (f : Fact) → get facts k ≡ Some f → facts ≡ insert facts k f
+fact-same facts k f has = sym (ordered.insert-same places_total places_exact refl facts k f has)
 
 module _ {facts settled : Facts} {notes settled_notes : Notes} {shown before : TablesValue}
     (holds : Tallies facts settled notes settled_notes shown before) where
@@ -112,8 +136,7 @@ module _ {facts settled : Facts} {notes settled_notes : Notes} {shown before : T
   -- a fact was added
   pub fact-added : {now : Facts} {new : TablesValue} (f : Fact) → get facts f.place ≡ None → now ≡ insert facts f.place f → new ≡ one_more shown f
       → new ≡ tables_of now notes
-  fact-added f none put counted =
-      counted ∙ ap (λ (t : TablesValue). one_more t f) holds.now ∙ added-tables facts notes f none ∙ ap (λ (m : Facts). tables_of m notes) (sym put)
+  fact-added f none put counted = shown-added facts notes holds.now f none put counted
 
   pub stand-added : {now : Facts} (f : Fact) → now ≡ insert facts f.place f → StandAtTheirPlaces now
   stand-added f put = subst (λ (m : Facts). StandAtTheirPlaces m) (sym put) (stand-with facts f holds.places)
@@ -153,3 +176,10 @@ module _ {facts settled : Facts} {notes settled_notes : Notes} {shown before : T
       ∙ ap (λ (t : TablesValue). record t { places = remove t.places note }) holds.now
       ∙ (λ i. record { counts = (tables_of facts notes).counts; places = note-unlisted facts notes note holds.places noted none i })
       ∙ ap (λ (n : Notes). tables_of facts n) (sym took)
+
+  -- a note was taken out, and its place stays listed where the fact there lists it
+  pub note-taken : {now : Notes} {new : TablesValue} (note : Listed) (stays : Bool) → contains_key notes note ≡ true → now ≡ remove notes note
+      → stays ≡ list_any (lists note) (option_to_list (get facts note.place))
+      → new ≡ record shown { places = cond stays shown.places (remove shown.places note) } → new ≡ tables_of facts now
+  note-taken note true noted took there listed = listed ∙ note-covered note noted took (sym there)
+  note-taken note false noted took none listed = note-removed note noted took (sym none) listed

@@ -14,3 +14,4 @@ pub mod Equals
 pub mod FactEquals
 pub mod Standing
 pub mod Written
+pub mod NotesAmong

@@ -23,7 +23,7 @@ use Rattle.smq_tally.specs.Lists.{listed, listed_cmp, listed_set, listings_by, l
 use Rattle.smq_tally.specs.Tables.{tables_of}
 use Rattle.smq_tally.specs.within.Counting.{with_listed, without}
 use Rattle.smq_tally.specs.within.Kept.{StandAtTheirPlaces}
-use Rattle.smq_tally.specs.within.ListOrder.{lists, listed_total, same_listed}
+use Rattle.smq_tally.specs.within.ListOrder.{lists, listed_total, same_listed, takes_facts}
 use Rattle.smq_tally.proofs.ListOrders.{listed_exact}
 use Rattle.smq_tally.proofs.Listings.{marked, get-listed}
 use Rattle.smq_tally.proofs.Undone.{take-out, put-again}
@@ -46,10 +46,10 @@ some-or false x = refl
 pub sets-one : (s t : FinSet listed_cmp) → ((q : Listed) → contains_key s q ≡ contains_key t q) → s ≡ t
 sets-one s t same = same_map listed_total listed_exact s t (λ q. mark (get s q) ∙ ap marked (same q) ∙ sym (mark (get t q)))
 
-have-insert : (s : FinSet listed_cmp) (e q : Listed) → contains_key (insert s e tt) q ≡ (same_listed q e || contains_key s q)
+pub have-insert : (s : FinSet listed_cmp) (e q : Listed) → contains_key (insert s e tt) q ≡ (same_listed q e || contains_key s q)
 have-insert s e q = ap is_some (get-insert listed_total s e tt q) ∙ some-or (same_listed q e) (get s q)
 
-have-listed : (es : List Listed) (q : Listed) → contains_key (listed_set es) q ≡ list_any (same_listed q) es
+pub have-listed : (es : List Listed) (q : Listed) → contains_key (listed_set es) q ≡ list_any (same_listed q) es
 have-listed es q = ap is_some (get-listed es q) ∙ is-marked (list_any (same_listed q) es)
 
 -- ---- what tables list
@@ -63,7 +63,7 @@ or-swap true true c = refl
 or-swap true false c = refl
 or-swap false b c = refl
 
-any-append : (p : Listed → Bool) (xs ys : List Listed) → list_any p (xs ++ ys) ≡ (list_any p xs || list_any p ys)
+pub any-append : (p : Listed → Bool) (xs ys : List Listed) → list_any p (xs ++ ys) ≡ (list_any p xs || list_any p ys)
 any-append p [] ys = refl
 any-append p (x ∷ xs) ys = ap (λ b. p x || b) (any-append p xs ys) ∙ sym (or-assoc (p x) (list_any p xs) (list_any p ys))
 
@@ -79,7 +79,7 @@ places-have facts notes q =
     ∙ any-append (same_listed q) (keys notes) (flat_map listings_of_fact (values facts))
     ∙ (λ i. sym (contains_key-keys notes q) i || any-flat q (values facts) i)
 
-with-have : (places : FinSet listed_cmp) (es : List Listed) (q : Listed)
+pub with-have : (places : FinSet listed_cmp) (es : List Listed) (q : Listed)
     → contains_key (with_listed places es) q ≡ (list_any (same_listed q) es || contains_key places q)
 with-have places [] q = refl
 with-have places (e ∷ es) q =
@@ -155,13 +155,13 @@ pub marked-there : (x : Option (Unit {0})) → is_some x ≡ true → x ≡ Some
 marked-there None e = absurd (false≢true e)
 marked-there (Some u) e = refl
 
--- a message is listed once at most, by its place
-abbrev Once : List Listed → Place → Type 0
-Once ls place = (ls ≡ []) ⊎ ((e : Listed) × ((ls ≡ e ∷ []) × (e.place ≡ place)))
+-- a message is listed once at most, by its place, in a list that takes messages
+abbrev pub Once : List Listed → Place → Type 0
+Once ls place = (ls ≡ []) ⊎ ((e : Listed) × ((ls ≡ e ∷ []) × ((e.place ≡ place) × (takes_facts e.list ≡ true))))
 
-listed-once : (outcome : Outcome) (place : Place) → Once (listings_by outcome place) place
-listed-once o.Open place = inr (listed l.Open place, (refl, refl))
-listed-once o.Lapsed place = inr (listed l.Lapsed place, (refl, refl))
+pub listed-once : (outcome : Outcome) (place : Place) → Once (listings_by outcome place) place
+listed-once o.Open place = inr (listed l.Open place, (refl, (refl, refl)))
+listed-once o.Lapsed place = inr (listed l.Lapsed place, (refl, (refl, refl)))
 listed-once o.Waiting place = inl refl
 listed-once o.Mismatched place = inl refl
 listed-once o.Refused place = inl refl
@@ -184,7 +184,26 @@ own-place q f h = by-once (listings_of_fact f) (listed-once f.outcome f.place) h
     by-once ls (inr one) t =
         let same : q ≡ one.0 = tells_apart listed_exact q one.0 (sym (or-none (same_listed q one.0)) ∙ ap (list_any (same_listed q)) (sym one.1.0)
         ∙ t) in
-        ap (λ (e : Listed). e.place) same ∙ one.1.1
+        ap (λ (e : Listed). e.place) same ∙ one.1.1.0
+
+-- no message is listed in a list that takes none
+pub none-taken : (q : Listed) (f : Fact) → takes_facts q.list ≡ false → lists q f ≡ false
+none-taken q f none = by-once (listings_of_fact f) (listed-once f.outcome f.place)
+  where
+    told : (e : Listed) → takes_facts e.list ≡ true → (b : Bool) → same_listed q e ≡ b → b ≡ false
+    told e takes true h =
+        absurd (false≢true (sym none ∙ ap (λ (x : Listed). takes_facts x.list) (tells_apart listed_exact q e h) ∙ takes))
+    told e takes false h = refl
+
+    by-once : (ls : List Listed) → Once ls f.place → list_any (same_listed q) ls ≡ false
+    by-once ls (inl e) = ap (list_any (same_listed q)) e
+    by-once ls (inr one) =
+        ap (list_any (same_listed q)) one.1.0 ∙ or-none (same_listed q one.0) ∙ told one.0 one.1.1.1 (same_listed q one.0) refl
+
+-- the same of the fact at a place, if there is one
+pub none-taken-at : (q : Listed) (x : Option Fact) → takes_facts q.list ≡ false → list_any (lists q) (option_to_list x) ≡ false
+none-taken-at q None none = refl
+none-taken-at q (Some f) none = ap (λ b. b || false) (none-taken q f none)
 
 -- no other fact is listed at a place that has no fact
 none-lists : (facts : FinMap place_cmp Fact) (q : Listed) → StandAtTheirPlaces facts → get facts q.place ≡ None
@@ -228,13 +247,69 @@ listed-more places e has = ordered.insert-same listed_total listed_exact refl pl
 listed-again : (places : FinSet listed_cmp) (e : Listed) → contains_key places e ≡ false → remove (insert places e tt) e ≡ places
 listed-again places e none = take-out listed_total listed_exact places e tt (nothing (get places e) none)
 
+-- the tables list what they do without a fact that is there, and what it lists
+listed-over : (facts : FinMap place_cmp Fact) (notes : FinSet listed_cmp) (place : Place) (f : Fact) → StandAtTheirPlaces facts
+    → get facts place ≡ Some f
+    → (tables_of facts notes).places ≡ with_listed (tables_of (remove facts place) notes).places (listings_of_fact f)
+listed-over facts notes place f own has =
+    let left : FinMap place_cmp Fact = remove facts place in
+    let at : f.place ≡ place = own.own place f has in
+    ap (λ (m : FinMap place_cmp Fact). (tables_of m notes).places) (sym (put-again places_total places_exact facts place f has)
+    ∙ ap (λ (p : Place). insert left p f) (sym at))
+    ∙ sym (fact-listed left notes f (ap (get left) at ∙ maps.get-removed places_total places_exact facts place))
+
+or-again : (a b : Bool) → (a || (a || b)) ≡ (a || b)
+or-again true b = refl
+or-again false b = refl
+
+-- what is listed twice is listed once
+listed-twice : (places : FinSet listed_cmp) (es : List Listed) → with_listed (with_listed places es) es ≡ with_listed places es
+listed-twice places es = sets-one _ _ (λ q.
+    with-have (with_listed places es) es q
+    ∙ ap (λ b. list_any (same_listed q) es || b) (with-have places es q)
+    ∙ or-again (list_any (same_listed q) es) (contains_key places q)
+    ∙ sym (with-have places es q))
+
+-- what a fact that is there lists is listed
+pub fact-covered : (facts : FinMap place_cmp Fact) (notes : FinSet listed_cmp) (place : Place) (f : Fact) → StandAtTheirPlaces facts
+    → get facts place ≡ Some f → with_listed (tables_of facts notes).places (listings_of_fact f) ≡ (tables_of facts notes).places
+fact-covered facts notes place f own has =
+    let over = listed-over facts notes place f own has in
+    ap (λ (p : FinSet listed_cmp). with_listed p (listings_of_fact f)) over
+    ∙ listed-twice (tables_of (remove facts place) notes).places (listings_of_fact f)
+    ∙ sym over
+
+pub left-have : (places : FinSet listed_cmp) (es : List Listed) (q : Listed)
+    → (list_any (same_listed q) es || contains_key (without places es) q) ≡ (list_any (same_listed q) es || contains_key places q)
+left-have places [] q = refl
+left-have places (e ∷ es) q =
+    elim (same_listed q e) as (λ b. same_listed q e ≡ b
+    → ((b || list_any (same_listed q) es) || contains_key (without (remove places e) es) q) ≡ ((b || list_any (same_listed q) es)
+    || contains_key places q)) [
+      | true ↦ λ h. refl
+      | false ↦ λ h. left-have (remove places e) es q
+          ∙ ap (λ b. list_any (same_listed q) es || b)
+          (ap is_some (get-remove listed_total places e q) ∙ ap (λ b. is_some (cond b None (get places q))) h)
+    ] refl
+
+-- what is listed, and is listed again where it was taken out or stayed, is what it was
+pub relisted : (places : FinSet listed_cmp) (es : List Listed) (stays : Bool) → with_listed places es ≡ places
+    → places ≡ with_listed (cond stays places (without places es)) es
+relisted places es true covered = sym covered
+relisted places es false covered = sets-one _ _ (λ q.
+    ap (λ (p : FinSet listed_cmp). contains_key p q) (sym covered)
+    ∙ with-have places es q
+    ∙ sym (left-have places es q)
+    ∙ sym (with-have (without places es) es q))
+
 -- where a fact is listed no more unless its place is noted, the tables list what they do without the fact
 pub fact-unlisted : (facts : FinMap place_cmp Fact) (notes : FinSet listed_cmp) (place : Place) (f : Fact) → StandAtTheirPlaces facts
     → get facts place ≡ Some f
     → cond (list_any (contains_key notes) (listings_of_fact f)) (tables_of facts notes).places
     (without (tables_of facts notes).places (listings_of_fact f)) ≡ (tables_of (remove facts place) notes).places
 fact-unlisted facts notes place f own has =
-    ap (λ (p : FinSet listed_cmp). cond (list_any (contains_key notes) (listings_of_fact f)) p (without p (listings_of_fact f))) before
+    ap (λ (p : FinSet listed_cmp). cond (list_any (contains_key notes) (listings_of_fact f)) p (without p (listings_of_fact f)))
+    (listed-over facts notes place f own has)
     ∙ by-once (listings_of_fact f) (listed-once f.outcome f.place)
   where
     left : FinMap place_cmp Fact
@@ -245,12 +320,6 @@ fact-unlisted facts notes place f own has =
 
     at : f.place ≡ place
     at = own.own place f has
-
-    before : (tables_of facts notes).places ≡ with_listed rest (listings_of_fact f)
-    before =
-        ap (λ (m : FinMap place_cmp Fact). (tables_of m notes).places) (sym (put-again places_total places_exact facts place f has)
-        ∙ ap (λ (p : Place). insert left p f) (sym at))
-        ∙ sym (fact-listed left notes f (ap (get left) at ∙ maps.get-removed places_total places_exact facts place))
 
     one : (e : Listed) → e.place ≡ f.place → (b : Bool) → contains_key notes e ≡ b → cond b (insert rest e tt) (remove (insert rest e tt) e) ≡ rest
     one e own-e true noted = listed-more rest e (places-have left notes e ∙ ap (λ b. b || list_any (lists e) (values left)) noted)
@@ -266,7 +335,7 @@ fact-unlisted facts notes place f own has =
     by-once ls (inr e) =
         ap (λ (es : List Listed). cond (list_any (contains_key notes) es) (with_listed rest es) (without (with_listed rest es) es)) e.1.0
         ∙ ap (λ b. cond b (insert rest e.0 tt) (remove (insert rest e.0 tt) e.0)) (or-none (contains_key notes e.0))
-        ∙ one e.0 e.1.1 (contains_key notes e.0) refl
+        ∙ one e.0 e.1.1.0 (contains_key notes e.0) refl
 
 -- ---- one note less
 

@@ -23,7 +23,7 @@ use Rattle.smq_tally.specs.declared.value.Value.{Value}
 use Rattle.smq_tally.specs.declared.view.View.{View}
 use Rattle.smq_tally.specs.Lists.{listed_cmp, listings_of_fact}
 use Rattle.smq_tally.specs.Rows.{views, view_rank, value_in, count_key, same_count_key, key_in, keys_of_fact, stands_in}
-use Rattle.smq_tally.specs.Tables.{tables_of, number_at}
+use Rattle.smq_tally.specs.Tables.{TablesValue, tables_of, number_at}
 use Rattle.smq_tally.specs.declared.counts.Step.{Step}
 use Rattle.smq_tally.specs.declared.counts.Step.TheVariants as s
 use Rattle.smq_tally.specs.within.Counting.{Counts, keys_from, count_in, count_of, stepped, one_step, steps, one_more, one_less}
@@ -32,6 +32,7 @@ use Rattle.smq_tally.specs.within.CountOrder.{count_keys_total}
 use Rattle.smq_tally.proofs.CountOrders.{count_keys_exact}
 use Rattle.smq_tally.proofs.ListedFacts.{fact-listed, fact-unlisted}
 use Rattle.smq_tally.proofs.ViewRanges.{view_next}
+use Rattle.smq_tally.proofs.Undone.{put-instead}
 
 -- counts have the number of each key, where it isn't 0
 abbrev pub Has : Counts → (CountKey → ℕ) → Type 0
@@ -236,6 +237,40 @@ pub removed-tables : (facts : FinMap place_cmp Fact) (notes : FinSet listed_cmp)
     → one_less (tables_of facts notes) f (list_any (contains_key notes) (listings_of_fact f)) ≡ tables_of (remove facts place) notes
 removed-tables facts notes place f own has =
     λ i. record { counts = counted-less facts notes place f has i; places = fact-unlisted facts notes place f own has i }
+
+-- tables with a fact in the place of another
+pub replaced-tables : (facts : FinMap place_cmp Fact) (notes : FinSet listed_cmp) (before f : Fact) → StandAtTheirPlaces facts
+    → get facts f.place ≡ Some before
+    → one_more (one_less (tables_of facts notes) before (list_any (contains_key notes) (listings_of_fact before))) f ≡ tables_of
+    (insert facts f.place f) notes
+replaced-tables facts notes before f own has =
+    ap (λ (t : TablesValue). one_more t f) (removed-tables facts notes f.place before own has)
+    ∙ added-tables (remove facts f.place) notes f (maps.get-removed places_total places_exact facts f.place)
+    ∙ ap (λ (m : FinMap place_cmp Fact). tables_of m notes) (put-instead places_total places_exact facts f.place f)
+
+left-of : (n : ℕ) → unwrap_or (positive n) 0 ≡ n
+left-of zero = refl
+left-of (suc n) = refl
+
+one-bound : (m : Counts) (key q : CountKey) (b : Bool) → same_count_key q key ≡ b → count_in (one_step s.Less m key) q ≤ count_in m q
+one-bound m key q true e =
+    let now : count_in (one_step s.Less m key) q ≡ count_in m key - 1 =
+    ap (λ (o : Option ℕ). unwrap_or o 0) (maps.get-set_at count_keys_total count_keys_exact m key (positive (count_in m key - 1)) q
+    ∙ ap (λ b. cond b (positive (count_in m key - 1)) (get m q)) e)
+    ∙ left-of (count_in m key - 1) in
+    let same : count_in m q ≡ count_in m key = ap (count_in m) (maps.same_key count_keys_total count_keys_exact q key e) in
+    omega (arith, now, same)
+one-bound m key q false e =
+    let now : count_in (one_step s.Less m key) q ≡ count_in m q =
+    ap (λ (o : Option ℕ). unwrap_or o 0) (maps.get-set_at count_keys_total count_keys_exact m key (positive (count_in m key - 1)) q
+    ∙ ap (λ b. cond b (positive (count_in m key - 1)) (get m q)) e) in
+    omega (arith, now)
+
+-- where keys are counted less, no count is more than before
+pub less-bound : (m : Counts) (keys : List CountKey) (q : CountKey) → count_in (steps s.Less m keys) q ≤ count_in m q
+less-bound m [] q = omega arith
+less-bound m (key ∷ keys) q =
+    let rest = less-bound (one_step s.Less m key) keys q in let one = one-bound m key q (same_count_key q key) refl in omega (arith, rest, one)
 
 -- ---- views in turn
 

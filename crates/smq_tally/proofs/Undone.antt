@@ -1,5 +1,5 @@
 -- What was put into a map is taken out, and what was taken out is put in again.
-use Rattle.std.proofs.Common.{◌≡◌, Bool, true, false, cond, List, [], ◌∷◌, length, Some, None, refl, sym, ap, ◌∙◌, arith}
+use Rattle.std.proofs.Common.{◌≡◌, Bool, true, false, cond, List, [], ◌∷◌, length, Option, Some, None, refl, sym, ap, ◌∙◌, arith}
 use Rattle.std.specs.declared.cmp.Ordering.{Ordering}
 use Rattle.std.specs.Ordering.{eq_by_cmp}
 use Rattle.std.specs.Cmp.{IsTotalOrder}
@@ -31,6 +31,16 @@ module _ {K X : Type 0} {R : K → K → Ordering} (o : IsTotalOrder R) (exact :
       there : (q : K) (b : Bool) → eq_by_cmp R q k ≡ b → cond b (Some v) (cond b None (get m q)) ≡ get m q
       there q true e = sym has ∙ ap (get m) (sym (maps.same_key o exact q k e))
       there q false e = refl
+
+  -- what is taken out before another is put in need not be taken out
+  pub put-instead : (m : FinMap R X) (k : K) (v : X) → insert (remove m k) k v ≡ insert m k v
+  put-instead m k v =
+      same_map o exact _ _ (λ q. get-insert o (remove m k) k v q ∙ ap (cond (eq_by_cmp R q k) (Some v)) (get-remove o m k q)
+      ∙ there (get m q) (eq_by_cmp R q k) ∙ sym (get-insert o m k v q))
+    where
+      there : (x : Option X) (b : Bool) → cond b (Some v) (cond b None x) ≡ cond b (Some v) x
+      there x true = refl
+      there x false = refl
 
   -- what isn't there need not be taken out
   pub remove-none : (m : FinMap R X) (k : K) → get m k ≡ None → remove m k ≡ m

@@ -5,3 +5,4 @@ pub mod CountOrder
 pub mod Equal
 pub mod Kept
 pub mod Keys
+pub mod Noted

@@ -7,6 +7,7 @@ mod fact;
 mod laws;
 mod list;
 mod listing;
+mod noted;
 mod outcome;
 mod places;
 mod rows;

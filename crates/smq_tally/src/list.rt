@@ -52,6 +52,7 @@ impl List {
     ghost use Rattle.std.specs.Prelude.{◌+◌, slice_get};
     ghost use Rattle.smq_tally.specs.Lists.{lists, list_rank};
     ghost use Rattle.smq_tally.specs.Names.{list_name};
+    ghost use Rattle.smq_tally.specs.within.ListOrder.{takes_facts};
 
     /// All lists, in the order of reports.
     pub fn all() -> &'static [List]
@@ -77,6 +78,13 @@ impl List {
             List::Open => "open",
             List::Lapsed => "lapsed",
         }
+    }
+
+    /// Whether messages stand in it for their outcome, beside the places that are noted in it.
+    pub(crate) fn takes_facts(self) -> bool
+        ensures { result ≡ takes_facts self }
+    {
+        matches!(self, List::Open | List::Lapsed)
     }
 
     /// The list after it.

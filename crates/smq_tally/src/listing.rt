@@ -48,6 +48,30 @@ pub(crate) fn unlist_fact(
     }
 }
 
+/// Lists the place of one fact no more, unless it stays, and that of another where this is open or lapsed. Where both are
+/// listed as one it changes nothing. An error leaves what was settled.
+pub(crate) fn relist(
+    places: &mut KeptMap<Listed, ()>,
+    before: &Fact,
+    after: &Fact,
+    stays: bool,
+) -> Result<(), AllocError>
+    requires { with_listed (places_in places.old.content) (listings_of_fact before.now)
+        ≡ places_in places.old.content }
+    ensures ok { OnOk result (places_in places.new.content
+        ≡ with_listed (cond stays (places_in places.old.content)
+        (without (places_in places.old.content) (listings_of_fact before.now)))
+        (listings_of_fact after.now)) }
+    ensures settled { places.new.settled ≡ places.old.settled }
+{
+    if before.listed() == after.listed() {
+        return Ok(());
+    }
+    unlist_fact(places, before, stays)?;
+    list_fact(places, after)?;
+    Ok(())
+}
+
 /// Lists a place no more. It says whether it left a change to take back. An error changes nothing.
 pub(crate) fn unlist(places: &mut KeptMap<Listed, ()>, listed: &Listed) -> Result<bool, AllocError>
     ensures ok { OnOk result (places_in places.new.content

@@ -4,12 +4,12 @@ ghost use Rattle.std.specs.Prelude.{◌≡◌, ◌<◌, ◌+◌, ◌^◌, IfOk, 
 ghost use Rattle.std.specs.FinMap as fin;
 ghost use Rattle.std.specs.List.Sorted.{IsStrictlySortedBy};
 ghost use Rattle.smq_kit.specs.Orders.{place_cmp};
-ghost use Rattle.smq_tally.specs.Lists.{listed_set};
+ghost use Rattle.smq_tally.specs.Lists.{listed_set, listings_of_fact};
 ghost use Rattle.smq_tally.specs.Tables.{AreOfDifferentPlaces, facts_at, tables_of, count_at, rows_of, listed_in};
 ghost use Rattle.smq_tally.specs.within.Counting.{count_of, one_more, one_less, with_listed};
 
 use crate::counts::{Step, count_from, count_of};
-use crate::listing::{list_fact, unlist, unlist_fact};
+use crate::listing::{list_fact, relist, unlist, unlist_fact};
 use crate::same::have_same_entries;
 use crate::taking_back::take_back;
 use crate::{CountKey, Fact, List, Listed, Outcome, Places, Rows, Value, View};
@@ -153,6 +153,13 @@ impl Tables {
         }
     }
 
+    /// Whether a place is listed.
+    pub(crate) fn is_listed(&self, listed: &Listed) -> bool
+        ensures { result ≡ fin.contains_key self.now.shown.places listed.now }
+    {
+        self.places.get(listed).is_some()
+    }
+
     /// Counts one fact more, and lists it where it is open or lapsed. An error changes nothing.
     pub(crate) fn add_fact(&mut self, fact: &Fact) -> Result<(), AllocError>
         requires room { (key : CountKey) → count_of self.old.shown key + 1 < 2 ^ 64 }
@@ -180,6 +187,27 @@ impl Tables {
             take_back(&mut self.places, is_logged);
             return Err(error);
         }
+        Ok(())
+    }
+
+    /// Counts a fact no more and another in its place, and lists the other where it is open or lapsed. The place of the
+    /// first is listed no more unless it stays for a note. An error leaves what was settled.
+    pub(crate) fn replace_fact(
+        &mut self,
+        before: &Fact,
+        after: &Fact,
+        stays: bool,
+    ) -> Result<(), AllocError>
+        requires room { (key : CountKey) → count_of self.old.shown key + 1 < 2 ^ 64 }
+        requires listed { with_listed self.old.shown.places (listings_of_fact before.now)
+            ≡ self.old.shown.places }
+        ensures ok { OnOk result (self.new.shown
+            ≡ one_more (one_less self.old.shown before.now stays) after.now) }
+        ensures settled { self.new.settled ≡ self.old.settled }
+    {
+        relist(&mut self.places, before, after, stays)?;
+        count_from(&mut self.counts, Step::Less, View::Link, before)?;
+        count_from(&mut self.counts, Step::More, View::Link, after)?;
         Ok(())
     }
 

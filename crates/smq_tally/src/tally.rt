@@ -1,5 +1,5 @@
 //! A tally: facts and notes as they come and go, with their tables at each step.
-ghost use Rattle.std.specs.Prelude.{◌≡◌, ◌≤◌, ◌+◌, ◌*◌, None, IsSome, IsTrue, OnOk, OnErr};
+ghost use Rattle.std.specs.Prelude.{◌≡◌, ◌≤◌, ◌+◌, ◌*◌, None, Some, IsSome, IsTrue, OnOk, OnErr};
 ghost use Rattle.std.specs.List.{list_any};
 ghost use Rattle.std.specs.Option.{option_to_list};
 ghost use Rattle.std.specs.Map.{lookup};
@@ -9,14 +9,13 @@ ghost use Rattle.smq_shelf.specs.Shown.{touched};
 ghost use Rattle.smq_tally.specs.Lists.{listed};
 ghost use Rattle.smq_tally.specs.Tables.{tables_of};
 ghost use Rattle.smq_tally.specs.Tally.{opening_tally, held_in};
-ghost use Rattle.smq_tally.specs.within.Kept.{facts_in};
-ghost use Rattle.smq_tally.specs.within.ListOrder.{lists};
+ghost use Rattle.smq_tally.specs.within.Kept.{facts_in, StandAtTheirPlaces};
+ghost use Rattle.smq_tally.specs.within.ListOrder.{lists, takes_facts};
 
-use crate::listing::has_listing;
-use crate::taking_back::take_back;
+use crate::noted::NotedTables;
 use crate::{Fact, List, Listed, Tables};
 use smq_kit::Place;
-use smq_shelf::{Kept, KeptMap};
+use smq_shelf::Kept;
 use std::alloc::{AllocError, Global};
 use std::marker::Model;
 
@@ -25,13 +24,12 @@ use std::marker::Model;
 #[derive(Drop)]
 pub struct Tally {
     facts: Kept<Place, Fact>,
-    notes: KeptMap<Listed, ()>,
-    tables: Tables,
+    tables: NotedTables,
 }
 
 impl Model for Tally {
     ghost use Rattle.smq_tally.specs.Tally.{TallyValue, tally_code};
-    ghost use Rattle.smq_tally.specs.within.Kept.{facts_in, places_in, Tallies};
+    ghost use Rattle.smq_tally.specs.within.Kept.{facts_in, Tallies};
 
     ghost Value = { TallyValue };
 
@@ -39,14 +37,14 @@ impl Model for Tally {
 
     ghost view = { λ t. record {
       facts = facts_in t.facts.content;
-      notes = places_in t.notes.content;
-      settled = record { facts = facts_in t.facts.settled; notes = places_in t.notes.settled };
+      notes = t.tables.notes;
+      settled = record { facts = facts_in t.facts.settled; notes = t.tables.settled_notes };
       touches = t.facts.touches;
       pending = t.facts.pending;
     } };
 
     ghost invariant = { λ t. Tallies (facts_in t.facts.content) (facts_in t.facts.settled)
-        (places_in t.notes.content) (places_in t.notes.settled) t.tables.shown t.tables.settled };
+        t.tables.notes t.tables.settled_notes t.tables.shown t.tables.settled };
 }
 
 impl Tally {
@@ -56,8 +54,7 @@ impl Tally {
     {
         Tally {
             facts: Kept::new(alloc),
-            notes: KeptMap::new(alloc),
-            tables: Tables::new(alloc),
+            tables: NotedTables::new(alloc),
         }
     }
 
@@ -116,9 +113,34 @@ impl Tally {
         // There are fewer places than addresses.
         let _ = self.facts.place_count();
         self.facts.remove(&place)?;
-        let is_noted = has_listing(&self.notes, &fact);
-        if let Err(error) = self.tables.remove_fact(&fact, is_noted) {
+        if let Err(error) = self.tables.remove_fact(&fact) {
             self.facts.take_back();
+            return Err(error);
+        }
+        Ok(())
+    }
+
+    /// Sets the fact of its place, in the place of one that is there: a look-up, and one change of the facts. It costs
+    /// the look-up alone where that one is equal, and no change of a list where both are in the same. An error brings
+    /// back what it held when it was last settled, or made.
+    pub fn set(&mut self, fact: Fact) -> Result<(), AllocError>
+        ensures ok { OnOk result (self.new.facts ≡ fin.insert self.old.facts fact.place fact) }
+        ensures notes { OnOk result (self.new.notes ≡ self.old.notes) }
+        ensures err { OnErr result (held_in self.new ≡ self.old.settled) }
+        ensures settled { self.new.settled ≡ self.old.settled }
+        ensures pending { self.new.pending ≤ self.old.pending + 1 }
+        ensures err_pending { OnErr result (self.new.pending ≡ 0) }
+        ensures touches { self.new.touches ≤ self.old.touches + 2 + self.old.pending + 1 }
+        ensures ok_touches { OnOk result (self.new.touches ≤ self.old.touches + 2) }
+        ensures touched { OnOk result (touched self.old.touches ≤ self.new.touches) }
+        ensures counted { self.old.touches ≤ self.new.touches }
+    {
+        let before = fact_at(&mut self.facts, &fact.place);
+        if is_same(&before, &fact) {
+            return Ok(());
+        }
+        if let Err(error) = put(&mut self.facts, &mut self.tables, &before, fact) {
+            undo_all(&mut self.facts, &mut self.tables);
             return Err(error);
         }
         Ok(())
@@ -131,12 +153,7 @@ impl Tally {
         }) }
         ensures err { OnErr result (self.new ≡ self.old) }
     {
-        let note = Listed { list, place };
-        self.notes.set(note, ())?;
-        if let Err(error) = self.tables.list_place(note) {
-            take_back(&mut self.notes, true);
-            return Err(error);
-        }
+        self.tables.note(Listed { list, place })?;
         Ok(())
     }
 
@@ -144,11 +161,11 @@ impl Tally {
     pub fn is_noted(&self, list: List, place: Place) -> bool
         ensures { result ≡ fin.contains_key self.now.notes (listed list place) }
     {
-        self.notes.get(&Listed { list, place }).is_some()
+        self.tables.is_noted(&Listed { list, place })
     }
 
-    /// Takes a note out, which is there: its place is in the list no more, unless a fact puts it there. An error changes
-    /// nothing but the touches.
+    /// Takes a note out, which is there: its place is in the list no more, unless a fact puts it there. Only where facts
+    /// put places into that list is the fact looked up. An error changes nothing but the touches.
     pub fn forget(&mut self, list: List, place: Place) -> Result<(), AllocError>
         requires noted { IsTrue (fin.contains_key self.old.notes (listed list place)) }
         ensures ok { OnOk result (self.new.notes ≡ fin.remove self.old.notes (listed list place)) }
@@ -160,30 +177,16 @@ impl Tally {
         ensures counted { self.old.touches ≤ self.new.touches }
     {
         let note = Listed { list, place };
-        let fact = fact_at(&mut self.facts, &place);
-        self.notes.remove(&note)?;
-        if is_listed(&fact, &note) {
-            return Ok(());
-        }
-        if let Err(error) = self.tables.unlist_place(&note) {
-            take_back(&mut self.notes, true);
-            return Err(error);
-        }
+        let stays = is_listed(&mut self.facts, &note);
+        self.tables.forget(&note, stays)?;
         Ok(())
-    }
-
-    /// The tables of what it holds, without the tally. It takes no memory.
-    pub fn into_tables(self) -> Tables
-        ensures { result.shown ≡ tables_of self.facts self.notes }
-    {
-        self.tables
     }
 
     /// The tables of what it holds. It takes no memory.
     pub fn tables(&self) -> &Tables
         ensures { result.now.shown ≡ tables_of self.now.facts self.now.notes }
     {
-        &self.tables
+        self.tables.tables()
     }
 
     /// How often its shelf was touched.
@@ -201,9 +204,7 @@ impl Tally {
         ensures touches { self.new.touches ≤ self.old.touches + self.old.pending }
         ensures counted { self.old.touches ≤ self.new.touches }
     {
-        self.facts.undo();
-        self.notes.undo();
-        self.tables.undo();
+        undo_all(&mut self.facts, &mut self.tables);
     }
 
     /// Makes what it holds what `undo` brings back. It takes no memory.
@@ -215,7 +216,6 @@ impl Tally {
         ensures counted { self.old.touches ≤ self.new.touches }
     {
         self.facts.settle();
-        self.notes.settle();
         self.tables.settle();
     }
 }
@@ -249,8 +249,89 @@ fn fact_at(facts: &mut Kept<Place, Fact>, place: &Place) -> Option<Fact>
     }
 }
 
+// Whether the fact that is there, if one is, is this one.
+fn is_same(there: &Option<Fact>, fact: &Fact) -> bool
+    ensures { IsTrue result → there.now ≡ Some fact.now }
+{
+    match there {
+        Some(there) => *there == *fact,
+        None => false,
+    }
+}
+
+// Puts a fact at its place, and counts and lists it in the place of the one that is there. An error leaves what was
+// settled.
+fn put(
+    facts: &mut Kept<Place, Fact>,
+    tables: &mut NotedTables,
+    before: &Option<Fact>,
+    fact: Fact,
+) -> Result<(), AllocError>
+    requires there { before.now ≡ fin.get (facts_in facts.old.content) fact.place }
+    requires places { StandAtTheirPlaces (facts_in facts.old.content) }
+    requires shown { tables.old.shown
+        ≡ tables_of (facts_in facts.old.content) tables.old.notes }
+    ensures ok { OnOk result (facts_in facts.new.content
+        ≡ fin.insert (facts_in facts.old.content) fact.place fact) }
+    ensures shown { OnOk result (tables.new.shown
+        ≡ tables_of (facts_in facts.new.content) tables.new.notes) }
+    ensures notes { OnOk result (tables.new.notes ≡ tables.old.notes) }
+    ensures settled { facts.new.settled ≡ facts.old.settled }
+    ensures settled_tables { tables.new.settled ≡ tables.old.settled }
+    ensures settled_notes { tables.new.settled_notes ≡ tables.old.settled_notes }
+    ensures pending { facts.new.pending ≤ facts.old.pending + 1 }
+    ensures touched { OnOk result (facts.new.touches ≡ touched facts.old.touches) }
+    ensures touches { facts.new.touches ≤ facts.old.touches + 1 }
+    ensures counted { facts.old.touches ≤ facts.new.touches }
+{
+    let after = fact.copy();
+    // There are fewer places than addresses.
+    let _ = facts.place_count();
+    facts.set(after.place, fact)?;
+    match before {
+        Some(before) => tables.replace_fact(before, &after)?,
+        None => tables.add_fact(&after)?,
+    }
+    Ok(())
+}
+
+// Brings back what was last settled, in each. It takes no memory.
+fn undo_all(facts: &mut Kept<Place, Fact>, tables: &mut NotedTables)
+    ensures facts { facts.new.content ≡ facts.old.settled }
+    ensures facts_settled { facts.new.settled ≡ facts.old.settled }
+    ensures shown { tables.new.shown ≡ tables.old.settled }
+    ensures settled { tables.new.settled ≡ tables.old.settled }
+    ensures notes { tables.new.notes ≡ tables.old.settled_notes }
+    ensures settled_notes { tables.new.settled_notes ≡ tables.old.settled_notes }
+    ensures pending { facts.new.pending ≡ 0 }
+    ensures touches { facts.new.touches ≤ facts.old.touches + facts.old.pending }
+    ensures counted { facts.old.touches ≤ facts.new.touches }
+{
+    facts.undo();
+    tables.undo();
+}
+
+// Whether the fact at a place that is noted puts it into the list too. In a list into which facts put no places, the fact
+// isn't looked up.
+fn is_listed(facts: &mut Kept<Place, Fact>, note: &Listed) -> bool
+    ensures value { result ≡ list_any (lists note.now)
+        (option_to_list (fin.get (facts_in facts.old.content) note.now.place)) }
+    ensures taken { IsTrue result → IsTrue (takes_facts note.now.list) }
+    ensures content { facts.new.content ≡ facts.old.content }
+    ensures settled { facts.new.settled ≡ facts.old.settled }
+    ensures pending { facts.new.pending ≡ facts.old.pending }
+    ensures touches { facts.new.touches ≤ facts.old.touches + 1 }
+    ensures counted { facts.old.touches ≤ facts.new.touches }
+{
+    if !note.list.takes_facts() {
+        return false;
+    }
+    let fact = fact_at(facts, &note.place);
+    lists_place(&fact, note)
+}
+
 // Whether a fact puts its place into a list.
-fn is_listed(fact: &Option<Fact>, note: &Listed) -> bool
+fn lists_place(fact: &Option<Fact>, note: &Listed) -> bool
     ensures { result ≡ list_any (lists note.now) (option_to_list fact.now) }
 {
     match fact {

@@ -1,6 +1,8 @@
 mod edits;
 mod equal;
 mod load;
+mod memory;
+mod random;
 mod readers;
 mod reports;
 mod scripts;

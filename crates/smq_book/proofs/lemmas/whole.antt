@@ -1,5 +1,6 @@
 -- Lemmas of tables from nothing.
 pub mod Tallied
+pub mod Unreached
 pub mod AgreePresent
 pub mod ListedTables
 pub mod KnownBook

@@ -1,5 +1,5 @@
 -- What is held after moves, and what PDUs more of a session put into the traffic and take out of it, notes and all.
-use Rattle.std.specs.Prelude.{◌≡◌, List, [], ◌∷◌, ◌++◌, map, if◌then◌else◌, Option, Some, option_and_then, option_map, option_to_list}
+use Rattle.std.specs.Prelude.{◌≡◌, List, [], ◌∷◌, ◌++◌, map, if◌then◌else◌, Option, Some, None, option_and_then, option_map, option_to_list}
 use Rattle.std.specs.List.{flat_map}
 use Rattle.std.specs.FinMap as fin
 use Rattle.smq_kit.specs.Orders.{place_cmp}
@@ -78,6 +78,10 @@ submit_moves origin p response =
 -- a message with what its response says
 abbrev pub with_response : Message → Response → Message
 with_response m response = record m { response = Some response }
+
+-- a message before its response
+abbrev pub without_response : Message → Message
+without_response m = record m { response = None }
 
 -- where a pair is made whose request is one of these messages, it is taken out and put in anew with what the response says
 abbrev pub answer_moves : fin.FinMap place_cmp Message → Option Pair → KeptPdu → List Move

@@ -1,12 +1,15 @@
 -- What a contract sees of a book.
-use Rattle.std.specs.Prelude.{refl}
-use Rattle.std.specs.Coded.{Coded, code_by}
+use Rattle.std.specs.Prelude.{ℕ, refl}
+use Rattle.std.specs.Coded.{Coded, code_by, coded×, coded_ℕ}
 use Rattle.smq_book.specs.present.Present.{PresentValue, present_code}
 
--- a book: what is present in it
+-- a book: what is present in it, and how often the shelves of what it stores were touched
 pub record BookValue : Type 0 where
   pub present : PresentValue
+  pub touches : ℕ
 
--- a book is stored as what is present
+-- it is stored as these two
 abbrev pub book_code : Coded BookValue
-book_code = code_by PresentValue present_code (λ b. b.present) (λ p. record { present = p }) (λ _. refl)
+book_code =
+    code_by (PresentValue × ℕ) (coded× present_code coded_ℕ) (λ b. (b.present, b.touches)) (λ m. record { present = m.0; touches = m.1 })
+    (λ _. refl)

@@ -199,7 +199,7 @@ impl Index {
         ensures receipts { self.new.receipts ≡ self.old.receipts }
         ensures standings { self.new.standings ≡ self.old.standings }
         ensures numbers { self.new.numbers ≡ self.old.numbers }
-        ensures notes { self.new.tally.notes ≡ self.old.tally.notes }
+        ensures notes { OnOk result (self.new.tally.notes ≡ self.old.tally.notes) }
         ensures settled { self.new.tally.settled ≡ self.old.tally.settled }
         ensures settled_due { self.new.due.settled ≡ self.old.due.settled }
         ensures facts { (z : SettingsValue) → z.versions ≡ routes.now.versions → z.clock ≡ clock
@@ -228,7 +228,7 @@ impl Index {
             message,
         );
         let is_open = is_open(&fact);
-        set_fact(&mut self.tally, fact)?;
+        self.tally.set(fact)?;
         set_due(&mut self.due, due, is_open)?;
         Ok(true)
     }
@@ -302,17 +302,6 @@ fn decider_of(
         Some(Standing::Single(Some(place))) => receipts.get(&place),
         _ => None,
     }
-}
-
-/// Sets the fact of the place that it has.
-fn set_fact(tally: &mut Tally, fact: Fact) -> Result<(), AllocError>
-    ensures facts { OnOk result (tally.new.facts ≡ fin.insert tally.old.facts fact.place fact) }
-    ensures notes { tally.new.notes ≡ tally.old.notes }
-    ensures settled { tally.new.settled ≡ tally.old.settled }
-{
-    take_fact(tally, fact.place)?;
-    tally.add(fact)?;
-    Ok(())
 }
 
 /// Takes the fact of a place out, if there is one.

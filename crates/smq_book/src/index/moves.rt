@@ -1,9 +1,10 @@
 //! Messages, delivery receipts and notes that are put in what is stored, or taken out. On an error what is held is of no
 //! use: the caller undoes it.
-ghost use Rattle.std.specs.Prelude.{◌≡◌, true, None, OnOk};
+ghost use Rattle.std.specs.Prelude.{◌≡◌, true, None, Some, OnOk};
 ghost use Rattle.std.specs.FinMap as fin;
 ghost use Rattle.smq_tally.specs.Lists.{listed};
 ghost use Rattle.smq_book.specs.index.Numbered.{numbered};
+ghost use Rattle.smq_book.specs.index.Pushed.{without_response};
 ghost use Rattle.smq_book.specs.index.PlacedKeys.{with_key, without_key};
 ghost use Rattle.smq_book.specs.index.Held.{AreOf, IsTraffic, held_now, held_of, held_settled, is_traffic_list, messages_in, receipts_in, stored_traffic};
 ghost use Rattle.smq_book.specs.join.Moves as moves;
@@ -46,6 +47,36 @@ impl Index {
             return Ok(());
         };
         let changes = self.standings.add_submit(key.link, key.key, place)?;
+        self.follow(settings, changes.as_slice())?;
+        Ok(())
+    }
+
+    /// Puts a message with its response in the place of the same without one.
+    pub(crate) fn answer_message(
+        &mut self,
+        settings: &Settings,
+        place: Place,
+        answered: StoredMessage,
+    ) -> Result<(), AllocError>
+        requires are { AreOf settings.now
+            (stored_traffic self.old.messages.content self.old.receipts.content)
+            self.old.standings.members }
+        requires unanswered { fin.get (messages_in self.old.messages.content) place
+            ≡ Some (without_response answered) }
+        ensures held { (t : TrafficValue) → IsTraffic t → held_now self.old ≡ held_of settings.now t
+            → OnOk result
+            (held_now self.new ≡ held_of settings.now (moves.put_message place answered t)) }
+        ensures settled { held_settled self.new ≡ held_settled self.old }
+    {
+        let key = answered.key(settings);
+        self.messages.set(place, answered)?;
+        let Some(accepted) = key else {
+            self.refresh(settings, place)?;
+            return Ok(());
+        };
+        let changes = self
+            .standings
+            .add_submit(accepted.link, accepted.key, place)?;
         self.follow(settings, changes.as_slice())?;
         Ok(())
     }

@@ -152,7 +152,8 @@ fn with_response(message: &StoredMessage, response: StoredResponse) -> StoredMes
     }
 }
 
-/// Puts the message at the request of a pair, if one is stored there, in anew with what its response says.
+/// Puts the message at the request of a pair, if one is stored there, in anew with what its response says: in its place, where it
+/// had no response.
 fn answer(
     index: &mut Index,
     settings: &Settings,
@@ -169,6 +170,11 @@ fn answer(
         return Ok(());
     };
     let answered = with_response(message, said(pair, response));
+    let is_first = message.response.is_none();
+    if is_first {
+        index.answer_message(settings, pair.request, answered)?;
+        return Ok(());
+    }
     index.take_message(settings, pair.request)?;
     index.put_message(settings, pair.request, answered)?;
     Ok(())

@@ -1,17 +1,29 @@
 //! The sessions by their numbers, and what is set.
 //!
-//! Who changes what an edit does tests all that refuses it first, in the order of specs/present/Replies.antt, and takes
-//! all memory before the first change: so a refused edit changes nothing.
-ghost use Rattle.std.specs.Prelude.{◌≡◌, ℕ, None, MatchResult, option_copied};
+//! Who changes what an edit does tests all that refuses it first, in the order of specs/present/Replies.antt. Then what is
+//! stored takes it, which can be undone, and last what is present: so a refused edit changes nothing.
+ghost use Rattle.std.specs.Prelude.{◌≡◌, ◌≢◌, ℕ, [], None, Err, OnOk, option_copied};
 ghost use Rattle.std.specs.FinMap as map;
 ghost use Rattle.std.specs.Map.Iter.{ShowsInOrder, deref_pair};
+ghost use Rattle.smq_book.specs.edits.Reached.{due_by};
+ghost use Rattle.smq_book.specs.index.Held.{IsHeld, held_now, held_settled, traffic_held};
+ghost use Rattle.smq_book.specs.declared.index.pairings.Pairings.{Pairings as PairingsOf};
+ghost use Rattle.smq_book.specs.index.Kept.{IsKept};
+ghost use Rattle.smq_book.specs.index.Pairs.{pairs_now, pairs_settled};
+ghost use Rattle.smq_book.specs.pairing.Traffic.{traffic_of};
 ghost use Rattle.smq_book.specs.within.InOrder.{sessions_in};
 ghost use Rattle.smq_book.specs.present.Present.{empty, session_of};
-ghost use Rattle.smq_kit.specs.Replies.{IsReply, IsReplyInPlace, first_of};
+ghost use Rattle.smq_kit.specs.Replies.{IsReply};
 ghost use Rattle.smq_route.specs.Versions.{AreApart};
-ghost use Rattle.smq_book.specs.present.Replies.{append_refusals, no_session, reply};
-ghost use Rattle.smq_book.specs.present.Steps.{session_after, change};
+ghost use Rattle.smq_book.specs.present.Replies.{reply};
+ghost use Rattle.smq_book.specs.present.Steps.{change};
 
+use crate::index::append::append;
+use crate::index::forms::{put_link, take_link};
+use crate::index::index::Index;
+use crate::index::pairings::Pairings;
+use crate::index::withdraw::withdraw;
+use crate::present::sessions::{append_in, remove_session};
 use crate::present::settings::Settings;
 use crate::{Batch, Edit, Forms, Session};
 use smq_kit::{Digits, LinkId, Moment, Network, Refusal, RouteId, SessionId};
@@ -97,145 +109,239 @@ impl Present {
         self.settings.clock()
     }
 
-    /// Puts a batch after its direction, in its session or in a new one. A refusal changes nothing.
-    pub(crate) fn append(&mut self, alloc: Global, batch: Batch) -> Result<(), Refusal>
-        ensures { IsReply (reply self.old (Edit.Append batch)) result
+    /// What refuses a batch, if anything: want of memory aside.
+    fn append_refusal(&self, alloc: Global, batch: &Batch) -> Option<Refusal>
+        ensures { result ≡ reply self.now (Edit.Append batch.now) }
+    {
+        match self.sessions.get(&batch.session.0) {
+            Some(session) => session.refusal(batch),
+            None => Session::new(alloc, batch.link).refusal(batch),
+        }
+    }
+
+    /// Puts a batch after its direction, in its session or in a new one, and what it says in what is kept. A refusal changes
+    /// nothing.
+    pub(crate) fn append(
+        &mut self,
+        alloc: Global,
+        index: &mut Index,
+        pairings: &mut Pairings,
+        batch: Batch,
+    ) -> Result<(), Refusal>
+        requires kept { IsKept self.old index.old pairings.old }
+        ensures reply { IsReply (reply self.old (Edit.Append batch)) result
             (self.new ≡ change self.old (Edit.Append batch)) (self.new ≡ self.old) }
+        ensures kept { IsKept self.new index.new pairings.new }
     {
-        append_in(alloc, &mut self.sessions, batch)
+        let session = batch.session;
+        if let Some(refusal) = self.append_refusal(alloc, &batch) {
+            return Err(refusal);
+        }
+        let Ok(()) = append(index, pairings, self, &batch) else {
+            undo(index, pairings, session);
+            return Err(Refusal::Memory);
+        };
+        match append_in(alloc, &mut self.sessions, batch) {
+            Ok(()) => {}
+            Err(refusal) => {
+                undo(index, pairings, session);
+                return Err(refusal);
+            }
+        }
+        index.settle();
+        pairings.settle(session);
+        Ok(())
     }
 
-    /// Takes a session back, with both its directions. A refusal changes nothing.
-    pub(crate) fn withdraw(&mut self, session: SessionId) -> Result<(), Refusal>
-        ensures { IsReply (reply self.old (Edit.Withdraw session)) result
+    /// Takes a session back, with both its directions and all that it says. A refusal changes nothing.
+    pub(crate) fn withdraw(
+        &mut self,
+        index: &mut Index,
+        pairings: &mut Pairings,
+        session: SessionId,
+    ) -> Result<(), Refusal>
+        requires kept { IsKept self.old index.old pairings.old }
+        ensures reply { IsReply (reply self.old (Edit.Withdraw session)) result
             (self.new ≡ change self.old (Edit.Withdraw session)) (self.new ≡ self.old) }
+        ensures kept { IsKept self.new index.new pairings.new }
     {
-        remove_session(&mut self.sessions, session.0)
+        let found = match self.sessions.get(&session.0) {
+            Some(found) => found,
+            None => return Err(Refusal::NoSession),
+        };
+        let Ok(()) = withdraw(index, pairings, self, session, found) else {
+            index.undo();
+            return Err(Refusal::Memory);
+        };
+        remove_session(&mut self.sessions, session.0)?;
+        pairings.remove(session);
+        index.settle();
+        Ok(())
     }
 
-    /// Sets the forms of a link's message ids. A refusal changes nothing.
-    pub(crate) fn set_forms(&mut self, link: LinkId, forms: Forms) -> Result<(), Refusal>
-        ensures { let edit = Edit.SetForm link forms.response forms.receipt in
+    /// Sets the forms of a link's message ids, and the keys of its messages and delivery receipts anew. A refusal changes
+    /// nothing.
+    pub(crate) fn set_forms(
+        &mut self,
+        alloc: Global,
+        index: &mut Index,
+        link: LinkId,
+        forms: Forms,
+    ) -> Result<(), Refusal>
+        requires held { IsHeld self.old.settings (held_now index.old) }
+        requires traffic { traffic_held (held_now index.old) ≡ traffic_of self.old.sessions }
+        requires settled { held_settled index.old ≡ held_now index.old }
+        ensures reply { let edit = Edit.SetForm link forms.response forms.receipt in
             IsReply (reply self.old edit) result
             (self.new ≡ change self.old edit) (self.new ≡ self.old) }
+        ensures held { IsHeld self.new.settings (held_now index.new) }
+        ensures traffic { traffic_held (held_now index.new) ≡ traffic_of self.new.sessions }
+        ensures settled { held_settled index.new ≡ held_now index.new }
+        ensures kept { (pairings : PairingsOf) → IsKept self.old index.old pairings
+            → IsKept self.new index.new pairings }
     {
-        self.settings.set_forms(link, forms)
+        let Ok(()) = self.change_forms(alloc, index, link, forms) else {
+            index.undo();
+            return Err(Refusal::Memory);
+        };
+        index.settle();
+        Ok(())
+    }
+
+    /// Takes all of a link out, sets its forms, and puts all of it in again. A refusal changes nothing but what is held, which
+    /// the caller undoes.
+    fn change_forms(
+        &mut self,
+        alloc: Global,
+        index: &mut Index,
+        link: LinkId,
+        forms: Forms,
+    ) -> Result<(), Refusal>
+        requires held { IsHeld self.old.settings (held_now index.old) }
+        requires traffic { traffic_held (held_now index.old) ≡ traffic_of self.old.sessions }
+        ensures reply { let edit = Edit.SetForm link forms.response forms.receipt in
+            IsReply (reply self.old edit) result
+            (self.new ≡ change self.old edit) (self.new ≡ self.old) }
+        ensures held { OnOk result (IsHeld self.new.settings (held_now index.new)) }
+        ensures traffic { OnOk result
+            (traffic_held (held_now index.new) ≡ traffic_held (held_now index.old)) }
+        ensures settled { held_settled index.new ≡ held_settled index.old }
+    {
+        let Ok(taken) = take_link(alloc, index, self, link) else {
+            return Err(Refusal::Memory);
+        };
+        let Ok(before) = self.settings.set_forms(link, forms) else {
+            return Err(Refusal::Memory);
+        };
+        let Ok(()) = put_link(index, &self.settings, taken) else {
+            self.settings.restore_forms(link, before);
+            return Err(Refusal::Memory);
+        };
+        Ok(())
     }
 
     /// Puts an open version of a route in. A refusal changes nothing.
     pub(crate) fn add_route(
         &mut self,
+        index: &mut Index,
         prefix: Digits,
         from: Moment,
         route: RouteId,
         network: Network,
     ) -> Result<(), Refusal>
-        ensures { let edit = Edit.AddRoute prefix from route network in
+        requires held { IsHeld self.old.settings (held_now index.old) }
+        requires settled { held_settled index.old ≡ held_now index.old }
+        ensures reply { let edit = Edit.AddRoute prefix from route network in
             IsReply (reply self.old edit) result
             (self.new ≡ change self.old edit) (self.new ≡ self.old) }
+        ensures held { IsHeld self.new.settings (held_now index.new) }
+        ensures traffic { traffic_held (held_now index.new) ≡ traffic_held (held_now index.old) }
+        ensures settled { held_settled index.new ≡ held_now index.new }
+        ensures kept { (pairings : PairingsOf) → IsKept self.old index.old pairings
+            → IsKept self.new index.new pairings }
     {
-        self.settings.add_route(prefix, from, route, network)
+        self.settings.add_route(index, prefix, from, route, network)
     }
 
     /// Ends a version of a route. A refusal changes nothing.
     pub(crate) fn end_route(
         &mut self,
+        index: &mut Index,
         prefix: &Digits,
         from: Moment,
         until: Moment,
     ) -> Result<(), Refusal>
-        ensures { let edit = Edit.EndRoute prefix.now from until in
+        requires held { IsHeld self.old.settings (held_now index.old) }
+        requires settled { held_settled index.old ≡ held_now index.old }
+        ensures reply { let edit = Edit.EndRoute prefix.now from until in
             IsReply (reply self.old edit) result
             (self.new ≡ change self.old edit) (self.new ≡ self.old) }
+        ensures held { IsHeld self.new.settings (held_now index.new) }
+        ensures traffic { traffic_held (held_now index.new) ≡ traffic_held (held_now index.old) }
+        ensures settled { held_settled index.new ≡ held_now index.new }
+        ensures kept { (pairings : PairingsOf) → IsKept self.old index.old pairings
+            → IsKept self.new index.new pairings }
     {
-        self.settings.end_route(prefix, from, until)
+        self.settings.end_route(index, prefix, from, until)
     }
 
     /// Gives a version of a route another route and network. A refusal changes nothing.
     pub(crate) fn correct_route(
         &mut self,
+        index: &mut Index,
         prefix: &Digits,
         from: Moment,
         route: RouteId,
         network: Network,
     ) -> Result<(), Refusal>
-        ensures { let edit = Edit.CorrectRoute prefix.now from route network in
+        requires held { IsHeld self.old.settings (held_now index.old) }
+        requires settled { held_settled index.old ≡ held_now index.old }
+        ensures reply { let edit = Edit.CorrectRoute prefix.now from route network in
             IsReply (reply self.old edit) result
             (self.new ≡ change self.old edit) (self.new ≡ self.old) }
+        ensures held { IsHeld self.new.settings (held_now index.new) }
+        ensures traffic { traffic_held (held_now index.new) ≡ traffic_held (held_now index.old) }
+        ensures settled { held_settled index.new ≡ held_now index.new }
+        ensures kept { (pairings : PairingsOf) → IsKept self.old index.old pairings
+            → IsKept self.new index.new pairings }
     {
-        self.settings.correct_route(prefix, from, route, network)
+        self.settings
+            .correct_route(index, prefix, from, route, network)
     }
 
-    /// Sets the clock. A refusal changes nothing.
-    pub(crate) fn advance(&mut self, clock: Moment) -> Result<(), Refusal>
-        ensures { IsReply (reply self.old (Edit.Advance clock)) result
+    /// Sets the clock. Where it lapses no message, it takes no memory. A refusal changes nothing.
+    pub(crate) fn advance(
+        &mut self,
+        alloc: Global,
+        index: &mut Index,
+        clock: Moment,
+    ) -> Result<(), Refusal>
+        requires held { IsHeld self.old.settings (held_now index.old) }
+        requires settled { held_settled index.old ≡ held_now index.old }
+        ensures reply { IsReply (reply self.old (Edit.Advance clock)) result
             (self.new ≡ change self.old (Edit.Advance clock)) (self.new ≡ self.old) }
+        ensures held { IsHeld self.new.settings (held_now index.new) }
+        ensures traffic { traffic_held (held_now index.new) ≡ traffic_held (held_now index.old) }
+        ensures settled { held_settled index.new ≡ held_now index.new }
+        ensures kept { (pairings : PairingsOf) → IsKept self.old index.old pairings
+            → IsKept self.new index.new pairings }
+        ensures none { map.keys (due_by self.old.settings (traffic_held (held_now index.old)) clock) ≡ []
+            → result ≢ Err Refusal.Memory }
     {
-        self.settings.advance(clock)
+        self.settings.advance(alloc, index, clock)
     }
 }
 
-/// Puts a batch after its direction, in its session or in a new one. A refusal changes nothing.
-fn append_in(
-    alloc: Global,
-    sessions: &mut BTreeMap<u64, Session>,
-    batch: Batch,
-) -> Result<(), Refusal>
-    ensures { let session = map.get (sessions_in sessions.old) batch.session.0 in
-        IsReply (first_of (append_refusals session batch)) result
-        (sessions_in sessions.new
-        ≡ map.insert (sessions_in sessions.old) batch.session.0 (session_after session batch))
-        (sessions_in sessions.new ≡ sessions_in sessions.old) }
+/// Brings back what was kept of a session, and all that was held.
+fn undo(index: &mut Index, pairings: &mut Pairings, session: SessionId)
+    ensures held { held_now index.new ≡ held_settled index.old }
+    ensures settled { held_settled index.new ≡ held_settled index.old }
+    ensures pairs { pairs_now pairings.new session.0 ≡ pairs_settled pairings.old session.0 }
+    ensures other_pairs { (number : ℕ) → number ≢ session.0
+        → pairs_now pairings.new number ≡ pairs_now pairings.old number }
+    ensures settled_pairs { (number : ℕ)
+        → pairs_settled pairings.new number ≡ pairs_settled pairings.old number }
 {
-    let number = batch.session.0;
-    match sessions.get_mut(&number) {
-        Some(session) => session.append(batch),
-        None => append_new(alloc, sessions, batch),
-    }
-}
-
-/// Puts a batch into a new session. A refusal changes nothing.
-fn append_new(
-    alloc: Global,
-    sessions: &mut BTreeMap<u64, Session>,
-    batch: Batch,
-) -> Result<(), Refusal>
-    ensures { IsReply (first_of (append_refusals None batch)) result
-        (sessions_in sessions.new
-        ≡ map.insert (sessions_in sessions.old) batch.session.0 (session_after None batch))
-        (sessions_in sessions.new ≡ sessions_in sessions.old) }
-{
-    let number = batch.session.0;
-    match Session::from_batch(alloc, batch) {
-        Ok(session) => insert_session(sessions, number, session),
-        Err(refusal) => Err(refusal),
-    }
-}
-
-/// Puts a new session in. An error changes nothing.
-fn insert_session(
-    sessions: &mut BTreeMap<u64, Session>,
-    number: u64,
-    session: Session,
-) -> Result<(), Refusal>
-    ensures { MatchResult result
-        (λ _. sessions_in sessions.new ≡ map.insert (sessions_in sessions.old) number session)
-        (λ e. (e ≡ Refusal.Memory) × (sessions_in sessions.new ≡ sessions_in sessions.old)) }
-{
-    match sessions.insert(number, session) {
-        Ok(_) => Ok(()),
-        Err(_) => Err(Refusal::Memory),
-    }
-}
-
-/// Takes a session out, which takes no memory. A refusal changes nothing.
-fn remove_session(sessions: &mut BTreeMap<u64, Session>, number: u64) -> Result<(), Refusal>
-    ensures { IsReplyInPlace (no_session (map.get (sessions_in sessions.old) number)) result
-        (sessions_in sessions.new ≡ map.remove (sessions_in sessions.old) number)
-        (sessions_in sessions.new ≡ sessions_in sessions.old) }
-{
-    match sessions.remove(&number) {
-        Some(_) => Ok(()),
-        None => Err(Refusal::NoSession),
-    }
+    index.undo();
+    pairings.undo(session);
 }

@@ -1,14 +1,21 @@
 //! What is set: for the sessions of links, for the numbers that prefixes begin, and the clock.
-ghost use Rattle.std.specs.Prelude.{◌≡◌, ℕ, MatchResult};
+ghost use Rattle.std.specs.Prelude.{◌≡◌, ◌≢◌, ℕ, [], Err, IfErr, IfOk, IsSome, MatchResult, OnOk};
 ghost use Rattle.std.specs.FinMap as map;
 ghost use Rattle.std.specs.Map.Iter.{ShowsInOrder, deref_pair};
-ghost use Rattle.smq_kit.specs.Replies.{IsReply, IsReplyInPlace, first_of};
+ghost use Rattle.smq_kit.specs.Maps.{SameOutside, set_at};
+ghost use Rattle.smq_kit.specs.Replies.{IsReply, first_of};
 ghost use Rattle.smq_route.specs.Edits.{add_refusals, end_refusals, correct_refusals, added, changed, ending, corrected};
 ghost use Rattle.smq_route.specs.Versions.{AreApart, version_of, route_at};
+ghost use Rattle.smq_book.specs.edits.Reached.{due_by, messages_under};
+ghost use Rattle.smq_book.specs.index.Held.{IsHeld, held_now, held_settled, traffic_held};
+ghost use Rattle.smq_book.specs.join.Facts.{facts_of};
 ghost use Rattle.smq_book.specs.present.Replies.{clock_back};
-ghost use Rattle.smq_book.specs.present.Settings.{opening_settings, forms_of, with_versions, with_clock};
+ghost use Rattle.smq_book.specs.present.Settings.{SettingsValue, opening_settings, forms_of, set_forms_of, with_versions, with_clock};
 
 use crate::Forms;
+use crate::index::clock::advance;
+use crate::index::index::Index;
+use crate::index::routes::set_routes;
 use smq_kit::{Digits, LinkId, Moment, Network, Refusal, RouteId};
 use smq_route::{Routes, Version, VersionKey};
 use smq_shelf::Entries;
@@ -26,6 +33,7 @@ pub struct Settings {
 }
 
 impl Model for Settings {
+    ghost use Rattle.std.specs.Prelude.{◌≡◌};
     ghost use Rattle.smq_book.specs.present.Settings.{SettingsValue, settings_code};
     ghost use Rattle.smq_book.specs.within.InOrder.{forms_in};
 
@@ -34,6 +42,8 @@ impl Model for Settings {
     ghost coded = { settings_code };
 
     ghost view = { λ s. record { forms = forms_in s.forms; versions = s.routes.versions; clock = s.clock } };
+
+    ghost invariant = { λ s. s.routes.settled ≡ s.routes.versions };
 }
 
 impl Settings {
@@ -97,80 +107,178 @@ impl Settings {
         self.clock
     }
 
-    /// Sets the forms of a link's message ids. An error changes nothing.
-    pub(crate) fn set_forms(&mut self, link: LinkId, forms: Forms) -> Result<(), Refusal>
-        ensures { MatchResult result
+    /// Sets the forms of a link's message ids, and gives those that were set of it before. An error changes nothing.
+    pub(crate) fn set_forms(&mut self, link: LinkId, forms: Forms) -> Result<Option<Forms>, Refusal>
+        ensures reply { MatchResult result
             (λ _. self.new ≡ record self.old { forms = map.insert self.old.forms link.0 forms })
             (λ e. (e ≡ Refusal.Memory) × (self.new ≡ self.old)) }
+        ensures before { IfOk result (λ before. before ≡ set_forms_of self.old link.0) }
     {
-        let Ok(_) = self.forms.insert(link.0, forms) else {
+        let Ok(before) = self.forms.insert(link.0, forms) else {
             return Err(Refusal::Memory);
         };
-        Ok(())
+        Ok(before)
     }
 
-    /// Puts an open version of a route in. A refusal changes nothing.
+    /// Brings back the forms that were set of a link before, or none. It takes no memory.
+    pub(crate) fn restore_forms(&mut self, link: LinkId, before: Option<Forms>)
+        requires { IsSome (set_forms_of self.old link.0) }
+        ensures { self.new ≡ record self.old { forms = set_at self.old.forms link.0 before } }
+    {
+        match before {
+            Some(forms) => self.overwrite_forms(link, forms),
+            None => self.forget_forms(link),
+        }
+    }
+
+    /// Overwrites the forms that are set of a link.
+    fn overwrite_forms(&mut self, link: LinkId, forms: Forms)
+        requires { IsSome (set_forms_of self.old link.0) }
+        ensures { self.new ≡ record self.old { forms = map.insert self.old.forms link.0 forms } }
+    {
+        let Ok(_) = self.forms.insert(link.0, forms) else {
+            return;
+        };
+    }
+
+    /// Forgets the forms that are set of a link.
+    fn forget_forms(&mut self, link: LinkId)
+        ensures { self.new ≡ record self.old { forms = map.remove self.old.forms link.0 } }
+    {
+        let _ = self.forms.remove(&link.0);
+    }
+
+    /// Puts an open version of a route in, and sets what is held of the messages that it changes anew. A refusal changes
+    /// nothing.
     pub(crate) fn add_route(
         &mut self,
+        index: &mut Index,
         prefix: Digits,
         from: Moment,
         route: RouteId,
         network: Network,
     ) -> Result<(), Refusal>
-        ensures { let versions = self.old.versions in
+        requires held { IsHeld self.old (held_now index.old) }
+        requires settled { held_settled index.old ≡ held_now index.old }
+        ensures reply { let versions = self.old.versions in
             IsReply (first_of (add_refusals versions prefix from)) result
             (self.new ≡ with_versions self.old (added versions prefix from route network))
             (self.new ≡ self.old) }
+        ensures held { IsHeld self.new (held_now index.new) }
+        ensures traffic { traffic_held (held_now index.new) ≡ traffic_held (held_now index.old) }
+        ensures settled { held_settled index.new ≡ held_now index.new }
     {
+        let under = prefix.copy();
         self.routes.add(prefix, from, route, network)?;
-        self.routes.settle();
-        Ok(())
+        follow(&mut self.routes, index, self.clock, &under)
     }
 
-    /// Ends a version of a route. A refusal changes nothing.
+    /// Ends a version of a route, and sets what is held of the messages that it changes anew. A refusal changes nothing.
     pub(crate) fn end_route(
         &mut self,
+        index: &mut Index,
         prefix: &Digits,
         from: Moment,
         until: Moment,
     ) -> Result<(), Refusal>
-        ensures { let versions = self.old.versions in
+        requires held { IsHeld self.old (held_now index.old) }
+        requires settled { held_settled index.old ≡ held_now index.old }
+        ensures reply { let versions = self.old.versions in
             IsReply (first_of (end_refusals (version_of versions prefix.now from) from until)) result
             (self.new ≡ with_versions self.old (changed versions prefix.now from (ending until)))
             (self.new ≡ self.old) }
+        ensures held { IsHeld self.new (held_now index.new) }
+        ensures traffic { traffic_held (held_now index.new) ≡ traffic_held (held_now index.old) }
+        ensures settled { held_settled index.new ≡ held_now index.new }
     {
         self.routes.end(prefix, from, until)?;
-        self.routes.settle();
-        Ok(())
+        follow(&mut self.routes, index, self.clock, prefix)
     }
 
-    /// Gives a version of a route another route and network. A refusal changes nothing.
+    /// Gives a version of a route another route and network, and sets what is held of the messages that it changes anew. A
+    /// refusal changes nothing.
     pub(crate) fn correct_route(
         &mut self,
+        index: &mut Index,
         prefix: &Digits,
         from: Moment,
         route: RouteId,
         network: Network,
     ) -> Result<(), Refusal>
-        ensures { let versions = self.old.versions in
+        requires held { IsHeld self.old (held_now index.old) }
+        requires settled { held_settled index.old ≡ held_now index.old }
+        ensures reply { let versions = self.old.versions in
             IsReply (first_of (correct_refusals (version_of versions prefix.now from))) result
             (self.new ≡ with_versions self.old (changed versions prefix.now from (corrected route network)))
             (self.new ≡ self.old) }
+        ensures held { IsHeld self.new (held_now index.new) }
+        ensures traffic { traffic_held (held_now index.new) ≡ traffic_held (held_now index.old) }
+        ensures settled { held_settled index.new ≡ held_now index.new }
     {
         self.routes.correct(prefix, from, route, network)?;
-        self.routes.settle();
-        Ok(())
+        follow(&mut self.routes, index, self.clock, prefix)
     }
 
-    /// Sets the clock. A refusal changes nothing.
-    pub(crate) fn advance(&mut self, clock: Moment) -> Result<(), Refusal>
-        ensures { IsReplyInPlace (clock_back self.old.clock clock) result
+    /// Sets the clock, and what is held of the messages that it lapses anew. Where it lapses none, it takes no memory. A refusal
+    /// changes nothing.
+    pub(crate) fn advance(
+        &mut self,
+        alloc: Global,
+        index: &mut Index,
+        clock: Moment,
+    ) -> Result<(), Refusal>
+        requires held { IsHeld self.old (held_now index.old) }
+        requires settled { held_settled index.old ≡ held_now index.old }
+        ensures reply { IsReply (clock_back self.old.clock clock) result
             (self.new ≡ with_clock self.old clock) (self.new ≡ self.old) }
+        ensures held { IsHeld self.new (held_now index.new) }
+        ensures traffic { traffic_held (held_now index.new) ≡ traffic_held (held_now index.old) }
+        ensures settled { held_settled index.new ≡ held_now index.new }
+        ensures none { map.keys (due_by self.old (traffic_held (held_now index.old)) clock) ≡ []
+            → result ≢ Err Refusal.Memory }
     {
         if clock < self.clock {
             return Err(Refusal::ClockBack { clock: self.clock });
         }
+        if advance(alloc, index, &self.routes, clock).is_err() {
+            index.undo();
+            return Err(Refusal::Memory);
+        }
+        index.settle();
         self.clock = clock;
         Ok(())
     }
+}
+
+/// Sets what is held of the messages to numbers of a prefix anew by routes that were changed there, and settles both. An error
+/// undoes both.
+fn follow(
+    routes: &mut Routes,
+    index: &mut Index,
+    clock: Moment,
+    prefix: &Digits,
+) -> Result<(), Refusal>
+    ensures ok { OnOk result ((routes.new.versions ≡ routes.old.versions)
+        × (held_settled index.new ≡ held_now index.new)) }
+    ensures held { (s : SettingsValue) → s.clock ≡ clock → IsHeld s (held_now index.old)
+        → (let traffic = traffic_held (held_now index.old) in
+        SameOutside (map.keys (messages_under prefix.now traffic)) (facts_of s traffic)
+        (facts_of (with_versions s routes.old.versions) traffic))
+        → OnOk result (IsHeld (with_versions s routes.old.versions) (held_now index.new)) }
+    ensures traffic { (s : SettingsValue) → IsHeld s (held_now index.old)
+        → OnOk result (traffic_held (held_now index.new) ≡ traffic_held (held_now index.old)) }
+    ensures err { IfErr result (λ refusal. (refusal ≡ Refusal.Memory)
+        × ((routes.new.versions ≡ routes.old.settled)
+        × ((held_now index.new ≡ held_settled index.old)
+        × (held_settled index.new ≡ held_settled index.old)))) }
+    ensures settled { routes.new.settled ≡ routes.new.versions }
+{
+    if set_routes(index, routes, clock, prefix).is_err() {
+        routes.undo();
+        index.undo();
+        return Err(Refusal::Memory);
+    }
+    routes.settle();
+    index.settle();
+    Ok(())
 }

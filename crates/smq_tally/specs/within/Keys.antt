@@ -24,7 +24,7 @@ use Rattle.smq_tally.specs.contracts.value.ValuePartialEq.TheImpl as value_eq
 use Rattle.smq_tally.specs.contracts.view.ViewPartialEq.TheImpl as view_eq
 use Rattle.smq_tally.specs.within.CountOrder.{kept_cmp}
 use Rattle.smq_tally.specs.within.ListOrder.{kept_listed_cmp}
-use Rattle.std.proofs.lemmas.Bool.Decides.{Decides-and}
+use Rattle.std.proofs.lemmas.Bool.Decides.{Decides-and, Decides-like}
 
 views : (a b : View) → Decides (view_eq.ghosts.eq a b) (a ≡ b)
 views a b = search rules
@@ -54,6 +54,11 @@ count_key_exact x y e =
 
 listings : (x y : Listed) → Decides (listed_eq.ghosts.eq x y) ((x.list ≡ y.list) × (x.place ≡ y.place))
 listings x y = Decides-and _ _ (in_lists x.list y.list) (at_places x.place y.place)
+
+pub listed_decides : (x y : Listed) → Decides (listed_eq.ghosts.eq x y) (x ≡ y)
+listed_decides x y =
+    Decides-like (listed_eq.ghosts.eq x y) (λ p i. record { list = p.0 i; place = p.1 i }) (λ e. (ap (λ z. z.list) e, ap (λ z. z.place) e))
+    (listings x y)
 
 pub listed_key_exact : (x y : Listed) → kept_listed_cmp x y ≡ Equal → x ≡ y
 listed_key_exact x y e =

@@ -1,5 +1,5 @@
 -- The order by which the code keeps listed places, that that of the definitions is total, and where a list begins.
-use Rattle.std.specs.Prelude.{Bool}
+use Rattle.std.specs.Prelude.{Bool, true, false}
 use Rattle.std.specs.Cmp.{IsTotalOrder}
 use Rattle.std.specs.declared.cmp.Ordering.{Ordering}
 use Rattle.std.specs.List.{list_any}
@@ -9,6 +9,7 @@ use Rattle.smq_kit.specs.declared.place.Dir.TheVariants.{FromClient}
 use Rattle.smq_kit.specs.declared.place.Place.{Place}
 use Rattle.smq_kit.proofs.PlaceOrders.{places_total}
 use Rattle.smq_tally.specs.declared.list.List as l
+use Rattle.smq_tally.specs.declared.list.List.TheVariants as v
 use Rattle.smq_tally.specs.declared.list.Listed.{Listed}
 use Rattle.smq_tally.specs.contracts.list.ListedOrd.TheImpl as listed_ord
 use Rattle.smq_tally.specs.declared.fact.Fact.{Fact}
@@ -29,6 +30,12 @@ same_listed a b = eq_by_cmp listed_cmp a b
 -- whether a message stands there
 abbrev pub lists : Listed → Fact → Bool
 lists q f = list_any (same_listed q) (listings_of_fact f)
+
+-- whether messages stand in a list for their outcome
+abbrev pub takes_facts : l.List → Bool
+takes_facts v.Open = true
+takes_facts v.Lapsed = true
+takes_facts _ = false
 
 -- the place before which there is none
 abbrev pub first_place : Place

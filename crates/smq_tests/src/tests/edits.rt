@@ -5,7 +5,7 @@ use crate::tests::scripts::Shown::*;
 use crate::tests::scripts::Step::*;
 use crate::tests::scripts::*;
 use crate::tests::shown::{first_session, octets_from_client};
-use smq_book::{Batch, Book, Content, KeptPdu, Settings, Tables};
+use smq_book::{Batch, Book, Content, KeptPdu, Settings, Tables, tables_anew};
 use smq_frame::Tail;
 use smq_kit::{Dir, Form, LinkId, Refusal};
 use smq_receipt::Reading;
@@ -217,7 +217,7 @@ fn forms_at(book: &Book, place: usize) -> Option<(u32, Form, Form)> {
 }
 
 fn forms_are_set_and_set_anew_by_link(rt: &impl Abort, alloc: Global) {
-    let mut book = Book::new(alloc);
+    let mut book = boxed_book(alloc).expect(rt, "a book");
     set_all_forms(&mut book).expect(rt, "forms");
     send(
         rt,
@@ -304,18 +304,12 @@ fn a_submit_is_put(
     Ok(())
 }
 
-/// The tables of a book, which are counted again where memory was refused.
-fn tables_of(book: &Book) -> Result<Tables, AllocError> {
-    if let Ok(tables) = book.tables() {
+/// The tables of what is present, which are counted again where memory was refused.
+fn tables_of(alloc: Global, book: &Book) -> Result<Tables, AllocError> {
+    if let Ok(tables) = tables_anew(alloc, book.present()) {
         return Ok(tables);
     }
-    book.tables()
-}
-
-fn assert_tables(rt: &impl Abort, book: &Book, wanted: &Tables) -> Result<(), AllocError> {
-    let tables = tables_of(book)?;
-    assert!(rt; tables == *wanted);
-    Ok(())
+    tables_anew(alloc, book.present())
 }
 
 fn add_route(book: &mut Book, prefix: &[u8]) -> Result<(), Refusal> {
@@ -340,22 +334,23 @@ fn a_route_is_added(
 ) -> Result<(), Fail> {
     if let Err(refusal) = add_route(book, prefix) {
         assert!(rt; refusal == Refusal::Memory && versions_of(book) == number);
-        assert_tables(rt, book, before)?;
+        assert!(rt; *book.tables() == *before);
         add_route(book, prefix)?;
     }
     assert!(rt; versions_of(book) == number.saturating_add(1));
     Ok(())
 }
 
-fn routes_are_added(rt: &impl Abort, book: &mut Book) -> Result<(), Fail> {
-    let before = tables_of(book)?;
+fn routes_are_added(rt: &impl Abort, alloc: Global, book: &mut Book) -> Result<(), Fail> {
+    let before = tables_of(alloc, book)?;
     for (number, prefix) in [b"1", b"2", b"3", b"5", b"6", b"7", b"8"]
         .iter()
         .enumerate()
     {
         a_route_is_added(rt, book, &before, number, *prefix)?;
     }
-    Ok(assert_tables(rt, book, &before)?)
+    assert!(rt; *book.tables() == before);
+    Ok(())
 }
 
 fn submits_and_routes_are_put(rt: &impl Abort, alloc: Global, book: &mut Book) -> Result<(), Fail> {
@@ -364,12 +359,12 @@ fn submits_and_routes_are_put(rt: &impl Abort, alloc: Global, book: &mut Book) -
     for count in 1..8 {
         a_submit_is_put(rt, alloc, book, count)?;
     }
-    routes_are_added(rt, book)
+    routes_are_added(rt, alloc, book)
 }
 
 /// With each allocation refused in turn (`rt try --test --fail-alloc`), what is present is as before the refusal.
 #[test]
 fn want_of_memory_leaves_what_was_present(rt: HostRuntime) -> Result<(), Fail> {
-    let mut book = Book::new(rt.alloc());
+    let mut book = boxed_book(rt.alloc()).ok_or(AllocError)?;
     submits_and_routes_are_put(&rt, rt.alloc(), &mut book)
 }

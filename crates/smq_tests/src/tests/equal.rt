@@ -92,8 +92,8 @@ const EQUAL: &[(&str, &[Step], &[Step], bool)] = &[
 #[test]
 fn tables_are_equal_where_rows_and_counts_are(rt: HostRuntime) {
     for (what, one, other, wanted) in EQUAL {
-        let one = tables_after(&rt, rt.alloc(), what, one);
-        let other = tables_after(&rt, rt.alloc(), what, other);
-        assert!(rt; (one == other) == *wanted, "{what}");
+        let one = book_after(&rt, rt.alloc(), what, one);
+        let other = book_after(&rt, rt.alloc(), what, other);
+        assert!(rt; (*one.tables() == *other.tables()) == *wanted, "{what}");
     }
 }

@@ -86,14 +86,15 @@ fn begins_with_place(tables: &Tables, list: List, session: u64, dir: Dir) -> boo
 
 #[test]
 fn every_view_and_list_is_read(rt: HostRuntime) {
-    let tables = tables_after(&rt, rt.alloc(), "everything", EVERYTHING);
+    let book = book_after(&rt, rt.alloc(), "everything", EVERYTHING);
+    let tables = book.tables();
     for (view, outcome, count) in ROWS {
         assert!(rt;
-            begins_with_row(&tables, *view, (*outcome, *count)),
+            begins_with_row(tables, *view, (*outcome, *count)),
             "a view"
         );
     }
     for (list, session, dir) in PLACES {
-        assert!(rt; begins_with_place(&tables, *list, *session, *dir), "a list");
+        assert!(rt; begins_with_place(tables, *list, *session, *dir), "a list");
     }
 }

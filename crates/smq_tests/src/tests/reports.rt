@@ -257,11 +257,11 @@ fn put_in(rt: &impl Abort, tally: &mut Tally, messages: &[Message]) -> Result<()
     Ok(())
 }
 
-/// The tables of messages and of the notes.
-fn tables_of(rt: &impl Abort, alloc: Global, messages: &[Message]) -> Tables {
+/// A tally of messages and of the notes.
+fn tally_of(rt: &impl Abort, alloc: Global, messages: &[Message]) -> Tally {
     let mut tally = Tally::new(alloc);
     put_in(rt, &mut tally, messages).expect(rt, "memory");
-    tally.into_tables()
+    tally
 }
 
 /// Takes so many octets at most at each write, and fails after so many calls.
@@ -336,18 +336,18 @@ fn assert_case(rt: &impl Abort, alloc: Global, tables: &Tables, case: &Case, mos
 
 /// Asserts the whole report of no message and no note.
 fn assert_empty(rt: &impl Abort, alloc: Global, format: Format, lines: &[&str]) {
-    let empty = Tally::new(alloc).into_tables();
+    let empty = Tally::new(alloc);
     let mut taker = Taker::new(alloc, usize::MAX, u32::MAX);
-    assert!(rt; write_report(alloc, &empty, Pick::All, format, &mut taker).is_ok());
+    assert!(rt; write_report(alloc, empty.tables(), Pick::All, format, &mut taker).is_ok());
     assert_lines(rt, alloc, &taker, lines, "no message and no note");
 }
 
 #[test]
 fn reports_have_their_lines(rt: HostRuntime) {
     for case in CASES {
-        let tables = tables_of(&rt, rt.alloc(), case.1);
-        assert_case(&rt, rt.alloc(), &tables, case, 1);
-        assert_case(&rt, rt.alloc(), &tables, case, usize::MAX);
+        let tally = tally_of(&rt, rt.alloc(), case.1);
+        assert_case(&rt, rt.alloc(), tally.tables(), case, 1);
+        assert_case(&rt, rt.alloc(), tally.tables(), case, usize::MAX);
     }
     assert_empty(&rt, rt.alloc(), Format::Csv, &[]);
     assert_empty(&rt, rt.alloc(), Format::Table, EMPTY_TABLE);
@@ -361,10 +361,10 @@ fn note_many(tally: &mut Tally) -> Result<(), AllocError> {
     Ok(())
 }
 
-fn many_noted(rt: &impl Abort, alloc: Global) -> Tables {
+fn many_noted(rt: &impl Abort, alloc: Global) -> Tally {
     let mut tally = Tally::new(alloc);
     note_many(&mut tally).expect(rt, "notes");
-    tally.into_tables()
+    tally
 }
 
 /// What is told of a whole report where so many calls of its writer succeed.
@@ -388,7 +388,7 @@ fn assert_calls(rt: &impl Abort, alloc: Global, tables: &Tables, format: Format,
 /// A page of 64 KiB at a time is written, and then there is a flush.
 #[test]
 fn a_failed_write_is_told(rt: HostRuntime) {
-    let tables = many_noted(&rt, rt.alloc());
-    assert_calls(&rt, rt.alloc(), &tables, Format::Csv, 4);
-    assert_calls(&rt, rt.alloc(), &tables, Format::Table, 7);
+    let tally = many_noted(&rt, rt.alloc());
+    assert_calls(&rt, rt.alloc(), tally.tables(), Format::Csv, 4);
+    assert_calls(&rt, rt.alloc(), tally.tables(), Format::Table, 7);
 }

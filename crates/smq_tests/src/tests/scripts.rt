@@ -251,21 +251,14 @@ fn corrected(prefix: &[u8], from: u64, route: u32, network: &[u8]) -> Result<Edi
 }
 
 /// What an end of a session sends, or the client of session 10 as if it had sent so many octets.
-fn appended(
-    rt: &impl Abort,
-    alloc: Global,
-    tail: &Tail,
-    origin: Origin,
-    sent: Sent,
-) -> Result<Edit, Refusal> {
-    let octets = octets_of(alloc, sent).expect(rt, "octets");
+fn appended(alloc: Global, tail: &Tail, origin: Origin, sent: Sent) -> Result<Edit, Refusal> {
+    let octets = octets_of(alloc, sent).map_err(|_| Refusal::Memory)?;
     let batch = batch_on(alloc, tail, origin, octets.as_slice())?;
     Ok(Edit::Append { batch })
 }
 
 /// What an end of a session sends next.
 fn sent_by(
-    rt: &impl Abort,
     alloc: Global,
     book: &Book,
     session: u32,
@@ -275,7 +268,6 @@ fn sent_by(
 ) -> Result<Edit, Refusal> {
     let tail = book.tail(SessionId(session as u64), dir);
     appended(
-        rt,
         alloc,
         tail,
         (session / 10, session as u64, dir, moment),
@@ -284,10 +276,9 @@ fn sent_by(
 }
 
 /// The edit of a step.
-fn edit_of(rt: &impl Abort, alloc: Global, book: &Book, step: Step) -> Result<Edit, Refusal> {
+pub(crate) fn edit_of(alloc: Global, book: &Book, step: Step) -> Result<Edit, Refusal> {
     match step {
         Step::Client(session, moment, sent) => sent_by(
-            rt,
             alloc,
             book,
             session,
@@ -296,7 +287,6 @@ fn edit_of(rt: &impl Abort, alloc: Global, book: &Book, step: Step) -> Result<Ed
             sent,
         ),
         Step::Centre(session, moment, sent) => sent_by(
-            rt,
             alloc,
             book,
             session,
@@ -305,7 +295,6 @@ fn edit_of(rt: &impl Abort, alloc: Global, book: &Book, step: Step) -> Result<Ed
             sent,
         ),
         Step::At(offset, moment, sent, _) => appended(
-            rt,
             alloc,
             &Tail::at(offset),
             (1, 10, Dir::FromClient, moment),
@@ -337,26 +326,34 @@ fn refusal_of(step: Step) -> Option<Refusal> {
     }
 }
 
-fn play_step(rt: &impl Abort, alloc: Global, book: &mut Book, step: Step) -> Result<(), Refusal> {
-    let edit = edit_of(rt, alloc, book, step)?;
+pub(crate) fn play_step(alloc: Global, book: &mut Book, step: Step) -> Result<(), Refusal> {
+    let edit = edit_of(alloc, book, step)?;
     book.apply(edit)
 }
 
-/// The book that a script leaves.
-pub(crate) fn book_after(rt: &impl Abort, alloc: Global, what: &str, script: &[Step]) -> Book {
-    let mut book = Book::new(alloc);
-    for step in script {
-        let reply = play_step(rt, alloc, &mut book, *step).err();
-        assert!(rt; reply == refusal_of(*step), "{what}");
-    }
+/// A new book, on the heap: a proof that owns an address is short, and one that owns all parts of a book is not.
+pub(crate) fn boxed_book(alloc: Global) -> Option<Box<Book>> {
+    Box::new(alloc, Book::new(alloc)).ok()
+}
+
+/// Whether the tables of a book are those that are counted anew of what is present.
+pub(crate) fn is_current(rt: &impl Abort, alloc: Global, book: &Book) -> bool {
+    tables_anew(alloc, book.present()).expect(rt, "tables") == *book.tables()
+}
+
+/// The book that a script leaves, whose tables are current after each step.
+pub(crate) fn book_after(rt: &impl Abort, alloc: Global, what: &str, script: &[Step]) -> Box<Book> {
+    let mut book = boxed_book(alloc).expect(rt, "a book");
+    play_steps(rt, alloc, what, &mut book, script);
     book
 }
 
-/// The tables that a script gives.
-pub(crate) fn tables_after(rt: &impl Abort, alloc: Global, what: &str, script: &[Step]) -> Tables {
-    book_after(rt, alloc, what, script)
-        .tables()
-        .expect(rt, what)
+fn play_steps(rt: &impl Abort, alloc: Global, what: &str, book: &mut Book, script: &[Step]) {
+    for step in script {
+        let reply = play_step(alloc, book, *step).err();
+        assert!(rt; reply == refusal_of(*step), "{what}");
+        assert!(rt; is_current(rt, alloc, book), "{what}");
+    }
 }
 
 #[test]

@@ -108,7 +108,7 @@ fn put_long_pdu(rt: &impl Abort, alloc: Global, book: &mut Book) {
 
 /// Asserts what is counted of session 1 and session 2^32 + 1, and the link of the far one.
 fn assert_far_rows(rt: &impl Abort, book: &Book) {
-    let tables = book.tables().expect(rt, "tables");
+    let tables = book.tables();
     let near = tables.count(View::Link, &Value::Link(LinkId(1)), Outcome::Waiting);
     let far = tables.count(
         View::Link,
@@ -123,7 +123,7 @@ fn assert_far_rows(rt: &impl Abort, book: &Book) {
 #[test]
 fn far_numbers_and_large_sizes_are_taken(rt: HostRuntime) {
     let alloc = rt.alloc();
-    let mut book = Book::new(alloc);
+    let mut book = boxed_book(alloc).expect(&rt, "a book");
     put_messages(&rt, alloc, &mut book);
     assert!(rt; has_far_sizes(&book));
     put_long_pdu(&rt, alloc, &mut book);

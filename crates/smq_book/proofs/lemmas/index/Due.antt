@@ -210,6 +210,12 @@ module _ (messages : FinMap place_cmp Message) (facts : FinMap place_cmp Fact) (
       ∙ (λ i. with_key (cond (is_open_fact (unknown i)) (Some (due_at m.moment q)) None)
       (without_key (option_and_then (due_by_fact facts q) (none i)) (due_in messages facts)))
 
+  -- one of the same moment in its place leaves it, too
+  pub due-again : (old m : Message) → get messages q ≡ Some old → old.moment ≡ m.moment → due_in (insert messages q m) facts ≡ due_in messages facts
+  due-again old m is moment =
+      made.made-again due_total due_exact place_of_due (due_by_fact facts) (due-placed facts) messages q old m is
+      (ap (λ x. cond (is_open_fact (get facts q)) (Some (due_at x q)) None) moment)
+
   -- one that is taken out takes its key with it, if that is there
   pub due-taken : (m : Message) → get messages q ≡ Some m → due_in (remove messages q) facts ≡ remove (due_in messages facts) (due_at m.moment q)
   due-taken m is =

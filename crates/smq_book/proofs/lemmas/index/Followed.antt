@@ -41,9 +41,9 @@ use Rattle.smq_book.specs.index.Held.{list_held, messages_in, notes_anew, receip
 use Rattle.smq_book.specs.index.Numbered.{numbered, numbers_of}
 use Rattle.smq_book.specs.index.PlacedKeys.{with_key, without_key}
 use Rattle.smq_book.proofs.lemmas.join.MoveLemmas.{fact-at}
-use Rattle.smq_book.proofs.lemmas.index.Due.{due-fact-absent, due-put, due-taken}
-use Rattle.smq_book.proofs.lemmas.index.Numbered.{number-comes, number-goes}
-use Rattle.smq_book.proofs.lemmas.index.Members.{kept-traffic, members-put, members-taken, members-unput}
+use Rattle.smq_book.proofs.lemmas.index.Due.{due-again, due-fact-absent, due-put, due-taken}
+use Rattle.smq_book.proofs.lemmas.index.Numbered.{number-again, number-comes, number-goes}
+use Rattle.smq_book.proofs.lemmas.index.Members.{kept-traffic, members-put, members-taken, members-unmoved, members-unput}
 use Rattle.smq_book.proofs.lemmas.index.Members.{members-untaken, received-put, received-taken, traffic-apart}
 use Rattle.smq_book.proofs.lemmas.index.Moves.{ambiguous-now, extra-now, stray-now}
 use Rattle.smq_book.proofs.lemmas.index.Moves.{alone-facts, alone-notes, taken-facts, taken-notes, tells_of, told-facts, told-notes}
@@ -196,6 +196,17 @@ module _ {s : SettingsValue} {t : TrafficValue} {ms : List (Place × Message)} {
     stands = message-apart t stores.stands q m free;
   }
 
+  -- a message is put in the place of one that isn't accepted, and isn't either
+  pub stored-unmoved : {later : List (Place × Message)} (m : Message) → accepted_key s m ≡ None → get (grouping_of s t).submits q ≡ None
+      → get t.receipts q ≡ None → later ≡ insert_entry kept_place_cmp ms q m
+      → Stores s (put_message q m t) later rs g
+  stored-unmoved {later} m refused none free put = record {
+    messages = message-put m later put;
+    receipts = stores.receipts;
+    members = stores.members ∙ sym (members-unmoved s q t m refused none);
+    stands = message-apart t stores.stands q m free;
+  }
+
   -- a message is taken out
   message-gone : (later : List (Place × Message)) → IsStrictlySortedBy kept_place_cmp (keys_of ms)
       → later ≡ remove_entry (is_at (kept_place_cmp q)) ms → messages_in later ≡ remove t.messages q
@@ -267,6 +278,12 @@ module _ (s : SettingsValue) (t : TrafficValue) (i : Index) (held : held_now i �
             ∙ fact-at s t q
             ∙ ap (option_map (λ (m : Message). fact_by q m (circumstances s t m))) none
 
+    -- one in the place of a message of the same moment leaves the open ones
+    pub due-stays : (q : Place) (old m : Message) → get t.messages q ≡ Some old → old.moment ≡ m.moment → now ≡ insert t.messages q m
+        → dues_in i.due.content ≡ due_in now i.tally.facts
+    due-stays q old m is moment same =
+        due-local ∙ sym (due-again t.messages i.tally.facts q old m is moment) ∙ ap (λ m. due_in m i.tally.facts) (sym same)
+
     -- a message that is taken out takes its moment with it
     pub due-went : {dues : FinSet due_cmp} (q : Place) (m : Message) → get t.messages q ≡ Some m → now ≡ remove t.messages q
         → dues ≡ remove (dues_in i.due.content) (due_at m.moment q) → dues ≡ due_in now i.tally.facts
@@ -281,6 +298,10 @@ module _ (s : SettingsValue) (t : TrafficValue) (i : Index) (held : held_now i �
       → numbers ≡ with_key (numbered q m) i.numbers.numbers → numbers ≡ numbers_of (put_message q m t)
   numbers-came q m none put =
       put ∙ ap (λ (h : Holding). with_key (numbered q m) h.numbers) held ∙ sym (number-comes q m t none)
+
+  pub numbers-stay : (q : Place) (old m : Message) → get t.messages q ≡ Some old → old.number ≡ m.number
+      → i.numbers.numbers ≡ numbers_of (put_message q m t)
+  numbers-stay q old m is number = ap (λ (h : Holding). h.numbers) held ∙ sym (number-again q old m t is number)
 
   pub numbers-went : {numbers : FinSet number_cmp} (q : Place) (m : Message) → get t.messages q ≡ Some m
       → numbers ≡ without_key (numbered q m) i.numbers.numbers → numbers ≡ numbers_of (take_message q t)

@@ -70,12 +70,16 @@ module _ (s : SettingsValue) (q : Place) (t : TrafficValue) where
   }
 
   -- and else none
-  pub members-unput : (m : Message) → accepted_key s m ≡ None → get t.messages q ≡ None → grouping_of s (put_message q m t) ≡ grouping_of s t
-  members-unput m unkeyed none = λ i. record {
+  pub members-unmoved : (m : Message) → accepted_key s m ≡ None → get (grouping_of s t).submits q ≡ None
+      → grouping_of s (put_message q m t) ≡ grouping_of s t
+  members-unmoved m unkeyed none = λ i. record {
     submits = (submits-set (Some m) ∙ ap (set_at (grouping_of s t).submits q) unkeyed
-        ∙ stays-none (grouping_of s t).submits q (submit-absent none)) i;
+        ∙ stays-none (grouping_of s t).submits q none) i;
     receipts = (grouping_of s t).receipts;
   }
+
+  pub members-unput : (m : Message) → accepted_key s m ≡ None → get t.messages q ≡ None → grouping_of s (put_message q m t) ≡ grouping_of s t
+  members-unput m unkeyed none = members-unmoved m unkeyed (submit-absent none)
 
   -- a message that is taken out is a submit less
   pub members-taken : grouping_of s (take_message q t) ≡ without_submit (grouping_of s t) q

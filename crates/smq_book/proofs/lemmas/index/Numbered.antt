@@ -55,6 +55,14 @@ module _ (q : Place) (m : Message) (t : TrafficValue) (none : get t.messages q �
   pub numbers-put-none : m.number ≡ None → numbers_of (put_message q m t) ≡ numbers_of t
   numbers-put-none has = number-comes ∙ ap (λ x. with_key (option_map (λ n. number_at n q) x) (numbers_of t)) has
 
+-- ---- a message of the same number in its place
+
+pub number-again : (q : Place) (old m : Message) (t : TrafficValue) → get t.messages q ≡ Some old → old.number ≡ m.number
+    → numbers_of (put_message q m t) ≡ numbers_of t
+number-again q old m t is number =
+    made.made-again numbers_total numbers_exact place_of_number numbered numbers-placed t.messages q old m is
+    (ap (option_map (λ n. number_at n q)) number)
+
 -- ---- a message that is taken out
 
 module _ (q : Place) (t : TrafficValue) where

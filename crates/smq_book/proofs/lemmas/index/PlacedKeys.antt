@@ -207,6 +207,25 @@ module _ {X K : Type 0} {R : K → K → Ordering} (o : IsTotalOrder R) (exact :
         ∙ ap (λ x. with_key (option_and_then (f q) x) (without_key (option_and_then (f q) (get m q)) (keys_made {R = R} f m)))
         (maps.get-set_at places_total places_exact m q v q ∙ ap (λ b. cond b v (get m q)) (place_itself q))
 
+    -- where what stands at a place makes the key that stood there, the keys stay
+    pub made-again : (q : Place) (old v : X) → get m q ≡ Some old → f q old ≡ f q v → keys_made {R = R} f (set_at m q (Some v)) ≡ keys_made f m
+    made-again q old v is same = same_map o exact _ _ (λ k.
+        get-made f placed (set_at m q (Some v)) k
+        ∙ ap (λ x. marked (is_one R k x)) (sym (by (at k) (eq_by_cmp place_cmp (at k) q) refl))
+        ∙ sym (get-made f placed m k))
+      where
+        by : (p : Place) (b : Bool) → eq_by_cmp place_cmp p q ≡ b
+            → option_and_then (f p) (get m p) ≡ option_and_then (f p) (get (set_at m q (Some v)) p)
+        by p true t =
+            let here : p ≡ q = maps.same_key places_total places_exact p q t in
+            ap (λ (x : Place). option_and_then (f x) (get m x)) here
+            ∙ ap (option_and_then (f q)) is
+            ∙ same
+            ∙ sym (ap (λ (x : Place). f x v) here)
+            ∙ ap (option_and_then (f p)) (sym (maps.get-set_at places_total places_exact m q (Some v) p ∙ ap (λ b. cond b (Some v) (get m p)) t))
+        by p false t =
+            ap (option_and_then (f p)) (sym (maps.get-set_at places_total places_exact m q (Some v) p ∙ ap (λ b. cond b (Some v) (get m p)) t))
+
     -- ---- the places of the keys that pass a test
 
     one-there : (k : K) → get (keys_made {R = R} f m) k ≡ Some tt → is_one R k (option_and_then (f (at k)) (get m (at k))) ≡ true

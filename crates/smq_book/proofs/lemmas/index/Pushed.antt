@@ -4,11 +4,11 @@ use Rattle.std.proofs.lemmas.List.{append-nil, map-append}
 use Rattle.smq_kit.specs.declared.place.Place.{Place}
 use Rattle.std.specs.Prelude.{⊤, map, slice_get, option_and_then, option_map, option_to_list}
 use Rattle.std.specs.List.{AllByRecursion, flat_map}
-use Rattle.std.specs.FinMap.{FinMap, get, remove, get-remove}
+use Rattle.std.specs.FinMap.{FinMap, get, insert, remove, get-insert, get-remove, same_map}
 use Rattle.std.specs.Cmp.{tied_itself}
-use Rattle.std.specs.Ordering.{is_eq}
+use Rattle.std.specs.Ordering.{eq_by_cmp, is_eq}
 use Rattle.smq_kit.specs.Orders.{place_cmp}
-use Rattle.smq_kit.proofs.PlaceOrders.{places_total}
+use Rattle.smq_kit.proofs.PlaceOrders.{places_total, places_exact}
 use Rattle.smq_receipt.specs.declared.reading.Receipt.{Receipt}
 use Rattle.smq_kit.specs.declared.place.Dir.{Dir}
 use Rattle.smq_kit.specs.declared.place.Dir.TheVariants.{FromClient, FromCentre}
@@ -244,6 +244,30 @@ no-receipt t is q m there = by (get t.receipts q) refl
 -- a place is empty once what stood there is taken out
 pub taken-out : {X : Type 0} (m : FinMap place_cmp X) (q : Place) → get (remove m q) q ≡ None
 taken-out m q = get-remove places_total m q q ∙ ap (λ b. cond b None (get m q)) (ap is_eq (tied_itself places_total q))
+
+-- a message that is put in takes the place of the one that stood there, taken out before or not
+put-over : (m : FinMap place_cmp Message) (q : Place) (n : Message) → insert (remove m q) q n ≡ insert m q n
+put-over m q n = same_map places_total places_exact _ _ (λ p.
+    get-insert places_total (remove m q) q n p
+    ∙ ap (cond (eq_by_cmp place_cmp p q) (Some n)) (get-remove places_total m q p)
+    ∙ hidden (eq_by_cmp place_cmp p q) (get m p)
+    ∙ sym (get-insert places_total m q n p))
+  where
+    hidden : (b : Bool) (x : Option Message) → cond b (Some n) (cond b None x) ≡ cond b (Some n) x
+    hidden true x = refl
+    hidden false x = refl
+
+-- so what is held after it is put in is what is held after both
+pub after-over : (s : SettingsValue) (g h : Holding) (q : Place) (n : Message) → IsHeldAfter s g (PutMessage (q, n) ∷ []) h
+    → IsHeldAfter s g (TakeMessage q ∷ PutMessage (q, n) ∷ []) h
+after-over s g h q n a = record {
+  held = a.held;
+  traffic = a.traffic ∙ sym (λ i. record {
+    messages = put-over (traffic_held g).messages q n i;
+    receipts = (traffic_held g).receipts;
+    notes = (traffic_held g).notes;
+  });
+}
 
 module _ (messages : FinMap place_cmp Message) (next : KeptPdu) where
   abbrev answered_in : Pair → Option Message → List Move

@@ -1,9 +1,8 @@
 -- What is known of a stored message, and in which list a stored receipt stands; entries, facts and notes as they are stored.
-use Rattle.std.proofs.Common.{◌≡◌, ℕ, Bool, true, false, cond, List, Option, Some, None, refl, sym, ap, ◌∙◌}
+use Rattle.std.proofs.Common.{◌≡◌, ℕ, Bool, true, false, List, Option, Some, None, refl, sym, ap, ◌∙◌}
 use Rattle.std.specs.Prelude.{is_some, option_and_then, option_map}
 use Rattle.std.specs.Option.{option_or}
-use Rattle.std.specs.FinMap.{FinMap, contains_key, from_entries, get, get-insert, get-remove, insert, remove, same_map}
-use Rattle.std.specs.Ordering.{eq_by_cmp}
+use Rattle.std.specs.FinMap.{FinMap, contains_key, from_entries, get, insert, remove}
 use Rattle.std.specs.FinSet.{FinSet}
 use Rattle.std.specs.List.Sorted.{IsStrictlySortedBy}
 use Rattle.std.specs.Map.{keys_of, lookup, remove_entry}
@@ -14,7 +13,7 @@ use Rattle.smq_kit.specs.declared.names.RouteId.{RouteId}
 use Rattle.smq_kit.specs.declared.place.Place.{Place}
 use Rattle.smq_kit.specs.declared.link_key.LinkKey.{LinkKey}
 use Rattle.smq_kit.proofs.PlaceOrders.{places_total, places_exact}
-use Rattle.smq_kit.proofs.MapLemmas.{get-chosen, get-removed, set-same}
+use Rattle.smq_kit.proofs.MapLemmas.{get-chosen, set-same}
 use Rattle.smq_shelf.specs.within.KeyLaws.{place_order}
 use Rattle.smq_shelf.proofs.Seen.{inserted, looked_up, removed}
 use Rattle.smq_tally.specs.declared.list.Listed.{Listed}
@@ -69,22 +68,6 @@ fact-free facts q free = sym (ap (set_at facts q) (sym (none (get facts q) free)
     none : (x : Option Fact) → is_some x ≡ false → x ≡ None
     none None h = refl
     none (Some f) h = absurd cc
-
--- a place whose fact was taken out has none
-pub fact-gone : (facts : FinMap place_cmp Fact) (q : Place) (f : Fact) → f.place ≡ q → get (remove facts q) f.place ≡ None
-fact-gone facts q f own = ap (get (remove facts q)) own ∙ get-removed places_total places_exact facts q
-
--- a fact that comes after the one at its place was taken out takes that place
-pub fact-set : (facts : FinMap place_cmp Fact) (q : Place) (f : Fact) → f.place ≡ q → insert (remove facts q) f.place f ≡ insert facts q f
-fact-set facts q f own = ap (λ (p : Place). insert (remove facts q) p f) own ∙ same_map places_total places_exact _ _ (λ p.
-    get-insert places_total (remove facts q) q f p
-    ∙ ap (cond (eq_by_cmp place_cmp p q) (Some f)) (get-remove places_total facts q p)
-    ∙ hidden (eq_by_cmp place_cmp p q) (get facts p)
-    ∙ sym (get-insert places_total facts q f p))
-  where
-    hidden : (b : Bool) (x : Option Fact) → cond b (Some f) (cond b None x) ≡ cond b (Some f) x
-    hidden true x = refl
-    hidden false x = refl
 
 -- a note that is as it shall be is set to that
 pub note-same : (notes : FinSet listed_cmp) (note : Listed) (is_noted : Bool) → contains_key notes note ≡ is_noted

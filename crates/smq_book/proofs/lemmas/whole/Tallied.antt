@@ -1,4 +1,4 @@
--- Facts that rise by place, one at a time into a map by place, and notes, one at a time into a set.
+-- Facts that rise by place, as a map by place, and notes, as a set.
 use Rattle.std.proofs.Common.{◌≡◌, Bool, true, false, cond, ◌||◌, List, [], ◌∷◌, ◌++◌, Some, None, refl, sym, ap, ◌∙◌}
 use Rattle.std.specs.Prelude.{T, map, is_some}
 use Rattle.std.specs.List.{AllByRecursion, list_any}
@@ -15,6 +15,7 @@ use Rattle.smq_kit.proofs.PlaceOrders.{places_total, places_exact}
 use Rattle.smq_tally.specs.declared.fact.Fact.{Fact}
 use Rattle.smq_tally.specs.declared.list.Listed.{Listed}
 use Rattle.smq_tally.specs.Lists.{listed_set}
+use Rattle.smq_tally.specs.Tables.{AreOfDifferentPlaces}
 use Rattle.smq_tally.specs.within.ListOrder.{listed_total, same_listed}
 use Rattle.smq_tally.proofs.ListOrders.{listed_exact}
 use Rattle.smq_tally.proofs.Listings.{marked, get-listed}
@@ -22,30 +23,17 @@ use Rattle.smq_book.specs.within.Lists.{placed_fact}
 
 -- ---- facts
 
-below-at : (x : Place) (before : List Fact) (f : Fact) (rest : List Fact)
-    → T (below_all place_cmp x (map placed_fact (before ++ f ∷ rest))) → place_cmp x f.place ≡ Less
-below-at x [] f rest h = is_less (place_cmp x f.place) (first_test _ _ h)
-below-at x (b ∷ before) f rest h = below-at x before f rest (second_test _ _ h)
+below-none : (x : Place) (fs : List Fact) → T (below_all place_cmp x (map placed_fact fs)) → find place_cmp x (map placed_fact fs) ≡ None
+below-none x [] h = refl
+below-none x (f ∷ fs) h =
+    ap (λ r. cond (is_eq r) (Some f) (find place_cmp x (map placed_fact fs))) (is_less (place_cmp x f.place) (first_test _ _ h))
+    ∙ below-none x fs (second_test _ _ h)
 
-none-found : (before : List Fact) (f : Fact) (rest : List Fact) → T (is_sorted place_cmp (map placed_fact (before ++ f ∷ rest)))
-    → find place_cmp f.place (map placed_fact before) ≡ None
-none-found [] f rest h = refl
-none-found (b ∷ before) f rest h =
-    ap (λ r. cond (is_eq r) (Some b) (find place_cmp f.place (map placed_fact before)))
-    (places_total.antisymm f.place b.place ∙ ap ordering_reverse (below-at b.place before f rest (first_test _ _ h)))
-    ∙ none-found before f rest (second_test _ _ h)
-
--- the next fact has a place of its own
-pub place-free : (before : List Fact) (f : Fact) (rest : List Fact) → T (is_sorted place_cmp (map placed_fact (before ++ f ∷ rest)))
-    → get (from_entries {R = place_cmp} (map placed_fact before)) f.place ≡ None
-place-free before f rest h = get-from_entries places_total (map placed_fact before) f.place ∙ none-found before f rest h
-
--- with it the map has one fact more
-pub fact-more : (before : List Fact) (f : Fact) (rest : List Fact) → T (is_sorted place_cmp (map placed_fact (before ++ f ∷ rest)))
-    → from_entries {R = place_cmp} (map placed_fact (before ++ f ∷ [])) ≡ insert (from_entries (map placed_fact before)) f.place f
-fact-more before f rest h =
-    ap from_entries (map-append placed_fact before (f ∷ []))
-    ∙ from_entries_push places_total places_exact (map placed_fact before) f.place f (none-found before f rest h)
+-- facts that rise by place are of different places
+pub facts-apart : (fs : List Fact) → T (is_sorted place_cmp (map placed_fact fs)) → AreOfDifferentPlaces fs
+facts-apart [] h = tt
+facts-apart (f ∷ fs) h =
+    (get-from_entries places_total (map placed_fact fs) f.place ∙ below-none f.place fs (first_test _ _ h), facts-apart fs (second_test _ _ h))
 
 -- facts that stand at their places in a map are its entries
 placed : (es : List (Place × Fact)) (m : FinMap place_cmp Fact) → AllByRecursion (λ e. get m e.0 ≡ Some e.1) es
@@ -79,24 +67,9 @@ any-append p (x ∷ xs) ys = elim (p x) as (λ b. (b || list_any p (xs ++ ys)) �
   | false ↦ any-append p xs ys
 ]
 
-marked-or : (a b : Bool) → marked (a || (b || false)) ≡ cond b (Some (tt {0})) (marked a)
-marked-or true true = refl
-marked-or true false = refl
-marked-or false true = refl
-marked-or false false = refl
-
 pub is-marked : (b : Bool) → is_some (marked b) ≡ b
 is-marked true = refl
 is-marked false = refl
-
--- one note more
-pub note-more : (before : List Listed) (n : Listed) → listed_set (before ++ n ∷ []) ≡ insert (listed_set before) n tt
-note-more before n = same_map listed_total listed_exact _ _ (λ q.
-    get-listed (before ++ n ∷ []) q
-    ∙ ap marked (any-append (same_listed q) before (n ∷ []))
-    ∙ marked-or (list_any (same_listed q) before) (same_listed q n)
-    ∙ ap (λ x. cond (same_listed q n) (Some (tt {0})) x) (sym (get-listed before q))
-    ∙ sym (get-insert listed_total (listed_set before) n tt q))
 
 -- what a set of notes has, with more, are these notes with more
 pub notes-with : (notes more : List Listed) → listed_set (keys (listed_set notes) ++ more) ≡ listed_set (notes ++ more)

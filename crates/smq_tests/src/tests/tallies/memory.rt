@@ -49,11 +49,11 @@ fn make_below(rt: &impl Abort, tally: &mut Tally, end: u32, stops: bool) -> Opti
     None
 }
 
-/// The tables of the steps below a number.
-fn tables_below(rt: &impl Abort, alloc: Global, end: u32) -> Tables {
+/// A tally of the steps below a number.
+fn tally_below(rt: &impl Abort, alloc: Global, end: u32) -> Tally {
     let mut tally = Tally::new(alloc);
     make_below(rt, &mut tally, end, false);
-    tally.into_tables()
+    tally
 }
 
 /// How many rows a view has, and how many facts they count.
@@ -80,12 +80,13 @@ fn number_listed(tables: &Tables, list: List) -> u64 {
 fn want_of_memory_changes_nothing(rt: HostRuntime) {
     let mut tally = Tally::new(rt.alloc());
     let refused = make_below(&rt, &mut tally, 4000, true);
-    let others = tables_below(&rt, rt.alloc(), refused.unwrap_or(4000));
-    assert!(rt; tally.into_tables() == others);
+    let others = tally_below(&rt, rt.alloc(), refused.unwrap_or(4000));
+    assert!(rt; *tally.tables() == *others.tables());
 
-    let tables = tables_below(&rt, rt.alloc(), 4000);
-    assert!(rt; rows_and_facts(&tables, View::Link) == (28, 2000));
-    assert!(rt; rows_and_facts(&tables, View::Route) == (2000, 2000));
-    assert!(rt; number_listed(&tables, List::Open) == 2000);
-    assert!(rt; number_listed(&tables, List::Lapsed) == 500);
+    let whole = tally_below(&rt, rt.alloc(), 4000);
+    let tables = whole.tables();
+    assert!(rt; rows_and_facts(tables, View::Link) == (28, 2000));
+    assert!(rt; rows_and_facts(tables, View::Route) == (2000, 2000));
+    assert!(rt; number_listed(tables, List::Open) == 2000);
+    assert!(rt; number_listed(tables, List::Lapsed) == 500);
 }

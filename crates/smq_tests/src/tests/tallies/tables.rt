@@ -108,10 +108,10 @@ fn take_steps(rt: &impl Abort, tally: &mut Tally, steps: &[Step]) {
     }
 }
 
-fn tables_of(rt: &impl Abort, alloc: Global, steps: &[Step]) -> Tables {
+fn tally_of(rt: &impl Abort, alloc: Global, steps: &[Step]) -> Tally {
     let mut tally = Tally::new(alloc);
     take_steps(rt, &mut tally, steps);
-    tally.into_tables()
+    tally
 }
 
 /// Whether a view has these rows, in order, and these counts.
@@ -142,17 +142,18 @@ fn has_places(tables: &Tables, list: List, wanted: &[At]) -> bool {
 
 fn assert_case(rt: &impl Abort, alloc: Global, case: &Case) {
     let what = case.what;
-    let tables = tables_of(rt, alloc, case.steps);
+    let tally = tally_of(rt, alloc, case.steps);
     for (view, rows) in case.rows {
-        assert!(rt; has_rows(rt, &tables, *view, rows), "{what}");
+        assert!(rt; has_rows(rt, tally.tables(), *view, rows), "{what}");
     }
     for (list, places) in case.lists {
-        assert!(rt; has_places(&tables, *list, places), "{what}");
+        assert!(rt; has_places(tally.tables(), *list, places), "{what}");
     }
 }
 
 fn are_equal(rt: &impl Abort, alloc: Global, steps: &[Step], others: &[Step]) -> bool {
-    tables_of(rt, alloc, steps) == tables_of(rt, alloc, others)
+    let tally = tally_of(rt, alloc, steps);
+    *tally.tables() == *tally_of(rt, alloc, others).tables()
 }
 
 fn assert_names(rt: &impl Abort) {

@@ -1,15 +1,16 @@
-use Rattle.std.proofs.Common.{◌≡◌, None, refl, ap, ◌∙◌}
+use Rattle.std.proofs.Common.{◌≡◌, None, sym, ap, ◌∙◌}
 use Rattle.std.specs.FinMap.{get, insert}
+use Rattle.smq_tally.specs.Tables.{tables_of}
 use Rattle.smq_tally.specs.Tally.{TallyValue}
 use Rattle.smq_tally.specs.within.Counting.{one_more}
-use Rattle.smq_tally.specs.within.Kept.{facts_in, places_in}
+use Rattle.smq_tally.specs.within.Kept.{facts_in}
 use Rattle.smq_tally.proofs.Held.{fact-put, has-room, still, fact-added, stand-added}
 use Rattle.smq_tally.proofs.tally.Tally.add.Goals as goal
 
 pub add_fact-requires : goal.add_fact-requires
 add_fact-requires c = record {
   room =
-      has-room c.self.inside.facts.content c.self.inside.facts.places c.place_count.result (places_in c.self.inside.notes.content)
+      has-room c.self.inside.facts.content c.self.inside.facts.places c.place_count.result c.self.inside.tables.notes
       c.self.inside.tables.shown c.self.invariant.now
       c.place_count.ensures.ordered c.place_count.ensures.content c.place_count.ensures.count c.place_count.ensures.small;
 }
@@ -25,8 +26,9 @@ invariant_of-self-in_default c =
     let absent : get (facts_in c.self.inside.facts.content) c.args.fact.place ≡ None = ap (λ (t : TallyValue). get t.facts c.args.fact.place)
     c.self.view_is ∙ c.requires.absent in
     still c.self.invariant (fact-added c.self.invariant c.args.fact absent (put c) (c.in_default.ensures.ok
-    ∙ ap (one_more c.self.inside.tables.shown) c.copy-counted.ensures))
-    (stand-added c.self.invariant c.args.fact (put c)) (ap facts_in c.set.ensures.settled) refl c.add_fact.ensures.settled
+    ∙ ap (one_more c.self.inside.tables.shown) c.copy-counted.ensures)
+    ∙ ap (tables_of (facts_in c.set.new.self.content)) (sym c.in_default.ensures.notes))
+    (stand-added c.self.invariant c.args.fact (put c)) (ap facts_in c.set.ensures.settled) c.add_fact.ensures.settled_notes c.add_fact.ensures.settled
 
 pub returns-clause-ok : goal.returns-clause-ok
 returns-clause-ok c = put c ∙ ap (λ (t : TallyValue). insert t.facts c.args.fact.place c.args.fact) c.self.view_is

@@ -1,19 +1,22 @@
 use Rattle.std.proofs.Common.{◌≡◌, subst, refl, sym, ap, ◌∙◌}
-use Rattle.std.specs.FinMap.{remove}
+use Rattle.std.specs.FinMap.{remove, contains_key}
 use Rattle.smq_shelf.proofs.Steps.{content-back}
-use Rattle.smq_tally.specs.Tables.{TablesKept, tables_of}
+use Rattle.smq_tally.specs.Tables.{tables_of}
+use Rattle.std.specs.List.{list_any}
+use Rattle.smq_tally.specs.Lists.{listings_of_fact}
 use Rattle.smq_tally.specs.Tally.{TallyValue}
-use Rattle.smq_tally.specs.within.Kept.{facts_in, places_in, StandAtTheirPlaces}
+use Rattle.smq_tally.specs.within.Noted.{NotedValue}
+use Rattle.smq_tally.specs.within.Kept.{facts_in, StandAtTheirPlaces}
 use Rattle.smq_tally.proofs.Held.{Entries, fact-taken, has-entry, has-room, still, fact-removed, stand-removed}
 use Rattle.smq_tally.proofs.tally.Tally.remove.Goals as goal
 
 pub remove_fact-requires : goal.remove_fact-requires
 remove_fact-requires c = record {
   room =
-      has-room c.fact_at.new.facts.content c.fact_at.new.facts.places c.place_count.result (places_in c.self.inside.notes.content)
+      has-room c.fact_at.new.facts.content c.fact_at.new.facts.places c.place_count.result c.self.inside.tables.notes
       c.self.inside.tables.shown
       (c.self.invariant.now
-      ∙ (λ i. tables_of (facts_in (sym c.fact_at.ensures.content i)) (places_in c.self.inside.notes.content))) c.place_count.ensures.ordered
+      ∙ (λ i. tables_of (facts_in (sym c.fact_at.ensures.content i)) c.self.inside.tables.notes)) c.place_count.ensures.ordered
       c.place_count.ensures.content c.place_count.ensures.count c.place_count.ensures.small;
 }
 
@@ -29,10 +32,10 @@ back c =
 pub invariant_of-self-in-Err : goal.invariant_of-self-in-Err
 invariant_of-self-in-Err c =
     still c.self.invariant
-    (ap (λ (t : TablesKept). t.shown) c.in-Err.ensures.err ∙ c.self.invariant.now
-    ∙ (λ i. tables_of (facts_in (sym (back c) i)) (places_in c.self.inside.notes.content)))
+    (ap (λ (t : NotedValue). t.shown) c.in-Err.ensures.err ∙ c.self.invariant.now
+    ∙ (λ i. tables_of (facts_in (sym (back c) i)) (sym c.in-Err.ensures.err i).notes))
     (subst (λ (es : Entries). StandAtTheirPlaces (facts_in es)) (sym (back c)) c.self.invariant.places)
-    (ap facts_in (c.take_back.ensures.settled ∙ c.remove.ensures.settled ∙ c.fact_at.ensures.settled)) refl c.remove_fact.ensures.settled
+    (ap facts_in (c.take_back.ensures.settled ∙ c.remove.ensures.settled ∙ c.fact_at.ensures.settled)) c.remove_fact.ensures.settled_notes c.remove_fact.ensures.settled
 
 pub returns-in-Err-clause-err : goal.returns-in-Err-clause-err
 returns-in-Err-clause-err c = ap facts_in (back c) ∙ ap (λ (t : TallyValue). t.facts) c.self.view_is
@@ -46,10 +49,12 @@ took c =
 pub invariant_of-self-in_default-remove_fact : goal.invariant_of-self-in_default-remove_fact
 invariant_of-self-in_default-remove_fact c =
     still c.self.invariant
-    (fact-removed c.self.invariant c.args.place c.in-Some.fact c.has_listing-is_noted.result (sym c.in-Some.ensures.value)
-    c.has_listing-is_noted.ensures (took c) c.in_default-remove_fact.ensures.ok)
+    (fact-removed c.self.invariant c.args.place c.in-Some.fact
+    (list_any (contains_key c.self.inside.tables.notes) (listings_of_fact c.in-Some.fact)) (sym c.in-Some.ensures.value)
+    refl (took c) c.in_default-remove_fact.ensures.ok
+    ∙ ap (tables_of (facts_in c.remove.new.self.content)) (sym c.in_default-remove_fact.ensures.notes))
     (stand-removed c.self.invariant c.args.place (took c)) (ap facts_in (c.remove.ensures.settled
-    ∙ c.fact_at.ensures.settled)) refl c.remove_fact.ensures.settled
+    ∙ c.fact_at.ensures.settled)) c.remove_fact.ensures.settled_notes c.remove_fact.ensures.settled
 
 pub returns-clause-ok : goal.returns-clause-ok
 returns-clause-ok c = took c ∙ ap (λ (t : TallyValue). remove t.facts c.args.place) c.self.view_is

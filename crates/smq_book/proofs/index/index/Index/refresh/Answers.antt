@@ -18,13 +18,13 @@ returns-then-is_message-clause-facts c = λ are.
 pub returns-then-is_message-clause-notes : goal.returns-then-is_message-clause-notes
 returns-then-is_message-clause-notes c = λ are unlisted.
     let i = c.args.self.now in
-    c.set_fact_by.ensures.notes
+    c.in_ok-is_message.ensures.notes
     ∙ sym (listing-idle c.args.settings.now (stored_traffic i.messages.content i.receipts.content) i.standings.members are
     i.tally.notes unlisted c.args.place (sym c.in_ok-is_message.ensures.is_message ∙ c.if-is_message.true))
 
 pub returns-then-is_message-clause-unlisted : goal.returns-then-is_message-clause-unlisted
 returns-then-is_message-clause-unlisted c = λ are unlisted.
-    subst (λ (n : FinSet listed_cmp). AreUnlisted (messages_in c.args.self.now.messages.content) n) (sym c.set_fact_by.ensures.notes) unlisted
+    subst (λ (n : FinSet listed_cmp). AreUnlisted (messages_in c.args.self.now.messages.content) n) (sym c.in_ok-is_message.ensures.notes) unlisted
 
 pub returns-clause-facts : goal.returns-clause-facts
 returns-clause-facts c = λ are.
@@ -41,7 +41,7 @@ returns-clause-notes c = λ are unlisted.
     (subst (λ (g : Grouping). AreOf c.args.settings.now traffic g) (sym members) are)
     (ap (λ (r : KeepingMap Place ReceivedReceipt). receipts_in r.content) c.set_fact_by.ensures.receipts) in
     c.in_ok-set_listing.ensures.notes
-    ∙ (λ j. with_listing (c.set_fact_by.ensures.notes j) c.args.place ((list ∙ ap (λ (g : Grouping). list_held g c.args.place) members) j))
+    ∙ (λ j. with_listing (c.in_ok-is_message.ensures.notes j) c.args.place ((list ∙ ap (λ (g : Grouping). list_held g c.args.place) members) j))
 
 pub returns-clause-unlisted : goal.returns-clause-unlisted
 returns-clause-unlisted c = λ are unlisted.
@@ -54,7 +54,7 @@ returns-clause-unlisted c = λ are unlisted.
     (ap (λ (r : KeepingMap Place ReceivedReceipt). receipts_in r.content) c.set_fact_by.ensures.receipts) in
     subst (λ (n : FinSet listed_cmp). AreUnlisted traffic.messages n)
     (sym (c.in_ok-set_listing.ensures.notes
-    ∙ (λ j. with_listing (c.set_fact_by.ensures.notes j) c.args.place ((list ∙ ap (λ (g : Grouping). list_held g c.args.place) members) j))))
+    ∙ (λ j. with_listing (c.in_ok-is_message.ensures.notes j) c.args.place ((list ∙ ap (λ (g : Grouping). list_held g c.args.place) members) j))))
     (unlisted-again c.args.settings.now traffic i.standings.members are i.tally.notes unlisted c.args.place)
 
 pub returns-clause-due : goal.returns-clause-due

@@ -56,7 +56,7 @@ returns-clause-facts c = λ z versions clock are.
     let m = c.in-Some.message.now in
     let some : ◌≡◌ {A = Option Message} (Some m) (option_copied c.get.result) = search rules in
     let there : get (messages_in i.messages.content) q ≡ Some m = sym (some ∙ c.get.ensures ∙ stored-at i.messages.content q) in
-    c.in_ok-set_fact.ensures.facts
+    c.in_ok-set.ensures.ok
     ∙ ap (λ (p : Place). insert i.tally.facts p c.fact_at-fact.result) c.fact_at-fact.ensures.place
     ∙ ap (set_at i.tally.facts q)
     (c.fact_at-fact.ensures.value z (stored_traffic i.messages.content i.receipts.content) versions clock are refl there)
@@ -70,7 +70,7 @@ returns-clause-due c = λ same.
     let fact : Fact = c.fact_at-fact.result in
     let some : ◌≡◌ {A = Option Message} (Some m) (option_copied c.get.result) = search rules in
     let there : get ms q ≡ Some m = sym (some ∙ c.get.ensures ∙ stored-at i.messages.content q) in
-    let sets = c.in_ok-set_fact.ensures.facts ∙ ap (λ (p : Place). insert i.tally.facts p fact) c.fact_at-fact.ensures.place in
+    let sets = c.in_ok-set.ensures.ok ∙ ap (λ (p : Place). insert i.tally.facts p fact) c.fact_at-fact.ensures.place in
     c.in_ok-set_due.ensures.value
     ∙ (λ j. set_at (same j) (due_at (c.message.view_is j).moment q) (noted (c.is_open-is_open.ensures j)))
     ∙ ap (set_at (due_in ms i.tally.facts) (due_at m.moment q)) (noted-marked (is_open_fact (Some fact)))

@@ -1,0 +1,95 @@
+use Rattle.std.proofs.Common.{◌≡◌, List, None, Some, subst, refl, ap, sym, ◌∙◌, rules}
+use Rattle.std.specs.FinMap.{get}
+use Rattle.smq_shelf.specs.Keeping.{KeepingMap}
+use Rattle.smq_kit.specs.declared.place.Place.{Place}
+use Rattle.smq_group.specs.declared.change.Change.{Change}
+use Rattle.smq_group.specs.Changes.{TellsChanges}
+use Rattle.smq_group.specs.Groups.{GroupsValue}
+use Rattle.smq_group.specs.Matching.{Grouping}
+use Rattle.smq_route.specs.Numbers.{NumbersValue}
+use Rattle.smq_book.specs.index.Held.{Holding, stored_traffic}
+use Rattle.smq_book.specs.index.Pushed.{without_response}
+use Rattle.smq_book.specs.join.Keyed.{accepted_key, grouping_of}
+use Rattle.smq_book.specs.join.Moves.{put_message}
+use Rattle.smq_book.specs.pairing.Traffic.{Message, ReceivedReceipt}
+use Rattle.smq_book.proofs.lemmas.index.Followed.{are-stored, due-stays, facts-alone, facts-told, holds, notes-alone, numbers-stay}
+use Rattle.smq_book.proofs.lemmas.index.Followed.{notes-told, put-there, stored-accepted, stored-held, stored-unmoved, unlisted}
+use Rattle.smq_book.proofs.lemmas.index.Members.{members-unmoved, receipt-absent, submit-there}
+use Rattle.smq_book.proofs.lemmas.index.Moves.{came-submit}
+use Rattle.smq_book.proofs.lemmas.join.MoveLemmas.{put_message-moves}
+use Rattle.smq_book.proofs.index.index.Index.answer_message.Goals as goal
+
+pub add_submit-requires-clause-absent : goal.add_submit-requires-clause-absent
+add_submit-requires-clause-absent c =
+    let i = c.args.self.now in
+    ap (λ (g : Grouping). get g.submits c.args.place) c.requires.are.grouped
+    ∙ submit-there c.args.settings.now c.args.place (stored_traffic i.messages.content i.receipts.content)
+    (without_response c.args.answered) c.requires.unanswered
+
+pub add_submit-requires-clause-apart : goal.add_submit-requires-clause-apart
+add_submit-requires-clause-apart c =
+    let i = c.args.self.now in
+    ap (λ (g : Grouping). get g.receipts c.args.place) c.requires.are.grouped
+    ∙ receipt-absent c.args.settings.now c.args.place (stored_traffic i.messages.content i.receipts.content)
+    (c.requires.are.apart c.args.place (without_response c.args.answered) c.requires.unanswered)
+
+pub returns-in_default-clause-held : goal.returns-in_default-clause-held
+returns-in_default-clause-held c = λ t traffic held.
+    let s = c.args.settings.now in
+    let i = c.args.self.now in
+    let q = c.args.place in
+    let m = c.args.answered in
+    let old = without_response m in
+    let u = put_message q m t in
+    let is : get t.messages q ≡ Some old = sym (ap (λ (h : Holding). get h.messages q) held) ∙ c.requires.unanswered in
+    let stored = stored-held s t i traffic held in
+    let free : get t.receipts q ≡ None = stored.stands.apart q old is in
+    let gone : c.key-key.result ≡ None = search rules in
+    let refused : accepted_key s m ≡ None = sym c.key-key.ensures ∙ gone in
+    let none : get (grouping_of s t).submits q ≡ None = submit-there s q t old is in
+    let stores = stored-unmoved stored q m refused none free c.in_ok-set.ensures.content in
+    let move = put_message-moves q m t free in
+    let alike = sym (members-unmoved s q t m refused none) in
+    holds s t u i held stores traffic q move refl c.refresh.new.self
+    (ap (λ (k : KeepingMap Place Message). k.content) c.refresh.ensures.messages)
+    (ap (λ (k : KeepingMap Place ReceivedReceipt). k.content) c.refresh.ensures.receipts)
+    (ap (λ (v : GroupsValue). v.members) c.refresh.ensures.standings)
+    (c.in_ok-refresh.ensures.facts (are-stored stores) ∙ facts-alone s t u i held stores traffic q move refl alike)
+    (c.in_ok-refresh.ensures.notes (are-stored stores) (unlisted s t u i held stores traffic q move refl (λ m e. free))
+    ∙ notes-alone s t u i held stores traffic q move refl alike)
+    (c.in_ok-refresh.ensures.due (due-stays s t i held q old m is refl stores.messages))
+    (ap (λ (n : NumbersValue). n.numbers) c.refresh.ensures.numbers ∙ numbers-stay s t i held q old m is refl)
+
+pub returns-clause-held : goal.returns-clause-held
+returns-clause-held c = λ t traffic held.
+    let s = c.args.settings.now in
+    let i = c.args.self.now in
+    let q = c.args.place in
+    let m = c.args.answered in
+    let old = without_response m in
+    let key = c.in-Some.accepted in
+    let u = put_message q m t in
+    let g = i.standings.members in
+    let h = c.add_submit.new.self.members in
+    let is : get t.messages q ≡ Some old = sym (ap (λ (h : Holding). get h.messages q) held) ∙ c.requires.unanswered in
+    let stored = stored-held s t i traffic held in
+    let free : get t.receipts q ≡ None = stored.stands.apart q old is in
+    let keyed = sym c.key-key.ensures ∙ c.in-Some.is in
+    let stores = stored-accepted stored q m key keyed free c.in_ok-set.ensures.content c.in_ok-changes.ensures.ok in
+    let move = put_message-moves q m t free in
+    let cs = c.as_slice.result.now in
+    let tells : TellsChanges g h cs =
+    subst (λ (l : List Change). TellsChanges g h l) (sym c.as_slice.ensures.value) c.in_ok-changes.ensures.changes in
+    let absent = ap (λ (x : Grouping). get x.submits q) c.requires.are.grouped
+    ∙ submit-there s q (stored_traffic i.messages.content i.receipts.content) old c.requires.unanswered in
+    let there = came-submit g h cs tells q key absent
+    (ap (λ (x : Grouping). get x.submits q) c.in_ok-changes.ensures.ok ∙ put-there g.submits q key) in
+    holds s t u i held stores traffic q move refl c.follow.new.self
+    (ap (λ (k : KeepingMap Place Message). k.content) c.follow.ensures.messages)
+    (ap (λ (k : KeepingMap Place ReceivedReceipt). k.content) c.follow.ensures.receipts)
+    (ap (λ (v : GroupsValue). v.members) c.follow.ensures.standings)
+    (c.in_ok-follow.ensures.facts (are-stored stores) ∙ facts-told s t u i held stores traffic q move refl cs tells there)
+    (c.in_ok-follow.ensures.notes (are-stored stores) (unlisted s t u i held stores traffic q move refl (λ m e. free))
+    ∙ notes-told s t u i held stores traffic q move refl cs tells there)
+    (c.in_ok-follow.ensures.due (due-stays s t i held q old m is refl stores.messages))
+    (ap (λ (n : NumbersValue). n.numbers) c.follow.ensures.numbers ∙ numbers-stay s t i held q old m is refl)

@@ -1,0 +1,80 @@
+//! Sessions by their numbers, as they come and go. A refusal changes nothing.
+ghost use Rattle.std.specs.Prelude.{◌≡◌, None, MatchResult};
+ghost use Rattle.std.specs.FinMap as map;
+ghost use Rattle.smq_book.specs.within.InOrder.{sessions_in};
+ghost use Rattle.smq_kit.specs.Replies.{IsReply, IsReplyInPlace, first_of};
+ghost use Rattle.smq_book.specs.present.Replies.{append_refusals, no_session};
+ghost use Rattle.smq_book.specs.present.Steps.{session_after};
+
+use crate::{Batch, Session};
+use smq_kit::Refusal;
+use std::alloc::Global;
+use std::collections::BTreeMap;
+
+/// Puts a batch after its direction, in its session or in a new one. A refusal changes nothing.
+pub(crate) fn append_in(
+    alloc: Global,
+    sessions: &mut BTreeMap<u64, Session>,
+    batch: Batch,
+) -> Result<(), Refusal>
+    ensures { let session = map.get (sessions_in sessions.old) batch.session.0 in
+        IsReply (first_of (append_refusals session batch)) result
+        (sessions_in sessions.new
+        ≡ map.insert (sessions_in sessions.old) batch.session.0 (session_after session batch))
+        (sessions_in sessions.new ≡ sessions_in sessions.old) }
+{
+    let number = batch.session.0;
+    match sessions.get_mut(&number) {
+        Some(session) => session.append(batch),
+        None => append_new(alloc, sessions, batch),
+    }
+}
+
+/// Puts a batch into a new session. A refusal changes nothing.
+fn append_new(
+    alloc: Global,
+    sessions: &mut BTreeMap<u64, Session>,
+    batch: Batch,
+) -> Result<(), Refusal>
+    ensures { IsReply (first_of (append_refusals None batch)) result
+        (sessions_in sessions.new
+        ≡ map.insert (sessions_in sessions.old) batch.session.0 (session_after None batch))
+        (sessions_in sessions.new ≡ sessions_in sessions.old) }
+{
+    let number = batch.session.0;
+    match Session::from_batch(alloc, batch) {
+        Ok(session) => insert_session(sessions, number, session),
+        Err(refusal) => Err(refusal),
+    }
+}
+
+/// Puts a new session in. An error changes nothing.
+fn insert_session(
+    sessions: &mut BTreeMap<u64, Session>,
+    number: u64,
+    session: Session,
+) -> Result<(), Refusal>
+    ensures { MatchResult result
+        (λ _. sessions_in sessions.new ≡ map.insert (sessions_in sessions.old) number session)
+        (λ e. (e ≡ Refusal.Memory) × (sessions_in sessions.new ≡ sessions_in sessions.old)) }
+{
+    match sessions.insert(number, session) {
+        Ok(_) => Ok(()),
+        Err(_) => Err(Refusal::Memory),
+    }
+}
+
+/// Takes a session out, which takes no memory. A refusal changes nothing.
+pub(crate) fn remove_session(
+    sessions: &mut BTreeMap<u64, Session>,
+    number: u64,
+) -> Result<(), Refusal>
+    ensures { IsReplyInPlace (no_session (map.get (sessions_in sessions.old) number)) result
+        (sessions_in sessions.new ≡ map.remove (sessions_in sessions.old) number)
+        (sessions_in sessions.new ≡ sessions_in sessions.old) }
+{
+    match sessions.remove(&number) {
+        Some(_) => Ok(()),
+        None => Err(Refusal::NoSession),
+    }
+}

@@ -1,0 +1,125 @@
+use Rattle.std.proofs.Common.{◌≡◌, Bool, true, false, cond, List, subst, refl, sym, ap, ◌∙◌}
+use Rattle.std.specs.FinMap.{contains_key, remove}
+use Rattle.smq_tally.specs.declared.list.Listed.{Listed}
+use Rattle.smq_tally.specs.Tables.{TablesValue}
+use Rattle.smq_tally.specs.within.Kept.{places_in}
+use Rattle.smq_tally.specs.within.Noted.{NotedValue, notes_among, AreApart}
+use Rattle.smq_tally.proofs.Stored.{has-seen, place-less}
+use Rattle.smq_tally.proofs.NotesAmong.{apart-noted, apart-fewer, apart-less, among-less}
+use Rattle.std.specs.Prelude.{IsTrue}
+use Rattle.std.specs.FinSet.{FinSet}
+use Rattle.smq_shelf.specs.Keeping.{KeepingMap}
+use Rattle.smq_tally.specs.Lists.{listed_cmp}
+use Rattle.smq_tally.specs.within.ListOrder.{takes_facts}
+use Rattle.smq_tally.proofs.noted.NotedTables.forget.Goals as goal
+
+-- where no message stands in the list, the place doesn't stay
+not-kept : (b t : Bool) → (IsTrue b → IsTrue t) → t ≡ false → b ≡ false
+not-kept true t h none = sym (h refl) ∙ none
+not-kept false t h none = refl
+
+-- what is listed once a place stays, or doesn't
+listed-so : (t : TablesValue) (note : Listed) (stays b : Bool) → stays ≡ b
+    → record t { places = cond b t.places (remove t.places note) } ≡ record t { places = cond stays t.places (remove t.places note) }
+listed-so t note stays b e = λ i. record t { places = cond (sym e i) t.places (remove t.places note) }
+
+pub returns-then-not-takes_facts-clause-ok : goal.returns-then-not-takes_facts-clause-ok
+returns-then-not-takes_facts-clause-ok c =
+    let note = c.args.note.now in
+    let apart = places_in c.self.inside.apart.content in
+    let before = c.self.inside.tables.shown in
+    let none = sym c.takes_facts.ensures ∙ c.if-not-takes_facts.true in
+    let ok = c.in_ok-unlist_place.ensures.ok in
+    let left = not-kept c.args.stays (takes_facts note.list) c.requires.stays none in
+    (λ i. record {
+      notes =
+          (ap (λ (t : TablesValue). notes_among apart t.places) ok ∙ among-less apart before.places note c.self.invariant.0 none) i;
+      settled_notes = notes_among (places_in c.self.inside.apart.settled) (c.unlist_place.ensures.settled i).places;
+      shown = (ok ∙ listed-so before note c.args.stays false left) i;
+      settled = c.unlist_place.ensures.settled i;
+    })
+    ∙ ap (λ (t : NotedValue). record t {
+      notes = remove t.notes note;
+      shown = record t.shown { places = cond c.args.stays t.shown.places (remove t.shown.places note) };
+    }) c.self.view_is
+
+pub invariant_of-self-then-stays : goal.invariant_of-self-then-stays
+invariant_of-self-then-stays c =
+    let took = place-less c.self.inside.apart.content c.remove.new.self.content c.args.note.now c.in_ok-remove.ensures.ordered
+    c.in_ok-remove.ensures.content in (
+      subst (λ (s : FinSet listed_cmp). AreApart s) (sym took) (apart-fewer (places_in c.self.inside.apart.content) c.args.note.now
+          c.self.invariant.0),
+      subst (λ (es : List (Listed × Unit {0})). AreApart (places_in es)) (sym c.remove.ensures.settled) c.self.invariant.1,
+    )
+
+pub returns-then-stays-clause-ok : goal.returns-then-stays-clause-ok
+returns-then-stays-clause-ok c =
+    let note = c.args.note.now in
+    let before = c.self.inside.tables.shown in
+    let takes = sym c.takes_facts.ensures ∙ c.if-not-takes_facts.false in
+    let took = place-less c.self.inside.apart.content c.remove.new.self.content note c.in_ok-remove.ensures.ordered c.in_ok-remove.ensures.content in
+    (λ i. record {
+      notes =
+          ((λ j. notes_among (took j) before.places)
+          ∙ apart-less (places_in c.self.inside.apart.content) before.places note true takes) i;
+      settled_notes = notes_among (places_in (c.remove.ensures.settled i)) c.self.inside.tables.settled.places;
+      shown = listed-so before note c.args.stays true c.if-stays.true i;
+      settled = c.self.inside.tables.settled;
+    })
+    ∙ ap (λ (t : NotedValue). record t {
+      notes = remove t.notes note;
+      shown = record t.shown { places = cond c.args.stays t.shown.places (remove t.shown.places note) };
+    }) c.self.view_is
+
+-- what was kept apart
+back : (c : goal.After-take_back) → c.take_back.new.map ≡ c.self.inside.apart
+back c =
+    let note = c.args.note.now in
+    let there = has-seen c.self.inside.apart.content note
+    ∙ apart-noted (places_in c.self.inside.apart.content) c.self.inside.tables.shown.places note
+    (sym c.takes_facts.ensures ∙ c.if-not-takes_facts.false)
+    ∙ ap (λ (t : NotedValue). contains_key t.notes note) c.self.view_is ∙ c.requires.noted in
+    c.take_back.ensures c.self.inside.apart (c.in_ok-remove.ensures.shown, c.in_ok-remove.ensures.past there) c.remove.ensures.settled
+
+pub invariant_of-self-in-Err : goal.invariant_of-self-in-Err
+invariant_of-self-in-Err c =
+    subst (λ (m : KeepingMap Listed (Unit {0})). AreApart (places_in m.content) × AreApart (places_in m.settled)) (sym (back c)) c.self.invariant
+
+pub returns-in-Err-clause-err : goal.returns-in-Err-clause-err
+returns-in-Err-clause-err c =
+    (λ i. record {
+      notes = notes_among (places_in (back c i).content) (c.in-Err.ensures.err i).shown.places;
+      settled_notes = notes_among (places_in (back c i).settled) (c.in-Err.ensures.err i).settled.places;
+      shown = (c.in-Err.ensures.err i).shown;
+      settled = (c.in-Err.ensures.err i).settled;
+    })
+    ∙ c.self.view_is
+
+pub invariant_of-self-in_default : goal.invariant_of-self-in_default
+invariant_of-self-in_default c =
+    let took = place-less c.self.inside.apart.content c.remove.new.self.content c.args.note.now c.in_ok-remove.ensures.ordered
+    c.in_ok-remove.ensures.content in (
+      subst (λ (s : FinSet listed_cmp). AreApart s) (sym took) (apart-fewer (places_in c.self.inside.apart.content) c.args.note.now
+          c.self.invariant.0),
+      subst (λ (es : List (Listed × Unit {0})). AreApart (places_in es)) (sym c.remove.ensures.settled) c.self.invariant.1,
+    )
+
+pub returns-clause-ok : goal.returns-clause-ok
+returns-clause-ok c =
+    let note = c.args.note.now in
+    let before = c.self.inside.tables.shown in
+    let takes = sym c.takes_facts.ensures ∙ c.if-not-takes_facts.false in
+    let took = place-less c.self.inside.apart.content c.remove.new.self.content note c.in_ok-remove.ensures.ordered c.in_ok-remove.ensures.content in
+    let ok = c.in_default.ensures.ok in
+    (λ i. record {
+      notes =
+          ((λ j. notes_among (took j) (ok j).places)
+          ∙ apart-less (places_in c.self.inside.apart.content) before.places note false takes) i;
+      settled_notes = notes_among (places_in (c.remove.ensures.settled i)) (c.unlist_place-2.ensures.settled i).places;
+      shown = (ok ∙ listed-so before note c.args.stays false c.if-stays.false) i;
+      settled = c.unlist_place-2.ensures.settled i;
+    })
+    ∙ ap (λ (t : NotedValue). record t {
+      notes = remove t.notes note;
+      shown = record t.shown { places = cond c.args.stays t.shown.places (remove t.shown.places note) };
+    }) c.self.view_is
