@@ -1,4 +1,4 @@
-"""Builds a program over the libraries of this repository, in a repository of its own: for bench/routes and bench/desk."""
+"""Builds a program over the libraries of this repository, in a repository of its own: for bench/routes, bench/edits and bench/desk."""
 import os
 import shutil
 import subprocess
