@@ -31,8 +31,13 @@ const SCRIPT: &[Step] = &[
     Withdraw(10),
 ];
 
-/// Whether the tables of a book are those that are counted anew of what is present.
+/// Whether the tables of a book are those that are counted anew of what is present. Where memory runs out while they are
+/// counted, they are counted once more.
 fn is_counted(alloc: Global, book: &Book) -> bool {
+    is_as_counted(alloc, book) || is_as_counted(alloc, book)
+}
+
+fn is_as_counted(alloc: Global, book: &Book) -> bool {
     match tables_anew(alloc, book.present()) {
         Ok(tables) => tables == *book.tables(),
         Err(_) => false,
