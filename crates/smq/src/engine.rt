@@ -10,7 +10,7 @@ ghost use Rattle.smq.specs.IsRun.{IsRun, TellsRun, WasRead, run_fault, unwritten
 ghost use Rattle.smq.specs.Play.{present_of, refused_of};
 
 use crate::play::play;
-use smq_book::Book;
+use smq_book::PlainBook;
 use smq_kit::Refusal;
 use smq_load::{LoadFault, Row, read_script, read_settings};
 use smq_report::{ReportFault, write_report};
@@ -124,7 +124,7 @@ fn play_all(
     alloc: Global,
     settings_rows: Vec<Row>,
     rows: Vec<Row>,
-) -> Result<(Box<Book>, Vec<(u64, Refusal)>), AllocError>
+) -> Result<(Box<PlainBook>, Vec<(u64, Refusal)>), AllocError>
     ensures present { IfOk result (λ made. made.0.value.present
         ≡ present_of settings_rows.items rows.items) }
     ensures refused { IfOk result (λ made.
@@ -138,7 +138,7 @@ fn play_all(
 /// Plays settings and then a script on a book of nothing, and gives the rows of the script that are refused.
 fn play_both(
     alloc: Global,
-    book: &mut Book,
+    book: &mut PlainBook,
     settings_rows: Vec<Row>,
     rows: Vec<Row>,
 ) -> Result<Vec<(u64, Refusal)>, AllocError>
@@ -154,16 +154,16 @@ fn play_both(
 }
 
 /// A new book, on the heap: who owns it owns an address.
-fn new_book(alloc: Global) -> Result<Box<Book>, AllocError>
+fn new_book(alloc: Global) -> Result<Box<PlainBook>, AllocError>
     ensures { IfOk result (λ book. book.value.present ≡ empty) }
 {
-    Ok(Box::new(alloc, Book::new(alloc))?)
+    Ok(Box::new(alloc, PlainBook::new(alloc))?)
 }
 
 /// Writes what the query asks of the report of a book, and leaves the book to the system.
 fn write_tables<W: Write>(
     alloc: Global,
-    book: Box<Book>,
+    book: Box<PlainBook>,
     query: Query,
     writer: &mut W,
 ) -> Result<(), RunFault>
@@ -176,10 +176,10 @@ fn write_tables<W: Write>(
     written
 }
 
-/// Writes what the query asks of the report of a book.
+/// Writes what the query asks of the report of a book, whose tables are counted here.
 fn write_query<W: Write>(
     alloc: Global,
-    book: &Book,
+    book: &PlainBook,
     query: Query,
     writer: &mut W,
 ) -> Result<(), RunFault>
@@ -187,6 +187,10 @@ fn write_query<W: Write>(
         (report_text query.pick query.format (scratch book.now.present))) }
     ensures fault { IfErr result (λ fault. (fault ≡ RunFault.Write) ⊎ (fault ≡ RunFault.Memory)) }
 {
-    write_report(alloc, book.tables(), query.pick, query.format, writer)?;
+    let Ok(tables) = book.tables() else {
+        return Err(RunFault::Memory);
+    };
+    write_report(alloc, &tables, query.pick, query.format, writer)?;
+    forget(tables);
     Ok(())
 }

@@ -5,7 +5,7 @@ ghost use Rattle.smq_book.specs.present.Steps.{step};
 ghost use Rattle.smq.specs.Play.{after_row, after_rows, refusal_of, refused_rows, told};
 ghost use Rattle.smq_load.specs.declared.row.Row.TheVariants.{Piece};
 
-use smq_book::{Book, Edit, PieceRow, prepare};
+use smq_book::{Edit, PieceRow, PlainBook, prepare};
 use smq_kit::Refusal;
 use smq_load::Row;
 use std::alloc::{AllocError, Global};
@@ -13,7 +13,7 @@ use std::alloc::{AllocError, Global};
 /// Plays rows in order on a book, and gives the refused ones, each with its number, from 1.
 pub fn play(
     alloc: Global,
-    book: &mut Book,
+    book: &mut PlainBook,
     rows: Vec<Row>,
 ) -> Result<Vec<(u64, Refusal)>, AllocError>
     ensures present { OnOk result
@@ -33,7 +33,7 @@ pub fn play(
 /// Plays a row, and notes its refusal.
 fn play_next(
     alloc: Global,
-    book: &mut Book,
+    book: &mut PlainBook,
     refused: &mut Vec<(u64, Refusal)>,
     number: u64,
     row: Row,
@@ -53,7 +53,11 @@ fn play_next(
 }
 
 /// Puts a piece's octets after their direction, unless it is refused.
-fn play_piece(alloc: Global, book: &mut Book, row: PieceRow) -> Result<Option<Refusal>, AllocError>
+fn play_piece(
+    alloc: Global,
+    book: &mut PlainBook,
+    row: PieceRow,
+) -> Result<Option<Refusal>, AllocError>
     ensures { IfOk result (λ refusal. (refusal ≡ refusal_of book.old.present (Piece row))
         × (book.new.present ≡ after_row book.old.present (Piece row))) }
 {
@@ -72,7 +76,7 @@ fn play_piece(alloc: Global, book: &mut Book, row: PieceRow) -> Result<Option<Re
 }
 
 /// Makes an edit, unless it is refused.
-fn make(book: &mut Book, edit: Edit) -> Result<Option<Refusal>, AllocError>
+fn make(book: &mut PlainBook, edit: Edit) -> Result<Option<Refusal>, AllocError>
     ensures { IfOk result (λ refusal. (refusal ≡ reply book.old.present edit)
         × (book.new.present ≡ step book.old.present edit)) }
 {

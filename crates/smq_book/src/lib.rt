@@ -59,3 +59,4 @@ pub use smq_tally::{
 };
 pub use whole::anew::tables_anew;
 pub use whole::book::{Book, book_of_edits};
+pub use whole::plain_book::PlainBook;

@@ -2,3 +2,4 @@
 pub mod anew;
 pub mod book;
 pub mod kept_book;
+pub mod plain_book;

@@ -37,8 +37,8 @@ use std::marker::Model;
 /// What is present: the sessions, by their numbers, and what is set.
 #[derive(Drop)]
 pub struct Present {
-    sessions: BTreeMap<u64, Session>,
-    settings: Settings,
+    pub(crate) sessions: BTreeMap<u64, Session>,
+    pub(crate) settings: Settings,
 }
 
 impl Model for Present {

@@ -28,8 +28,8 @@ use std::marker::Model;
 #[derive(Drop)]
 pub struct Settings {
     forms: BTreeMap<u32, Forms>,
-    routes: Routes,
-    clock: Moment,
+    pub(crate) routes: Routes,
+    pub(crate) clock: Moment,
 }
 
 impl Model for Settings {
