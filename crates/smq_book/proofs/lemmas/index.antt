@@ -9,6 +9,7 @@ pub mod Coming
 pub mod Members
 pub mod Moves
 pub mod Followed
+pub mod Costs
 pub mod Edits
 pub mod Pairs
 pub mod Kept

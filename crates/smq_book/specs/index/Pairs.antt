@@ -30,3 +30,10 @@ pairs_now p number = pdus_of (stored_of p.by_session number)
 
 abbrev pub pairs_settled : Pairings → ℕ → PairingValue
 pairs_settled p number = settled_of (stored_of p.by_session number)
+
+-- how many changes `undo` would take back in the pairs of a session, at most: none where nothing is stored
+abbrev pub pending_of : Option PairedValue → ℕ
+pending_of stored = unwrap_or (option_map (λ (pairs : PairedValue). pairs.pending) stored) 0
+
+abbrev pub pairs_pending : Pairings → ℕ → ℕ
+pairs_pending p number = pending_of (stored_of p.by_session number)

@@ -1,10 +1,11 @@
 //! What a clock changes: the facts of the open messages whose windows have ended by it.
-ghost use Rattle.std.specs.Prelude.{◌≡◌, ◌≤◌, [], Ok, IfOk, IsOk, OnOk};
+ghost use Rattle.std.specs.Prelude.{◌≡◌, ◌≤◌, ◌+◌, ◌*◌, [], length, Ok, IfOk, IsOk, OnOk};
 ghost use Rattle.std.specs.FinMap as fin;
 ghost use Rattle.smq_book.specs.edits.Reached.{due_by};
 ghost use Rattle.smq_book.specs.index.Due as dues;
 ghost use Rattle.smq_book.specs.index.Due.{places_due};
 ghost use Rattle.smq_book.specs.index.Held.{IsHeld, dues_in, held_now, held_settled, traffic_held};
+ghost use Rattle.smq_book.specs.index.Touches.{index_cost, touches_in};
 ghost use Rattle.smq_book.specs.present.Settings.{SettingsValue, with_clock};
 
 use crate::index::due_at::DueAt;
@@ -32,6 +33,9 @@ pub(crate) fn advance(
     ensures none { (s : SettingsValue) → IsHeld s (held_now index.old)
         → fin.keys (due_by s (traffic_held (held_now index.old)) clock) ≡ [] → result ≡ Ok tt }
     ensures settled { held_settled index.new ≡ held_settled index.old }
+    ensures touches { OnOk result (index_cost index.new
+        ≤ index_cost index.old + 6 * length (places_due (dues_in index.old.due.content) clock)) }
+    ensures counted { touches_in index.old ≤ touches_in index.new }
 {
     let places = ended_places(alloc, &index.due, clock)?;
     refresh_at(index, routes, clock, places.as_slice())?;

@@ -2,7 +2,7 @@
 //!
 //! Each call that puts a message or a receipt in, or takes one out, sets the facts and the listings of the places alone
 //! whose standings it changes.
-ghost use Rattle.std.specs.Prelude.{◌≡◌, true, Some, is_some, IfOk, OnOk};
+ghost use Rattle.std.specs.Prelude.{◌≡◌, ◌≤◌, ◌+◌, ◌*◌, true, Some, is_some, length, IfOk, OnOk};
 ghost use Rattle.std.specs.Option.{option_copied};
 ghost use Rattle.std.specs.FinMap as fin;
 ghost use Rattle.smq_kit.specs.Maps.{set_at};
@@ -13,7 +13,7 @@ ghost use Rattle.smq_book.specs.index.Opening.{nothing_held};
 ghost use Rattle.smq_book.specs.index.Due.{due_in, is_open_fact};
 ghost use Rattle.smq_book.specs.index.Stored.{is_told_shared};
 ghost use Rattle.smq_book.specs.index.Held.{AreOf, AreUnlisted, IsTraffic, decider_held, dues_in, facts_anew, held_by, held_now, held_settled, list_by, list_held, messages_in, noted, notes_anew, receipts_in, stored_traffic, with_listing};
-ghost use Rattle.smq_book.specs.index.Touches.{index_touches};
+ghost use Rattle.smq_book.specs.index.Touches.{HasNothingPending, index_cost, index_touches, pending_in, tally_cost, touches_in};
 ghost use Rattle.smq_book.specs.join.Facts.{facts_of};
 ghost use Rattle.smq_book.specs.pairing.Traffic.{TrafficValue};
 ghost use Rattle.smq_book.specs.present.Settings.{SettingsValue};
@@ -50,6 +50,7 @@ impl Index {
         ensures held { held_now result ≡ nothing_held }
         ensures settled { held_settled result ≡ nothing_held }
         ensures touches { index_touches result ≡ 0 }
+        ensures pending { HasNothingPending result }
     {
         Index {
             standings: Standings::new(alloc),
@@ -65,6 +66,9 @@ impl Index {
     pub(crate) fn undo(&mut self)
         ensures held { held_now self.new ≡ held_settled self.old }
         ensures settled { held_settled self.new ≡ held_settled self.old }
+        ensures pending { HasNothingPending self.new }
+        ensures touches { index_cost self.new ≤ touches_in self.old + pending_in self.old }
+        ensures counted { touches_in self.old ≤ touches_in self.new }
     {
         self.standings.undo();
         self.messages.undo();
@@ -78,6 +82,9 @@ impl Index {
     pub(crate) fn settle(&mut self)
         ensures held { held_now self.new ≡ held_now self.old }
         ensures settled { held_settled self.new ≡ held_now self.old }
+        ensures pending { HasNothingPending self.new }
+        ensures touches { index_cost self.new ≤ index_cost self.old }
+        ensures counted { touches_in self.old ≤ touches_in self.new }
     {
         self.standings.settle();
         self.messages.settle();
@@ -122,6 +129,8 @@ impl Index {
         ensures due { let messages = messages_in self.old.messages.content in
             dues_in self.old.due.content ≡ due_in messages self.old.tally.facts
             → OnOk result (dues_in self.new.due.content ≡ due_in messages self.new.tally.facts) }
+        ensures touches { OnOk result (index_cost self.new ≤ index_cost self.old + 9) }
+        ensures counted { touches_in self.old ≤ touches_in self.new }
     {
         let is_message = self.set_fact_by(settings.routes(), settings.clock(), place)?;
         if is_message {
@@ -145,6 +154,9 @@ impl Index {
             → OnOk result (held_now self.new
             ≡ held_by z t (set_at facts place (fin.get (facts_of z t) place))) }
         ensures settled { held_settled self.new ≡ held_settled self.old }
+        ensures standings { self.new.standings ≡ self.old.standings }
+        ensures touches { OnOk result (index_cost self.new ≤ index_cost self.old + 6) }
+        ensures counted { touches_in self.old ≤ touches_in self.new }
     {
         self.set_fact_by(routes, clock, place)?;
         Ok(())
@@ -178,6 +190,8 @@ impl Index {
         ensures due { let messages = messages_in self.old.messages.content in
             dues_in self.old.due.content ≡ due_in messages self.old.tally.facts
             → OnOk result (dues_in self.new.due.content ≡ due_in messages self.new.tally.facts) }
+        ensures touches { OnOk result (index_cost self.new ≤ index_cost self.old + 9 * length changes.now) }
+        ensures counted { touches_in self.old ≤ touches_in self.new }
     {
         for change in changes {
             self.refresh(settings, change.place)?;
@@ -210,6 +224,8 @@ impl Index {
         ensures due { let messages = messages_in self.old.messages.content in
             dues_in self.old.due.content ≡ due_in messages self.old.tally.facts
             → OnOk result (dues_in self.new.due.content ≡ due_in messages self.new.tally.facts) }
+        ensures touches { OnOk result (index_cost self.new ≤ index_cost self.old + 6) }
+        ensures counted { touches_in self.old ≤ touches_in self.new }
     {
         let Some(message) = self.messages.get(&place) else {
             take_fact(&mut self.tally, place)?;
@@ -309,6 +325,8 @@ pub(crate) fn take_fact(tally: &mut Tally, place: Place) -> Result<(), AllocErro
     ensures facts { OnOk result (tally.new.facts ≡ fin.remove tally.old.facts place) }
     ensures notes { tally.new.notes ≡ tally.old.notes }
     ensures settled { tally.new.settled ≡ tally.old.settled }
+    ensures touches { OnOk result (tally_cost tally.new ≤ tally_cost tally.old + 6) }
+    ensures counted { tally.old.touches ≤ tally.new.touches }
 {
     if tally.has_fact(place) {
         tally.remove(place)?;
@@ -340,6 +358,8 @@ fn set_note(tally: &mut Tally, list: List, place: Place, is_noted: bool) -> Resu
         ≡ set_at tally.old.notes (listed list place) (noted is_noted)) }
     ensures facts { tally.new.facts ≡ tally.old.facts }
     ensures settled { tally.new.settled ≡ tally.old.settled }
+    ensures touches { OnOk result (tally_cost tally.new ≤ tally_cost tally.old + 1) }
+    ensures counted { tally.old.touches ≤ tally.new.touches }
 {
     if tally.is_noted(list, place) == is_noted {
         return Ok(());
@@ -368,6 +388,8 @@ fn set_listing(tally: &mut Tally, place: Place, list: Option<List>) -> Result<()
     ensures notes { OnOk result (tally.new.notes ≡ with_listing tally.old.notes place list) }
     ensures facts { tally.new.facts ≡ tally.old.facts }
     ensures settled { tally.new.settled ≡ tally.old.settled }
+    ensures touches { OnOk result (tally_cost tally.new ≤ tally_cost tally.old + 3) }
+    ensures counted { tally.old.touches ≤ tally.new.touches }
 {
     let is_stray = matches!(list, Some(List::StrayReceipts));
     let is_ambiguous = matches!(list, Some(List::AmbiguousReceipts));

@@ -1,12 +1,16 @@
 //! Messages, delivery receipts and notes that are put in what is stored, or taken out. On an error what is held is of no
 //! use: the caller undoes it.
-ghost use Rattle.std.specs.Prelude.{◌≡◌, true, None, Some, OnOk};
+ghost use Rattle.std.specs.Prelude.{◌≡◌, ◌≤◌, ◌+◌, true, if◌then◌else◌, None, Some, OnOk};
 ghost use Rattle.std.specs.FinMap as fin;
+ghost use Rattle.smq_kit.specs.declared.link_key.LinkKey.{LinkKey};
+ghost use Rattle.smq_group.specs.Groups.{vacancies};
 ghost use Rattle.smq_tally.specs.Lists.{listed};
 ghost use Rattle.smq_book.specs.index.Numbered.{numbered};
 ghost use Rattle.smq_book.specs.index.Pushed.{without_response};
 ghost use Rattle.smq_book.specs.index.PlacedKeys.{with_key, without_key};
 ghost use Rattle.smq_book.specs.index.Held.{AreOf, IsTraffic, held_now, held_of, held_settled, is_traffic_list, messages_in, receipts_in, stored_traffic};
+ghost use Rattle.smq_book.specs.index.Touches.{CostsAtMost, index_cost, is_key, numbers_cost, receipt_key_at, touches_in, vacancies_at};
+ghost use Rattle.smq_book.specs.join.Keyed.{accepted_key, receipt_key};
 ghost use Rattle.smq_book.specs.join.Moves as moves;
 ghost use Rattle.smq_book.specs.join.Moves.{PutNote, TakeNote, moved};
 ghost use Rattle.smq_book.specs.pairing.Traffic.{TrafficValue};
@@ -38,6 +42,11 @@ impl Index {
             → OnOk result
             (held_now self.new ≡ held_of settings.now (moves.put_message place message t)) }
         ensures settled { held_settled self.new ≡ held_settled self.old }
+        ensures touches { OnOk result (CostsAtMost self.old self.new
+            (13 + vacancies_at self.old.standings (accepted_key settings.now message))) }
+        ensures vacant { OnOk result ((k : LinkKey)
+            → vacancies self.new.standings k ≤ vacancies self.old.standings k) }
+        ensures counted { touches_in self.old ≤ touches_in self.new }
     {
         let key = message.key(settings);
         put_number(&mut self.numbers, place, &message)?;
@@ -67,6 +76,11 @@ impl Index {
             → OnOk result
             (held_now self.new ≡ held_of settings.now (moves.put_message place answered t)) }
         ensures settled { held_settled self.new ≡ held_settled self.old }
+        ensures touches { OnOk result (CostsAtMost self.old self.new
+            (10 + vacancies_at self.old.standings (accepted_key settings.now answered))) }
+        ensures vacant { OnOk result ((k : LinkKey)
+            → vacancies self.new.standings k ≤ vacancies self.old.standings k) }
+        ensures counted { touches_in self.old ≤ touches_in self.new }
     {
         let key = answered.key(settings);
         self.messages.set(place, answered)?;
@@ -94,6 +108,12 @@ impl Index {
             → OnOk result
             (held_now self.new ≡ held_of settings.now (moves.take_message place t)) }
         ensures settled { held_settled self.new ≡ held_settled self.old }
+        ensures touches { let key = fin.get self.old.standings.members.submits place in
+            OnOk result (CostsAtMost self.old self.new (22 + vacancies_at self.old.standings key)) }
+        ensures vacant { OnOk result ((k : LinkKey)
+            → vacancies self.new.standings k ≤ vacancies self.old.standings k
+            + (if is_key k (fin.get self.old.standings.members.submits place) then 1 else 0)) }
+        ensures counted { touches_in self.old ≤ touches_in self.new }
     {
         let Some(message) = self.messages.get(&place) else {
             return Ok(());
@@ -132,6 +152,11 @@ impl Index {
             → OnOk result
             (held_now self.new ≡ held_of settings.now (moves.put_receipt place receipt t)) }
         ensures settled { held_settled self.new ≡ held_settled self.old }
+        ensures touches { OnOk result (CostsAtMost self.old self.new
+            (13 + vacancies_at self.old.standings (Some (receipt_key settings.now receipt)))) }
+        ensures vacant { OnOk result ((k : LinkKey)
+            → vacancies self.new.standings k ≤ vacancies self.old.standings k) }
+        ensures counted { touches_in self.old ≤ touches_in self.new }
     {
         let key = receipt.key(settings);
         let moment = receipt.moment;
@@ -157,6 +182,12 @@ impl Index {
             → OnOk result
             (held_now self.new ≡ held_of settings.now (moves.take_receipt place t)) }
         ensures settled { held_settled self.new ≡ held_settled self.old }
+        ensures touches { let key = receipt_key_at self.old.standings.members place in
+            OnOk result (CostsAtMost self.old self.new (29 + vacancies_at self.old.standings key)) }
+        ensures vacant { OnOk result ((k : LinkKey)
+            → vacancies self.new.standings k ≤ vacancies self.old.standings k
+            + (if is_key k (receipt_key_at self.old.standings.members place) then 2 else 0)) }
+        ensures counted { touches_in self.old ≤ touches_in self.new }
     {
         let Some(receipt) = self.receipts.get(&place) else {
             return Ok(());
@@ -174,6 +205,9 @@ impl Index {
         ensures held { (s : SettingsValue) (t : TrafficValue) → held_now self.old ≡ held_of s t
             → OnOk result (held_now self.new ≡ held_of s (moved t (PutNote (listed list place)))) }
         ensures settled { held_settled self.new ≡ held_settled self.old }
+        ensures standings { self.new.standings ≡ self.old.standings }
+        ensures touches { index_cost self.new ≤ index_cost self.old }
+        ensures counted { touches_in self.old ≤ touches_in self.new }
     {
         self.tally.note(list, place)?;
         Ok(())
@@ -185,6 +219,9 @@ impl Index {
             → held_now self.old ≡ held_of s t
             → OnOk result (held_now self.new ≡ held_of s (moved t (TakeNote (listed list place)))) }
         ensures settled { held_settled self.new ≡ held_settled self.old }
+        ensures standings { self.new.standings ≡ self.old.standings }
+        ensures touches { index_cost self.new ≤ index_cost self.old + 1 }
+        ensures counted { touches_in self.old ≤ touches_in self.new }
     {
         if self.tally.is_noted(list, place) {
             self.tally.forget(list, place)?;
@@ -202,6 +239,8 @@ fn put_number(
     ensures value { OnOk result
         (numbers.new.numbers ≡ with_key (numbered place message.now) numbers.old.numbers) }
     ensures settled { numbers.new.settled ≡ numbers.old.settled }
+    ensures touches { numbers_cost numbers.new ≤ numbers_cost numbers.old + 3 }
+    ensures counted { numbers.old.touches ≤ numbers.new.touches }
 {
     if let Some(number) = message.number.as_ref() {
         numbers.add(number.copy(), place)?;
@@ -218,6 +257,8 @@ fn take_number(
     ensures value { OnOk result
         (numbers.new.numbers ≡ without_key (numbered place message.now) numbers.old.numbers) }
     ensures settled { numbers.new.settled ≡ numbers.old.settled }
+    ensures touches { numbers_cost numbers.new ≤ numbers_cost numbers.old + 4 }
+    ensures counted { numbers.old.touches ≤ numbers.new.touches }
 {
     if let Some(number) = message.number.as_ref() {
         numbers.remove(number, place)?;

@@ -1,11 +1,11 @@
 //! The pairs of each session that is present.
-ghost use Rattle.std.specs.Prelude.{◌≡◌, ◌≢◌, ◌++◌, ◌+◌, ◌-◌, ℕ, IfOk, IsSome, OnOk};
+ghost use Rattle.std.specs.Prelude.{◌≡◌, ◌≢◌, ◌≤◌, ◌++◌, ◌+◌, ◌-◌, ℕ, IfOk, IsSome, OnOk};
 ghost use Rattle.smq_pair.specs.Growth.{IsNext, pushed};
 ghost use Rattle.smq_pair.specs.Paired.{no_pdus};
 ghost use Rattle.smq_pair.specs.Pairing.{pair_at, placed_header};
 ghost use Rattle.smq_book.specs.pairing.Traffic.{session_notes, session_pairing};
-ghost use Rattle.smq_book.specs.index.Touches.{counted};
-ghost use Rattle.smq_book.specs.index.Pairs.{pairs_now, pairs_settled, stored_of};
+ghost use Rattle.smq_book.specs.index.Touches.{counted, pairs_cost};
+ghost use Rattle.smq_book.specs.index.Pairs.{pairs_now, pairs_pending, pairs_settled, stored_of};
 
 use crate::pairing::notes::push_notes;
 use crate::{Listed, Session};
@@ -29,6 +29,7 @@ impl Pairings {
         ensures now { (number : ℕ) → pairs_now result number ≡ no_pdus }
         ensures settled { (number : ℕ) → pairs_settled result number ≡ no_pdus }
         ensures touches { result.touches ≡ 0 }
+        ensures pending { (number : ℕ) → pairs_pending result number ≡ 0 }
     {
         Pairings {
             alloc,
@@ -54,6 +55,10 @@ impl Pairings {
         ensures others { (number : ℕ) → number ≢ session.0
             → pairs_now self.new number ≡ pairs_now self.old number }
         ensures settled { (number : ℕ) → pairs_settled self.new number ≡ pairs_settled self.old number }
+        ensures touches { pairs_cost self.new session.0 ≤ pairs_cost self.old session.0 + 11 }
+        ensures other_pending { (number : ℕ) → number ≢ session.0
+            → pairs_pending self.new number ≡ pairs_pending self.old number }
+        ensures counted { self.old.touches ≤ self.new.touches }
     {
         self.ensure(session)?;
         match self.by_session.get_mut(&session.0) {
@@ -72,6 +77,9 @@ impl Pairings {
         ensures there { OnOk result (IsSome (stored_of self.new.by_session session.0)) }
         ensures now { (number : ℕ) → pairs_now self.new number ≡ pairs_now self.old number }
         ensures settled { (number : ℕ) → pairs_settled self.new number ≡ pairs_settled self.old number }
+        ensures pending { (number : ℕ)
+            → pairs_pending self.new number ≡ pairs_pending self.old number }
+        ensures touches { self.new.touches ≡ self.old.touches }
     {
         if self.by_session.get(&session.0).is_some() {
             return Ok(());
@@ -87,6 +95,11 @@ impl Pairings {
         ensures others { (number : ℕ) → number ≢ session.0
             → pairs_now self.new number ≡ pairs_now self.old number }
         ensures settled { (number : ℕ) → pairs_settled self.new number ≡ pairs_settled self.old number }
+        ensures pending { pairs_pending self.new session.0 ≡ 0 }
+        ensures other_pending { (number : ℕ) → number ≢ session.0
+            → pairs_pending self.new number ≡ pairs_pending self.old number }
+        ensures touches { self.new.touches ≤ self.old.touches + pairs_pending self.old session.0 }
+        ensures counted { self.old.touches ≤ self.new.touches }
     {
         match self.by_session.get_mut(&session.0) {
             Some(pairing) => {
@@ -104,6 +117,11 @@ impl Pairings {
         ensures settled { pairs_settled self.new session.0 ≡ pairs_now self.old session.0 }
         ensures others { (number : ℕ) → number ≢ session.0
             → pairs_settled self.new number ≡ pairs_settled self.old number }
+        ensures pending { pairs_pending self.new session.0 ≡ 0 }
+        ensures other_pending { (number : ℕ) → number ≢ session.0
+            → pairs_pending self.new number ≡ pairs_pending self.old number }
+        ensures touches { self.new.touches ≤ pairs_cost self.old session.0 }
+        ensures counted { self.old.touches ≤ self.new.touches }
     {
         match self.by_session.get_mut(&session.0) {
             Some(pairing) => {
@@ -123,6 +141,10 @@ impl Pairings {
             → pairs_now self.new number ≡ pairs_now self.old number }
         ensures others_settled { (number : ℕ) → number ≢ session.0
             → pairs_settled self.new number ≡ pairs_settled self.old number }
+        ensures pending { pairs_pending self.new session.0 ≡ 0 }
+        ensures other_pending { (number : ℕ) → number ≢ session.0
+            → pairs_pending self.new number ≡ pairs_pending self.old number }
+        ensures touches { self.new.touches ≡ self.old.touches }
     {
         self.by_session.remove(&session.0);
     }
@@ -139,6 +161,9 @@ impl Pairings {
             (notes.new.items ≡ notes.old.items ++ session_notes (number.0, session.now)) }
         ensures now { (other : ℕ) → pairs_now self.new other ≡ pairs_now self.old other }
         ensures settled { (other : ℕ) → pairs_settled self.new other ≡ pairs_settled self.old other }
+        ensures pending { (other : ℕ)
+            → pairs_pending self.new other ≡ pairs_pending self.old other }
+        ensures touches { self.new.touches ≡ self.old.touches }
     {
         self.ensure(number)?;
         match self.by_session.get_mut(&number.0) {
@@ -155,7 +180,8 @@ impl Pairings {
 
 /// Adds the touches of a pairing from one number to another.
 fn count(touches: &mut u64, before: u64, after: u64)
-    ensures { touches.new ≡ counted (touches.old + (after - before)) }
+    ensures value { touches.new ≡ counted (touches.old + (after - before)) }
+    ensures counted { touches.old ≤ touches.new }
 {
     *touches = touches.saturating_add(after.saturating_sub(before));
 }

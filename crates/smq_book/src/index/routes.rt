@@ -1,12 +1,14 @@
 //! What a route changes: the facts of the messages whose numbers its prefix begins.
-ghost use Rattle.std.specs.Prelude.{◌≡◌, [], Ok, OnOk};
+ghost use Rattle.std.specs.Prelude.{◌≡◌, ◌≤◌, ◌+◌, ◌*◌, [], length, Ok, OnOk};
 ghost use Rattle.std.specs.FinMap as fin;
 ghost use Rattle.smq_kit.specs.Maps.{SameOutside};
 ghost use Rattle.smq_kit.specs.Orders.{place_cmp};
+ghost use Rattle.smq_route.specs.Numbers.{places_under, vacancies};
 ghost use Rattle.smq_tally.specs.declared.fact.Fact.{Fact as FactOf};
 ghost use Rattle.smq_book.specs.edits.Reached.{messages_under};
 ghost use Rattle.smq_book.specs.index.Held.{IsHeld, IsTraffic, held_by, held_now, held_settled, traffic_held};
 ghost use Rattle.smq_book.specs.index.Refreshed.{refreshed};
+ghost use Rattle.smq_book.specs.index.Touches.{index_cost, touches_in};
 ghost use Rattle.smq_book.specs.join.Facts.{facts_of};
 ghost use Rattle.smq_book.specs.pairing.Traffic.{TrafficValue};
 ghost use Rattle.smq_book.specs.present.Settings.{SettingsValue, with_versions};
@@ -32,6 +34,10 @@ pub(crate) fn set_routes(
     ensures traffic { (s : SettingsValue) → IsHeld s (held_now index.old)
         → OnOk result (traffic_held (held_now index.new) ≡ traffic_held (held_now index.old)) }
     ensures settled { held_settled index.new ≡ held_settled index.old }
+    ensures touches { OnOk result (index_cost index.new ≤ index_cost index.old + 1
+        + vacancies index.old.numbers prefix.now
+        + 7 * length (places_under index.old.numbers.numbers prefix.now)) }
+    ensures counted { touches_in index.old ≤ touches_in index.new }
 {
     let places = index.numbers.under(prefix)?;
     refresh_at(index, routes, clock, places.as_slice())?;
@@ -51,6 +57,9 @@ pub(crate) fn refresh_at(
         → OnOk result (held_now index.new ≡ held_by z t (refreshed z t facts places.now)) }
     ensures none { places.now ≡ [] → result ≡ Ok tt }
     ensures settled { held_settled index.new ≡ held_settled index.old }
+    ensures touches { OnOk result
+        (index_cost index.new ≤ index_cost index.old + 6 * length places.now) }
+    ensures counted { touches_in index.old ≤ touches_in index.new }
 {
     for place in places {
         index.refresh_by(routes, clock, *place)?;

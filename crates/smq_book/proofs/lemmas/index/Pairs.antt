@@ -7,7 +7,6 @@ use Rattle.std.specs.Cmp.{eq_by_cmp_equiv, nat_cmp_total, tied_itself}
 use Rattle.std.specs.FinMap.{nat_cmp-IsAntisymmetric}
 use Rattle.smq_kit.proofs.MapLemmas.{same_key}
 use Rattle.smq_pair.specs.Paired.{PairedValue}
-use Rattle.smq_pair.specs.Pairing.{PairingValue}
 
 tied : (k q : ℕ) → is_at (nat_cmp k) q ≡ eq_by_cmp nat_cmp q k
 tied k q = (eq_by_cmp_equiv nat_cmp_total).symm k q
@@ -31,7 +30,7 @@ module _ (es fs : List (ℕ × PairedValue)) (k : ℕ) (v : Option PairedValue) 
       by false t = refl
 
   -- what is seen of each session stays where it is seen of this one
-  pub stays : (see : Option PairedValue → PairingValue) → see v ≡ see (lookup (is_at (nat_cmp k)) es)
+  pub stays : {X : Type 0} (see : Option PairedValue → X) → see v ≡ see (lookup (is_at (nat_cmp k)) es)
       → (number : ℕ) → see (lookup (is_at (nat_cmp number)) fs) ≡ see (lookup (is_at (nat_cmp number)) es)
   stays see same number = by (is_at (nat_cmp k) number) refl
     where

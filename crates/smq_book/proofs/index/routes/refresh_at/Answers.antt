@@ -19,6 +19,8 @@ loop-place-preserved c = record {
       (c.in_ok-refresh_by.ensures.held z t (refreshed z t facts (take i places)) traffic routes clock
       (c.loop-place.invariant.held z t facts traffic routes clock held));
   settled = c.refresh_by.ensures.settled ∙ c.loop-place.invariant.settled;
+  touches = omega (arith, c.in_ok-refresh_by.ensures.touches, c.loop-place.invariant.touches);
+  counted = omega (arith, c.refresh_by.ensures.counted, c.loop-place.invariant.counted);
 }
 
 pub returns-clause-held : goal.returns-clause-held

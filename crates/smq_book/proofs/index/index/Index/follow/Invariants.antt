@@ -1,8 +1,9 @@
 -- What is stored stays, and the facts and the listings of the places so far are set anew.
-use Rattle.std.proofs.Common.{◌≡◌, take}
+use Rattle.std.proofs.Common.{◌≡◌, ◌≤◌, ◌+◌, ◌*◌, take}
 use Rattle.std.specs.FinMap as fin
 use Rattle.smq_book.specs.index.Due.{due_in}
 use Rattle.smq_book.specs.index.Held.{AreOf, AreUnlisted, dues_in, facts_anew, messages_in, notes_anew, stored_traffic}
+use Rattle.smq_book.specs.index.Touches.{index_cost, touches_in}
 use Rattle.smq_book.specs.join.Facts.{facts_of}
 use Rattle.smq_book.proofs.index.index.Index.follow.Given as goal
 
@@ -14,6 +15,8 @@ invariant-loop-change l = record {
   numbers : l.self.numbers ≡ l.fn.self.numbers;
   settled : l.self.tally.settled ≡ l.fn.self.tally.settled;
   settled_due : l.self.due.settled ≡ l.fn.self.due.settled;
+  touches : index_cost l.self ≤ index_cost l.fn.self + 9 * l.change-index;
+  counted : touches_in l.fn.self ≤ touches_in l.self;
   facts : AreOf l.settings (stored_traffic l.fn.self.messages.content l.fn.self.receipts.content) l.fn.self.standings.members
       → l.self.tally.facts ≡ facts_anew
       (fin.get (facts_of l.settings (stored_traffic l.fn.self.messages.content l.fn.self.receipts.content)))

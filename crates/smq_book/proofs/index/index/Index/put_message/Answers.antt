@@ -1,10 +1,10 @@
-use Rattle.std.proofs.Common.{◌≡◌, List, None, subst, refl, ap, sym, ◌∙◌, rules}
+use Rattle.std.proofs.Common.{◌≡◌, ◌≤◌, List, [], None, length, subst, refl, ap, sym, ◌∙◌, rules, arith}
 use Rattle.std.specs.FinMap.{get}
 use Rattle.smq_shelf.specs.Keeping.{KeepingMap}
 use Rattle.smq_kit.specs.declared.place.Place.{Place}
 use Rattle.smq_group.specs.declared.change.Change.{Change}
 use Rattle.smq_group.specs.Changes.{TellsChanges}
-use Rattle.smq_group.specs.Groups.{GroupsValue}
+use Rattle.smq_group.specs.Groups.{GroupsValue, vacancies}
 use Rattle.smq_group.specs.Matching.{Grouping}
 use Rattle.smq_route.specs.Numbers.{NumbersValue}
 use Rattle.smq_book.specs.index.Held.{Holding, stored_traffic}
@@ -16,6 +16,8 @@ use Rattle.smq_book.proofs.lemmas.index.Followed.{notes-told, put-there, stored-
 use Rattle.smq_book.proofs.lemmas.index.Members.{members-unput, receipt-absent, submit-absent}
 use Rattle.smq_book.proofs.lemmas.index.Moves.{came-submit}
 use Rattle.smq_book.proofs.lemmas.join.MoveLemmas.{put_message-moves}
+use Rattle.smq_book.proofs.lemmas.index.Costs.{tells-none}
+use Rattle.smq_book.specs.index.Touches.{vacancies_at}
 use Rattle.smq_book.proofs.index.index.Index.put_message.Goals as goal
 
 pub add_submit-requires-clause-absent : goal.add_submit-requires-clause-absent
@@ -87,3 +89,30 @@ returns-clause-held c = λ t traffic held.
     ∙ notes-told s t u i held stores traffic q move refl cs tells there)
     (c.in_ok-follow.ensures.due (due-came s t i held q m none stores.messages))
     (ap (λ (n : NumbersValue). n.numbers) c.follow.ensures.numbers ∙ numbers-came s t i held q m none numbered)
+
+pub returns-in_default-clause-touches : goal.returns-in_default-clause-touches
+returns-in_default-clause-touches c = record {
+  changes = [];
+  told = tells-none c.args.self.now.standings.members c.refresh.new.self.standings.members
+      (ap (λ (v : GroupsValue). v.members) c.refresh.ensures.standings);
+  bound = omega (arith, c.put_number.ensures.touches, c.in_ok-refresh.ensures.touches);
+}
+
+pub returns-clause-touches : goal.returns-clause-touches
+returns-clause-touches c =
+    let g = c.args.self.now.standings in
+    let key = c.in-Some.key in
+    let h = c.add_submit.new.self.members in
+    let walked = ap (vacancies_at g) (sym c.key-key.ensures ∙ c.in-Some.is) in
+    let as-many = ap (length {A = Change}) c.as_slice.ensures.value in
+    record {
+      changes = c.in_ok-changes.changes.items;
+      told = subst (λ (x : Grouping). TellsChanges g.members x c.in_ok-changes.changes.items)
+          (sym (ap (λ (v : GroupsValue). v.members) c.follow.ensures.standings)) c.in_ok-changes.ensures.changes;
+      bound = omega (arith, walked, as-many, c.put_number.ensures.touches, c.in_ok-changes.ensures.touches, c.in_ok-changes.ensures.pending, c.in_ok-follow.ensures.touches);
+    }
+
+pub returns-clause-vacant : goal.returns-clause-vacant
+returns-clause-vacant c = λ k.
+    subst (λ (v : GroupsValue). vacancies v k ≤ vacancies c.args.self.now.standings k) (sym c.follow.ensures.standings)
+    (c.in_ok-changes.ensures.vacant k)

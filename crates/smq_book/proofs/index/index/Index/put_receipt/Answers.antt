@@ -1,10 +1,10 @@
-use Rattle.std.proofs.Common.{◌≡◌, List, None, subst, refl, ap, sym, ◌∙◌}
+use Rattle.std.proofs.Common.{◌≡◌, ◌≤◌, List, None, length, subst, refl, ap, sym, ◌∙◌, arith}
 use Rattle.std.specs.FinMap.{get}
 use Rattle.smq_shelf.specs.Keeping.{KeepingMap}
 use Rattle.smq_kit.specs.declared.place.Place.{Place}
 use Rattle.smq_group.specs.declared.change.Change.{Change}
 use Rattle.smq_group.specs.Changes.{TellsChanges}
-use Rattle.smq_group.specs.Groups.{GroupsValue, with_receipt}
+use Rattle.smq_group.specs.Groups.{GroupsValue, with_receipt, vacancies}
 use Rattle.smq_group.specs.Matching.{Grouping}
 use Rattle.smq_route.specs.Numbers.{NumbersValue}
 use Rattle.smq_book.specs.index.Held.{Holding, stored_traffic}
@@ -65,3 +65,20 @@ returns-clause-held c = λ t traffic held.
     ∙ notes-told s t u i held stores traffic q move refl cs tells there)
     (c.in_ok-follow.ensures.due (due-kept s t i held stores.messages))
     (ap (λ (n : NumbersValue). n.numbers) c.follow.ensures.numbers ∙ ap (λ (h : Holding). h.numbers) held)
+
+pub returns-clause-touches : goal.returns-clause-touches
+returns-clause-touches c =
+    let g = c.args.self.now.standings in
+    let walked = ap (vacancies g) c.key-key.ensures in
+    let as-many = ap (length {A = Change}) c.as_slice.ensures.value in
+    record {
+      changes = c.in_ok-changes.changes.items;
+      told = subst (λ (x : Grouping). TellsChanges g.members x c.in_ok-changes.changes.items)
+          (sym (ap (λ (v : GroupsValue). v.members) c.follow.ensures.standings)) c.in_ok-changes.ensures.changes;
+      bound = omega (arith, walked, as-many, c.in_ok-changes.ensures.touches, c.in_ok-changes.ensures.pending, c.in_ok-follow.ensures.touches);
+    }
+
+pub returns-clause-vacant : goal.returns-clause-vacant
+returns-clause-vacant c = λ k.
+    subst (λ (v : GroupsValue). vacancies v k ≤ vacancies c.args.self.now.standings k) (sym c.follow.ensures.standings)
+    (c.in_ok-changes.ensures.vacant k)

@@ -1,4 +1,4 @@
-use Rattle.std.proofs.Common.{◌≡◌, Option, List, Some, None, subst, refl, ap, sym, ◌∙◌, rules}
+use Rattle.std.proofs.Common.{◌≡◌, ℕ, if◌then◌else◌, Option, List, [], Some, None, length, subst, refl, ap, sym, ◌∙◌, rules, arith}
 use Rattle.std.specs.FinMap.{get, remove}
 use Rattle.std.specs.Option.{option_copied}
 use Rattle.smq_shelf.specs.Keeping.{KeepingMap}
@@ -8,7 +8,7 @@ use Rattle.smq_kit.proofs.PlaceOrders.{places_total, places_exact}
 use Rattle.smq_tally.proofs.Undone.{remove-none}
 use Rattle.smq_group.specs.declared.change.Change.{Change}
 use Rattle.smq_group.specs.Changes.{TellsChanges}
-use Rattle.smq_group.specs.Groups.{GroupsValue}
+use Rattle.smq_group.specs.Groups.{GroupsValue, vacancies}
 use Rattle.smq_group.specs.Matching.{Grouping}
 use Rattle.smq_route.specs.Numbers.{NumbersValue}
 use Rattle.smq_book.specs.index.Due.{due_at}
@@ -20,6 +20,9 @@ use Rattle.smq_book.proofs.lemmas.index.Followed.{numbers-went, stored-dropped, 
 use Rattle.smq_book.proofs.lemmas.index.Members.{members-untaken, submit-there}
 use Rattle.smq_book.proofs.lemmas.index.Stored.{stored-at}
 use Rattle.smq_book.proofs.lemmas.join.MoveLemmas.{take_message-moves}
+use Rattle.smq_book.proofs.lemmas.index.Costs.{tells-none}
+use Rattle.smq_book.specs.index.Touches.{is_key, vacancies_at}
+use Rattle.smq_kit.specs.declared.link_key.LinkKey.{LinkKey}
 use Rattle.smq_book.proofs.index.index.Index.take_message.Goals as goal
 
 pub returns-in_default-clause-held : goal.returns-in_default-clause-held
@@ -128,3 +131,59 @@ returns-clause-held c = λ t traffic held.
     (c.in_ok-follow.ensures.due (due-went s t i held q m there stores.messages gone-due)
     ∙ due-dropped stores q free c.follow.new.self.tally.facts taken)
     (ap (λ (n : NumbersValue). n.numbers) c.follow.ensures.numbers ∙ numbers-went s t i held q m there c.in_ok-take_number.ensures.value)
+
+pub returns-in_default-clause-touches : goal.returns-in_default-clause-touches
+returns-in_default-clause-touches c = record {
+  changes = [];
+  told = tells-none c.args.self.now.standings.members c.args.self.now.standings.members refl;
+  bound = omega arith;
+}
+
+pub returns-in_default-key-clause-touches : goal.returns-in_default-key-clause-touches
+returns-in_default-key-clause-touches c = record {
+  changes = [];
+  told = tells-none c.args.self.now.standings.members c.args.self.now.standings.members refl;
+  bound = omega (arith, c.take_number.ensures.touches, c.in_ok-take_fact.ensures.touches);
+}
+
+pub returns-clause-touches : goal.returns-clause-touches
+returns-clause-touches c =
+    let i = c.args.self.now in
+    let s = c.args.settings.now in
+    let q = c.args.place in
+    let m = c.in-Some.message.now in
+    let some : ◌≡◌ {A = Option Message} (Some m) (option_copied c.get.result) = search rules in
+    let there : get (messages_in i.messages.content) q ≡ Some m = sym (some ∙ c.get.ensures ∙ stored-at i.messages.content q) in
+    let keyed : get i.standings.members.submits q ≡ c.key-key.result = ap (λ (g : Grouping). get g.submits q) c.requires.are.grouped
+    ∙ submit-there s q (stored_traffic i.messages.content i.receipts.content) m there ∙ sym c.key-key.ensures in
+    let walked = ap (vacancies_at i.standings) (keyed ∙ c.in-Some-key.is) in
+    let as-many = ap (length {A = Change}) c.as_slice.ensures.value in
+    record {
+      changes = c.in_ok-changes.changes.items;
+      told = subst (λ (x : Grouping). TellsChanges i.standings.members x c.in_ok-changes.changes.items)
+          (sym (ap (λ (v : GroupsValue). v.members) c.follow.ensures.standings)) c.in_ok-changes.ensures.changes;
+      bound = omega (
+        arith,
+        walked,
+        as-many,
+        c.take_number.ensures.touches,
+        c.in_ok-changes.ensures.touches,
+        c.in_ok-changes.ensures.pending,
+        c.in_ok-follow.ensures.touches,
+        c.in_ok-take_fact-2.ensures.touches,
+      );
+    }
+
+pub returns-clause-vacant : goal.returns-clause-vacant
+returns-clause-vacant c = λ k.
+    let i = c.args.self.now in
+    let s = c.args.settings.now in
+    let q = c.args.place in
+    let m = c.in-Some.message.now in
+    let some : ◌≡◌ {A = Option Message} (Some m) (option_copied c.get.result) = search rules in
+    let there : get (messages_in i.messages.content) q ≡ Some m = sym (some ∙ c.get.ensures ∙ stored-at i.messages.content q) in
+    let keyed : get i.standings.members.submits q ≡ c.key-key.result = ap (λ (g : Grouping). get g.submits q) c.requires.are.grouped
+    ∙ submit-there s q (stored_traffic i.messages.content i.receipts.content) m there ∙ sym c.key-key.ensures in
+    let taken = ap {B = ℕ} (λ (key : Option LinkKey). if is_key k key then 1 else 0) (keyed ∙ c.in-Some-key.is) in
+    let same = ap (λ (v : GroupsValue). vacancies v k) c.follow.ensures.standings in
+    omega (arith, taken, same, c.in_ok-changes.ensures.vacant k)

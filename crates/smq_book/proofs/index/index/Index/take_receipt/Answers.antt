@@ -1,4 +1,4 @@
-use Rattle.std.proofs.Common.{◌≡◌, Option, List, Some, None, subst, refl, ap, sym, ◌∙◌, rules}
+use Rattle.std.proofs.Common.{◌≡◌, ℕ, if◌then◌else◌, Option, List, [], Some, None, length, subst, refl, ap, sym, ◌∙◌, rules, arith}
 use Rattle.std.specs.FinMap.{FinMap, get}
 use Rattle.std.specs.Option.{option_copied}
 use Rattle.std.specs.Prelude.{option_map}
@@ -10,7 +10,7 @@ use Rattle.smq_kit.proofs.PlaceOrders.{places_total, places_exact}
 use Rattle.smq_tally.proofs.Undone.{remove-none}
 use Rattle.smq_group.specs.declared.change.Change.{Change}
 use Rattle.smq_group.specs.Changes.{TellsChanges}
-use Rattle.smq_group.specs.Groups.{GroupsValue}
+use Rattle.smq_group.specs.Groups.{GroupsValue, vacancies}
 use Rattle.smq_group.specs.Matching.{Grouping, GroupedReceipt}
 use Rattle.smq_book.specs.declared.index.index.Index.{Index}
 use Rattle.smq_route.specs.Numbers.{NumbersValue}
@@ -23,6 +23,9 @@ use Rattle.smq_book.proofs.lemmas.index.Followed.{are-stored, due-kept, facts-ta
 use Rattle.smq_book.proofs.lemmas.index.Members.{receipt-there}
 use Rattle.smq_book.proofs.lemmas.index.Stored.{stored-at}
 use Rattle.smq_book.proofs.lemmas.join.MoveLemmas.{take_receipt-moves}
+use Rattle.smq_book.proofs.lemmas.index.Costs.{tells-none}
+use Rattle.smq_book.specs.index.Touches.{is_key, receipt_key_at, vacancies_at}
+use Rattle.smq_kit.specs.declared.link_key.LinkKey.{LinkKey}
 use Rattle.smq_book.proofs.index.index.Index.take_receipt.Goals as goal
 
 pub returns-in_default-clause-held : goal.returns-in_default-clause-held
@@ -96,3 +99,53 @@ returns-clause-held c = λ t traffic held.
     ∙ (λ j. due_in (messages_in (sym mc j)) c.follow.new.self.tally.facts))
     ∙ (λ j. due_in (messages_in (mc j)) c.refresh.new.self.tally.facts))
     (ap (λ (n : NumbersValue). n.numbers) (c.refresh.ensures.numbers ∙ c.follow.ensures.numbers) ∙ ap (λ (h : Holding). h.numbers) held)
+
+pub returns-in_default-clause-touches : goal.returns-in_default-clause-touches
+returns-in_default-clause-touches c = record {
+  changes = [];
+  told = tells-none c.args.self.now.standings.members c.args.self.now.standings.members refl;
+  bound = omega arith;
+}
+
+pub returns-clause-touches : goal.returns-clause-touches
+returns-clause-touches c =
+    let i = c.args.self.now in
+    let s = c.args.settings.now in
+    let q = c.args.place in
+    let r = c.in-Some.receipt.now in
+    let some : ◌≡◌ {A = Option ReceivedReceipt} (Some r) (option_copied c.get.result) = search rules in
+    let there : get (receipts_in i.receipts.content) q ≡ Some r = sym (some ∙ c.get.ensures ∙ stored-at i.receipts.content q) in
+    let keyed : receipt_key_at i.standings.members q ≡ Some c.key-key.result = ap (λ (g : Grouping). receipt_key_at g q) c.requires.are.grouped
+    ∙ ap (option_map (λ (x : GroupedReceipt). x.key)) (receipt-there s q (stored_traffic i.messages.content i.receipts.content) r there)
+    ∙ ap Some (sym c.key-key.ensures) in
+    let walked = ap (vacancies_at i.standings) keyed in
+    let as-many = ap (length {A = Change}) c.as_slice.ensures.value in
+    record {
+      changes = c.in_ok-changes.changes.items;
+      told = subst (λ (x : Grouping). TellsChanges i.standings.members x c.in_ok-changes.changes.items)
+          (sym (ap (λ (v : GroupsValue). v.members) (c.refresh.ensures.standings ∙ c.follow.ensures.standings))) c.in_ok-changes.ensures.changes;
+      bound = omega (
+        arith,
+        walked,
+        as-many,
+        c.in_ok-changes.ensures.touches,
+        c.in_ok-changes.ensures.pending,
+        c.in_ok-follow.ensures.touches,
+        c.in_ok-refresh.ensures.touches,
+      );
+    }
+
+pub returns-clause-vacant : goal.returns-clause-vacant
+returns-clause-vacant c = λ k.
+    let i = c.args.self.now in
+    let s = c.args.settings.now in
+    let q = c.args.place in
+    let r = c.in-Some.receipt.now in
+    let some : ◌≡◌ {A = Option ReceivedReceipt} (Some r) (option_copied c.get.result) = search rules in
+    let there : get (receipts_in i.receipts.content) q ≡ Some r = sym (some ∙ c.get.ensures ∙ stored-at i.receipts.content q) in
+    let keyed : receipt_key_at i.standings.members q ≡ Some c.key-key.result = ap (λ (g : Grouping). receipt_key_at g q) c.requires.are.grouped
+    ∙ ap (option_map (λ (x : GroupedReceipt). x.key)) (receipt-there s q (stored_traffic i.messages.content i.receipts.content) r there)
+    ∙ ap Some (sym c.key-key.ensures) in
+    let taken = ap {B = ℕ} (λ (key : Option LinkKey). if is_key k key then 2 else 0) keyed in
+    let same = ap (λ (v : GroupsValue). vacancies v k) (c.refresh.ensures.standings ∙ c.follow.ensures.standings) in
+    omega (arith, taken, same, c.in_ok-changes.ensures.vacant k)
