@@ -154,7 +154,6 @@ impl Index {
             → OnOk result (held_now self.new
             ≡ held_by z t (set_at facts place (fin.get (facts_of z t) place))) }
         ensures settled { held_settled self.new ≡ held_settled self.old }
-        ensures standings { self.new.standings ≡ self.old.standings }
         ensures touches { OnOk result (index_cost self.new ≤ index_cost self.old + 6) }
         ensures counted { touches_in self.old ≤ touches_in self.new }
     {
