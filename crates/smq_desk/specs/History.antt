@@ -1,5 +1,7 @@
 -- Histories of a book: the edits that were committed, in order, each with its seat and its reply.
-use Rattle.std.specs.Prelude.{◌≡◌, ℕ, List, [], ◌∷◌, map, Option, Some, None}
+use Rattle.std.specs.Prelude.{◌≡◌, ℕ, List, [], ◌∷◌, ◌++◌, map, Option, Some, None}
+use Rattle.std.specs.Iterator.{YieldsFirstRef}
+use Rattle.std.specs.Iterator.Runs.{YieldsRefsInOrder}
 use Rattle.smq_kit.specs.declared.refusal.Refusal.{Refusal}
 use Rattle.smq_book.specs.declared.present.edit.Edit.{Edit}
 use Rattle.smq_book.specs.present.Present.{PresentValue, empty}
@@ -42,3 +44,11 @@ IsLegalFrom p (e ∷ entries) = (e.reply ≡ reply_to p e.edit) × IsLegalFrom (
 -- the same of a history, which begins where nothing is present
 abbrev pub IsLegal : List Entry → Type 0
 IsLegal entries = IsLegalFrom empty entries
+
+-- a history begins with the entries of another
+abbrev pub StartsWith : List Entry → List Entry → Type 0
+StartsWith entries first = (later : List Entry) × (entries ≡ first ++ later)
+
+-- an iterator of entries gives what it has left, in order
+abbrev pub EntriesComeInOrder : Type 0
+EntriesComeInOrder = YieldsRefsInOrder (YieldsFirstRef {A = Entry} (λ left. left)) (λ left. left)

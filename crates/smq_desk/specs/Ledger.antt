@@ -12,6 +12,11 @@ pub record LedgerValue : Type 0 where
   pub seats : ℕ
   pub entries : List Entry
 
+-- a history as it is stored: its entries, and how many more it takes before it needs memory
+pub record HistoryValue : Type 0 where
+  pub entries : List Entry
+  pub room : ℕ
+
 -- a closed desk: its history
 pub record ClosedValue : Type 0 where
   pub entries : List Entry

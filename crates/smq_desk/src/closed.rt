@@ -1,14 +1,10 @@
 //! A desk that is closed: its history and its book, which nobody changes any more.
 ghost use Rattle.std.specs.Prelude.{◌≡◌};
-ghost use Rattle.std.specs.Slice.Iter.{iter_rest};
-ghost use Rattle.std.specs.Iterator.Adapters.{IterYieldsInOrder};
-ghost use Rattle.smq_desk.specs.declared.entry.Entry.{Entry as EntryOf};
-ghost use Rattle.smq_desk.specs.History.{replay, IsLegal};
+ghost use Rattle.smq_desk.specs.History.{replay, EntriesComeInOrder, IsLegal};
 
-use crate::{Entry, Ledger};
+use crate::{Entries, Ledger};
 use smq_book::Book;
 use std::marker::Model;
-use std::slice::Iter;
 
 /// Why a desk doesn't close.
 #[derive(Clone, Copy, Debug, PartialEq, Eq)]
@@ -43,12 +39,12 @@ impl Closed {
     }
 
     /// The entries, in the order of their numbers.
-    pub fn entries(&self) -> Iter<'_, Entry>
-        ensures value { iter_rest result ≡ self.now.entries }
-        ensures runs { IterYieldsInOrder EntryOf }
+    pub fn entries(&self) -> Entries<'_>
+        ensures value { result ≡ self.now.entries }
+        ensures runs { EntriesComeInOrder }
         ensures legal { IsLegal self.now.entries }
     {
-        self.ledger.entries().iter()
+        self.ledger.entries()
     }
 
     /// The book that the entries made.

@@ -4,6 +4,7 @@ ghost use Rattle.smq_desk.specs.declared.entry.Entry.{Entry};
 ghost use Rattle.smq_desk.specs.Closing.{AgreeAt, AgreeUpTo, FailsFirstAt};
 ghost use Rattle.smq_desk.specs.Seats.{SeatValue};
 ghost use Rattle.smq_desk.specs.Known.{KnownHistory};
+ghost use Rattle.smq_desk.specs.declared.history.TheConstants.{CHUNK_LENGTH};
 ghost use Rattle.smq_desk.specs.declared.ledger.TheConstants.{LONGEST_HISTORY, MOST_SEATS};
 
 /// Seats agree with a history up to a number exactly where they agree at each number up to it. So the first number up to which
@@ -22,8 +23,9 @@ pub fn known_history()
     ensures { KnownHistory }
 {}
 
-/// A history has at most 1,048,576 entries, and a desk 65,536 seats.
+/// A history has at most 1,048,576 entries, a chunk of it 1,024, and a desk 65,536 seats.
 pub fn known_limits()
+    ensures chunk { CHUNK_LENGTH ≡ 1024 }
     ensures entries { LONGEST_HISTORY ≡ 1048576 }
     ensures seats { MOST_SEATS ≡ 65536 }
 {}

@@ -7,10 +7,10 @@ ghost use Rattle.smq_kit.specs.declared.refusal.Refusal.TheVariants.{HistoryFull
 ghost use Rattle.smq_book.specs.present.Present.{tail_in};
 ghost use Rattle.smq_book.specs.present.Steps.{step};
 ghost use Rattle.smq_desk.specs.declared.entry.Reply.TheVariants.{Refused};
-ghost use Rattle.smq_desk.specs.History.{replay, reply_to, IsLegal};
+ghost use Rattle.smq_desk.specs.History.{replay, reply_to, EntriesComeInOrder, IsLegal};
 ghost use Rattle.smq_desk.specs.Ledger.{opened, Adds};
 
-use crate::{Entry, Reply};
+use crate::{Entries, Entry, History, Reply};
 use smq_book::{Book, Edit};
 use smq_frame::Tail;
 use smq_kit::{Dir, Refusal, SessionId};
@@ -29,7 +29,7 @@ pub struct Ledger {
     limit: u64,
     seats: u32,
     book: Book,
-    history: Vec<Entry>,
+    history: History,
 }
 
 impl Model for Ledger {
@@ -37,10 +37,10 @@ impl Model for Ledger {
 
     ghost Value = { LedgerValue };
 
-    ghost view = { λ l. record { limit = l.limit; seats = l.seats; entries = l.history.items } };
+    ghost view = { λ l. record { limit = l.limit; seats = l.seats; entries = l.history.entries } };
 
     ghost invariant = { λ l. IsKept
-        (record { limit = l.limit; seats = l.seats; entries = l.history.items }) l.book.present };
+        (record { limit = l.limit; seats = l.seats; entries = l.history.entries }) l.book.present };
 }
 
 impl Ledger {
@@ -53,17 +53,27 @@ impl Ledger {
             limit,
             seats: 0,
             book: Book::new(alloc),
-            history: Vec::new(alloc),
+            history: History::new(alloc),
         }
     }
 
     /// The history: one entry for each edit that was committed, in order. Entries are numbered from 1.
-    pub fn entries(&self) -> &[Entry]
-        ensures value { result.now ≡ self.now.entries }
+    pub fn entries(&self) -> Entries<'_>
+        ensures value { result ≡ self.now.entries }
+        ensures runs { EntriesComeInOrder }
         ensures legal { IsLegal self.now.entries }
         ensures in_limit { length self.now.entries ≤ self.now.limit }
     {
-        self.history.as_slice()
+        self.history.iter()
+    }
+
+    /// The history as it is stored.
+    pub(crate) fn history(&self) -> &History
+        ensures value { result.now.entries ≡ self.now.entries }
+        ensures legal { IsLegal self.now.entries }
+        ensures in_limit { length self.now.entries ≤ self.now.limit }
+    {
+        &self.history
     }
 
     /// The book that the history made.
@@ -118,10 +128,10 @@ impl Ledger {
             book,
             history,
         } = self;
-        if history.len() as u64 == *limit {
+        if history.len() == *limit {
             return Err(Refusal::HistoryFull);
         }
-        if history.reserve(1).is_err() {
+        if history.reserve().is_err() {
             return Err(Refusal::Memory);
         }
         let Ok(theirs) = edit.copy() else {
@@ -132,7 +142,7 @@ impl Ledger {
         };
         let told = reply.copy();
         history.push_reserved(Entry { seat, edit, reply });
-        Ok((history.len() as u64, told))
+        Ok((history.len(), told))
     }
 }
 

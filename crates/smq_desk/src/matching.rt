@@ -6,8 +6,8 @@ ghost use Rattle.smq_desk.specs.Closing.{AgreesUpTo, AgreeUpTo, FailsFirstAt, Is
 ghost use Rattle.smq_desk.specs.declared.entry.Call.{Call as CallOf};
 ghost use Rattle.smq_desk.specs.within.Least.{IsLeastOf, IsLesser, earlier};
 
-use crate::{Call, CloseFault, Entry, Ledger, Seat};
-use smq_book::Edit;
+use crate::entry::is_same_edit;
+use crate::{Call, CloseFault, Entry, History, Ledger, Seat};
 
 /// Why a desk with this ledger doesn't close for these seats, and none where their calls are its history. It takes no memory. Its
 /// time grows as the number of seats times that of entries.
@@ -18,20 +18,20 @@ pub fn fault_of(ledger: &Ledger, seats: &[Seat]) -> Option<CloseFault>
     if seats.len() < ledger.seats() as usize {
         return Some(CloseFault::SeatsOut);
     }
-    let entries = ledger.entries();
-    let number = first_difference(entries, seats)?;
-    let seat = told_seat(entries, seats, number);
+    let history = ledger.history();
+    let number = first_difference(history, seats)?;
+    let seat = told_seat(history, seats, number);
     Some(CloseFault::Torn { seat, number })
 }
 
 /// The first number up to which the seats don't agree with the history.
-fn first_difference(entries: &[Entry], seats: &[Seat]) -> Option<u64>
-    ensures { MatchOption result (AreCallsOf seats.now entries.now)
-        (λ number. FailsFirstAt (AgreeUpTo seats.now entries.now) number) }
+fn first_difference(history: &History, seats: &[Seat]) -> Option<u64>
+    ensures { MatchOption result (AreCallsOf seats.now history.now.entries)
+        (λ number. FailsFirstAt (AgreeUpTo seats.now history.now.entries) number) }
 {
     earlier(
-        first_in_seats(entries, seats),
-        first_in_entries(entries, seats),
+        first_in_seats(history, seats),
+        first_in_entries(history, seats),
     )
 }
 
@@ -54,40 +54,45 @@ fn lesser(one: u64, other: u64) -> u64
 }
 
 /// The first number up to which one of the seats doesn't agree with the history.
-fn first_in_seats(entries: &[Entry], seats: &[Seat]) -> Option<u64>
-    ensures { MatchOption result (All (HasItsCalls entries.now) seats.now)
-        (λ number. FailsFirstAt (λ n. All (AgreesUpTo entries.now n) seats.now) number) }
+fn first_in_seats(history: &History, seats: &[Seat]) -> Option<u64>
+    ensures { MatchOption result (All (HasItsCalls history.now.entries) seats.now)
+        (λ number. FailsFirstAt (λ n. All (AgreesUpTo history.now.entries n) seats.now) number) }
 {
     let mut first = None;
     for seat in seats {
-        first = earlier(first, first_in_seat(entries, seat));
+        first = earlier(first, first_in_seat(history, seat));
     }
     first
 }
 
 /// The number of the first entry that isn't of exactly one of the seats.
-fn first_in_entries(entries: &[Entry], seats: &[Seat]) -> Option<u64>
-    ensures { MatchOption result (All (HasOneSeat seats.now) entries.now)
-        (λ number. FailsFirstAt (λ n. All (HasOneSeat seats.now) (take n entries.now)) number) }
+fn first_in_entries(history: &History, seats: &[Seat]) -> Option<u64>
+    ensures { MatchOption result (All (HasOneSeat seats.now) history.now.entries)
+        (λ number. FailsFirstAt (λ n. All (HasOneSeat seats.now) (take n history.now.entries)) number) }
 {
-    for (i, entry) in entries.iter().enumerate() {
+    let mut left = history.iter();
+    let mut number = 0;
+    while let Some(entry) = left.next() {
+        number += 1;
         if !has_one_seat(seats, entry) {
-            return Some(i as u64 + 1);
+            return Some(number);
         }
     }
     None
 }
 
 /// The first number up to which the seat doesn't agree with the history.
-fn first_in_seat(entries: &[Entry], seat: &Seat) -> Option<u64>
-    ensures { MatchOption result (HasItsCalls entries.now seat.now)
-        (λ number. FailsFirstAt (λ n. AgreesUpTo entries.now n seat.now) number) }
+fn first_in_seat(history: &History, seat: &Seat) -> Option<u64>
+    ensures { MatchOption result (HasItsCalls history.now.entries seat.now)
+        (λ number. FailsFirstAt (λ n. AgreesUpTo history.now.entries n seat.now) number) }
 {
     let holder = seat.number();
     let mut rest = seat.calls();
-    for (i, entry) in entries.iter().enumerate() {
+    let mut left = history.iter();
+    let mut number = 0;
+    while let Some(entry) = left.next() {
+        number += 1;
         if entry.seat == holder {
-            let number = i as u64 + 1;
             match after_call(rest, number, entry) {
                 Some(later) => rest = later,
                 None => return Some(least_of(number, rest)),
@@ -129,24 +134,14 @@ fn least_of(number: u64, calls: &[Call]) -> u64
 }
 
 /// The seat that a difference at this number is told of.
-fn told_seat(entries: &[Entry], seats: &[Seat], number: u64) -> u32
-    requires { FailsFirstAt (AgreeUpTo seats.now entries.now) number }
-    ensures { IsToldOf entries.now seats.now number result }
+fn told_seat(history: &History, seats: &[Seat], number: u64) -> u32
+    requires { FailsFirstAt (AgreeUpTo seats.now history.now.entries) number }
+    ensures { IsToldOf history.now.entries seats.now number result }
 {
-    if let Some(entry) = entry_at(entries, number) {
+    if let Some(entry) = history.get(number) {
         return entry.seat;
     }
     first_with(seats, number)
-}
-
-/// The entry of a number, from 1.
-fn entry_at(entries: &[Entry], number: u64) -> Option<&Entry>
-    ensures { MatchOption result ((number ≡ 0) ⊎ (length entries.now < number))
-        (λ entry. (0 < number) × (number ≤ length entries.now)
-        × (slice_get entries.now (number - 1) ≡ Some entry.now)) }
-{
-    let index = number.checked_sub(1)?;
-    entries.get(index as usize)
 }
 
 /// The number of the first seat that has a call of this number, and 0 where none has.
@@ -171,15 +166,7 @@ fn has_call(seat: &Seat, number: u64) -> bool
 fn is_call(call: &Call, number: u64, entry: &Entry) -> bool
     ensures { IsTrue result ↔ (call.now ≡ call_of number entry.now.edit entry.now.reply) }
 {
-    call.number == number && is_same(&call.edit, &entry.edit) && call.reply == entry.reply
-}
-
-/// Whether both are one edit.
-#[tactic(auto, using(smq_book::proofs::lemmas::present::SameEdits::same_edits))]
-fn is_same(edit: &Edit, other: &Edit) -> bool
-    ensures { IsTrue result ↔ (edit.now ≡ other.now) }
-{
-    edit == other
+    call.number == number && is_same_edit(&call.edit, &entry.edit) && call.reply == entry.reply
 }
 
 /// Whether just one of the seats has the entry's number.
