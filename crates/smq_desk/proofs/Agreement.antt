@@ -1,6 +1,6 @@
 -- Up to which number seats agree with a history.
 use Rattle.std.proofs.Common.{◌≡◌, ℕ, ◌+◌, ◌==◌, ◌<◌, ◌≤◌, ◌⊎◌, inl, inr, true, false, List, [], ◌∷◌, ◌++◌, refl, sym, ◌∙◌, ap, subst, length, take, drop, get_or, arith, All, append-nil, append_assoc}
-use Rattle.std.proofs.lemmas.List.{append_cancel_left, take-take, take_more, length-take-le}
+use Rattle.std.proofs.lemmas.List.{append_cancel_left, take-take, take_all, take_more, length-take-le}
 use Rattle.std.proofs.lemmas.List.Elements.{All-append, All-weaker, All-tail, All-same}
 use Rattle.smq_desk.specs.declared.entry.Entry.{Entry}
 use Rattle.smq_desk.specs.declared.entry.Call.{Call}
@@ -139,3 +139,16 @@ head_not_above rest c at some above =
     let more : c.number < (get_or rest 0 c).number = above 0 c (omega arith) in
     let self : c.number < c.number = subst (λ (d : Call). c.number < d.number) (sym at) more in
     absurd (omega arith)
+
+no_calls : (rest : List Call) → length rest < 1 → rest ≡ []
+no_calls [] lt = refl
+no_calls (c ∷ rest) lt = absurd (omega arith)
+
+-- where all entries were seen and no call is left, a seat has its calls
+pub whole_seat : (entries : List Entry) (seat : SeatValue) (rest : List Call) (i : ℕ) → length entries ≤ i → length rest < 1
+    → seat.calls ≡ calls_in (take i entries) seat.number ++ rest → HasItsCalls entries seat
+whole_seat entries seat rest i end none is =
+    is
+    ∙ ap (λ (cs : List Call). calls_in (take i entries) seat.number ++ cs) (no_calls rest none)
+    ∙ append-nil (calls_in (take i entries) seat.number)
+    ∙ ap (λ (es : List Entry). calls_in es seat.number) (take_all i entries end)

@@ -1,4 +1,6 @@
 pub mod Histories
+pub mod Chunking
+pub mod EntriesLeft
 pub mod BookReplies
 pub mod CallsIn
 pub mod Agreement

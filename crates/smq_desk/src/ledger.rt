@@ -67,8 +67,8 @@ impl Ledger {
         self.history.iter()
     }
 
-    /// The history as it is stored.
-    pub(crate) fn history(&self) -> &History
+    /// The history as it is stored, in which an entry is found by its number.
+    pub fn history(&self) -> &History
         ensures value { result.now.entries ≡ self.now.entries }
         ensures legal { IsLegal self.now.entries }
         ensures in_limit { length self.now.entries ≤ self.now.limit }

@@ -1,6 +1,7 @@
 //! Compares a history with the calls that seats keep, without memory.
 ghost use Rattle.std.specs.Prelude.{◌≡◌, ◌↔◌, ◌==◌, List, ◌∷◌, ◌⊎◌, ◌<◌, ◌≤◌, ◌-◌, length, slice_get, Some, take, IsTrue, All, IfSome, IfNone, MatchOption};
 ghost use Rattle.std.specs.List.{list_any};
+ghost use Rattle.smq_desk.specs.History.{IsLegal};
 ghost use Rattle.smq_desk.specs.Seats.{call_of, HasItsCalls, HasOneSeat, holders, AreCallsOf};
 ghost use Rattle.smq_desk.specs.Closing.{AgreesUpTo, AgreeUpTo, FailsFirstAt, IsToldOf, IsCloseFault, first_with};
 ghost use Rattle.smq_desk.specs.declared.entry.Call.{Call as CallOf};
@@ -14,11 +15,12 @@ use crate::{Call, CloseFault, Entry, History, Ledger, Seat};
 pub fn fault_of(ledger: &Ledger, seats: &[Seat]) -> Option<CloseFault>
     ensures none { IfNone result (AreCallsOf seats.now ledger.now.entries) }
     ensures some { IfSome result (λ fault. IsCloseFault ledger.now seats.now fault) }
+    ensures legal { IsLegal ledger.now.entries }
 {
+    let history = ledger.history();
     if seats.len() < ledger.seats() as usize {
         return Some(CloseFault::SeatsOut);
     }
-    let history = ledger.history();
     let number = first_difference(history, seats)?;
     let seat = told_seat(history, seats, number);
     Some(CloseFault::Torn { seat, number })

@@ -3,6 +3,8 @@
 ghost use Rattle.std.specs.Prelude.{◌≤◌};
 ghost use Rattle.smq_desk.specs.declared.ledger.TheConstants.{LONGEST_HISTORY};
 
+mod histories;
+
 use bytes::Bytes;
 use smq_book::{Edit, Outcome, Tables, Value, View, prepare};
 use smq_desk::{CloseFault, Closed, Desk, Seat};

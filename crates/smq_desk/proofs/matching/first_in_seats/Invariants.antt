@@ -5,4 +5,4 @@ use Rattle.smq_desk.proofs.FirstFaults.{First}
 use Rattle.smq_desk.proofs.matching.first_in_seats.Given as goal
 
 abbrev pub invariant-loop-seat : goal.invariant-loop-seat
-invariant-loop-seat l = First (All (HasItsCalls l.entries) (take l.seat-index l.seats)) (λ n. All (AgreesUpTo l.entries n) (take l.seat-index l.seats)) l.first
+invariant-loop-seat l = First (All (HasItsCalls l.history.entries) (take l.seat-index l.seats)) (λ n. All (AgreesUpTo l.history.entries n) (take l.seat-index l.seats)) l.first

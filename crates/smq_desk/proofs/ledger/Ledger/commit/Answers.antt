@@ -7,15 +7,15 @@ pub invariant_of-self-2 : goal.invariant_of-self-2
 invariant_of-self-2 c =
     let old = c.self.inside in
     let e = entry_of c.args.seat c.args.edit c.in-Some.reply in
-    let more : c.push_reserved.new.self.items ≡ old.history.items ++ e ∷ [] = cc in
+    let more : c.push_reserved.new.self.entries ≡ old.history.entries ++ e ∷ [] = cc in
     let told = c.in-Some.ensures.some in
     let kept = c.self.invariant in
-    let k = one_more old.history.items old.book.present e c.in-Ok.theirs c.reply_of.new.book.present c.push_reserved.new.self.items kept.legal kept.replayed c.in-Ok.ensures told.0 told.1 more in
-    let within : length old.history.items ≤ old.limit = kept.in_limit in
+    let k = one_more old.history.entries old.book.present e c.in-Ok.theirs c.reply_of.new.book.present c.push_reserved.new.self.entries kept.legal kept.replayed c.in-Ok.ensures told.0 told.1 more in
+    let within : length old.history.entries ≤ old.limit = kept.in_limit in
     record {
       legal = k.0;
       replayed = k.1;
-      in_limit = omega (arith, ap length more, length-append old.history.items (e ∷ []));
+      in_limit = omega (arith, ap length more, length-append old.history.entries (e ∷ []));
       limit_in_range = kept.limit_in_range;
       seats_in_range = kept.seats_in_range;
     }
