@@ -178,7 +178,8 @@ fn seal(
     requires full { length rest.old.items ≡ 1024 }
     ensures ok { OnOk result (Seals sealed.old.items sealed.new.items rest.old.items) }
     ensures none { OnOk result (rest.new.items ≡ []) }
-    ensures err { OnErr result ((sealed.new.items ≡ sealed.old.items) × (rest.new.items ≡ rest.old.items)) }
+    ensures err { OnErr result ((sealed.new.items ≡ sealed.old.items)
+        × (rest.new.items ≡ rest.old.items)) }
 {
     sealed.reserve(1)?;
     let full = mem::replace(rest, Vec::new(alloc));

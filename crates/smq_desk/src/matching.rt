@@ -69,8 +69,8 @@ fn first_in_seats(history: &History, seats: &[Seat]) -> Option<u64>
 
 /// The number of the first entry that isn't of exactly one of the seats.
 fn first_in_entries(history: &History, seats: &[Seat]) -> Option<u64>
-    ensures { MatchOption result (All (HasOneSeat seats.now) history.now.entries)
-        (λ number. FailsFirstAt (λ n. All (HasOneSeat seats.now) (take n history.now.entries)) number) }
+    ensures { MatchOption result (All (HasOneSeat seats.now) history.now.entries) (λ number.
+        FailsFirstAt (λ n. All (HasOneSeat seats.now) (take n history.now.entries)) number) }
 {
     let mut left = history.iter();
     let mut number = 0;

@@ -111,6 +111,30 @@ fn is_filled(ledger: &Ledger, size: u64) -> bool {
         && is_copied(ledger.history())
 }
 
+/// Commits a clock, and once more where memory was wanting: then the history was as before.
+fn commit_again(ledger: &mut Ledger, number: u64) -> bool {
+    if commit(ledger, number) == Ok(()) {
+        return ledger.history().len() == number;
+    }
+    let is_kept = ledger.history().len().saturating_add(1) == number;
+    is_kept && commit(ledger, number) == Ok(())
+}
+
+/// With each allocation refused in turn (`rt try --test --fail-alloc`), a history grows past the end of a chunk all the same,
+/// and is copied, if not at once.
+#[test]
+fn want_of_memory_leaves_a_history_as_it_was(rt: HostRuntime) -> Result<(), Fail> {
+    let mut ledger = boxed_ledger(rt.alloc(), 10_000)?;
+    for number in 1..=1_030 {
+        let is_committed = commit_again(&mut ledger, number);
+        assert!(rt; is_committed, "entry {number}");
+    }
+    let is_as_wanted = has_numbers(ledger.history(), 1_030)
+        && (is_copied(ledger.history()) || is_copied(ledger.history()));
+    assert!(rt; is_as_wanted);
+    Ok(())
+}
+
 /// How many entries histories have here.
 const SIZES: &[u64] = &[0, 1, 1_023, 1_024, 1_025, 2_048, 2_049];
 
