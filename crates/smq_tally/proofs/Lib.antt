@@ -15,3 +15,4 @@ pub mod FactEquals
 pub mod Standing
 pub mod Written
 pub mod NotesAmong
+pub mod Copied

@@ -2,6 +2,7 @@
 #![tactic(auto)]
 
 mod band;
+mod copies;
 mod counts;
 mod fact;
 mod laws;

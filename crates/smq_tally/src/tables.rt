@@ -8,6 +8,7 @@ ghost use Rattle.smq_tally.specs.Lists.{listed_set, listings_of_fact};
 ghost use Rattle.smq_tally.specs.Tables.{AreOfDifferentPlaces, facts_at, tables_of, count_at, rows_of, listed_in};
 ghost use Rattle.smq_tally.specs.within.Counting.{count_of, one_more, one_less, with_listed};
 
+use crate::copies::copy_entries;
 use crate::counts::{Step, count_from, count_of};
 use crate::listing::{list_fact, relist, unlist, unlist_fact};
 use crate::same::have_same_entries;
@@ -81,6 +82,17 @@ impl Tables {
         tables.add_facts(facts)?;
         tables.list_places(notes)?;
         Ok(tables)
+    }
+
+    /// Equal tables, which are settled: `undo` would show no others.
+    pub fn copy(&self, alloc: Global) -> Result<Tables, AllocError>
+        ensures shown { IfOk result (λ tables. tables.shown ≡ self.now.shown) }
+        ensures settled { IfOk result (λ tables. tables.settled ≡ self.now.shown) }
+    {
+        Ok(Tables {
+            counts: copy_entries(alloc, self.counts.iter())?,
+            places: copy_entries(alloc, self.places.iter())?,
+        })
     }
 
     /// Counts and lists facts, the last first, where none was.

@@ -90,3 +90,45 @@ fn want_of_memory_changes_nothing(rt: HostRuntime) {
     assert!(rt; number_listed(tables, List::Open) == 2000);
     assert!(rt; number_listed(tables, List::Lapsed) == 500);
 }
+
+/// Whether two tables have as many rows in each view, which count as many facts, and as many places in each list.
+fn are_as_long(tables: &Tables, others: &Tables) -> bool {
+    for view in View::all() {
+        if rows_and_facts(tables, *view) != rows_and_facts(others, *view) {
+            return false;
+        }
+    }
+    for list in List::all() {
+        if number_listed(tables, *list) != number_listed(others, *list) {
+            return false;
+        }
+    }
+    true
+}
+
+/// A copy of tables. Where memory runs out it is made once more.
+fn copied(alloc: Global, tables: &Tables) -> Option<Tables> {
+    match tables.copy(alloc) {
+        Ok(copy) => Some(copy),
+        Err(_) => tables.copy(alloc).ok(),
+    }
+}
+
+/// Whether a copy of tables is equal, by `==` and by its rows and places.
+fn is_copied(alloc: Global, tables: &Tables) -> bool {
+    match copied(alloc, tables) {
+        Some(copy) => copy == *tables && are_as_long(&copy, tables),
+        None => false,
+    }
+}
+
+/// With each allocation refused in turn (`rt try --test --fail-alloc`) a copy of many rows and places, settled or not, shows
+/// what its tables show.
+#[test]
+fn a_copy_shows_what_its_tables_show(rt: HostRuntime) {
+    let mut tally = tally_below(&rt, rt.alloc(), 1000);
+    assert!(rt; is_copied(rt.alloc(), tally.tables()), "nothing is settled");
+    tally.settle();
+    assert!(rt; is_copied(rt.alloc(), tally.tables()), "all is settled");
+    assert!(rt; is_copied(rt.alloc(), Tally::new(rt.alloc()).tables()), "nothing is there");
+}
