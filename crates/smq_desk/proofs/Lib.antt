@@ -10,3 +10,5 @@ pub mod FirstWith
 pub mod AsMany
 pub mod ToldSeat
 pub mod AgreeAtEach
+pub mod BoardSteps
+pub mod TornCalls

@@ -4,13 +4,15 @@ use Rattle.smq_book.specs.declared.present.edit.Edit.{Edit}
 use Rattle.smq_book.specs.present.Present.{PresentValue}
 use Rattle.smq_desk.specs.declared.entry.Entry.{Entry}
 use Rattle.smq_desk.specs.declared.entry.Reply.{Reply}
-use Rattle.smq_desk.specs.History.{entry_of, replay, IsLegal, reply_to}
+use Rattle.smq_desk.specs.History.{entry_of, replay, StartsWith, IsLegal, reply_to}
 
--- a ledger: the most entries that it takes, how many seats were given out, and its history
+-- a ledger: the most entries that it takes, how many seats were given out, its history, and the entries of the edition that is
+-- on its board
 pub record LedgerValue : Type 0 where
   pub limit : ℕ
   pub seats : ℕ
   pub entries : List Entry
+  pub board : List Entry
 
 -- a history as it is stored: its entries, and how many more it takes before it needs memory
 pub record HistoryValue : Type 0 where
@@ -21,16 +23,17 @@ pub record HistoryValue : Type 0 where
 pub record ClosedValue : Type 0 where
   pub entries : List Entry
 
--- a ledger in which nothing was committed yet
+-- a ledger in which nothing was committed yet, and whose board has no entries
 abbrev pub opened : ℕ → LedgerValue
-opened limit = record { limit = limit; seats = 0; entries = [] }
+opened limit = record { limit = limit; seats = 0; entries = []; board = [] }
 
--- A ledger's history is legal and within its limit, and what is present in its book is the history's replay. Limit and
--- number of seats are within those of every desk.
+-- A ledger's history is legal, within its limit, and begins with the entries on the board; and what is present in its book is the
+-- history's replay. Limit and number of seats are within those of every desk.
 pub record IsKept (l : LedgerValue) (present : PresentValue) : Type 0 where
   pub legal : IsLegal l.entries
   pub replayed : present ≡ replay l.entries
   pub in_limit : length l.entries ≤ l.limit
+  pub published : StartsWith l.entries l.board
   pub limit_in_range : l.limit ≤ 1048576
   pub seats_in_range : l.seats ≤ 65536
 

@@ -1,2 +1,3 @@
 pub mod Chunks
 pub mod Least
+pub mod Boards

@@ -5,6 +5,7 @@ ghost use Rattle.smq_desk.specs.History.{replay, EntriesComeInOrder, IsLegal};
 use crate::{Entries, Ledger};
 use smq_book::Book;
 use std::marker::Model;
+use std::sync::Wait;
 
 /// Why a desk doesn't close.
 #[derive(Clone, Copy, Debug, PartialEq, Eq)]
@@ -16,8 +17,8 @@ pub enum CloseFault {
     Torn { seat: u32, number: u64 },
 }
 
-/// The history of a closed desk, and its book. A contract sees the entries.
-#[derive(Drop)]
+/// The history of a closed desk, its book, and what was published last. A contract sees the entries. It ends by `end`: until then
+/// watchers read on.
 pub struct Closed {
     ledger: Ledger,
 }
@@ -52,5 +53,11 @@ impl Closed {
         ensures { result.now.present ≡ replay self.now.entries }
     {
         self.ledger.book()
+    }
+
+    /// Ends it. Watchers keep the newest edition that they read or learnt.
+    pub fn end<R: Wait>(self, rt: &R) {
+        let Closed { ledger } = self;
+        ledger.end(rt);
     }
 }

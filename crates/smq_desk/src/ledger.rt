@@ -1,21 +1,24 @@
-//! What stands behind a desk's lock: a book, and the history of all edits that made it.
+//! What stands behind a desk's lock: a book, the history of all edits that made it, and the board on which it is published.
 //!
 //! Who changes `commit` takes all memory before the book is asked: what comes after the book's answer can't fail, so an
 //! edit that the book made is always in the history.
 ghost use Rattle.std.specs.Prelude.{◌≡◌, ◌≢◌, ◌↔◌, ◌≤◌, ◌<◌, ◌+◌, ◌⊎◌, length, IfOk, IfErr, IfSome, IfNone, OnErr, Err};
-ghost use Rattle.smq_kit.specs.declared.refusal.Refusal.TheVariants.{HistoryFull, Memory, NoSeat};
+ghost use Rattle.smq_kit.specs.declared.refusal.Refusal.TheVariants.{HistoryFull, Memory, NoSeat, NoWatcher};
 ghost use Rattle.smq_book.specs.present.Present.{tail_in};
 ghost use Rattle.smq_book.specs.present.Steps.{step};
 ghost use Rattle.smq_desk.specs.declared.entry.Reply.TheVariants.{Refused};
 ghost use Rattle.smq_desk.specs.History.{replay, reply_to, EntriesComeInOrder, IsLegal};
 ghost use Rattle.smq_desk.specs.Ledger.{opened, Adds};
 
-use crate::{Entries, Entry, History, Reply};
+use crate::board::{BoardWriter, open_board, publish_on};
+use crate::published_history::PublishedHistory;
+use crate::{Edition, Entries, Entry, History, Note, Reply, Watcher};
 use smq_book::{Book, Edit};
 use smq_frame::Tail;
 use smq_kit::{Dir, Refusal, SessionId};
 use std::alloc::{AllocError, Global};
 use std::marker::Model;
+use std::sync::{Arc, Wait};
 
 /// The most entries that a history may have.
 pub const LONGEST_HISTORY: u64 = 1_048_576;
@@ -23,38 +26,55 @@ pub const LONGEST_HISTORY: u64 = 1_048_576;
 /// The most seats that a desk gives out.
 pub const MOST_SEATS: u32 = 65_536;
 
-/// A book with its history. A contract sees the limit of entries, how many seats were given out, and the entries.
-#[derive(Drop)]
+/// A book with its history and the board on which it is published. A contract sees the limit of entries, how many seats were
+/// given out, the entries, and those of the edition on the board. It ends by `end`, which takes the board down.
 pub struct Ledger {
+    alloc: Global,
     limit: u64,
     seats: u32,
     book: Book,
     history: History,
+    board: BoardWriter,
 }
 
 impl Model for Ledger {
     ghost use Rattle.smq_desk.specs.Ledger.{LedgerValue, IsKept};
+    ghost use Rattle.smq_desk.specs.within.Boards.{shown_in};
 
     ghost Value = { LedgerValue };
 
-    ghost view = { λ l. record { limit = l.limit; seats = l.seats; entries = l.history.entries } };
+    ghost view = { λ l. record {
+      limit = l.limit;
+      seats = l.seats;
+      entries = l.history.entries;
+      board = shown_in l.board.desk.shown.value;
+    } };
 
-    ghost invariant = { λ l. IsKept
-        (record { limit = l.limit; seats = l.seats; entries = l.history.entries }) l.book.present };
+    ghost invariant = { λ l. IsKept (record {
+      limit = l.limit;
+      seats = l.seats;
+      entries = l.history.entries;
+      board = shown_in l.board.desk.shown.value;
+    }) l.book.present };
 }
 
 impl Ledger {
-    /// A ledger of an empty book, for so many entries at most.
-    pub fn new(alloc: Global, limit: u64) -> Ledger
+    /// A ledger of an empty book, for so many entries at most. An edition without entries is on its board.
+    pub fn new(alloc: Global, limit: u64) -> Result<Ledger, AllocError>
         requires { limit ≤ LONGEST_HISTORY }
-        ensures { result ≡ opened limit }
+        ensures { IfOk result (λ ledger. ledger ≡ opened limit) }
     {
-        Ledger {
+        let book = Book::new(alloc);
+        let history = History::new(alloc);
+        let board = open_board(alloc, PublishedHistory::of(alloc, &history, &book)?)?;
+        Ok(Ledger {
+            alloc,
             limit,
             seats: 0,
-            book: Book::new(alloc),
-            history: History::new(alloc),
-        }
+            book,
+            history,
+            board,
+        })
     }
 
     /// The history: one entry for each edit that was committed, in order. Entries are numbered from 1.
@@ -123,10 +143,12 @@ impl Ledger {
         ensures full { (result ≡ Err HistoryFull) ↔ (length self.old.entries ≡ self.old.limit) }
     {
         let Ledger {
+            alloc: _,
             limit,
             seats: _,
             book,
             history,
+            board: _,
         } = self;
         if history.len() == *limit {
             return Err(Refusal::HistoryFull);
@@ -143,6 +165,67 @@ impl Ledger {
         let told = reply.copy();
         history.push_reserved(Entry { seat, edit, reply });
         Ok((history.len(), told))
+    }
+
+    /// Puts an edition of the whole history on the board, and answers the number of its entries. History and book stay, whatever
+    /// it answers. Refused is want of memory alone; the board then stays, too.
+    pub fn publish<R: Wait>(&mut self, rt: &R) -> Result<u64, Refusal>
+        ensures ok { IfOk result (λ front. (front ≡ length self.old.entries)
+            × (self.new ≡ record self.old { board = self.old.entries })) }
+        ensures err { IfErr result (λ refusal. (refusal ≡ Memory) × (self.new ≡ self.old)) }
+    {
+        let note = self.publish_note(rt)?;
+        Ok(note.edition().front())
+    }
+
+    /// The same, with the edition as a note.
+    pub(crate) fn publish_note<R: Wait>(&mut self, rt: &R) -> Result<Note, Refusal>
+        ensures ok { IfOk result (λ note. (note.entries ≡ self.old.entries)
+            × (self.new ≡ record self.old { board = self.old.entries })) }
+        ensures err { IfErr result (λ refusal. (refusal ≡ Memory) × (self.new ≡ self.old)) }
+    {
+        let Ledger {
+            alloc,
+            limit: _,
+            seats: _,
+            book,
+            history,
+            board,
+        } = self;
+        let Ok(published) = PublishedHistory::of(*alloc, history, book) else {
+            return Err(Refusal::Memory);
+        };
+        let Ok(theirs) = Arc::try_clone(&published) else {
+            return Err(Refusal::Memory);
+        };
+        if publish_on(rt, board, theirs) {
+            Ok(Note::new(Edition::of(published)))
+        } else {
+            Err(Refusal::Memory)
+        }
+    }
+
+    /// A new watcher of the board, where that has a place for one (`NoWatcher`) and there is memory (`Memory`).
+    pub(crate) fn watcher(&self) -> Result<Watcher, Refusal>
+        ensures { IfErr result (λ refusal. (refusal ≡ NoWatcher) ⊎ (refusal ≡ Memory)) }
+    {
+        match self.board.factory().reader() {
+            Ok(reader) => Watcher::new(reader),
+            Err(_) => Err(Refusal::NoWatcher),
+        }
+    }
+
+    /// Takes the board down. Watchers keep the newest edition that they read or learnt.
+    pub fn end<R: Wait>(self, rt: &R) {
+        let Ledger {
+            alloc: _,
+            limit: _,
+            seats: _,
+            book: _book,
+            history: _history,
+            board,
+        } = self;
+        drop(board.take(rt));
     }
 }
 

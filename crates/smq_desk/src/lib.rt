@@ -1,23 +1,35 @@
 //! A book that many threads edit: under one lock, with the history of all edits, and a seat for each caller, which keeps
-//! what it asked for and was answered.
+//! what it asked for and was answered. Watchers read editions of it without the lock.
 #![tactic(auto)]
 
+mod board;
 mod closed;
 mod desk;
+mod edition;
 mod entries;
 mod entry;
 mod history;
 mod laws;
 mod ledger;
 mod matching;
+mod published_history;
 mod seat;
+mod torn_calls;
+mod watcher;
 
+pub use board::MOST_WATCHERS;
 pub use closed::{CloseFault, Closed};
 pub use desk::Desk;
+pub use edition::{Edition, Note};
 pub use entries::Entries;
 pub use entry::{Call, Entry, Reply};
 pub use history::{CHUNK_LENGTH, History};
-pub use laws::{known_history, known_limits, seats_agree_up_to_where_they_agree_at_each};
+pub use laws::{
+    beginnings_are_passed_on, known_history, known_limits,
+    seats_agree_up_to_where_they_agree_at_each,
+};
 pub use ledger::{LONGEST_HISTORY, Ledger, MOST_SEATS};
 pub use matching::fault_of;
 pub use seat::Seat;
+pub use torn_calls::torn_call;
+pub use watcher::Watcher;

@@ -38,7 +38,7 @@ fn first_difference(history: &History, seats: &[Seat]) -> Option<u64>
 }
 
 /// The lesser of two numbers that may be absent.
-fn earlier(one: Option<u64>, other: Option<u64>) -> Option<u64>
+pub(crate) fn earlier(one: Option<u64>, other: Option<u64>) -> Option<u64>
     ensures { result ≡ earlier one other }
 {
     match (one, other) {
@@ -165,7 +165,7 @@ fn has_call(seat: &Seat, number: u64) -> bool
 }
 
 /// Whether this is the call that the entry of this number is.
-fn is_call(call: &Call, number: u64, entry: &Entry) -> bool
+pub(crate) fn is_call(call: &Call, number: u64, entry: &Entry) -> bool
     ensures { IsTrue result ↔ (call.now ≡ call_of number entry.now.edit entry.now.reply) }
 {
     call.number == number && is_same_edit(&call.edit, &entry.edit) && call.reply == entry.reply

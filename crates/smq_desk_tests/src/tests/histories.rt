@@ -1,13 +1,10 @@
 //! Histories up to an entry less than a chunk, a chunk, and an entry more: entries by number, copies, beginnings, closed
 //! desks.
-ghost use Rattle.std.specs.Prelude.{◌≤◌};
-ghost use Rattle.smq_desk.specs.declared.ledger.TheConstants.{LONGEST_HISTORY};
-
-use super::{end, entries_of, new_desk};
+use super::{close, end_desk, entries_of, new_desk};
 use smq_book::Edit;
-use smq_desk::{Desk, Entries, Entry, History, Ledger, Seat};
+use smq_desk::{Desk, Edition, Entries, Entry, History, LONGEST_HISTORY, Reply, Seat};
 use smq_kit::{Moment, Refusal};
-use std::alloc::{AllocError, AllocGlobal, Global};
+use std::alloc::{AllocGlobal, Global};
 use std::process::Abort;
 use std::sync::Wait;
 use std::test::Fail;
@@ -18,37 +15,33 @@ fn clock(milliseconds: u64) -> Result<Edit, Refusal> {
     Ok(Edit::Advance { clock })
 }
 
-/// A ledger of an empty book. It stands on the heap: a proof that owns an address is short.
-fn boxed_ledger(alloc: Global, limit: u64) -> Result<Box<Ledger>, AllocError>
-    requires { limit ≤ LONGEST_HISTORY }
-{
-    Ok(Box::new(alloc, Ledger::new(alloc, limit))?)
-}
-
-/// Commits a clock.
-fn commit(ledger: &mut Ledger, milliseconds: u64) -> Result<(), Refusal> {
-    let _told = ledger.commit(7, clock(milliseconds)?)?;
-    Ok(())
-}
-
-/// Commits so many entries, each the clock of its number, but the last that of another number.
-fn fill(ledger: &mut Ledger, size: u64, last: u64) -> Result<(), Refusal> {
-    for number in 1..size {
-        commit(ledger, number)?;
+/// Puts the entry of a clock at the end.
+fn push(history: &mut History, milliseconds: u64) -> Result<(), Refusal> {
+    let edit = clock(milliseconds)?;
+    if history.len() >= LONGEST_HISTORY {
+        return Err(Refusal::HistoryFull);
     }
-    if size > 0 {
-        commit(ledger, last)?;
-    }
-    Ok(())
-}
-
-/// A ledger with these entries.
-fn filled(alloc: Global, size: u64, last: u64) -> Result<Box<Ledger>, Refusal> {
-    let Ok(mut ledger) = boxed_ledger(alloc, 10_000) else {
+    let Ok(()) = history.reserve() else {
         return Err(Refusal::Memory);
     };
-    fill(&mut ledger, size, last)?;
-    Ok(ledger)
+    history.push_reserved(Entry {
+        seat: 7,
+        edit,
+        reply: Reply::Done,
+    });
+    Ok(())
+}
+
+/// A history of so many entries, each the clock of its number, but the last that of another number.
+fn filled(alloc: Global, size: u64, last: u64) -> Result<History, Refusal> {
+    let mut history = History::new(alloc);
+    for number in 1..size {
+        push(&mut history, number)?;
+    }
+    if size > 0 {
+        push(&mut history, last)?;
+    }
+    Ok(history)
 }
 
 /// Whether this is the entry of a clock of so many ms.
@@ -104,33 +97,30 @@ fn are_alike(one: &History, other: &History) -> bool {
     one.len() == other.len() && one.starts_with(other) && other.starts_with(one)
 }
 
-/// Whether a ledger's history has so many entries, each the clock of its number, wherever it is read.
-fn is_filled(ledger: &Ledger, size: u64) -> bool {
-    has_numbers(ledger.history(), size)
-        && come_in_order(ledger.entries(), size)
-        && is_copied(ledger.history())
+/// Whether a history has so many entries, each the clock of its number, wherever it is read.
+fn is_filled(history: &History, size: u64) -> bool {
+    has_numbers(history, size) && come_in_order(history.iter(), size) && is_copied(history)
 }
 
-/// Commits a clock, and once more where memory was wanting: then the history was as before.
-fn commit_again(ledger: &mut Ledger, number: u64) -> bool {
-    if commit(ledger, number) == Ok(()) {
-        return ledger.history().len() == number;
+/// Puts an entry at the end, and once more where memory was wanting: then the history was as before.
+fn push_again(history: &mut History, number: u64) -> bool {
+    if push(history, number) == Ok(()) {
+        return history.len() == number;
     }
-    let is_kept = ledger.history().len().saturating_add(1) == number;
-    is_kept && commit(ledger, number) == Ok(())
+    let is_kept = history.len().saturating_add(1) == number;
+    is_kept && push(history, number) == Ok(())
 }
 
 /// With each allocation refused in turn (`rt try --test --fail-alloc`), a history grows past the end of a chunk all the same,
 /// and is copied, if not at once.
 #[test]
 fn want_of_memory_leaves_a_history_as_it_was(rt: HostRuntime) -> Result<(), Fail> {
-    let mut ledger = boxed_ledger(rt.alloc(), 10_000)?;
+    let mut history = History::new(rt.alloc());
     for number in 1..=1_030 {
-        let is_committed = commit_again(&mut ledger, number);
-        assert!(rt; is_committed, "entry {number}");
+        let is_put = push_again(&mut history, number);
+        assert!(rt; is_put, "entry {number}");
     }
-    let is_as_wanted = has_numbers(ledger.history(), 1_030)
-        && (is_copied(ledger.history()) || is_copied(ledger.history()));
+    let is_as_wanted = has_numbers(&history, 1_030) && (is_copied(&history) || is_copied(&history));
     assert!(rt; is_as_wanted);
     Ok(())
 }
@@ -141,8 +131,8 @@ const SIZES: &[u64] = &[0, 1, 1_023, 1_024, 1_025, 2_048, 2_049];
 #[test]
 fn entries_are_numbered_through_chunks(rt: HostRuntime) -> Result<(), Fail> {
     for size in SIZES {
-        let ledger = filled(rt.alloc(), *size, *size)?;
-        let is_as_wanted = is_filled(&ledger, *size);
+        let history = filled(rt.alloc(), *size, *size)?;
+        let is_as_wanted = is_filled(&history, *size);
         assert!(rt; is_as_wanted, "{size} entries");
     }
     Ok(())
@@ -166,7 +156,7 @@ const BEGINNINGS: &[Beginning] = &[
 fn begins_with(alloc: Global, case: &Beginning) -> Result<bool, Refusal> {
     let one = filled(alloc, case.0.0, case.0.1)?;
     let other = filled(alloc, case.1.0, case.1.1)?;
-    Ok(one.history().starts_with(other.history()))
+    Ok(one.starts_with(&other))
 }
 
 #[test]
@@ -186,23 +176,60 @@ fn play<R: Wait>(rt: &R, desk: &Desk, seat: &mut Seat, size: u64) -> Result<(), 
     Ok(())
 }
 
-/// How many entries a desk closes with, to which one seat committed so many clocks.
-fn closed_with<R: Wait + AllocGlobal>(rt: &R, size: u64) -> Result<Option<usize>, Refusal> {
-    let desk = new_desk(rt, 10_000)?;
+/// Whether an edition has so many entries, each the clock of its number, and none of number 0 or beyond the front.
+fn shows_numbers(edition: &Edition, size: u64) -> bool {
+    for number in 1..=size {
+        if !shows_entry(edition, number) {
+            return false;
+        }
+    }
+    edition.front() == size
+        && edition.entry(0).is_none()
+        && edition.entry(size.saturating_add(1)).is_none()
+}
+
+/// Whether the entry of a number is there, and is the clock of that number.
+fn shows_entry(edition: &Edition, number: u64) -> bool {
+    match edition.entry(number) {
+        Some(entry) => is_clock(entry, number),
+        None => false,
+    }
+}
+
+/// A seat that committed and published so many clocks, and whether a watcher shows them.
+fn published<R: Wait>(
+    rt: &R,
+    alloc: Global,
+    desk: &Desk,
+    size: u64,
+) -> Result<(Vec<Seat>, bool), Refusal> {
     let mut seat = desk.seat(rt)?;
-    play(rt, &desk, &mut seat, size)?;
-    let Ok(seats) = vec![in rt.alloc(); seat] else {
+    play(rt, desk, &mut seat, size)?;
+    desk.publish(rt, &mut seat)?;
+    let shown = shows_numbers(&desk.watcher(rt)?.edition()?, size);
+    let Ok(seats) = vec![in alloc; seat] else {
         return Err(Refusal::Memory);
     };
-    let ended = end(rt.alloc(), desk, seats).map_err(|_| Refusal::Memory)?;
-    Ok(entries_of(&ended))
+    Ok((seats, shown))
+}
+
+/// How many entries a desk closes with, to which one seat committed so many clocks, and whether a watcher showed them.
+fn closed_with<R: Wait + AllocGlobal>(rt: &R, size: u64) -> Result<(Option<usize>, bool), Refusal> {
+    let desk = new_desk(rt, 10_000)?;
+    match published(rt, rt.alloc(), &desk, size) {
+        Ok((seats, shown)) => Ok((entries_of(rt, close(rt, rt.alloc(), desk, seats)), shown)),
+        Err(refusal) => {
+            end_desk(rt, desk);
+            Err(refusal)
+        }
+    }
 }
 
 #[test]
-fn a_desk_closes_at_the_end_of_a_chunk(rt: HostRuntime) -> Result<(), Fail> {
+fn a_desk_publishes_and_closes_at_the_end_of_a_chunk(rt: HostRuntime) -> Result<(), Fail> {
     for size in [1_023, 1_024, 1_025] {
         let closed = closed_with(&rt, size)?;
-        assert_eq!(rt; closed, Some(size as usize));
+        assert_eq!(rt; closed, (Some(size as usize), true));
     }
     Ok(())
 }

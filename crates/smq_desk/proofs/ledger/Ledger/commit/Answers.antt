@@ -1,6 +1,7 @@
 use Rattle.std.proofs.Common.{◌≡◌, ◌≤◌, ◌++◌, ◌∷◌, [], length, arith, ap, length-append}
 use Rattle.smq_desk.specs.History.{entry_of}
 use Rattle.smq_desk.proofs.Histories.{one_more}
+use Rattle.smq_desk.proofs.BoardSteps.{starts_longer}
 use Rattle.smq_desk.proofs.ledger.Ledger.commit.Goals as goal
 
 pub invariant_of-self-2 : goal.invariant_of-self-2
@@ -16,6 +17,7 @@ invariant_of-self-2 c =
       legal = k.0;
       replayed = k.1;
       in_limit = omega (arith, ap length more, length-append old.history.entries (e ∷ []));
+      published = starts_longer old.history.entries c.push_reserved.new.self.entries (e ∷ []) _ more kept.published;
       limit_in_range = kept.limit_in_range;
       seats_in_range = kept.seats_in_range;
     }
