@@ -1,10 +1,8 @@
 -- The first call of a seat that isn't a history's entry, one call at a time.
-use Rattle.std.proofs.Common.{◌≡◌, ℕ, ◌+◌, ◌-◌, ◌<◌, List, refl, sym, ap, ◌∙◌, subst, length, take, get_or, arith, All, Option, Some, None, MatchOption, slice_get}
+use Rattle.std.proofs.Common.{◌≡◌, ℕ, ◌+◌, ◌<◌, List, sym, length, take, get_or, arith, All, Option, Some, None, MatchOption}
 use Rattle.std.proofs.lemmas.List.Elements.{All-weaker}
 use Rattle.smq_desk.specs.declared.entry.Call.{Call}
 use Rattle.smq_desk.specs.declared.entry.Entry.{Entry}
-use Rattle.smq_desk.specs.Closing.{FailsFirstAt}
-use Rattle.smq_desk.specs.History.{entry_of}
 use Rattle.smq_desk.specs.Publishing.{HasCall}
 use Rattle.smq_desk.specs.within.Least.{earlier}
 use Rattle.smq_desk.proofs.FirstFaults.{First, first_of_both, one_more, but_one}

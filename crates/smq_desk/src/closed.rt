@@ -1,6 +1,7 @@
 //! A desk that is closed: its history and its book, which nobody changes any more.
-ghost use Rattle.std.specs.Prelude.{◌≡◌};
+ghost use Rattle.std.specs.Prelude.{◌≡◌, ◌≤◌, length};
 ghost use Rattle.smq_desk.specs.History.{replay, EntriesComeInOrder, IsLegal};
+ghost use Rattle.smq_desk.specs.declared.ledger.TheConstants.{LONGEST_HISTORY};
 
 use crate::{Entries, Ledger};
 use smq_book::Book;
@@ -44,6 +45,7 @@ impl Closed {
         ensures value { result ≡ self.now.entries }
         ensures runs { EntriesComeInOrder }
         ensures legal { IsLegal self.now.entries }
+        ensures in_range { length self.now.entries ≤ LONGEST_HISTORY }
     {
         self.ledger.entries()
     }

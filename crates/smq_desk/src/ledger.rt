@@ -83,6 +83,7 @@ impl Ledger {
         ensures runs { EntriesComeInOrder }
         ensures legal { IsLegal self.now.entries }
         ensures in_limit { length self.now.entries ≤ self.now.limit }
+        ensures in_range { length self.now.entries ≤ LONGEST_HISTORY }
     {
         self.history.iter()
     }
