@@ -130,5 +130,8 @@ fn a_copy_shows_what_its_tables_show(rt: HostRuntime) {
     assert!(rt; is_copied(rt.alloc(), tally.tables()), "nothing is settled");
     tally.settle();
     assert!(rt; is_copied(rt.alloc(), tally.tables()), "all is settled");
-    assert!(rt; is_copied(rt.alloc(), Tally::new(rt.alloc()).tables()), "nothing is there");
+    assert!(rt;
+        is_copied(rt.alloc(), Tally::new(rt.alloc()).tables()),
+        "nothing is there"
+    );
 }
