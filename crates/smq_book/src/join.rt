@@ -1,6 +1,2 @@
-//! Messages joined with the delivery receipts that decide them.
-pub mod accepted;
+//! What settings make of messages.
 pub mod circumstances;
-pub mod deciders;
-pub mod facts;
-pub mod listings;

@@ -45,6 +45,10 @@ pub use laws::whole::{
     lists_split_by_link, receipts_are_listed_by_their_matches,
     tables_list_receipts_by_their_matches,
 };
+pub use pairing::notes::push_notes;
+pub use pairing::pairs::{pairing_of, pdu_at, place_of};
+pub use pairing::source::Source;
+pub use pairing::submits::asks_receipt;
 pub use present::batch::{Batch, prepare};
 pub use present::edit::Edit;
 pub use present::forms::Forms;
@@ -57,6 +61,5 @@ pub use present::stream::{Direction, Piece};
 pub use smq_tally::{
     Band, CountKey, Fact, List, Listed, Outcome, Places, Rows, SubmitError, Tables, Value, View,
 };
-pub use whole::anew::tables_anew;
 pub use whole::book::{Book, book_of_edits};
 pub use whole::plain_book::PlainBook;

@@ -1,7 +1,5 @@
 //! What the octets that are present say: messages with their responses, receipts, and the places that want looking at.
 pub mod notes;
 pub mod pairs;
-pub mod receipts;
 pub mod source;
 pub mod submits;
-pub mod traffic;

@@ -1,5 +1,4 @@
-//! The book: edits of what is present, and the tables of it, kept current and counted anew.
-pub mod anew;
+//! The book: edits of what is present, and the tables of it, kept current.
 pub mod book;
 pub mod kept_book;
 pub mod plain_book;

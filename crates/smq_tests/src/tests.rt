@@ -1,3 +1,4 @@
+mod audits;
 mod edits;
 mod equal;
 mod load;

@@ -1,8 +1,4 @@
 -- Lemmas of keys, matching, outcomes and facts.
-pub mod KeyMaps
-pub mod Numbers
-pub mod Deciding
-pub mod Listings
 pub mod AgreeLists
 pub mod AgreeFacts
 pub mod AgreeListings

@@ -1,5 +1,4 @@
 -- Lemmas of pairs, of messages and receipts by place, and of notes.
-pub mod PushedMessages
 pub mod PlacesRise
 pub mod Requests
 pub mod Searched

@@ -13,7 +13,7 @@ use smq_pair::Pairing;
 use std::alloc::{AllocError, Global};
 
 /// The pairs among the PDUs of a session.
-pub(crate) fn pairing_of(
+pub fn pairing_of(
     alloc: Global,
     session: SessionId,
     client: &[KeptPdu],
@@ -47,7 +47,7 @@ fn add(pairing: &mut Pairing, session: SessionId, dir: Dir, pdu: &KeptPdu) -> Re
 }
 
 /// The place of a PDU.
-pub(crate) fn place_of(session: SessionId, dir: Dir, pdu: &KeptPdu) -> Place
+pub fn place_of(session: SessionId, dir: Dir, pdu: &KeptPdu) -> Place
     ensures { result ≡ traffic.place_of (from_session session) dir pdu.now }
 {
     Place {
@@ -58,7 +58,7 @@ pub(crate) fn place_of(session: SessionId, dir: Dir, pdu: &KeptPdu) -> Place
 }
 
 /// The PDU at an offset.
-pub(crate) fn pdu_at(pdus: &[KeptPdu], offset: u64) -> Option<&KeptPdu>
+pub fn pdu_at(pdus: &[KeptPdu], offset: u64) -> Option<&KeptPdu>
     requires { Rises 0 pdus.now }
     ensures { option_copied result ≡ pairs.pdu_at pdus.now offset }
 {

@@ -8,7 +8,7 @@ use smq_kit::{LinkId, SessionId};
 
 /// A session, its link, and the forms of that link's message ids.
 #[derive(Clone, Copy)]
-pub(crate) struct Source {
+pub struct Source {
     pub session: SessionId,
     pub link: LinkId,
     pub forms: Forms,
@@ -16,7 +16,7 @@ pub(crate) struct Source {
 
 impl Source {
     /// A session of a number with its link and that link's forms.
-    pub(crate) fn of_session(settings: &Settings, number: u64, session: &Session) -> Source
+    pub fn of_session(settings: &Settings, number: u64, session: &Session) -> Source
         ensures { result ≡ source_of settings.now (number, session.now) }
     {
         Source {

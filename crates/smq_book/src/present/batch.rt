@@ -1,6 +1,10 @@
 //! A piece of octets that is framed and decoded on a tail, before any book is looked at. It keeps the tail on which it
 //! was made, by which a book tells whether it still fits.
-ghost use Rattle.std.specs.Prelude.{◌≡◌, ◌<◌, ◌+◌, ◌^◌, ◌≤◌, length, IfOk, IfErr, MatchOption, Err};
+ghost use Rattle.std.specs.Prelude.{◌≡◌, ◌<◌, ◌+◌, ◌^◌, ◌≤◌, length, map, IfOk, IfErr, MatchOption, Err};
+ghost use Rattle.smq_frame.specs.Stream.{frames_after};
+ghost use Rattle.smq_frame.specs.Tail.{tail_after};
+ghost use Rattle.smq_pdu.specs.Placed.{placed_pdu};
+ghost use Rattle.smq_book.specs.present.Kept.{kept_pdu};
 ghost use Rattle.smq_book.specs.present.Batch.{batch_of, batch_pdus, next_tail, prepare_refusal};
 
 use crate::KeptPdu;
@@ -21,6 +25,31 @@ pub(crate) struct DecodedPiece {
     pub(crate) next: Tail,
 }
 
+impl DecodedPiece {
+    /// Octets of one moment, decoded on a tail.
+    pub(crate) fn of(
+        alloc: Global,
+        tail: Tail,
+        moment: Moment,
+        octets: Bytes,
+    ) -> Result<DecodedPiece, AllocError>
+        requires room { tail.offset + length octets ≤ 2 ^ 48 }
+        ensures given { IfOk result (λ piece. (piece.tail ≡ tail) × (piece.octets ≡ octets)) }
+        ensures pdus { IfOk result (λ piece.
+            piece.pdus.items ≡ map kept_pdu (map placed_pdu (frames_after tail moment octets))) }
+        ensures next { IfOk result (λ piece. piece.next ≡ tail_after tail octets) }
+    {
+        let (found, next) = frames(alloc, &tail, moment, &octets)?;
+        let pdus = pdus_of(alloc, found.as_slice())?;
+        Ok(DecodedPiece {
+            tail,
+            octets,
+            pdus,
+            next,
+        })
+    }
+}
+
 /// A piece of octets that is decoded on a tail, to be put after a direction that has this tail.
 #[derive(Drop)]
 pub struct Batch {
@@ -32,7 +61,7 @@ pub struct Batch {
 }
 
 impl Model for Batch {
-    ghost use Rattle.std.specs.Prelude.{◌≡◌, ◌<◌, length};
+    ghost use Rattle.std.specs.Prelude.{◌≡◌, ◌<◌, ◌≤◌, ◌+◌, ◌^◌, length};
     ghost use Rattle.std.specs.Arc.{arc_value};
     ghost use Rattle.smq_book.specs.present.Batch.{BatchValue, batch_of, batch_pdus, next_tail};
 
@@ -42,7 +71,8 @@ impl Model for Batch {
 
     ghost invariant = { λ b. let d = arc_value b.piece in
         let value = batch_of b.link b.session b.dir d.tail b.moment d.octets in
-        (d.pdus.items ≡ batch_pdus value) × (d.next ≡ next_tail value) × (0 < length d.octets) };
+        (d.pdus.items ≡ batch_pdus value) × (d.next ≡ next_tail value) × (0 < length d.octets)
+        × (d.tail.offset + length d.octets ≤ 2 ^ 48) };
 }
 
 impl PartialEq for Batch {
@@ -156,15 +186,7 @@ fn decoded(
     requires some { 0 < length octets }
     ensures { IfOk result (λ batch. batch ≡ batch_of link session dir tail.now moment octets) }
 {
-    let (found, next) = frames(alloc, tail, moment, &octets)?;
-    let pdus = pdus_of(alloc, found.as_slice())?;
-    let tail = tail.copy()?;
-    let piece = DecodedPiece {
-        tail,
-        octets,
-        pdus,
-        next,
-    };
+    let piece = DecodedPiece::of(alloc, tail.copy()?, moment, octets)?;
     let piece = Arc::new(alloc, piece)?;
     Ok(Batch {
         link,

@@ -1,5 +1,5 @@
 //! One captured session: its link, which it keeps, and the octets of both directions.
-ghost use Rattle.std.specs.Prelude.{◌≡◌, [], None, Some, MatchResult, MatchOption, Err};
+ghost use Rattle.std.specs.Prelude.{◌≡◌, [], None, Some, IfOk, MatchResult, MatchOption, Err};
 ghost use Rattle.smq_book.specs.present.Present.{direction};
 ghost use Rattle.smq_kit.specs.Replies.{IsReply, first_of};
 ghost use Rattle.smq_book.specs.present.Replies.{append_refusals};
@@ -7,7 +7,7 @@ ghost use Rattle.smq_book.specs.present.Steps.{session_after};
 
 use crate::{Batch, Direction};
 use smq_kit::{Dir, LinkId, Refusal};
-use std::alloc::Global;
+use std::alloc::{AllocError, Global};
 
 /// A captured session: its link, and the octets of the client (ESME) and of the centre (SMSC).
 #[derive(Drop)]
@@ -26,6 +26,17 @@ impl Session {
             Dir::FromClient => &self.client,
             Dir::FromCentre => &self.centre,
         }
+    }
+
+    /// An equal session, whose PDUs are decoded again from its octets.
+    pub fn decoded_again(&self, alloc: Global) -> Result<Session, AllocError>
+        ensures { IfOk result (λ session. session ≡ self.now) }
+    {
+        Ok(Session {
+            link: self.link,
+            client: self.client.decoded_again(alloc)?,
+            centre: self.centre.decoded_again(alloc)?,
+        })
     }
 
     /// What refuses a batch, if anything: want of memory aside.

@@ -2,7 +2,7 @@
 //! moment, which are always those of the octets.
 //!
 //! Who changes `grow` takes all memory before the first change: what comes after that can't fail.
-ghost use Rattle.std.specs.Prelude.{◌≡◌, ◌<◌, ◌++◌, [], length, map, IfNone, OnOk, OnErr};
+ghost use Rattle.std.specs.Prelude.{◌≡◌, ◌<◌, ◌≤◌, ◌+◌, ◌^◌, ◌++◌, [], length, map, IfNone, IfOk, OnOk, OnErr};
 ghost use Rattle.smq_frame.specs.Stream.{handed_in, values, frames_after};
 ghost use Rattle.smq_frame.specs.Tail.{tail_of, tail_after};
 ghost use Rattle.smq_pdu.specs.Placed.{placed_pdu};
@@ -91,11 +91,35 @@ impl Direction {
         self.pieces.as_slice()
     }
 
+    /// An equal direction, whose PDUs are decoded again from its octets.
+    pub(crate) fn decoded_again(&self, alloc: Global) -> Result<Direction, AllocError>
+        ensures { IfOk result (λ direction. direction ≡ self.now) }
+    {
+        let mut again = Direction::new(alloc);
+        for piece in &self.pieces {
+            again.decode(alloc, piece.moment, &piece.octets)?;
+        }
+        Ok(again)
+    }
+
+    /// Decodes octets of one moment, if there are any, and puts them after those that are there.
+    fn decode(&mut self, alloc: Global, moment: Moment, octets: &Bytes) -> Result<(), AllocError>
+        requires room { length self.old + length octets.now ≤ 2 ^ 48 }
+        ensures { OnOk result (self.new ≡ self.old ++ handed_in moment octets.now) }
+    {
+        if octets.is_empty() {
+            return Ok(());
+        }
+        let piece = DecodedPiece::of(alloc, self.tail.copy()?, moment, octets.clone()?)?;
+        self.grow(moment, piece)
+    }
+
     /// Puts a piece after the octets. An error changes nothing.
     fn grow(&mut self, moment: Moment, piece: DecodedPiece) -> Result<(), AllocError>
         requires pdus { let tail = tail_of (values self.old) in
             piece.pdus.items ≡ map kept_pdu (map placed_pdu (frames_after tail moment piece.octets)) }
         requires next { piece.next ≡ tail_after (tail_of (values self.old)) piece.octets }
+        requires room { length self.old + length piece.octets ≤ 2 ^ 48 }
         requires some { 0 < length piece.octets }
         ensures ok { OnOk result (self.new ≡ self.old ++ handed_in moment piece.octets) }
         ensures err { OnErr result (self.new ≡ self.old) }
@@ -119,6 +143,7 @@ impl Direction {
         requires pdus { let tail = tail_of (values self.old) in
             piece.now.pdus.items ≡ map kept_pdu (map placed_pdu (frames_after tail moment piece.now.octets)) }
         requires next { piece.now.next ≡ tail_after (tail_of (values self.old)) piece.now.octets }
+        requires room { length self.old + length piece.now.octets ≤ 2 ^ 48 }
         requires some { 0 < length piece.now.octets }
         ensures ok { OnOk result (self.new ≡ self.old ++ handed_in moment piece.now.octets) }
         ensures err { OnErr result (self.new ≡ self.old) }

@@ -1,16 +1,14 @@
-//! A book that stores nothing of what its PDUs say: each edit costs what it puts in, and tables are counted from nothing.
-ghost use Rattle.std.specs.Prelude.{◌≡◌, IfOk};
+//! A book that stores nothing of what its PDUs say: each edit costs what it puts in. Its tables are counted from nothing, by smq_scratch.
+ghost use Rattle.std.specs.Prelude.{◌≡◌};
 ghost use Rattle.smq_kit.specs.Replies.{IsReply};
 ghost use Rattle.smq_book.specs.present.Present.{empty, tail_in};
 ghost use Rattle.smq_book.specs.present.Replies.{reply};
 ghost use Rattle.smq_book.specs.present.Steps.{step};
-ghost use Rattle.smq_book.specs.whole.Scratch.{scratch};
 
-use crate::whole::anew::tables_anew;
-use crate::{Edit, Forms, Present, Tables};
+use crate::{Edit, Forms, Present};
 use smq_frame::Tail;
 use smq_kit::{Dir, Refusal, SessionId};
-use std::alloc::{AllocError, Global};
+use std::alloc::Global;
 use std::marker::Model;
 
 /// One book of captured sessions, for edits after which tables are wanted once: a script that is played whole. Of 100,000
@@ -100,12 +98,5 @@ impl PlainBook {
             } => self.present.correct_version(&prefix, from, route, network),
             Edit::Advance { clock } => self.present.set_clock(clock),
         }
-    }
-
-    /// The tables of what is present, counted from nothing.
-    pub fn tables(&self) -> Result<Tables, AllocError>
-        ensures { IfOk result (λ tables. tables.shown ≡ scratch self.now.present) }
-    {
-        tables_anew(self.alloc, &self.present)
     }
 }

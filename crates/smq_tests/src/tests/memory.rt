@@ -4,6 +4,7 @@ use crate::tests::scripts::Step::*;
 use crate::tests::scripts::*;
 use smq_book::*;
 use smq_kit::{Form, Refusal};
+use smq_scratch::tables_anew;
 use std::alloc::{AllocError, Global};
 use std::process::Abort;
 use std::test::Fail;

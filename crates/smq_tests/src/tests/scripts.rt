@@ -5,6 +5,7 @@ use bytes::Bytes;
 use smq_book::*;
 use smq_frame::Tail;
 use smq_kit::{Digits, Dir, Form, LinkId, Moment, Network, Refusal, RouteId, SessionId};
+use smq_scratch::tables_anew;
 use std::alloc::{AllocError, Global};
 use std::process::Abort;
 

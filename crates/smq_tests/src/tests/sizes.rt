@@ -22,7 +22,7 @@ fn id_of(seq: u32) -> [u8; 3] {
 
 /// Puts a delivery receipt of the message of a sequence number after some octets: a deliver_sm without addresses
 /// (SMPP 3.4, 4.6.1), of 52 octets.
-fn push_receipt(octets: &mut Vec<u8>, seq: u32) -> Result<(), AllocError> {
+pub(crate) fn push_receipt(octets: &mut Vec<u8>, seq: u32) -> Result<(), AllocError> {
     octets.extend_from_slice(b"\0\0\0\x34\0\0\0\x05\0\0\0\0\0\0\0\x01")?;
     octets.extend_from_slice(b"\0\0\0\0\0\0\0\x04\0\0\0\0\0\0\0\0\x13id:")?;
     octets.extend_from_slice(&id_of(seq))?;
@@ -30,7 +30,7 @@ fn push_receipt(octets: &mut Vec<u8>, seq: u32) -> Result<(), AllocError> {
 }
 
 /// Puts the response of a sequence number with its message id after some octets: a submit_sm_resp (4.4.2) of 20 octets.
-fn push_response(octets: &mut Vec<u8>, seq: u32) -> Result<(), AllocError> {
+pub(crate) fn push_response(octets: &mut Vec<u8>, seq: u32) -> Result<(), AllocError> {
     octets.extend_from_slice(b"\0\0\0\x14\x80\0\0\x04\0\0\0\0")?;
     octets.extend_from_slice(&seq.to_be_bytes())?;
     octets.extend_from_slice(&id_of(seq))?;

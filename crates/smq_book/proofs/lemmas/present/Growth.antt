@@ -1,5 +1,5 @@
 -- A direction that grows by a piece.
-use Rattle.std.proofs.Common.{◌≡◌, ℕ, ◌+◌, ◌-◌, ◌<◌, Bool, true, false, cond, Some, None, List, [], ◌∷◌, ◌++◌, length, refl, ap, sym, ◌∙◌, arith, zero-add}
+use Rattle.std.proofs.Common.{◌≡◌, ℕ, ◌+◌, ◌-◌, ◌<◌, ◌≤◌, ◌^◌, Bool, true, false, cond, Some, None, List, [], ◌∷◌, ◌++◌, length, refl, ap, sym, ◌∙◌, arith, zero-add}
 use Rattle.std.specs.Prelude.{map}
 use Rattle.std.proofs.lemmas.List.{append-nil, map-append, length-append, length-map}
 use Rattle.std.proofs.lemmas.List.Concat.{flat_map-append}
@@ -48,12 +48,15 @@ last_moment-grown s m octets some =
     ∙ ap (λ (n : ℕ). length s + n) (length-map octets _) in
     rw len (stamp_there s m octets (length s + length octets - 1) (omega arith) (omega arith))
 
+length-handed_in : (m : ℕ) (octets : List ℕ) → length (handed_in m octets) ≡ length octets
+length-handed_in m octets = length-map octets _
+
 -- what is kept of a direction after one more piece
 pub keeps-grown : (pieces : List Piece) (now : List Octet) (moment : ℕ) (octets : List ℕ) (tail next : TailValue) (kept added : List KeptPdu) (last : ℕ)
     → Keeps (stream_of pieces) tail kept last → stream_of pieces ≡ now → added ≡ kept_frames (frames_after (tail_of (values now)) moment octets)
-    → next ≡ tail_after (tail_of (values now)) octets → 0 < length octets
+    → next ≡ tail_after (tail_of (values now)) octets → length now + length octets ≤ 2 ^ 48 → 0 < length octets
     → Keeps (stream_of (pieces ++ record { moment = moment; octets = octets } ∷ [])) next (kept ++ added) moment
-keeps-grown pieces now moment octets tail next kept added last keeps seen pdus follows some =
+keeps-grown pieces now moment octets tail next kept added last keeps seen pdus follows room some =
     let old : List Octet = stream_of pieces in
     let frames : added ≡ kept_frames (frames_after (tail_of (values old)) moment octets) = pdus
     ∙ ap (λ (s : List Octet). kept_frames (frames_after (tail_of (values s)) moment octets)) (sym seen) in
@@ -61,6 +64,7 @@ keeps-grown pieces now moment octets tail next kept added last keeps seen pdus f
       tail_is = follows ∙ ap (λ (s : List Octet). tail_after (tail_of (values s)) octets) (sym seen) ∙ sym (tail-grown old moment octets);
       pdus_are = (λ i. keeps.pdus_are i ++ frames i) ∙ sym (pdus-grown old moment octets);
       last_is = sym (last_moment-grown old moment octets some);
+      in_limit = omega (arith, room, length-append old (handed_in moment octets), length-handed_in moment octets, ap length seen);
     })
 
 -- the same of a piece whose parts are copied
@@ -68,10 +72,10 @@ pub keeps-copied : (pieces : List Piece) (now : List Octet) (moment : ℕ) (octe
     (kept added their_pdus : List KeptPdu) (last : ℕ)
     → octets ≡ their_octets → next ≡ their_next → added ≡ their_pdus
     → Keeps (stream_of pieces) tail kept last → stream_of pieces ≡ now → their_pdus ≡ kept_frames (frames_after (tail_of (values now)) moment their_octets)
-    → their_next ≡ tail_after (tail_of (values now)) their_octets → 0 < length their_octets
+    → their_next ≡ tail_after (tail_of (values now)) their_octets → length now + length their_octets ≤ 2 ^ 48 → 0 < length their_octets
     → Keeps (stream_of (pieces ++ record { moment = moment; octets = octets } ∷ [])) next (kept ++ added) moment
-keeps-copied pieces now moment octets their_octets tail next their_next kept added their_pdus last o n a keeps seen pdus follows some =
-    rw (o, n, a) (keeps-grown pieces now moment their_octets tail their_next kept their_pdus last keeps seen pdus follows some)
+keeps-copied pieces now moment octets their_octets tail next their_next kept added their_pdus last o n a keeps seen pdus follows room some =
+    rw (o, n, a) (keeps-grown pieces now moment their_octets tail their_next kept their_pdus last keeps seen pdus follows room some)
 
 -- ---- the offset of a tail is the number of octets
 

@@ -1,8 +1,0 @@
-use Rattle.smq_book.proofs.lemmas.join.KeyMaps.{number-found, number-missed}
-use Rattle.smq_book.proofs.join.accepted.Accepted.number.Goals as goal
-
-pub returns-in-Some : goal.returns-in-Some
-returns-in-Some c = number-found c.args.self.now.numbers c.args.key.now c.in-Some.number.now c.in-Some.ensures.value
-
-pub returns-in-None : goal.returns-in-None
-returns-in-None c = number-missed c.args.self.now.numbers c.args.key.now c.in-None.ensures.value

@@ -1,0 +1,48 @@
+//! What settings make of a submitted message: the key of its id, its route and network, and whether it has lapsed.
+ghost use Rattle.std.specs.Prelude.{◌≡◌, Some};
+ghost use Rattle.std.specs.Option.{option_copied};
+ghost use Rattle.smq_book.specs.join.Circumstances.{lapsed_in, route_in};
+ghost use Rattle.smq_book.specs.present.Kept.{header_of};
+ghost use Rattle.smq_book.specs.within.Messages as messages;
+ghost use Rattle.smq_book.specs.within.Outcomes.{message_from};
+
+use crate::submits::SubmittedMessage;
+use smq_book::{KeptPdu, LAPSE_WINDOW, Settings};
+use smq_kit::{LinkKey, MessageId, Network, RouteId};
+use smq_pdu::agrees;
+
+impl<'a> SubmittedMessage<'a> {
+    /// The route and network of its number at its moment, where it has a number that has them.
+    pub(crate) fn route(&self, settings: &Settings) -> Option<(RouteId, Network)>
+        ensures { result ≡ route_in settings.now.versions (message_from self.now) }
+    {
+        let number = self.submit.number.as_ref()?;
+        settings.route_at(number, self.request.moment)
+    }
+
+    /// Whether the clock is at the end of its window, or past it.
+    pub(crate) fn has_lapsed(&self, settings: &Settings) -> bool
+        ensures { result ≡ lapsed_in settings.now (message_from self.now) }
+    {
+        self.request.moment.milliseconds() + LAPSE_WINDOW <= settings.clock().milliseconds()
+    }
+
+    /// The key of its id, where it is accepted.
+    pub(crate) fn key(&self) -> Option<LinkKey>
+        ensures { result ≡ self.now.key }
+    {
+        let id = accepted_id(self.request, self.response?)?;
+        Some(LinkKey::of(self.source.link, self.source.forms.response, id))
+    }
+}
+
+/// The id that a response gives, where it accepts the request.
+fn accepted_id<'a>(request: &KeptPdu, response: &'a KeptPdu) -> Option<&'a MessageId>
+    ensures { option_copied result
+        ≡ messages.accepted_id (header_of request.now) (Some response.now) }
+{
+    if !agrees(request.command, response.command) || response.status != 0 {
+        return None;
+    }
+    response.content.message_id()
+}

@@ -1,0 +1,18 @@
+//! The tables of what is present, counted from nothing: by one thread from what the sessions keep of their PDUs, or by many, which
+//! decode all octets again. Nothing here looks at what a book stores of its tables.
+#![tactic(auto)]
+
+mod accepted;
+mod anew;
+mod circumstances;
+mod deciders;
+mod facts;
+mod listings;
+mod parallel;
+mod receipts;
+mod sessions;
+mod submits;
+mod traffic;
+
+pub use anew::tables_anew;
+pub use parallel::audit;

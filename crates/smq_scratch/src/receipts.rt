@@ -1,0 +1,77 @@
+//! The delivery receipts of a session, each at its place.
+ghost use Rattle.std.specs.Prelude.{◌≡◌, pos, ◌-ℤ◌};
+ghost use Rattle.std.specs.Option.{option_to_list};
+ghost use Rattle.std.specs.Ordering.{is_gt};
+ghost use Rattle.smq_book.specs.present.Kept.{receipt_in};
+ghost use Rattle.smq_book.specs.join.Keyed as keyed;
+ghost use Rattle.smq_book.specs.within.Receipts.{receipt_cmp, receipt_by};
+
+use smq_book::{KeptPdu, Source};
+use smq_kit::{Dir, LinkId, LinkKey, Moment, Place};
+use smq_receipt::Receipt;
+use std::marker::Model;
+
+/// A delivery receipt that the centre sent.
+#[derive(Drop)]
+pub(crate) struct PlacedReceipt<'a> {
+    pub link: LinkId,
+    pub place: Place,
+    pub moment: Moment,
+    pub receipt: &'a Receipt,
+}
+
+impl<'a> Model for PlacedReceipt<'a> {
+    ghost use Rattle.smq_book.specs.within.Receipts.{PlacedReceipt};
+
+    ghost Value = { PlacedReceipt };
+
+    ghost view = { λ r. record { link = r.link; place = r.place; moment = r.moment; receipt = r.receipt.now } };
+}
+
+impl<'a> PlacedReceipt<'a> {
+    /// Whether its state is final and it isn't an intermediate notification.
+    pub(crate) fn can_decide(&self) -> bool
+        ensures { result ≡ keyed.can_decide self.now.receipt }
+    {
+        self.receipt.state.is_final() && !self.receipt.interim
+    }
+
+    /// The delay in ms from a moment to its own, which is negative where it stands before it.
+    pub(crate) fn delay_after(&self, moment: Moment) -> i64
+        ensures { result ≡ (pos self.now.moment -ℤ pos moment) }
+    {
+        self.moment.milliseconds() as i64 - moment.milliseconds() as i64
+    }
+
+    /// Whether it comes after another, by moment, then by place.
+    pub(crate) fn is_after(&self, other: &PlacedReceipt<'_>) -> bool
+        ensures { result ≡ is_gt (receipt_cmp self.now other.now) }
+    {
+        self.moment > other.moment || (self.moment == other.moment && self.place > other.place)
+    }
+}
+
+/// The receipt that a PDU of the centre is, with the key of its id.
+pub(crate) fn receipt_at<'a>(
+    source: Source,
+    pdu: &'a KeptPdu,
+) -> Option<(LinkKey, PlacedReceipt<'a>)>
+    ensures { option_to_list result ≡ receipt_by (receipt_in pdu.now.content) source pdu.now }
+{
+    match pdu.content.receipt() {
+        Some(receipt) => Some((
+            LinkKey::of(source.link, source.forms.receipt, &receipt.id),
+            PlacedReceipt {
+                link: source.link,
+                place: Place {
+                    session: source.session,
+                    dir: Dir::FromCentre,
+                    offset: pdu.offset,
+                },
+                moment: pdu.moment,
+                receipt,
+            },
+        )),
+        None => None,
+    }
+}
