@@ -12,3 +12,14 @@ pub mod ToldSeat
 pub mod AgreeAtEach
 pub mod BoardSteps
 pub mod TornCalls
+pub mod FilterLemmas
+pub mod Scopes
+pub mod Interleaved
+pub mod PieceLemmas
+pub mod Scheduled
+pub mod Loaded
+pub mod LoadedFrom
+pub mod KnownEnds
+pub mod JobsInTurn
+pub mod RowsInTurn
+pub mod WrittenOut

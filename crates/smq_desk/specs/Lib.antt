@@ -4,5 +4,12 @@ pub mod Ledger
 pub mod Seats
 pub mod Closing
 pub mod Publishing
+pub mod Jobs
 pub mod Known
+pub mod Pieces
+pub mod Schedules
+pub mod Interleaving
+pub mod Loads
+pub mod KnownLoads
+pub mod KnownJobs
 pub mod within

@@ -1,3 +1,4 @@
 pub mod Chunks
 pub mod Least
 pub mod Boards
+pub mod Rows

@@ -3,7 +3,7 @@ ghost use Rattle.std.specs.Prelude.{◌≡◌, ◌≤◌, length};
 ghost use Rattle.smq_desk.specs.History.{replay, EntriesComeInOrder, IsLegal};
 ghost use Rattle.smq_desk.specs.declared.ledger.TheConstants.{LONGEST_HISTORY};
 
-use crate::{Entries, Ledger};
+use crate::{Entries, History, Ledger};
 use smq_book::Book;
 use std::marker::Model;
 use std::sync::Wait;
@@ -48,6 +48,13 @@ impl Closed {
         ensures in_range { length self.now.entries ≤ LONGEST_HISTORY }
     {
         self.ledger.entries()
+    }
+
+    /// The history as it is stored, in which an entry is found by its number.
+    pub fn history(&self) -> &History
+        ensures { result.now.entries ≡ self.now.entries }
+    {
+        self.ledger.history()
     }
 
     /// The book that the entries made.

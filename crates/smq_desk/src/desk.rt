@@ -44,6 +44,11 @@ impl Desk {
         }
     }
 
+    /// The allocator of the desk and of what is made for it.
+    pub(crate) fn alloc(&self) -> Global {
+        self.alloc
+    }
+
     /// Gives a seat out, unless all `MOST_SEATS` were given out (`NoSeat`).
     pub fn seat<R: Wait>(&self, rt: &R) -> Result<Seat, Refusal>
         ensures number { IfOk result (λ seat. (1 ≤ seat.number) × (seat.number ≤ MOST_SEATS)) }

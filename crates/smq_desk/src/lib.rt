@@ -8,14 +8,18 @@ mod desk;
 mod edition;
 mod entries;
 mod entry;
+mod gate;
 mod history;
+mod job;
 mod laws;
 mod ledger;
+mod load;
 mod matching;
 mod published_history;
 mod seat;
 mod torn_calls;
 mod watcher;
+mod worker;
 
 pub use board::MOST_WATCHERS;
 pub use closed::{CloseFault, Closed};
@@ -23,12 +27,17 @@ pub use desk::Desk;
 pub use edition::{Edition, Note};
 pub use entries::Entries;
 pub use entry::{Call, Entry, Reply};
+pub use gate::{Gate, NoGate};
 pub use history::{CHUNK_LENGTH, History};
+pub use job::LinkJob;
 pub use laws::{
-    beginnings_are_passed_on, known_history, known_limits,
-    seats_agree_up_to_where_they_agree_at_each,
+    beginnings_are_passed_on, interleavings_agree, known_history, known_interleavings, known_job,
+    known_limits, known_loads, known_schedules, loads_are_as_of_one_thread,
+    schedules_end_as_one_thread, seats_agree_up_to_where_they_agree_at_each,
+    seats_load_as_one_thread,
 };
 pub use ledger::{LONGEST_HISTORY, Ledger, MOST_SEATS};
+pub use load::load_links;
 pub use matching::fault_of;
 pub use seat::Seat;
 pub use torn_calls::torn_call;

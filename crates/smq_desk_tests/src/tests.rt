@@ -11,6 +11,7 @@ mod closes;
 mod editions;
 mod histories;
 mod memory;
+mod workers;
 
 use bytes::Bytes;
 use smq_book::{Edit, Outcome, Tables, Value, View, prepare};
