@@ -1,6 +1,6 @@
--- The order that `clap` takes: words in which it finds no fault enter `report` or `query`, with what each asks for.
-use Rattle.std.proofs.Common.{◌≡◌, ◌∙◌, ◌||◌, ◌&&◌, ℕ, Bool, true, false, cond, List, [], ◌∷◌, ◌++◌, map, Option, Some, None, ◌⊎◌, inl, inr, refl, sym, ap, subst, codes}
-use Rattle.std.specs.Prelude.{fold, is_some, not, option_map, unwrap_or}
+-- The order that `clap` takes: words in which it finds no fault enter `report`, `query` or `check`, with what each asks for.
+use Rattle.std.proofs.Common.{◌≡◌, ◌∙◌, ◌||◌, ◌&&◌, ℕ, Bool, true, false, cond, List, [], ◌∷◌, ◌++◌, map, Option, Some, None, ◌⊎◌, inl, inr, refl, sym, ap, ap₂, subst, codes}
+use Rattle.std.specs.Prelude.{fold, is_some, not, option_map, string_bytes, unwrap_or}
 use Rattle.std.specs.Borrow.{Bor}
 use Rattle.std.specs.List.{list_any}
 use Rattle.std.specs.Option.{option_map_or}
@@ -27,7 +27,10 @@ use Rattle.smq_report.specs.declared.pick.Format.{Format}
 use Rattle.smq_report.specs.declared.pick.Format.TheVariants as format
 use Rattle.smq_report.specs.declared.pick.Pick.{Pick}
 use Rattle.smq_report.specs.declared.pick.Pick.TheVariants as pick
-use Rattle.smq_words.specs.Words.{AsksFor, TakesNames, format_name, format_names, format_rule, name_rule, pick_name, pick_names, program, query_app, report_app, settings_rule, subcommand_name}
+use Rattle.smq_words.specs.Words.{Asks, AsksFor, AsksToCheck, TakesNames, check_app, format_name, format_names, format_rule, name_rule, pick_name, pick_names, program, query_app, report_app, settings_rule, subcommand_name}
+use Rattle.smq_words.specs.declared.orders.Order.{Order}
+use Rattle.smq_words.specs.declared.orders.Order.TheVariants.{Check, Run}
+use Rattle.smq_words.specs.within.Orders.{IsCheckOf, IsRunOf}
 use Rattle.smq_words.proofs.LevelLemmas.{IfHas, Keeps, first_fit, given_fit, help_keeps, level_fit, neither, set_keeps, set_once, some_kind}
 
 -- ---- names
@@ -128,6 +131,9 @@ report_built formats = built_leaf (record (report_app formats).top { no_binary_n
 abbrev query_built : ValueParser → ValueParser → Shape
 query_built names formats = built_leaf (record (query_app names formats).top { no_binary_name = true })
 
+abbrev check_built : Shape
+check_built = built_leaf (record check_app.top { no_binary_name = true })
+
 of_known : (P Q : Text → Type 0) → ((v : Text) → P v → Q v) → (o : Option Text) → IfHas P o → IfHas Q o
 of_known P Q f None h = tt
 of_known P Q f (Some v) h = f v h
@@ -140,12 +146,16 @@ format_known : (o : Option Text) → IfHas IsFormatName o → (x : Format) × (u
 format_known None h = (format.Csv, refl)
 format_known (Some v) h = (h.0, sym h.1)
 
+-- words ask for a report
+abbrev AsksSome : Option (Text × List Row) → Type 0
+AsksSome entered = (query : Query) × (path : Option Text) × AsksFor entered query path
+
 -- what words ask for is known
 abbrev pub Asked : Option (Text × List Row) → Type 0
-Asked entered = (query : Query) × (path : Option Text) × AsksFor entered query path
+Asked entered = AsksSome entered ⊎ ((path : Option Text) × AsksToCheck entered path)
 
 report_asked : (formats : ValueParser) → TakesNames format_names formats → (words : List Text)
-    → level_fault (report_built formats) [] nothing_held words false [] ≡ [] → Asked (Some (rows_at (report_built formats) words))
+    → level_fault (report_built formats) [] nothing_held words false [] ≡ [] → AsksSome (Some (rows_at (report_built formats) words))
 report_asked formats takes words clean =
     let rows = rows_after (report_built formats).rules [] words in
     let fit = (level_fit (Known (λ v. ⊥)) (report_built formats)
@@ -176,7 +186,7 @@ is_required true h = refl
 is_required false h = absurd (some_kind h)
 
 query_asked : (names formats : ValueParser) → TakesNames pick_names names → TakesNames format_names formats → (words : List Text)
-    → level_fault (query_built names formats) [] nothing_held words false [] ≡ [] → Asked (Some (rows_at (query_built names formats) words))
+    → level_fault (query_built names formats) [] nothing_held words false [] ≡ [] → AsksSome (Some (rows_at (query_built names formats) words))
 query_asked names formats takes_names takes_formats words clean =
     let s = query_built names formats in
     let rows = rows_after s.rules [] words in
@@ -202,6 +212,11 @@ query_asked names formats takes_names takes_formats words clean =
         has_path = refl;
       },
     )
+
+check_asked : (words : List Text) → Asked (Some (rows_at check_built words))
+check_asked words =
+    let rows = rows_after check_built.rules [] words in
+    inr (first_of (codes "settings") rows, record { rows = rows; enters = refl; has_path = refl })
 
 -- ---- the subcommand: it is no `help`, which is refused with help
 
@@ -302,10 +317,11 @@ walk_stops names formats ns (word ∷ words) w clean stops =
 -- ---- the words of the program
 
 -- the subcommand that a word names, by a test of each
-abbrev named_by : ValueParser → ValueParser → Bool → Bool → Bool → Option Shape
-named_by names formats report query help =
+abbrev named_by : ValueParser → ValueParser → Bool → Bool → Bool → Bool → Option Shape
+named_by names formats report query check help =
     cond (report || false) (Some (report_built formats))
-    (cond (query || false) (Some (query_built names formats)) (cond (help || false) (Some (built_leaf help_shape)) None))
+    (cond (query || false) (Some (query_built names formats))
+    (cond (check || false) (Some check_built) (cond (help || false) (Some (built_leaf help_shape)) None)))
 
 -- what a subcommand makes of the words after its name
 abbrev entered_at : List Text → Option Shape → Option (Text × List Row)
@@ -318,15 +334,18 @@ missing : (names formats : ValueParser) (rows : List Row) → check_fault (top_b
 missing names formats rows clean = some_kind {k = kind.MissingSubcommand} {ks = []} clean
 
 by_name : (names formats : ValueParser) → TakesNames pick_names names → TakesNames format_names formats
-    → (words : List Text) (rows : List Row) (report query help : Bool)
-    → help ≡ false → below_fault words (named_by names formats report query help) ≡ []
-    → check_fault (top_built names formats) rows (is_some (entered_at words (named_by names formats report query help))) ≡ []
-    → Asked (entered_at words (named_by names formats report query help))
-by_name names formats takes_names takes_formats words rows true query help h clean checks = report_asked formats takes_formats words clean
-by_name names formats takes_names takes_formats words rows false true help h clean checks =
-    query_asked names formats takes_names takes_formats words clean
-by_name names formats takes_names takes_formats words rows false false true h clean checks = cc
-by_name names formats takes_names takes_formats words rows false false false h clean checks = absurd (missing names formats rows checks)
+    → (words : List Text) (rows : List Row) (report query check help : Bool)
+    → help ≡ false → below_fault words (named_by names formats report query check help) ≡ []
+    → check_fault (top_built names formats) rows (is_some (entered_at words (named_by names formats report query check help))) ≡ []
+    → Asked (entered_at words (named_by names formats report query check help))
+by_name names formats takes_names takes_formats words rows true query check help h clean checks =
+    inl (report_asked formats takes_formats words clean)
+by_name names formats takes_names takes_formats words rows false true check help h clean checks =
+    inl (query_asked names formats takes_names takes_formats words clean)
+by_name names formats takes_names takes_formats words rows false false true help h clean checks = check_asked words
+by_name names formats takes_names takes_formats words rows false false false true h clean checks = cc
+by_name names formats takes_names takes_formats words rows false false false false h clean checks =
+    absurd (missing names formats rows checks)
 
 by_stop : (names formats : ValueParser) → TakesNames pick_names names → TakesNames format_names formats
     → (rows : List Row) (o : Option (Text × List Text)) → NoHelp o
@@ -335,7 +354,7 @@ by_stop : (names formats : ValueParser) → TakesNames pick_names names → Take
 by_stop names formats takes_names takes_formats rows None no_help clean checks = absurd (missing names formats rows checks)
 by_stop names formats takes_names takes_formats rows (Some p) no_help clean checks =
     by_name names formats takes_names takes_formats p.1 rows (bytes_eq (codes "report") p.0) (bytes_eq (codes "query") p.0)
-    (bytes_eq (codes "help") p.0)
+    (bytes_eq (codes "check") p.0) (bytes_eq (codes "help") p.0)
     (not_named (bytes_eq (codes "help") p.0) refl) clean checks
   where
     not_named : (b : Bool) → bytes_eq (codes "help") p.0 ≡ b → b ≡ false
@@ -358,3 +377,53 @@ words_ask names formats takes_names takes_formats words clean =
     let checks = neither (defaults_fault (settled s.rules end.held).rows s.rules) _ settles.1 in
     by_stop names formats takes_names takes_formats (finished s.rules end.held) end.stopped
     (walk_stops names formats ns words (walk_from nothing_held) walks.0 tt) below.0 checks.1
+
+-- ---- orders
+
+abbrev rows_in : Option (Text × List Row) → List Row
+rows_in None = []
+rows_in (Some p) = p.1
+
+-- what the rows of a subcommand say, where they ask for a check
+pub check_rows : (name : Text) (rows : List Row) (path : Option Text) → AsksToCheck (Some (name, rows)) path
+    → first_of (codes "settings") rows ≡ path
+check_rows name rows path asks = ap (λ e. first_of (codes "settings") (rows_in e)) asks.enters ∙ asks.has_path
+
+-- and where they ask for a run
+pub run_rows : (name : Text) (rows : List Row) (query : Query) (path : Option Text) → AsksFor (Some (name, rows)) query path
+    → (first_of (codes "NAME") rows ≡ pick_name query.pick)
+    × ((unwrap_or (first_of (codes "format") rows) (codes "csv") ≡ format_name query.format) × (first_of (codes "settings") rows ≡ path))
+run_rows name rows query path asks = (
+  ap (λ e. first_of (codes "NAME") (rows_in e)) asks.enters ∙ asks.is_named,
+  (
+    ap (λ e. unwrap_or (first_of (codes "format") (rows_in e)) (codes "csv")) asks.enters ∙ asks.has_format,
+    ap (λ e. first_of (codes "settings") (rows_in e)) asks.enters ∙ asks.has_path,
+  ),
+)
+
+abbrev query_by : Pick → Format → Query
+query_by pick format = record { pick = pick; format = format }
+
+pub same_query : (a b : Query) → a.pick ≡ b.pick → a.format ≡ b.format → a ≡ b
+same_query a b pick format = ap₂ query_by pick format
+
+-- a run of what words ask for
+run_asks : (entered : Option (Text × List Row)) (query : Query) (path : Option Text) (order : Order) → AsksFor entered query path
+    → IsRunOf query path order → Asks entered order
+run_asks entered query path (Run asked settings) asks is =
+    subst (λ q. AsksFor entered q (option_map string_bytes settings)) (sym is.0) (subst (λ p. AsksFor entered query p) (sym is.1) asks)
+run_asks entered query path (Check settings) asks is = absurd is
+
+-- a check for which words ask
+check_asks : (entered : Option (Text × List Row)) (path : Option Text) (order : Order) → AsksToCheck entered path
+    → IsCheckOf path order → Asks entered order
+check_asks entered path (Run query settings) asks is = absurd is
+check_asks entered path (Check settings) asks is = subst (λ p. AsksToCheck entered p) (sym is) asks
+
+-- an order of what words ask for
+pub order_asks : (entered : Option (Text × List Row)) (order : Order) → Asked entered
+    → ((query : Query) → (path : Option Text) → AsksFor entered query path → IsRunOf query path order)
+    → ((path : Option Text) → AsksToCheck entered path → IsCheckOf path order) → Asks entered order
+order_asks entered order (inl asked) runs checks =
+    run_asks entered asked.0 asked.1 order asked.2 (runs asked.0 asked.1 asked.2)
+order_asks entered order (inr asked) runs checks = check_asks entered asked.0 order asked.1 (checks asked.0 asked.1)

@@ -1,11 +1,14 @@
 -- The words of orders, at known values.
-use Rattle.std.specs.Prelude.{◌≡◌, [], ◌∷◌, codes, Some, None}
+use Rattle.std.specs.Prelude.{◌≡◌, [], ◌∷◌, List, codes, Option, Some, None}
+use Rattle.clap.specs.Words.{Kinds, Text, fault_of, subcommand_of}
 use Rattle.clap.specs.declared.builder.value_parser.ValueParser.{ValueParser}
+use Rattle.clap.specs.declared.error.kind.ErrorKind.TheVariants.{UnknownArgument}
 use Rattle.smq_report.specs.declared.pick.Format.TheVariants as format
 use Rattle.smq_report.specs.declared.pick.Pick.TheVariants as pick
 use Rattle.smq_tally.specs.declared.list.List.TheVariants as list
 use Rattle.smq_tally.specs.declared.view.View.TheVariants as view
-use Rattle.smq_words.specs.Words.{AsksFor, format_names, format_rule, pick_names, settings_rule, subcommand_name, version_text}
+use Rattle.smq_words.specs.Words.{AsksFor, AsksToCheck, format_names, format_rule, pick_names, program, settings_rule}
+use Rattle.smq_words.specs.Words.{subcommand_name, version_text}
 
 -- the names that `query` takes, the subcommands, the formats and the options, the version, and what `report` alone asks for
 pub record KnowsWords : Type 0 where
@@ -22,3 +25,20 @@ pub record KnowsWords : Type 0 where
   pub settings_option : settings_rule.long ≡ Some (codes "settings")
   pub version : version_text ≡ codes "0.8.0"
   pub plain : AsksFor (Some (codes "report", [])) (record { pick = pick.All; format = format.Csv }) None
+
+-- the fault that `clap` finds in words, whatever names and formats its parsers take
+abbrev pub HasFault : List Text → Kinds → Type 0
+HasFault words fault = (names formats : ValueParser) → fault_of (program names formats) words ≡ fault
+
+-- the path of settings for which words ask that enter `check`
+abbrev pub Checks : List Text → Option Text → Type 0
+Checks words path = (names formats : ValueParser) → AsksToCheck (subcommand_of (program names formats) words) path
+
+-- words of `check`: it takes a path of settings, and neither a format nor a name
+pub record KnowsCheck : Type 0 where
+  pub alone : HasFault (codes "check" ∷ []) []
+  pub alone_checks : Checks (codes "check" ∷ []) None
+  pub settings : HasFault (codes "check" ∷ codes "--settings" ∷ codes "p" ∷ []) []
+  pub settings_checks : Checks (codes "check" ∷ codes "--settings" ∷ codes "p" ∷ []) (Some (codes "p"))
+  pub format : HasFault (codes "check" ∷ codes "--format" ∷ codes "csv" ∷ []) (UnknownArgument ∷ [])
+  pub name : HasFault (codes "check" ∷ codes "link" ∷ []) (UnknownArgument ∷ [])

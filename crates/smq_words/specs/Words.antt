@@ -19,7 +19,7 @@ use Rattle.smq_report.specs.declared.pick.Format.TheVariants as format
 use Rattle.smq_report.specs.declared.pick.Pick.{Pick}
 use Rattle.smq_report.specs.declared.pick.Pick.TheVariants as pick
 use Rattle.smq_words.specs.declared.orders.Order.{Order}
-use Rattle.smq_words.specs.declared.orders.Order.TheVariants.{Run}
+use Rattle.smq_words.specs.declared.orders.Order.TheVariants.{Check, Run}
 use Rattle.smq_words.specs.declared.orders.Query.{Query}
 
 -- ---- what can be asked for
@@ -94,7 +94,7 @@ settings_rule = record (new_rule (codes "settings")) {
 abbrev pub IsArgument : Rule → Arg → Type 0
 IsArgument rule argument = (rule_of argument ≡ rule) × (argument.global ≡ false)
 
--- a subcommand's options: `--format` and `--settings`
+-- the options of a subcommand that writes a report: `--format` and `--settings`
 abbrev pub add_options : ValueParser → App → App
 add_options formats app = with_rule (with_rule app (format_rule formats)) settings_rule
 
@@ -106,6 +106,10 @@ report_app formats = add_options formats (new_app (codes "report"))
 abbrev pub query_app : ValueParser → ValueParser → App
 query_app names formats =
     add_options formats (with_rule (new_app (codes "query")) (name_rule names))
+
+-- the subcommand `check`: its one option is `--settings`
+abbrev pub check_app : App
+check_app = with_rule (new_app (codes "check")) settings_rule
 
 -- the program's version
 abbrev pub version_text : Text
@@ -119,7 +123,8 @@ bare_program = on_top (λ shape. record shape { no_binary_name = true; subcomman
 -- the program's subcommands
 abbrev pub program : ValueParser → ValueParser → App
 program names formats =
-    with_subcommand (with_subcommand bare_program (report_app formats).top) (query_app names formats).top
+    with_subcommand (with_subcommand (with_subcommand bare_program (report_app formats).top) (query_app names formats).top)
+    check_app.top
 
 -- the program's words, where NAME is the name of a view or a list, and a format is `csv` or `table`
 pub record IsProgram (app : App) : Type 0 where
@@ -145,15 +150,17 @@ pub record AsksFor (entered : Option (Text × List Row)) (query : Query) (path :
   pub has_format : unwrap_or (first_of (codes "format") rows) (codes "csv") ≡ format_name query.format
   pub has_path : first_of (codes "settings") rows ≡ path
 
--- what of a report an order asks for
-abbrev pub query_of : Order → Query
-query_of (Run query settings) = query
+-- The matches of the subcommand `check`, which words enter, ask for a path.
+pub record AsksToCheck (entered : Option (Text × List Row)) (path : Option Text) : Type 0 where
+  pub rows : List Row
+  pub enters : entered ≡ Some (codes "check", rows)
+  pub has_path : first_of (codes "settings") rows ≡ path
 
--- the path of the settings that an order names, if it names any
-abbrev pub path_of : Order → Option Text
-path_of (Run query settings) = option_map string_bytes settings
+-- the matches of words ask for an order
+abbrev pub Asks : Option (Text × List Row) → Order → Type 0
+Asks entered (Run query settings) = AsksFor entered query (option_map string_bytes settings)
+Asks entered (Check settings) = AsksToCheck entered (option_map string_bytes settings)
 
 -- an order is the one for which `clap`'s matches of the words ask
 abbrev pub HasOrder : List Text → Order → Type 0
-HasOrder words order =
-    (app : App) × IsProgram app × AsksFor (subcommand_of app words) (query_of order) (path_of order)
+HasOrder words order = (app : App) × IsProgram app × Asks (subcommand_of app words) order

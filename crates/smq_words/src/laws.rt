@@ -1,7 +1,12 @@
 //! Known values of the definitions: each is the contract of a function with no body.
-ghost use Rattle.smq_words.specs.Known.{KnowsWords};
+ghost use Rattle.smq_words.specs.Known.{KnowsCheck, KnowsWords};
 
 /// The words of orders.
 pub fn known_words()
     ensures { KnowsWords }
+{}
+
+/// Which words `check` takes.
+pub fn known_words_of_check()
+    ensures { KnowsCheck }
 {}

@@ -16,4 +16,9 @@ pub enum Order {
         query: Query,
         settings: Option<String>,
     },
+    /// To play a script with the settings at a path, if one is named, on a desk that threads share, and to say whether the
+    /// desk's tables are those that are counted from nothing.
+    Check {
+        settings: Option<String>,
+    },
 }

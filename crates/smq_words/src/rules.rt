@@ -5,7 +5,7 @@ ghost use Rattle.clap.specs.Words.{app_of, new_app};
 ghost use Rattle.clap.specs.declared.builder.command.Command.TheViews.{out-Command as fields_of};
 ghost use Rattle.clap.specs.declared.builder.value_parser.ValueParser.TheVariants.{Names};
 ghost use Rattle.smq_tally.specs.Names.{list_name, view_name};
-ghost use Rattle.smq_words.specs.Words.{IsArgument, IsProgram, add_options, bare_program, format_rule, name_rule};
+ghost use Rattle.smq_words.specs.Words.{IsArgument, IsProgram, add_options, bare_program, check_app, format_rule, name_rule};
 ghost use Rattle.smq_words.specs.Words.{pick_names, query_app, report_app, settings_rule, texts_of, version_text};
 
 use clap::{Arg, ArgAction, Command};
@@ -17,7 +17,8 @@ static FORMATS: [&str; 2] = ["csv", "table"];
 const ABOUT: &str =
     "Tells what became of SMPP 3.4 messages, from captured sessions in a script on standard input";
 
-const USAGE: &str = "smq report [OPTIONS] < SCRIPT\n       smq query [OPTIONS] <NAME> < SCRIPT";
+const USAGE: &str =
+    "smq report [OPTIONS] < SCRIPT\n       smq query [OPTIONS] <NAME> < SCRIPT\n       smq check [OPTIONS] < SCRIPT";
 
 /// The version that `--version` prints.
 const VERSION: &str = "0.8.0";
@@ -33,10 +34,11 @@ const STATUS: &str = "
 
 Status:
   0  each row was taken
-  1  a row was refused, which is told on standard error and skipped
+  1  a row was refused and skipped, which report and query tell on standard error
+     (check: or the tables differ)
   2  bad words, settings or rows: nothing was written
   3  a read or a write failed
-  4  out of memory";
+  4  out of memory (check: or no thread, or desk refused)";
 
 /// How many columns a line of names may have.
 const COLUMNS: usize = 105;
@@ -111,9 +113,11 @@ pub fn command<'a>(
     let formats = FORMATS.as_slice();
     let report = report_command(alloc, formats, more)?;
     let query = query_command(alloc, names, formats, more)?;
+    let check = check_command(alloc, more)?;
     bare_command(alloc, more)?
         .subcommand(report)?
-        .subcommand(query)
+        .subcommand(query)?
+        .subcommand(check)
 }
 
 /// The program without its subcommands.
@@ -163,6 +167,16 @@ fn query_command<'a>(
     add_options(alloc, formats, query.arg(name_argument(alloc, names))?)
 }
 
+fn check_command<'a>(alloc: Global, more: &'a str) -> Result<Command<'a>, AllocError>
+    ensures rules { IfOk result (λ command. app_of command ≡ check_app) }
+    ensures local { IfOk result (λ command. (fields_of command).has_globals ≡ false) }
+{
+    let about =
+        "Plays a script by many threads on one desk, and says whether its tables equal a count from nothing";
+    let usage = "smq check [OPTIONS] < SCRIPT";
+    subcommand(alloc, "check", about, usage, more).arg(settings_option(alloc))
+}
+
 /// A subcommand with no argument yet, and its help.
 fn subcommand<'a>(
     alloc: Global,
@@ -180,7 +194,7 @@ fn subcommand<'a>(
         .after_help(more)
 }
 
-/// A subcommand with the options that each has.
+/// A subcommand with the options of those that write a report.
 fn add_options<'a>(
     alloc: Global,
     formats: &'a [&'a str],

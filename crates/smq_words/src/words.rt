@@ -5,8 +5,8 @@ ghost use Rattle.clap.specs.Words.{Text, first_of, found_of, rows_of, subcommand
 ghost use Rattle.smq_tally.specs.Lists.{lists};
 ghost use Rattle.smq_tally.specs.Names.{list_name, view_name};
 ghost use Rattle.smq_tally.specs.Rows.{views};
-ghost use Rattle.smq_words.specs.Words.{AsksFor, HasOrder, TakesWords, format_name, is_named, path_of, pick_name};
-ghost use Rattle.smq_words.specs.Words.{picks, query_of};
+ghost use Rattle.smq_words.specs.Words.{AsksFor, AsksToCheck, HasOrder, TakesWords, format_name, is_named, pick_name, picks};
+ghost use Rattle.smq_words.specs.within.Orders.{IsCheckOf, IsRunOf};
 
 use crate::orders::{Order, Query};
 use crate::rules::{command, more_help, pick_names};
@@ -33,12 +33,14 @@ pub fn order<S: AsStr>(alloc: Global, words: &[S]) -> Result<Order, Error>
 
 /// What the matches of the words ask for. `clap` takes no words without a subcommand.
 fn order_in(alloc: Global, matches: &ArgMatches) -> Result<Order, AllocError>
-    ensures { (query : Query) → (path : Option Text)
+    ensures run { (query : Query) → (path : Option Text)
         → AsksFor (subcommand_rows_of matches.now) query path
-        → IfOk result (λ order. (query_of order ≡ query) × (path_of order ≡ path)) }
+        → IfOk result (IsRunOf query path) }
+    ensures check { (path : Option Text) → AsksToCheck (subcommand_rows_of matches.now) path
+        → IfOk result (IsCheckOf path) }
 {
     match matches.subcommand() {
-        Some((_, entered)) => order_of(alloc, entered),
+        Some((name, entered)) => order_of(alloc, name, entered),
         None => Ok(Order::Run {
             query: Query {
                 pick: Pick::All,
@@ -49,24 +51,37 @@ fn order_in(alloc: Global, matches: &ArgMatches) -> Result<Order, AllocError>
     }
 }
 
-/// What the matches of a subcommand ask for.
-fn order_of(alloc: Global, entered: &ArgMatches) -> Result<Order, AllocError>
+/// What the matches of the subcommand of a name ask for.
+fn order_of(alloc: Global, name: &str, entered: &ArgMatches) -> Result<Order, AllocError>
+    ensures run { (query : Query) → (path : Option Text)
+        → AsksFor (Some (name.now, rows_of (found_of entered.now))) query path
+        → IfOk result (IsRunOf query path) }
+    ensures check { (path : Option Text)
+        → AsksToCheck (Some (name.now, rows_of (found_of entered.now))) path
+        → IfOk result (IsCheckOf path) }
+{
+    let settings = named_path(alloc, entered.get_str("settings"))?;
+    if name == "check" {
+        return Ok(Order::Check { settings });
+    }
+    let query = query_in(entered);
+    Ok(Order::Run { query, settings })
+}
+
+/// What the matches of a subcommand ask of a report.
+fn query_in(entered: &ArgMatches) -> Query
     ensures pick { (pick : Pick)
         → first_of (codes "NAME") (rows_of (found_of entered.now)) ≡ pick_name pick
-        → IfOk result (λ order. (query_of order).pick ≡ pick) }
+        → result.pick ≡ pick }
     ensures format { (format : Format)
         → unwrap_or (first_of (codes "format") (rows_of (found_of entered.now))) (codes "csv")
         ≡ format_name format
-        → IfOk result (λ order. (query_of order).format ≡ format) }
-    ensures path { IfOk result (λ order.
-        path_of order ≡ first_of (codes "settings") (rows_of (found_of entered.now))) }
+        → result.format ≡ format }
 {
-    let query = Query {
+    Query {
         pick: named_pick(entered.get_str("NAME")),
         format: named_format(entered.get_str("format")),
-    };
-    let settings = named_path(alloc, entered.get_str("settings"))?;
-    Ok(Order::Run { query, settings })
+    }
 }
 
 /// A path, where one is given.

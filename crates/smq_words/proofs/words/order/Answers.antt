@@ -6,8 +6,8 @@ use Rattle.clap.specs.Words.{App, Text, app_of, fault_of, is_simple, subcommand_
 use Rattle.clap.specs.declared.builder.value_parser.ValueParser.{ValueParser}
 use Rattle.clap.specs.declared.error.Error.{Error}
 use Rattle.clap.proofs.OnLiterals.{clap_on_literals}
-use Rattle.smq_words.specs.Words.{AsksFor, IsProgram, TakesWords, path_of, program, query_of}
-use Rattle.smq_words.proofs.OrderLemmas.{words_ask}
+use Rattle.smq_words.specs.Words.{Asks, IsProgram, TakesWords, program}
+use Rattle.smq_words.proofs.OrderLemmas.{Asked, order_asks, words_ask}
 use Rattle.smq_words.proofs.words.order.Goals as goal
 
 program_is_simple : (names formats : ValueParser) → is_simple_and_free (program names formats) ≡ true
@@ -48,12 +48,10 @@ returns-clause-order g c =
     let asked = words_ask is.names is.formats is.takes_names is.takes_formats words no_fault in
     let entered : subcommand_rows_of c.in_ok-matches.matches ≡ subcommand_of app words =
     (c.in_ok-matches.ensures.matches (ap is_simple is.is_program ∙ program_has_matches is.names is.formats)).1 in
-    let asks = subst (λ e. AsksFor e asked.0 asked.1) (sym (entered ∙ ap (λ (a : App). subcommand_of a words) is.is_program)) asked.2 in
-    let order = c.in_ok-order_in.field-0 in
-    let same = c.in_ok-order_in.ensures asked.0 asked.1 asks in (
+    let asks = subst Asked (sym (entered ∙ ap (λ (a : App). subcommand_of a words) is.is_program)) asked in
+    let order = c.in_ok-order_in.field-0 in (
       app,
       is,
-      subst (λ e. AsksFor e (query_of order) (path_of order)) entered
-          (subst (λ q. AsksFor (subcommand_rows_of c.in_ok-matches.matches) q (path_of order)) (sym same.0)
-          (subst (λ p. AsksFor (subcommand_rows_of c.in_ok-matches.matches) asked.0 p) (sym same.1) asks)),
+      subst (λ e. Asks e order) entered
+          (order_asks (subcommand_rows_of c.in_ok-matches.matches) order asks c.in_ok-order_in.ensures.run c.in_ok-order_in.ensures.check),
     )

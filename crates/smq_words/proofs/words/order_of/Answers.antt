@@ -1,18 +1,18 @@
-use Rattle.std.proofs.Common.{◌∙◌, ap, codes}
-use Rattle.std.specs.Prelude.{unwrap_or}
-use Rattle.clap.specs.Words.{found_of}
+use Rattle.std.proofs.Common.{◌∙◌, codes}
+use Rattle.clap.specs.Words.{found_of, rows_of}
 use Rattle.clap.proofs.WalkLemmas.{first_value-rows}
+use Rattle.smq_words.proofs.OrderLemmas.{check_rows, run_rows, same_query}
 use Rattle.smq_words.proofs.words.order_of.Goals as goal
 
-pub returns-clause-pick : goal.returns-clause-pick
-returns-clause-pick c pick h =
-    c.named_pick.ensures pick (c.get_str.ensures ∙ first_value-rows (found_of c.args.entered.now) (codes "NAME") ∙ h)
+pub returns-then-eq-clause-check : goal.returns-then-eq-clause-check
+returns-then-eq-clause-check c path asks =
+    c.in_ok-settings.ensures ∙ c.get_str.ensures ∙ first_value-rows (found_of c.args.entered.now) (codes "settings")
+    ∙ check_rows c.args.name.now (rows_of (found_of c.args.entered.now)) path asks
 
-pub returns-clause-format : goal.returns-clause-format
-returns-clause-format c format h =
-    let given = c.get_str-2.ensures ∙ first_value-rows (found_of c.args.entered.now) (codes "format") in
-    c.named_format.ensures format (ap (λ o. unwrap_or o (codes "csv")) given ∙ h)
-
-pub returns-clause-path : goal.returns-clause-path
-returns-clause-path c =
-    c.in_ok-settings.ensures ∙ c.get_str-3.ensures ∙ first_value-rows (found_of c.args.entered.now) (codes "settings")
+pub returns-clause-run : goal.returns-clause-run
+returns-clause-run c query path asks =
+    let (pick, more) = run_rows c.args.name.now (rows_of (found_of c.args.entered.now)) query path asks in (
+      same_query c.query_in-query.result query (c.query_in-query.ensures.pick query.pick pick)
+          (c.query_in-query.ensures.format query.format more.0),
+      c.in_ok-settings.ensures ∙ c.get_str.ensures ∙ first_value-rows (found_of c.args.entered.now) (codes "settings") ∙ more.1,
+    )
