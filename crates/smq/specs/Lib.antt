@@ -1,4 +1,2 @@
-pub mod Play
-pub mod IsRun
 pub mod Statuses
 pub mod Known

@@ -1,4 +1,4 @@
-//! Plays a script of captured pieces, and reports what became of the messages.
+//! Plays a script of captured pieces, and reports what became of the messages, or checks the tables of it.
 #![tactic(auto)]
 
 ghost use Rattle.std.specs.IoError.{error_kind};
@@ -7,19 +7,20 @@ ghost use Rattle.std.specs.declared.io.ErrorKind.TheVariants as io_kind;
 ghost use Rattle.clap.specs.Words.{kind_of};
 ghost use Rattle.smq.specs.Statuses.{bad_words_status, fault_status};
 
-mod engine;
 mod laws;
-mod play;
 mod status;
 
 use clap::error::ErrorKind;
-use engine::{RunFault, run};
+use smq_desk::NoGate;
+use smq_engine::{RunFault, check, run};
 use smq_load::MOST_SETTINGS;
 use smq_words::{Order, Query, order, own_words};
-use status::{BAD_INPUT, DONE, FAULT, fault_status, ran_status};
+use status::{BAD_INPUT, DONE, FAULT, check_status, fault_status, ran_status};
 use std::io::Read;
 use std::process::ExitCode;
 use std::rt::{Env, Files};
+use std::sync::Wait;
+use std::thread::Threads;
 use std::{fs, io};
 
 fn main(rt: HostRuntime) -> ExitCode {
@@ -27,7 +28,9 @@ fn main(rt: HostRuntime) -> ExitCode {
 }
 
 /// Does what the program's words ask for, and gives the status. A message that can't be told changes no status.
-fn obey<R: Env + Files + Input + Print + Eprint + AllocGlobal>(rt: &R) -> u8 {
+fn obey<R: Env + Files + Input + Print + Eprint + AllocGlobal + Threads + Wait + Sync>(
+    rt: &R,
+) -> u8 {
     let words = match own_words(rt) {
         Ok(words) => words,
         Err(error) => return no_words(rt, &error),
@@ -35,6 +38,10 @@ fn obey<R: Env + Files + Input + Print + Eprint + AllocGlobal>(rt: &R) -> u8 {
     match order(rt.alloc(), words.as_slice()) {
         Ok(Order::Run { query, settings }) => match read_settings_at(rt, settings) {
             Ok(settings) => tell(rt, query, settings.as_slice()),
+            Err(fault) => fail(rt, fault),
+        },
+        Ok(Order::Check { settings }) => match read_settings_at(rt, settings) {
+            Ok(settings) => tell_check(rt, settings.as_slice()),
             Err(fault) => fail(rt, fault),
         },
         Err(error) => refuse(rt, &error),
@@ -116,7 +123,18 @@ fn tell<R: Input + Print + Eprint + AllocGlobal>(rt: &R, query: Query, settings:
     }
 }
 
-/// Tells why the script wasn't run, or that help couldn't be written, and gives the status.
+/// Checks the script after the settings, and writes what was found.
+fn tell_check<R: Input + Print + Eprint + AllocGlobal + Threads + Wait + Sync>(
+    rt: &R,
+    settings: &[u8],
+) -> u8 {
+    match check(rt, &mut rt.reader(), settings, &mut io::writer(rt), &NoGate) {
+        Ok(checked) => check_status(checked),
+        Err(fault) => fail(rt, fault),
+    }
+}
+
+/// Tells why the script wasn't run or checked, or that help couldn't be written, and gives the status.
 fn fail<R: Eprint>(rt: &R, fault: RunFault) -> u8
     ensures { result ≡ fault_status fault }
 {

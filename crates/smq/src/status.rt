@@ -1,14 +1,14 @@
 //! The statuses with which the program ends.
 ghost use Rattle.std.specs.Prelude.{◌≡◌};
-ghost use Rattle.smq.specs.Statuses.{fault_status, run_status};
+ghost use Rattle.smq.specs.Statuses.{check_status, fault_status, run_status};
 
-use crate::engine::RunFault;
+use smq_engine::{Checked, RunFault};
 use smq_kit::Refusal;
 
 /// No row was refused, or help or the version was told.
 pub const DONE: u8 = 0;
 
-/// Some row was refused.
+/// Some row was refused, or the tables of a check differ.
 pub const REFUSED: u8 = 1;
 
 /// The words ask for nothing that the program does, or a row or the settings can't be read.
@@ -17,7 +17,7 @@ pub const BAD_INPUT: u8 = 2;
 /// A read or a write failed.
 pub const FAULT: u8 = 3;
 
-/// Memory ran out.
+/// Memory ran out, the system started no thread, or a desk took no edit.
 pub const NO_MEMORY: u8 = 4;
 
 /// The status of a script that was run, by its refused rows.
@@ -27,6 +27,17 @@ pub fn ran_status(refused: &[(u64, Refusal)]) -> u8
     if refused.is_empty() { DONE } else { REFUSED }
 }
 
+/// The status of a script that was checked, by what was found.
+pub fn check_status(checked: Checked) -> u8
+    ensures { result ≡ check_status checked }
+{
+    if checked.same && checked.refused == 0 {
+        DONE
+    } else {
+        REFUSED
+    }
+}
+
 /// The status of a fault, whether or not the fault can be told.
 pub fn fault_status(fault: RunFault) -> u8
     ensures { result ≡ fault_status fault }
@@ -34,6 +45,6 @@ pub fn fault_status(fault: RunFault) -> u8
     match fault {
         RunFault::BadRow { row: _ } | RunFault::BadSettings => BAD_INPUT,
         RunFault::Read | RunFault::Write => FAULT,
-        RunFault::Memory => NO_MEMORY,
+        RunFault::Memory | RunFault::NoThread | RunFault::Desk => NO_MEMORY,
     }
 }

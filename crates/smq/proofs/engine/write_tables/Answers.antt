@@ -1,4 +1,0 @@
-use Rattle.smq.proofs.engine.write_tables.Goals as goal
-
-pub returns-clause-ok : goal.returns-clause-ok
-returns-clause-ok g c = rw c.deref.ensures at c.write_query-written.ensures.ok

@@ -1,0 +1,5 @@
+pub mod PlayLemmas
+pub mod WorkerLemmas
+pub mod DeskLemmas
+pub mod KnownChecks
+pub mod SessionLemmas

@@ -1,0 +1,150 @@
+//! A check: settings and a script are played on one book, and made by workers at a desk, and what both leave is compared. Nothing
+//! is written before that.
+ghost use Rattle.std.specs.Prelude.{◌≡◌, ◌≢◌, ◌⊎◌, IfOk, IfErr, IfSome, IsErrAnd, None, OnOk, length, string_bytes};
+ghost use Rattle.std.specs.Io.KnownBytes.{Appends, Keeps};
+ghost use Rattle.smq_book.specs.whole.Scratch.{scratch};
+ghost use Rattle.smq_load.specs.Settings.{settings_of};
+ghost use Rattle.smq_engine.specs.IsCheck.{Compares, IsCheck, check_text, word_of};
+ghost use Rattle.smq_engine.specs.IsRun.{TellsRun, WasRead};
+ghost use Rattle.smq_engine.specs.Play.{present_of, refused_of};
+ghost use Rattle.smq_engine.specs.within.Jobs.{IsDeskFault};
+
+use crate::RunFault;
+use crate::desk_play::play_at_desk;
+use crate::engine::play_all;
+use crate::row_copies::copy_rows;
+use smq_book::Tables;
+use smq_desk::Gate;
+use smq_load::{Row, read_script, read_settings};
+use smq_scratch::audit;
+use std::alloc::{AllocError, Global};
+use std::io::{Read, Write};
+use std::sync::Wait;
+use std::thread::Threads;
+
+/// What a check found.
+#[derive(Clone, Copy, Debug, PartialEq, Eq)]
+pub struct Checked {
+    /// Whether the desk's tables are those that are counted from nothing of the one book.
+    pub same: bool,
+    /// How many entries the desk's history has.
+    pub entries: u64,
+    /// How many rows of the script were refused on the one book.
+    pub refused: u64,
+}
+
+/// Checks settings, then reads a script and checks all its rows, as `run` does. Both are then played in order on one book, whose
+/// tables are counted from nothing; and made at a desk, by eight workers in threads of their own: each run of pieces between two
+/// other rows is shared out by sessions, and the gate stands round each piece. Whether the desk's tables are the book's, how many
+/// entries its history has, and how many rows of the script the book refused is written in one line and answered.
+///
+/// Errors, beside those of `run`: `NoThread` where the system refuses a thread, `Desk` where the desk doesn't take an edit or
+/// doesn't close. Nothing was written then, nor where memory ran out.
+pub fn check<RT: AllocGlobal + Threads + Wait + Sync, R: Read, W: Write, G: Gate + Sync>(
+    rt: &RT,
+    reader: &mut R,
+    settings: &[u8],
+    writer: &mut W,
+    gate: &G,
+) -> Result<Checked, RunFault>
+    ensures ok { IfOk result (λ checked. IfSome (R.remaining reader.old)
+        (IsCheck settings.now checked (W.contents writer.old) (W.contents writer.new))) }
+    ensures bad_row { IfErr result (λ fault. IfSome (R.remaining reader.old) (TellsRun fault)) }
+    ensures bad_settings { IfErr result (λ fault.
+        fault ≡ RunFault.BadSettings → settings_of settings.now ≡ None) }
+    ensures no_settings { settings_of settings.now ≡ None → IsErrAnd result (λ fault.
+        (fault ≡ RunFault.BadSettings) ⊎ (fault ≡ RunFault.Memory)) }
+    ensures unread { IfErr result (λ fault. fault ≡ RunFault.BadSettings
+        → R.remaining reader.new ≡ R.remaining reader.old) }
+    ensures unwritten { IfErr result (λ fault. fault ≢ RunFault.Write
+        → Keeps (W.contents writer.old) (W.contents writer.new)) }
+    ensures write { IfErr result (λ fault. fault ≡ RunFault.Write
+        → IfSome (R.remaining reader.old) (WasRead settings.now)) }
+    ensures read_first { IfErr result (λ fault. IfSome (R.remaining reader.old) (λ text.
+        Keeps (W.contents writer.old) (W.contents writer.new) ⊎ WasRead settings.now text)) }
+{
+    let settings_rows = read_settings(rt.alloc(), settings)?;
+    let rows = read_script(rt.alloc(), reader)?;
+    let checked = compare(rt, settings_rows, rows, gate)?;
+    write_checked(rt.alloc(), checked, writer)?;
+    Ok(checked)
+}
+
+/// Plays the rows of settings and a script on one book, makes them at a desk, and compares what both leave.
+fn compare<RT: AllocGlobal + Threads + Wait + Sync, G: Gate + Sync>(
+    rt: &RT,
+    settings_rows: Vec<Row>,
+    rows: Vec<Row>,
+    gate: &G,
+) -> Result<Checked, RunFault>
+    ensures ok { IfOk result (Compares settings_rows.items rows.items) }
+    ensures err { IfErr result IsDeskFault }
+{
+    let (tables, refused) = play_alone(rt, &settings_rows, &rows)?;
+    let (same, entries) = play_at_desk(rt, settings_rows, rows, gate, &tables)?;
+    Ok(Checked {
+        same,
+        entries,
+        refused,
+    })
+}
+
+/// The tables of what settings and a script leave on one book, counted from nothing, and how many rows of the script are refused.
+fn play_alone<RT: AllocGlobal + Threads + Sync>(
+    rt: &RT,
+    settings_rows: &[Row],
+    rows: &[Row],
+) -> Result<(Tables, u64), AllocError>
+    ensures tables { IfOk result (λ played.
+        played.0.shown ≡ scratch (present_of settings_rows.now rows.now)) }
+    ensures refused { IfOk result (λ played.
+        played.1 ≡ length (refused_of settings_rows.now rows.now)) }
+{
+    let alloc = rt.alloc();
+    let settings_rows = copy_rows(alloc, settings_rows)?;
+    let rows = copy_rows(alloc, rows)?;
+    let (book, refused) = play_all(alloc, settings_rows, rows)?;
+    let tables = audit(rt, alloc, book.present())?;
+    Ok((tables, refused.len() as u64))
+}
+
+/// Writes the line that tells what a check found. Memory runs out only before anything is written.
+fn write_checked<W: Write>(alloc: Global, checked: Checked, writer: &mut W) -> Result<(), RunFault>
+    ensures ok { OnOk result
+        (Appends (W.contents writer.old) (W.contents writer.new) (check_text checked)) }
+    ensures fault { IfErr result (λ fault. (fault ≡ RunFault.Write)
+        ⊎ ((fault ≡ RunFault.Memory) × Keeps (W.contents writer.old) (W.contents writer.new))) }
+{
+    let Ok(line) = line_of(alloc, checked) else {
+        return Err(RunFault::Memory);
+    };
+    write_line(line.as_bytes(), writer)
+}
+
+/// The line that tells what a check found.
+fn line_of(alloc: Global, checked: Checked) -> Result<String, AllocError>
+    ensures { IfOk result (λ line. string_bytes line ≡ check_text checked) }
+{
+    let word = word_of(checked.same);
+    let entries = checked.entries;
+    let refused = checked.refused;
+    format!(in alloc; "{word} entries {entries} refused {refused}\n")
+}
+
+/// Whether tables are the same, in a word.
+fn word_of(same: bool) -> &'static str
+    ensures { result.now ≡ word_of same }
+{
+    if same { "same" } else { "different" }
+}
+
+/// Writes octets, and passes them on.
+fn write_line<W: Write>(line: &[u8], writer: &mut W) -> Result<(), RunFault>
+    ensures ok { OnOk result (Appends (W.contents writer.old) (W.contents writer.new) line.now) }
+    ensures fault { IfErr result (λ fault. fault ≡ RunFault.Write) }
+{
+    if writer.write_all(line).is_err() || writer.flush().is_err() {
+        return Err(RunFault::Write);
+    }
+    Ok(())
+}

@@ -1,0 +1,97 @@
+//! Rows are played on a book, one after the other. A row that is refused leaves what is present, and the rest goes on.
+ghost use Rattle.std.specs.Prelude.{◌≡◌, ◌≢◌, ◌++◌, IfOk, OnOk, Some};
+ghost use Rattle.smq_book.specs.present.Replies.{reply};
+ghost use Rattle.smq_book.specs.present.Steps.{step};
+ghost use Rattle.smq_engine.specs.Play.{after_row, after_rows, refusal_of, refused_rows, told};
+ghost use Rattle.smq_load.specs.declared.row.Row.TheVariants.{Piece};
+
+use smq_book::{Edit, PieceRow, PlainBook, prepare};
+use smq_kit::Refusal;
+use smq_load::Row;
+use std::alloc::{AllocError, Global};
+
+/// Plays rows in order on a book, and gives the refused ones, each with its number, from 1.
+pub fn play(
+    alloc: Global,
+    book: &mut PlainBook,
+    rows: Vec<Row>,
+) -> Result<Vec<(u64, Refusal)>, AllocError>
+    ensures present { OnOk result
+        (book.new.present ≡ after_rows book.old.present rows.items) }
+    ensures refused { IfOk result (λ refused.
+        refused.items ≡ refused_rows book.old.present rows.items) }
+{
+    let mut refused = Vec::new(alloc);
+    let mut number = 0u64;
+    for row in rows {
+        number += 1;
+        play_next(alloc, book, &mut refused, number, row)?;
+    }
+    Ok(refused)
+}
+
+/// Plays a row, and notes its refusal.
+fn play_next(
+    alloc: Global,
+    book: &mut PlainBook,
+    refused: &mut Vec<(u64, Refusal)>,
+    number: u64,
+    row: Row,
+) -> Result<(), AllocError>
+    ensures present { OnOk result (book.new.present ≡ after_row book.old.present row) }
+    ensures noted { OnOk result
+        (refused.new.items ≡ refused.old.items ++ told number (refusal_of book.old.present row)) }
+{
+    let refusal = match row {
+        Row::Piece(piece) => play_piece(alloc, book, piece)?,
+        Row::Plain(edit) => make(book, edit)?,
+    };
+    if let Some(refusal) = refusal {
+        refused.push((number, refusal))?;
+    }
+    Ok(())
+}
+
+/// Puts a piece's octets after their direction, unless it is refused.
+fn play_piece(
+    alloc: Global,
+    book: &mut PlainBook,
+    row: PieceRow,
+) -> Result<Option<Refusal>, AllocError>
+    ensures { IfOk result (λ refusal. (refusal ≡ refusal_of book.old.present (Piece row))
+        × (book.new.present ≡ after_row book.old.present (Piece row))) }
+{
+    let tail = book.tail(row.session, row.dir);
+    let PieceRow {
+        link,
+        session,
+        dir,
+        moment,
+        octets,
+    } = row;
+    match prepare(alloc, link, session, dir, tail, moment, octets) {
+        Ok(batch) => make(book, Edit::Append { batch }),
+        Err(refusal) => unless_memory(refusal),
+    }
+}
+
+/// Makes an edit, unless it is refused.
+fn make(book: &mut PlainBook, edit: Edit) -> Result<Option<Refusal>, AllocError>
+    ensures { IfOk result (λ refusal. (refusal ≡ reply book.old.present edit)
+        × (book.new.present ≡ step book.old.present edit)) }
+{
+    match book.apply(edit) {
+        Ok(()) => Ok(None),
+        Err(refusal) => unless_memory(refusal),
+    }
+}
+
+/// A refusal of a row. Want of memory is none: it ends the run.
+fn unless_memory(refusal: Refusal) -> Result<Option<Refusal>, AllocError>
+    ensures { IfOk result (λ told. (told ≡ Some refusal) × (refusal ≢ Refusal.Memory)) }
+{
+    match refusal {
+        Refusal::Memory => Err(AllocError),
+        other => Ok(Some(other)),
+    }
+}
