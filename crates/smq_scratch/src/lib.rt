@@ -4,6 +4,7 @@
 
 mod accepted;
 mod anew;
+mod at_once;
 mod circumstances;
 mod deciders;
 mod facts;

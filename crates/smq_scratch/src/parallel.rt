@@ -2,11 +2,13 @@
 ghost use Rattle.std.specs.Prelude.{◌≡◌, ◌++◌, IfOk, OnOk};
 ghost use Rattle.std.specs.List.{AllZip, flat_map};
 ghost use Rattle.smq_book.specs.whole.Scratch.{scratch};
+ghost use Rattle.smq_book.specs.within.Accepted.{HasDeciders, HasNumbers};
 ghost use Rattle.smq_book.specs.within.Lists.{notes_of, submits_of};
 ghost use Rattle.smq_scratch.specs.Said.{Knows, Notes, Says};
-ghost use Rattle.smq_scratch.specs.Sourced.{sourced_of};
+ghost use Rattle.smq_scratch.specs.Sourced.{receipts_in, sourced_of};
 
 use crate::accepted::Accepted;
+use crate::at_once::{Work, both};
 use crate::deciders::Deciders;
 use crate::facts::fact_of;
 use crate::listings::session_notes;
@@ -90,13 +92,75 @@ fn join_all<R: Threads + Sync>(
 {
     let Traffic { submits, mut notes } = traffic;
     let submits = submits.as_slice();
-    let accepted = Accepted::of_submits(alloc, submits)?;
-    let deciders = Deciders::of_sessions(alloc, sessions)?;
+    let (accepted, deciders) = key_all(rt, alloc, submits, sessions)?;
     let noted = note_all(rt, alloc, sessions, &accepted, &deciders)?;
     append_all(&mut notes, noted)?;
     let facts = know_all(rt, alloc, present.settings(), submits, &accepted, &deciders)?;
     let tables = Tables::of(alloc, facts.as_slice(), notes.as_slice())?;
     Ok(tables)
+}
+
+/// The work of counting how many of these messages are accepted with each key.
+#[derive(Drop)]
+struct Counting<'m, 'a> {
+    alloc: Global,
+    submits: &'m [SubmittedMessage<'a>],
+}
+
+impl<'m, 'a> Work for Counting<'m, 'a> {
+    type Made = Result<Accepted, AllocError>;
+
+    ghost use Rattle.std.specs.Prelude.{IfOk};
+    ghost use Rattle.smq_book.specs.within.Accepted.{HasNumbers};
+
+    ghost makes = { λ work made. IfOk made (λ accepted. HasNumbers accepted.numbers work.submits.now) };
+
+    fn make(self) -> Result<Accepted, AllocError> {
+        Accepted::of_submits(self.alloc, self.submits)
+    }
+}
+
+/// The work of finding what decides each key among the receipts of these sessions.
+#[derive(Drop)]
+struct Deciding<'s, 'a> {
+    alloc: Global,
+    sessions: &'s [SourcedSession<'a>],
+}
+
+impl<'s, 'a> Work for Deciding<'s, 'a> {
+    type Made = Result<Deciders<'a>, AllocError>;
+
+    ghost use Rattle.std.specs.Prelude.{IfOk};
+    ghost use Rattle.std.specs.List.{flat_map};
+    ghost use Rattle.smq_book.specs.within.Accepted.{HasDeciders};
+    ghost use Rattle.smq_scratch.specs.Sourced.{receipts_in};
+
+    ghost makes = { λ work made. IfOk made (λ deciders.
+        HasDeciders deciders.receipts (flat_map receipts_in work.sessions.now)) };
+
+    fn make(self) -> Result<Deciders<'a>, AllocError> {
+        Deciders::of_sessions(self.alloc, self.sessions)
+    }
+}
+
+/// How many of these messages are accepted with each key, and what decides each among the receipts of these sessions, both made at
+/// once.
+fn key_all<'a, R: Threads>(
+    rt: &R,
+    alloc: Global,
+    submits: &[SubmittedMessage<'_>],
+    sessions: &[SourcedSession<'a>],
+) -> Result<(Accepted, Deciders<'a>), AllocError>
+    ensures accepted { IfOk result (λ made. HasNumbers made.0.numbers submits.now) }
+    ensures deciders { IfOk result (λ made.
+        HasDeciders made.1.receipts (flat_map receipts_in sessions.now)) }
+{
+    let (accepted, deciders) = both(
+        rt,
+        Counting { alloc, submits },
+        Deciding { alloc, sessions },
+    );
+    Ok((accepted?, deciders?))
 }
 
 /// The receipts of each of these sessions that are in a list, many sessions at once.
