@@ -39,7 +39,7 @@ fn committed<R: Wait>(rt: &R, desk: &Desk, seat: &mut Seat, edit: Edit) -> RowEn
         Ok(_) => RowEnd::Done,
         Err(Refusal::Memory) => RowEnd::Stopped(Refusal::Memory),
         Err(Refusal::HistoryFull) => RowEnd::Stopped(Refusal::HistoryFull),
-        Err(_) => RowEnd::Refused,
+        Err(_by_the_book) => RowEnd::Refused,
     }
 }
 
@@ -50,7 +50,7 @@ fn do_row<R: Wait>(rt: &R, desk: &Desk, seat: &mut Seat, row: &PieceRow) -> RowE
     match prepared(rt, desk, row) {
         Ok(batch) => committed(rt, desk, seat, Edit::Append { batch }),
         Err(Refusal::Memory) => RowEnd::Stopped(Refusal::Memory),
-        Err(_) => RowEnd::Refused,
+        Err(_unprepared) => RowEnd::Refused,
     }
 }
 
