@@ -1,25 +1,27 @@
 //! A check: settings and a script are played on one book, and made by workers at a desk, and what both leave is compared. Nothing
 //! is written before that.
-ghost use Rattle.std.specs.Prelude.{◌≡◌, ◌≢◌, ◌⊎◌, IfOk, IfErr, IfSome, IsErrAnd, None, OnOk, length, string_bytes};
+ghost use Rattle.std.specs.Prelude.{◌≡◌, ◌≢◌, ◌⊎◌, IfOk, IfErr, IfSome, IsErrAnd, ◌++◌, List, None, OnOk, string_bytes};
 ghost use Rattle.std.specs.Io.KnownBytes.{Appends, Keeps};
-ghost use Rattle.smq_book.specs.whole.Scratch.{scratch};
 ghost use Rattle.smq_load.specs.Settings.{settings_of};
+ghost use Rattle.smq_load.specs.declared.row.Row.{Row as RowOf};
 ghost use Rattle.smq_engine.specs.IsCheck.{Compares, IsCheck, check_text, word_of};
 ghost use Rattle.smq_engine.specs.IsRun.{TellsRun, WasRead};
-ghost use Rattle.smq_engine.specs.Play.{present_of, refused_of};
-ghost use Rattle.smq_engine.specs.within.Jobs.{IsDeskFault};
+ghost use Rattle.smq_engine.specs.Workers.{HaveMadeRows};
+ghost use Rattle.smq_engine.specs.within.Jobs.{IsDeskFault, IsPlay};
 
 use crate::RunFault;
-use crate::desk_play::play_at_desk;
+use crate::desk_play::{close_desk, end_desk, make_at_desk};
 use crate::engine::play_all;
 use crate::row_copies::copy_rows;
 use smq_book::Tables;
-use smq_desk::Gate;
+use smq_desk::{Desk, Gate, Seat};
 use smq_load::{Row, read_script, read_settings};
 use smq_scratch::audit;
 use std::alloc::{AllocError, Global};
 use std::io::{Read, Write};
+use std::mem::forget;
 use std::sync::Wait;
+use std::thread;
 use std::thread::Threads;
 
 /// What a check found.
@@ -34,12 +36,14 @@ pub struct Checked {
 }
 
 /// Checks settings, then reads a script and checks all its rows, as `run` does. Both are then played in order on one book, whose
-/// tables are counted from nothing; and made at a desk, by eight workers in threads of their own: each run of pieces between two
-/// other rows is shared out by sessions, and the gate stands round each piece. Whether the desk's tables are the book's, how many
-/// entries its history has, and how many rows of the script the book refused is written in one line and answered.
+/// tables are counted from nothing; and made at a desk beside it, by eight workers in threads of their own: each run of pieces between
+/// two other rows is shared out by sessions, and the gate stands round each piece. Whether the desk's tables are the book's, how many
+/// entries its history has, and how many rows of the script the book refused is written in one line and answered. After a check that is
+/// done the process ends, which gives the memory of the book back at once: it isn't taken apart piece by piece.
 ///
-/// Errors, beside those of `run`: `NoThread` where the system refuses a thread, `Desk` where the desk doesn't take an edit or
-/// doesn't close. Nothing was written then, nor where memory ran out.
+/// Errors, beside those of `run`: `NoThread` where the system refuses a worker its thread, `Desk` where the desk doesn't take an edit or
+/// doesn't close. Nothing was written then, nor where memory ran out. Where the system refuses the thread that plays beside the desk, the
+/// play comes after it.
 pub fn check<RT: AllocGlobal + Threads + Wait + Sync, R: Read, W: Write, G: Gate + Sync>(
     rt: &RT,
     reader: &mut R,
@@ -70,7 +74,7 @@ pub fn check<RT: AllocGlobal + Threads + Wait + Sync, R: Read, W: Write, G: Gate
     Ok(checked)
 }
 
-/// Plays the rows of settings and a script on one book, makes them at a desk, and compares what both leave.
+/// Plays the rows of settings and a script on one book, makes them at a desk, both at once, and compares what they leave.
 fn compare<RT: AllocGlobal + Threads + Wait + Sync, G: Gate + Sync>(
     rt: &RT,
     settings_rows: Vec<Row>,
@@ -80,32 +84,65 @@ fn compare<RT: AllocGlobal + Threads + Wait + Sync, G: Gate + Sync>(
     ensures ok { IfOk result (Compares settings_rows.items rows.items) }
     ensures err { IfErr result IsDeskFault }
 {
-    let (tables, refused) = play_alone(rt, &settings_rows, &rows)?;
-    let (same, entries) = play_at_desk(rt, settings_rows, rows, gate, &tables)?;
-    Ok(Checked {
-        same,
-        entries,
-        refused,
-    })
+    let same_settings = copy_rows(rt.alloc(), &settings_rows)?;
+    let same_rows = copy_rows(rt.alloc(), &rows)?;
+    let (played, made) = thread::join(
+        rt,
+        move || -> Result<(Tables, u64), AllocError>
+            ensures { IfOk result (IsPlay same_settings.items same_rows.items) }
+        { play_alone(rt, same_settings, same_rows) },
+        move || -> Result<(Box<Desk>, Vec<Seat>), RunFault>
+            ensures ok { IfOk result (λ made. HaveMadeRows (settings_rows.items ++ rows.items) made.1.items) }
+            ensures err { IfErr result IsDeskFault }
+        { make_at_desk(rt, settings_rows, rows, gate) },
+    );
+    match made {
+        Ok((desk, seats)) => close_and_compare(rt, desk, seats, played),
+        Err(fault) => Err(fault),
+    }
 }
 
 /// The tables of what settings and a script leave on one book, counted from nothing, and how many rows of the script are refused.
+/// The book is left to the system.
 fn play_alone<RT: AllocGlobal + Threads + Sync>(
     rt: &RT,
-    settings_rows: &[Row],
-    rows: &[Row],
+    settings_rows: Vec<Row>,
+    rows: Vec<Row>,
 ) -> Result<(Tables, u64), AllocError>
-    ensures tables { IfOk result (λ played.
-        played.0.shown ≡ scratch (present_of settings_rows.now rows.now)) }
-    ensures refused { IfOk result (λ played.
-        played.1 ≡ length (refused_of settings_rows.now rows.now)) }
+    ensures { IfOk result (IsPlay settings_rows.items rows.items) }
 {
-    let alloc = rt.alloc();
-    let settings_rows = copy_rows(alloc, settings_rows)?;
-    let rows = copy_rows(alloc, rows)?;
-    let (book, refused) = play_all(alloc, settings_rows, rows)?;
-    let tables = audit(rt, alloc, book.present())?;
+    let (book, refused) = play_all(rt.alloc(), settings_rows, rows)?;
+    let tables = audit(rt, rt.alloc(), book.present())?;
+    forget(book);
     Ok((tables, refused.len() as u64))
+}
+
+/// Closes a desk for its seats, and compares its tables with those of a play.
+fn close_and_compare<RT: Wait>(
+    rt: &RT,
+    desk: Box<Desk>,
+    seats: Vec<Seat>,
+    played: Result<(Tables, u64), AllocError>,
+) -> Result<Checked, RunFault>
+    ensures ok { (settings_rows rows : List RowOf) → HaveMadeRows (settings_rows ++ rows) seats.items
+        → IfOk played (IsPlay settings_rows rows) → IfOk result (Compares settings_rows rows) }
+    ensures err { IfErr result IsDeskFault }
+{
+    match played {
+        Ok((tables, refused)) => {
+            let (same, entries) = close_desk(rt, desk, seats, &tables)?;
+            forget(tables);
+            Ok(Checked {
+                same,
+                entries,
+                refused,
+            })
+        }
+        Err(_) => {
+            end_desk(rt, desk);
+            Err(RunFault::Memory)
+        }
+    }
 }
 
 /// Writes the line that tells what a check found. Memory runs out only before anything is written.

@@ -8,7 +8,7 @@ ghost use Rattle.smq_desk.specs.History.{replay, IsLegal};
 ghost use Rattle.smq_load.specs.declared.row.Row.{Row as RowOf};
 ghost use Rattle.smq_load.specs.declared.row.Row.TheVariants.{Plain};
 ghost use Rattle.smq_engine.specs.Workers.{HaveMadeRows, edits_of_calls, plain_edit, plain_edits};
-ghost use Rattle.smq_engine.specs.within.Jobs.{AreJobsOf, AreReady, IsClosedFor, IsDeskFault, IsPlayed};
+ghost use Rattle.smq_engine.specs.within.Jobs.{AreJobsOf, AreReady, IsClosedFor, IsDeskFault};
 
 use crate::RunFault;
 use crate::workers::{fault_of, hand_over, make_pieces, new_jobs, new_seat};
@@ -20,22 +20,20 @@ use std::alloc::{AllocError, Global};
 use std::sync::Wait;
 use std::thread::Threads;
 
-/// Makes the rows of settings and a script at a new desk, and closes it. It tells whether the desk's tables are these, and how many
-/// entries it has.
-pub(crate) fn play_at_desk<RT: AllocGlobal + Threads + Wait + Sync, G: Gate + Sync>(
+/// Makes the rows of settings and a script at a new desk, and gives it with its seats.
+pub(crate) fn make_at_desk<RT: AllocGlobal + Threads + Wait + Sync, G: Gate + Sync>(
     rt: &RT,
     settings_rows: Vec<Row>,
     rows: Vec<Row>,
     gate: &G,
-    tables: &Tables,
-) -> Result<(bool, u64), RunFault>
-    ensures ok { IfOk result (λ found.
-        IsPlayed (settings_rows.items ++ rows.items) tables.now.shown found.0 found.1) }
+) -> Result<(Box<Desk>, Vec<Seat>), RunFault>
+    ensures ok { IfOk result (λ made.
+        HaveMadeRows (settings_rows.items ++ rows.items) made.1.items) }
     ensures err { IfErr result IsDeskFault }
 {
     let desk = new_desk(rt)?;
     match make_rows(rt, &desk, settings_rows, rows, gate) {
-        Ok(seats) => close_desk(rt, desk, seats, tables),
+        Ok(seats) => Ok((desk, seats)),
         Err(fault) => {
             end_desk(rt, desk);
             Err(fault)
@@ -66,12 +64,13 @@ fn boxed_desk<RT: AllocGlobal + Wait>(rt: &RT, desk: Desk) -> Result<Box<Desk>, 
     }
 }
 
-fn end_desk<RT: Wait>(rt: &RT, desk: Box<Desk>) {
+/// Ends a desk that is of no more use.
+pub(crate) fn end_desk<RT: Wait>(rt: &RT, desk: Box<Desk>) {
     Box::into_inner(desk).end(rt);
 }
 
-/// Closes a desk for all its seats.
-fn close_desk<RT: Wait>(
+/// Closes a desk for all its seats. It tells whether the desk's tables are these, and how many entries it has.
+pub(crate) fn close_desk<RT: Wait>(
     rt: &RT,
     desk: Box<Desk>,
     seats: Vec<Seat>,

@@ -2,7 +2,7 @@
 use Rattle.std.specs.Prelude.{◌≡◌, ◌↔◌, ⊤, ℕ, Bool, List, [], ◌++◌, All, IsTrue, None, Some, length, slice_get}
 use Rattle.smq_kit.specs.declared.refusal.Refusal.{Refusal}
 use Rattle.smq_kit.specs.declared.refusal.Refusal.TheVariants as refusal
-use Rattle.smq_tally.specs.Tables.{TablesValue}
+use Rattle.smq_tally.specs.Tables.{TablesKept, TablesValue}
 use Rattle.smq_book.specs.declared.present.piece_row.PieceRow.{PieceRow}
 use Rattle.smq_book.specs.whole.Scratch.{scratch}
 use Rattle.smq_desk.specs.declared.entry.Entry.{Entry}
@@ -13,7 +13,8 @@ use Rattle.smq_desk.specs.Seats.{SeatValue, AreCallsOf}
 use Rattle.smq_load.specs.declared.row.Row.{Row}
 use Rattle.smq_engine.specs.declared.run_fault.RunFault.{RunFault}
 use Rattle.smq_engine.specs.declared.run_fault.RunFault.TheVariants.{BadRow, BadSettings, Read, Write, Memory, NoThread, Desk}
-use Rattle.smq_engine.specs.Workers.{AreMadeOf, HasMade, pieces_of_worker, worker_count}
+use Rattle.smq_engine.specs.Play.{present_of, refused_of}
+use Rattle.smq_engine.specs.Workers.{HasMade, pieces_of_worker, worker_count}
 
 -- a fault of making rows that were read: of memory, of a thread or of the desk
 abbrev pub IsDeskFault : RunFault → Type 0
@@ -73,10 +74,7 @@ pub record IsClosedFor (seats : List SeatValue) (shown : TablesValue) (same : Bo
   pub counted : count ≡ length entries
   pub same_tables : IsTrue same ↔ (scratch (replay entries) ≡ shown)
 
--- The same of rows: the history is made of them.
-pub record IsPlayed (rows : List Row) (shown : TablesValue) (same : Bool) (count : ℕ) : Type 0 where
-  pub entries : List Entry
-  pub legal : IsLegal entries
-  pub made : AreMadeOf rows entries
-  pub counted : count ≡ length entries
-  pub same_tables : IsTrue same ↔ (scratch (replay entries) ≡ shown)
+-- A play of the rows of settings and of a script left what these tables are counted of, and refused so many rows of the script.
+pub record IsPlay (settings_rows rows : List Row) (played : TablesKept × ℕ) : Type 0 where
+  pub tables : played.0.shown ≡ scratch (present_of settings_rows rows)
+  pub refused : played.1 ≡ length (refused_of settings_rows rows)
