@@ -1,9 +1,9 @@
 //! What one worker does: the rows of its job, one after another.
-ghost use Rattle.std.specs.Prelude.{◌≡◌, ◌⊎◌, None, IfOk, IfErr};
+ghost use Rattle.std.specs.Prelude.{◌≡◌, ◌⊎◌, None, IfSome, IfOk, IfErr};
 ghost use Rattle.smq_kit.specs.declared.refusal.Refusal.TheVariants.{Memory};
 ghost use Rattle.smq_book.specs.declared.present.edit.Edit.TheVariants.{Append};
 ghost use Rattle.smq_desk.specs.Jobs.{IsFresh, Puts, IsFate, Worked};
-ghost use Rattle.smq_desk.specs.within.Rows.{Commits, Ends};
+ghost use Rattle.smq_desk.specs.within.Rows.{Commits, Ends, StopsRow};
 
 use crate::job::RowEnd;
 use crate::{Desk, Gate, LinkJob, Seat};
@@ -57,7 +57,8 @@ fn do_row<R: Wait>(rt: &R, desk: &Desk, seat: &mut Seat, row: &PieceRow) -> RowE
 /// Does the rows of a job of which nothing is done, until one stops it.
 pub(crate) fn work<R: Wait, G: Gate>(rt: &R, desk: &Desk, gate: &G, worker: u32, job: &mut LinkJob)
     requires { IsFresh job.old }
-    ensures { Worked job.old job.new }
+    ensures worked { Worked job.old job.new }
+    ensures reason { IfSome job.new.stop StopsRow }
 {
     let LinkJob {
         seat,
