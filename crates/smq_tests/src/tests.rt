@@ -5,6 +5,7 @@ mod load;
 mod memory;
 mod random;
 mod readers;
+mod refused;
 mod reports;
 mod scripts;
 mod shown;

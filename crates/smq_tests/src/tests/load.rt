@@ -1,5 +1,5 @@
 //! Scripts and settings as rows.
 mod readers;
-mod records;
+pub(crate) mod records;
 mod scripts;
-mod settings;
+pub(crate) mod settings;

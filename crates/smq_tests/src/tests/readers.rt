@@ -8,7 +8,7 @@ use smq_kit::{Place, SessionId};
 
 /// Messages that failed, are mismatched, lapsed, open and ambiguous; receipts that decide, are extra, stray, ambiguous and
 /// unreadable; a PDU that can't be decoded, a bad length and a response without a request.
-const EVERYTHING: &[Step] = &[
+pub(crate) const EVERYTHING: &[Step] = &[
     Route(b"44", 0, 1, b"23410"),
     SUBMIT,
     RESPONSE,

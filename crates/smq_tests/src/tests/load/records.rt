@@ -5,7 +5,7 @@ use smq_load::{Row, read_script};
 use std::process::Abort;
 
 /// A record of each kind.
-const EACH: &[u8] = b"piece,007,18446744073709551615,centre,4102444800000,00fF
+pub(crate) const EACH: &[u8] = b"piece,007,18446744073709551615,centre,4102444800000,00fF
 withdraw,10
 form,1,hexadecimal,decimal
 route,44,1970-01-03T00:00:01Z,7,23410
@@ -14,7 +14,7 @@ correct,447700,1970-01-01T00:00:00Z,8,310026
 clock,2000-02-29T23:59:59Z";
 
 /// Whether a row is the one at this place of `EACH`.
-fn is_read(place: usize, row: &Row) -> bool {
+pub(crate) fn is_read(place: usize, row: &Row) -> bool {
     match row {
         Row::Piece(piece) => {
             place == 0

@@ -90,7 +90,7 @@ fn settings_have_rows_or_are_bad(rt: HostRuntime) {
 }
 
 /// Two links, and the clock before them.
-const EXAMPLE: &[u8] = b"clock = 172801000
+pub(crate) const EXAMPLE: &[u8] = b"clock = 172801000
 
 [[link]]
 id = 7
@@ -103,7 +103,7 @@ receipt = \"decimal\"
 ";
 
 /// Whether a row is the one at this place of `EXAMPLE`.
-fn is_set(place: usize, row: &Row) -> bool {
+pub(crate) fn is_set(place: usize, row: &Row) -> bool {
     match row {
         Row::Plain(
             Edit::SetForm {

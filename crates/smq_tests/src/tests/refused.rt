@@ -1,0 +1,337 @@
+//! Calls for which memory runs out: each says so, and the same call is answered then as ever.
+use crate::tests::load::records::{EACH, is_read};
+use crate::tests::load::settings::{EXAMPLE, is_set};
+use crate::tests::readers::EVERYTHING;
+use crate::tests::scripts::Sent::*;
+use crate::tests::scripts::Step::*;
+use crate::tests::scripts::*;
+use smq_book::*;
+use smq_frame::Tail;
+use smq_kit::{Dir, Refusal, SessionId};
+use smq_load::{LoadFault, Row, read_script, read_settings};
+use smq_receipt::MessageState;
+use smq_report::{Format, Pick, ReportFault, write_csv, write_table};
+use smq_scratch::audit;
+use std::alloc::Global;
+use std::io;
+use std::io::Write;
+use std::thread::Threads;
+
+/// The script of examples/first-report.
+const FIRST: &[Step] = &[
+    Route(b"447", 0, 12, b"23410"),
+    SUBMIT,
+    RESPONSE,
+    Client(10, 1300, Submit(2, NUMBER)),
+    Centre(10, 8000, Receipt(1, b"id:1 stat:DELIVRD")),
+];
+
+/// Its report.
+const CSV: &[u8] = b"view,link,1,waiting,1
+view,link,1,delivered,1
+view,route,12,waiting,1
+view,route,12,delivered,1
+view,network,23410,waiting,1
+view,network,23410,delivered,1
+view,link-delay,under-30s,delivered,1
+list,waiting,10,client,49
+list,waiting,10,centre,18
+";
+
+/// The same as a table (docs/FORMATS.md).
+const TABLE: &[u8] = b"view link
+  1                        waiting             1
+  1                        delivered           1
+view route
+  12                       waiting             1
+  12                       delivered           1
+view network
+  23410                    waiting             1
+  23410                    delivered           1
+view error
+view link-delay
+  under-30s                delivered           1
+view centre-delay
+list waiting
+                    10 client               49
+                    10 centre               18
+list stray-answers
+list mismatched
+list stray-receipts
+list ambiguous-receipts
+list extra-receipts
+list unreadable
+list undecodable
+list broken
+list open
+list lapsed
+";
+
+/// The first 10 octets of a submit_sm_resp (SMPP 3.4, 4.4.2).
+const CUT: &[u8] = b"\0\0\0\x12\x80\0\0\x04\0\0";
+
+/// Its other 8, with the id `1`, and a delivery receipt.
+const REST: &[u8] =
+    b"\0\0\0\0\0\x011\0\0\0\0\x32\0\0\0\x05\0\0\0\0\0\0\0\x01\0\0\0\0\0\0\0\x04\0\0\0\0\0\0\0\0\x11id:1 stat:DELIVRD";
+
+/// Whose octets these are: the centre's of session 23.
+const ORIGIN: Origin = (2, 23, Dir::FromCentre, 2000);
+
+/// A script whose second record is bad.
+const BAD: &[u8] = b"clock,1\nclock,x\n";
+
+/// Settings with another key.
+const BAD_SETTINGS: &[u8] = b"[[link]]\nid = 1\nforms = 'decimal'\n";
+
+/// What a call comes to.
+#[derive(Clone, Copy, PartialEq, Eq)]
+enum Came {
+    /// It is answered as it is where memory is there.
+    Right,
+    /// Memory ran out.
+    Memory,
+    Wrong,
+}
+
+/// A call.
+#[derive(Clone, Copy)]
+enum Call {
+    Prepare,
+    Script,
+    BadScript,
+    Settings,
+    BadSettings,
+    Csv,
+    Table,
+    Audit,
+}
+
+const CALLS: &[(&str, Call)] = &[
+    ("prepare", Call::Prepare),
+    ("read_script", Call::Script),
+    ("read_script of a bad row", Call::BadScript),
+    ("read_settings", Call::Settings),
+    ("read_settings of bad settings", Call::BadSettings),
+    ("write_csv", Call::Csv),
+    ("write_table", Call::Table),
+    ("audit", Call::Audit),
+];
+
+fn right_if(holds: bool) -> Came {
+    if holds { Came::Right } else { Came::Wrong }
+}
+
+/// The octets behind those that are cut, decoded on the tail of these.
+fn decode(alloc: Global, tail: &Tail) -> Came {
+    match batch_on(alloc, tail, ORIGIN, REST) {
+        Ok(batch) => right_if(is_decoded(tail, &batch)),
+        Err(Refusal::Memory) => Came::Memory,
+        Err(_) => Came::Wrong,
+    }
+}
+
+/// Whether a batch is of that tail and these octets, and has a response and a receipt.
+fn is_decoded(tail: &Tail, batch: &Batch) -> bool {
+    let of_tail = batch.tail().is_same(tail) && batch.octets().as_slice() == REST;
+    of_tail
+        && match batch.pdus() {
+            [first, second] => is_response(first) && is_receipt(second),
+            _ => false,
+        }
+}
+
+fn is_response(pdu: &KeptPdu) -> bool {
+    let header = (pdu.offset, pdu.command, pdu.status, pdu.seq);
+    header == (0, 0x8000_0004, 0, 1)
+        && match pdu.content.message_id() {
+            Some(id) => id.as_slice() == b"1".as_slice(),
+            None => false,
+        }
+}
+
+fn is_receipt(pdu: &KeptPdu) -> bool {
+    let header = (pdu.offset, pdu.command, pdu.status, pdu.seq);
+    header == (18, 0x0000_0005, 0, 1)
+        && match pdu.content.receipt() {
+            Some(receipt) => {
+                receipt.id.as_slice() == b"1".as_slice() && receipt.state == MessageState::Delivered
+            }
+            None => false,
+        }
+}
+
+/// What a fault of loading comes to, where this one is wanted, if one is.
+fn told(fault: LoadFault, wanted: Option<LoadFault>) -> Came {
+    match fault {
+        LoadFault::Memory => Came::Memory,
+        other => right_if(wanted == Some(other)),
+    }
+}
+
+fn load_script(alloc: Global) -> Came {
+    match read_script(alloc, &mut EACH) {
+        Ok(rows) => right_if(are_read(rows.as_slice())),
+        Err(fault) => told(fault, None),
+    }
+}
+
+fn load_bad_script(alloc: Global) -> Came {
+    match read_script(alloc, &mut BAD) {
+        Ok(_) => Came::Wrong,
+        Err(fault) => told(fault, Some(LoadFault::BadRow { row: 2 })),
+    }
+}
+
+fn load_settings(alloc: Global) -> Came {
+    match read_settings(alloc, EXAMPLE) {
+        Ok(rows) => right_if(are_set(rows.as_slice())),
+        Err(fault) => told(fault, None),
+    }
+}
+
+fn load_bad_settings(alloc: Global) -> Came {
+    match read_settings(alloc, BAD_SETTINGS) {
+        Ok(_) => Came::Wrong,
+        Err(fault) => told(fault, Some(LoadFault::BadSettings)),
+    }
+}
+
+/// Whether these are the rows of `EACH`.
+fn are_read(rows: &[Row]) -> bool {
+    for (place, row) in rows.iter().enumerate() {
+        if !is_read(place, row) {
+            return false;
+        }
+    }
+    rows.len() == 7
+}
+
+/// Whether these are the rows of `EXAMPLE`.
+fn are_set(rows: &[Row]) -> bool {
+    for (place, row) in rows.iter().enumerate() {
+        if !is_set(place, row) {
+            return false;
+        }
+    }
+    rows.len() == 3
+}
+
+/// Takes the octets of a text, and no others. It wants no memory.
+#[derive(Drop)]
+struct Expecting {
+    /// What is still to come.
+    left: &'static [u8],
+    /// Whether all that came was expected.
+    is_right: bool,
+}
+
+impl Write for Expecting {
+    fn write(&mut self, buf: &[u8]) -> io::Result<usize> {
+        match self.left.strip_prefix(buf) {
+            Some(left) => self.left = left,
+            None => self.is_right = false,
+        }
+        Ok(buf.len())
+    }
+
+    fn flush(&mut self) -> io::Result<()> {
+        Ok(())
+    }
+}
+
+/// What a report comes to: it is whole, or a part of it was written when memory ran out.
+fn written(answer: Result<(), ReportFault>, writer: &Expecting) -> Came {
+    match answer {
+        Ok(()) => right_if(writer.is_right && writer.left.is_empty()),
+        Err(ReportFault::Memory) if writer.is_right => Came::Memory,
+        Err(_) => Came::Wrong,
+    }
+}
+
+fn report(alloc: Global, tables: &Tables, format: Format) -> Came {
+    let left = match format {
+        Format::Csv => CSV,
+        Format::Table => TABLE,
+    };
+    let mut writer = Expecting {
+        left,
+        is_right: true,
+    };
+    let answer = match format {
+        Format::Csv => write_csv(alloc, tables, Pick::All, &mut writer),
+        Format::Table => write_table(alloc, tables, Pick::All, &mut writer),
+    };
+    written(answer, &writer)
+}
+
+fn count_anew<R: Threads + Sync>(rt: &R, alloc: Global, book: &Book) -> Came {
+    match audit(rt, alloc, book.present()) {
+        Ok(tables) => right_if(tables == *book.tables()),
+        Err(_) => Came::Memory,
+    }
+}
+
+/// Makes a call: on the tail of the octets that are cut, for the report of one book, or to count what is present in the other.
+fn make<R: Threads + Sync>(rt: &R, alloc: Global, call: Call, first: &Book, other: &Book) -> Came {
+    match call {
+        Call::Prepare => decode(alloc, other.tail(SessionId(23), Dir::FromCentre)),
+        Call::Script => load_script(alloc),
+        Call::BadScript => load_bad_script(alloc),
+        Call::Settings => load_settings(alloc),
+        Call::BadSettings => load_bad_settings(alloc),
+        Call::Csv => report(alloc, first.tables(), Format::Csv),
+        Call::Table => report(alloc, first.tables(), Format::Table),
+        Call::Audit => count_anew(rt, alloc, other),
+    }
+}
+
+/// Whether a call is answered as ever, at once or, where memory ran out, when it is made again.
+fn is_answered<R: Threads + Sync>(
+    rt: &R,
+    alloc: Global,
+    call: Call,
+    first: &Book,
+    other: &Book,
+) -> bool {
+    match make(rt, alloc, call, first, other) {
+        Came::Right => true,
+        Came::Memory => make(rt, alloc, call, first, other) == Came::Right,
+        Came::Wrong => false,
+    }
+}
+
+/// Plays a step, once more where memory runs out.
+fn plays(alloc: Global, book: &mut Book, step: Step) -> bool {
+    play_step(alloc, book, step).is_ok() || play_step(alloc, book, step).is_ok()
+}
+
+fn plays_all(alloc: Global, book: &mut Book, script: &[Step]) -> bool {
+    for step in script {
+        if !plays(alloc, book, *step) {
+            return false;
+        }
+    }
+    true
+}
+
+/// A book, which is asked for once more where memory runs out.
+fn new_book(alloc: Global) -> Option<Box<Book>> {
+    match boxed_book(alloc) {
+        Some(book) => Some(book),
+        None => boxed_book(alloc),
+    }
+}
+
+/// With each allocation refused in turn (`rt try --test --fail-alloc`), a call says so, and is answered then as ever.
+#[test]
+fn a_call_that_wants_memory_is_answered_when_it_is_made_again(rt: HostRuntime) {
+    let alloc = rt.alloc();
+    let mut first = new_book(alloc).expect(&rt, "a book");
+    assert!(rt; plays_all(alloc, &mut first, FIRST));
+    let mut other = new_book(alloc).expect(&rt, "a book");
+    assert!(rt; plays_all(alloc, &mut other, EVERYTHING));
+    assert!(rt; plays(alloc, &mut other, Centre(23, 1900, Octets(CUT))));
+    for (what, call) in CALLS {
+        assert!(rt; is_answered(&rt, alloc, *call, &first, &other), "{what}");
+    }
+}
