@@ -1,0 +1,241 @@
+//! Readers that fail, are interrupted or give too much, and writers that fail: a run and a check tell it, and nothing is written that
+//! isn't wanted.
+use crate::tests::*;
+use smq_engine::run;
+use smq_report::{Format, Pick};
+use smq_tally::View;
+use smq_words::Query;
+use std::io::Read;
+
+/// A submit_sm and its response: the script of examples/one-submit.
+const SCRIPT: &[u8] =
+    b"piece,1,10,client,1000,00000031000000040000000000000001000000313030300001013434373730303930303132330000000000000100000000\npiece,1,10,centre,1200,000000128000000400000000000000013100\n";
+
+/// What is done with a script.
+#[derive(Clone, Copy)]
+enum Work {
+    Report(Query),
+    Check,
+}
+
+const CSV: Work = Work::Report(Query {
+    pick: Pick::All,
+    format: Format::Csv,
+});
+
+const TABLE: Work = Work::Report(Query {
+    pick: Pick::View(View::Link),
+    format: Format::Table,
+});
+
+/// Works, and what each writes of `SCRIPT`.
+const WORKS: &[(Work, &[u8])] = &[
+    (
+        CSV,
+        b"view,link,1,open,1\nview,route,none,open,1\nview,network,none,open,1\nlist,open,10,client,0\n",
+    ),
+    (
+        TABLE,
+        b"view link\n  1                        open                1\n",
+    ),
+    (Work::Check, b"same entries 2 refused 0\n"),
+];
+
+/// Gives a text octet by octet, and fails once, after so many reads.
+#[derive(Drop)]
+struct Dripping {
+    text: &'static [u8],
+    reads: usize,
+    kind: io::ErrorKind,
+}
+
+impl Read for Dripping {
+    fn read(&mut self, buf: &mut [u8]) -> io::Result<usize> {
+        if self.reads == 0 {
+            self.reads = usize::MAX;
+            return Err(io::Error::from(self.kind));
+        }
+        self.reads -= 1;
+        let count = 1usize.min(buf.len()).min(self.text.len());
+        let (given, left) = self.text.split_at(count);
+        buf[..count].copy_from_slice(given);
+        self.text = left;
+        Ok(count)
+    }
+}
+
+/// Makes line feeds up, so many in all and so many at most at each read; where that is none, each read is interrupted.
+#[derive(Drop)]
+struct LineFeeds {
+    left: usize,
+    most: usize,
+}
+
+impl Read for LineFeeds {
+    fn read(&mut self, buf: &mut [u8]) -> io::Result<usize> {
+        if self.most == 0 {
+            return Err(io::Error::from(io::ErrorKind::Interrupted));
+        }
+        let count = self.most.min(self.left).min(buf.len());
+        buf[..count].fill(b'\n');
+        self.left -= count;
+        Ok(count)
+    }
+}
+
+/// Takes octets one by one, and fails once, after so many calls.
+#[derive(Drop)]
+struct Taker {
+    taken: Vec<u8>,
+    calls: usize,
+}
+
+impl Taker {
+    /// Counts a call.
+    fn call(&mut self) -> io::Result<()> {
+        if self.calls == 0 {
+            self.calls = usize::MAX;
+            return Err(io::Error::from(io::ErrorKind::Other));
+        }
+        self.calls -= 1;
+        Ok(())
+    }
+}
+
+impl Write for Taker {
+    fn write(&mut self, buf: &[u8]) -> io::Result<usize> {
+        self.call()?;
+        let count = 1usize.min(buf.len());
+        self.taken.extend_from_slice(&buf[..count])?;
+        Ok(count)
+    }
+
+    fn flush(&mut self) -> io::Result<()> {
+        self.call()
+    }
+}
+
+/// How a work ends, if it isn't done.
+fn fault_of<RT: AllocGlobal + Threads + Wait + Sync, R: Read, W: Write>(
+    rt: &RT,
+    work: Work,
+    reader: &mut R,
+    writer: &mut W,
+) -> Option<RunFault> {
+    match work {
+        Work::Report(query) => run(rt, reader, b"", query, writer).err(),
+        Work::Check => check(rt, reader, b"", writer, &NoGate).err(),
+    }
+}
+
+/// Whether a work ends like this, and writes this text and no more.
+fn ends<RT: AllocGlobal + Threads + Wait + Sync, R: Read>(
+    rt: &RT,
+    work: Work,
+    reader: &mut R,
+    wanted: Option<RunFault>,
+    text: &[u8],
+) -> bool {
+    let mut written = Vec::new(rt.alloc());
+    let fault = fault_of(rt, work, reader, &mut written);
+    fault == wanted && written.as_slice() == text
+}
+
+/// Whether a work is done, and writes this text, where the reader is interrupted after so many reads; and where one fails, ends so
+/// and writes nothing.
+fn tells_read<RT: AllocGlobal + Threads + Wait + Sync>(
+    rt: &RT,
+    work: Work,
+    text: &[u8],
+    reads: usize,
+) -> bool {
+    let mut interrupted = Dripping {
+        text: SCRIPT,
+        reads,
+        kind: io::ErrorKind::Interrupted,
+    };
+    let mut failing = Dripping {
+        text: SCRIPT,
+        reads,
+        kind: io::ErrorKind::Other,
+    };
+    ends(rt, work, &mut interrupted, None, text)
+        && ends(rt, work, &mut failing, Some(RunFault::Read), b"")
+}
+
+/// Octet by octet there are as many reads as octets, and one that finds the end.
+#[test]
+fn a_failed_read_is_told_and_an_interrupted_one_is_tried_again(rt: HostRuntime) {
+    for (work, text) in WORKS {
+        for reads in 0..SCRIPT.len() + 1 {
+            assert!(rt; tells_read(&rt, *work, text, reads), "after {reads} reads");
+        }
+    }
+}
+
+/// Whether a work whose writer fails after so many calls ends so, and writes as many octets of a text and no more; or is done, where
+/// there are no more calls than these.
+fn tells_write<RT: AllocGlobal + Threads + Wait + Sync>(
+    rt: &RT,
+    work: Work,
+    text: &[u8],
+    calls: usize,
+) -> bool {
+    let mut reader = SCRIPT;
+    let mut writer = Taker {
+        taken: Vec::new(rt.alloc()),
+        calls,
+    };
+    let fault = fault_of(rt, work, &mut reader, &mut writer);
+    let wanted = if calls > text.len() {
+        None
+    } else {
+        Some(RunFault::Write)
+    };
+    fault == wanted && writer.taken.as_slice() == &text[..calls.min(text.len())]
+}
+
+/// Octet by octet there are as many writes as octets, and then there is a flush.
+#[test]
+fn a_failed_write_is_told(rt: HostRuntime) {
+    for (work, text) in WORKS {
+        for calls in 0..text.len() + 2 {
+            assert!(rt; tells_write(&rt, *work, text, calls), "after {calls} calls");
+        }
+    }
+}
+
+/// How many line feeds a reader gives, and how many at a read, and how a work ends.
+const LIMITS: &[(usize, usize, Option<RunFault>)] = &[
+    // the read that finds the end is one of 16,777,216
+    (16_777_215, 1, None),
+    (16_777_216, 1, Some(RunFault::Read)),
+    (1, 0, Some(RunFault::Read)),
+    (268_435_457, usize::MAX, Some(RunFault::Read)),
+];
+
+/// Works, and what each writes of empty lines.
+const EMPTY: &[(Work, &[u8])] = &[(CSV, b""), (Work::Check, b"same entries 0 refused 0\n")];
+
+/// Whether a work keeps a limit.
+fn keeps_limit<RT: AllocGlobal + Threads + Wait + Sync>(
+    rt: &RT,
+    work: Work,
+    text: &[u8],
+    limit: (usize, usize, Option<RunFault>),
+) -> bool {
+    let (left, most, wanted) = limit;
+    let mut reader = LineFeeds { left, most };
+    let text = if wanted.is_none() { text } else { b"" };
+    ends(rt, work, &mut reader, wanted, text)
+}
+
+/// A script has at most 268,435,456 octets, and 16,777,216 reads (docs/FORMATS.md).
+#[test]
+fn a_script_that_passes_a_limit_is_not_read(rt: HostRuntime) {
+    for (work, text) in EMPTY {
+        for limit in LIMITS {
+            assert!(rt; keeps_limit(&rt, *work, text, *limit), "{limit:?}");
+        }
+    }
+}
