@@ -11,6 +11,7 @@ mod closes;
 mod editions;
 mod histories;
 mod memory;
+mod stopped_jobs;
 mod workers;
 
 use bytes::Bytes;

@@ -77,7 +77,12 @@ fn piece_row(alloc: Global, row: Row) -> Result<PieceRow, Refusal> {
 }
 
 /// A job of these rows, from a new seat.
-fn job<R: Wait>(rt: &R, alloc: Global, desk: &Desk, pieces: &[Row]) -> Result<LinkJob, Refusal>
+pub(crate) fn job<R: Wait>(
+    rt: &R,
+    alloc: Global,
+    desk: &Desk,
+    pieces: &[Row],
+) -> Result<LinkJob, Refusal>
     ensures { IfOk result IsFresh }
 {
     let seat = desk.seat(rt)?;
@@ -91,7 +96,7 @@ fn job<R: Wait>(rt: &R, alloc: Global, desk: &Desk, pieces: &[Row]) -> Result<Li
 }
 
 /// A job of which nothing is done.
-fn fresh(seat: Seat, rows: Vec<PieceRow>) -> LinkJob
+pub(crate) fn fresh(seat: Seat, rows: Vec<PieceRow>) -> LinkJob
     ensures { IsFresh result }
 {
     LinkJob {
@@ -168,7 +173,7 @@ fn first_number(job: &LinkJob) -> Option<u64> {
 }
 
 /// The seats of jobs that came back.
-fn seats_of(alloc: Global, jobs: Vec<LinkJob>) -> Result<Vec<Seat>, Refusal> {
+pub(crate) fn seats_of(alloc: Global, jobs: Vec<LinkJob>) -> Result<Vec<Seat>, Refusal> {
     let mut seats = Vec::new(alloc);
     for job in jobs {
         put_seat(&mut seats, job.seat)?;
