@@ -8,6 +8,7 @@ ghost use Rattle.std.specs.Prelude.{◌≤◌};
 ghost use Rattle.smq_desk.specs.declared.ledger.TheConstants.{LONGEST_HISTORY};
 
 mod closes;
+mod contention;
 mod editions;
 mod histories;
 mod memory;
