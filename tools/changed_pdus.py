@@ -5,7 +5,7 @@ sys.dont_write_bytecode = True
 
 from smpp_names import COMMANDS
 
-SUBMIT_SM, DELIVER_SM, RESPONSE = 0x04, 0x05, 0x80000000
+SUBMIT_SM, DELIVER_SM, DATA_SM, RESPONSE = 0x04, 0x05, 0x103, 0x80000000
 ENDS = (0, 1, 0x2B, 0x30, 0x7F, 0x80, 0xFF)
 LENGTHS = (0, 3, 15, 16, 17, 131_071, 131_072, 131_073, 2**24, 2**31, 2**32 - 1)
 NUMBERS = (0, 1, 1, 2, 2, 3, 4, 2**31, 2**32 - 1)
@@ -23,7 +23,8 @@ DATES = (b"2601010000", b"0002282359", b"0002290000", b"260101000004", b"2601010
 ADDRESSES = (b"447700900123", b"447700900123", b"+447700900123", b"44", b"+", b"", b"++44", b"999999999999999", b"9999999999999999",
              b"12a", b"0", b"\xff")
 STATES = (b"DELIVRD", b"DELIVRD", b"EXPIRED", b"undeliv", b"ACCEPTD", b"REJECTD")
-TAGS = (0x001E, 0x0423, 0x0424, 0x0427, 0x0000, 0xFFFF)
+MESSAGE_PAYLOAD = 0x0424
+TAGS = (0x001E, 0x0423, MESSAGE_PAYLOAD, 0x0427, 0x0000, 0xFFFF)
 CODES = (b"\x03\x00\x1b", b"\x03\x00\x1b", b"\x00\xff\xff", b"\x03\x01", b"")
 
 
@@ -44,6 +45,25 @@ def fields_at(pdu):
         places.append(at)
         at += behind
     return (places[1], places[2], at) if at < len(pdu) else None
+
+
+def as_data_sm(draw, pdu):
+    """Returns the data_sm that says what a submit_sm or deliver_sm does, whose text is message_payload; others as they are."""
+    places = fields_at(pdu)
+    if places is None:
+        return pdu
+    _, flags, at = places
+    text, parameters = pdu[at + 1 : at + 1 + pdu[at]], pdu[at + 1 + pdu[at] :]
+    payload = b"".join(it.to_bytes(2, "big") for it in (MESSAGE_PAYLOAD, len(text))) + text
+    parts = [payload if text or draw.random() < 0.3 else b"", parameters]
+    # (other parameters before message_payload, at times)
+    parts = parts[::-1] if draw.random() < 0.2 else parts
+    octets = bytes([pdu[flags], pdu[at - 4], draw.choice((0, 0, 1, 8))])
+    return framed(DATA_SM.to_bytes(4, "big") + pdu[8:flags] + octets + b"".join(parts))
+
+
+def with_data_sm(draw, pdu, _):
+    return as_data_sm(draw, pdu) if fields_at(pdu) else with_octets(draw, pdu, _)
 
 
 def maybe_framed(draw, pdu):
@@ -84,7 +104,7 @@ def with_inserted(draw, pdu, _):
 
 
 def with_header(draw, pdu, _):
-    at, values = draw.choice(((4, (*COMMANDS, 4, 5, 0x80000004, draw.randrange(2**32))), (8, STATUSES), (12, NUMBERS), (12, NUMBERS)))
+    at, values = draw.choice(((4, (*COMMANDS, 4, 5, 0x80000004, DATA_SM, DATA_SM + RESPONSE, draw.randrange(2**32))), (8, STATUSES), (12, NUMBERS), (12, NUMBERS)))
     value = draw.choice(values) ^ (draw.choice((0, 0, RESPONSE)) if at == 4 else 0)
     return pdu[:at] + value.to_bytes(4, "big") + pdu[at + 4 :]
 
@@ -136,18 +156,22 @@ def made_long(draw, pdu, _):
 
 
 CHANGES = (with_octets, with_octets, with_length, cut_off, spliced, with_part_twice, with_inserted, with_header, with_header, with_text,
-           with_text, with_address, with_parameter, with_id, with_id, made_long)
+           with_text, with_address, with_parameter, with_id, with_id, with_data_sm, made_long)
 
 
 def conversation(draw, submits, receipts, count):
-    """Returns the PDUs of a client and its centre: so many submit_sm, most with a response and receipts, made of those of others."""
+    """Returns the PDUs of a client and its centre: so many messages, most with a response and receipts, made of those of others."""
     client, centre = [], []
     ids = IDS if draw.random() < 0.2 else [b"%d" % (draw.randrange(10**9) * 10 + it) for it in range(draw.choice((3, count, count)))]
+    data_sms = draw.choice((0, 0, 0.1, 0.5))
     for number in range(1, count + 1):
-        client.append(submit_asking(draw, draw.choice(submits), number))
+        command = DATA_SM if draw.random() < data_sms else SUBMIT_SM
+        submit = submit_asking(draw, draw.choice(submits), number)
+        client.append(as_data_sm(draw, submit) if command == DATA_SM else submit)
         identity = draw.choice(ids)
-        told = [response_with(draw, number, identity)] * draw.choice((0, 1, 1, 1, 1, 1, 1, 2))
-        told += [receipt_saying(draw, draw.choice(receipts), receipt_text(draw, identity)) for _ in range(draw.choice((0, 1, 1, 1, 2)))]
+        told = [response_with(draw, command, number, identity)] * draw.choice((0, 1, 1, 1, 1, 1, 1, 2))
+        told += [receipt_saying(draw, draw.choice(receipts), receipt_text(draw, identity), data_sms)
+                 for _ in range(draw.choice((0, 1, 1, 1, 2)))]
         centre += draw.sample(told, len(told)) if draw.random() < 0.2 else told
     return client, centre
 
@@ -159,9 +183,10 @@ def submit_asking(draw, submit, number):
     return with_address(draw, submit[:12] + number.to_bytes(4, "big") + submit[16:at] + flags + submit[at + 1 :], ())
 
 
-def response_with(draw, number, identity):
-    """Returns a submit_sm_resp with that number and id, or another response at times."""
-    command = 0x80000004 if draw.random() < 0.95 else draw.choice((0x80000000, 0x80000015))
+def response_with(draw, command, number, identity):
+    """Returns the response to a command with that number and id, or another response at times."""
+    others = (RESPONSE, RESPONSE + 0x15, RESPONSE + SUBMIT_SM, RESPONSE + DATA_SM)
+    command = RESPONSE + command if draw.random() < 0.95 else draw.choice(others)
     status = draw.choice(STATUSES) if draw.random() < 0.2 else 0
     return framed(b"".join(it.to_bytes(4, "big") for it in (command, status, number)) + identity + b"\0")
 
@@ -174,11 +199,12 @@ def receipt_text(draw, identity):
     return b" ".join(draw.sample(words, len(words)) if draw.random() < 0.3 else words)
 
 
-def receipt_saying(draw, receipt, text):
-    """Returns a delivery receipt or an intermediate notification with that text, and parameters at times."""
+def receipt_saying(draw, receipt, text, data_sms):
+    """Returns a delivery receipt or an intermediate notification with that text, and parameters at times; so many are data_sm."""
     _, flags, at = fields_at(receipt)
     esm_class = bytes([draw.choice((4, 4, 4, 4, 0x20, 0x44))])
     receipt = framed(receipt[4:flags] + esm_class + receipt[flags + 1 : at] + bytes([len(text)]) + text)
+    receipt = as_data_sm(draw, receipt) if draw.random() < data_sms else receipt
     for _ in range(draw.choice((0, 0, 0, 1, 2))):
         receipt = with_parameter(draw, receipt, ())
     return receipt

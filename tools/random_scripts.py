@@ -10,7 +10,7 @@ import importlib.util
 import itertools
 import os
 
-from changed_pdus import changed, conversation, fields_at, framed
+from changed_pdus import DATA_SM, DELIVER_SM, changed, conversation, fields_at, framed
 from smpp_names import COMMANDS
 
 TOOLS = os.path.dirname(os.path.abspath(__file__))
@@ -116,7 +116,7 @@ SUBMITS, RECEIPTS = ([it for it in ALL[direction] if it[4:8] == command and fiel
 
 
 def random_pdu(draw):
-    command = draw.choice((*COMMANDS, 4, 5)) | draw.choice((0, 0x80000000))
+    command = draw.choice((*COMMANDS, 4, 5, DATA_SM)) | draw.choice((0, 0x80000000))
     return framed(command.to_bytes(4, "big") + bytes(7) + draw.randbytes(1) + bytes(3) + bytes([draw.randrange(4)])
                   + draw.randbytes(draw.choice((0, 1, 5, 40, 300))))
 
@@ -161,7 +161,7 @@ def rows_of(draw):
         for direction, pdus in session_octets(draw).items():
             if direction == "centre" and draw.random() < 0.5:
                 # (receipts of the session before)
-                known, receipts = receipts, [it for it in pdus if it[4:8] == RECEIPTS[0][4:8]]
+                known, receipts = receipts, [it for it in pdus if int.from_bytes(it[4:8], "big") in (DELIVER_SM, DATA_SM)]
                 for it in known[: len(pdus)]:
                     pdus.insert(draw.randint(0, len(pdus)), it)
             moment += draw.choice((0, 0, *ENDS)) if direction == "centre" else 0

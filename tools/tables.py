@@ -7,7 +7,7 @@ import itertools
 import re
 
 DIRECTIONS = ("client", "centre")
-SUBMIT_SM, DELIVER_SM, SUBMIT_SM_RESP, GENERIC_NACK, RESPONSE = 0x04, 0x05, 0x80000004, 0x80000000, 0x80000000
+SUBMIT_SM, DELIVER_SM, DATA_SM, GENERIC_NACK, RESPONSE = 0x04, 0x05, 0x103, 0x80000000, 0x80000000
 WITHOUT_RESPONSE = (0x0B, 0x102)
 RECEIPTED_MESSAGE_ID, NETWORK_ERROR_CODE, MESSAGE_PAYLOAD, MESSAGE_STATE = 0x001E, 0x0423, 0x0424, 0x0427
 STATES = (b"ENROUTE", b"DELIVRD", b"EXPIRED", b"DELETED", b"UNDELIV", b"ACCEPTD", b"UNKNOWN", b"REJECTD")
@@ -57,26 +57,36 @@ def ranked(pdus):
 
 
 def fields_of(pdu):
-    """Returns the fields of a submit_sm or deliver_sm, or None where they don't fit in it."""
+    """Returns the fields of a submit_sm, deliver_sm or data_sm, or None where they don't fit in it."""
     texts, at, octets = [], 16, pdu.octets
-    for behind in (2, 2, 3, 0, 4):
+    for behind in (2, 2, 3) if pdu.command == DATA_SM else (2, 2, 3, 0, 4):
         end = octets.find(b"\0", at)
         if end < 0:
             return None
         texts.append((octets[at:end], end + 1))
         at = end + 1 + behind
+    (_, ton), (address, flags) = texts[1:3]
+    if pdu.command == DATA_SM:
+        # esm_class, registered_delivery and data_coding, and no short_message
+        if at > len(octets):
+            return None
+        return Fields(octets[ton], address, octets[flags], octets[flags + 1], b"", parameters_of(octets, at))
     if at >= len(octets) or at + 1 + octets[at] > len(octets):
         return None
-    (_, ton), (address, flags) = texts[1:3]
-    place, parameters = at + 1 + octets[at], {}
-    text = octets[at + 1 : place]
+    place = at + 1 + octets[at]
+    return Fields(octets[ton], address, octets[flags], octets[at - 4], octets[at + 1 : place], parameters_of(octets, place))
+
+
+def parameters_of(octets, place):
+    """Returns the first value of each tag among the whole parameters from a place on."""
+    parameters = {}
     while place + 4 <= len(octets):
         tag, size = int.from_bytes(octets[place : place + 2], "big"), int.from_bytes(octets[place + 2 : place + 4], "big")
         if place + 4 + size > len(octets):
             break
         parameters.setdefault(tag, octets[place + 4 : place + 4 + size])
         place += 4 + size
-    return Fields(octets[ton], address, octets[flags], octets[at - 4], text, parameters)
+    return parameters
 
 
 def number_of(fields):
@@ -113,7 +123,7 @@ def key_of(link, identity, form):
 
 
 def receipt_of(pdu, link, form):
-    """Returns a delivery receipt that a deliver_sm of the centre is, 'unreadable', or None where it is none."""
+    """Returns a delivery receipt that a deliver_sm or data_sm of the centre is, 'unreadable', or None where it is none."""
     fields = fields_of(pdu)
     if fields is None:
         return None
@@ -163,7 +173,7 @@ class Tables:
     def __init__(self, sessions, forms, versions, clock):
         self.forms, self.versions, self.clock = forms, versions, clock
         self.counts, self.lists = collections.Counter(), collections.defaultdict(set)
-        # submit_sm of the client with their response, and receipts
+        # submit_sm and data_sm of the client with their response, and receipts
         self.messages, self.receipts = [], []
         for session, (link, both) in sessions.items():
             self.read(session, link, both)
@@ -187,13 +197,13 @@ class Tables:
             paired = {it.at: responses.get(key) for key, it in requests.items()}
             self.lists["mismatched"].update(
                 it.at for it in pdus if paired.get(it.at) and paired[it.at].command not in (it.command | RESPONSE, GENERIC_NACK))
-            for pdu in (it for it in pdus if it.command in (SUBMIT_SM, DELIVER_SM)):
+            for pdu in (it for it in pdus if it.command in (SUBMIT_SM, DELIVER_SM, DATA_SM)):
                 fields = fields_of(pdu)
                 if fields is None:
                     self.lists["undecodable"].add(pdu.at)
-                elif pdu.command == SUBMIT_SM and direction == 0:
+                elif pdu.command != DELIVER_SM and direction == 0:
                     self.messages.append((link, pdu, fields, paired[pdu.at]))
-                elif pdu.command == DELIVER_SM and direction == 1:
+                elif pdu.command != SUBMIT_SM and direction == 1:
                     receipt = receipt_of(pdu, link, self.forms_of(link)[1])
                     if receipt == "unreadable":
                         self.lists["unreadable"].add(pdu.at)
@@ -203,7 +213,7 @@ class Tables:
     def count(self):
         keys = {}
         for link, pdu, _, response in self.messages:
-            is_accepted = response and response.command == SUBMIT_SM_RESP and response.status == 0
+            is_accepted = response and response.command == pdu.command | RESPONSE and response.status == 0
             identity = usable_id(response.octets[16:]) if is_accepted else None
             if identity is not None:
                 keys[pdu.at] = key_of(link, identity, self.forms_of(link)[0])
@@ -238,7 +248,7 @@ class Tables:
     def outcome(self, pdu, fields, response, key, matches, receipt):
         if response is None:
             return "waiting"
-        if response.command not in (SUBMIT_SM_RESP, GENERIC_NACK):
+        if response.command not in (pdu.command | RESPONSE, GENERIC_NACK):
             return "mismatched"
         if response.status:
             return "refused"

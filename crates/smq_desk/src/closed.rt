@@ -18,8 +18,8 @@ pub enum CloseFault {
     Torn { seat: u32, number: u64 },
 }
 
-/// The history of a closed desk, its book, and what was published last. A contract sees the entries. It ends by `end`: until then
-/// watchers read on.
+/// The history of a closed desk, its book, and what was published last. A contract sees the entries. It ends by `end`, or by
+/// `leave`: until then watchers read on.
 pub struct Closed {
     ledger: Ledger,
 }
@@ -68,5 +68,12 @@ impl Closed {
     pub fn end<R: Wait>(self, rt: &R) {
         let Closed { ledger } = self;
         ledger.end(rt);
+    }
+
+    /// Ends it where the process is about to end: as `end`, but its book and its history aren't taken apart. The system has
+    /// their memory back with the process.
+    pub fn leave<R: Wait>(self, rt: &R) {
+        let Closed { ledger } = self;
+        ledger.leave(rt);
     }
 }

@@ -18,6 +18,7 @@ use smq_frame::Tail;
 use smq_kit::{Dir, Refusal, SessionId};
 use std::alloc::{AllocError, Global};
 use std::marker::Model;
+use std::mem::forget;
 use std::sync::{Arc, Wait};
 
 /// The most entries that a history may have.
@@ -226,6 +227,21 @@ impl Ledger {
             history: _history,
             board,
         } = self;
+        drop(board.take(rt));
+    }
+
+    /// The same where the process is about to end: book and history aren't taken apart.
+    pub(crate) fn leave<R: Wait>(self, rt: &R) {
+        let Ledger {
+            alloc: _,
+            limit: _,
+            seats: _,
+            book,
+            history,
+            board,
+        } = self;
+        forget(book);
+        forget(history);
         drop(board.take(rt));
     }
 }

@@ -9,6 +9,7 @@ ghost use Rattle.smq_desk.specs.declared.ledger.TheConstants.{LONGEST_HISTORY};
 
 mod closes;
 mod contention;
+mod crowds;
 mod editions;
 mod histories;
 mod memory;

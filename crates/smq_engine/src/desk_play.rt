@@ -88,14 +88,14 @@ pub(crate) fn close_desk<RT: Wait>(
     }
 }
 
-/// Whether the tables of a closed desk, which ends here, are these, and how many entries it has.
+/// Whether the tables of a closed desk, which ends here, are these, and how many entries it has. What it holds is left to the system.
 fn end_closed<RT: Wait>(rt: &RT, closed: Closed, tables: &Tables) -> (bool, u64)
     ensures same { IsTrue result.0 ↔ (scratch (replay closed.entries) ≡ tables.now.shown) }
     ensures count { result.1 ≡ length closed.entries }
     ensures legal { IsLegal closed.entries }
 {
     let found = (has_tables(&closed, tables), count_entries(&closed));
-    closed.end(rt);
+    closed.leave(rt);
     found
 }
 

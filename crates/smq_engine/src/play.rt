@@ -1,11 +1,13 @@
 //! Rows are played on a book, one after the other. A row that is refused leaves what is present, and the rest goes on.
 ghost use Rattle.std.specs.Prelude.{◌≡◌, ◌≢◌, ◌++◌, IfOk, OnOk, Some};
+ghost use Rattle.smq_book.specs.declared.present.edit.Edit.TheVariants.{Append};
+ghost use Rattle.smq_book.specs.present.Present.{tail_in};
 ghost use Rattle.smq_book.specs.present.Replies.{reply};
 ghost use Rattle.smq_book.specs.present.Steps.{step};
 ghost use Rattle.smq_engine.specs.Play.{after_row, after_rows, refusal_of, refused_rows, told};
 ghost use Rattle.smq_load.specs.declared.row.Row.TheVariants.{Piece};
 
-use smq_book::{Edit, PieceRow, PlainBook, prepare};
+use smq_book::{Batch, Edit, PieceRow, PlainBook, prepare};
 use smq_kit::Refusal;
 use smq_load::Row;
 use std::alloc::{AllocError, Global};
@@ -70,7 +72,19 @@ fn play_piece(
         octets,
     } = row;
     match prepare(alloc, link, session, dir, tail, moment, octets) {
-        Ok(batch) => make(book, Edit::Append { batch }),
+        Ok(batch) => put(book, batch),
+        Err(refusal) => unless_memory(refusal),
+    }
+}
+
+/// Puts a batch after the direction on whose tail it was prepared, unless it is refused.
+fn put(book: &mut PlainBook, batch: Batch) -> Result<Option<Refusal>, AllocError>
+    requires { batch.tail ≡ tail_in book.old.present batch.session.0 batch.dir }
+    ensures { IfOk result (λ refusal. (refusal ≡ reply book.old.present (Append batch))
+        × (book.new.present ≡ step book.old.present (Append batch))) }
+{
+    match book.append_in_step(batch) {
+        Ok(()) => Ok(None),
         Err(refusal) => unless_memory(refusal),
     }
 }

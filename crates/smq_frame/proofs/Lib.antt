@@ -2,6 +2,7 @@ pub mod Splits
 pub mod Steps
 pub mod Tails
 pub mod TailTests
+pub mod RestTests
 pub mod Streams
 pub mod KnownFrames
 pub mod Octets

@@ -3,3 +3,4 @@ pub mod Frame
 pub mod Tail
 pub mod Stream
 pub mod Known
+pub mod within

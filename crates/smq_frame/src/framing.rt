@@ -1,9 +1,10 @@
 //! Whole PDUs cut from the front of a stream's octets.
-ghost use Rattle.std.specs.Prelude.{◌≡◌, ◌⊎◌, ◌+◌, ◌^◌, ◌<◌, ◌≤◌, ◌++◌, [], length, map, true, false, None, All, MatchOption, IfOk, IsOk, IsSome};
+ghost use Rattle.std.specs.Prelude.{◌≡◌, ◌⊎◌, ◌+◌, ◌^◌, ◌<◌, ◌≤◌, ◌↔◌, ◌++◌, [], length, map, true, false, None, All, MatchOption, IfOk, IsOk, IsSome, IsTrue};
 ghost use Rattle.smq_frame.specs.Framing.{stated_length, begins_frame, is_bad, frames_of, rest_of, IsWaiting, IsBad, Splits};
 ghost use Rattle.smq_frame.specs.Stream.{placed, frames_after};
 ghost use Rattle.smq_frame.specs.Tail.{tail_with, tail_after};
 
+use crate::parts::{all_joined, grown};
 use crate::{Frame, LONGEST_STREAM, Tail};
 use bytes::Bytes;
 use smq_kit::Moment;
@@ -17,7 +18,8 @@ pub const LONGEST_PDU: u32 = 131_072;
 
 /// The frames that a piece completes, each stamped with the piece's moment, and the tail after it.
 /// With no rest to go on from, the frames share the piece's octets; else rest and piece are copied
-/// together once. A bad length is no error: the tail is then broken, and nothing more is framed.
+/// together once. While a long PDU comes, only its recent octets are copied with the piece. A bad
+/// length is no error: the tail is then broken, and nothing more is framed.
 #[tactic(auto, using(crate::proofs::Tails::frames_facts))]
 pub fn frames(
     alloc: Global,
@@ -42,28 +44,30 @@ pub fn frames(
     ensures memory { IsSome tail.now.broken → IsOk result }
 {
     let offset = tail.offset() + piece.len() as u64;
-    let rest = tail.rest();
+    let start = tail.offset() - tail.waiting_octets();
     if let Some(broken) = tail.broken() {
         return Ok((Vec::new(alloc), Tail::broken_at(offset, broken)));
     }
-    let start = tail.offset() - rest.len() as u64;
-    let octets = joined(alloc, rest, piece)?;
+    let (settled, recent) = tail.parts();
+    if states_more(settled.as_slice(), recent.len() + piece.len()) {
+        let (settled, recent) = grown(alloc, settled, recent, piece)?;
+        return Ok((Vec::new(alloc), Tail::in_parts(offset, settled, recent)));
+    }
+    let octets = all_joined(alloc, settled, recent, piece)?;
     let (found, left) = cut(alloc, octets, start, moment)?;
     Ok((found, tail_left(offset, left)))
 }
 
-/// The octets of both, one after the other. With no rest nothing is copied.
-fn joined(alloc: Global, rest: &[u8], piece: &Bytes) -> Result<Bytes, AllocError>
-    requires { length rest.now + length piece.now < 2 ^ 64 }
-    ensures { IfOk result (λ octets. octets ≡ rest.now ++ piece.now) }
+/// Whether the octets state a length, and have fewer than it with so many others.
+fn states_more(octets: &[u8], others: usize) -> bool
+    requires { length octets.now + others < 2 ^ 64 }
+    ensures { IsTrue result ↔ (4 ≤ length octets.now)
+        × (length octets.now + others < stated_length octets.now) }
 {
-    if rest.is_empty() {
-        return piece.clone();
+    match command_length(octets) {
+        None => false,
+        Some(len) => octets.len() + others < len as usize,
     }
-    let mut both = Vec::with_capacity(alloc, rest.len() + piece.len())?;
-    both.extend_from_slice(rest)?;
-    both.extend_from_slice(piece.as_slice())?;
-    Ok(Bytes::from_vec(both)?)
 }
 
 /// The frames at the front, the first of which stands at `start`, and what is left after them.

@@ -4,6 +4,7 @@
 mod frame;
 mod framing;
 mod laws;
+mod parts;
 mod tail;
 
 pub use frame::Frame;

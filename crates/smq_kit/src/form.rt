@@ -6,7 +6,7 @@ ghost use Rattle.smq_kit.specs.Orders.{KeysAreOrdered};
 use crate::MessageId;
 
 /// How ids are written: as texts, or as numbers in decimal or hexadecimal digits. A centre may write an id in one form
-/// in submit_sm_resp and in another in delivery receipts.
+/// in submit_sm_resp and data_sm_resp, and in another in delivery receipts.
 #[derive(Clone, Copy, Debug, PartialEq, Eq, PartialOrd, Ord)]
 pub enum Form {
     Verbatim,

@@ -20,7 +20,7 @@ pub const MOST_LINKS: usize = 4_096;
 #[derive(Clone, Copy, Debug, PartialEq, Eq)]
 pub struct LinkForms {
     pub link: LinkId,
-    /// In submit_sm_resp.
+    /// In submit_sm_resp and data_sm_resp.
     pub response: Form,
     /// In delivery receipts.
     pub receipt: Form,

@@ -3,8 +3,8 @@ use Rattle.std.proofs.Common.{◌≡◌, ◌≢◌, ℕ, ◌≤◌, true, false,
 use Rattle.std.specs.Prelude.{option_map, ◌==◌}
 use Rattle.std.proofs.lemmas.Bool.{ltb-false, le-ltb, eqb-true, eqb-false, ne_eqb}
 use Rattle.std.proofs.lemmas.List.{take_at, drop_at, take-append-drop, length-append, length-take-le}
-use Rattle.smq_pdu.specs.Fields.{Address, Mandatory, c_octet, address, spelling, IsText, BeginsWith}
-use Rattle.smq_pdu.specs.Readers.{◌>>=◌, octet_at, c_octet_at, octets_at, address_at, mandatory_at}
+use Rattle.smq_pdu.specs.Fields.{Address, Mandatory, DataSmFields, c_octet, address, spelling, data_sm_spelling, IsText, BeginsWith, BeginsWithDataSm}
+use Rattle.smq_pdu.specs.Readers.{◌>>=◌, octet_at, c_octet_at, octets_at, address_at, mandatory_at, data_sm_fields_at}
 use Rattle.smq_pdu.specs.within.Parts.{Front, Middle, Back, front_at, middle_at, back_at, mandatory_of, mandatory_by_parts}
 
 -- the value of a step that found something
@@ -313,3 +313,54 @@ mandatory_found o r m e = parts_found o r m (by_parts-is o ∙ e)
 
 pub mandatory_again : (o r : List ℕ) (m : Mandatory) → BeginsWith o m r → mandatory_at o ≡ Some (m, r)
 mandatory_again o r m h = sym (by_parts-is o) ∙ parts_again o r m h
+
+-- ---- those of a data_sm
+
+data_sm_parts : (service : List ℕ) (source destination : Address) (esm registered coding : ℕ) (r : List ℕ)
+    → service ++ 0 ∷ (address source ++ (address destination ++ (esm ∷ registered ∷ coding ∷ r)))
+    ≡ (c_octet service ++ (address source ++ (address destination ++ (esm ∷ registered ∷ coding ∷ [])))) ++ r
+data_sm_parts service source destination esm registered coding r = simp append_assoc
+
+pub data_sm_fields_found : (o r : List ℕ) (m : DataSmFields) → data_sm_fields_at o ≡ Some (m, r) → BeginsWithDataSm o m r
+unfolding data_sm_fields_at
+data_sm_fields_found o r m e =
+    let service = bind_some (c_octet_at o) _ (m, r) e in
+    let source = bind_some (address_at service.0.1) _ (m, r) service.2 in
+    let destination = bind_some (address_at source.0.1) _ (m, r) source.2 in
+    let esm = bind_some (octet_at destination.0.1) _ (m, r) destination.2 in
+    let registered = bind_some (octet_at esm.0.1) _ (m, r) esm.2 in
+    let coding = bind_some (octet_at registered.0.1) _ (m, r) registered.2 in
+    let a = text_found o service.0.0 service.0.1 service.1 in
+    let b = address_found service.0.1 source.0.0 source.0.1 source.1 in
+    let c = address_found source.0.1 destination.0.0 destination.0.1 destination.1 in
+    let read : DataSmFields = record {
+      service_type = service.0.0;
+      source = source.0.0;
+      destination = destination.0.0;
+      esm_class = esm.0.0;
+      registered_delivery = registered.0.0;
+      data_coding = coding.0.0;
+    } in
+    let octets : destination.0.1 ≡ esm.0.0 ∷ registered.0.0 ∷ coding.0.0 ∷ coding.0.1 = octet_found destination.0.1 esm.0.0 esm.0.1 esm.1
+    ∙ ap (λ (w : List ℕ). esm.0.0 ∷ w) (octet_found esm.0.1 registered.0.0 registered.0.1 registered.1
+    ∙ ap (λ (w : List ℕ). registered.0.0 ∷ w) (octet_found registered.0.1 coding.0.0 coding.0.1 coding.1)) in
+    let parts : o ≡ data_sm_spelling read ++ coding.0.1 = a.parts
+    ∙ ap (λ (w : List ℕ). service.0.0 ++ 0 ∷ w) (b.0 ∙ ap (λ (w : List ℕ). address source.0.0 ++ w) (c.0
+    ∙ ap (λ (w : List ℕ). address destination.0.0 ++ w) octets))
+    ∙ data_sm_parts service.0.0 source.0.0 destination.0.0 esm.0.0 registered.0.0 coding.0.0 coding.0.1 in
+    subst (λ (p : DataSmFields × List ℕ). BeginsWithDataSm o p.0 p.1) (some_is (read, coding.0.1) (m, r) coding.2)
+    (record { parts = parts; texts = record { service_type = a.text; source = b.1; destination = c.1 } })
+
+pub data_sm_fields_again : (o r : List ℕ) (m : DataSmFields) → BeginsWithDataSm o m r → data_sm_fields_at o ≡ Some (m, r)
+unfolding data_sm_fields_at
+data_sm_fields_again o r m h =
+    let t = h.texts in
+    let last : List ℕ = m.esm_class ∷ m.registered_delivery ∷ m.data_coding ∷ r in
+    let parts : o ≡ c_octet m.service_type ++ (address m.source ++ (address m.destination ++ last)) = h.parts ∙ simp append_assoc in
+    rw (
+      parts,
+      append_assoc m.service_type (0 ∷ []) (address m.source ++ (address m.destination ++ last)),
+      text_again m.service_type (address m.source ++ (address m.destination ++ last)) t.service_type,
+      address_again m.source (address m.destination ++ last) t.source,
+      address_again m.destination last t.destination,
+    ) refl

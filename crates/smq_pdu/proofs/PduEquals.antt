@@ -12,13 +12,14 @@ use Rattle.smq_kit.specs.contracts.message_id.MessageIdPartialEq.TheImpl as id_e
 use Rattle.smq_kit.specs.declared.message_id.MessageId.{MessageId}
 use Rattle.smq_kit.specs.contracts.number.DigitsPartialEq.TheImpl as digits_eq
 use Rattle.smq_kit.specs.declared.number.Digits.{Digits}
-use Rattle.smq_pdu.specs.Bodies.{SubmitValue, DeliverValue, DeliverBody, SubmitBody, SubmitAnswerBody}
-use Rattle.smq_pdu.specs.Decoded.{seen, submit_view, deliver_view, body_view, pdu_view}
-use Rattle.smq_pdu.specs.Equalities.{is_same_submit, is_same_deliver, is_same_body, is_same_pdu}
+use Rattle.smq_pdu.specs.Bodies.{SubmitValue, DeliverValue, DataSmValue, DeliverBody, DataSmBody, SubmitBody, SubmitAnswerBody}
+use Rattle.smq_pdu.specs.Decoded.{seen, submit_view, deliver_view, data_sm_view, body_view, pdu_view}
+use Rattle.smq_pdu.specs.Equalities.{is_same_submit, is_same_deliver, is_same_data_sm, is_same_body, is_same_pdu}
 use Rattle.smq_pdu.specs.declared.body.Body.{Body}
 use Rattle.smq_pdu.specs.declared.body.Body.TheVariants as v
 use Rattle.smq_pdu.specs.declared.body.Submit.{Submit}
 use Rattle.smq_pdu.specs.declared.body.Deliver.{Deliver}
+use Rattle.smq_pdu.specs.declared.data_sm.DataSm.{DataSm}
 use Rattle.smq_pdu.specs.declared.pdu.Pdu.{Pdu}
 use Rattle.smq_pdu.specs.Pdu.{PduValue}
 
@@ -109,6 +110,55 @@ submits_decide a b =
     Decides-like (is_same_submit a b) (one_submit (submit_view a) (submit_view b)) (submit_parts (submit_view a) (submit_view b))
     (submit_parts_decide a b)
 
+-- ---- what a data_sm says
+
+-- each part of what two data_sm say is one
+abbrev DataSmParts : DataSmValue → DataSmValue → Type 0
+DataSmParts a b =
+    (a.esm_class ≡ b.esm_class) × ((a.registered_delivery ≡ b.registered_delivery) × ((a.number ≡ b.number)
+    × ((a.receipted_message_id ≡ b.receipted_message_id) × ((a.network_error_code ≡ b.network_error_code)
+    × ((a.message_payload ≡ b.message_payload) × (a.message_state ≡ b.message_state))))))
+
+data_sm_parts_decide : (a b : DataSm) → Decides (is_same_data_sm a b) (DataSmParts (data_sm_view a) (data_sm_view b))
+data_sm_parts_decide a b =
+    Decides-and _ _ (unsigned_Decides a.esm_class b.esm_class)
+    (Decides-and _ _ (unsigned_Decides a.registered_delivery b.registered_delivery)
+    (Decides-and _ _ (number_given a.number b.number)
+    (Decides-and _ _ (values a.receipted_message_id b.receipted_message_id)
+    (Decides-and _ _ (values a.network_error_code b.network_error_code)
+    (Decides-and _ _ (values a.message_payload b.message_payload) (values a.message_state b.message_state))))))
+
+one_data_sm : (a b : DataSmValue) → DataSmParts a b → a ≡ b
+one_data_sm a b p = λ i. record {
+  esm_class = p.0 i;
+  registered_delivery = p.1.0 i;
+  number = p.1.1.0 i;
+  receipted_message_id = p.1.1.1.0 i;
+  network_error_code = p.1.1.1.1.0 i;
+  message_payload = p.1.1.1.1.1.0 i;
+  message_state = p.1.1.1.1.1.1 i;
+}
+
+data_sm_parts : (a b : DataSmValue) → a ≡ b → DataSmParts a b
+data_sm_parts a b e = (
+  ap (λ d. d.esm_class) e,
+  (
+    ap (λ d. d.registered_delivery) e,
+    (
+      ap (λ d. d.number) e,
+      (
+        ap (λ d. d.receipted_message_id) e,
+        (ap (λ d. d.network_error_code) e, (ap (λ d. d.message_payload) e, ap (λ d. d.message_state) e)),
+      ),
+    ),
+  ),
+)
+
+pub data_sms_decide : (a b : DataSm) → Decides (is_same_data_sm a b) (data_sm_view a ≡ data_sm_view b)
+data_sms_decide a b =
+    Decides-like (is_same_data_sm a b) (one_data_sm (data_sm_view a) (data_sm_view b)) (data_sm_parts (data_sm_view a) (data_sm_view b))
+    (data_sm_parts_decide a b)
+
 -- ---- bodies, command by command
 
 ids : (a b : MessageId) → Decides (id_eq.ghosts.eq a b) (a ≡ b)
@@ -126,6 +176,7 @@ bodies_decide (v.Submit s) (v.Submit t) =
     Decides-like (is_same_submit s t) (λ h. ap SubmitBody h) (λ e. let same : submit_view s ≡ submit_view t = cc in same) (submits_decide s t)
 bodies_decide (v.Submit s) (v.SubmitAnswer t) = (λ h. absurd cc, λ e. absurd cc)
 bodies_decide (v.Submit s) (v.Deliver t) = (λ h. absurd cc, λ e. absurd cc)
+bodies_decide (v.Submit s) (v.DataSm t) = (λ h. absurd cc, λ e. absurd cc)
 bodies_decide (v.Submit s) v.Other = (λ h. absurd cc, λ e. absurd cc)
 bodies_decide (v.Submit s) v.Undecodable = (λ h. absurd cc, λ e. absurd cc)
 bodies_decide (v.SubmitAnswer s) (v.Submit t) = (λ h. absurd cc, λ e. absurd cc)
@@ -133,22 +184,33 @@ bodies_decide (v.SubmitAnswer s) (v.SubmitAnswer t) =
     Decides-like (option_eq id_eq.ghosts.eq s.message_id t.message_id) (λ h. ap (λ (id : Option MessageId). SubmitAnswerBody id) h)
     (λ e. let same : s.message_id ≡ t.message_id = cc in same) (given s.message_id t.message_id)
 bodies_decide (v.SubmitAnswer s) (v.Deliver t) = (λ h. absurd cc, λ e. absurd cc)
+bodies_decide (v.SubmitAnswer s) (v.DataSm t) = (λ h. absurd cc, λ e. absurd cc)
 bodies_decide (v.SubmitAnswer s) v.Other = (λ h. absurd cc, λ e. absurd cc)
 bodies_decide (v.SubmitAnswer s) v.Undecodable = (λ h. absurd cc, λ e. absurd cc)
 bodies_decide (v.Deliver s) (v.Submit t) = (λ h. absurd cc, λ e. absurd cc)
 bodies_decide (v.Deliver s) (v.SubmitAnswer t) = (λ h. absurd cc, λ e. absurd cc)
 bodies_decide (v.Deliver s) (v.Deliver t) =
     Decides-like (is_same_deliver s t) (λ h. ap DeliverBody h) (λ e. let same : deliver_view s ≡ deliver_view t = cc in same) (delivers_decide s t)
+bodies_decide (v.Deliver s) (v.DataSm t) = (λ h. absurd cc, λ e. absurd cc)
 bodies_decide (v.Deliver s) v.Other = (λ h. absurd cc, λ e. absurd cc)
 bodies_decide (v.Deliver s) v.Undecodable = (λ h. absurd cc, λ e. absurd cc)
+bodies_decide (v.DataSm s) (v.Submit t) = (λ h. absurd cc, λ e. absurd cc)
+bodies_decide (v.DataSm s) (v.SubmitAnswer t) = (λ h. absurd cc, λ e. absurd cc)
+bodies_decide (v.DataSm s) (v.Deliver t) = (λ h. absurd cc, λ e. absurd cc)
+bodies_decide (v.DataSm s) (v.DataSm t) =
+    Decides-like (is_same_data_sm s t) (λ h. ap DataSmBody h) (λ e. let same : data_sm_view s ≡ data_sm_view t = cc in same) (data_sms_decide s t)
+bodies_decide (v.DataSm s) v.Other = (λ h. absurd cc, λ e. absurd cc)
+bodies_decide (v.DataSm s) v.Undecodable = (λ h. absurd cc, λ e. absurd cc)
 bodies_decide v.Other (v.Submit t) = (λ h. absurd cc, λ e. absurd cc)
 bodies_decide v.Other (v.SubmitAnswer t) = (λ h. absurd cc, λ e. absurd cc)
 bodies_decide v.Other (v.Deliver t) = (λ h. absurd cc, λ e. absurd cc)
+bodies_decide v.Other (v.DataSm t) = (λ h. absurd cc, λ e. absurd cc)
 bodies_decide v.Other v.Other = (λ h. refl, λ e. refl)
 bodies_decide v.Other v.Undecodable = (λ h. absurd cc, λ e. absurd cc)
 bodies_decide v.Undecodable (v.Submit t) = (λ h. absurd cc, λ e. absurd cc)
 bodies_decide v.Undecodable (v.SubmitAnswer t) = (λ h. absurd cc, λ e. absurd cc)
 bodies_decide v.Undecodable (v.Deliver t) = (λ h. absurd cc, λ e. absurd cc)
+bodies_decide v.Undecodable (v.DataSm t) = (λ h. absurd cc, λ e. absurd cc)
 bodies_decide v.Undecodable v.Other = (λ h. absurd cc, λ e. absurd cc)
 bodies_decide v.Undecodable v.Undecodable = (λ h. refl, λ e. refl)
 

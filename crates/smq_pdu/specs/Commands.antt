@@ -17,6 +17,14 @@ submit_sm_resp = 0x8000_0004
 abbrev pub deliver_sm : ℕ
 deliver_sm = 0x0000_0005
 
+-- either side hands the other a message, or the centre a delivery receipt, of which the text is a parameter
+abbrev pub data_sm : ℕ
+data_sm = 0x0000_0103
+
+-- the response to that, with the message id
+abbrev pub data_sm_resp : ℕ
+data_sm_resp = 0x8000_0103
+
 -- the centre asks a client to bind; it has no response
 abbrev pub outbind : ℕ
 outbind = 0x0000_000b

@@ -1,4 +1,4 @@
--- The mandatory fields of submit_sm and deliver_sm (SMPP 3.4, sections 4.4.1 and 4.6.1).
+-- The mandatory fields of submit_sm and deliver_sm, and those of data_sm (SMPP 3.4, sections 4.4.1, 4.6.1 and 4.7.1).
 use Rattle.std.specs.Prelude.{◌≡◌, ◌≢◌, ℕ, List, [], ◌∷◌, ◌++◌, length}
 use Rattle.std.specs.List.{AllByRecursion}
 
@@ -8,7 +8,7 @@ pub record Address : Type 0 where
   pub npi : ℕ
   pub text : List ℕ
 
--- the mandatory fields in the standard's order; sm_length is the length of short_message
+-- those of submit_sm and deliver_sm in the standard's order; sm_length is the length of short_message
 pub record Mandatory : Type 0 where
   pub service_type : List ℕ
   pub source : Address
@@ -23,6 +23,15 @@ pub record Mandatory : Type 0 where
   pub data_coding : ℕ
   pub sm_default_msg_id : ℕ
   pub short_message : List ℕ
+
+-- those of data_sm in the standard's order; it has no short_message
+pub record DataSmFields : Type 0 where
+  pub service_type : List ℕ
+  pub source : Address
+  pub destination : Address
+  pub esm_class : ℕ
+  pub registered_delivery : ℕ
+  pub data_coding : ℕ
 
 -- ---- how fields are spelled
 
@@ -43,6 +52,12 @@ spelling m =
     ++ (m.registered_delivery ∷ m.replace_if_present_flag ∷ m.data_coding ∷ m.sm_default_msg_id
     ∷ length m.short_message ∷ m.short_message))))))
 
+-- the fields of a data_sm, one after the other
+abbrev pub data_sm_spelling : DataSmFields → List ℕ
+data_sm_spelling m =
+    c_octet m.service_type ++ (address m.source ++ (address m.destination
+    ++ (m.esm_class ∷ m.registered_delivery ∷ m.data_coding ∷ [])))
+
 -- no zero octet stands in the text
 abbrev pub IsText : List ℕ → Type 0
 IsText text = AllByRecursion (λ octet. octet ≢ 0) text
@@ -59,3 +74,14 @@ pub record AreTexts (m : Mandatory) : Type 0 where
 pub record BeginsWith (body : List ℕ) (m : Mandatory) (rest : List ℕ) : Type 0 where
   pub parts : body ≡ spelling m ++ rest
   pub texts : AreTexts m
+
+-- the C-octet fields of a data_sm are texts
+pub record AreDataSmTexts (m : DataSmFields) : Type 0 where
+  pub service_type : IsText m.service_type
+  pub source : IsText m.source.text
+  pub destination : IsText m.destination.text
+
+-- a body begins with these fields of a data_sm, and this follows
+pub record BeginsWithDataSm (body : List ℕ) (m : DataSmFields) (rest : List ℕ) : Type 0 where
+  pub parts : body ≡ data_sm_spelling m ++ rest
+  pub texts : AreDataSmTexts m

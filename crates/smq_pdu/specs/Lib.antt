@@ -12,4 +12,5 @@ pub mod Decoded
 pub mod Equalities
 pub mod Laws
 pub mod Known
+pub mod KnownDataSms
 pub mod within

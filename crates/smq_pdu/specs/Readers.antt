@@ -1,7 +1,7 @@
 -- The fields and parameters of a body, read from left to right.
 use Rattle.std.specs.Prelude.{ℕ, zero, suc, ◌==◌, nat_lt, if◌then◌else◌, List, [], ◌∷◌, length, take, drop, option_map, Option, Some, None}
 use Rattle.std.specs.Int.{w16, from_be_bytes}
-use Rattle.smq_pdu.specs.Fields.{Address, Mandatory}
+use Rattle.smq_pdu.specs.Fields.{Address, Mandatory, DataSmFields}
 use Rattle.smq_pdu.specs.Parameters.{Tlv}
 
 infixl 10 ◌>>=◌
@@ -38,7 +38,7 @@ address_at octets = do
   text ← c_octet_at npi.1
   Some (record { ton = ton.0; npi = npi.0; text = text.0 }, text.1)
 
--- the mandatory fields in the standard's order, and what follows
+-- those of a submit_sm or deliver_sm in the standard's order, and what follows
 unfoldable pub mandatory_at : List ℕ → Option (Mandatory × List ℕ)
 mandatory_at octets = do
   service_type ← c_octet_at octets
@@ -72,6 +72,27 @@ mandatory_at octets = do
       short_message = short_message.0;
     },
     short_message.1,
+  )
+
+-- those of a data_sm in the standard's order, and what follows
+unfoldable pub data_sm_fields_at : List ℕ → Option (DataSmFields × List ℕ)
+data_sm_fields_at octets = do
+  service_type ← c_octet_at octets
+  source ← address_at service_type.1
+  destination ← address_at source.1
+  esm_class ← octet_at destination.1
+  registered_delivery ← octet_at esm_class.1
+  data_coding ← octet_at registered_delivery.1
+  Some (
+    record {
+      service_type = service_type.0;
+      source = source.0;
+      destination = destination.0;
+      esm_class = esm_class.0;
+      registered_delivery = registered_delivery.0;
+      data_coding = data_coding.0;
+    },
+    data_coding.1,
   )
 
 -- ---- the optional parameters

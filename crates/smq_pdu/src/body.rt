@@ -5,7 +5,8 @@ ghost use Rattle.smq_pdu.specs.Decoded.{body_view};
 ghost use Rattle.smq_pdu.specs.Numbers.{without_plus, number_of};
 ghost use Rattle.smq_pdu.specs.within.Views.{address_view};
 
-use crate::command::{DELIVER_SM, SUBMIT_SM, SUBMIT_SM_RESP};
+use crate::command::{DATA_SM, DATA_SM_RESP, DELIVER_SM, SUBMIT_SM, SUBMIT_SM_RESP};
+use crate::data_sm::{DataSm, read_data_sm};
 use crate::fields::{Address, read_mandatory, zero_place};
 use crate::tlv::{
     MESSAGE_PAYLOAD, MESSAGE_STATE, NETWORK_ERROR_CODE, RECEIPTED_MESSAGE_ID, first_value,
@@ -41,7 +42,7 @@ impl Submit {
     }
 }
 
-/// What is read of a submit_sm_resp (SMPP 3.4, 4.4.2).
+/// What is read of a submit_sm_resp or a data_sm_resp (SMPP 3.4, 4.4.2 and 4.7.2).
 #[derive(Debug, PartialEq, Eq, Drop)]
 pub struct SubmitAnswer {
     /// The octets up to the first zero or the end; none where they are empty or over 64.
@@ -71,13 +72,15 @@ pub struct Deliver<'a> {
 pub enum Body<'a> {
     /// A submit_sm.
     Submit(Submit),
-    /// A submit_sm_resp.
+    /// A submit_sm_resp or data_sm_resp.
     SubmitAnswer(SubmitAnswer),
     /// A deliver_sm.
     Deliver(Deliver<'a>),
+    /// A data_sm.
+    DataSm(DataSm<'a>),
     /// The body of any other command.
     Other,
-    /// A submit_sm or deliver_sm whose mandatory fields don't fit.
+    /// A submit_sm, deliver_sm or data_sm whose mandatory fields don't fit.
     Undecodable,
 }
 
@@ -88,10 +91,11 @@ pub(crate) fn read_body(command: u32, octets: &[u8]) -> Body<'_>
 {
     match command {
         SUBMIT_SM => read_submit(octets),
-        SUBMIT_SM_RESP => Body::SubmitAnswer(SubmitAnswer {
+        SUBMIT_SM_RESP | DATA_SM_RESP => Body::SubmitAnswer(SubmitAnswer {
             message_id: read_id(octets),
         }),
         DELIVER_SM => read_deliver(octets),
+        DATA_SM => read_data_sm(octets),
         _ => Body::Other,
     }
 }
@@ -112,7 +116,7 @@ fn read_submit(octets: &[u8]) -> Body<'_>
 
 /// The number that an address names.
 #[tactic(auto, unfolding(crate::specs::Numbers::number_of), using(crate::proofs::Numbers::digits_facts))]
-fn read_digits(address: &Address<'_>) -> Option<Digits>
+pub(crate) fn read_digits(address: &Address<'_>) -> Option<Digits>
     ensures { result ≡ number_of (address_view address.now) }
 {
     if address.ton > INTERNATIONAL {
@@ -149,7 +153,7 @@ fn read_deliver(octets: &[u8]) -> Body<'_>
     }
 }
 
-/// The message id of a submit_sm_resp.
+/// The message id of a submit_sm_resp or data_sm_resp.
 #[tactic(auto, unfolding(crate::specs::Pdu::id_of))]
 fn read_id(octets: &[u8]) -> Option<MessageId>
     ensures { result ≡ id_of octets.now }

@@ -11,6 +11,10 @@ pub(crate) const SUBMIT_SM_RESP: u32 = 0x8000_0004;
 
 pub(crate) const DELIVER_SM: u32 = 0x0000_0005;
 
+pub(crate) const DATA_SM: u32 = 0x0000_0103;
+
+pub(crate) const DATA_SM_RESP: u32 = 0x8000_0103;
+
 const OUTBIND: u32 = 0x0000_000b;
 
 const ALERT_NOTIFICATION: u32 = 0x0000_0102;

@@ -41,7 +41,7 @@ pub struct Back<'a> {
     pub short_message: &'a [u8],
 }
 
-/// The mandatory fields, in the standard's order.
+/// The mandatory fields of a submit_sm or deliver_sm, in the standard's order.
 #[derive(Clone, Copy)]
 pub struct Mandatory<'a> {
     pub front: Front<'a>,
@@ -123,7 +123,7 @@ fn read_back(octets: &[u8]) -> Option<(Back<'_>, &[u8])>
 
 /// An address, and what follows.
 #[tactic(auto, unfolding(crate::specs::Readers::address_at))]
-fn read_address(octets: &[u8]) -> Option<(Address<'_>, &[u8])>
+pub(crate) fn read_address(octets: &[u8]) -> Option<(Address<'_>, &[u8])>
     ensures { option_map seen_address result ≡ address_at octets.now }
 {
     let (ton, rest) = read_octet(octets)?;
@@ -134,7 +134,7 @@ fn read_address(octets: &[u8]) -> Option<(Address<'_>, &[u8])>
 
 /// A text up to the first zero octet, and what follows that.
 #[tactic(auto, using(crate::proofs::Texts::c_octet_facts))]
-fn read_text(octets: &[u8]) -> Option<(&[u8], &[u8])>
+pub(crate) fn read_text(octets: &[u8]) -> Option<(&[u8], &[u8])>
     ensures { option_map seen_octets result ≡ c_octet_at octets.now }
 {
     let len = zero_place(octets)?;
@@ -160,7 +160,7 @@ pub(crate) fn read_octets(len: usize, octets: &[u8]) -> Option<(&[u8], &[u8])>
 }
 
 /// The first octet, and what follows.
-fn read_octet(octets: &[u8]) -> Option<(u8, &[u8])>
+pub(crate) fn read_octet(octets: &[u8]) -> Option<(u8, &[u8])>
     ensures { option_map seen_number result ≡ octet_at octets.now }
 {
     let (first, rest) = octets.split_first()?;

@@ -1,20 +1,22 @@
 //! Laws of the definitions that the contracts cite. No code calls these functions.
 ghost use Rattle.std.specs.Prelude.{◌≡◌, ◌≢◌, ◌↔◌, ◌⊎◌, ◌+◌, ◌^◌, ◌<◌, ◌≤◌, ◌++◌, ◌∷◌, [], List, ℕ, codes, Some, None, true, false, IsTrue};
 ghost use Rattle.smq_kit.specs.Known.{numbers_from};
-ghost use Rattle.smq_pdu.specs.Fields.{Address, Mandatory, BeginsWith};
+ghost use Rattle.smq_pdu.specs.Fields.{Address, Mandatory, DataSmFields, BeginsWith, BeginsWithDataSm};
 ghost use Rattle.smq_pdu.specs.Numbers.{IsNumberOf, number_of};
 ghost use Rattle.smq_pdu.specs.Parameters.{Tlv, AreParameters, BeginsWithNoTlv, IsTlv, tlv_spelling, first_value, receipted_message_id_tag, network_error_code_tag, message_payload_tag, message_state_tag};
-ghost use Rattle.smq_pdu.specs.Bodies.{SubmitValue, DeliverValue, SubmitBody, SubmitAnswerBody, DeliverBody, OtherBody, UndecodableBody, IsBody, IsFirstText};
-ghost use Rattle.smq_pdu.specs.Readers.{mandatory_at, tlvs_of, rest_of};
+ghost use Rattle.smq_pdu.specs.Bodies.{SubmitValue, DeliverValue, DataSmValue, SubmitBody, SubmitAnswerBody, DeliverBody, DataSmBody, OtherBody, UndecodableBody, IsBody, IsDataSmBody, IsFirstText, submit_of_data_sm, deliver_of_data_sm};
+ghost use Rattle.smq_pdu.specs.Readers.{mandatory_at, data_sm_fields_at, tlvs_of, rest_of};
 ghost use Rattle.smq_pdu.specs.Pdu.{before_zero, id_of, pdu_of};
-ghost use Rattle.smq_pdu.specs.Laws.{said, IsSubmit, IsDeliver, IsUndecodable, IsSubmitResponse, IsSubmitResponseWithoutId, IsOther};
+ghost use Rattle.smq_pdu.specs.Laws.{said, IsSubmit, IsDeliver, IsDataSm, IsUndecodable, IsSubmitResponse, IsSubmitResponseWithoutId, IsOther};
 ghost use Rattle.smq_pdu.specs.Pairing.{FindsPairs, FindsEachPair, HasOneRequest, FindsInTurn, agrees, is_request, is_response, request_rank, response_rank, response_index};
 ghost use Rattle.smq_pdu.specs.Header.{Header, header_with};
 ghost use Rattle.smq_pdu.specs.Known.{submit_octets, submit_pdu, plus_octets, plus_pdu, national_octets, national_pdu, too_long_octets, too_long_pdu, other_octets, address_with, response_octets, response_pdu, receipt_octets, receipt_pdu, all_parameters_octets, all_parameters_pdu, cut_octets, cut_pdu, nack_octets, nack_pdu, words_octets, words_pdu, id_of_64, parameter_octets, parameter_tlvs, parameter_rest, IsRequestCommand, IsResponseCommand, IsNeitherCommand, short_requests, short_responses};
-ghost use Rattle.smq_pdu.specs.Decoded.{submit_view, deliver_view, pdu_view};
-ghost use Rattle.smq_pdu.specs.Equalities.{is_same_submit, is_same_deliver, is_same_pdu};
+ghost use Rattle.smq_pdu.specs.KnownDataSms.{data_sm_octets, data_sm_pdu, data_sm_resp_octets, data_sm_resp_pdu, data_sm_receipt_octets, data_sm_receipt_pdu, cut_data_sm_octets, cut_data_sm_pdu, full_data_sm_octets, full_data_sm, full_data_sm_pdu, full_submit, full_deliver};
+ghost use Rattle.smq_pdu.specs.Decoded.{submit_view, deliver_view, data_sm_view, pdu_view};
+ghost use Rattle.smq_pdu.specs.Equalities.{is_same_submit, is_same_deliver, is_same_data_sm, is_same_pdu};
 ghost use Rattle.smq_pdu.specs.declared.body.Submit.{Submit};
 ghost use Rattle.smq_pdu.specs.declared.body.Deliver.{Deliver};
+ghost use Rattle.smq_pdu.specs.declared.data_sm.DataSm.{DataSm};
 ghost use Rattle.smq_pdu.specs.declared.pdu.Pdu.{Pdu};
 
 /// The fields that are read at the front of a body are the ones that it begins with, and no others.
@@ -23,6 +25,10 @@ pub fn fields_are_read()
         → mandatory_at octets ≡ Some (fields, rest) → BeginsWith octets fields rest }
     ensures again { (octets rest : List ℕ) (fields : Mandatory)
         → BeginsWith octets fields rest → mandatory_at octets ≡ Some (fields, rest) }
+    ensures data_sm_found { (octets rest : List ℕ) (fields : DataSmFields)
+        → data_sm_fields_at octets ≡ Some (fields, rest) → BeginsWithDataSm octets fields rest }
+    ensures data_sm_again { (octets rest : List ℕ) (fields : DataSmFields)
+        → BeginsWithDataSm octets fields rest → data_sm_fields_at octets ≡ Some (fields, rest) }
 {}
 
 /// Any octets are one list of parameters and one rest, those that are read.
@@ -53,6 +59,8 @@ pub fn bodies_are_read(octets: &[u8])
         → (said octets.now ≡ SubmitBody submit) ↔ IsSubmit octets.now submit }
     ensures deliver { (deliver : DeliverValue)
         → (said octets.now ≡ DeliverBody deliver) ↔ IsDeliver octets.now deliver }
+    ensures data_sm { (message : DataSmValue)
+        → (said octets.now ≡ DataSmBody message) ↔ IsDataSm octets.now message }
     ensures undecodable { (said octets.now ≡ UndecodableBody) ↔ IsUndecodable octets.now }
     ensures other { (all : List ℕ) → (said all ≡ OtherBody) ↔ IsOther all }
 
@@ -60,9 +68,12 @@ pub fn bodies_are_read(octets: &[u8])
     ensures unique { (body : List ℕ) (fields others : Mandatory) (tlvs more : List Tlv)
         (rest left : List ℕ) → IsBody body fields tlvs rest → IsBody body others more left
         → (fields ≡ others) × (tlvs ≡ more) × (rest ≡ left) }
+    ensures data_sm_unique { (body : List ℕ) (fields others : DataSmFields) (tlvs more : List Tlv)
+        (rest left : List ℕ) → IsDataSmBody body fields tlvs rest
+        → IsDataSmBody body others more left → (fields ≡ others) × (tlvs ≡ more) × (rest ≡ left) }
 {}
 
-/// A submit_sm_resp has the id that its body begins with, where that has 1 to 64 octets, or none.
+/// A submit_sm_resp or data_sm_resp has the id that its body begins with, where that has 1 to 64 octets, or none.
 pub fn responses_are_read()
     ensures id { (octets id : List ℕ)
         → (said octets ≡ SubmitAnswerBody (Some id)) ↔ IsSubmitResponse octets id }
@@ -82,12 +93,14 @@ pub fn pairs_are_found()
     ensures in_turn { FindsInTurn }
 {}
 
-/// Two PDUs, two submit_sm or two deliver_sm are equal by `==` exactly where they say the same.
+/// Two PDUs, two submit_sm, two deliver_sm or two data_sm are equal by `==` exactly where they say the same.
 pub fn pdus_are_told_apart()
     ensures submits { (a b : Submit) →
         IsTrue (is_same_submit a b) ↔ (submit_view a ≡ submit_view b) }
     ensures delivers { (a b : Deliver) →
         IsTrue (is_same_deliver a b) ↔ (deliver_view a ≡ deliver_view b) }
+    ensures data_sms { (a b : DataSm) →
+        IsTrue (is_same_data_sm a b) ↔ (data_sm_view a ≡ data_sm_view b) }
     ensures pdus { (a b : Pdu) → IsTrue (is_same_pdu a b) ↔ (pdu_view a ≡ pdu_view b) }
 {}
 
@@ -120,7 +133,18 @@ pub fn known_pdus()
     ensures words { pdu_of words_octets ≡ words_pdu }
 {}
 
-/// The message ids of some bodies of submit_sm_resp, at their limits and just past them (SMPP 3.4, 5.2.23).
+/// What some data_sm and a data_sm_resp say (SMPP 3.4, 4.7.1 and 4.7.2).
+pub fn known_data_sms()
+    ensures message { pdu_of data_sm_octets ≡ data_sm_pdu }
+    ensures response { pdu_of data_sm_resp_octets ≡ data_sm_resp_pdu }
+    ensures receipt { pdu_of data_sm_receipt_octets ≡ data_sm_receipt_pdu }
+    ensures cut { pdu_of cut_data_sm_octets ≡ cut_data_sm_pdu }
+    ensures each_field { pdu_of full_data_sm_octets ≡ full_data_sm_pdu }
+    ensures as_submit { submit_of_data_sm full_data_sm ≡ full_submit }
+    ensures as_deliver { deliver_of_data_sm full_data_sm ≡ full_deliver }
+{}
+
+/// The message ids of some bodies of submit_sm_resp and data_sm_resp, at their limits and just past them (SMPP 3.4, 5.2.23).
 pub fn known_ids()
     ensures longest { id_of (id_of_64 ++ 0 ∷ []) ≡ Some id_of_64 }
     ensures too_long { id_of (id_of_64 ++ 52 ∷ 0 ∷ []) ≡ None }
@@ -183,10 +207,12 @@ pub fn known_tags()
 pub fn known_commands()
     ensures bind_receiver { IsRequestCommand 0x0000_0001 }
     ensures submit_sm { IsRequestCommand 0x0000_0004 }
+    ensures data_sm { IsRequestCommand 0x0000_0103 }
     ensures last_request { IsRequestCommand 0x7fff_ffff }
     ensures outbind { IsNeitherCommand 0x0000_000b }
     ensures alert_notification { IsNeitherCommand 0x0000_0102 }
     ensures generic_nack { IsResponseCommand 0x8000_0000 }
+    ensures data_sm_resp { IsResponseCommand 0x8000_0103 }
     ensures outbind_with_bit_31 { IsResponseCommand 0x8000_000b }
     ensures last_response { IsResponseCommand 0xffff_ffff }
 {}
@@ -205,5 +231,8 @@ pub fn known_pairs()
     // Pairs are made by rank alone, so these two disagree.
     ensures disagrees { agrees (header_with 0x0000_0004) (header_with 0x8000_0015) ≡ false }
     ensures agrees { agrees (header_with 0x0000_0004) (header_with 0x8000_0004) ≡ true }
+    ensures data_sm_agrees { agrees (header_with 0x0000_0103) (header_with 0x8000_0103) ≡ true }
+    ensures data_sm_of_submit { agrees (header_with 0x0000_0103) (header_with 0x8000_0004) ≡ false }
+    ensures submit_of_data_sm { agrees (header_with 0x0000_0004) (header_with 0x8000_0103) ≡ false }
     ensures nack_agrees { agrees (header_with 0x0000_0004) (header_with 0x8000_0000) ≡ true }
 {}

@@ -3,6 +3,7 @@
 
 mod body;
 mod command;
+mod data_sm;
 mod fields;
 mod laws;
 mod pdu;
@@ -10,9 +11,11 @@ mod tlv;
 
 pub use body::{Body, Deliver, Submit, SubmitAnswer};
 pub use command::{agrees, is_request, is_response};
+pub use data_sm::DataSm;
 pub use laws::{
-    bodies_are_read, commands_are_told_apart, fields_are_read, known_commands, known_ids,
-    known_numbers, known_pairs, known_parameters, known_pdus, known_tags, numbers_are_read,
-    pairs_are_found, parameters_are_read, pdus_are_told_apart, responses_are_read,
+    bodies_are_read, commands_are_told_apart, fields_are_read, known_commands, known_data_sms,
+    known_ids, known_numbers, known_pairs, known_parameters, known_pdus, known_tags,
+    numbers_are_read, pairs_are_found, parameters_are_read, pdus_are_told_apart,
+    responses_are_read,
 };
 pub use pdu::{Pdu, decode};

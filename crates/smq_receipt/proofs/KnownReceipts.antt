@@ -23,6 +23,7 @@ known = record {
   network_error_code = refl;
   receipted_message_id = refl;
   message_payload = refl;
+  data_sm = refl;
   interim = refl;
   other_word = refl;
   space_first = refl;

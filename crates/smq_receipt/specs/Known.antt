@@ -1,6 +1,7 @@
 -- What the definitions say of known receipts and at each limit, so that none of them is right by itself alone.
 use Rattle.std.specs.Prelude.{◌≡◌, ℕ, zero, suc, ◌+◌, List, [], ◌∷◌, ◌++◌, map, filter, codes, Option, Some, None, ℤ, pos, neg_ℤ, true, false}
-use Rattle.smq_pdu.specs.Bodies.{DeliverValue}
+use Rattle.smq_pdu.specs.Bodies.{DeliverValue, deliver_of_data_sm}
+use Rattle.smq_pdu.specs.KnownDataSms.{data_sm_receipt}
 use Rattle.smq_receipt.specs.Dates.{is_date, second_of_day_of, moment_of}
 use Rattle.smq_receipt.specs.Errors.{network_code_in}
 use Rattle.smq_receipt.specs.Readings.{is_receipt, is_interim, usable_id, receipted_id, state_in, reading_of}
@@ -116,6 +117,7 @@ pub record ReadingsOfKnownReceipts : Type 0 where
   pub message_payload : reading_of
       (record (deliver_saying 0x04 []) { message_payload = Some (codes "id:1 stat:DELIVRD") })
       ≡ receipt_reading (codes "1") Delivered Unstated None
+  pub data_sm : reading_of (deliver_of_data_sm data_sm_receipt) ≡ receipt_reading (codes "1") Delivered Unstated None
   pub interim : reading_of (deliver_saying 0x20 (codes "id:1 stat:DELIVRD"))
       ≡ v.Receipt
       (record { id = codes "1"; state = Delivered; interim = true; error = Unstated; centre_delay = None })

@@ -1,4 +1,5 @@
--- What a deliver_sm says as a delivery receipt (SMPP 3.4, appendix B, and this project's lenient reading of it).
+-- What a deliver_sm or data_sm says as a delivery receipt (SMPP 3.4, appendix B, and this project's lenient reading of it).
+-- A data_sm stands here as a deliver_sm whose short_message is empty.
 use Rattle.std.specs.Prelude.{ℕ, ◌==◌, ◌||◌, nat_le, ◌&&◌, if◌then◌else◌, Bool, bit_and, List, [], ◌∷◌, length, codes, Option, Some, None, is_some, unwrap_or, option_and_then, ℤ}
 use Rattle.std.specs.Option.{option_or}
 use Rattle.std.specs.List.{before_first}
@@ -21,11 +22,11 @@ is_delivery_receipt d = bit_and d.esm_class 0x3C == 0x04
 abbrev pub is_interim : DeliverValue → Bool
 is_interim d = bit_and d.esm_class 0x3C == 0x20
 
--- a deliver_sm is a receipt where esm_class says either, or receipted_message_id is there
+-- it is a receipt where esm_class says either, or receipted_message_id is there
 abbrev pub is_receipt : DeliverValue → Bool
 is_receipt d = is_delivery_receipt d || is_interim d || is_some d.receipted_message_id
 
--- the text: short_message, or where it has no octets message_payload, or empty
+-- the text: short_message, or where it has no octets (as in a data_sm) message_payload, or empty
 unfoldable pub text_of : DeliverValue → List ℕ
 text_of d = if length d.short_message == 0 then unwrap_or d.message_payload [] else d.short_message
 
@@ -76,6 +77,6 @@ unfoldable pub receipt_of : DeliverValue → List ℕ → Reading
 receipt_of d header =
     reading_with (id_of d header) (state_of d header) (is_interim d) (error_of d header) (centre_delay_of header)
 
--- what a deliver_sm says as a receipt
+-- what a deliver_sm or data_sm says as a receipt
 unfoldable pub reading_of : DeliverValue → Reading
 reading_of d = if is_receipt d then receipt_of d (header_of (text_of d)) else v.NotReceipt

@@ -1,4 +1,4 @@
-//! What a deliver_sm says as a delivery receipt (SMPP 3.4, appendix B).
+//! What a deliver_sm or data_sm says as a delivery receipt (SMPP 3.4, appendix B).
 #![tactic(auto)]
 
 mod date;

@@ -1,6 +1,6 @@
-//! What a deliver_sm says as a delivery receipt (SMPP 3.4, appendix B). Id, state and error are each read of their
-//! own parameter where that is usable, and else of their name in the text; a receipt without an id is told before one
-//! without a state.
+//! What a deliver_sm says as a delivery receipt (SMPP 3.4, appendix B), or a data_sm, whose text is message_payload. Id,
+//! state and error are each read of their own parameter where that is usable, and else of their name in the text; a receipt
+//! without an id is told before one without a state.
 ghost use Rattle.std.specs.Prelude.{◌≡◌, ◌==◌};
 ghost use Rattle.smq_pdu.specs.Decoded.{deliver_view};
 ghost use Rattle.smq_receipt.specs.Readings.{is_interim, is_receipt, text_of, usable_id, receipted_id, state_in, id_of, state_of, error_of, receipt_of, reading_of};
@@ -51,7 +51,7 @@ impl Receipt {
     }
 }
 
-/// What a deliver_sm says as a receipt.
+/// What a deliver_sm or data_sm says as a receipt.
 #[derive(Debug, PartialEq, Eq, Drop)]
 pub enum Reading {
     Receipt(Receipt),
@@ -76,7 +76,7 @@ impl Reading {
     }
 }
 
-/// What a deliver_sm says as a receipt. It takes no memory, and time linear in the text.
+/// What a deliver_sm says as a receipt; a data_sm as its `deliver` gives it. It takes no memory, and time linear in the text.
 #[tactic(auto, unfolding(crate::specs::Readings::reading_of))]
 pub fn read(deliver: &Deliver<'_>) -> Reading
     ensures { result ≡ reading_of (deliver_view deliver.now) }

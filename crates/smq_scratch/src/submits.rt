@@ -15,7 +15,7 @@ use smq_pdu::Submit;
 use std::alloc::AllocError;
 use std::marker::Model;
 
-/// A submitted message: a decodable submit_sm of the client, as it is kept, with its response where it has one.
+/// A submitted message: a decodable submit_sm or data_sm of the client, as it is kept, with its response where it has one.
 #[derive(Drop)]
 pub(crate) struct SubmittedMessage<'a> {
     pub source: Source,
@@ -35,7 +35,7 @@ impl<'a> Model for SubmittedMessage<'a> {
 }
 
 impl<'a> SubmittedMessage<'a> {
-    /// The place of its submit_sm.
+    /// The place of its submit_sm or data_sm.
     pub(crate) fn place(&self) -> Place
         ensures { result ≡ self.now.place }
     {
@@ -78,7 +78,7 @@ pub(crate) fn push_submits<'a>(
     Ok(())
 }
 
-/// The message that a PDU of the client is, where it is a decodable submit_sm.
+/// The message that a PDU of the client is, where it is a decodable submit_sm or data_sm.
 fn submit_at<'a>(
     source: Source,
     pairing: &mut Pairing,

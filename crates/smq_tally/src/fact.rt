@@ -9,7 +9,7 @@ use smq_kit::{LinkId, Network, Place, RouteId};
 /// What is known of one message.
 #[derive(Debug, PartialEq, Eq, Drop)]
 pub struct Fact {
-    /// Where its submit_sm (SMPP 3.4, 4.4.1) stands.
+    /// Where its submit_sm or data_sm (SMPP 3.4, 4.4.1 and 4.7.1) stands.
     pub place: Place,
     /// The link of its session.
     pub link: LinkId,
@@ -19,7 +19,7 @@ pub struct Fact {
     pub outcome: Outcome,
     /// Why it failed, where it was refused or failed.
     pub error: Option<SubmitError>,
-    /// Where it was delivered or failed, the band of the time from its submit_sm to its deciding receipt.
+    /// Where it was delivered or failed, the band of the time from the message to its deciding receipt.
     pub link_delay: Option<Band>,
     /// The band of the time from the submit date to the done date of that receipt (appendix B), where it has both.
     pub centre_delay: Option<Band>,

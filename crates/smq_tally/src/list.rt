@@ -21,9 +21,9 @@ pub enum List {
     AmbiguousReceipts,
     /// Final delivery receipts, no intermediate notifications, that match one message and don't decide it.
     ExtraReceipts,
-    /// deliver_sm of the centre that are delivery receipts without a usable message id or state.
+    /// deliver_sm and data_sm of the centre that are delivery receipts without a usable message id or state.
     Unreadable,
-    /// submit_sm (4.4.1) and deliver_sm (4.6.1) whose mandatory fields don't fit in the PDU, of both directions.
+    /// submit_sm (4.4.1), deliver_sm (4.6.1) and data_sm (4.7.1) whose mandatory fields don't fit in the PDU, of both directions.
     Undecodable,
     /// Where a direction breaks off: the offset of a command_length (5.1.1) out of its range.
     Broken,

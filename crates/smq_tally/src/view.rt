@@ -13,7 +13,7 @@ pub enum View {
     Network,
     /// By why it failed.
     Error,
-    /// By the time from the submit_sm to its deciding receipt, on this link.
+    /// By the time from the message to its deciding receipt, on this link.
     LinkDelay,
     /// By the time from the submit date to the done date of its deciding receipt (SMPP 3.4, appendix B), by the centre's clock.
     CentreDelay,

@@ -1,4 +1,6 @@
 //! What no clause says: that calls succeed, and frames of octets from outside.
+mod rests;
+
 use bytes::Bytes;
 use smq_frame::{Frame, Tail, frames};
 use smq_kit::Moment;
@@ -19,10 +21,10 @@ const BROKEN: &[u8] = b"\0\0\0\x31\0\0\0\x04\0\0\0\0\0\0\0\x01\0\0\01000\0\x01\x
     \0\0\0\0\0\x01\0\0\0\0";
 
 /// The offset of a frame, its moment in ms since 1970 in UTC, and its number of octets.
-type Found = (u64, u64, usize);
+pub type Found = (u64, u64, usize);
 
 /// The number of octets taken, the number of those that wait, and the offset of a bad length.
-type State = (u64, usize, Option<u64>);
+type State = (u64, u64, Option<u64>);
 
 /// Octets that come in pieces, and what is known of their frames and their tail.
 struct Row {
@@ -130,6 +132,69 @@ const ROWS: &[Row] = &[
         tail: (281_474_976_710_656, 0, None),
     },
     Row {
+        message: "1,200 octets octet by octet",
+        offset: 0,
+        front: &[0, 0, 4, 176],
+        octets: 1200,
+        piece: 1,
+        found: &[(0, 1_200_000, 1200)],
+        tail: (1200, 0, None),
+    },
+    Row {
+        message: "1,200 octets in pieces of 511",
+        offset: 0,
+        front: &[0, 0, 4, 176],
+        octets: 1200,
+        piece: 511,
+        found: &[(0, 3000, 1200)],
+        tail: (1200, 0, None),
+    },
+    Row {
+        message: "1,200 octets in pieces of 512",
+        offset: 0,
+        front: &[0, 0, 4, 176],
+        octets: 1200,
+        piece: 512,
+        found: &[(0, 3000, 1200)],
+        tail: (1200, 0, None),
+    },
+    Row {
+        message: "1,200 octets in pieces of 513",
+        offset: 0,
+        front: &[0, 0, 4, 176],
+        octets: 1200,
+        piece: 513,
+        found: &[(0, 3000, 1200)],
+        tail: (1200, 0, None),
+    },
+    Row {
+        message: "a length of 131,072 octet by octet",
+        offset: 0,
+        front: &[0, 2, 0, 0],
+        octets: 131_072,
+        piece: 1,
+        found: &[(0, 131_072_000, 131_072)],
+        tail: (131_072, 0, None),
+    },
+    Row {
+        message: "a length of 131,072 in pieces of 3,000",
+        offset: 0,
+        front: &[0, 2, 0, 0],
+        octets: 131_072,
+        piece: 3000,
+        found: &[(0, 44_000, 131_072)],
+        tail: (131_072, 0, None),
+    },
+    Row {
+        message: "all but the last of 131,072 octets in pieces of 7",
+        offset: 0,
+        front: &[0, 2, 0, 0],
+        octets: 131_071,
+        piece: 7,
+        found: &[],
+        tail: (131_071, 131_071, None),
+    },
+    Row {
         message: "a submit_sm after a bad length",
         offset: 0,
         front: BROKEN,
@@ -147,7 +212,7 @@ fn octets_of(rt: &impl Abort, alloc: Global, row: &Row) -> Vec<u8> {
     octets
 }
 
-fn found_as(frame: &Frame) -> Found {
+pub fn found_as(frame: &Frame) -> Found {
     let milliseconds = frame.moment.milliseconds();
     (frame.offset, milliseconds, frame.octets.len())
 }
@@ -161,7 +226,7 @@ fn push_found(found: &mut Vec<Found>, frames: &[Frame]) -> Result<(), AllocError
 }
 
 /// The tail takes a piece, and what was found gets its frames.
-fn take(
+pub fn take(
     rt: &impl Abort,
     alloc: Global,
     tail: &mut Tail,
@@ -177,7 +242,7 @@ fn take(
 }
 
 /// The moment of the n-th piece.
-fn moment_of(rt: &impl Abort, number: usize) -> Moment {
+pub fn moment_of(rt: &impl Abort, number: usize) -> Moment {
     Moment::new((number as u64).saturating_mul(1000)).expect(rt, "a moment")
 }
 
@@ -196,11 +261,11 @@ fn feed(rt: &impl Abort, alloc: Global, tail: &mut Tail, row: &Row) -> Vec<Found
 
 /// What a tail shows.
 fn state_of(tail: &Tail) -> State {
-    (tail.offset(), tail.rest().len(), tail.broken())
+    (tail.offset(), tail.waiting_octets(), tail.broken())
 }
 
 /// Whether a copy of a tail shows the same, and is told to be the same.
-fn is_copied(tail: &Tail) -> bool {
+pub fn is_copied(tail: &Tail) -> bool {
     match tail.copy() {
         Ok(copy) => state_of(&copy) == state_of(tail) && tail.is_same(&copy),
         Err(_) => false,

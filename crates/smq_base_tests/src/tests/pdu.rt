@@ -1,13 +1,14 @@
 //! Octets whose meaning is known, and bodies at the edges of the standard.
 mod bodies;
 mod commands;
+mod data_sms;
 mod destinations;
 mod whole;
 
 use bytes::Bytes;
 use smq_frame::{Frame, Tail, frames};
 use smq_kit::{Digits, MessageId, Moment};
-use smq_pdu::{Body, Deliver, Pdu, Submit, SubmitAnswer, decode};
+use smq_pdu::{Body, DataSm, Deliver, Pdu, Submit, SubmitAnswer, decode};
 use std::alloc::{AllocError, Global};
 use std::process::Abort;
 
@@ -22,15 +23,26 @@ pub const SUBMIT_SM_RESP: u32 = 0x8000_0004;
 pub enum Says {
     /// A submit_sm with this registered_delivery and this number, or no number where it is empty.
     Submit(u8, &'static [u8]),
-    /// A submit_sm_resp with this id, or none where it is empty.
+    /// A submit_sm_resp or data_sm_resp with this id, or none where it is empty.
     Response(&'static [u8]),
     Deliver(Deliver<'static>),
     /// A deliver_sm with esm_class 4, an empty message, and of the parameters receipted_message_id, message_payload and
     /// message_state these.
     Parameters(Option<&'static [u8]>, Option<&'static [u8]>, Option<&'static [u8]>),
+    /// A data_sm with this registered_delivery, this number, or no number where it is empty, this esm_class and these
+    /// parameters.
+    DataSm(u8, &'static [u8], u8, Parameters),
     Other,
     Undecodable,
 }
+
+/// The values of receipted_message_id, network_error_code, message_payload and message_state.
+pub type Parameters = (
+    Option<&'static [u8]>,
+    Option<&'static [u8]>,
+    Option<&'static [u8]>,
+    Option<&'static [u8]>,
+);
 
 /// sequence_number, command_id and command_status.
 type Header = (u32, u32, u32);
@@ -42,12 +54,47 @@ pub struct Row {
     says: Says,
 }
 
+fn submit_of(registered_delivery: u8, number: &[u8]) -> Submit {
+    Submit {
+        registered_delivery,
+        number: Digits::parse(number).ok(),
+    }
+}
+
+fn data_sm_of(
+    registered_delivery: u8,
+    number: &[u8],
+    esm_class: u8,
+    (id, code, payload, state): Parameters,
+) -> DataSm<'static> {
+    DataSm {
+        esm_class,
+        registered_delivery,
+        number: Digits::parse(number).ok(),
+        receipted_message_id: id,
+        network_error_code: code,
+        message_payload: payload,
+        message_state: state,
+    }
+}
+
+/// What a data_sm with these says as what a centre hands to a client.
+fn handed_of(esm_class: u8, (id, code, payload, state): Parameters) -> Deliver<'static> {
+    Deliver {
+        esm_class,
+        short_message: b"",
+        receipted_message_id: id,
+        network_error_code: code,
+        message_payload: payload,
+        message_state: state,
+    }
+}
+
 fn body_of(says: &Says) -> Body<'static> {
     match says {
-        Says::Submit(registered_delivery, number) => Body::Submit(Submit {
-            registered_delivery: *registered_delivery,
-            number: Digits::parse(number).ok(),
-        }),
+        Says::Submit(registered_delivery, number) => {
+            Body::Submit(submit_of(*registered_delivery, number))
+        }
         Says::Response(id) => Body::SubmitAnswer(SubmitAnswer {
             message_id: MessageId::new(id).ok(),
         }),
@@ -60,6 +107,12 @@ fn body_of(says: &Says) -> Body<'static> {
             message_payload: *payload,
             message_state: *state,
         }),
+        Says::DataSm(registered_delivery, number, esm_class, parameters) => Body::DataSm(data_sm_of(
+            *registered_delivery,
+            number,
+            *esm_class,
+            *parameters,
+        )),
         Says::Other => Body::Other,
         Says::Undecodable => Body::Undecodable,
     }
@@ -73,6 +126,20 @@ fn is_copied(body: &Body<'_>) -> bool {
     }
 }
 
+/// Whether a body, where it is a data_sm, says as a message and as what a centre hands to a client what it is to say.
+fn says_both(body: &Body<'_>, says: &Says) -> bool {
+    match body {
+        Body::DataSm(message) => match says {
+            Says::DataSm(registered_delivery, number, esm_class, parameters) => {
+                message.submit() == submit_of(*registered_delivery, number)
+                    && message.deliver() == handed_of(*esm_class, *parameters)
+            }
+            _ => false,
+        },
+        _ => true,
+    }
+}
+
 fn is_pdu(pdu: &Pdu<'_>, (seq, command, status): Header, says: &Says) -> bool {
     let wanted = Pdu {
         seq,
@@ -80,7 +147,7 @@ fn is_pdu(pdu: &Pdu<'_>, (seq, command, status): Header, says: &Says) -> bool {
         status,
         body: body_of(says),
     };
-    *pdu == wanted && is_copied(&pdu.body)
+    *pdu == wanted && is_copied(&pdu.body) && says_both(&pdu.body, says)
 }
 
 /// The frame that these octets are.

@@ -14,7 +14,7 @@ use Rattle.smq_book.specs.present.Kept.{kept_pdus, receipt_in, submit_in}
 use Rattle.smq_book.specs.pairing.Traffic.{Message, ReceivedReceipt, TrafficValue, origin_of, places_where}
 use Rattle.smq_book.specs.join.Moves.{Move, PutMessage, PutReceipt}
 
--- whether a PDU is a decodable submit_sm
+-- whether a PDU is a decodable submit_sm or data_sm
 abbrev pub is_submit : Content → Bool
 is_submit content = is_some (submit_in content)
 

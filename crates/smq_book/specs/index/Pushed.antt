@@ -59,7 +59,7 @@ abbrev pub said_in : List KeptPdu → Option Pair → Option Response
 said_in centre made =
     option_and_then (λ pair. option_map (said_by pair) (pdu_at centre pair.response.offset)) made
 
--- the message that a submit_sm is, with what its response says, where it has one
+-- the message that a submit_sm or data_sm is, with what its response says, where it has one
 abbrev pub message_with : Origin → KeptPdu → Submit → Option Response → Message
 message_with origin p submit response = record {
   link = origin.link;

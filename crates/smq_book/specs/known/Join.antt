@@ -8,6 +8,8 @@ use Rattle.smq_kit.specs.declared.names.LinkId.{LinkId}
 use Rattle.smq_kit.specs.declared.place.Dir.TheVariants.{FromClient, FromCentre}
 use Rattle.smq_kit.specs.declared.error_code.ErrorCode.TheVariants as e
 use Rattle.smq_receipt.specs.declared.message_state.MessageState.TheVariants.{Enroute, Delivered, Expired, Deleted, Undeliverable, Accepted, Unknown, Rejected}
+use Rattle.smq_receipt.specs.declared.reading.Reading.{Reading}
+use Rattle.smq_receipt.specs.declared.reading.Reading.TheVariants as v
 use Rattle.smq_tally.specs.declared.list.List.TheVariants as l
 use Rattle.smq_tally.specs.declared.list.Listed.{Listed}
 use Rattle.smq_tally.specs.declared.band.Band.{Band}
@@ -27,7 +29,7 @@ use Rattle.smq_book.specs.join.Keyed.{grouping_of}
 use Rattle.smq_book.specs.join.Listings.{receipt_notes}
 use Rattle.smq_book.specs.join.Outcomes.{is_delivered}
 use Rattle.smq_tally.specs.Lists.{listed}
-use Rattle.smq_book.specs.known.Pairing.{pdu, submit, accepted, without_id, nack, link_response, receipt_saying, receipt_pdu, delivered, failed, delivered_after, known_origin, place_at}
+use Rattle.smq_book.specs.known.Pairing.{pdu, submit, data_sm, data_sm_accepted, accepted, without_id, nack, link_response, receipt_saying, receipt_pdu, delivered, failed, delivered_after, known_origin, place_at}
 
 -- link 1 has these forms
 abbrev pub settings_with : Form → Form → SettingsValue
@@ -97,6 +99,10 @@ listings_under response receipt client centre later =
 abbrev pub listings_after : List KeptPdu → List KeptPdu → List Listed
 listings_after centre later = listings_under Verbatim Verbatim (submit 0 1 1 ∷ []) (accepted 1 ∷ centre) later
 
+-- the reading of a receipt of the message id `1` that says that the message was delivered
+abbrev pub known_receipt : Reading
+known_receipt = v.Receipt (receipt_saying Delivered e.Unstated false)
+
 -- What became of messages that are written out.
 pub record KnownOutcomes : Type 0 where
   pub unanswered : outcomes_by_delivery [] (0 ∷ 1 ∷ []) ≡ o.Waiting ∷ o.Waiting ∷ []
@@ -129,6 +135,18 @@ pub record KnownOutcomes : Type 0 where
       outcomes_among (pdu 0 0x0000_0004 0 7 c.Undecodable ∷ submit 16 7 1 ∷ []) (accepted 7 ∷ [])
       ≡ o.Waiting ∷ []
   pub of_the_centre : outcomes_among [] (submit 0 7 1 ∷ []) ≡ []
+  -- a data_sm of the client is a message as a submit_sm is, and the response to either is of its own command
+  pub by_data_sm :
+      outcomes_among (data_sm 0 1 1 v.NotReceipt ∷ data_sm 42 2 0 v.NotReceipt ∷ []) (data_sm_accepted 1 ∷ [])
+      ≡ o.Open ∷ o.Waiting ∷ []
+  pub unasked_by_data_sm :
+      outcomes_among (data_sm 0 1 0 v.NotReceipt ∷ []) (data_sm_accepted 1 ∷ [])
+      ≡ o.Unasked ∷ []
+  pub data_sm_resp_to_submit_sm : outcomes_among (submit 0 1 1 ∷ []) (data_sm_accepted 1 ∷ []) ≡ o.Mismatched ∷ []
+  pub submit_sm_resp_to_data_sm :
+      outcomes_among (data_sm 0 1 1 v.NotReceipt ∷ []) (accepted 1 ∷ [])
+      ≡ o.Mismatched ∷ []
+  pub data_sm_of_the_centre : outcomes_among [] (data_sm 0 7 1 v.NotReceipt ∷ []) ≡ []
   pub first_fact :
       known_facts (settings_with Verbatim Verbatim) (submit 49 7 1 ∷ []) []
       ≡ record {
@@ -183,6 +201,13 @@ pub record KnownReceipts : Type 0 where
       (accepted 1 ∷ receipt_pdu 18 4000 (receipt_saying Undeliverable e.Unstated true) ∷ delivered 68 5000 ∷ [])
       ≡ o.Delivered ∷ []
   pub of_the_client : outcomes_among (submit 0 1 1 ∷ delivered 49 5000 ∷ []) (accepted 1 ∷ []) ≡ o.Open ∷ []
+  -- a data_sm of the centre may be a receipt, and one of the client is a message
+  pub by_data_sm :
+      outcomes_among (submit 0 1 1 ∷ []) (accepted 1 ∷ data_sm 18 90 0 known_receipt ∷ [])
+      ≡ o.Delivered ∷ []
+  pub of_the_clients_data_sm :
+      outcomes_among (submit 0 1 1 ∷ data_sm 49 2 0 known_receipt ∷ []) (accepted 1 ∷ [])
+      ≡ o.Open ∷ o.Waiting ∷ []
   pub refused : outcomes_among (submit 0 1 1 ∷ []) (nack 3 1 ∷ delivered 16 5000 ∷ []) ≡ o.Refused ∷ []
   pub ambiguous :
       outcomes_among (submit 0 1 1 ∷ submit 49 2 0 ∷ []) (accepted 1 ∷ accepted 2 ∷ delivered 36 5000 ∷ [])

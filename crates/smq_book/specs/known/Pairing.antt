@@ -9,6 +9,7 @@ use Rattle.smq_kit.specs.declared.error_code.ErrorCode.{ErrorCode}
 use Rattle.smq_kit.specs.declared.error_code.ErrorCode.TheVariants as e
 use Rattle.smq_receipt.specs.declared.message_state.MessageState.{MessageState}
 use Rattle.smq_receipt.specs.declared.message_state.MessageState.TheVariants.{Delivered, Undeliverable}
+use Rattle.smq_receipt.specs.declared.reading.Reading.{Reading}
 use Rattle.smq_receipt.specs.declared.reading.Reading.TheVariants as v
 use Rattle.smq_receipt.specs.declared.reading.Receipt.{Receipt}
 use Rattle.smq_tally.specs.declared.list.List.TheVariants as l
@@ -43,6 +44,15 @@ accepted seq = pdu 0 0x8000_0004 0 seq (c.SubmitAnswer (Some (49 ∷ [])))
 -- a submit_sm_resp with status 0 and no message id
 abbrev pub without_id : ℕ → KeptPdu
 without_id seq = pdu 0 0x8000_0004 0 seq (c.SubmitAnswer None)
+
+-- a data_sm (0x00000103) with this registered_delivery that says this as a delivery receipt
+abbrev pub data_sm : ℕ → ℕ → ℕ → Reading → KeptPdu
+data_sm offset seq registered_delivery reading = pdu offset 0x0000_0103 0 seq
+    (c.DataSm (record { registered_delivery = registered_delivery; number = None }) reading)
+
+-- a data_sm_resp (0x80000103) with status 0 and the message id `1`
+abbrev pub data_sm_accepted : ℕ → KeptPdu
+data_sm_accepted seq = pdu 0 0x8000_0103 0 seq (c.SubmitAnswer (Some (49 ∷ [])))
 
 -- a generic_nack (0x80000000) with this status
 abbrev pub nack : ℕ → ℕ → KeptPdu
@@ -109,19 +119,20 @@ notes_centre =
     pdu 0 0x8000_0004 0 7 (c.SubmitAnswer None) ∷ pdu 16 0x8000_0015 0 8 c.Other
     ∷ pdu 32 0x8000_0004 0 6 (c.SubmitAnswer None) ∷ pdu 48 0x0000_0005 0 5 c.Other ∷ pdu 64 0x0000_0015 0 3 c.Other ∷ []
 
--- a session: its client sends a submit_sm and a deliver_sm that can't be decoded, and a receipt without an id, which is none
+-- a session: its client sends a submit_sm and a deliver_sm that can't be decoded, and receipts without an id, which are none
 abbrev pub unread_client : List KeptPdu
 unread_client =
     pdu 0 0x0000_0004 0 1 c.Undecodable ∷ pdu 20 0x0000_0005 0 2 c.Undecodable
-    ∷ pdu 40 0x0000_0005 0 3 (c.Deliver v.NoId) ∷ []
+    ∷ pdu 40 0x0000_0005 0 3 (c.Deliver v.NoId) ∷ data_sm 90 4 0 v.NoId ∷ []
 
--- its centre sends a receipt without an id, one without a state, a message that is no receipt, a receipt with both, and a
--- submit_sm and a deliver_sm that can't be decoded
+-- its centre sends a receipt without an id, one without a state, a message that is no receipt, a receipt with both, a
+-- submit_sm and a deliver_sm that can't be decoded, and by data_sm a receipt without an id, one without a state, and a message
 abbrev pub unread_centre : List KeptPdu
 unread_centre =
     pdu 0 0x0000_0005 0 1 (c.Deliver v.NoId) ∷ pdu 50 0x0000_0005 0 2 (c.Deliver v.NoState)
     ∷ pdu 100 0x0000_0005 0 3 (c.Deliver v.NotReceipt) ∷ delivered 150 5000
-    ∷ pdu 200 0x0000_0004 0 4 c.Undecodable ∷ pdu 220 0x0000_0005 0 5 c.Undecodable ∷ []
+    ∷ pdu 200 0x0000_0004 0 4 c.Undecodable ∷ pdu 220 0x0000_0005 0 5 c.Undecodable
+    ∷ data_sm 240 6 0 v.NoId ∷ data_sm 280 7 0 v.NoState ∷ data_sm 320 8 0 v.NotReceipt ∷ []
 
 -- a PDU of a command below 256 (as a response or not), with a status of 0, a sequence_number below 256 and a body
 abbrev pub pdu_octets : ℕ → ℕ → ℕ → List ℕ → List ℕ
@@ -165,6 +176,7 @@ pub record KnownNotes : Type 0 where
   pub contents :
       content_notes known_origin unread_client unread_centre
       ≡ listed l.Unreadable (place_at 10 FromCentre 0) ∷ listed l.Unreadable (place_at 10 FromCentre 50)
+      ∷ listed l.Unreadable (place_at 10 FromCentre 240) ∷ listed l.Unreadable (place_at 10 FromCentre 280)
       ∷ listed l.Undecodable (place_at 10 FromClient 0) ∷ listed l.Undecodable (place_at 10 FromClient 20)
       ∷ listed l.Undecodable (place_at 10 FromCentre 200) ∷ listed l.Undecodable (place_at 10 FromCentre 220) ∷ []
   pub octets :

@@ -33,8 +33,8 @@ pub record Response : Type 0 where
   pub status : ℕ
   pub id : Option (List ℕ)
 
--- a message: a decodable submit_sm of the client (SMPP 3.4, 4.4.1), with the number that it is sent to and its response,
--- where it has them
+-- a message: a decodable submit_sm or data_sm of the client (SMPP 3.4, 4.4.1 and 4.7.1), with the number that it is sent to
+-- and its response, where it has them
 pub record Message : Type 0 where
   pub link : LinkId
   pub moment : ℕ
@@ -42,7 +42,8 @@ pub record Message : Type 0 where
   pub asks_receipt : Bool
   pub response : Option Response
 
--- a delivery receipt: a deliver_sm of the centre (4.6.1) that says which message it is of and what became of it
+-- a delivery receipt: a deliver_sm or data_sm of the centre (4.6.1 and 4.7.1) that says which message it is of and what
+-- became of it
 pub record ReceivedReceipt : Type 0 where
   pub link : LinkId
   pub moment : ℕ
@@ -93,7 +94,7 @@ place_of origin dir p = record { session = origin.session; dir = dir; offset = p
 abbrev pub asks_receipt : ℕ → Bool
 asks_receipt registered_delivery = not (registered_delivery % 4 == 0)
 
--- the message that a submit_sm and its response are
+-- the message that a submit_sm or data_sm and its response are
 abbrev pub message_of : Origin → KeptPdu → Submit → Option KeptPdu → Message
 message_of origin p submit response = record {
   link = origin.link;
@@ -103,7 +104,7 @@ message_of origin p submit response = record {
   response = option_map (response_in (header_of p)) response;
 }
 
--- the message that a PDU of the client is, at its place, where it is a decodable submit_sm
+-- the message that a PDU of the client is, at its place, where it is a decodable submit_sm or data_sm
 abbrev pub message_at : Origin → List KeptPdu → List KeptPdu → KeptPdu → Option (Place × Message)
 message_at origin centre earlier p =
     option_map (λ submit. (place_of origin FromClient p, message_of origin p submit (response_to centre earlier p)))

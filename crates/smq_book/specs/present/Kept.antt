@@ -2,7 +2,7 @@
 use Rattle.std.specs.Prelude.{ℕ, Bool, true, false, List, map, Option, Some, None, option_map, option_and_then, unwrap_or}
 use Rattle.smq_frame.specs.Stream.{Octet}
 use Rattle.smq_pdu.specs.Header.{Header}
-use Rattle.smq_pdu.specs.Bodies.{BodyValue, SubmitBody, SubmitAnswerBody, DeliverBody, OtherBody, UndecodableBody}
+use Rattle.smq_pdu.specs.Bodies.{BodyValue, SubmitValue, SubmitBody, SubmitAnswerBody, DeliverBody, DataSmBody, OtherBody, UndecodableBody, submit_of_data_sm, deliver_of_data_sm}
 use Rattle.smq_pdu.specs.Placed.{PlacedPdu, stream_pdus}
 use Rattle.smq_pdu.specs.declared.body.Submit.{Submit}
 use Rattle.smq_receipt.specs.Readings.{reading_of}
@@ -13,12 +13,17 @@ use Rattle.smq_book.specs.declared.present.kept.Content.{Content}
 use Rattle.smq_book.specs.declared.present.kept.Content.TheVariants as c
 use Rattle.smq_book.specs.declared.present.kept.KeptPdu.{KeptPdu}
 
+-- what is kept of what is read of a submit_sm
+abbrev pub kept_submit : SubmitValue → Submit
+kept_submit submit = record { registered_delivery = submit.registered_delivery; number = submit.number }
+
 -- what is kept of a body
 abbrev pub content_of_body : BodyValue → Content
-content_of_body (SubmitBody submit) =
-    c.Submit (record { registered_delivery = submit.registered_delivery; number = submit.number })
+content_of_body (SubmitBody submit) = c.Submit (kept_submit submit)
 content_of_body (SubmitAnswerBody id) = c.SubmitAnswer id
 content_of_body (DeliverBody deliver) = c.Deliver (reading_of deliver)
+content_of_body (DataSmBody message) =
+    c.DataSm (kept_submit (submit_of_data_sm message)) (reading_of (deliver_of_data_sm message))
 content_of_body OtherBody = c.Other
 content_of_body UndecodableBody = c.Undecodable
 
@@ -47,22 +52,24 @@ headers_of pdus = map header_of pdus
 
 -- ---- what a PDU says: these four alone know the cases of its content
 
--- the submit_sm that it is, where it can be decoded (SMPP 3.4, 4.4.1)
+-- the submit_sm or data_sm that it is, where it can be decoded (SMPP 3.4, 4.4.1 and 4.7.1)
 abbrev pub submit_in : Content → Option Submit
 submit_in (c.Submit submit) = Some submit
+submit_in (c.DataSm submit reading) = Some submit
 submit_in _ = None
 
--- the message id that a submit_sm_resp gives, where it gives one (4.4.2)
+-- the message id that a submit_sm_resp or data_sm_resp gives, where it gives one (4.4.2 and 4.7.2)
 abbrev pub id_in : Content → Option (List ℕ)
 id_in (c.SubmitAnswer id) = id
 id_in _ = None
 
--- what a deliver_sm says as a delivery receipt (4.6.1, appendix B)
+-- what a deliver_sm or data_sm says as a delivery receipt (4.6.1, 4.7.1, appendix B)
 abbrev pub reading_in : Content → Option Reading
 reading_in (c.Deliver reading) = Some reading
+reading_in (c.DataSm submit reading) = Some reading
 reading_in _ = None
 
--- whether its body can't be read: it is a submit_sm or deliver_sm whose mandatory fields don't fit
+-- whether its body can't be read: it is a submit_sm, deliver_sm or data_sm whose mandatory fields don't fit
 abbrev pub is_undecodable : Content → Bool
 is_undecodable c.Undecodable = true
 is_undecodable _ = false

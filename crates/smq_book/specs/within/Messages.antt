@@ -14,7 +14,7 @@ use Rattle.smq_book.specs.present.Kept.{header_of, headers_of, submit_in, id_in}
 use Rattle.smq_book.specs.pairing.Traffic.{asks_receipt}
 use Rattle.smq_kit.specs.LinkKeys.{link_key}
 
--- a submitted message: a decodable submit_sm of the client (SMPP 3.4, 4.4.1), with the number that it is sent to and its
+-- a submitted message: a decodable submit_sm or data_sm of the client (SMPP 3.4, 4.4.1 and 4.7.1), with its number and its
 -- response, where it has them, and the key of its id where it is accepted
 pub record SubmittedMessage : Type 0 where
   pub link : LinkId
@@ -43,7 +43,7 @@ abbrev pub accepted_key : Source → Header → Option KeptPdu → Option LinkKe
 accepted_key source request response =
     option_map (link_key source.link source.forms.response) (accepted_id request response)
 
--- the message that a submit_sm and its response are
+-- the message that a submit_sm or data_sm and its response are
 abbrev pub message_of : Source → KeptPdu → Submit → Option KeptPdu → SubmittedMessage
 message_of source p submit response = record {
   link = source.link;
@@ -56,12 +56,12 @@ message_of source p submit response = record {
   key = accepted_key source (header_of p) response;
 }
 
--- a PDU of the client with this response, where it is this decodable submit_sm
+-- a PDU of the client with this response, where it is this decodable submit_sm or data_sm
 abbrev pub submit_with : Option Submit → Source → KeptPdu → Option KeptPdu → List SubmittedMessage
 submit_with (Some submit) source p response = message_of source p submit response ∷ []
 submit_with None source p response = []
 
--- the i-th PDU of the client, where it is this decodable submit_sm
+-- the i-th PDU of the client, where it is this decodable submit_sm or data_sm
 abbrev pub submit_by : Option Submit → Source → List KeptPdu → List KeptPdu → ℕ → KeptPdu → List SubmittedMessage
 submit_by submit source client centre i p = submit_with submit source p (response_of client centre i p)
 

@@ -19,7 +19,7 @@ abbrev pub Rises : ℕ → List KeptPdu → Type 0
 Rises low [] = Unit {0}
 Rises low (p ∷ pdus) = (low ≤ p.offset) × Rises (p.offset + 1) pdus
 
--- Each submit_sm among PDUs is a request, as it is in a stream.
+-- Each submit_sm and data_sm among PDUs is a request, as it is in a stream.
 pub record SubmitsAreRequests (pdus : List KeptPdu) : Type 0 where
   pub each : (i : ℕ) (p : KeptPdu) (submit : Submit) → slice_get pdus i ≡ Some p → submit_in p.content ≡ Some submit
       → is_request (header_of p) ≡ true

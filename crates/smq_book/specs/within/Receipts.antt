@@ -15,7 +15,7 @@ use Rattle.smq_book.specs.present.Kept.{receipt_in}
 use Rattle.smq_book.specs.join.Keyed.{can_decide}
 use Rattle.smq_kit.specs.LinkKeys.{link_key, same_key}
 
--- a delivery receipt: a deliver_sm of the centre (SMPP 3.4, 4.6.1) that says what became of a message
+-- a delivery receipt: a deliver_sm or data_sm of the centre (SMPP 3.4, 4.6.1 and 4.7.1) that says what became of a message
 pub record PlacedReceipt : Type 0 where
   pub link : LinkId
   pub place : Place

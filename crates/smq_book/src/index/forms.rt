@@ -159,7 +159,7 @@ fn push_places_of_receipts(
     Ok(())
 }
 
-/// Whether a PDU is a decodable submit_sm.
+/// Whether a PDU is a decodable submit_sm or data_sm.
 fn is_message(pdu: &KeptPdu) -> bool
     ensures { result ≡ is_submit pdu.now.content }
 {

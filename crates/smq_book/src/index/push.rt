@@ -51,7 +51,7 @@ fn said_in(centre: &[KeptPdu], made: Option<Pair>) -> Option<StoredResponse>
     Some(said(pair, response))
 }
 
-/// The message that a submit_sm is, with what its response says, where it has one.
+/// The message that a submit_sm or data_sm is, with what its response says, where it has one.
 fn message_with(
     link: LinkId,
     pdu: &KeptPdu,

@@ -17,7 +17,7 @@ ghost use Rattle.smq_tally.specs.Lists.{listed};
 ghost use Rattle.smq_book.specs.declared.present.session.Session.{Session as SessionValue};
 ghost use Rattle.smq_book.specs.known.Pairing.{InTurn, KnownNotes};
 ghost use Rattle.smq_book.specs.present.Kept.{header_of, headers_of, kept_pdus, submit_in};
-ghost use Rattle.smq_book.specs.pairing.Places.{octets_at, StandsAt};
+ghost use Rattle.smq_book.specs.pairing.Places.{octets_at, StandsAt, Says};
 ghost use Rattle.smq_book.specs.pairing.Pushes.{requests_of};
 ghost use Rattle.smq_book.specs.pairing.Traffic.{Origin, place_of, placed, pairing_among, response_to, message_at, messages_among, session_messages, session_receipts, traffic_of};
 
@@ -38,8 +38,8 @@ pub fn responses_are_those_of_pairs()
         (header_of p) (header_of r) }
 {}
 
-/// At the place of each submit_sm of a client the pairs of its session have the one with the response of its message, and
-/// none where that has none.
+/// At the place of each submit_sm and data_sm of a client the pairs of its session have the one with the response of its
+/// message, and none where that has none.
 pub fn responses_stand_in_pairs()
     ensures { (origin : Origin) (client centre : List Octet) (before after : List KeptPdu)
         (p : KeptPdu) (submit : Submit)
@@ -88,8 +88,7 @@ pub fn unread_places_are_noted()
     ensures unreadable { (sessions : map.FinMap nat_cmp SessionValue) (place : Place)
         → IsTrue (map.contains_key (traffic_of sessions).notes (listed list.Unreadable place))
         ↔ ((p : KeptPdu) × StandsAt sessions place p × (place.dir ≡ FromCentre)
-        × ((p.content ≡ Content.Deliver Reading.NoId)
-        ⊎ (p.content ≡ Content.Deliver Reading.NoState))) }
+        × (Says p.content Reading.NoId ⊎ Says p.content Reading.NoState)) }
     ensures undecodable { (sessions : map.FinMap nat_cmp SessionValue) (place : Place)
         → IsTrue (map.contains_key (traffic_of sessions).notes (listed list.Undecodable place))
         ↔ ((p : KeptPdu) × StandsAt sessions place p × (p.content ≡ Content.Undecodable)) }

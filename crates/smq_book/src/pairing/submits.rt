@@ -1,4 +1,4 @@
-//! What a submit_sm asks for.
+//! What a submit_sm or data_sm asks for.
 ghost use Rattle.std.specs.Prelude.{◌≡◌};
 ghost use Rattle.smq_book.specs.pairing.Traffic as traffic;
 

@@ -19,7 +19,7 @@ pub enum Edit {
     /// Sets the forms of a link's message ids.
     SetForm {
         link: LinkId,
-        /// That of ids in submit_sm_resp.
+        /// That of ids in submit_sm_resp and data_sm_resp.
         response: Form,
         /// That of ids in delivery receipts.
         receipt: Form,

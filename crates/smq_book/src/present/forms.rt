@@ -7,7 +7,7 @@ use smq_kit::Form;
 /// How a link's centre writes message ids.
 #[derive(Clone, Copy, Debug, PartialEq, Eq)]
 pub struct Forms {
-    /// In submit_sm_resp.
+    /// In submit_sm_resp and data_sm_resp.
     pub response: Form,
     /// In delivery receipts.
     pub receipt: Form,

@@ -15,13 +15,15 @@ use std::alloc::{AllocError, Global};
 pub enum Content {
     /// A submit_sm, as it was decoded (SMPP 3.4, 4.4.1).
     Submit(Submit),
-    /// A submit_sm_resp, with its message_id, where that has 1 to 64 octets.
+    /// A submit_sm_resp or data_sm_resp, with its message_id, where that has 1 to 64 octets.
     SubmitAnswer { message_id: Option<MessageId> },
     /// A deliver_sm, as what it says as a delivery receipt.
     Deliver { reading: Reading },
+    /// A data_sm, which may be a message of a client or what a centre hands to one (4.7.1).
+    DataSm { submit: Submit, reading: Reading },
     /// Every other command.
     Other,
-    /// A submit_sm or deliver_sm whose mandatory fields don't fit.
+    /// A submit_sm, deliver_sm or data_sm whose mandatory fields don't fit.
     Undecodable,
 }
 
@@ -42,17 +44,18 @@ pub struct KeptPdu {
 }
 
 impl Content {
-    /// The submit_sm that it is, where it can be decoded.
+    /// The submit_sm or data_sm that it is, where it can be decoded.
     pub fn submit(&self) -> Option<&Submit>
         ensures { option_copied result ≡ submit_in self.now }
     {
         match self {
             Content::Submit(submit) => Some(submit),
+            Content::DataSm { submit, .. } => Some(submit),
             _ => None,
         }
     }
 
-    /// The message id that a submit_sm_resp gives, where it gives one.
+    /// The message id that a submit_sm_resp or data_sm_resp gives, where it gives one.
     pub fn message_id(&self) -> Option<&MessageId>
         ensures { option_copied result ≡ id_in self.now }
     {
@@ -64,12 +67,13 @@ impl Content {
         }
     }
 
-    /// What a deliver_sm says as a delivery receipt.
+    /// What a deliver_sm or data_sm says as a delivery receipt.
     pub fn reading(&self) -> Option<&Reading>
         ensures { option_copied result ≡ reading_in self.now }
     {
         match self {
             Content::Deliver { reading } => Some(reading),
+            Content::DataSm { reading, .. } => Some(reading),
             _ => None,
         }
     }
@@ -84,7 +88,7 @@ impl Content {
         }
     }
 
-    /// Whether it is a delivery receipt without a usable id or state (SMPP 3.4, 4.6.1, appendix B).
+    /// Whether it is a delivery receipt without a usable id or state (SMPP 3.4, 4.6.1, 4.7.1, appendix B).
     pub fn is_unreadable(&self) -> bool
         ensures { result ≡ is_unreadable self.now }
     {
@@ -112,12 +116,16 @@ impl Content {
             Content::Deliver { reading } => Content::Deliver {
                 reading: reading.copy(),
             },
+            Content::DataSm { submit, reading } => Content::DataSm {
+                submit: submit.copy(),
+                reading: reading.copy(),
+            },
             Content::Other => Content::Other,
             Content::Undecodable => Content::Undecodable,
         }
     }
 
-    /// Whether it is a submit_sm or deliver_sm that can't be decoded.
+    /// Whether it is a submit_sm, deliver_sm or data_sm that can't be decoded.
     pub fn is_undecodable(&self) -> bool
         ensures { result ≡ is_undecodable self.now }
     {
@@ -155,6 +163,10 @@ fn content_of(body: Body<'_>) -> Content
         },
         Body::Deliver(deliver) => Content::Deliver {
             reading: read(&deliver),
+        },
+        Body::DataSm(message) => Content::DataSm {
+            submit: message.submit(),
+            reading: read(&message.deliver()),
         },
         Body::Other => Content::Other,
         Body::Undecodable => Content::Undecodable,

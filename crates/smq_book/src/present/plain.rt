@@ -3,11 +3,12 @@ ghost use Rattle.std.specs.Prelude.{◌≡◌};
 ghost use Rattle.smq_kit.specs.Replies.{IsReply, IsReplyInPlace, first_of};
 ghost use Rattle.smq_route.specs.Edits.{add_refusals, end_refusals, correct_refusals, added, changed, ending, corrected};
 ghost use Rattle.smq_route.specs.Versions.{version_of};
+ghost use Rattle.smq_book.specs.present.Present.{tail_in};
 ghost use Rattle.smq_book.specs.present.Replies.{clock_back, reply};
 ghost use Rattle.smq_book.specs.present.Settings.{with_versions, with_clock};
 ghost use Rattle.smq_book.specs.present.Steps.{change};
 
-use crate::present::sessions::{append_in, remove_session};
+use crate::present::sessions::{append_in, put_in_step, remove_session};
 use crate::{Batch, Edit, Forms, Present, Settings};
 use smq_kit::{Digits, LinkId, Moment, Network, Refusal, RouteId, SessionId};
 use std::alloc::Global;
@@ -19,6 +20,15 @@ impl Present {
             (self.new ≡ change self.old (Edit.Append batch)) (self.new ≡ self.old) }
     {
         append_in(alloc, &mut self.sessions, batch)
+    }
+
+    /// Puts a batch after the direction on whose tail it was prepared, in its session or in a new one.
+    pub(crate) fn put_batch_in_step(&mut self, alloc: Global, batch: Batch) -> Result<(), Refusal>
+        requires in_step { batch.tail ≡ tail_in self.old batch.session.0 batch.dir }
+        ensures { IsReply (reply self.old (Edit.Append batch)) result
+            (self.new ≡ change self.old (Edit.Append batch)) (self.new ≡ self.old) }
+    {
+        put_in_step(alloc, &mut self.sessions, batch)
     }
 
     /// Takes a session back, with both its directions.

@@ -23,7 +23,7 @@ use crate::index::forms::{put_link, take_link};
 use crate::index::index::Index;
 use crate::index::pairings::Pairings;
 use crate::index::withdraw::withdraw;
-use crate::present::sessions::{append_in, remove_session};
+use crate::present::sessions::{put_in_step, remove_session};
 use crate::present::settings::Settings;
 use crate::{Batch, Edit, Forms, Session};
 use smq_kit::{Digits, LinkId, Moment, Network, Refusal, RouteId, SessionId};
@@ -141,7 +141,7 @@ impl Present {
             undo(index, pairings, session);
             return Err(Refusal::Memory);
         };
-        match append_in(alloc, &mut self.sessions, batch) {
+        match put_in_step(alloc, &mut self.sessions, batch) {
             Ok(()) => {}
             Err(refusal) => {
                 undo(index, pairings, session);

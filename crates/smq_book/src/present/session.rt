@@ -1,5 +1,7 @@
 //! One captured session: its link, which it keeps, and the octets of both directions.
 ghost use Rattle.std.specs.Prelude.{◌≡◌, [], None, Some, IfOk, MatchResult, MatchOption, Err};
+ghost use Rattle.smq_frame.specs.Stream.{values};
+ghost use Rattle.smq_frame.specs.Tail.{tail_of};
 ghost use Rattle.smq_book.specs.present.Present.{direction};
 ghost use Rattle.smq_kit.specs.Replies.{IsReply, first_of};
 ghost use Rattle.smq_book.specs.present.Replies.{append_refusals};
@@ -84,6 +86,21 @@ impl Session {
         match batch.dir {
             Dir::FromClient => self.client.append(batch),
             Dir::FromCentre => self.centre.append(batch),
+        }
+    }
+
+    /// Puts a batch after the direction on whose tail it was prepared. A refusal changes nothing.
+    pub(crate) fn append_in_step(&mut self, batch: Batch) -> Result<(), Refusal>
+        requires in_step { batch.tail ≡ tail_of (values (direction batch.dir self.old)) }
+        ensures { IsReply (first_of (append_refusals (Some self.old) batch)) result
+            (self.new ≡ session_after (Some self.old) batch) (self.new ≡ self.old) }
+    {
+        if self.link.0 != batch.link.0 {
+            return Err(Refusal::OtherLink { link: self.link });
+        }
+        match batch.dir {
+            Dir::FromClient => self.client.append_in_step(batch),
+            Dir::FromCentre => self.centre.append_in_step(batch),
         }
     }
 }

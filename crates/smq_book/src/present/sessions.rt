@@ -3,6 +3,9 @@ ghost use Rattle.std.specs.Prelude.{◌≡◌, None, MatchResult};
 ghost use Rattle.std.specs.FinMap as map;
 ghost use Rattle.smq_book.specs.within.InOrder.{sessions_in};
 ghost use Rattle.smq_kit.specs.Replies.{IsReply, IsReplyInPlace, first_of};
+ghost use Rattle.smq_frame.specs.Stream.{values};
+ghost use Rattle.smq_frame.specs.Tail.{tail_of};
+ghost use Rattle.smq_book.specs.present.Present.{octets_in};
 ghost use Rattle.smq_book.specs.present.Replies.{append_refusals, no_session};
 ghost use Rattle.smq_book.specs.present.Steps.{session_after};
 
@@ -26,6 +29,27 @@ pub(crate) fn append_in(
     let number = batch.session.0;
     match sessions.get_mut(&number) {
         Some(session) => session.append(batch),
+        None => append_new(alloc, sessions, batch),
+    }
+}
+
+/// Puts a batch after the direction on whose tail it was prepared, in its session or in a new one. A refusal changes nothing.
+pub(crate) fn put_in_step(
+    alloc: Global,
+    sessions: &mut BTreeMap<u64, Session>,
+    batch: Batch,
+) -> Result<(), Refusal>
+    requires in_step { batch.tail ≡ tail_of (values
+        (octets_in batch.dir (map.get (sessions_in sessions.old) batch.session.0))) }
+    ensures { let session = map.get (sessions_in sessions.old) batch.session.0 in
+        IsReply (first_of (append_refusals session batch)) result
+        (sessions_in sessions.new
+        ≡ map.insert (sessions_in sessions.old) batch.session.0 (session_after session batch))
+        (sessions_in sessions.new ≡ sessions_in sessions.old) }
+{
+    let number = batch.session.0;
+    match sessions.get_mut(&number) {
+        Some(session) => session.append_in_step(batch),
         None => append_new(alloc, sessions, batch),
     }
 }

@@ -2,14 +2,14 @@
 //! moment, which are always those of the octets.
 //!
 //! Who changes `grow` takes all memory before the first change: what comes after that can't fail.
-ghost use Rattle.std.specs.Prelude.{◌≡◌, ◌<◌, ◌≤◌, ◌+◌, ◌^◌, ◌++◌, [], length, map, IfNone, IfOk, OnOk, OnErr};
+ghost use Rattle.std.specs.Prelude.{◌≡◌, ◌<◌, ◌≤◌, ◌+◌, ◌^◌, ◌++◌, [], length, map, IfNone, IfOk, OnOk, OnErr, MatchResult};
 ghost use Rattle.smq_frame.specs.Stream.{handed_in, values, frames_after};
 ghost use Rattle.smq_frame.specs.Tail.{tail_of, tail_after};
 ghost use Rattle.smq_pdu.specs.Placed.{placed_pdu};
 ghost use Rattle.smq_book.specs.present.Kept.{kept_pdu, kept_pdus};
 ghost use Rattle.smq_book.specs.present.Stream.{stream_of, last_moment};
 ghost use Rattle.smq_kit.specs.Replies.{IsReply, first_of};
-ghost use Rattle.smq_book.specs.present.Replies.{stream_refusals};
+ghost use Rattle.smq_book.specs.present.Replies.{backward, stream_refusals};
 
 use crate::present::batch::DecodedPiece;
 use crate::present::kept::push_copies;
@@ -175,6 +175,13 @@ impl Direction {
                 offset: self.tail.offset(),
             });
         }
+        self.backward(batch)
+    }
+
+    /// The refusal of a batch whose moment is before that of the last octet.
+    fn backward(&self, batch: &Batch) -> Option<Refusal>
+        ensures { result ≡ backward self.now batch.now }
+    {
         if batch.moment < self.last {
             return Some(Refusal::Backward { last: self.last });
         }
@@ -190,6 +197,30 @@ impl Direction {
         if let Some(refusal) = self.refusal(&batch) {
             return Err(refusal);
         }
+        self.put(batch)
+    }
+
+    /// Puts a batch after the octets on whose tail it was prepared. The tails aren't compared, which reads all octets that
+    /// wait. A refusal changes nothing.
+    #[tactic(auto, using(smq_frame::proofs::TailTests::equal_tails))]
+    pub(crate) fn append_in_step(&mut self, batch: Batch) -> Result<(), Refusal>
+        requires in_step { batch.tail ≡ tail_of (values self.old) }
+        ensures { IsReply (first_of (stream_refusals self.old batch)) result
+            (self.new ≡ self.old ++ handed_in batch.moment batch.octets) (self.new ≡ self.old) }
+    {
+        if let Some(refusal) = self.backward(&batch) {
+            return Err(refusal);
+        }
+        self.put(batch)
+    }
+
+    /// Puts a batch that nothing refuses after the octets. Want of memory changes nothing.
+    #[tactic(auto, using(crate::proofs::lemmas::present::Growth::offset_facts))]
+    fn put(&mut self, batch: Batch) -> Result<(), Refusal>
+        requires in_step { batch.tail ≡ tail_of (values self.old) }
+        ensures { MatchResult result (λ _. self.new ≡ self.old ++ handed_in batch.moment batch.octets)
+            (λ refusal. (refusal ≡ Refusal.Memory) × (self.new ≡ self.old)) }
+    {
         let Batch {
             link: _,
             session: _,

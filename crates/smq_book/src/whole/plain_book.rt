@@ -5,7 +5,7 @@ ghost use Rattle.smq_book.specs.present.Present.{empty, tail_in};
 ghost use Rattle.smq_book.specs.present.Replies.{reply};
 ghost use Rattle.smq_book.specs.present.Steps.{step};
 
-use crate::{Edit, Forms, Present};
+use crate::{Batch, Edit, Forms, Present};
 use smq_frame::Tail;
 use smq_kit::{Dir, Refusal, SessionId};
 use std::alloc::Global;
@@ -64,6 +64,16 @@ impl PlainBook {
             None => &self.empty_tail,
             Some(found) => found.direction(dir).tail(),
         }
+    }
+
+    /// Puts a batch after the direction on whose present tail it was prepared, or refuses it and changes nothing: as `apply` does,
+    /// with the same replies, but without a comparison of the tails, so a PDU that comes in many pieces costs what they add.
+    pub fn append_in_step(&mut self, batch: Batch) -> Result<(), Refusal>
+        requires in_step { batch.tail ≡ tail_in self.old.present batch.session.0 batch.dir }
+        ensures { IsReply (reply self.old.present (Edit.Append batch)) result
+            (self.new.present ≡ step self.old.present (Edit.Append batch)) (self.new.present ≡ self.old.present) }
+    {
+        self.present.put_batch_in_step(self.alloc, batch)
     }
 
     /// Makes an edit, or refuses it and changes nothing: as `Book::apply`, with the same replies.

@@ -4,8 +4,6 @@ ghost use Rattle.smq_desk.specs.declared.ledger.TheConstants.{LONGEST_HISTORY};
 
 use crate::tests::*;
 use smq_book::Batch;
-use smq_desk::{Entry, Reply};
-use std::thread::Threads;
 
 /// The batch of octets for session 10 of link 1 from the client, on a tail.
 fn batch_of(alloc: Global, tail: &Tail, octets: &[u8]) -> Result<Batch, Refusal> {
@@ -25,12 +23,16 @@ fn batch_of(alloc: Global, tail: &Tail, octets: &[u8]) -> Result<Batch, Refusal>
 }
 
 /// The tail of session 10 from the client.
-fn tail_of<R: Wait>(rt: &R, desk: &Desk) -> Result<Tail, Refusal> {
+pub(crate) fn tail_of<R: Wait>(rt: &R, desk: &Desk) -> Result<Tail, Refusal> {
     desk.tail(rt, SessionId(10), Dir::FromClient)
 }
 
 /// The batch of a submit_sm with this sequence number.
-fn submit_batch(alloc: Global, tail: &Tail, sequence_number: u8) -> Result<Batch, Refusal> {
+pub(crate) fn submit_batch(
+    alloc: Global,
+    tail: &Tail,
+    sequence_number: u8,
+) -> Result<Batch, Refusal> {
     let Ok(mut octets) = Vec::from_slice(alloc, SUBMIT) else {
         return Err(Refusal::Memory);
     };
@@ -38,140 +40,6 @@ fn submit_batch(alloc: Global, tail: &Tail, sequence_number: u8) -> Result<Batch
         *octet = sequence_number;
     }
     batch_of(alloc, tail, octets.as_slice())
-}
-
-/// Whether a direction has some submits of 49 octets more than so many octets.
-fn is_steps_on(offset: u64, before: u64) -> bool {
-    before < offset && offset.saturating_sub(before) % 49 == 0
-}
-
-/// Commits a submit_sm, on the tail anew where it is out of step, and gives how often it was.
-fn put_numbered<R: Wait>(
-    rt: &R,
-    alloc: Global,
-    desk: &Desk,
-    seat: &mut Seat,
-    sequence_number: u8,
-) -> Result<u64, Refusal> {
-    for missed in 0..=100 {
-        let tail = tail_of(rt, desk)?;
-        let batch = submit_batch(alloc, &tail, sequence_number)?;
-        match desk.commit(rt, seat, Edit::Append { batch }) {
-            Ok(_) => return Ok(missed),
-            Err(Refusal::OutOfStep { offset }) if is_steps_on(offset, tail.offset()) => {}
-            Err(refusal) => return Err(refusal),
-        }
-    }
-    Err(Refusal::NoSession)
-}
-
-/// Commits 50 submits, with this sequence number and those after it, and gives how many answers were `OutOfStep`.
-fn put_fifty<R: Wait>(
-    rt: &R,
-    alloc: Global,
-    desk: &Desk,
-    seat: &mut Seat,
-    first: u8,
-) -> Result<u64, Refusal> {
-    let mut missed: u64 = 0;
-    for sequence_number in first..first.saturating_add(50) {
-        let more = put_numbered(rt, alloc, desk, seat, sequence_number)?;
-        missed = missed.saturating_add(more);
-    }
-    Ok(missed)
-}
-
-/// How many answers were `OutOfStep` while two threads put 50 submits each, and their seats.
-fn put_hundred<R: Wait + Threads + Sync>(
-    rt: &R,
-    alloc: Global,
-    desk: &Desk,
-) -> Result<(Vec<Seat>, u64), Refusal> {
-    let mut one = desk.seat(rt)?;
-    let mut two = desk.seat(rt)?;
-    let (left, right) = (AtomicBool::new(false), AtomicBool::new(false));
-    let (first, second) = thread::join_mut(
-        rt,
-        &mut || {
-            meet(&left, &right);
-            put_fifty(rt, alloc, desk, &mut one, 1)
-        },
-        &mut || {
-            meet(&right, &left);
-            put_fifty(rt, alloc, desk, &mut two, 51)
-        },
-    );
-    let missed = first?.saturating_add(second?);
-    let Ok(seats) = vec![in alloc; one, two] else {
-        return Err(Refusal::Memory);
-    };
-    Ok((seats, missed))
-}
-
-fn is_out_of_step(entry: &Entry) -> bool {
-    matches!(
-        &entry.reply,
-        Reply::Refused(Refusal::OutOfStep { offset: _ })
-    )
-}
-
-/// How many octets session 10 has from the client, how many of its submits wait, and how many entries there are, and of these were
-/// out of step.
-fn figures_of(closed: &Closed) -> (u64, u64, usize, usize) {
-    let book = closed.book();
-    (
-        book.tail(SessionId(10), Dir::FromClient).offset(),
-        count(book.tables(), 1, Outcome::Waiting),
-        closed.entries().count(),
-        closed
-            .entries()
-            .filter(|entry| is_out_of_step(entry))
-            .count(),
-    )
-}
-
-/// The same of a desk that these seats close.
-fn close_figures<R: Wait>(
-    rt: &R,
-    alloc: Global,
-    desk: Box<Desk>,
-    seats: Vec<Seat>,
-) -> Option<(u64, u64, usize, usize)> {
-    match close(rt, alloc, desk, seats) {
-        Ended::Closed(closed) => {
-            let figures = figures_of(&closed);
-            end_closed(rt, closed);
-            Some(figures)
-        }
-        other => {
-            entries_of(rt, other);
-            None
-        }
-    }
-}
-
-/// How many answers were `OutOfStep`, and those figures.
-fn contend<R: Wait + Threads + Sync + AllocGlobal>(
-    rt: &R,
-) -> Result<(u64, Option<(u64, u64, usize, usize)>), Refusal> {
-    let alloc = rt.alloc();
-    let desk = new_desk(rt, 1000)?;
-    match put_hundred(rt, alloc, &desk) {
-        Ok((seats, missed)) => Ok((missed, close_figures(rt, alloc, desk, seats))),
-        Err(refusal) => {
-            end_desk(rt, desk);
-            Err(refusal)
-        }
-    }
-}
-
-#[test]
-fn two_threads_put_their_submits_into_one_session(rt: HostRuntime) -> Result<(), Fail> {
-    let (missed, figures) = contend(&rt)?;
-    assert!(rt; missed <= 100, "{missed} answers are out of step");
-    let entries = missed as usize + 100;
-    assert_eq!(rt; figures, Some((4_900, 100, entries, missed as usize)));
-    Ok(())
 }
 
 /// What a commit answers.

@@ -9,6 +9,7 @@ use Rattle.smq_pdu.specs.declared.fields.Front.{Front}
 use Rattle.smq_pdu.specs.declared.fields.Middle.{Middle}
 use Rattle.smq_pdu.specs.declared.fields.Back.{Back}
 use Rattle.smq_pdu.specs.declared.fields.Mandatory.{Mandatory}
+use Rattle.smq_pdu.specs.declared.data_sm.DataSmFields.{DataSmFields}
 use Rattle.smq_pdu.specs.declared.tlv.Tlv.{Tlv}
 
 -- a number, and what follows
@@ -70,6 +71,21 @@ mandatory_view v = r.mandatory_of (front_view v.front) (middle_view v.middle) (b
 -- these, and what follows
 abbrev pub seen_mandatory : Mandatory × Bor (List ℕ) → f.Mandatory × List ℕ
 seen_mandatory p = (mandatory_view p.0, p.1.now)
+
+-- the mandatory fields of a data_sm
+abbrev pub data_sm_fields_view : DataSmFields → f.DataSmFields
+data_sm_fields_view v = record {
+  service_type = v.service_type.now;
+  source = address_view v.source;
+  destination = address_view v.destination;
+  esm_class = v.esm_class;
+  registered_delivery = v.registered_delivery;
+  data_coding = v.data_coding;
+}
+
+-- these, and what follows
+abbrev pub seen_data_sm_fields : DataSmFields × Bor (List ℕ) → f.DataSmFields × List ℕ
+seen_data_sm_fields p = (data_sm_fields_view p.0, p.1.now)
 
 -- a parameter
 abbrev pub tlv_view : Tlv → parameters.Tlv

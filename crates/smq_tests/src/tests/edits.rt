@@ -96,8 +96,8 @@ fn header_of(pdu: &KeptPdu) -> Header {
     (pdu.offset, moment, pdu.command, pdu.status, pdu.seq)
 }
 
-/// What the readers of a content give: the registered_delivery of its submit_sm, the message id of its submit_sm_resp,
-/// what its deliver_sm says as a receipt, and the id of the receipt that it is.
+/// What the readers of a content give: the registered_delivery of its submit_sm or data_sm, the message id of its
+/// submit_sm_resp or data_sm_resp, what its deliver_sm or data_sm says as a receipt, and the id of the receipt that it is.
 type Read<'a> = (
     Option<u8>,
     Option<&'a [u8]>,
@@ -164,6 +164,31 @@ const CONTENTS: &[(&str, Sent, Read<'static>)] = &[
         "a message that is no receipt",
         Sent::Message(1, b"id:7a stat:DELIVRD"),
         (None, None, Some("no receipt"), None),
+    ),
+    (
+        "a data_sm that asks for a receipt and isn't one",
+        Sent::Pdu(0x103, 0, 1, b"\0\0\0\0\0\0\0\0\x01\0"),
+        (Some(1), None, Some("no receipt"), None),
+    ),
+    (
+        "a data_sm that is a receipt",
+        Sent::Pdu(
+            0x103,
+            0,
+            1,
+            b"\0\0\0\0\0\0\0\x04\0\0\x04\x24\0\x12id:7a stat:DELIVRD",
+        ),
+        (Some(0), None, Some("a receipt"), Some(b"7a")),
+    ),
+    (
+        "a data_sm without fields",
+        Sent::Pdu(0x103, 0, 1, b""),
+        (None, None, None, None),
+    ),
+    (
+        "a data_sm_resp with an id",
+        Sent::Pdu(0x8000_0103, 0, 1, b"7a\0"),
+        (None, Some(b"7a"), None, None),
     ),
     (
         "an enquire_link",

@@ -8,7 +8,8 @@ use smq_kit::{Dir, Form, Refusal};
 use std::alloc::Global;
 use std::process::Abort;
 
-/// What an end sends: submits of three numbers and sequence numbers, their responses and receipts, and what is none of these.
+/// What an end sends: submits of three numbers and sequence numbers, one by data_sm, their responses and receipts, and what is
+/// none of these.
 const BY_CLIENT: &[Sent] = &[
     Submit(1, b"447700900123"),
     Submit(2, b"447700900123"),
@@ -16,6 +17,12 @@ const BY_CLIENT: &[Sent] = &[
     Submit(1, b"15550001"),
     Asking(2, 0),
     Asking(3, 2),
+    Pdu(
+        0x0000_0103,
+        0,
+        2,
+        b"\0\0\01000\0\x01\x01447700900123\0\0\x01\0",
+    ),
     Pdu(0x8000_0005, 0, 1, b"\0"),
     Pdu(0x0000_0015, 0, 4, b""),
 ];
@@ -27,6 +34,7 @@ const BY_CENTRE: &[Sent] = &[
     Response(1, 0, b"11"),
     Response(2, 8, b""),
     Response(3, 0, b"10"),
+    Pdu(0x8000_0103, 0, 2, b"A\0"),
     Pdu(0x8000_0003, 0, 1, b""),
     Receipt(
         1,
@@ -43,6 +51,12 @@ const BY_CENTRE: &[Sent] = &[
     Receipt(
         4,
         b"id:10 sub:001 dlvrd:000 submit date:2401010000 done date:2401010000 stat:ENROUTE err:000 text:",
+    ),
+    Pdu(
+        0x0000_0103,
+        0,
+        6,
+        b"\0\0\0\0\0\0\0\x04\0\0\x04\x24\0\x12id:10 stat:UNDELIV",
     ),
     Message(5, b"hello"),
 ];

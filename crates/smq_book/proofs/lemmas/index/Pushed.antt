@@ -195,7 +195,7 @@ last-at [] y = refl
 last-at (x ∷ xs) y = last-at xs y
 
 module _ (origin : Origin) (next : KeptPdu) where
-  -- where it is a submit_sm, it puts in one message
+  -- where it is a submit_sm or data_sm, it puts in one message
   pub submit-one : (response : Option Response) (submit : Submit) (q : Place) (m : Message) → q ≡ place_of origin FromClient next
       → m ≡ message_with origin next submit response → Some submit ≡ submit_in next.content
       → PutMessage (q, m) ∷ [] ≡ submit_moves origin next response

@@ -35,7 +35,7 @@ use Rattle.smq_book.proofs.lemmas.edits.Withdrawals.{all-append, withdrawn}
 use Rattle.smq_book.proofs.lemmas.index.Pushed.{after-both, after-same}
 
 module _ (origin : Origin) where
-  -- the place of a message is that of its submit_sm, whatever answers it
+  -- the place of a message is that of its submit_sm or data_sm, whatever answers it
   one-submit : (centre earlier : List KeptPdu) (p : KeptPdu) (submit : Option Submit) (rest later : List Move) → rest ≡ later
       → map (λ (m : Place × Message). TakeMessage m.0) (option_to_list
       (option_map (λ s. (place_of origin FromClient p, message_of origin p s (response_to centre earlier p))) submit)) ++ rest

@@ -1,16 +1,16 @@
--- Each submit_sm of a stream is a request.
-use Rattle.std.proofs.Common.{◌≡◌, ℕ, Bool, true, false, cond, List, drop, Option, Some, None, refl, sym, ap, ◌∙◌, arith}
-use Rattle.std.specs.Prelude.{◌==◌, map, slice_get, option_map}
+-- Each submit_sm and data_sm of a stream is a request.
+use Rattle.std.proofs.Common.{◌≡◌, ℕ, Bool, true, false, cond, List, drop, Option, Some, None, ◌⊎◌, inl, inr, refl, sym, ap, ◌∙◌, arith}
+use Rattle.std.specs.Prelude.{◌==◌, ◌||◌, map, slice_get, option_map}
 use Rattle.std.proofs.lemmas.Bool.Decides.{nat_tests}
 use Rattle.std.proofs.lemmas.Option.{slice_get-map}
 use Rattle.smq_frame.specs.Frame.{FrameValue}
 use Rattle.smq_frame.specs.Stream.{Octet, stream_frames}
-use Rattle.smq_pdu.specs.Bodies.{SubmitAnswerBody, DeliverBody, OtherBody, UndecodableBody, deliver_said}
-use Rattle.smq_pdu.specs.Commands.{submit_sm, submit_sm_resp, deliver_sm}
+use Rattle.smq_pdu.specs.Bodies.{BodyValue, SubmitAnswerBody, DeliverBody, OtherBody, UndecodableBody, deliver_said}
+use Rattle.smq_pdu.specs.Commands.{submit_sm, submit_sm_resp, deliver_sm, data_sm, data_sm_resp}
 use Rattle.smq_pdu.specs.Fields.{Mandatory}
-use Rattle.smq_pdu.specs.Header.{header_at}
+use Rattle.smq_pdu.specs.Header.{header_at, header_with}
 use Rattle.smq_pdu.specs.Pairing.{is_request}
-use Rattle.smq_pdu.specs.Pdu.{body_of, submit_of, deliver_of, id_of}
+use Rattle.smq_pdu.specs.Pdu.{body_of, submit_of, deliver_of, data_sm_of, id_of}
 use Rattle.smq_pdu.specs.Placed.{placed_pdu}
 use Rattle.smq_pdu.specs.Readers.{mandatory_at, tlvs_of}
 use Rattle.smq_pdu.specs.declared.body.Submit.{Submit}
@@ -26,30 +26,56 @@ no_delivery : (fields : Option (Mandatory × List ℕ)) (submit : Submit)
 no_delivery None submit e = no_submit submit e
 no_delivery (Some p) submit e = no_submit submit e
 
-no_other : (b : Bool) (octets : List ℕ) (submit : Submit) → submit_in (content_of_body (cond b (deliver_of octets) OtherBody)) ≡ Some submit → ⊥
-unfolding deliver_of
-no_other true octets submit e = no_delivery (mandatory_at octets) submit e
-no_other false octets submit e = no_submit submit e
+-- what the body of a command is, where it is none of those before
+abbrev data_sm_or_other : ℕ → List ℕ → BodyValue
+data_sm_or_other command octets = cond (command == data_sm) (data_sm_of octets) OtherBody
 
-no_answer : (b : Bool) (command : ℕ) (octets : List ℕ) (submit : Submit)
-    → submit_in (content_of_body (cond b (SubmitAnswerBody (id_of octets))
-    (cond (command == deliver_sm) (deliver_of octets) OtherBody))) ≡ Some submit → ⊥
-no_answer true command octets submit e = no_submit submit e
-no_answer false command octets submit e = no_other (command == deliver_sm) octets submit e
+abbrev deliver_or_other : ℕ → List ℕ → BodyValue
+deliver_or_other command octets = cond (command == deliver_sm) (deliver_of octets) (data_sm_or_other command octets)
+
+abbrev response_or_other : ℕ → List ℕ → BodyValue
+response_or_other command octets =
+    cond (command == submit_sm_resp || command == data_sm_resp) (SubmitAnswerBody (id_of octets)) (deliver_or_other command octets)
+
+by_data_sm : (b : Bool) (command : ℕ) (octets : List ℕ) (submit : Submit) → (command == data_sm) ≡ b
+    → submit_in (content_of_body (cond b (data_sm_of octets) OtherBody)) ≡ Some submit → command ≡ data_sm
+by_data_sm true command octets submit same e = grind (arith, nat_tests, same)
+by_data_sm false command octets submit same e = absurd (no_submit submit e)
+
+by_delivery : (b : Bool) (command : ℕ) (octets : List ℕ) (submit : Submit)
+    → submit_in (content_of_body (cond b (deliver_of octets) (data_sm_or_other command octets))) ≡ Some submit → command ≡ data_sm
+unfolding deliver_of
+by_delivery true command octets submit e = absurd (no_delivery (mandatory_at octets) submit e)
+by_delivery false command octets submit e = by_data_sm (command == data_sm) command octets submit refl e
+
+by_response : (b : Bool) (command : ℕ) (octets : List ℕ) (submit : Submit)
+    → submit_in (content_of_body (cond b (SubmitAnswerBody (id_of octets)) (deliver_or_other command octets))) ≡ Some submit
+    → command ≡ data_sm
+by_response true command octets submit e = absurd (no_submit submit e)
+by_response false command octets submit e = by_delivery (command == deliver_sm) command octets submit e
 
 by_command : (b : Bool) (command : ℕ) (octets : List ℕ) (submit : Submit) → (command == submit_sm) ≡ b
-    → submit_in (content_of_body (cond b (submit_of octets) (cond (command == submit_sm_resp) (SubmitAnswerBody (id_of octets))
-    (cond (command == deliver_sm) (deliver_of octets) OtherBody)))) ≡ Some submit
-    → command ≡ submit_sm
-by_command true command octets submit same e = grind (arith, nat_tests, same)
-by_command false command octets submit same e = absurd (no_answer (command == submit_sm_resp) command octets submit e)
+    → submit_in (content_of_body (cond b (submit_of octets) (response_or_other command octets))) ≡ Some submit
+    → (command ≡ submit_sm) ⊎ (command ≡ data_sm)
+by_command true command octets submit same e = inl (grind (arith, nat_tests, same))
+by_command false command octets submit same e = inr (by_response (command == submit_sm_resp || command == data_sm_resp) command octets submit e)
 
 frame-asks : (f : FrameValue) (submit : Submit) → submit_in (kept_pdu (placed_pdu f)).content ≡ Some submit
     → is_request (header_of (kept_pdu (placed_pdu f))) ≡ true
 unfolding body_of
 frame-asks f submit e =
-    let same = by_command ((header_at f.octets).command == submit_sm) (header_at f.octets).command (drop 16 f.octets) submit refl e in
-    ap (λ command. is_request (record { command = command; status = (header_at f.octets).status; seq = (header_at f.octets).seq })) same
+    by (by_command ((header_at f.octets).command == submit_sm) (header_at f.octets).command (drop 16 f.octets) submit refl e)
+  where
+    asks : (named : ℕ) → is_request (header_with named) ≡ true → (header_at f.octets).command ≡ named
+        → is_request (header_of (kept_pdu (placed_pdu f))) ≡ true
+    asks named request same =
+        ap (λ command. is_request (record { command = command; status = (header_at f.octets).status; seq = (header_at f.octets).seq })) same
+        ∙ request
+
+    by : ((header_at f.octets).command ≡ submit_sm) ⊎ ((header_at f.octets).command ≡ data_sm)
+        → is_request (header_of (kept_pdu (placed_pdu f))) ≡ true
+    by (inl same) = asks submit_sm refl same
+    by (inr same) = asks data_sm refl same
 
 frames-ask : (fs : List FrameValue) (i : ℕ) (p : KeptPdu) (submit : Submit) → slice_get (map kept_pdu (map placed_pdu fs)) i
     ≡ Some p → submit_in p.content ≡ Some submit → is_request (header_of p) ≡ true

@@ -29,7 +29,7 @@ use Rattle.smq_book.specs.declared.present.session.Session.{Session}
 use Rattle.smq_book.specs.present.Kept.{kept_pdus, is_undecodable, is_unreadable}
 use Rattle.smq_book.specs.present.Present.{direction, octets_in}
 use Rattle.smq_book.specs.pairing.Traffic.{session_notes, traffic_of}
-use Rattle.smq_book.specs.pairing.Places.{octets_at, StandsAt}
+use Rattle.smq_book.specs.pairing.Places.{octets_at, StandsAt, Says}
 use Rattle.smq_book.proofs.lemmas.present.Growth.{kept_pdus-nil}
 use Rattle.smq_book.proofs.lemmas.pairing.Members.{first-one, later-one, none-in, flat-has, has-flat}
 use Rattle.smq_book.proofs.lemmas.pairing.SessionNotes.{some_none, unreadable-noted, undecodable-noted, broken-noted, noted-unreadable, noted-undecodable, noted-broken, Passes, place-has, undecodable-there, there-undecodable, there-unreadable, broken-there, there-broken}
@@ -77,25 +77,32 @@ undecodable-is : (content : Content) → is_undecodable content ≡ true → con
 undecodable-is (c.Submit submit) h = absurd (false≢true h)
 undecodable-is (c.SubmitAnswer id) h = absurd (false≢true h)
 undecodable-is (c.Deliver reading) h = absurd (false≢true h)
+undecodable-is (c.DataSm submit reading) h = absurd (false≢true h)
 undecodable-is c.Other h = absurd (false≢true h)
 undecodable-is c.Undecodable h = refl
 
 abbrev Unusable : Content → Type 0
-Unusable content = (content ≡ c.Deliver v.NoId) ⊎ (content ≡ c.Deliver v.NoState)
+Unusable content = Says content v.NoId ⊎ Says content v.NoState
 
 unreadable-is : (content : Content) → is_unreadable content ≡ true → Unusable content
 unreadable-is (c.Submit submit) h = absurd (false≢true h)
 unreadable-is (c.SubmitAnswer id) h = absurd (false≢true h)
 unreadable-is (c.Deliver (v.Receipt receipt)) h = absurd (false≢true h)
-unreadable-is (c.Deliver v.NoId) h = inl refl
-unreadable-is (c.Deliver v.NoState) h = inr refl
+unreadable-is (c.Deliver v.NoId) h = inl (inl refl)
+unreadable-is (c.Deliver v.NoState) h = inr (inl refl)
 unreadable-is (c.Deliver v.NotReceipt) h = absurd (false≢true h)
+unreadable-is (c.DataSm submit (v.Receipt receipt)) h = absurd (false≢true h)
+unreadable-is (c.DataSm submit v.NoId) h = inl (inr (submit, refl))
+unreadable-is (c.DataSm submit v.NoState) h = inr (inr (submit, refl))
+unreadable-is (c.DataSm submit v.NotReceipt) h = absurd (false≢true h)
 unreadable-is c.Other h = absurd (false≢true h)
 unreadable-is c.Undecodable h = absurd (false≢true h)
 
 is-unreadable : (content : Content) → Unusable content → is_unreadable content ≡ true
-is-unreadable content (inl is) = ap is_unreadable is
-is-unreadable content (inr is) = ap is_unreadable is
+is-unreadable content (inl (inl is)) = ap is_unreadable is
+is-unreadable content (inl (inr is)) = ap is_unreadable is.1
+is-unreadable content (inr (inl is)) = ap is_unreadable is
+is-unreadable content (inr (inr is)) = ap is_unreadable is.1
 
 -- ---- all sessions
 
@@ -145,7 +152,7 @@ module _ (sessions : FinMap nat_cmp Session) (q : Place) where
   )
 
   pub unreadable-places : IsTrue (contains_key (traffic_of sessions).notes (listed list.Unreadable q))
-      ↔ ((p : KeptPdu) × StandsAt sessions q p × (q.dir ≡ FromCentre) × ((p.content ≡ c.Deliver v.NoId) ⊎ (p.content ≡ c.Deliver v.NoState)))
+      ↔ ((p : KeptPdu) × StandsAt sessions q p × (q.dir ≡ FromCentre) × (Says p.content v.NoId ⊎ Says p.content v.NoState))
   unreadable-places = (
     λ h. let n = noted-in list.Unreadable h in
         let w = place-has n.0 q is_unreadable FromCentre (unreadable-noted n.0 q n.2) in

@@ -5,6 +5,8 @@ use Rattle.std.specs.BTreeMap.{is_at}
 use Rattle.std.specs.FinMap.{FinMap, get, insert, remove}
 use Rattle.std.specs.Map.{lookup}
 use Rattle.std.specs.Ordering.{nat_cmp}
+use Rattle.smq_frame.specs.Stream.{values}
+use Rattle.smq_frame.specs.Tail.{tail_of}
 use Rattle.smq_kit.specs.declared.names.LinkId.{LinkId}
 use Rattle.smq_kit.specs.declared.refusal.Refusal.{Refusal}
 use Rattle.smq_kit.specs.declared.refusal.Refusal.TheVariants.{Memory, NoSession}
@@ -12,7 +14,7 @@ use Rattle.smq_book.specs.declared.present.edit.Edit.TheVariants.{Append, SetFor
 use Rattle.smq_book.specs.declared.present.forms.Forms.{Forms}
 use Rattle.smq_book.specs.declared.present.session.Session.{Session}
 use Rattle.smq_book.specs.present.Batch.{BatchValue}
-use Rattle.smq_book.specs.present.Present.{PresentValue}
+use Rattle.smq_book.specs.present.Present.{PresentValue, direction, octets_in}
 use Rattle.smq_book.specs.present.Settings.{SettingsValue}
 use Rattle.smq_kit.specs.Replies.{IsReply, IsReplyInPlace, first_of}
 use Rattle.smq_book.specs.present.Replies.{append_refusals, no_session, reply}
@@ -38,6 +40,14 @@ at_known es fs k n b s s' r number there h a =
     (IsReply-weaker (first_of (append_refusals (Some s) b)) r (λ e. put ∙ ap (λ (t : Session). insert (seen es) k t) e) (λ e. put
     ∙ ap (λ (t : Session). insert (seen es) k t) e ∙ insert-same (seen es) k s found) a) in
     subst (λ (m : ℕ). Becomes (seen es) (seen fs) m b r) number at_k
+
+-- a batch that is in step with what is present is so with its session there
+pub at_known-in_step : (es : List (ℕ × Session)) (k n : ℕ) (b : BatchValue) (s : Session) → k ≡ n
+    → Some s ≡ lookup (is_at (nat_cmp k)) es → b.tail ≡ tail_of (values (octets_in b.dir (get (seen es) n)))
+    → b.tail ≡ tail_of (values (direction b.dir s))
+at_known-in_step es k n b s number there step =
+    let found : get (seen es) n ≡ Some s = ap (λ (m : ℕ). get (seen es) m) (sym number) ∙ get-seen es k ∙ sym there in
+    step ∙ ap (λ (o : Option Session). tail_of (values (octets_in b.dir o))) found
 
 -- the session is absent
 pub at_absent : {T : Type 0} (es gs fs : List (ℕ × Session)) (k n : ℕ) (b : BatchValue) (r : Result T Refusal) → k ≡ n

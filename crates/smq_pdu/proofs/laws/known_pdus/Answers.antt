@@ -1,6 +1,6 @@
 use Rattle.std.proofs.Common.{◌≡◌, ℕ, Some, None, refl, ap, arith}
 use Rattle.std.specs.Prelude.{sum}
-use Rattle.smq_pdu.specs.Bodies.{BodyValue, SubmitBody, SubmitAnswerBody, DeliverBody, OtherBody, UndecodableBody}
+use Rattle.smq_pdu.specs.Bodies.{BodyValue, SubmitBody, SubmitAnswerBody, DeliverBody, DataSmBody, OtherBody, UndecodableBody}
 use Rattle.smq_pdu.specs.Header.{word_at}
 use Rattle.smq_pdu.specs.Numbers.{digits_of, number_of}
 use Rattle.smq_pdu.specs.Pdu.{PduValue, body_of, submit_of, deliver_of, id_of}
@@ -12,6 +12,7 @@ abbrev octet_sum : BodyValue → ℕ
 octet_sum (SubmitBody submit) = elim submit.number [ None ↦ 0 | Some digits ↦ sum digits ]
 octet_sum (SubmitAnswerBody id) = 0
 octet_sum (DeliverBody deliver) = 0
+octet_sum (DataSmBody message) = 0
 octet_sum OtherBody = 0
 octet_sum UndecodableBody = 0
 

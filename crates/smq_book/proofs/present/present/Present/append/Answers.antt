@@ -20,12 +20,12 @@ returns-clause-kept c =
     let n = c.args.batch.session.0 in
     let number_is : c.batch.inside.session.0 ≡ n = ap (λ (b : BatchValue). b.session.0) c.batch.view_is in
     let old = sessions_in c.self.inside.sessions in
-    let put : sessions_in c.append_in.new.sessions ≡ insert old n (session_after (get old n) c.args.batch) =
-    made (first_of (append_refusals (get old n) c.args.batch)) _ _ _ c.in-Ok-append_in.ensures in
-    let left : insert c.args.self.now.sessions n (session_after (get c.args.self.now.sessions n) c.args.batch) ≡ sessions_in c.append_in.new.sessions =
+    let put : sessions_in c.put_in_step.new.sessions ≡ insert old n (session_after (get old n) c.args.batch) =
+    made (first_of (append_refusals (get old n) c.args.batch)) _ _ _ c.in-Ok-put_in_step.ensures in
+    let left : insert c.args.self.now.sessions n (session_after (get c.args.self.now.sessions n) c.args.batch) ≡ sessions_in c.put_in_step.new.sessions =
     ap (λ (p : PresentValue). insert p.sessions n (session_after (get p.sessions n) c.args.batch)) (sym c.self.view_is) ∙ sym put in
     let kept = c.requires.kept in
-    kept-settled (record { sessions = sessions_in c.append_in.new.sessions; settings = c.self.inside.settings }) c.settle.new.self c.settle-2.new.self
+    kept-settled (record { sessions = sessions_in c.put_in_step.new.sessions; settings = c.self.inside.settings }) c.settle.new.self c.settle-2.new.self
     (held_now c.append.new.index) c.settle.ensures.held c.settle.ensures.settled
     (subst (λ (p : PresentValue). IsHeld p.settings (held_now c.append.new.index)) (sym c.self.view_is) c.in-Ok.ensures.held)
     (c.in-Ok.ensures.traffic ∙ ap traffic_of left)
