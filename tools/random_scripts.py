@@ -23,6 +23,8 @@ FORMS = ("verbatim", "decimal", "hexadecimal")
 PREFIXES = ("4", "44", "447", "4477", "447700900123", "1", "0", "49", "999999999999999")
 # What lies between the moments of a direction, and where it begins; bands of delays and the window end at these
 ENDS = (4_999, 5_000, 29_999, 30_000, 299_999, 300_000, 3_599_999, 3_600_000, 172_799_999, 172_800_000)
+# Windows as short as bands and as steps, and at both ends of their range
+WINDOWS = (1, 100, *ENDS, 172_800_001, LAST_MOMENT)
 STEPS = ((0, 0, 1), (0, 1, 100), (0, 0, 5_000), (0, *ENDS))
 BEGINNINGS = (0, 1_000, 1_000, 1_000, 1_795_329_376_000, LAST_MOMENT - 300_000, LAST_MOMENT)
 
@@ -148,6 +150,7 @@ def other_row(draw, piece):
     return draw.choice((
         ("withdraw", session if draw.random() < 0.5 else draw.choice(SESSIONS)),
         ("form", link, draw.choice(FORMS), draw.choice(FORMS)), ("form", draw.choice(LINKS), draw.choice(FORMS), draw.choice(FORMS)),
+        ("window", link, draw.choice(WINDOWS)), ("window", draw.choice(LINKS), draw.choice(WINDOWS)),
         ("route", *version, *service), ("route", *version, *service), ("end", *version, moment), ("end", *version, at),
         ("correct", *version, *service), ("clock", clock), ("piece", link, session, direction, at, b""),
         ("piece", draw.choice(LINKS), session, direction, at, octets), ("piece", link, session, direction, max(0, at - 1), octets)))
@@ -197,12 +200,16 @@ def lanes_of_routes(present):
 
 
 def lanes_of_settings(present):
-    """Returns for each link a row of its forms, and one of the clock."""
-    return [[("form", link, *forms)] for link, forms in present.forms.items()] + [[("clock", present.clock)]]
+    """Returns for each link a row of its forms, and one of its window, and one of the clock."""
+    return ([[("form", link, *forms)] for link, forms in present.forms.items()]
+            + [[("window", link, window)] for link, window in present.windows.items()] + [[("clock", present.clock)]])
 
 
 def settings_of(present):
-    """Returns the forms and the clock as settings."""
-    tables = [f'[[link]]\nid = {link}\nresponse = "{response}"\nreceipt = "{receipt}"\n'
-              for link, (response, receipt) in present.forms.items()]
+    """Returns the forms, the windows and the clock as settings."""
+    tables = []
+    for link in {**present.forms, **present.windows}:
+        response, receipt = present.forms.get(link, ("verbatim", "verbatim"))
+        tables.append(f'[[link]]\nid = {link}\nresponse = "{response}"\nreceipt = "{receipt}"\n')
+        tables.extend([f"window = {present.windows[link]}\n"] if link in present.windows else [])
     return "".join([f"clock = {present.clock}\n", *tables]).encode()

@@ -170,8 +170,8 @@ def band(delay):
 class Tables:
     """Counts by view, value and outcome, and places by list. A value is a tuple that orders it, and its text."""
 
-    def __init__(self, sessions, forms, versions, clock):
-        self.forms, self.versions, self.clock = forms, versions, clock
+    def __init__(self, sessions, forms, windows, versions, clock):
+        self.forms, self.windows, self.versions, self.clock = forms, windows, versions, clock
         self.counts, self.lists = collections.Counter(), collections.defaultdict(set)
         # submit_sm and data_sm of the client with their response, and receipts
         self.messages, self.receipts = [], []
@@ -230,7 +230,7 @@ class Tables:
         for link, pdu, fields, response in self.messages:
             key = keys.get(pdu.at)
             receipt = deciding.get(key)
-            outcome = self.outcome(pdu, fields, response, key, matches, receipt)
+            outcome = self.outcome(link, pdu, fields, response, key, matches, receipt)
             route, network = self.service(number_of(fields), pdu.moment)
             values = {"link": (link, link), "route": route, "network": network}
             if outcome == "refused":
@@ -245,7 +245,7 @@ class Tables:
             for name, value in values.items():
                 self.counts[name, value, outcome] += 1
 
-    def outcome(self, pdu, fields, response, key, matches, receipt):
+    def outcome(self, link, pdu, fields, response, key, matches, receipt):
         if response is None:
             return "waiting"
         if response.command not in (pdu.command | RESPONSE, GENERIC_NACK):
@@ -260,7 +260,7 @@ class Tables:
             return "delivered" if receipt.state == DELIVERED else "failed"
         if fields.registered & 3 == 0:
             return "unasked"
-        return "lapsed" if self.clock >= pdu.moment + WINDOW else "open"
+        return "lapsed" if self.clock >= pdu.moment + self.windows.get(link, WINDOW) else "open"
 
     def service(self, number, moment):
         """Returns the route and the network of a number at a moment as values."""
@@ -285,7 +285,7 @@ class Present:
 
     def __init__(self):
         # by session its link, and its pieces by direction; by prefix and beginning an end or None, a route and a network
-        self.sessions, self.forms, self.versions, self.clock = {}, {}, {}, 0
+        self.sessions, self.forms, self.windows, self.versions, self.clock = {}, {}, {}, {}, 0
 
     def play(self, row):
         """Plays a row; returns the text of its refusal, or None."""
@@ -308,6 +308,9 @@ class Present:
 
     def play_form(self, link, response, receipt):
         self.forms[link] = response, receipt
+
+    def play_window(self, link, window):
+        self.windows[link] = window
 
     def play_route(self, prefix, begin, route, network):
         over = [at for (its, at), (end, *_) in self.versions.items() if its == prefix and (end is None or end > begin)]
@@ -341,4 +344,4 @@ class Present:
 
     def report(self):
         """Returns the report of what is left, as CSV."""
-        return Tables(self.sessions, self.forms, self.versions, self.clock).csv()
+        return Tables(self.sessions, self.forms, self.windows, self.versions, self.clock).csv()

@@ -11,4 +11,5 @@ pub mod pairings;
 pub mod push;
 pub mod routes;
 pub mod stored;
+pub mod window;
 pub mod withdraw;

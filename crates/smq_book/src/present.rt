@@ -10,3 +10,4 @@ pub mod session;
 pub mod sessions;
 pub mod settings;
 pub mod stream;
+pub mod windows;

@@ -5,7 +5,7 @@ use Rattle.std.proofs.lemmas.Bool.{both_ways}
 use Rattle.std.proofs.lemmas.List.Elements.{filter-append}
 use Rattle.smq_kit.specs.declared.names.SessionId.{SessionId}
 use Rattle.smq_book.specs.declared.present.edit.Edit.{Edit}
-use Rattle.smq_book.specs.declared.present.edit.Edit.TheVariants.{Append, Withdraw, SetForm, AddRoute, EndRoute, CorrectRoute, Advance}
+use Rattle.smq_book.specs.declared.present.edit.Edit.TheVariants.{Append, Withdraw, SetForm, SetWindow, AddRoute, EndRoute, CorrectRoute, Advance}
 use Rattle.smq_book.specs.present.Present.{PresentValue, session_of}
 use Rattle.smq_book.specs.present.Steps.{steps, is_of_session}
 use Rattle.smq_desk.specs.Interleaving.{is_of_settings, AreInterleaved, answered, InterleavingsAgree}
@@ -19,6 +19,7 @@ of_session : (s : SessionId) (e : Edit) → is_within (alone s) false e ≡ is_o
 of_session s (Append b) = refl
 of_session s (Withdraw t) = refl
 of_session s (SetForm link response receipt) = refl
+of_session s (SetWindow link window) = refl
 of_session s (AddRoute prefix from route network) = refl
 of_session s (EndRoute prefix from until) = refl
 of_session s (CorrectRoute prefix from route network) = refl
@@ -28,6 +29,7 @@ of_settings : (e : Edit) → is_within (λ s. false) true e ≡ is_of_settings e
 of_settings (Append b) = refl
 of_settings (Withdraw t) = refl
 of_settings (SetForm link response receipt) = refl
+of_settings (SetWindow link window) = refl
 of_settings (AddRoute prefix from route network) = refl
 of_settings (EndRoute prefix from until) = refl
 of_settings (CorrectRoute prefix from route network) = refl

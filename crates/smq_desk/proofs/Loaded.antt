@@ -13,7 +13,7 @@ use Rattle.smq_kit.specs.Replies.{first_of, refused_if}
 use Rattle.smq_frame.specs.Tail.{TailValue, tails_equal}
 use Rattle.smq_frame.proofs.TailTests.{tails_equal-true}
 use Rattle.smq_book.specs.declared.present.edit.Edit.{Edit}
-use Rattle.smq_book.specs.declared.present.edit.Edit.TheVariants.{Append, Withdraw, SetForm, AddRoute, EndRoute, CorrectRoute, Advance}
+use Rattle.smq_book.specs.declared.present.edit.Edit.TheVariants.{Append, Withdraw, SetForm, SetWindow, AddRoute, EndRoute, CorrectRoute, Advance}
 use Rattle.smq_book.specs.declared.present.piece_row.PieceRow.{PieceRow}
 use Rattle.smq_book.specs.declared.present.session.Session.{Session}
 use Rattle.smq_book.specs.present.Batch.{prepare_refusal}
@@ -136,6 +136,7 @@ of_rows : (rows : List PieceRow) (e : Edit) → is_within (has rows) false e ≡
 of_rows rows (Append b) = refl
 of_rows rows (Withdraw s) = refl
 of_rows rows (SetForm link response receipt) = sym (none_of rows)
+of_rows rows (SetWindow link window) = sym (none_of rows)
 of_rows rows (AddRoute prefix from route network) = sym (none_of rows)
 of_rows rows (EndRoute prefix from until) = sym (none_of rows)
 of_rows rows (CorrectRoute prefix from route network) = sym (none_of rows)
@@ -145,6 +146,7 @@ of_others : (rows : List PieceRow) (e : Edit) → is_within (λ s. not (has rows
 of_others rows (Append b) = refl
 of_others rows (Withdraw s) = refl
 of_others rows (SetForm link response receipt) = ap not (sym (none_of rows))
+of_others rows (SetWindow link window) = ap not (sym (none_of rows))
 of_others rows (AddRoute prefix from route network) = ap not (sym (none_of rows))
 of_others rows (EndRoute prefix from until) = ap not (sym (none_of rows))
 of_others rows (CorrectRoute prefix from route network) = ap not (sym (none_of rows))
@@ -154,6 +156,7 @@ settings_not : (rows : List PieceRow) (e : Edit) → is_of_settings e ≡ true �
 settings_not rows (Append b) h = absurd cc
 settings_not rows (Withdraw s) h = absurd cc
 settings_not rows (SetForm link response receipt) h = none_of rows
+settings_not rows (SetWindow link window) h = none_of rows
 settings_not rows (AddRoute prefix from route network) h = none_of rows
 settings_not rows (EndRoute prefix from until) h = none_of rows
 settings_not rows (CorrectRoute prefix from route network) h = none_of rows
@@ -167,6 +170,7 @@ its_rows : (rows : List PieceRow) (s : SessionId) (e : Edit) → is_of_session s
 its_rows rows s (Append b) h = at_number rows b.session.0 s.0 h
 its_rows rows s (Withdraw t) h = at_number rows t.0 s.0 h
 its_rows rows s (SetForm link response receipt) h = absurd cc
+its_rows rows s (SetWindow link window) h = absurd cc
 its_rows rows s (AddRoute prefix from route network) h = absurd cc
 its_rows rows s (EndRoute prefix from until) h = absurd cc
 its_rows rows s (CorrectRoute prefix from route network) h = absurd cc
@@ -204,6 +208,7 @@ apart_edits : (rows others : List PieceRow) (e : Edit) → Apart rows others →
 apart_edits rows others (Append b) h holds = apart_at rows others b.session.0 h holds
 apart_edits rows others (Withdraw s) h holds = apart_at rows others s.0 h holds
 apart_edits rows others (SetForm link response receipt) h holds = none_of rows
+apart_edits rows others (SetWindow link window) h holds = none_of rows
 apart_edits rows others (AddRoute prefix from route network) h holds = none_of rows
 apart_edits rows others (EndRoute prefix from until) h holds = none_of rows
 apart_edits rows others (CorrectRoute prefix from route network) h holds = none_of rows

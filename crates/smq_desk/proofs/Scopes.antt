@@ -8,7 +8,7 @@ use Rattle.smq_kit.specs.declared.names.SessionId.{SessionId}
 use Rattle.smq_kit.specs.declared.refusal.Refusal.{Refusal}
 use Rattle.smq_kit.specs.Replies.{first_of}
 use Rattle.smq_book.specs.declared.present.edit.Edit.{Edit}
-use Rattle.smq_book.specs.declared.present.edit.Edit.TheVariants.{Append, Withdraw, SetForm, AddRoute, EndRoute, CorrectRoute, Advance}
+use Rattle.smq_book.specs.declared.present.edit.Edit.TheVariants.{Append, Withdraw, SetForm, SetWindow, AddRoute, EndRoute, CorrectRoute, Advance}
 use Rattle.smq_book.specs.declared.present.session.Session.{Session}
 use Rattle.smq_book.specs.present.Batch.{BatchValue}
 use Rattle.smq_book.specs.present.Present.{PresentValue, session_of}
@@ -25,6 +25,7 @@ abbrev pub is_within : (SessionId → Bool) → Bool → Edit → Bool
 is_within mine set (Append batch) = mine batch.session
 is_within mine set (Withdraw session) = mine session
 is_within mine set (SetForm link response receipt) = set
+is_within mine set (SetWindow link window) = set
 is_within mine set (AddRoute prefix from route network) = set
 is_within mine set (EndRoute prefix from until) = set
 is_within mine set (CorrectRoute prefix from route network) = set
@@ -57,6 +58,7 @@ reply_same : (mine : SessionId → Bool) (set : Bool) (p r : PresentValue) (e : 
 reply_same mine set p r (Append b) h a = ap (λ (o : Option Session). first_of (append_refusals o b)) (a.sessions b.session h)
 reply_same mine set p r (Withdraw s) h a = ap no_session (a.sessions s h)
 reply_same mine set p r (SetForm link response receipt) h a = refl
+reply_same mine set p r (SetWindow link window) h a = refl
 reply_same mine set p r (AddRoute prefix from route network) h a =
     ap (λ (s : SettingsValue). reply (with_settings p s) (AddRoute prefix from route network)) (a.settings h)
 reply_same mine set p r (EndRoute prefix from until) h a =
@@ -108,6 +110,7 @@ set-sessions (Some q) p e h = refl
 set-sessions None p (Append b) h = absurd cc
 set-sessions None p (Withdraw s) h = absurd cc
 set-sessions None p (SetForm link response receipt) h = refl
+set-sessions None p (SetWindow link window) h = refl
 set-sessions None p (AddRoute prefix from route network) h = refl
 set-sessions None p (EndRoute prefix from until) h = refl
 set-sessions None p (CorrectRoute prefix from route network) h = refl
@@ -120,6 +123,8 @@ set-settings None p r (Append b) h a = absurd cc
 set-settings None p r (Withdraw s) h a = absurd cc
 set-settings None p r (SetForm link response receipt) h a =
     ap (λ (s : SettingsValue). (change (with_settings p s) (SetForm link response receipt)).settings) a
+set-settings None p r (SetWindow link window) h a =
+    ap (λ (s : SettingsValue). (change (with_settings p s) (SetWindow link window)).settings) a
 set-settings None p r (AddRoute prefix from route network) h a =
     ap (λ (s : SettingsValue). (change (with_settings p s) (AddRoute prefix from route network)).settings) a
 set-settings None p r (EndRoute prefix from until) h a =
@@ -166,6 +171,7 @@ both : (mine : SessionId → Bool) (set : Bool) (p r : PresentValue) (e : Edit) 
 both mine set p r (Append b) h same a = append-both mine set p r b _ _ same h a
 both mine set p r (Withdraw t) h same a = withdraw-both mine set p r t _ _ same h a
 both mine set p r (SetForm link response receipt) h same a = set-both mine set p r (SetForm link response receipt) same refl a
+both mine set p r (SetWindow link window) h same a = set-both mine set p r (SetWindow link window) same refl a
 both mine set p r (AddRoute prefix from route network) h same a =
     set-both mine set p r (AddRoute prefix from route network) same refl a
 both mine set p r (EndRoute prefix from until) h same a = set-both mine set p r (EndRoute prefix from until) same refl a
@@ -197,6 +203,7 @@ others mine set p r (Withdraw t) h a = record {
   settings = λ y. withdraw-settings (reply p (Withdraw t)) p t ∙ a.settings y;
 }
 others mine set p r (SetForm link response receipt) h a = set-others mine set p r (SetForm link response receipt) h refl a
+others mine set p r (SetWindow link window) h a = set-others mine set p r (SetWindow link window) h refl a
 others mine set p r (AddRoute prefix from route network) h a = set-others mine set p r (AddRoute prefix from route network) h refl a
 others mine set p r (EndRoute prefix from until) h a = set-others mine set p r (EndRoute prefix from until) h refl a
 others mine set p r (CorrectRoute prefix from route network) h a =

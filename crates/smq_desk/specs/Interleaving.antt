@@ -3,16 +3,17 @@ use Rattle.std.specs.Prelude.{◌≡◌, Bool, true, false, List, [], ◌∷◌,
 use Rattle.smq_kit.specs.declared.names.SessionId.{SessionId}
 use Rattle.smq_kit.specs.declared.refusal.Refusal.{Refusal}
 use Rattle.smq_book.specs.declared.present.edit.Edit.{Edit}
-use Rattle.smq_book.specs.declared.present.edit.Edit.TheVariants.{Append, Withdraw, SetForm, AddRoute, EndRoute, CorrectRoute, Advance}
+use Rattle.smq_book.specs.declared.present.edit.Edit.TheVariants.{Append, Withdraw, SetForm, SetWindow, AddRoute, EndRoute, CorrectRoute, Advance}
 use Rattle.smq_book.specs.present.Present.{PresentValue}
 use Rattle.smq_book.specs.present.Replies.{reply}
 use Rattle.smq_book.specs.present.Steps.{step, steps, is_of_session}
 
--- whether an edit is of what is set: of forms, of routes or of the clock
+-- whether an edit is of what is set: of forms, of windows, of routes or of the clock
 abbrev pub is_of_settings : Edit → Bool
 is_of_settings (Append batch) = false
 is_of_settings (Withdraw session) = false
 is_of_settings (SetForm link response receipt) = true
+is_of_settings (SetWindow link window) = true
 is_of_settings (AddRoute prefix from route network) = true
 is_of_settings (EndRoute prefix from until) = true
 is_of_settings (CorrectRoute prefix from route network) = true

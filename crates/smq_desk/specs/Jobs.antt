@@ -5,7 +5,7 @@ use Rattle.smq_kit.specs.declared.refusal.Refusal.{Refusal}
 use Rattle.smq_kit.specs.declared.refusal.Refusal.TheVariants.{HistoryFull, Memory, NoThread}
 use Rattle.smq_frame.specs.Tail.{TailValue}
 use Rattle.smq_book.specs.declared.present.edit.Edit.{Edit}
-use Rattle.smq_book.specs.declared.present.edit.Edit.TheVariants.{Append, Withdraw, SetForm, AddRoute, EndRoute, CorrectRoute, Advance}
+use Rattle.smq_book.specs.declared.present.edit.Edit.TheVariants.{Append, Withdraw, SetForm, SetWindow, AddRoute, EndRoute, CorrectRoute, Advance}
 use Rattle.smq_book.specs.declared.present.piece_row.PieceRow.{PieceRow}
 use Rattle.smq_book.specs.present.Batch.{prepare_refusal}
 use Rattle.smq_desk.specs.declared.entry.Call.{Call}
@@ -26,6 +26,7 @@ Puts row (Append batch) =
     × (batch.moment ≡ row.moment) × (batch.octets ≡ row.octets)
 Puts row (Withdraw session) = ⊥
 Puts row (SetForm link response receipt) = ⊥
+Puts row (SetWindow link window) = ⊥
 Puts row (AddRoute prefix from route network) = ⊥
 Puts row (EndRoute prefix from until) = ⊥
 Puts row (CorrectRoute prefix from route network) = ⊥

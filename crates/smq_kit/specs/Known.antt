@@ -4,7 +4,7 @@ use Rattle.smq_kit.specs.declared.form.Form.TheVariants.{Verbatim, Decimal, Hexa
 use Rattle.smq_kit.specs.declared.form.Key.TheVariants.{Number, Text}
 use Rattle.smq_kit.specs.Keys.{key_under}
 use Rattle.smq_kit.specs.declared.refusal.Refusal.{Refusal}
-use Rattle.smq_kit.specs.declared.refusal.Refusal.TheVariants.{EmptyPiece, BadMoment, Backward, OtherLink, OutOfStep, NoSession, Overlap, NoRoute, Ended, BadEnd, ClockBack, HistoryFull, Memory, StreamFull, NoThread, NoSeat, NoWatcher, TornSeat, BadPrefix, BadNetwork, BadId}
+use Rattle.smq_kit.specs.declared.refusal.Refusal.TheVariants.{EmptyPiece, BadMoment, Backward, OtherLink, OutOfStep, NoSession, Overlap, NoRoute, Ended, BadEnd, ClockBack, HistoryFull, Memory, StreamFull, NoThread, NoSeat, NoWatcher, BadWindow, TornSeat, BadPrefix, BadNetwork, BadId}
 
 -- so many numbers, from this one on
 abbrev pub numbers_from : ℕ → ℕ → List ℕ
@@ -31,6 +31,7 @@ every_refusal =
     ∷ NoThread
     ∷ NoSeat
     ∷ NoWatcher
+    ∷ BadWindow
     ∷ TornSeat 3
     ∷ BadPrefix
     ∷ BadNetwork
@@ -57,6 +58,7 @@ printed_refusals =
     ∷ (15, codes "15 NoThread")
     ∷ (16, codes "16 NoSeat")
     ∷ (17, codes "17 NoWatcher")
+    ∷ (18, codes "18 BadWindow")
     ∷ (19, codes "19 TornSeat 3")
     ∷ (20, codes "20 BadPrefix")
     ∷ (21, codes "21 BadNetwork")

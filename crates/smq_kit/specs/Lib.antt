@@ -1,4 +1,5 @@
 pub mod Refusals
+pub mod Windows
 pub mod Replies
 pub mod Numbers
 pub mod ErrorTexts

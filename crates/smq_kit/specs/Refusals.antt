@@ -2,7 +2,7 @@
 use Rattle.std.specs.Prelude.{ℕ, List, [], ◌++◌, Bool, codes, Option, Some, None}
 use Rattle.std.specs.Fmt.{decimal}
 use Rattle.smq_kit.specs.declared.refusal.Refusal.{Refusal}
-use Rattle.smq_kit.specs.declared.refusal.Refusal.TheVariants.{EmptyPiece, BadMoment, Backward, OtherLink, OutOfStep, NoSession, Overlap, NoRoute, Ended, BadEnd, ClockBack, HistoryFull, Memory, StreamFull, NoThread, NoSeat, NoWatcher, TornSeat, BadPrefix, BadNetwork, BadId}
+use Rattle.smq_kit.specs.declared.refusal.Refusal.TheVariants.{EmptyPiece, BadMoment, Backward, OtherLink, OutOfStep, NoSession, Overlap, NoRoute, Ended, BadEnd, ClockBack, HistoryFull, Memory, StreamFull, NoThread, NoSeat, NoWatcher, BadWindow, TornSeat, BadPrefix, BadNetwork, BadId}
 use Rattle.smq_kit.specs.declared.refusal.Row.{Row}
 use Rattle.smq_kit.specs.contracts.refusal.RefusalPartialEq.TheImpl as refusal_eq
 
@@ -31,6 +31,7 @@ row_of StreamFull = record { number = 14; name = codes "StreamFull"; field = Non
 row_of NoThread = record { number = 15; name = codes "NoThread"; field = None }
 row_of NoSeat = record { number = 16; name = codes "NoSeat"; field = None }
 row_of NoWatcher = record { number = 17; name = codes "NoWatcher"; field = None }
+row_of BadWindow = record { number = 18; name = codes "BadWindow"; field = None }
 row_of (TornSeat number) = record { number = 19; name = codes "TornSeat"; field = Some number }
 row_of BadPrefix = record { number = 20; name = codes "BadPrefix"; field = None }
 row_of BadNetwork = record { number = 21; name = codes "BadNetwork"; field = None }

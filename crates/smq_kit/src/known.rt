@@ -11,11 +11,12 @@ ghost use Rattle.smq_kit.specs.Numbers.{IsDigits, IsNetwork};
 ghost use Rattle.smq_kit.specs.Orders.{place_cmp, octets_cmp, key_cmp, error_cmp};
 ghost use Rattle.smq_kit.specs.Refusals.{number_of, text_of};
 
-use crate::{Dir, Key, LAST_MOMENT, LONGEST_ID, LinkKey, Place};
+use crate::{Dir, Key, LAST_MOMENT, LONGEST_ID, LinkKey, OPENING_WINDOW, Place};
 
-/// The last moment, and the lengths of ids, numbers and networks.
+/// The last moment, the window that no one set, and the lengths of ids, numbers and networks.
 pub fn known_limits()
     ensures last_moment { LAST_MOMENT ≡ 4102444800000 }
+    ensures opening_window { OPENING_WINDOW ≡ 172800000 }
     ensures longest_id { LONGEST_ID ≡ 64 }
     ensures one_digit { IsDigits (codes "4") }
     ensures digits_15 { IsDigits (codes "447700900123456") }

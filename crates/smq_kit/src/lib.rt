@@ -1,4 +1,4 @@
-//! What every crate of the monitor speaks of: links, sessions, places, moments, numbers, ids, keys, errors and
+//! What every crate of the monitor speaks of: links, sessions, places, moments, windows, numbers, ids, keys, errors and
 //! refusals.
 #![tactic(auto)]
 
@@ -14,6 +14,7 @@ mod names;
 mod number;
 mod place;
 mod refusal;
+mod window;
 
 pub use error_code::{ErrorCode, ErrorText, error_codes_are_ordered};
 pub use form::{Form, Key, key_of, keys_are_ordered};
@@ -27,3 +28,4 @@ pub use names::{LinkId, RouteId, SessionId, names_are_ordered};
 pub use number::{Digits, Network, digits_are_ordered, networks_are_ordered};
 pub use place::{Dir, Place, places_are_ordered};
 pub use refusal::{Refusal, refusals_are_told_apart};
+pub use window::{OPENING_WINDOW, Window, windows_are_told_apart};

@@ -10,8 +10,8 @@ use crate::{LinkId, Moment};
 use std::fmt;
 
 /// Why something was refused. Its text is its number, a space, its name and, where it has a field, a space and that
-/// field in decimal, as `5 OutOfStep 49`. No refusal has the number 18: it was never given, and a refusal keeps its
-/// number whatever comes or goes beside it, so that what was printed earlier still reads the same.
+/// field in decimal, as `5 OutOfStep 49`. A refusal keeps its number whatever comes or goes beside it, so that what was
+/// printed earlier still reads the same.
 #[derive(Clone, Copy, Debug, PartialEq, Eq)]
 pub enum Refusal {
     /// A piece has no octets.
@@ -48,6 +48,8 @@ pub enum Refusal {
     NoSeat,
     /// The board gave no place for a reader. The desk will make it.
     NoWatcher,
+    /// A window is 0 ms or above `LAST_MOMENT`.
+    BadWindow,
     /// A call of a seat isn't the history's entry of that number; the least such. The desk will make it.
     TornSeat { number: u64 },
     /// A prefix is empty, over 15 octets, or not all digits.
@@ -67,7 +69,7 @@ struct Row {
 }
 
 impl Refusal {
-    /// The number of the refusal, 1 to 17 or 19 to 22.
+    /// The number of the refusal, 1 to 22.
     pub fn number(self) -> u32
         ensures { result ≡ number_of self }
     {
@@ -96,6 +98,7 @@ impl Refusal {
             Refusal::NoThread => (15, "NoThread", None),
             Refusal::NoSeat => (16, "NoSeat", None),
             Refusal::NoWatcher => (17, "NoWatcher", None),
+            Refusal::BadWindow => (18, "BadWindow", None),
             Refusal::TornSeat { number } => (19, "TornSeat", Some(number)),
             Refusal::BadPrefix => (20, "BadPrefix", None),
             Refusal::BadNetwork => (21, "BadNetwork", None),

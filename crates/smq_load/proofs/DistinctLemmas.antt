@@ -5,10 +5,10 @@ use Rattle.std.proofs.lemmas.List.{drop_more, map-append, take-append-drop, take
 use Rattle.std.specs.BTreeSet.{BTreeSet, Updates, contains}
 use Rattle.std.specs.List.{list_any}
 use Rattle.smq_load.specs.Settings.{are_distinct}
-use Rattle.smq_load.specs.declared.link_forms.LinkForms.{LinkForms}
+use Rattle.smq_load.specs.declared.link_settings.LinkSettings.{LinkSettings}
 
 -- the numbers of links
-abbrev pub numbers_of : List LinkForms → List ℕ
+abbrev pub numbers_of : List LinkSettings → List ℕ
 numbers_of links = map (λ forms. forms.link.0) links
 
 -- whether a number is among numbers and one more
@@ -60,20 +60,20 @@ are_distinct-again (y ∷ rest) x ys h = by_head (nat_eq x y) refl h (are_distin
 -- ---- links one by one, and the set of their numbers
 
 -- the number of one more link
-numbers_of-more : (links : List LinkForms) (i : ℕ) (d : LinkForms) → i < length links → numbers_of (take (i + 1) links)
+numbers_of-more : (links : List LinkSettings) (i : ℕ) (d : LinkSettings) → i < length links → numbers_of (take (i + 1) links)
     ≡ numbers_of (take i links) ++ (get_or links i d).link.0 ∷ []
-numbers_of-more links i d h = rw (take_more links i d h) (map-append (λ (forms : LinkForms). forms.link.0) (take i links) (get_or links i d ∷ []))
+numbers_of-more links i d h = rw (take_more links i d h) (map-append (λ (forms : LinkSettings). forms.link.0) (take i links) (get_or links i d ∷ []))
 
 -- the numbers round a link
-numbers_of-around : (links : List LinkForms) (i : ℕ) (d : LinkForms) → i < length links
+numbers_of-around : (links : List LinkSettings) (i : ℕ) (d : LinkSettings) → i < length links
     → numbers_of links ≡ numbers_of (take i links) ++ (get_or links i d).link.0 ∷ numbers_of (drop (i + 1) links)
 numbers_of-around links i d h =
     let parts : links ≡ take i links ++ get_or links i d ∷ drop (i + 1) links = sym (take-append-drop i links)
-    ∙ ap (λ (rest : List LinkForms). take i links ++ rest) (drop_more links i d h) in
-    ap numbers_of parts ∙ map-append (λ (forms : LinkForms). forms.link.0) (take i links) (get_or links i d ∷ drop (i + 1) links)
+    ∙ ap (λ (rest : List LinkSettings). take i links ++ rest) (drop_more links i d h) in
+    ap numbers_of parts ∙ map-append (λ (forms : LinkSettings). forms.link.0) (take i links) (get_or links i d ∷ drop (i + 1) links)
 
 -- a number that is in the set stands twice
-pub again_at : (links : List LinkForms) (i : ℕ) (d : LinkForms) (numbers : BTreeSet ℕ) (added : Bool) → i < length links
+pub again_at : (links : List LinkSettings) (i : ℕ) (d : LinkSettings) (numbers : BTreeSet ℕ) (added : Bool) → i < length links
     → ((q : ℕ) → contains nat_cmp numbers q ≡ list_any (nat_eq q) (numbers_of (take i links)))
     → added ≡ not (contains nat_cmp numbers (get_or links i d).link.0) → added ≡ false → false ≡ are_distinct (numbers_of links)
 again_at links i d numbers added h members e old =
@@ -83,7 +83,7 @@ again_at links i d numbers added h members e old =
     (numbers_of (drop (i + 1) links)) known))
 
 -- a number that is not in the set leaves those so far distinct
-pub distinct_more : (links : List LinkForms) (i : ℕ) (d : LinkForms) (numbers : BTreeSet ℕ) (added : Bool) → i < length links
+pub distinct_more : (links : List LinkSettings) (i : ℕ) (d : LinkSettings) (numbers : BTreeSet ℕ) (added : Bool) → i < length links
     → are_distinct (numbers_of (take i links)) ≡ true
     → ((q : ℕ) → contains nat_cmp numbers q ≡ list_any (nat_eq q) (numbers_of (take i links)))
     → added ≡ not (contains nat_cmp numbers (get_or links i d).link.0) → added ≡ true → are_distinct (numbers_of (take (i + 1) links)) ≡ true
@@ -93,7 +93,7 @@ distinct_more links i d numbers added h distinct members e fresh =
     rw (numbers_of-more links i d h) (are_distinct-push (numbers_of (take i links)) (get_or links i d).link.0 distinct new)
 
 -- the set has the numbers so far
-pub members_more : (links : List LinkForms) (i : ℕ) (d : LinkForms) (old new : BTreeSet ℕ) → i < length links
+pub members_more : (links : List LinkSettings) (i : ℕ) (d : LinkSettings) (old new : BTreeSet ℕ) → i < length links
     → ((q : ℕ) → contains nat_cmp old q ≡ list_any (nat_eq q) (numbers_of (take i links)))
     → Updates nat_cmp old new (get_or links i d).link.0 true
     → (q : ℕ) → contains nat_cmp new q ≡ list_any (nat_eq q) (numbers_of (take (i + 1) links))

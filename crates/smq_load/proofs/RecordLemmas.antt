@@ -29,6 +29,15 @@ drop-two (r ∷ []) a n h = absurd (omega arith)
 drop-two (r ∷ s ∷ []) a n h = cc
 drop-two (r ∷ s ∷ t ∷ rest) a n h = absurd (omega arith)
 
+pub drop-three : (fields : List (List ℕ)) (a b : List ℕ) → length fields ≡ 3
+    → field_at fields 1 ≡ Some a → field_at fields 2 ≡ Some b → drop 1 fields ≡ a ∷ b ∷ []
+unfolding field_at
+drop-three [] a b n h k = absurd (omega arith)
+drop-three (r ∷ []) a b n h k = absurd (omega arith)
+drop-three (r ∷ s ∷ []) a b n h k = absurd (omega arith)
+drop-three (r ∷ s ∷ t ∷ []) a b n h k = cc
+drop-three (r ∷ s ∷ t ∷ u ∷ rest) a b n h k = absurd (omega arith)
+
 pub drop-four : (fields : List (List ℕ)) (a b c : List ℕ) → length fields ≡ 4
     → field_at fields 1 ≡ Some a → field_at fields 2 ≡ Some b → field_at fields 3 ≡ Some c → drop 1 fields ≡ a ∷ b ∷ c ∷ []
 unfolding field_at
@@ -103,6 +112,11 @@ row_of_kind-other kind.Form (r ∷ s ∷ []) h = refl
 row_of_kind-other kind.Form (r ∷ s ∷ t ∷ []) h = refl
 row_of_kind-other kind.Form (r ∷ s ∷ t ∷ u ∷ []) h = absurd (h refl)
 row_of_kind-other kind.Form (r ∷ s ∷ t ∷ u ∷ v ∷ rest) h = refl
+row_of_kind-other kind.Window [] h = refl
+row_of_kind-other kind.Window (r ∷ []) h = refl
+row_of_kind-other kind.Window (r ∷ s ∷ []) h = refl
+row_of_kind-other kind.Window (r ∷ s ∷ t ∷ []) h = absurd (h refl)
+row_of_kind-other kind.Window (r ∷ s ∷ t ∷ u ∷ rest) h = refl
 row_of_kind-other kind.Route [] h = refl
 row_of_kind-other kind.Route (r ∷ []) h = refl
 row_of_kind-other kind.Route (r ∷ s ∷ []) h = refl

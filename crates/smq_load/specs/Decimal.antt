@@ -1,5 +1,5 @@
 -- Decimal numbers of a script.
-use Rattle.std.specs.Prelude.{ℕ, ◌+◌, ◌-◌, ◌*◌, ◌^◌, nat_le, ◌&&◌, Bool, if◌then◌else◌, List, [], ◌∷◌, length, Option, Some, None}
+use Rattle.std.specs.Prelude.{ℕ, ◌+◌, ◌-◌, ◌*◌, ◌^◌, nat_eq, nat_le, ◌&&◌, Bool, if◌then◌else◌, List, [], ◌∷◌, length, Option, Some, None}
 use Rattle.std.specs.Char.{is_ascii_digit}
 use Rattle.std.specs.List.{list_all}
 
@@ -20,6 +20,11 @@ decimal_of text = if is_decimal text then Some (sum_of text) else None
 abbrev pub up_to : ℕ → Option ℕ → Option ℕ
 up_to greatest None = None
 up_to greatest (Some number) = if nat_le number greatest then Some number else None
+
+-- a number, where it isn't 0
+abbrev pub above_0 : Option ℕ → Option ℕ
+above_0 None = None
+above_0 (Some number) = if nat_eq number 0 then None else Some number
 
 -- the number that a decimal says, where it is not above the greatest
 abbrev pub decimal_to : ℕ → List ℕ → Option ℕ

@@ -13,7 +13,7 @@ use Rattle.smq_kit.specs.declared.names.RouteId.{RouteId}
 use Rattle.smq_kit.specs.declared.names.SessionId.{SessionId}
 use Rattle.smq_kit.specs.declared.place.Dir.{Dir}
 use Rattle.smq_kit.specs.declared.place.Dir.TheVariants.{FromClient, FromCentre}
-use Rattle.smq_load.specs.Decimal.{decimal_to}
+use Rattle.smq_load.specs.Decimal.{above_0, decimal_to}
 use Rattle.smq_load.specs.Instant.{instant_of}
 
 -- the link that a field names: a decimal below 2^32
@@ -31,6 +31,10 @@ route_of field = option_map (λ (number : ℕ). record { 0 = number }) (decimal_
 -- the moment that a field says in ms since 1970 in UTC: a decimal that is not above the last moment, or an instant
 abbrev pub moment_of : List ℕ → Option ℕ
 moment_of field = option_or (decimal_to 4102444800000 field) (instant_of field)
+
+-- the window that a field says in ms: a decimal from 1 to the last moment
+abbrev pub window_of : List ℕ → Option ℕ
+window_of field = above_0 (decimal_to 4102444800000 field)
 
 -- the direction that a field names: the client's (ESME) or the centre's (SMSC)
 abbrev pub dir_of : List ℕ → Option Dir

@@ -5,16 +5,16 @@ use Rattle.toml.specs.Parse.{parse_document}
 use Rattle.smq_kit.specs.declared.form.Form.TheVariants.{Verbatim, Decimal, Hexadecimal}
 use Rattle.smq_kit.specs.declared.place.Dir.{Dir}
 use Rattle.smq_kit.specs.declared.place.Dir.TheVariants.{FromClient, FromCentre}
-use Rattle.smq_book.specs.declared.present.edit.Edit.TheVariants.{Withdraw, SetForm, AddRoute, EndRoute, CorrectRoute, Advance}
+use Rattle.smq_book.specs.declared.present.edit.Edit.TheVariants.{Withdraw, SetForm, SetWindow, AddRoute, EndRoute, CorrectRoute, Advance}
 use Rattle.smq_load.specs.declared.input.TheConstants.{MOST_OCTETS, MOST_READS}
-use Rattle.smq_load.specs.declared.link_forms.TheConstants.{MOST_LINKS}
-use Rattle.smq_load.specs.declared.link_forms.LinkForms.{LinkForms}
+use Rattle.smq_load.specs.declared.link_settings.TheConstants.{MOST_LINKS}
+use Rattle.smq_load.specs.declared.link_settings.LinkSettings.{LinkSettings}
 use Rattle.smq_load.specs.declared.row.Row.{Row}
 use Rattle.smq_load.specs.declared.row.Row.TheVariants.{Piece, Plain}
 use Rattle.smq_load.specs.declared.script.TheConstants.{MOST_RECORDS}
 use Rattle.smq_load.specs.declared.settings.TheConstants.{MOST_SETTINGS}
 use Rattle.smq_load.specs.Decimal.{decimal_of, decimal_to}
-use Rattle.smq_load.specs.Fields.{dir_of, form_of, link_of, moment_of, network_of, prefix_of, route_of, session_of}
+use Rattle.smq_load.specs.Fields.{dir_of, form_of, link_of, moment_of, network_of, prefix_of, route_of, session_of, window_of}
 use Rattle.smq_load.specs.Row.{row_of}
 use Rattle.smq_load.specs.Script.{AreRecordsOf, IsFirstBad, IsScript, SayRows, may_have, most_records}
 use Rattle.smq_load.specs.Settings.{are_distinct, fitting, rows_in, settings_of}
@@ -37,9 +37,9 @@ pub record KnowsLimits : Type 0 where
       → settings_of octets
       ≡ (if is_utf8 octets then option_and_then rows_in (parse_document octets) else None)
   pub past_settings : (octets : List ℕ) → length octets ≡ 1048577 → settings_of octets ≡ None
-  pub all_links : (links : List LinkForms) → length links ≡ 4096
+  pub all_links : (links : List LinkSettings) → length links ≡ 4096
       → are_distinct (map (λ forms. forms.link.0) links) ≡ true → fitting links ≡ Some links
-  pub past_links : (links : List LinkForms) → length links ≡ 4097 → fitting links ≡ None
+  pub past_links : (links : List LinkSettings) → length links ≡ 4097 → fitting links ≡ None
 
 -- decimals of one digit, with leading zeros, of 20 digits at both sides of 2^64, of 21 digits, and texts that are none
 pub record KnowsDecimals : Type 0 where
@@ -99,7 +99,7 @@ pub record KnowsInstants : Type 0 where
   pub blank : moment_of (codes "1970-01-01 00:00:00Z") ≡ None
   pub no_digit : moment_of (codes "1970-01-0aT00:00:00Z") ≡ None
 
--- each direction and form, and prefixes and networks at both ends of their lengths
+-- each direction and form, windows at both ends of their range, and prefixes and networks at both ends of their lengths
 pub record KnowsFields : Type 0 where
   pub client : dir_of (codes "client") ≡ Some FromClient
   pub centre : dir_of (codes "centre") ≡ Some FromCentre
@@ -107,6 +107,12 @@ pub record KnowsFields : Type 0 where
   pub decimal : form_of (codes "decimal") ≡ Some Decimal
   pub hexadecimal : form_of (codes "hexadecimal") ≡ Some Hexadecimal
   pub other_form : form_of (codes "hex") ≡ None
+  pub window_of_1 : window_of (codes "1") ≡ Some 1
+  pub window_of_0 : window_of (codes "0") ≡ None
+  pub zeros : window_of (codes "00") ≡ None
+  pub greatest_window : window_of (codes "4102444800000") ≡ Some 4102444800000
+  pub past_window : window_of (codes "4102444800001") ≡ None
+  pub window_instant : window_of (codes "1970-01-03T00:00:00Z") ≡ None
   pub prefix : prefix_of (codes "4") ≡ Some (codes "4")
   pub long_prefix : prefix_of (codes "447700900123456") ≡ Some (codes "447700900123456")
   pub longer_prefix : prefix_of (codes "4477009001234567") ≡ None
@@ -155,6 +161,10 @@ pub record KnowsRows : Type 0 where
   pub form_five :
       row_of (codes "form" ∷ codes "1" ∷ codes "decimal" ∷ codes "decimal" ∷ codes "decimal" ∷ [])
       ≡ None
+  pub window : row_of (codes "window" ∷ codes "1" ∷ codes "1000" ∷ []) ≡ Some (Plain (SetWindow (record { 0 = 1 }) 1000))
+  pub window_0 : row_of (codes "window" ∷ codes "1" ∷ codes "0" ∷ []) ≡ None
+  pub window_alone : row_of (codes "window" ∷ codes "1" ∷ []) ≡ None
+  pub window_four : row_of (codes "window" ∷ codes "1" ∷ codes "1000" ∷ codes "1000" ∷ []) ≡ None
   pub route : row_of (codes "route" ∷ codes "44" ∷ codes "0" ∷ codes "7" ∷ codes "23410" ∷ [])
       ≡ Some (Plain (AddRoute (codes "44") 0 (record { 0 = 7 }) (codes "23410")))
   pub route_prefix : row_of (codes "route" ∷ [] ∷ codes "0" ∷ codes "7" ∷ codes "23410" ∷ []) ≡ None
@@ -198,6 +208,18 @@ pub record KnowsSettings : Type 0 where
   pub clock_last : settings_of (text_of (codes "clock = 5" ∷ codes "[[link]]" ∷ codes "id = 7"
       ∷ codes "[[link]]" ∷ codes "id = 3" ∷ []))
       ≡ Some (plain_forms 7 ∷ plain_forms 3 ∷ Plain (Advance 5) ∷ [])
+  pub window_after_its_forms : settings_of (text_of (codes "clock = 5" ∷ codes "[[link]]" ∷ codes "window = 1000"
+      ∷ codes "id = 7" ∷ codes "[[link]]" ∷ codes "id = 3" ∷ []))
+      ≡ Some (plain_forms 7 ∷ Plain (SetWindow (record { 0 = 7 }) 1000) ∷ plain_forms 3 ∷ Plain (Advance 5) ∷ [])
+  pub least_window : settings_of (codes "link = [{ id = 1, window = 1 }]")
+      ≡ Some (plain_forms 1 ∷ Plain (SetWindow (record { 0 = 1 }) 1) ∷ [])
+  pub greatest_window : settings_of (codes "link = [{ id = 1, window = 4102444800000 }]")
+      ≡ Some (plain_forms 1 ∷ Plain (SetWindow (record { 0 = 1 }) 4102444800000) ∷ [])
+  pub no_window : settings_of (codes "link = [{ id = 1, window = 0 }]") ≡ None
+  pub past_window : settings_of (codes "link = [{ id = 1, window = 4102444800001 }]") ≡ None
+  pub negative_window : settings_of (codes "link = [{ id = 1, window = -1 }]") ≡ None
+  pub window_text : settings_of (codes "link = [{ id = 1, window = '1000' }]") ≡ None
+  pub window_of_none : settings_of (codes "window = 1000") ≡ None
   pub last_clock : settings_of (codes "clock = 4102444800000") ≡ Some (Plain (Advance 4102444800000) ∷ [])
   pub past_clock : settings_of (codes "clock = 4102444800001") ≡ None
   pub negative : settings_of (codes "clock = -1") ≡ None

@@ -6,12 +6,12 @@ use Rattle.smq_kit.specs.declared.names.LinkId.{LinkId}
 use Rattle.smq_kit.specs.declared.names.RouteId.{RouteId}
 use Rattle.smq_kit.specs.declared.names.SessionId.{SessionId}
 use Rattle.smq_kit.specs.declared.place.Dir.{Dir}
-use Rattle.smq_book.specs.declared.present.edit.Edit.TheVariants.{Withdraw, SetForm, AddRoute, EndRoute, CorrectRoute, Advance}
+use Rattle.smq_book.specs.declared.present.edit.Edit.TheVariants.{Withdraw, SetForm, SetWindow, AddRoute, EndRoute, CorrectRoute, Advance}
 use Rattle.smq_load.specs.declared.record.Kind.{Kind}
 use Rattle.smq_load.specs.declared.record.Kind.TheVariants as kind
 use Rattle.smq_load.specs.declared.row.Row.{Row}
 use Rattle.smq_load.specs.declared.row.Row.TheVariants.{Piece, Plain}
-use Rattle.smq_load.specs.Fields.{dir_of, form_of, link_of, moment_of, network_of, octets_of, prefix_of, route_of, session_of}
+use Rattle.smq_load.specs.Fields.{dir_of, form_of, link_of, moment_of, network_of, octets_of, prefix_of, route_of, session_of, window_of}
 
 -- the kind of record that a field names
 abbrev pub kind_of : List ℕ → Option Kind
@@ -19,6 +19,7 @@ kind_of field =
     if bytes_eq field (codes "piece") then Some kind.Piece
     else if bytes_eq field (codes "withdraw") then Some kind.Withdraw
     else if bytes_eq field (codes "form") then Some kind.Form
+    else if bytes_eq field (codes "window") then Some kind.Window
     else if bytes_eq field (codes "route") then Some kind.Route
     else if bytes_eq field (codes "end") then Some kind.End
     else if bytes_eq field (codes "correct") then Some kind.Correct
@@ -30,6 +31,7 @@ abbrev pub field_count_of : Kind → ℕ
 field_count_of kind.Piece = 6
 field_count_of kind.Withdraw = 2
 field_count_of kind.Form = 4
+field_count_of kind.Window = 3
 field_count_of kind.Route = 5
 field_count_of kind.End = 4
 field_count_of kind.Correct = 5
@@ -49,6 +51,10 @@ withdraw_from None = None
 abbrev pub forms_from : Option LinkId → Option Form → Option Form → Option Row
 forms_from (Some link) (Some response) (Some receipt) = Some (Plain (SetForm link response receipt))
 forms_from _ _ _ = None
+
+abbrev pub window_from : Option LinkId → Option ℕ → Option Row
+window_from (Some link) (Some window) = Some (Plain (SetWindow link window))
+window_from _ _ = None
 
 abbrev pub route_from : Option (List ℕ) → Option ℕ → Option RouteId → Option (List ℕ) → Option Row
 route_from (Some prefix) (Some from) (Some route) (Some network) = Some (Plain (AddRoute prefix from route network))
@@ -76,6 +82,7 @@ row_of_kind kind.Piece (link ∷ session ∷ dir ∷ moment ∷ octets ∷ []) =
 row_of_kind kind.Withdraw (session ∷ []) = withdraw_from (session_of session)
 row_of_kind kind.Form (link ∷ response ∷ receipt ∷ []) =
     forms_from (link_of link) (form_of response) (form_of receipt)
+row_of_kind kind.Window (link ∷ window ∷ []) = window_from (link_of link) (window_of window)
 row_of_kind kind.Route (prefix ∷ from ∷ route ∷ network ∷ []) =
     route_from (prefix_of prefix) (moment_of from) (route_of route) (network_of network)
 row_of_kind kind.End (prefix ∷ from ∷ until ∷ []) =

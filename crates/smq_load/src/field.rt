@@ -2,13 +2,15 @@
 ghost use Rattle.std.specs.Prelude.{◌≡◌, IfOk};
 ghost use Rattle.std.specs.Str.{bytes_eq};
 ghost use Rattle.smq_load.specs.Decimal.{decimal_to};
-ghost use Rattle.smq_load.specs.Fields.{dir_of, form_of, link_of, moment_of, network_of, octets_of, prefix_of, route_of, session_of};
+ghost use Rattle.smq_load.specs.Fields.{dir_of, form_of, link_of, moment_of, network_of, octets_of, prefix_of, route_of, session_of, window_of};
 
 use crate::decimal::read_decimal;
 use crate::instant::read_instant;
 use bytes::Bytes;
 use hex::FromHexError;
-use smq_kit::{Digits, Dir, Form, LAST_MOMENT, LinkId, Moment, Network, RouteId, SessionId};
+use smq_kit::{
+    Digits, Dir, Form, LAST_MOMENT, LinkId, Moment, Network, RouteId, SessionId, Window,
+};
 use std::alloc::{AllocError, Global};
 
 /// The link that a field names.
@@ -61,6 +63,13 @@ fn read_milliseconds(field: &[u8]) -> Option<Moment>
     ensures { result ≡ decimal_to LAST_MOMENT field.now }
 {
     Moment::new(read_decimal(field, LAST_MOMENT)?).ok()
+}
+
+/// The window that a field says in ms.
+pub fn read_window(field: &[u8]) -> Option<Window>
+    ensures { result ≡ window_of field.now }
+{
+    Window::new(read_decimal(field, LAST_MOMENT)?).ok()
 }
 
 /// The form of message ids that a text names.

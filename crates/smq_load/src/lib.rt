@@ -6,7 +6,7 @@ mod field;
 mod input;
 mod instant;
 mod laws;
-mod link_forms;
+mod link_settings;
 mod load_fault;
 mod record;
 mod row;
@@ -19,7 +19,7 @@ pub use laws::{
     faults_are_told_apart, known_decimals, known_fields, known_instants, known_limits,
     known_numbers, known_pieces, known_rows, known_scripts, known_settings, one_reading,
 };
-pub use link_forms::MOST_LINKS;
+pub use link_settings::MOST_LINKS;
 pub use load_fault::LoadFault;
 pub use row::Row;
 pub use script::{MOST_RECORDS, read_script};

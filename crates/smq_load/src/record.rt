@@ -6,7 +6,7 @@ ghost use Rattle.smq_load.specs.Row.{field_count_of, kind_of, piece_from, row_of
 
 use crate::field::{
     is_word, read_dir, read_form, read_link, read_moment, read_network, read_octets, read_prefix,
-    read_route, read_session,
+    read_route, read_session, read_window,
 };
 use crate::row::Row;
 use bytes::Bytes;
@@ -21,6 +21,7 @@ pub enum Kind {
     Piece,
     Withdraw,
     Form,
+    Window,
     Route,
     End,
     Correct,
@@ -38,6 +39,8 @@ impl Kind {
             Some(Kind::Withdraw)
         } else if is_word(field, "form") {
             Some(Kind::Form)
+        } else if is_word(field, "window") {
+            Some(Kind::Window)
         } else if is_word(field, "route") {
             Some(Kind::Route)
         } else if is_word(field, "end") {
@@ -59,6 +62,7 @@ impl Kind {
             Kind::Piece => 6,
             Kind::Withdraw => 2,
             Kind::Form => 4,
+            Kind::Window => 3,
             Kind::Route => 5,
             Kind::End => 4,
             Kind::Correct => 5,
@@ -103,6 +107,7 @@ fn read_fields(alloc: Global, kind: Kind, fields: &ByteRecord) -> Result<Option<
         ),
         Kind::Withdraw => Ok(read_withdraw(field(fields, 1))),
         Kind::Form => Ok(read_forms(field(fields, 1), field(fields, 2), field(fields, 3))),
+        Kind::Window => Ok(read_link_window(field(fields, 1), field(fields, 2))),
         Kind::Route => Ok(read_added(
             field(fields, 1),
             field(fields, 2),
@@ -186,6 +191,16 @@ fn read_forms(link: &[u8], response: &[u8], receipt: &[u8]) -> Option<Row>
         link: read_link(link)?,
         response: read_form(response)?,
         receipt: read_form(receipt)?,
+    }))
+}
+
+/// The edit of a record `window`.
+fn read_link_window(link: &[u8], window: &[u8]) -> Option<Row>
+    ensures { result ≡ row_of_kind Kind.Window (link.now ∷ window.now ∷ []) }
+{
+    Some(Row::Plain(Edit::SetWindow {
+        link: read_link(link)?,
+        window: read_window(window)?,
     }))
 }
 

@@ -1,10 +1,10 @@
-//! Settings: one TOML document with a clock and the forms of links, each optional.
+//! Settings: one TOML document with a clock, and the forms and the windows of links, each optional.
 ghost use Rattle.std.specs.Prelude.{◌≡◌, IfOk, IfErr, Some, option_map};
 ghost use Rattle.toml.specs.Errors.{IsMemory};
 ghost use Rattle.toml.specs.View.{table_view, view};
 ghost use Rattle.smq_load.specs.Settings.{TellsOfSettings, clock_of, rows_in, rows_with, settings_of};
 
-use crate::link_forms::{LinkForms, read_links};
+use crate::link_settings::{LinkSettings, read_links};
 use crate::load_fault::LoadFault;
 use crate::row::Row;
 use crate::table::{Keys, has_known_keys, read_number, value_at};
@@ -18,7 +18,7 @@ use toml::{Table, Value};
 /// How many octets settings may have.
 pub const MOST_SETTINGS: usize = 1_048_576;
 
-/// The rows of settings: the forms of each link in order, and then the clock where it is set. Errors: `BadSettings` where
+/// The rows of settings: of each link in order its forms, and then its window where it is set, and last the clock where it is set. Errors: `BadSettings` where
 /// the octets say no rows; `Memory`.
 pub fn read_settings(alloc: Global, octets: &[u8]) -> Result<Vec<Row>, LoadFault>
     ensures ok { IfOk result (λ rows. settings_of octets.now ≡ Some rows.items) }
@@ -79,14 +79,14 @@ fn read_clock(value: Option<&Value>) -> Option<Option<Moment>>
 /// The rows of links, in order, and then of the clock.
 fn rows_with(
     alloc: Global,
-    links: &[LinkForms],
+    links: &[LinkSettings],
     clock: Option<Moment>,
 ) -> Result<Vec<Row>, AllocError>
     ensures { IfOk result (λ rows. rows.items ≡ rows_with links.now clock) }
 {
     let mut rows = Vec::new(alloc);
-    for forms in links {
-        rows.push(forms.row())?;
+    for link in links {
+        link.push_rows(&mut rows)?;
     }
     if let Some(clock) = clock {
         rows.push(Row::Plain(Edit::Advance { clock }))?;

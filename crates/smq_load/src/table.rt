@@ -42,7 +42,12 @@ impl Keys {
     {
         match self {
             Keys::Document => is_word(key, "clock") || is_word(key, "link"),
-            Keys::Link => is_word(key, "id") || is_word(key, "response") || is_word(key, "receipt"),
+            Keys::Link => {
+                is_word(key, "id")
+                    || is_word(key, "response")
+                    || is_word(key, "receipt")
+                    || is_word(key, "window")
+            }
         }
     }
 }

@@ -7,7 +7,7 @@ ghost use Rattle.smq_book.specs.within.Messages as messages;
 ghost use Rattle.smq_book.specs.within.Outcomes.{message_from};
 
 use crate::submits::SubmittedMessage;
-use smq_book::{KeptPdu, LAPSE_WINDOW, Settings};
+use smq_book::{KeptPdu, Settings};
 use smq_kit::{LinkKey, MessageId, Network, RouteId};
 use smq_pdu::agrees;
 
@@ -20,11 +20,13 @@ impl<'a> SubmittedMessage<'a> {
         settings.route_at(number, self.request.moment)
     }
 
-    /// Whether the clock is at the end of its window, or past it.
+    /// Whether the clock is at the end of the window of its link, or past it.
     pub(crate) fn has_lapsed(&self, settings: &Settings) -> bool
         ensures { result ≡ lapsed_in settings.now (message_from self.now) }
     {
-        self.request.moment.milliseconds() + LAPSE_WINDOW <= settings.clock().milliseconds()
+        let window = settings.window_of(self.source.link);
+        self.request.moment.milliseconds() + window.milliseconds()
+            <= settings.clock().milliseconds()
     }
 
     /// The key of its id, where it is accepted.

@@ -12,3 +12,4 @@ mod shown;
 mod sizes;
 mod tallies;
 mod versions;
+mod windows;

@@ -21,7 +21,7 @@ const USAGE: &str =
     "smq report [OPTIONS] < SCRIPT\n       smq query [OPTIONS] <NAME> < SCRIPT\n       smq check [OPTIONS] < SCRIPT";
 
 /// The version that `--version` prints.
-const VERSION: &str = "0.9.0";
+const VERSION: &str = "0.10.0";
 
 /// The first part of what stands below each help, before the names of views and lists.
 const SCRIPT: &str = "\
@@ -237,6 +237,6 @@ fn settings_option<'a>(alloc: Global) -> Arg<'a>
     Arg::new(alloc, "settings")
         .long("settings")
         .value_name("PATH")
-        .help("A TOML file of settings: the clock, and each link's forms of message ids")
+        .help("A TOML file of settings: the clock, and each link's forms of message ids and window")
         .action(ArgAction::Set)
 }

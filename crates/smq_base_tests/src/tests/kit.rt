@@ -1,7 +1,7 @@
 //! Values at their limits, keys of ids, and the printed text of refusals.
 use smq_kit::{
     Digits, ErrorCode, ErrorText, Form, Key, LAST_MOMENT, LONGEST_ID, LinkId, LinkKey, MessageId,
-    Moment, Network, Refusal, key_of,
+    Moment, Network, OPENING_WINDOW, Refusal, Window, key_of,
 };
 use std::alloc::Global;
 
@@ -32,6 +32,16 @@ const TEXTS: &[(&str, [bool; 4])] = &[
 /// A number of ms, and whether it is a moment.
 const MOMENTS: &[(u64, bool)] = &[
     (0, true),
+    (4_102_444_800_000, true),
+    (4_102_444_800_001, false),
+    (u64::MAX, false),
+];
+
+/// A number of ms, and whether it is a window.
+const WINDOWS: &[(u64, bool)] = &[
+    (0, false),
+    (1, true),
+    (172_800_000, true),
     (4_102_444_800_000, true),
     (4_102_444_800_001, false),
     (u64::MAX, false),
@@ -73,6 +83,13 @@ fn is_kept_as_moment(milliseconds: u64, is_moment: bool) -> bool {
     }
 }
 
+fn is_kept_as_window(milliseconds: u64, is_window: bool) -> bool {
+    match Window::new(milliseconds) {
+        Ok(window) => is_window && window.milliseconds() == milliseconds,
+        Err(refusal) => !is_window && refusal == Refusal::BadWindow,
+    }
+}
+
 fn are_kept(octets: &[u8], [is_id, are_digits, is_network, is_error]: [bool; 4]) -> bool {
     is_kept_as_id(octets, is_id)
         && is_kept_as_digits(octets, are_digits)
@@ -84,6 +101,8 @@ fn are_known_limits() -> bool {
     ZEROS_64.len() == LONGEST_ID
         && Moment::epoch().milliseconds() == 0
         && LAST_MOMENT == 4_102_444_800_000
+        && Window::opening().milliseconds() == 172_800_000
+        && OPENING_WINDOW == 172_800_000
 }
 
 fn is_copied(code: &ErrorCode) -> bool {
@@ -98,11 +117,17 @@ fn texts_are_kept_within_their_limits(rt: HostRuntime) {
 }
 
 #[test]
-fn moments_are_kept_within_their_limits(rt: HostRuntime) {
+fn moments_and_windows_are_kept_within_their_limits(rt: HostRuntime) {
     for (milliseconds, is_moment) in MOMENTS {
         assert!(rt;
             is_kept_as_moment(*milliseconds, *is_moment),
             "{milliseconds} ms"
+        );
+    }
+    for (milliseconds, is_window) in WINDOWS {
+        assert!(rt;
+            is_kept_as_window(*milliseconds, *is_window),
+            "a window of {milliseconds} ms"
         );
     }
     assert!(rt; are_known_limits(), "limits");
@@ -163,7 +188,7 @@ fn ids_are_numbers_under_their_forms(rt: HostRuntime) {
 }
 
 /// Refusals that tell of this moment, if of any, with their numbers and what they print.
-fn refusals(moment: Moment) -> [(Refusal, u32, &'static str); 21] {
+fn refusals(moment: Moment) -> [(Refusal, u32, &'static str); 22] {
     [
         (Refusal::EmptyPiece, 1, "1 EmptyPiece"),
         (Refusal::BadMoment, 2, "2 BadMoment"),
@@ -186,6 +211,7 @@ fn refusals(moment: Moment) -> [(Refusal, u32, &'static str); 21] {
         (Refusal::NoThread, 15, "15 NoThread"),
         (Refusal::NoSeat, 16, "16 NoSeat"),
         (Refusal::NoWatcher, 17, "17 NoWatcher"),
+        (Refusal::BadWindow, 18, "18 BadWindow"),
         (Refusal::TornSeat { number: 3 }, 19, "19 TornSeat 3"),
         (Refusal::BadPrefix, 20, "20 BadPrefix"),
         (Refusal::BadNetwork, 21, "21 BadNetwork"),

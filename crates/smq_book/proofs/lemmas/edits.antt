@@ -2,6 +2,8 @@
 pub mod Passing
 pub mod RouteEdits
 pub mod Advances
+pub mod WindowEdits
+pub mod WindowsAgain
 pub mod ReceiptNotes
 pub mod FormEdits
 pub mod SessionTraffic

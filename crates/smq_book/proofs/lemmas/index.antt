@@ -23,6 +23,6 @@ pub mod Said
 pub mod Appending
 pub mod Taken
 pub mod Refreshed
-pub mod Ended
+pub mod Walks
 pub mod LinkOut
 pub mod FormsSet

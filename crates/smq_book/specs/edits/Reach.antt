@@ -12,7 +12,7 @@ use Rattle.smq_kit.specs.Maps.{number_of}
 use Rattle.smq_pair.specs.Pairing.{pair_at}
 use Rattle.smq_pair.specs.declared.pairing.Pair.{Pair}
 use Rattle.smq_book.specs.declared.present.edit.Edit.{Edit}
-use Rattle.smq_book.specs.declared.present.edit.Edit.TheVariants.{Append, Withdraw, SetForm, AddRoute, EndRoute, CorrectRoute, Advance}
+use Rattle.smq_book.specs.declared.present.edit.Edit.TheVariants.{Append, Withdraw, SetForm, SetWindow, AddRoute, EndRoute, CorrectRoute, Advance}
 use Rattle.smq_book.specs.declared.present.session.Session.{Session}
 use Rattle.smq_book.specs.present.Batch.{BatchValue, batch_pdus}
 use Rattle.smq_book.specs.present.Kept.{kept_pdus}
@@ -21,7 +21,7 @@ use Rattle.smq_book.specs.present.Steps.{step}
 use Rattle.smq_book.specs.pairing.Traffic.{TrafficValue, origin_of, place_of, session_pairing, traffic_of}
 use Rattle.smq_book.specs.join.Keyed.{grouping_of}
 use Rattle.smq_group.specs.Matching.{Grouping, matches}
-use Rattle.smq_book.specs.edits.Reached.{link_messages, link_receipts, messages_under, lapsing}
+use Rattle.smq_book.specs.edits.Reached.{link_messages, link_receipts, messages_due_on, messages_under, lapsing}
 
 -- ---- the weight of a PDU
 
@@ -81,6 +81,7 @@ reached p q (Append batch) = weights q (batch_places batch)
 reached p q (Withdraw session) = weights p (places_in p session.0)
 reached p q (SetForm link response receipt) =
     weights p (link_places link (traffic_of p.sessions)) + weights q (link_places link (traffic_of q.sessions))
+reached p q (SetWindow link window) = fin.len (messages_due_on link p.settings (traffic_of p.sessions))
 reached p q (AddRoute prefix from route network) = fin.len (messages_under prefix (traffic_of p.sessions))
 reached p q (EndRoute prefix from until) = fin.len (messages_under prefix (traffic_of p.sessions))
 reached p q (CorrectRoute prefix from route network) = fin.len (messages_under prefix (traffic_of p.sessions))
@@ -88,6 +89,7 @@ reached p q (Advance clock) = fin.len (lapsing p.settings q.settings (traffic_of
 
 -- How much an edit reaches. An append: the weights, as it leaves them, of the PDUs that its batch completes. A withdrawal:
 -- those of its session's PDUs. Forms: those of the link's messages and delivery receipts, as they were and as they are
--- left. An edit of routes: the messages whose numbers its prefix begins. A clock: the messages that it lapses.
+-- left. A window: the link's messages that are open or lapsed. An edit of routes: the messages whose numbers its prefix
+-- begins. A clock: the messages that it lapses.
 abbrev pub reach : PresentValue → Edit → ℕ
 reach p edit = reached p (step p edit) edit

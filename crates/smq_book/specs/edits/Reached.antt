@@ -94,6 +94,12 @@ abbrev pub is_lapsed : Outcome → Bool
 is_lapsed o.Lapsed = true
 is_lapsed _ = false
 
+-- whether it is that of a message whose receipt is due: an open or a lapsed one
+abbrev pub is_due : Outcome → Bool
+is_due o.Open = true
+is_due o.Lapsed = true
+is_due _ = false
+
 -- what became of a message under what is set
 abbrev pub outcome_in : SettingsValue → TrafficValue → Message → Outcome
 outcome_in s t m = outcome_by m (circumstances s t m)
@@ -102,6 +108,10 @@ outcome_in s t m = outcome_by m (circumstances s t m)
 abbrev pub due_by : SettingsValue → TrafficValue → ℕ → fin.FinMap place_cmp Message
 due_by s t clock =
     passing (λ place m. is_open (outcome_in s t m) && nat_le (m.moment + window_of s m.link) clock) t.messages
+
+-- the messages of a link whose receipts are due
+abbrev pub messages_due_on : LinkId → SettingsValue → TrafficValue → fin.FinMap place_cmp Message
+messages_due_on link s t = passing (λ place m. m.link.0 == link.0 && is_due (outcome_in s t m)) t.messages
 
 -- the messages that are open under what is set and lapsed under what is set then
 abbrev pub lapsing : SettingsValue → SettingsValue → TrafficValue → fin.FinMap place_cmp Message

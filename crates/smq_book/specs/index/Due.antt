@@ -1,36 +1,43 @@
--- The open messages by moment, from which a clock finds those whose window has ended.
-use Rattle.std.specs.Prelude.{◌+◌, nat_le, ℕ, Bool, false, List, map, filter, if◌then◌else◌, Option, Some, None, option_map, unwrap_or}
+-- The messages whose receipts are due, the open and the lapsed ones, by link, then by moment: so a clock finds those whose windows
+-- end by it, and a window those of its link.
+use Rattle.std.specs.Prelude.{◌+◌, ◌==◌, ◌&&◌, not, nat_le, ℕ, Bool, false, List, map, filter, if◌then◌else◌, Option, Some, None, option_map, unwrap_or}
 use Rattle.std.specs.declared.cmp.Ordering.{Ordering}
 use Rattle.std.specs.Ordering.{nat_cmp, ordering_then}
 use Rattle.std.specs.FinMap as fin
 use Rattle.std.specs.FinSet.{FinSet}
+use Rattle.smq_kit.specs.declared.names.LinkId.{LinkId}
+use Rattle.smq_kit.specs.declared.place.Dir.TheVariants.{FromClient}
 use Rattle.smq_kit.specs.declared.place.Place.{Place}
 use Rattle.smq_kit.specs.Orders.{place_cmp}
 use Rattle.smq_tally.specs.declared.fact.Fact.{Fact}
 use Rattle.smq_book.specs.declared.index.due_at.DueAt.{DueAt}
-use Rattle.smq_book.specs.present.Settings.{SettingsValue}
+use Rattle.smq_book.specs.present.Settings.{SettingsValue, window_in}
 use Rattle.smq_book.specs.pairing.Traffic.{Message, TrafficValue}
 use Rattle.smq_book.specs.join.Facts.{facts_of}
-use Rattle.smq_book.specs.edits.Reached.{is_open}
+use Rattle.smq_book.specs.edits.Reached.{is_due}
 use Rattle.smq_book.specs.index.PlacedKeys.{keys_made}
 
--- a moment at a place
-abbrev pub due_at : ℕ → Place → DueAt
-due_at moment place = record { moment = moment; place = place }
+-- a moment of a link at a place
+abbrev pub due_at : LinkId → ℕ → Place → DueAt
+due_at link moment place = record { link = link; moment = moment; place = place }
 
--- by the moment, then by the place
+-- the place before which none stands
+abbrev pub least_place : Place
+least_place = record { session = record { 0 = 0 }; dir = FromClient; offset = 0 }
+
+-- by the link, then by the moment, then by the place
 abbrev pub due_cmp : DueAt → DueAt → Ordering
-due_cmp a b = ordering_then (nat_cmp a.moment b.moment) (place_cmp a.place b.place)
+due_cmp a b = ordering_then (nat_cmp a.link.0 b.link.0) (ordering_then (nat_cmp a.moment b.moment) (place_cmp a.place b.place))
 
--- whether there is a fact and it is that of an open message
-abbrev pub is_open_fact : Option Fact → Bool
-is_open_fact fact = unwrap_or (option_map (λ f. is_open f.outcome) fact) false
+-- whether there is a fact and it is that of a message whose receipt is due
+abbrev pub is_due_fact : Option Fact → Bool
+is_due_fact fact = unwrap_or (option_map (λ f. is_due f.outcome) fact) false
 
--- the moment of a message at its place, where its fact says that it is open
+-- the link and the moment of a message at its place, where its fact says that its receipt is due
 abbrev pub due_by_fact : fin.FinMap place_cmp Fact → Place → Message → Option DueAt
-due_by_fact facts place m = if is_open_fact (fin.get facts place) then Some (due_at m.moment place) else None
+due_by_fact facts place m = if is_due_fact (fin.get facts place) then Some (due_at m.link m.moment place) else None
 
--- the moments of the messages whose facts say that they are open, at their places
+-- those of the messages whose facts say so
 abbrev pub due_in : fin.FinMap place_cmp Message → fin.FinMap place_cmp Fact → FinSet due_cmp
 due_in messages facts = keys_made (due_by_fact facts) messages
 
@@ -38,14 +45,31 @@ due_in messages facts = keys_made (due_by_fact facts) messages
 abbrev pub due_of : SettingsValue → TrafficValue → FinSet due_cmp
 due_of s t = due_in t.messages (facts_of s t)
 
--- how long a message of any link waits for its receipt before it lapses, in ms
-abbrev pub window : ℕ
-window = 172_800_000
+-- the keys from the link of a number on
+abbrev pub keys_from : ℕ → FinSet due_cmp → List DueAt
+keys_from number due = filter (λ k. nat_le number k.link.0) (fin.keys due)
 
--- whether the window of a message of a moment has ended by a clock
-abbrev pub has_ended : ℕ → ℕ → Bool
-has_ended clock moment = nat_le (moment + window) clock
+-- whether a window of a message of a moment has ended by a clock
+abbrev pub has_ended : ℕ → ℕ → ℕ → Bool
+has_ended clock moment window = nat_le (moment + window) clock
 
--- the places of those whose window has ended by a clock, by moment, then by place
-abbrev pub places_due : FinSet due_cmp → ℕ → List Place
-places_due due clock = map (λ k. k.place) (filter (λ k. has_ended clock k.moment) (fin.keys due))
+-- whether it ends after a clock and by another
+abbrev pub ends_between : ℕ → ℕ → ℕ → ℕ → Bool
+ends_between from clock moment window = not (has_ended from moment window) && has_ended clock moment window
+
+-- whether the window of a key's link does
+abbrev pub is_ending : fin.FinMap nat_cmp ℕ → ℕ → ℕ → DueAt → Bool
+is_ending windows from clock k = ends_between from clock k.moment (window_in windows k.link)
+
+-- the places of those whose windows end after a clock and by another, by link, then by moment, then by place
+abbrev pub places_ending : fin.FinMap nat_cmp ℕ → ℕ → ℕ → FinSet due_cmp → List Place
+places_ending windows from clock due = map (λ k. k.place) (filter (is_ending windows from clock) (fin.keys due))
+
+-- the same of a link's alone
+abbrev pub places_ending_on : LinkId → ℕ → ℕ → ℕ → FinSet due_cmp → List Place
+places_ending_on link window from clock due =
+    map (λ k. k.place) (filter (λ k. k.link.0 == link.0 && ends_between from clock k.moment window) (fin.keys due))
+
+-- the places of those of a link, by moment, then by place
+abbrev pub places_due_on : LinkId → FinSet due_cmp → List Place
+places_due_on link due = map (λ k. k.place) (filter (λ k. k.link.0 == link.0) (fin.keys due))

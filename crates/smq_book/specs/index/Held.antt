@@ -34,7 +34,7 @@ messages_in es = fin.from_entries es
 abbrev pub receipts_in : List (Place × ReceivedReceipt) → fin.FinMap place_cmp ReceivedReceipt
 receipts_in es = fin.from_entries es
 
--- keys of open messages that are stored as a set
+-- keys of messages whose receipts are due, stored as a set
 abbrev pub dues_in : List (DueAt × ⊤) → FinSet due_cmp
 dues_in es = fin.from_entries es
 
@@ -127,7 +127,7 @@ KeepsTraffic (TakeReceipt q) = ⊤
 KeepsTraffic (PutNote note) = is_traffic_list note.list ≡ true
 KeepsTraffic (TakeNote note) = ⊤
 
--- messages, receipts, members, facts and notes, and where the open messages and the numbers stand
+-- messages, receipts, members, facts and notes, and where the messages whose receipts are due and the numbers stand
 pub record Holding : Type 0 where
   pub messages : fin.FinMap place_cmp Message
   pub receipts : fin.FinMap place_cmp ReceivedReceipt
@@ -149,7 +149,7 @@ held_of s t = record {
   numbers = numbers_of t;
 }
 
--- the same where these are the facts, of which some may be those of other routes or another clock
+-- the same where these are the facts, of which some may be those of other routes, other windows or another clock
 abbrev pub held_by : SettingsValue → TrafficValue → fin.FinMap place_cmp Fact → Holding
 held_by s t facts = record (held_of s t) { facts = facts; due = due_in t.messages facts }
 

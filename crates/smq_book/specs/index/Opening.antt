@@ -3,7 +3,7 @@ use Rattle.std.specs.FinMap as fin
 use Rattle.smq_group.specs.Groups.{no_members}
 use Rattle.smq_book.specs.index.Held.{Holding}
 
--- no messages, receipts, members, facts, notes, open messages and numbers
+-- no messages, receipts, members, facts and notes, no messages whose receipts are due, and no numbers
 abbrev pub nothing_held : Holding
 nothing_held = record {
   messages = fin.empty;

@@ -4,7 +4,7 @@ use Rattle.std.specs.FinMap as map
 use Rattle.smq_kit.specs.declared.names.LinkId.{LinkId}
 use Rattle.smq_kit.specs.declared.names.RouteId.{RouteId}
 use Rattle.smq_route.specs.Versions.{Versions, route_at}
-use Rattle.smq_book.specs.present.Settings.{SettingsValue}
+use Rattle.smq_book.specs.present.Settings.{SettingsValue, window_in}
 use Rattle.smq_book.specs.pairing.Traffic.{Message, ReceivedReceipt, TrafficValue}
 use Rattle.smq_group.specs.Matching.{Grouping, Standing, submit_standing, decided_by}
 use Rattle.smq_book.specs.join.Keyed.{accepted_key, grouping_of}
@@ -31,7 +31,7 @@ route_in versions m = option_and_then (λ number. route_at versions number m.mom
 
 -- how long a message of a link waits for its receipt before it lapses, in ms
 abbrev pub window_of : SettingsValue → LinkId → ℕ
-window_of s link = 172_800_000
+window_of s link = window_in s.windows link
 
 -- the clock is at the end of a message's window, or past it
 abbrev pub lapsed_in : SettingsValue → Message → Bool

@@ -4,7 +4,7 @@ use Rattle.smq_kit.specs.declared.form.Form.TheVariants.{Decimal, Hexadecimal}
 use Rattle.smq_kit.specs.declared.place.Dir.TheVariants.{FromClient}
 use Rattle.smq_kit.specs.declared.refusal.Refusal.TheVariants.{ClockBack, Memory, NoSession}
 use Rattle.smq_book.specs.declared.present.edit.Edit.{Edit}
-use Rattle.smq_book.specs.declared.present.edit.Edit.TheVariants.{Append, Withdraw, SetForm, AddRoute, EndRoute, CorrectRoute, Advance}
+use Rattle.smq_book.specs.declared.present.edit.Edit.TheVariants.{Append, Withdraw, SetForm, SetWindow, AddRoute, EndRoute, CorrectRoute, Advance}
 use Rattle.smq_book.specs.present.Batch.{batch_of}
 use Rattle.smq_book.specs.present.Judged.{judged, AreAnswers}
 use Rattle.smq_book.specs.present.Present.{empty}
@@ -23,6 +23,9 @@ withdrawal_of session = Withdraw (record { 0 = session })
 -- edits of no session
 abbrev pub forms_set : Edit
 forms_set = SetForm (record { 0 = 10 }) Hexadecimal Decimal
+
+abbrev pub window_set : Edit
+window_set = SetWindow (record { 0 = 10 }) 10
 
 abbrev pub route_added : Edit
 route_added = AddRoute (49 ∷ []) 10 (record { 0 = 10 }) []
@@ -43,8 +46,8 @@ pub record KnownEditsWithout : Type 0 where
   pub far_withdrawal : edits_without (record { 0 = 10 }) (withdrawal_of 65546 ∷ []) ≡ withdrawal_of 65546 ∷ []
   pub of_none :
       edits_without (record { 0 = 10 })
-      (forms_set ∷ octet_for 10 ∷ route_added ∷ route_ended ∷ withdrawal_of 10 ∷ route_corrected ∷ Advance 10 ∷ [])
-      ≡ forms_set ∷ route_added ∷ route_ended ∷ route_corrected ∷ Advance 10 ∷ []
+      (forms_set ∷ window_set ∷ octet_for 10 ∷ route_added ∷ route_ended ∷ withdrawal_of 10 ∷ route_corrected ∷ Advance 10 ∷ [])
+      ≡ forms_set ∷ window_set ∷ route_added ∷ route_ended ∷ route_corrected ∷ Advance 10 ∷ []
 
 -- the clock is advanced to 1000, then back to 500, which is refused, and forms are set
 abbrev pub three : List Edit

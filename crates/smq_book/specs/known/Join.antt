@@ -4,7 +4,6 @@ use Rattle.std.specs.List.{flat_map}
 use Rattle.std.specs.FinMap as map
 use Rattle.smq_kit.specs.declared.form.Form.{Form}
 use Rattle.smq_kit.specs.declared.form.Form.TheVariants.{Verbatim, Decimal, Hexadecimal}
-use Rattle.smq_kit.specs.declared.names.LinkId.{LinkId}
 use Rattle.smq_kit.specs.declared.place.Dir.TheVariants.{FromClient, FromCentre}
 use Rattle.smq_kit.specs.declared.error_code.ErrorCode.TheVariants as e
 use Rattle.smq_receipt.specs.declared.message_state.MessageState.TheVariants.{Enroute, Delivered, Expired, Deleted, Undeliverable, Accepted, Unknown, Rejected}
@@ -22,8 +21,8 @@ use Rattle.smq_tally.specs.declared.value.SubmitError.TheVariants as s
 use Rattle.smq_book.specs.declared.present.kept.Content.TheVariants as c
 use Rattle.smq_book.specs.declared.present.kept.KeptPdu.{KeptPdu}
 use Rattle.smq_book.specs.present.Settings.{SettingsValue, opening_settings, with_clock}
+use Rattle.smq_book.specs.present.Steps.{with_window}
 use Rattle.smq_book.specs.pairing.Traffic.{Origin, TrafficValue, traffic_among, messages_among, receipts_among, notes_among}
-use Rattle.smq_book.specs.join.Circumstances.{window_of}
 use Rattle.smq_book.specs.join.Facts.{facts_of}
 use Rattle.smq_book.specs.join.Keyed.{grouping_of}
 use Rattle.smq_book.specs.join.Listings.{receipt_notes}
@@ -60,6 +59,12 @@ errors_among client centre =
 unfoldable pub outcomes_at : ℕ → List KeptPdu → List KeptPdu → List Outcome
 outcomes_at clock client centre =
     map (λ fact. fact.outcome) (known_facts (with_clock (settings_with Verbatim Verbatim) clock) client centre)
+
+-- what became of them at a clock, where this window of the link of a number was set
+unfoldable pub outcomes_by_window : ℕ → ℕ → ℕ → List KeptPdu → List KeptPdu → List Outcome
+outcomes_by_window link window clock client centre =
+    map (λ fact. fact.outcome)
+    (known_facts (with_clock (with_window (settings_with Verbatim Verbatim) (record { 0 = link }) window) clock) client centre)
 
 -- their delays, on the link and at the centre
 unfoldable pub delays_among : List KeptPdu → List KeptPdu → List (Option Band × Option Band)
@@ -158,8 +163,7 @@ pub record KnownOutcomes : Type 0 where
         link_delay = None;
         centre_delay = None;
       } ∷ []
-  -- the window is 48 hours from the moment of the submit_sm, 1000
-  pub window : (s : SettingsValue) (link : LinkId) → window_of s link ≡ 172800000
+  -- a window that was never set is 48 hours, from the moment of the submit_sm, 1000
   pub before_its_end : outcomes_at 172800999 (submit 0 1 1 ∷ []) (accepted 1 ∷ []) ≡ o.Open ∷ []
   pub at_its_end : outcomes_at 172801000 (submit 0 1 1 ∷ []) (accepted 1 ∷ []) ≡ o.Lapsed ∷ []
   pub after_its_end : outcomes_at 172801001 (submit 0 1 1 ∷ []) (accepted 1 ∷ []) ≡ o.Lapsed ∷ []
@@ -169,6 +173,21 @@ pub record KnownOutcomes : Type 0 where
   pub other_command_after : outcomes_at 172801000 (submit 0 1 1 ∷ []) (link_response 0 1 ∷ []) ≡ o.Mismatched ∷ []
   pub refused_after : outcomes_at 172801000 (submit 0 1 1 ∷ []) (nack 3 1 ∷ []) ≡ o.Refused ∷ []
   pub no_id_after : outcomes_at 172801000 (submit 0 1 1 ∷ []) (without_id 1 ∷ []) ≡ o.NoId ∷ []
+
+-- When messages that are written out lapse, of the moment 1000 and the link 1, by a window of their link or of another.
+pub record KnownLapses : Type 0 where
+  pub at_its_end : outcomes_by_window 1 1000 2000 (submit 0 1 1 ∷ []) (accepted 1 ∷ []) ≡ o.Lapsed ∷ []
+  pub before_its_end : outcomes_by_window 1 1001 2000 (submit 0 1 1 ∷ []) (accepted 1 ∷ []) ≡ o.Open ∷ []
+  pub least_at_once : outcomes_by_window 1 1 1000 (submit 0 1 1 ∷ []) (accepted 1 ∷ []) ≡ o.Open ∷ []
+  pub least_after_1_ms : outcomes_by_window 1 1 1001 (submit 0 1 1 ∷ []) (accepted 1 ∷ []) ≡ o.Lapsed ∷ []
+  pub by_that_of_another_link : outcomes_by_window 2 1 2000 (submit 0 1 1 ∷ []) (accepted 1 ∷ []) ≡ o.Open ∷ []
+  pub by_that_of_a_far_link : outcomes_by_window 65537 1 2000 (submit 0 1 1 ∷ []) (accepted 1 ∷ []) ≡ o.Open ∷ []
+  pub greater_than_any : outcomes_by_window 1 4102444800000 172801000 (submit 0 1 1 ∷ []) (accepted 1 ∷ []) ≡ o.Open ∷ []
+  pub unasked : outcomes_by_window 1 1000 2000 (submit 0 1 0 ∷ []) (accepted 1 ∷ []) ≡ o.Unasked ∷ []
+  pub unanswered : outcomes_by_window 1 1000 2000 (submit 0 1 1 ∷ []) [] ≡ o.Waiting ∷ []
+  pub delivered_late :
+      outcomes_by_window 1 1000 2000 (submit 0 1 1 ∷ []) (accepted 1 ∷ delivered 18 5000 ∷ [])
+      ≡ o.Delivered ∷ []
 
 -- What receipts that are written out make of messages. Each is of the id `1`, which `accepted` gives, but for those under
 -- forms.

@@ -12,11 +12,12 @@ use Rattle.smq_route.specs.declared.version.Version.{Version}
 use Rattle.smq_route.specs.declared.version.VersionKey.{VersionKey}
 use Rattle.smq_route.specs.Versions.{key_at}
 use Rattle.smq_book.specs.declared.present.edit.Edit.{Edit}
-use Rattle.smq_book.specs.declared.present.edit.Edit.TheVariants.{Append, Withdraw, SetForm, AddRoute, EndRoute, CorrectRoute, Advance}
+use Rattle.smq_book.specs.declared.present.edit.Edit.TheVariants.{Append, Withdraw, SetForm, SetWindow, AddRoute, EndRoute, CorrectRoute, Advance}
+use Rattle.smq_book.specs.join.Circumstances.{window_of}
 use Rattle.smq_book.specs.present.Batch.{batch_of, prepare_refusal}
 use Rattle.smq_book.specs.present.Present.{PresentValue, empty, link_of, octets_of}
 use Rattle.smq_book.specs.present.Replies.{reply}
-use Rattle.smq_book.specs.present.Settings.{opening_settings, opening_forms, forms_of}
+use Rattle.smq_book.specs.present.Settings.{opening_settings, opening_forms, forms_of, set_window_of}
 use Rattle.smq_book.specs.present.Steps.{step}
 use Rattle.smq_book.specs.present.Stream.{last_moment}
 
@@ -103,6 +104,17 @@ at_65537 = step routed (Advance 65537)
 
 abbrev pub at_the_last : PresentValue
 at_the_last = step routed (Advance 4102444800000)
+
+-- the book whose clock is 5 once the window of link 1 is set to 1000, and that book once it is set anew, to 1001
+abbrev pub with_window : PresentValue
+with_window = step at_five (SetWindow (record { 0 = 1 }) 1000)
+
+abbrev pub with_window_anew : PresentValue
+with_window_anew = step with_window (SetWindow (record { 0 = 1 }) 1001)
+
+-- the book with a window once another octet 0 is put after the client's, at 2000
+abbrev pub with_window_and_octets : PresentValue
+with_window_and_octets = step with_window (one_more 1 10 FromClient (waiting 1 (0 ∷ [])) 2000)
 
 -- Replies on the book of one octet: another link comes before a stale tail, and that before an earlier moment.
 pub record KnownReplies : Type 0 where
@@ -239,3 +251,28 @@ pub record KnownClocks : Type 0 where
   pub stands : step at_five (Advance 5) ≡ at_five
   pub withdrawn : (step at_five (Withdraw (record { 0 = 10 }))).settings.clock ≡ 5
   pub forms_set : (step at_five (SetForm (record { 0 = 1 }) Verbatim Verbatim)).settings.clock ≡ 5
+
+-- The window of a link is 172,800,000 ms until it is set, which nothing refuses. This leaves other links, octets, forms, versions
+-- and the clock; and other edits leave the window.
+pub record KnownWindows : Type 0 where
+  pub never_set : (link : LinkId) → window_of empty.settings link ≡ 172800000
+  pub none_set : set_window_of at_five.settings 1 ≡ None
+  pub before : window_of at_five.settings (record { 0 = 1 }) ≡ 172800000
+  pub made : (p : PresentValue) (link : LinkId) (window : ℕ) → reply p (SetWindow link window) ≡ None
+  pub set : set_window_of with_window.settings 1 ≡ Some 1000
+  pub there : window_of with_window.settings (record { 0 = 1 }) ≡ 1000
+  pub none_of_another : set_window_of with_window.settings 2 ≡ None
+  pub other_link : window_of with_window.settings (record { 0 = 2 }) ≡ 172800000
+  pub far_link : window_of with_window.settings (record { 0 = 65537 }) ≡ 172800000
+  pub there_anew : window_of with_window_anew.settings (record { 0 = 1 }) ≡ 1001
+  pub other_link_anew : window_of with_window_anew.settings (record { 0 = 2 }) ≡ 172800000
+  pub client : octets_of with_window 10 FromClient ≡ handed_in 1000 (0 ∷ [])
+  pub centre : octets_of with_window 10 FromCentre ≡ handed_in 1000 (0 ∷ [])
+  pub forms : forms_of with_window.settings (record { 0 = 1 }) ≡ record { response = Hexadecimal; receipt = Decimal }
+  pub versions : versions_of with_window ≡ known_versions
+  pub clock : with_window.settings.clock ≡ 5
+  pub appended : octets_of with_window_and_octets 10 FromClient ≡ handed_in 1000 (0 ∷ []) ++ handed_in 2000 (0 ∷ [])
+  pub there_still : window_of with_window_and_octets.settings (record { 0 = 1 }) ≡ 1000
+  pub withdrawn : window_of (step with_window (Withdraw (record { 0 = 10 }))).settings (record { 0 = 1 }) ≡ 1000
+  pub forms_set : window_of (step with_window (SetForm (record { 0 = 1 }) Verbatim Verbatim)).settings (record { 0 = 1 }) ≡ 1000
+  pub advanced : window_of (step with_window (Advance 6)).settings (record { 0 = 1 }) ≡ 1000

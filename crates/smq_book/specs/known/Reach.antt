@@ -1,13 +1,14 @@
 -- How much edits reach, worked out by hand.
-use Rattle.std.specs.Prelude.{◌≡◌, [], ◌∷◌, codes}
+use Rattle.std.specs.Prelude.{◌≡◌, ℕ, [], ◌∷◌, codes}
 use Rattle.std.specs.FinMap as map
 use Rattle.smq_kit.specs.declared.place.Dir.TheVariants.{FromClient, FromCentre}
 use Rattle.smq_frame.specs.Stream.{handed_in}
 use Rattle.smq_book.specs.declared.present.edit.Edit.{Edit}
-use Rattle.smq_book.specs.declared.present.edit.Edit.TheVariants.{Append, Withdraw, AddRoute, EndRoute, CorrectRoute, Advance}
+use Rattle.smq_book.specs.declared.present.edit.Edit.TheVariants.{Append, Withdraw, SetWindow, AddRoute, EndRoute, CorrectRoute, Advance}
 use Rattle.smq_book.specs.declared.present.session.Session.{Session}
 use Rattle.smq_book.specs.present.Batch.{batch_of}
 use Rattle.smq_book.specs.present.Present.{PresentValue, empty}
+use Rattle.smq_book.specs.present.Settings.{with_clock}
 use Rattle.smq_book.specs.present.Steps.{step}
 use Rattle.smq_book.specs.pairing.Traffic.{traffic_of}
 use Rattle.smq_book.specs.edits.Reach.{link_places, reach}
@@ -32,6 +33,10 @@ submitted_book = record empty { sessions = map.insert map.empty 10 submitted_ses
 abbrev pub accepted_book : PresentValue
 accepted_book = record empty { sessions = map.insert map.empty 10 accepted_session }
 
+-- the latter at a clock
+abbrev pub accepted_at : ℕ → PresentValue
+accepted_at clock = record accepted_book { settings = with_clock accepted_book.settings clock }
+
 -- the edits that lead from the empty book to the first, and from that to the second
 abbrev pub submitting : Edit
 submitting =
@@ -44,7 +49,8 @@ accepting =
     (response_octets 1 (codes "1")))
 
 -- How much edits reach, worked out by hand: a message that isn't accepted weighs 1, one that is alone with its key 2, and
--- so does its response. Its number, 447700900123, is begun by 44 and not by 33; nothing is of link 2.
+-- so does its response. A window of link 1 reaches it once it is accepted, whether its window has ended or not. Its number,
+-- 447700900123, is begun by 44 and not by 33; nothing is of link 2.
 pub record KnownReach : Type 0 where
   pub submitted : step empty submitting ≡ submitted_book
   pub submits : reach empty submitting ≡ 1
@@ -53,6 +59,10 @@ pub record KnownReach : Type 0 where
   pub withdraws : reach accepted_book (Withdraw (record { 0 = 10 })) ≡ 4
   pub before_the_end : reach accepted_book (Advance 172800999) ≡ 0
   pub at_the_end : reach accepted_book (Advance 172801000) ≡ 1
+  pub windows_of_its_link : reach accepted_book (SetWindow (record { 0 = 1 }) 1000) ≡ 1
+  pub windows_of_no_link : reach accepted_book (SetWindow (record { 0 = 2 }) 1000) ≡ 0
+  pub windows_before_its_response : reach submitted_book (SetWindow (record { 0 = 1 }) 1000) ≡ 0
+  pub windows_at_the_end : reach (accepted_at 172801000) (SetWindow (record { 0 = 1 }) 1000) ≡ 1
   pub adds_under_its_number : reach accepted_book (AddRoute (codes "44") 0 (record { 0 = 7 }) (codes "23410")) ≡ 1
   pub adds_elsewhere : reach accepted_book (AddRoute (codes "33") 0 (record { 0 = 7 }) (codes "23410")) ≡ 0
   pub ends_under_its_number : reach accepted_book (EndRoute (codes "44") 0 5) ≡ 1

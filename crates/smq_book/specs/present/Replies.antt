@@ -9,7 +9,7 @@ use Rattle.smq_kit.specs.Refusals.{number_of}
 use Rattle.smq_frame.specs.Stream.{Octet, values}
 use Rattle.smq_frame.specs.Tail.{tails_equal, tail_of}
 use Rattle.smq_book.specs.declared.present.edit.Edit.{Edit}
-use Rattle.smq_book.specs.declared.present.edit.Edit.TheVariants.{Append, Withdraw, SetForm, AddRoute, EndRoute, CorrectRoute, Advance}
+use Rattle.smq_book.specs.declared.present.edit.Edit.TheVariants.{Append, Withdraw, SetForm, SetWindow, AddRoute, EndRoute, CorrectRoute, Advance}
 use Rattle.smq_book.specs.declared.present.session.Session.{Session}
 use Rattle.smq_kit.specs.Replies.{first_of, refused_if}
 use Rattle.smq_route.specs.Edits.{add_refusals, end_refusals, correct_refusals}
@@ -55,6 +55,7 @@ abbrev pub reply : PresentValue → Edit → Option Refusal
 reply p (Append batch) = first_of (append_refusals (session_of p batch.session.0) batch)
 reply p (Withdraw session) = no_session (session_of p session.0)
 reply p (SetForm link response receipt) = None
+reply p (SetWindow link window) = None
 reply p (AddRoute prefix from route network) = first_of (add_refusals p.settings.versions prefix from)
 reply p (EndRoute prefix from until) =
     first_of (end_refusals (version_of p.settings.versions prefix from) from until)

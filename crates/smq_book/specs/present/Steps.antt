@@ -15,12 +15,12 @@ use Rattle.smq_route.specs.declared.version.VersionKey.{VersionKey}
 use Rattle.smq_route.specs.Edits.{added, changed, ending, corrected}
 use Rattle.smq_route.specs.Versions.{key_at, version_of}
 use Rattle.smq_book.specs.declared.present.edit.Edit.{Edit}
-use Rattle.smq_book.specs.declared.present.edit.Edit.TheVariants.{Append, Withdraw, SetForm, AddRoute, EndRoute, CorrectRoute, Advance}
+use Rattle.smq_book.specs.declared.present.edit.Edit.TheVariants.{Append, Withdraw, SetForm, SetWindow, AddRoute, EndRoute, CorrectRoute, Advance}
 use Rattle.smq_book.specs.declared.present.session.Session.{Session}
 use Rattle.smq_book.specs.present.Batch.{BatchValue}
 use Rattle.smq_book.specs.declared.present.forms.Forms.{Forms}
 use Rattle.smq_book.specs.present.Present.{PresentValue, session_of, link_of, octets_of}
-use Rattle.smq_book.specs.present.Settings.{SettingsValue, set_forms_of, with_versions, with_clock}
+use Rattle.smq_book.specs.present.Settings.{SettingsValue, set_forms_of, set_window_of, with_windows, with_versions, with_clock}
 use Rattle.smq_book.specs.present.Replies.{reply}
 
 -- a session with octets put after one direction
@@ -39,6 +39,10 @@ session_after (Some session) batch =
 abbrev pub with_forms : SettingsValue → LinkId → Forms → SettingsValue
 with_forms s link forms = record s { forms = map.insert s.forms link.0 forms }
 
+-- settings with this window of a link
+abbrev pub with_window : SettingsValue → LinkId → ℕ → SettingsValue
+with_window s link window = with_windows s (map.insert s.windows link.0 window)
+
 -- the plain change that an edit is
 abbrev pub change : PresentValue → Edit → PresentValue
 change p (Append batch) =
@@ -46,6 +50,7 @@ change p (Append batch) =
 change p (Withdraw session) = record p { sessions = map.remove p.sessions session.0 }
 change p (SetForm link response receipt) =
     record p { settings = with_forms p.settings link (record { response = response; receipt = receipt }) }
+change p (SetWindow link window) = record p { settings = with_window p.settings link window }
 change p (AddRoute prefix from route network) =
     record p { settings = with_versions p.settings (added p.settings.versions prefix from route network) }
 change p (EndRoute prefix from until) =
@@ -90,6 +95,12 @@ pub record SetsForm (old new : PresentValue) (link : LinkId) (response receipt :
   pub elsewhere : (number : ℕ) → number ≢ link.0 → set_forms_of new.settings number ≡ set_forms_of old.settings number
   pub rest : new ≡ record old { settings = record old.settings { forms = new.settings.forms } }
 
+-- The link has this window. Nothing else changes.
+pub record SetsWindow (old new : PresentValue) (link : LinkId) (window : ℕ) : Type 0 where
+  pub there : set_window_of new.settings link.0 ≡ Some window
+  pub elsewhere : (number : ℕ) → number ≢ link.0 → set_window_of new.settings number ≡ set_window_of old.settings number
+  pub rest : new ≡ record old { settings = record old.settings { windows = new.settings.windows } }
+
 -- A version of the prefix begins then, open, with this route and network. Every other version is as it was, and nothing
 -- else changes.
 pub record AddsRoute (old new : PresentValue) (prefix : List ℕ) (from : ℕ) (route : RouteId) (network : List ℕ)
@@ -132,6 +143,7 @@ abbrev pub is_append_to : SessionId → Edit → Bool
 is_append_to session (Append batch) = batch.session.0 == session.0
 is_append_to session (Withdraw other) = false
 is_append_to session (SetForm link response receipt) = false
+is_append_to session (SetWindow link window) = false
 is_append_to session (AddRoute prefix from route network) = false
 is_append_to session (EndRoute prefix from until) = false
 is_append_to session (CorrectRoute prefix from route network) = false
@@ -142,6 +154,7 @@ abbrev pub is_of_session : SessionId → Edit → Bool
 is_of_session session (Append batch) = batch.session.0 == session.0
 is_of_session session (Withdraw other) = other.0 == session.0
 is_of_session session (SetForm link response receipt) = false
+is_of_session session (SetWindow link window) = false
 is_of_session session (AddRoute prefix from route network) = false
 is_of_session session (EndRoute prefix from until) = false
 is_of_session session (CorrectRoute prefix from route network) = false

@@ -1,4 +1,4 @@
--- The sessions and the forms that maps of std hold.
+-- The sessions, the forms and the windows that maps of std hold.
 use Rattle.std.specs.Prelude.{ℕ}
 use Rattle.std.specs.BTreeMap.{BTreeMap}
 use Rattle.std.specs.FinMap as map
@@ -13,3 +13,7 @@ sessions_in kept = map.from_entries kept.entries
 -- a map of forms as a finite map
 abbrev pub forms_in : BTreeMap ℕ Forms → map.FinMap nat_cmp Forms
 forms_in kept = map.from_entries kept.entries
+
+-- a map of windows as a finite map
+abbrev pub windows_in : BTreeMap ℕ ℕ → map.FinMap nat_cmp ℕ
+windows_in kept = map.from_entries kept.entries

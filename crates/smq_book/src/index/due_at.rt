@@ -1,14 +1,34 @@
-//! The keys under which open messages are found by moment.
+//! The keys under which messages whose receipts are due are found by link and by moment.
 ghost use Rattle.std.specs.Prelude.{◌≡◌};
+ghost use Rattle.smq_book.specs.index.Due.{due_at, least_place};
 
-use smq_kit::{Moment, Place};
+use smq_kit::{Dir, LinkId, Moment, Place, SessionId};
 use smq_shelf::ShelfKey;
 
-/// The moment and the place of an open message. Ordered by the moment, then by the place: those that lapse first stand first.
+/// The link, the moment and the place of a message whose receipt is due: of an open or a lapsed one. Ordered by the link, then by the
+/// moment, then by the place: those of a link stand together, and those that lapse first stand first.
 #[derive(Debug, PartialEq, Eq, PartialOrd, Ord, Drop)]
 pub(crate) struct DueAt {
+    pub(crate) link: LinkId,
     pub(crate) moment: Moment,
     pub(crate) place: Place,
+}
+
+impl DueAt {
+    /// The least key of a link from a moment on.
+    pub(crate) fn first_from(link: LinkId, moment: Moment) -> DueAt
+        ensures { result ≡ due_at link moment least_place }
+    {
+        DueAt {
+            link,
+            moment,
+            place: Place {
+                session: SessionId(0),
+                dir: Dir::FromClient,
+                offset: 0,
+            },
+        }
+    }
 }
 
 impl ShelfKey for DueAt {
@@ -18,6 +38,7 @@ impl ShelfKey for DueAt {
 
     fn copy(&self) -> DueAt {
         DueAt {
+            link: self.link,
             moment: self.moment,
             place: self.place,
         }

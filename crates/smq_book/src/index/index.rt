@@ -10,7 +10,7 @@ ghost use Rattle.smq_kit.specs.Orders.{place_cmp};
 ghost use Rattle.smq_tally.specs.Lists.{listed};
 ghost use Rattle.smq_tally.specs.declared.fact.Fact.{Fact as FactOf};
 ghost use Rattle.smq_book.specs.index.Opening.{nothing_held};
-ghost use Rattle.smq_book.specs.index.Due.{due_in, is_open_fact};
+ghost use Rattle.smq_book.specs.index.Due.{due_in, is_due_fact};
 ghost use Rattle.smq_book.specs.index.Stored.{is_told_shared};
 ghost use Rattle.smq_book.specs.index.Held.{AreOf, AreUnlisted, IsTraffic, decider_held, dues_in, facts_anew, held_by, held_now, held_settled, list_by, list_held, messages_in, noted, notes_anew, receipts_in, stored_traffic, with_listing};
 ghost use Rattle.smq_book.specs.index.Touches.{HasNothingPending, index_cost, index_touches, pending_in, tally_cost, touches_in};
@@ -22,6 +22,7 @@ use crate::index::due_at::DueAt;
 use crate::index::fact::fact_of;
 use crate::index::stored::{StoredMessage, StoredReceipt};
 use crate::present::settings::Settings;
+use crate::present::windows::Windows;
 use crate::{Fact, List, Outcome};
 use smq_group::{Change, Standing, Standings};
 use smq_kit::{Moment, Place};
@@ -38,7 +39,7 @@ pub(crate) struct Index {
     pub messages: KeptMap<Place, StoredMessage>,
     pub receipts: KeptMap<Place, StoredReceipt>,
     pub tally: Tally,
-    /// The moments of the open messages.
+    /// The messages whose receipts are due: the open and the lapsed ones, by link and moment.
     pub due: KeptMap<DueAt, ()>,
     /// The numbers of the messages.
     pub numbers: Numbers,
@@ -132,7 +133,12 @@ impl Index {
         ensures touches { OnOk result (index_cost self.new ≤ index_cost self.old + 9) }
         ensures counted { touches_in self.old ≤ touches_in self.new }
     {
-        let is_message = self.set_fact_by(settings.routes(), settings.clock(), place)?;
+        let is_message = self.set_fact_by(
+            settings.routes(),
+            settings.windows_set(),
+            settings.clock(),
+            place,
+        )?;
         if is_message {
             return Ok(());
         }
@@ -141,15 +147,16 @@ impl Index {
         Ok(())
     }
 
-    /// Sets the fact of the message at a place anew by routes and a clock, where its standing stays.
+    /// Sets the fact of the message at a place anew by routes, windows and a clock, where its standing stays.
     pub(crate) fn refresh_by(
         &mut self,
         routes: &Routes,
+        windows: &Windows,
         clock: Moment,
         place: Place,
     ) -> Result<(), AllocError>
         ensures held { (z : SettingsValue) (t : TrafficValue) (facts : fin.FinMap place_cmp FactOf)
-            → IsTraffic t → z.versions ≡ routes.now.versions → z.clock ≡ clock
+            → IsTraffic t → z.versions ≡ routes.now.versions → z.windows ≡ windows.now → z.clock ≡ clock
             → held_now self.old ≡ held_by z t facts
             → OnOk result (held_now self.new
             ≡ held_by z t (set_at facts place (fin.get (facts_of z t) place))) }
@@ -157,7 +164,7 @@ impl Index {
         ensures touches { OnOk result (index_cost self.new ≤ index_cost self.old + 6) }
         ensures counted { touches_in self.old ≤ touches_in self.new }
     {
-        self.set_fact_by(routes, clock, place)?;
+        self.set_fact_by(routes, windows, clock, place)?;
         Ok(())
     }
 
@@ -198,11 +205,12 @@ impl Index {
         Ok(())
     }
 
-    /// Sets the fact of a place anew by routes and a clock, and whether its message is among the open ones. It tells whether
-    /// a message stands there.
+    /// Sets the fact of a place anew by routes, windows and a clock, and whether its message is among those whose receipts are
+    /// due. It tells whether a message stands there.
     fn set_fact_by(
         &mut self,
         routes: &Routes,
+        windows: &Windows,
         clock: Moment,
         place: Place,
     ) -> Result<bool, AllocError>
@@ -215,7 +223,8 @@ impl Index {
         ensures notes { OnOk result (self.new.tally.notes ≡ self.old.tally.notes) }
         ensures settled { self.new.tally.settled ≡ self.old.tally.settled }
         ensures settled_due { self.new.due.settled ≡ self.old.due.settled }
-        ensures facts { (z : SettingsValue) → z.versions ≡ routes.now.versions → z.clock ≡ clock
+        ensures facts { (z : SettingsValue) → z.versions ≡ routes.now.versions
+            → z.windows ≡ windows.now → z.clock ≡ clock
             → (let traffic = stored_traffic self.old.messages.content self.old.receipts.content in
             AreOf z traffic self.old.standings.members
             → OnOk result (self.new.tally.facts
@@ -231,6 +240,7 @@ impl Index {
             return Ok(false);
         };
         let due = DueAt {
+            link: message.link,
             moment: message.moment,
             place,
         };
@@ -238,28 +248,30 @@ impl Index {
             &self.receipts,
             &self.standings,
             routes,
+            windows,
             clock,
             place,
             message,
         );
-        let is_open = is_open(&fact);
+        let is_due = is_due(&fact);
         self.tally.set(fact)?;
-        set_due(&mut self.due, due, is_open)?;
+        set_due(&mut self.due, due, is_due)?;
         Ok(true)
     }
 }
 
-/// What is known of a message at its place, by routes and a clock.
+/// What is known of a message at its place, by routes, windows and a clock.
 fn fact_at(
     receipts: &KeptMap<Place, StoredReceipt>,
     standings: &Standings,
     routes: &Routes,
+    windows: &Windows,
     clock: Moment,
     place: Place,
     message: &StoredMessage,
 ) -> Fact
     ensures value { (z : SettingsValue) (t : TrafficValue) → z.versions ≡ routes.now.versions
-        → z.clock ≡ clock → AreOf z t standings.now.members
+        → z.windows ≡ windows.now → z.clock ≡ clock → AreOf z t standings.now.members
         → receipts_in receipts.now.content ≡ t.receipts
         → fin.get t.messages place ≡ Some message.now
         → Some result ≡ fin.get (facts_of z t) place }
@@ -270,17 +282,17 @@ fn fact_at(
         place,
         message,
         message.route(routes),
-        message.has_lapsed(clock),
+        message.has_lapsed(windows, clock),
         is_shared(standing),
         decider_of(receipts, standing),
     )
 }
 
-/// Whether a fact is that of an open message.
-fn is_open(fact: &Fact) -> bool
-    ensures { result ≡ is_open_fact (Some fact.now) }
+/// Whether a fact is that of a message whose receipt is due.
+fn is_due(fact: &Fact) -> bool
+    ensures { result ≡ is_due_fact (Some fact.now) }
 {
-    matches!(fact.outcome, Outcome::Open)
+    matches!(fact.outcome, Outcome::Open | Outcome::Lapsed)
 }
 
 /// The list of the receipt at a place, if one stands there and it has one.
@@ -333,17 +345,17 @@ pub(crate) fn take_fact(tally: &mut Tally, place: Place) -> Result<(), AllocErro
     Ok(())
 }
 
-/// Puts a moment at a place in, or takes it out.
+/// Puts a key of a message in, or takes it out.
 pub(crate) fn set_due(
     due: &mut KeptMap<DueAt, ()>,
     key: DueAt,
-    is_open: bool,
+    is_due: bool,
 ) -> Result<(), AllocError>
     ensures value { OnOk result
-        (dues_in due.new.content ≡ set_at (dues_in due.old.content) key (noted is_open)) }
+        (dues_in due.new.content ≡ set_at (dues_in due.old.content) key (noted is_due)) }
     ensures settled { due.new.settled ≡ due.old.settled }
 {
-    if is_open {
+    if is_due {
         due.set(key, ())?;
         return Ok(());
     }

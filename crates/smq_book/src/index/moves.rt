@@ -120,6 +120,7 @@ impl Index {
         };
         let key = message.key(settings);
         let due = DueAt {
+            link: message.link,
             moment: message.moment,
             place,
         };

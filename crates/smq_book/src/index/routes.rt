@@ -14,6 +14,7 @@ ghost use Rattle.smq_book.specs.pairing.Traffic.{TrafficValue};
 ghost use Rattle.smq_book.specs.present.Settings.{SettingsValue, with_versions};
 
 use crate::index::index::Index;
+use crate::present::windows::Windows;
 use smq_kit::{Digits, Moment, Place};
 use smq_route::Routes;
 use std::alloc::AllocError;
@@ -23,10 +24,11 @@ use std::alloc::AllocError;
 pub(crate) fn set_routes(
     index: &mut Index,
     routes: &Routes,
+    windows: &Windows,
     clock: Moment,
     prefix: &Digits,
 ) -> Result<(), AllocError>
-    ensures held { (s : SettingsValue) → s.clock ≡ clock → IsHeld s (held_now index.old)
+    ensures held { (s : SettingsValue) → s.windows ≡ windows.now → s.clock ≡ clock → IsHeld s (held_now index.old)
         → (let traffic = traffic_held (held_now index.old) in
         SameOutside (fin.keys (messages_under prefix.now traffic)) (facts_of s traffic)
         (facts_of (with_versions s routes.now.versions) traffic))
@@ -40,19 +42,20 @@ pub(crate) fn set_routes(
     ensures counted { touches_in index.old ≤ touches_in index.new }
 {
     let places = index.numbers.under(prefix)?;
-    refresh_at(index, routes, clock, places.as_slice())?;
+    refresh_at(index, routes, windows, clock, places.as_slice())?;
     Ok(())
 }
 
-/// Sets the facts of the messages at places anew by routes and a clock, in turn. Where there is no place, it takes no memory.
+/// Sets the facts of the messages at places anew by routes, windows and a clock, in turn. Where there is no place, it takes no memory.
 pub(crate) fn refresh_at(
     index: &mut Index,
     routes: &Routes,
+    windows: &Windows,
     clock: Moment,
     places: &[Place],
 ) -> Result<(), AllocError>
     ensures held { (z : SettingsValue) (t : TrafficValue) (facts : fin.FinMap place_cmp FactOf)
-        → IsTraffic t → z.versions ≡ routes.now.versions → z.clock ≡ clock
+        → IsTraffic t → z.versions ≡ routes.now.versions → z.windows ≡ windows.now → z.clock ≡ clock
         → held_now index.old ≡ held_by z t facts
         → OnOk result (held_now index.new ≡ held_by z t (refreshed z t facts places.now)) }
     ensures none { places.now ≡ [] → result ≡ Ok tt }
@@ -62,7 +65,7 @@ pub(crate) fn refresh_at(
     ensures counted { touches_in index.old ≤ touches_in index.new }
 {
     for place in places {
-        index.refresh_by(routes, clock, *place)?;
+        index.refresh_by(routes, windows, clock, *place)?;
     }
     Ok(())
 }

@@ -5,9 +5,10 @@ ghost use Rattle.smq_book.specs.index.Due.{has_ended};
 ghost use Rattle.smq_book.specs.join.Circumstances.{route_in};
 ghost use Rattle.smq_book.specs.join.Keyed as keyed;
 ghost use Rattle.smq_book.specs.join.Keyed.{accepted_id, accepted_key, receipt_key};
+ghost use Rattle.smq_book.specs.present.Settings.{window_in};
 
-use crate::join::circumstances::LAPSE_WINDOW;
 use crate::present::settings::Settings;
+use crate::present::windows::Windows;
 use smq_kit::{Digits, LinkId, LinkKey, MessageId, Moment, Network, RouteId};
 use smq_receipt::Receipt;
 use smq_route::Routes;
@@ -136,11 +137,12 @@ impl StoredMessage {
         routes.at(number, self.moment)
     }
 
-    /// Whether a clock is at the end of its window, or past it.
-    pub(crate) fn has_lapsed(&self, clock: Moment) -> bool
-        ensures { result ≡ has_ended clock self.now.moment }
+    /// Whether a clock is at the end of the window of its link, or past it.
+    pub(crate) fn has_lapsed(&self, windows: &Windows, clock: Moment) -> bool
+        ensures { result ≡ has_ended clock self.now.moment (window_in windows.now self.now.link) }
     {
-        self.moment.milliseconds() + LAPSE_WINDOW <= clock.milliseconds()
+        let window = windows.of(self.link);
+        self.moment.milliseconds() + window.milliseconds() <= clock.milliseconds()
     }
 }
 

@@ -26,21 +26,22 @@ ghost use Rattle.smq_route.specs.Edits.{added, changed};
 ghost use Rattle.smq_route.specs.Versions.{Versions};
 ghost use Rattle.smq_route.specs.declared.version.Version.{Version};
 ghost use Rattle.smq_book.specs.declared.present.session.Session.{Session as SessionValue};
-ghost use Rattle.smq_book.specs.declared.present.edit.Edit.TheVariants.{Append, Withdraw, SetForm, AddRoute, EndRoute, CorrectRoute, Advance};
+ghost use Rattle.smq_book.specs.declared.present.edit.Edit.TheVariants.{Append, Withdraw, SetForm, SetWindow, AddRoute, EndRoute, CorrectRoute, Advance};
 ghost use Rattle.smq_book.specs.declared.present.kept.KeptPdu.{KeptPdu};
 ghost use Rattle.smq_book.specs.present.Kept.{kept_pdus};
 ghost use Rattle.smq_book.specs.present.Batch.{BatchValue};
 ghost use Rattle.smq_book.specs.present.Present.{PresentValue, octets_in, session_of};
 ghost use Rattle.smq_book.specs.present.Replies.{reply};
-ghost use Rattle.smq_book.specs.present.Settings.{SettingsValue, forms_of, with_versions, with_clock};
-ghost use Rattle.smq_book.specs.present.Steps.{session_after};
+ghost use Rattle.smq_book.specs.present.Settings.{SettingsValue, opening_window, forms_of, set_window_of, window_in, with_versions, with_clock, with_windows};
+ghost use Rattle.smq_book.specs.present.Steps.{session_after, step, with_window};
 ghost use Rattle.smq_book.specs.pairing.Traffic.{Message, Origin, ReceivedReceipt, TrafficValue, mismatched, session_messages, session_receipts, traffic_of};
+ghost use Rattle.smq_book.specs.join.Circumstances.{window_of};
 ghost use Rattle.smq_book.specs.join.Facts.{fact_by, facts_of};
 ghost use Rattle.smq_book.specs.join.Keyed.{grouping_of};
 ghost use Rattle.smq_book.specs.join.Listings.{notes_of, receipt_listings};
 ghost use Rattle.smq_group.specs.Matching.{Grouping};
 ghost use Rattle.smq_book.specs.join.Moves.{IsMove, Move, standings_of, receipt_standings_of, receipt_changes_of, moved_by};
-ghost use Rattle.smq_book.specs.edits.Reached.{link_messages, link_receipts, link_takes, link_puts, without_link, key_submits, key_receipts, IsMoveOf, IsOfKey, messages_under, due_by, lapsing};
+ghost use Rattle.smq_book.specs.edits.Reached.{link_messages, link_receipts, link_takes, link_puts, without_link, key_submits, key_receipts, IsMoveOf, IsOfKey, messages_under, messages_due_on, due_by, lapsing};
 ghost use Rattle.smq_book.specs.edits.Appended.{answered, append_moves, append_places};
 ghost use Rattle.smq_book.specs.edits.AppendedNotes.{append_notes};
 ghost use Rattle.smq_book.specs.edits.InTurn.{AreFree, facts_changed, notes_changed};
@@ -78,6 +79,70 @@ pub fn advances_change_due_messages_alone()
         → notes_of (with_clock s clock) t ≡ notes_of s t }
 {}
 
+/// A window of a link changes no fact but those of the link's messages whose receipts are due, the open and the lapsed ones:
+/// where there are none, no fact at all. It changes no note, and the same messages' receipts are due, as they are at any clock.
+pub fn windows_change_due_messages_of_their_link_alone()
+    ensures facts { (s : SettingsValue) (windows : fin.FinMap nat_cmp ℕ) (link : LinkId)
+        (t : TrafficValue)
+        → ((other : LinkId) → other ≢ link → window_in windows other ≡ window_in s.windows other)
+        → SameOutside (fin.keys (messages_due_on link s t)) (facts_of s t)
+        (facts_of (with_windows s windows) t) }
+    ensures inserted { (s : SettingsValue) (link : LinkId) (window : ℕ) (t : TrafficValue)
+        → SameOutside (fin.keys (messages_due_on link s t)) (facts_of s t)
+        (facts_of (with_window s link window) t) }
+    ensures none { (s : SettingsValue) (link : LinkId) (window : ℕ) (t : TrafficValue)
+        → fin.keys (messages_due_on link s t) ≡ []
+        → facts_of (with_window s link window) t ≡ facts_of s t }
+    ensures other_links { (s : SettingsValue) (link : LinkId) (window : ℕ) (t : TrafficValue)
+        (place : Place) (m : Message)
+        → fin.get t.messages place ≡ Some m → m.link ≢ link
+        → fin.get (facts_of (with_window s link window) t) place ≡ fin.get (facts_of s t) place }
+    ensures notes { (s : SettingsValue) (windows : fin.FinMap nat_cmp ℕ) (t : TrafficValue)
+        → notes_of (with_windows s windows) t ≡ notes_of s t }
+    ensures due { (s : SettingsValue) (windows : fin.FinMap nat_cmp ℕ) (clock : ℕ) (link : LinkId)
+        (t : TrafficValue)
+        → messages_due_on link (with_clock (with_windows s windows) clock) t
+        ≡ messages_due_on link s t }
+{}
+
+/// A window of a link that is set back leaves everything as it was. Where one was set before, that one set back leaves what
+/// was set. Where none was, the opening window leaves the window of each link, and all facts.
+pub fn windows_set_back_leave_all_as_it_was()
+    ensures settings { (s : SettingsValue) (link : LinkId) (window before : ℕ)
+        → set_window_of s link.0 ≡ Some before
+        → with_window (with_window s link window) link before ≡ s }
+    ensures windows { (s : SettingsValue) (link : LinkId) (window : ℕ) (other : LinkId)
+        → window_of (with_window (with_window s link window) link (window_of s link)) other
+        ≡ window_of s other }
+    ensures facts { (s : SettingsValue) (link : LinkId) (window : ℕ) (t : TrafficValue)
+        → facts_of (with_window (with_window s link window) link (window_of s link)) t
+        ≡ facts_of s t }
+    ensures opening { (s : SettingsValue) (link : LinkId) (window : ℕ) (t : TrafficValue)
+        → set_window_of s link.0 ≡ None
+        → facts_of (with_window (with_window s link window) link opening_window) t ≡ facts_of s t }
+{}
+
+/// A window and a clock leave the same, whichever is set first, and the clock is answered alike. So do windows of two links;
+/// of two windows of one link the later holds.
+pub fn clocks_and_windows_commute()
+    ensures settings { (s : SettingsValue) (windows : fin.FinMap nat_cmp ℕ) (clock : ℕ)
+        → with_clock (with_windows s windows) clock ≡ with_windows (with_clock s clock) windows }
+    ensures facts { (s : SettingsValue) (windows : fin.FinMap nat_cmp ℕ) (clock : ℕ)
+        (t : TrafficValue)
+        → facts_of (with_clock (with_windows s windows) clock) t
+        ≡ facts_of (with_windows (with_clock s clock) windows) t }
+    ensures replies { (p : PresentValue) (link : LinkId) (window clock : ℕ)
+        → reply (step p (SetWindow link window)) (Advance clock) ≡ reply p (Advance clock) }
+    ensures advances { (p : PresentValue) (link : LinkId) (window clock : ℕ)
+        → step (step p (SetWindow link window)) (Advance clock)
+        ≡ step (step p (Advance clock)) (SetWindow link window) }
+    ensures links { (p : PresentValue) (one two : LinkId) (v w : ℕ) → one ≢ two
+        → step (step p (SetWindow one v)) (SetWindow two w)
+        ≡ step (step p (SetWindow two w)) (SetWindow one v) }
+    ensures last { (p : PresentValue) (link : LinkId) (v w : ℕ)
+        → step (step p (SetWindow link v)) (SetWindow link w) ≡ step p (SetWindow link w) }
+{}
+
 /// Where the traffic notes the same, the notes are one but for those of the receipts whose standings differ, in the three
 /// lists of receipts. A receipt that is put in or taken out is one of these.
 pub fn notes_follow_the_standings_of_receipts()
@@ -99,11 +164,11 @@ pub fn notes_follow_the_standings_of_receipts()
 /// The forms of a link change no fact but those of its messages, and no note but those of its delivery receipts.
 pub fn forms_change_their_link_alone()
     ensures facts { (s z : SettingsValue) (t : TrafficValue) (link : LinkId)
-        → s.versions ≡ z.versions → s.clock ≡ z.clock
+        → s.windows ≡ z.windows → s.versions ≡ z.versions → s.clock ≡ z.clock
         → ((other : LinkId) → other ≢ link → forms_of s other ≡ forms_of z other)
         → SameOutside (fin.keys (link_messages link t)) (facts_of s t) (facts_of z t) }
     ensures notes { (s z : SettingsValue) (t : TrafficValue) (link : LinkId)
-        → s.versions ≡ z.versions → s.clock ≡ z.clock
+        → s.windows ≡ z.windows → s.versions ≡ z.versions → s.clock ≡ z.clock
         → ((other : LinkId) → other ≢ link → forms_of s other ≡ forms_of z other)
         → SameOutside (receipt_listings (fin.keys (link_receipts link t))) (notes_of s t)
         (notes_of z t) }
@@ -119,7 +184,7 @@ pub fn forms_are_set_while_their_link_is_out()
     ensures no_receipt { (link : LinkId) (t : TrafficValue) (q : Place) (r : ReceivedReceipt)
         → fin.get (without_link link t).receipts q ≡ Some r → r.link ≢ link }
     ensures idle { (link : LinkId) (t : TrafficValue) (s z : SettingsValue)
-        → s.versions ≡ z.versions → s.clock ≡ z.clock
+        → s.windows ≡ z.windows → s.versions ≡ z.versions → s.clock ≡ z.clock
         → ((other : LinkId) → other ≢ link → forms_of s other ≡ forms_of z other)
         → (facts_of s (without_link link t) ≡ facts_of z (without_link link t))
         × (grouping_of s (without_link link t) ≡ grouping_of z (without_link link t))
@@ -278,8 +343,8 @@ pub fn mismatched_pairs_are_noted_at_their_request()
 {}
 
 /// How many places an edit changes, against how much it reaches: an append the notes of twice as many at most, and of one
-/// more; a withdrawal takes out as many messages and delivery receipts at most; forms change as many at most; edits of routes
-/// and a clock change exactly as many. What stands at one place changes the members of its key at most.
+/// more; a withdrawal takes out as many messages and delivery receipts at most; forms change as many at most; a window, edits of
+/// routes and a clock set exactly as many anew. What stands at one place changes the members of its key at most.
 pub fn edits_change_as_few_places_as_they_reach()
     ensures appends { (p : PresentValue) (batch : BatchValue)
         → length (append_places (session_of p batch.session.0) batch)
@@ -291,6 +356,9 @@ pub fn edits_change_as_few_places_as_they_reach()
     ensures forms { (p : PresentValue) (link : LinkId) (response receipt : Form)
         → length (link_places link (traffic_of p.sessions))
         ≤ reach p (SetForm link response receipt) }
+    ensures windows { (p : PresentValue) (link : LinkId) (window : ℕ)
+        → length (fin.keys (messages_due_on link p.settings (traffic_of p.sessions)))
+        ≡ reach p (SetWindow link window) }
     ensures adds { (p : PresentValue) (prefix : List ℕ) (from : ℕ) (route : RouteId)
         (network : List ℕ)
         → length (fin.keys (messages_under prefix (traffic_of p.sessions)))
@@ -310,8 +378,8 @@ pub fn edits_change_as_few_places_as_they_reach()
         ≡ members g key }
 {}
 
-/// How much edits reach of a book of one message: its submit_sm, its response, a withdrawal of both, routes and a clock; and
-/// what is of its link.
+/// How much edits reach of a book of one message: its submit_sm, its response, a withdrawal of both, windows, routes and a
+/// clock; and what is of its link.
 pub fn known_edits_reach_so_much()
     ensures { KnownReach }
 {}

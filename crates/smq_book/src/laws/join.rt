@@ -1,14 +1,15 @@
 //! Laws of what became of messages: whose keys theirs are, what a fact rests on and what a change leaves, and known
 //! outcomes.
-ghost use Rattle.std.specs.Prelude.{◌≡◌, ◌≢◌, ℕ, ◌+◌, ◌<◌, ◌≤◌, nat_le, ◌↔◌, ◌⊎◌, ◌++◌, ◌∷◌, [], List, Some, None, IsTrue, is_some, map, option_map, pos, ◌-ℤ◌};
+ghost use Rattle.std.specs.Prelude.{◌≡◌, ◌≢◌, ℕ, ◌+◌, ◌<◌, ◌≤◌, nat_le, ◌↔◌, ◌⊎◌, ◌++◌, ◌∷◌, [], false, List, Some, None, IsTrue, is_some, map, option_map, pos, ◌-ℤ◌};
 ghost use Rattle.std.specs.FinMap as fin;
+ghost use Rattle.std.specs.Ordering.{nat_cmp};
 ghost use Rattle.smq_kit.specs.Maps.{SameOutside, patched};
 ghost use Rattle.smq_kit.specs.declared.link_key.LinkKey.{LinkKey};
 ghost use Rattle.smq_route.specs.Versions.{Versions, route_at};
-ghost use Rattle.smq_book.specs.known.Join.{KnownOutcomes, KnownReceipts};
+ghost use Rattle.smq_book.specs.known.Join.{KnownLapses, KnownOutcomes, KnownReceipts};
 ghost use Rattle.smq_tally.specs.Bands.{band_of};
 ghost use Rattle.smq_tally.specs.Rows.{outcome_rank};
-ghost use Rattle.smq_book.specs.present.Settings.{SettingsValue, with_versions, with_clock, forms_of};
+ghost use Rattle.smq_book.specs.present.Settings.{SettingsValue, with_versions, with_clock, with_windows, window_in, forms_of};
 ghost use Rattle.smq_book.specs.pairing.Traffic.{Message, ReceivedReceipt, TrafficValue};
 ghost use Rattle.smq_book.specs.join.Circumstances.{Circumstances, circumstances, route_in, window_of};
 ghost use Rattle.smq_book.specs.join.Facts.{fact_by, facts_of, with_route, with_lapse};
@@ -16,6 +17,7 @@ ghost use Rattle.smq_book.specs.join.Keyed.{accepted_key, grouping_of, receipt_k
 ghost use Rattle.smq_group.specs.Matching.{Grouping};
 ghost use Rattle.smq_book.specs.join.Moves.{IsMove, changes_of, standings_of, put_message, take_message, put_receipt, take_receipt};
 ghost use Rattle.smq_book.specs.join.Outcomes.{outcome_table, last_outcome};
+ghost use Rattle.smq_book.specs.edits.Reached.{is_due};
 
 use crate::{Fact, Outcome};
 use smq_kit::{LinkId, Place};
@@ -66,7 +68,7 @@ pub fn moves_leave_other_facts()
 /// The forms of a link alone change no fact where none of its messages and receipts is present.
 pub fn forms_of_other_links_are_idle()
     ensures { (s z : SettingsValue) (t : TrafficValue) (link : LinkId)
-        → s.versions ≡ z.versions → s.clock ≡ z.clock
+        → s.windows ≡ z.windows → s.versions ≡ z.versions → s.clock ≡ z.clock
         → ((other : LinkId) → other ≢ link → forms_of s other ≡ forms_of z other)
         → ((q : Place) (m : Message) → fin.get t.messages q ≡ Some m → m.link ≢ link)
         → ((q : Place) (r : ReceivedReceipt) → fin.get t.receipts q ≡ Some r → r.link ≢ link)
@@ -106,6 +108,32 @@ pub fn clock_lapses_open_messages_alone()
         → nat_le (m.moment + window_of s m.link) clock
         ≡ nat_le (m.moment + window_of s m.link) s.clock)
         → fin.get (facts_of (with_clock s clock) t) place ≡ fin.get (facts_of s t) place }
+{}
+
+/// Windows change open and lapsed messages alone, and their outcomes alone: such a message is lapsed where the clock is at the
+/// end of its link's window or past it, and open before. So a greater window opens a lapsed message again.
+pub fn windows_lapse_and_open_messages_alone()
+    ensures windowed { (s : SettingsValue) (windows : fin.FinMap nat_cmp ℕ) (t : TrafficValue)
+        (place : Place)
+        → fin.get (facts_of (with_windows s windows) t) place
+        ≡ option_map (λ m. with_lapse (nat_le (m.moment + window_in windows m.link) s.clock)
+        (fact_by place m (circumstances s t m))) (fin.get t.messages place) }
+    ensures others { (s : SettingsValue) (windows : fin.FinMap nat_cmp ℕ) (t : TrafficValue)
+        (place : Place) (fact : Fact)
+        → fin.get (facts_of s t) place ≡ Some fact → is_due fact.outcome ≡ false
+        → fin.get (facts_of (with_windows s windows) t) place ≡ Some fact }
+    ensures lapse { (s : SettingsValue) (windows : fin.FinMap nat_cmp ℕ) (t : TrafficValue)
+        (place : Place) (m : Message) (fact : Fact)
+        → fin.get t.messages place ≡ Some m → fin.get (facts_of s t) place ≡ Some fact
+        → fact.outcome ≡ Outcome.Open → m.moment + window_in windows m.link ≤ s.clock
+        → fin.get (facts_of (with_windows s windows) t) place
+        ≡ Some (record fact { outcome = Outcome.Lapsed }) }
+    ensures open_again { (s : SettingsValue) (windows : fin.FinMap nat_cmp ℕ) (t : TrafficValue)
+        (place : Place) (m : Message) (fact : Fact)
+        → fin.get t.messages place ≡ Some m → fin.get (facts_of s t) place ≡ Some fact
+        → fact.outcome ≡ Outcome.Lapsed → s.clock < m.moment + window_in windows m.link
+        → fin.get (facts_of (with_windows s windows) t) place
+        ≡ Some (record fact { outcome = Outcome.Open }) }
 {}
 
 /// A lapsed message has come to the end of its window, and an open one hasn't.
@@ -159,6 +187,12 @@ pub fn outcomes_are_in_order()
 #[tactic(auto, unfolding(smq_pdu::specs::Pairing::nth_index), using(crate::proofs::lemmas::join::KnownFacts::known))]
 pub fn outcomes_of_known_submits()
     ensures { KnownOutcomes }
+{}
+
+/// When messages that are written out lapse, by a window of their own link, and by one of another.
+#[tactic(auto, unfolding(smq_pdu::specs::Pairing::nth_index), using(crate::proofs::lemmas::join::KnownFacts::known))]
+pub fn known_submits_lapse_by_their_windows()
+    ensures { KnownLapses }
 {}
 
 /// What receipts that are written out make of messages. Each receipt is of the id `1`, which `accepted` gives, but for those

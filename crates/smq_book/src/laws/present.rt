@@ -7,20 +7,20 @@ ghost use Rattle.smq_kit.specs.declared.names.SessionId.{SessionId};
 ghost use Rattle.smq_kit.specs.declared.refusal.Refusal.{Refusal};
 ghost use Rattle.smq_kit.specs.declared.place.Dir.{Dir};
 ghost use Rattle.smq_book.specs.declared.present.edit.Edit.{Edit};
-ghost use Rattle.smq_book.specs.declared.present.edit.Edit.TheVariants.{Append, Withdraw, SetForm, AddRoute, EndRoute, CorrectRoute, Advance};
+ghost use Rattle.smq_book.specs.declared.present.edit.Edit.TheVariants.{Append, Withdraw, SetForm, SetWindow, AddRoute, EndRoute, CorrectRoute, Advance};
 ghost use Rattle.smq_book.specs.present.Batch.{BatchValue, with_octets, continued};
-ghost use Rattle.smq_book.specs.known.Present.{KnownClocks, KnownForms, KnownOctets, KnownPieces, KnownReplies, KnownRouteReplies, KnownRoutes, KnownWithdrawals, waiting};
+ghost use Rattle.smq_book.specs.known.Present.{KnownClocks, KnownForms, KnownOctets, KnownPieces, KnownReplies, KnownRouteReplies, KnownRoutes, KnownWindows, KnownWithdrawals, waiting};
 ghost use Rattle.smq_book.specs.known.Edits.{KnownEditsWithout, KnownFolds};
 ghost use Rattle.smq_book.specs.present.Present.{PresentValue, session_of, tail_in};
 ghost use Rattle.smq_book.specs.present.Replies.{GoesAfter, IsOfEdits, reply};
-ghost use Rattle.smq_book.specs.present.Steps.{Appends, AppendsCommute, AreAppendedAgain, IsAsNeverThere, LeavesNoTrace, SetsForm, AddsRoute, EndsRoute, CorrectsRoute, Advances, Withdraws, change, step};
+ghost use Rattle.smq_book.specs.present.Steps.{Appends, AppendsCommute, AreAppendedAgain, IsAsNeverThere, LeavesNoTrace, SetsForm, SetsWindow, AddsRoute, EndsRoute, CorrectsRoute, Advances, Withdraws, change, step};
 ghost use Rattle.smq_book.specs.declared.present.forms.Forms.{Forms};
 ghost use Rattle.smq_book.specs.within.Equal.{forms_eq, edits_eq};
 ghost use Rattle.smq_book.specs.within.EqualBatches.{batches_eq};
 
-/// An append changes what `Appends` says, a withdrawal what `Withdraws` says, setting forms what `SetsForm` says, edits of
-/// routes what `AddsRoute`, `EndsRoute` and `CorrectsRoute` say, and advancing the clock what `Advances` says: nothing else.
-/// A refused edit is no step.
+/// An append changes what `Appends` says, a withdrawal what `Withdraws` says, setting forms what `SetsForm` says, setting a
+/// window what `SetsWindow` says, edits of routes what `AddsRoute`, `EndsRoute` and `CorrectsRoute` say, and advancing the
+/// clock what `Advances` says: nothing else. A refused edit is no step.
 pub fn steps_are_plain_changes()
     ensures appends { (p : PresentValue) (batch : BatchValue) →
         Appends p (change p (Append batch)) batch }
@@ -34,6 +34,10 @@ pub fn steps_are_plain_changes()
         SetsForm p (change p (SetForm link response receipt)) link response receipt }
     ensures alone_form { (p q : PresentValue) (link : LinkId) (response receipt : Form) →
         SetsForm p q link response receipt → q ≡ change p (SetForm link response receipt) }
+    ensures sets_window { (p : PresentValue) (link : LinkId) (window : ℕ) →
+        SetsWindow p (change p (SetWindow link window)) link window }
+    ensures alone_window { (p q : PresentValue) (link : LinkId) (window : ℕ) →
+        SetsWindow p q link window → q ≡ change p (SetWindow link window) }
     ensures adds_route { (p : PresentValue) (prefix : List ℕ) (from : ℕ) (route : RouteId)
         (network : List ℕ) →
         AddsRoute p (change p (AddRoute prefix from route network)) prefix from route network }
@@ -106,8 +110,8 @@ pub fn cutting_changes_nothing()
 {}
 
 /// After a withdrawal everything is as though the session had never been: whatever edits were made before, of this session,
-/// of others, of forms, of routes and of the clock, what is present is what those that aren't of the session leave, and its
-/// octets can be appended again and leave what they left.
+/// of others, of forms, of windows, of routes and of the clock, what is present is what those that aren't of the session
+/// leave, and its octets can be appended again and leave what they left.
 pub fn withdrawals_leave_no_trace()
     ensures trace { LeavesNoTrace }
     ensures never_there { (p : PresentValue) (session : SessionId) (edits : List Edit) →
@@ -166,6 +170,11 @@ pub fn edits_of_a_known_clock()
 /// forms.
 pub fn forms_are_verbatim_until_set()
     ensures { KnownForms }
+{}
+
+/// The window of a link is 172,800,000 ms until it is set. This leaves other links, and all else; other edits leave windows.
+pub fn windows_of_known_links()
+    ensures { KnownWindows }
 {}
 
 /// `==` of forms says whether they are one.

@@ -2,7 +2,7 @@
 ghost use Rattle.std.specs.Prelude.{◌≡◌, IfOk};
 
 use crate::Batch;
-use smq_kit::{Digits, Form, LinkId, Moment, Network, RouteId, SessionId};
+use smq_kit::{Digits, Form, LinkId, Moment, Network, RouteId, SessionId, Window};
 use std::alloc::AllocError;
 
 /// One change of what is present.
@@ -23,6 +23,12 @@ pub enum Edit {
         response: Form,
         /// That of ids in delivery receipts.
         receipt: Form,
+    },
+    /// Sets how long a message of a link waits for its receipt before it lapses. Under a greater window a lapsed message may be
+    /// open again.
+    SetWindow {
+        link: LinkId,
+        window: Window,
     },
     /// Puts a version of a prefix's route in, which is open and begins at `from`.
     AddRoute {
@@ -71,6 +77,10 @@ impl Edit {
                 link: *link,
                 response: *response,
                 receipt: *receipt,
+            },
+            Edit::SetWindow { link, window } => Edit::SetWindow {
+                link: *link,
+                window: *window,
             },
             Edit::AddRoute {
                 prefix,

@@ -1,16 +1,16 @@
 //! Edits of what is present alone, where nothing is stored of what its PDUs say. A refusal changes nothing.
-ghost use Rattle.std.specs.Prelude.{◌≡◌};
+ghost use Rattle.std.specs.Prelude.{◌≡◌, None};
 ghost use Rattle.smq_kit.specs.Replies.{IsReply, IsReplyInPlace, first_of};
 ghost use Rattle.smq_route.specs.Edits.{add_refusals, end_refusals, correct_refusals, added, changed, ending, corrected};
 ghost use Rattle.smq_route.specs.Versions.{version_of};
 ghost use Rattle.smq_book.specs.present.Present.{tail_in};
 ghost use Rattle.smq_book.specs.present.Replies.{clock_back, reply};
 ghost use Rattle.smq_book.specs.present.Settings.{with_versions, with_clock};
-ghost use Rattle.smq_book.specs.present.Steps.{change};
+ghost use Rattle.smq_book.specs.present.Steps.{change, with_window};
 
 use crate::present::sessions::{append_in, put_in_step, remove_session};
 use crate::{Batch, Edit, Forms, Present, Settings};
-use smq_kit::{Digits, LinkId, Moment, Network, Refusal, RouteId, SessionId};
+use smq_kit::{Digits, LinkId, Moment, Network, Refusal, RouteId, SessionId, Window};
 use std::alloc::Global;
 
 impl Present {
@@ -47,6 +47,15 @@ impl Present {
     {
         self.settings.set_forms(link, forms)?;
         Ok(())
+    }
+
+    /// Sets how long a message of a link waits.
+    pub(crate) fn put_window(&mut self, link: LinkId, window: Window) -> Result<(), Refusal>
+        ensures { let edit = Edit.SetWindow link window in
+            IsReply (reply self.old edit) result
+            (self.new ≡ change self.old edit) (self.new ≡ self.old) }
+    {
+        self.settings.put_window(link, window)
     }
 
     /// Puts an open version of a route in.
@@ -103,6 +112,15 @@ impl Present {
 }
 
 impl Settings {
+    /// Sets how long a message of a link waits. A refusal changes nothing.
+    pub(crate) fn put_window(&mut self, link: LinkId, window: Window) -> Result<(), Refusal>
+        ensures { IsReply None result
+            (self.new ≡ with_window self.old link window) (self.new ≡ self.old) }
+    {
+        self.windows.set(link, window)?;
+        Ok(())
+    }
+
     /// Puts an open version of a route in. A refusal changes nothing.
     pub(crate) fn add_version(
         &mut self,

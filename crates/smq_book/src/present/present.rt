@@ -26,7 +26,7 @@ use crate::index::withdraw::withdraw;
 use crate::present::sessions::{put_in_step, remove_session};
 use crate::present::settings::Settings;
 use crate::{Batch, Edit, Forms, Session};
-use smq_kit::{Digits, LinkId, Moment, Network, Refusal, RouteId, SessionId};
+use smq_kit::{Digits, LinkId, Moment, Network, Refusal, RouteId, SessionId, Window};
 use smq_route::{Version, VersionKey};
 use smq_shelf::Entries;
 use std::alloc::Global;
@@ -91,6 +91,14 @@ impl Present {
         ensures runs { ShowsInOrder (deref_pair {K = ℕ} {X = Forms}) }
     {
         self.settings.forms()
+    }
+
+    /// The links whose windows were set, with their windows, in the order of the links' numbers.
+    pub fn windows(&self) -> Iter<'_, u32, Window>
+        ensures entries { result ≡ map.entries self.now.settings.windows }
+        ensures runs { ShowsInOrder (deref_pair {K = ℕ} {X = ℕ}) }
+    {
+        self.settings.windows()
     }
 
     /// The versions of routes, by the octets of their prefixes, then by their beginnings. Those of one prefix never
@@ -238,6 +246,28 @@ impl Present {
             return Err(Refusal::Memory);
         };
         Ok(())
+    }
+
+    /// Sets how long a message of a link waits for its receipt. A refusal changes nothing.
+    pub(crate) fn set_window(
+        &mut self,
+        alloc: Global,
+        index: &mut Index,
+        link: LinkId,
+        window: Window,
+    ) -> Result<(), Refusal>
+        requires held { IsHeld self.old.settings (held_now index.old) }
+        requires settled { held_settled index.old ≡ held_now index.old }
+        ensures reply { let edit = Edit.SetWindow link window in
+            IsReply (reply self.old edit) result
+            (self.new ≡ change self.old edit) (self.new ≡ self.old) }
+        ensures held { IsHeld self.new.settings (held_now index.new) }
+        ensures traffic { traffic_held (held_now index.new) ≡ traffic_held (held_now index.old) }
+        ensures settled { held_settled index.new ≡ held_now index.new }
+        ensures kept { (pairings : PairingsOf) → IsKept self.old index.old pairings
+            → IsKept self.new index.new pairings }
+    {
+        self.settings.set_window(alloc, index, link, window)
     }
 
     /// Puts an open version of a route in. A refusal changes nothing.

@@ -10,13 +10,17 @@ ghost use Rattle.smq_book.specs.edits.Reached.{due_by, messages_under};
 ghost use Rattle.smq_book.specs.index.Held.{IsHeld, held_now, held_settled, traffic_held};
 ghost use Rattle.smq_book.specs.join.Facts.{facts_of};
 ghost use Rattle.smq_book.specs.present.Replies.{clock_back};
+ghost use Rattle.smq_book.specs.join.Circumstances.{window_of};
 ghost use Rattle.smq_book.specs.present.Settings.{SettingsValue, opening_settings, forms_of, set_forms_of, with_versions, with_clock};
+ghost use Rattle.smq_book.specs.present.Steps.{with_window};
 
 use crate::Forms;
 use crate::index::clock::advance;
 use crate::index::index::Index;
 use crate::index::routes::set_routes;
-use smq_kit::{Digits, LinkId, Moment, Network, Refusal, RouteId};
+use crate::index::window::set_window;
+use crate::present::windows::Windows;
+use smq_kit::{Digits, LinkId, Moment, Network, Refusal, RouteId, Window};
 use smq_route::{Routes, Version, VersionKey};
 use smq_shelf::Entries;
 use std::alloc::Global;
@@ -24,10 +28,11 @@ use std::collections::BTreeMap;
 use std::collections::btree_map::Iter;
 use std::marker::Model;
 
-/// The forms that were set, by the numbers of their links, the dated routes, and the clock.
+/// The forms and the windows that were set, by the numbers of their links, the dated routes, and the clock.
 #[derive(Drop)]
 pub struct Settings {
     forms: BTreeMap<u32, Forms>,
+    pub(crate) windows: Windows,
     pub(crate) routes: Routes,
     pub(crate) clock: Moment,
 }
@@ -41,7 +46,7 @@ impl Model for Settings {
 
     ghost coded = { settings_code };
 
-    ghost view = { λ s. record { forms = forms_in s.forms; versions = s.routes.versions; clock = s.clock } };
+    ghost view = { λ s. record { forms = forms_in s.forms; windows = s.windows; versions = s.routes.versions; clock = s.clock } };
 
     ghost invariant = { λ s. s.routes.settled ≡ s.routes.versions };
 }
@@ -53,6 +58,7 @@ impl Settings {
     {
         Settings {
             forms: BTreeMap::new(alloc),
+            windows: Windows::new(alloc),
             routes: Routes::new(alloc),
             clock: Moment::epoch(),
         }
@@ -74,6 +80,28 @@ impl Settings {
         ensures runs { ShowsInOrder (deref_pair {K = ℕ} {X = Forms}) }
     {
         self.forms.iter()
+    }
+
+    /// How long a message of a link waits for its receipt before it lapses.
+    pub fn window_of(&self, link: LinkId) -> Window
+        ensures { result ≡ window_of self.now link }
+    {
+        self.windows.of(link)
+    }
+
+    /// The links whose windows were set, with their windows, in the order of the links' numbers.
+    pub fn windows(&self) -> Iter<'_, u32, Window>
+        ensures entries { result ≡ map.entries self.now.windows }
+        ensures runs { ShowsInOrder (deref_pair {K = ℕ} {X = ℕ}) }
+    {
+        self.windows.iter()
+    }
+
+    /// The windows that were set.
+    pub(crate) fn windows_set(&self) -> &Windows
+        ensures { result.now ≡ self.now.windows }
+    {
+        &self.windows
     }
 
     /// The versions of routes, by the octets of their prefixes, then by their beginnings. Those of one prefix never
@@ -148,6 +176,33 @@ impl Settings {
         let _ = self.forms.remove(&link.0);
     }
 
+    /// Sets how long a message of a link waits, and what is held of the link's messages whose receipts are due anew. A refusal
+    /// changes nothing.
+    pub(crate) fn set_window(
+        &mut self,
+        alloc: Global,
+        index: &mut Index,
+        link: LinkId,
+        window: Window,
+    ) -> Result<(), Refusal>
+        requires held { IsHeld self.old (held_now index.old) }
+        requires settled { held_settled index.old ≡ held_now index.old }
+        ensures reply { IsReply None result
+            (self.new ≡ with_window self.old link window) (self.new ≡ self.old) }
+        ensures held { IsHeld self.new (held_now index.new) }
+        ensures traffic { traffic_held (held_now index.new) ≡ traffic_held (held_now index.old) }
+        ensures settled { held_settled index.new ≡ held_now index.new }
+    {
+        let before = self.windows.set(link, window)?;
+        let Ok(()) = set_window(alloc, index, &self.routes, &self.windows, self.clock, link) else {
+            self.windows.restore(link, before);
+            index.undo();
+            return Err(Refusal::Memory);
+        };
+        index.settle();
+        Ok(())
+    }
+
     /// Puts an open version of a route in, and sets what is held of the messages that it changes anew. A refusal changes
     /// nothing.
     pub(crate) fn add_route(
@@ -170,7 +225,7 @@ impl Settings {
     {
         let under = prefix.copy();
         self.routes.add(prefix, from, route, network)?;
-        follow(&mut self.routes, index, self.clock, &under)
+        follow(&mut self.routes, index, &self.windows, self.clock, &under)
     }
 
     /// Ends a version of a route, and sets what is held of the messages that it changes anew. A refusal changes nothing.
@@ -192,7 +247,7 @@ impl Settings {
         ensures settled { held_settled index.new ≡ held_now index.new }
     {
         self.routes.end(prefix, from, until)?;
-        follow(&mut self.routes, index, self.clock, prefix)
+        follow(&mut self.routes, index, &self.windows, self.clock, prefix)
     }
 
     /// Gives a version of a route another route and network, and sets what is held of the messages that it changes anew. A
@@ -216,7 +271,7 @@ impl Settings {
         ensures settled { held_settled index.new ≡ held_now index.new }
     {
         self.routes.correct(prefix, from, route, network)?;
-        follow(&mut self.routes, index, self.clock, prefix)
+        follow(&mut self.routes, index, &self.windows, self.clock, prefix)
     }
 
     /// Sets the clock, and what is held of the messages that it lapses anew. Where it lapses none, it takes no memory. A refusal
@@ -240,7 +295,8 @@ impl Settings {
         if clock < self.clock {
             return Err(Refusal::ClockBack { clock: self.clock });
         }
-        if advance(alloc, index, &self.routes, clock).is_err() {
+        let from = self.clock;
+        if advance(alloc, index, &self.routes, &self.windows, from, clock).is_err() {
             index.undo();
             return Err(Refusal::Memory);
         }
@@ -255,12 +311,13 @@ impl Settings {
 fn follow(
     routes: &mut Routes,
     index: &mut Index,
+    windows: &Windows,
     clock: Moment,
     prefix: &Digits,
 ) -> Result<(), Refusal>
     ensures ok { OnOk result ((routes.new.versions ≡ routes.old.versions)
         × (held_settled index.new ≡ held_now index.new)) }
-    ensures held { (s : SettingsValue) → s.clock ≡ clock → IsHeld s (held_now index.old)
+    ensures held { (s : SettingsValue) → s.windows ≡ windows.now → s.clock ≡ clock → IsHeld s (held_now index.old)
         → (let traffic = traffic_held (held_now index.old) in
         SameOutside (map.keys (messages_under prefix.now traffic)) (facts_of s traffic)
         (facts_of (with_versions s routes.old.versions) traffic))
@@ -273,7 +330,7 @@ fn follow(
         × (held_settled index.new ≡ held_settled index.old)))) }
     ensures settled { routes.new.settled ≡ routes.new.versions }
 {
-    if set_routes(index, routes, clock, prefix).is_err() {
+    if set_routes(index, routes, windows, clock, prefix).is_err() {
         routes.undo();
         index.undo();
         return Err(Refusal::Memory);

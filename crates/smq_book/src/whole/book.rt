@@ -65,8 +65,8 @@ impl Book {
     /// `AddRoute` is refused where a version of its prefix is open or ends after it begins (`Overlap`). An `EndRoute` is
     /// refused, in order: where no version has its prefix and beginning (`NoRoute`); where that one has an end (`Ended`);
     /// and where its end isn't after the beginning (`BadEnd`). A `CorrectRoute` is refused where no version has its prefix
-    /// and beginning (`NoRoute`), and an `Advance` where its clock is below the present one (`ClockBack`). Each of them, and
-    /// a `SetForm`, is refused last for want of memory (`Memory`): an `Advance` that lapses no message never is.
+    /// and beginning (`NoRoute`), and an `Advance` where its clock is below the present one (`ClockBack`). Each of them, a
+    /// `SetForm` and a `SetWindow` are refused last for want of memory (`Memory`): an `Advance` that lapses no message never is.
     pub fn apply(&mut self, edit: Edit) -> Result<(), Refusal>
         ensures reply { IsReply (reply self.old.present edit) result
             (self.new.present ≡ step self.old.present edit) (self.new.present ≡ self.old.present) }

@@ -97,6 +97,7 @@ impl KeptBook {
                 response,
                 receipt,
             } => present.set_forms(*alloc, index, link, Forms { response, receipt }),
+            Edit::SetWindow { link, window } => present.set_window(*alloc, index, link, window),
             Edit::AddRoute {
                 prefix,
                 from,

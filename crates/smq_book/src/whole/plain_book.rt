@@ -89,6 +89,7 @@ impl PlainBook {
                 response,
                 receipt,
             } => self.present.put_forms(link, Forms { response, receipt }),
+            Edit::SetWindow { link, window } => self.present.put_window(link, window),
             Edit::AddRoute {
                 prefix,
                 from,

@@ -10,7 +10,7 @@ use std::process::Abort;
 use std::test::Fail;
 
 /// Two messages of one link, whose receipt comes before its forms make their ids one; a route that is corrected and ends; a
-/// clock at which the second message lapses, whose receipt comes then; withdrawals of what decides, and of the messages.
+/// clock at which the second message lapses, a window under which it is open again and one under which it isn't, and its receipt; withdrawals of what decides, and of the messages.
 const SCRIPT: &[Step] = &[
     Route(b"44", 0, 1, b"23410"),
     Client(10, 1000, Submit(1, NUMBER)),
@@ -22,6 +22,9 @@ const SCRIPT: &[Step] = &[
     Forms(Form::Hexadecimal, Form::Decimal),
     Correct(b"44", 0, 2, b"23415"),
     Advance(172_801_000),
+    SetWindow(1, 172_801_000),
+    SetWindow(2, 1),
+    SetWindow(1, 1),
     Centre(12, 172_901_000, Receipt(1, b"id:17 stat:DELIVRD")),
     Forms(Form::Hexadecimal, Form::Verbatim),
     Forms(Form::Hexadecimal, Form::Decimal),

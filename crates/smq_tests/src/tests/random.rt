@@ -67,6 +67,9 @@ const SESSIONS: &[u32] = &[10, 11, 20, 21];
 
 const FORMS: &[Form] = &[Form::Verbatim, Form::Decimal, Form::Hexadecimal];
 
+/// Windows of one edit, of a few, and of half a script.
+const WINDOWS: &[u64] = &[1, 9_000_000, 27_000_000, 180_000_000];
+
 /// How many ms pass from one edit of a script to the next: two and a half hours.
 const LATER: u64 = 9_000_000;
 
@@ -94,7 +97,7 @@ fn step(random: &mut Random, moment: u64) -> Option<Step> {
     let prefix = *PREFIXES.get(random.below(PREFIXES.len()))?;
     let from = (random.below(4) as u64).saturating_mul(LATER);
     let route = u32::try_from(random.below(3)).unwrap_or(0);
-    Some(match random.below(20) {
+    Some(match random.below(21) {
         0..=6 => Client(
             session,
             moment,
@@ -113,6 +116,7 @@ fn step(random: &mut Random, moment: u64) -> Option<Step> {
             *FORMS.get(random.below(FORMS.len()))?,
             *FORMS.get(random.below(FORMS.len()))?,
         ),
+        19 => SetWindow(session / 10, *WINDOWS.get(random.below(WINDOWS.len()))?),
         _ => Advance(moment),
     })
 }
@@ -136,6 +140,9 @@ fn give_pieces(
 fn give_settings(book: &mut Book, present: &Present) -> Result<(), Refusal> {
     for (link, forms) in present.forms() {
         set_forms(book, *link, forms.response, forms.receipt)?;
+    }
+    for (link, window) in present.windows() {
+        set_window(book, *link, window.milliseconds())?;
     }
     for (key, version) in present.versions() {
         book.apply(Edit::AddRoute {

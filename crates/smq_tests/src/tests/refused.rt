@@ -203,7 +203,7 @@ fn are_read(rows: &[Row]) -> bool {
             return false;
         }
     }
-    rows.len() == 7
+    rows.len() == 8
 }
 
 /// Whether these are the rows of `EXAMPLE`.
@@ -213,7 +213,7 @@ fn are_set(rows: &[Row]) -> bool {
             return false;
         }
     }
-    rows.len() == 3
+    rows.len() == 4
 }
 
 /// Takes the octets of a text, and no others. It wants no memory.

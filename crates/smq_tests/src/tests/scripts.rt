@@ -1,10 +1,10 @@
 //! Scripts that are played on a book, and what it shows then.
 use crate::tests::shown::*;
-use crate::tests::{edits, versions};
+use crate::tests::{edits, versions, windows};
 use bytes::Bytes;
 use smq_book::*;
 use smq_frame::Tail;
-use smq_kit::{Digits, Dir, Form, LinkId, Moment, Network, Refusal, RouteId, SessionId};
+use smq_kit::{Digits, Dir, Form, LinkId, Moment, Network, Refusal, RouteId, SessionId, Window};
 use smq_scratch::tables_anew;
 use std::alloc::{AllocError, Global};
 use std::process::Abort;
@@ -125,6 +125,8 @@ pub(crate) enum Step {
     Correct(&'static [u8], u64, u32, &'static [u8]),
     /// The forms of link 1: in responses and in receipts.
     Forms(Form, Form),
+    /// The window of a link: the link, the ms.
+    SetWindow(u32, u64),
     /// The clock is set.
     Advance(u64),
 }
@@ -138,6 +140,12 @@ pub(crate) enum Shown {
     Versions(&'static [WantedVersion]),
     /// Where a number goes at a moment: its route and network, if it has one.
     RouteAt(&'static [u8], u64, Option<(u32, &'static [u8])>),
+    /// The windows that were set, by link: the link, the ms.
+    Windows(&'static [(u32, u64)]),
+    /// The window of a link: the link, the ms.
+    WindowOf(u32, u64),
+    /// How many messages of a link are open, and how many have lapsed: the link, these.
+    Due(u32, u64, u64),
 }
 
 /// A session: its link, how many PDUs the client and the centre sent, how many octets and pieces the client sent, and the
@@ -222,6 +230,12 @@ pub(crate) fn set_forms(
         response,
         receipt,
     })
+}
+
+pub(crate) fn set_window(book: &mut Book, link: u32, window: u64) -> Result<(), Refusal> {
+    let link = LinkId(link);
+    let window = Window::new(window)?;
+    book.apply(Edit::SetWindow { link, window })
 }
 
 /// The edit that adds a version of a prefix.
@@ -312,6 +326,10 @@ pub(crate) fn edit_of(alloc: Global, book: &Book, step: Step) -> Result<Edit, Re
             response,
             receipt,
         }),
+        Step::SetWindow(link, window) => Ok(Edit::SetWindow {
+            link: LinkId(link),
+            window: Window::new(window)?,
+        }),
         Step::Advance(clock) => Ok(Edit::Advance {
             clock: Moment::new(clock)?,
         }),
@@ -358,8 +376,8 @@ fn play_steps(rt: &impl Abort, alloc: Global, what: &str, book: &mut Book, scrip
 }
 
 #[test]
-fn each_script_leaves_its_session_and_versions(rt: HostRuntime) {
-    for table in [edits::EDITS, versions::VERSIONS] {
+fn each_script_leaves_what_it_shows(rt: HostRuntime) {
+    for table in [edits::EDITS, versions::VERSIONS, windows::WINDOWS] {
         for (what, script, wanted) in table {
             let book = book_after(&rt, rt.alloc(), what, script);
             assert!(rt; shows_all(&book, wanted), "{what}");

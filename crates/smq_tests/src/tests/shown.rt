@@ -1,6 +1,6 @@
 //! What a book shows.
 use crate::tests::scripts::*;
-use smq_book::{Book, Settings};
+use smq_book::{Book, Outcome, Settings, Value, View};
 use smq_kit::{Digits, Dir, LinkId, Moment, Network, RouteId, SessionId};
 use smq_route::{Version, VersionKey};
 
@@ -41,6 +41,18 @@ fn shows(book: &Book, wanted: Shown) -> bool {
         Shown::Session(wanted) => has_session(book, wanted),
         Shown::Versions(wanted) => has_versions(book, wanted),
         Shown::RouteAt(number, at, wanted) => goes_by(book, number, at, wanted),
+        Shown::Windows(wanted) => has_windows(book, wanted),
+        Shown::WindowOf(link, wanted) => {
+            book.present()
+                .settings()
+                .window_of(LinkId(link))
+                .milliseconds()
+                == wanted
+        }
+        Shown::Due(link, open, lapsed) => {
+            messages_of(book, link, Outcome::Open) == open
+                && messages_of(book, link, Outcome::Lapsed) == lapsed
+        }
     }
 }
 
@@ -49,6 +61,24 @@ fn has_session(book: &Book, wanted: WantedSession) -> bool {
     first_session(book) == Some((10, LinkId(link), client, centre))
         && octets_from_client(book) == octets
         && client_pieces(book) == Some((pieces, last))
+}
+
+/// Whether the windows that were set are these, in order.
+fn has_windows(book: &Book, wanted: &[(u32, u64)]) -> bool {
+    let mut left = wanted.iter();
+    for (link, window) in book.present().windows() {
+        match left.next() {
+            Some(wanted) if (*link, window.milliseconds()) == *wanted => {},
+            _ => return false,
+        }
+    }
+    left.next().is_none()
+}
+
+/// How many messages of a link have an outcome.
+pub(crate) fn messages_of(book: &Book, link: u32, outcome: Outcome) -> u64 {
+    book.tables()
+        .count(View::Link, &Value::Link(LinkId(link)), outcome)
 }
 
 /// Whether the versions of routes are these, in order.

@@ -1,7 +1,8 @@
 //! Large numbers and sizes are taken where memory is there, as no clause can say.
 use crate::tests::scripts::*;
+use crate::tests::shown::messages_of;
 use smq_book::*;
-use smq_kit::{Dir, LinkId, SessionId};
+use smq_kit::{Dir, LinkId, Moment, Refusal, SessionId};
 use std::alloc::{AllocError, Global};
 use std::process::Abort;
 
@@ -59,6 +60,34 @@ fn put(rt: &impl Abort, alloc: Global, book: &mut Book, dir: Dir, moment: u64, o
     append(alloc, book, origin, octets).expect(rt, "far octets");
 }
 
+/// Lapses all messages of the far link by a window, and opens them again by a greater one. They stand at 1000.
+fn lapse_and_open_again(book: &mut Book) -> Result<(), Refusal> {
+    set_clock(book, 2000)?;
+    for (window, open, lapsed) in [(1000, 0, 300), (1001, 300, 0), (4_102_444_800_000, 300, 0)] {
+        set_window(book, FAR_LINK, window)?;
+        has_due(book, open, lapsed)?;
+    }
+    Ok(())
+}
+
+fn set_clock(book: &mut Book, clock: u64) -> Result<(), Refusal> {
+    let clock = Moment::new(clock)?;
+    book.apply(Edit::Advance { clock })
+}
+
+/// Nothing, where so many messages of the far link are open and so many have lapsed.
+fn has_due(book: &Book, open: u64, lapsed: u64) -> Result<(), Refusal> {
+    let found = (
+        messages_of(book, FAR_LINK, Outcome::Open),
+        messages_of(book, FAR_LINK, Outcome::Lapsed),
+    );
+    if found == (open, lapsed) {
+        Ok(())
+    } else {
+        Err(Refusal::BadWindow)
+    }
+}
+
 /// A submit_sm of `MESSAGES` sequence numbers, each in a piece, then their responses in one piece, then their receipts.
 fn put_messages(rt: &impl Abort, alloc: Global, book: &mut Book) {
     let origin = (FAR_LINK, FAR_SESSION, Dir::FromClient, 1000);
@@ -67,6 +96,10 @@ fn put_messages(rt: &impl Abort, alloc: Global, book: &mut Book) {
     }
     let octets = responses(alloc).expect(rt, "responses");
     put(rt, alloc, book, Dir::FromCentre, 2000, octets.as_slice());
+    assert!(rt;
+        lapse_and_open_again(book) == Ok(()),
+        "windows of far messages"
+    );
     let octets = receipts(alloc).expect(rt, "receipts");
     put(rt, alloc, book, Dir::FromCentre, 3000, octets.as_slice());
 }

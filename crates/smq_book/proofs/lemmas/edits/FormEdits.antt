@@ -130,7 +130,7 @@ module _ (s z : SettingsValue) (link : LinkId) (others : (l : LinkId) → l ≢ 
 
   -- ---- messages and receipts of other links
 
-  module _ (t : TrafficValue) (versions : s.versions ≡ z.versions) (clock : s.clock ≡ z.clock) where
+  module _ (t : TrafficValue) (windows : s.windows ≡ z.windows) (versions : s.versions ≡ z.versions) (clock : s.clock ≡ z.clock) where
     standing-by : (m : Message) (id : Option (List ℕ)) → m.link ≢ link
         → option_map (submit_standing (grouping_of s t)) (option_map (link_key m.link (forms_of s m.link).response) id)
         ≡ option_map (submit_standing (grouping_of z t)) (option_map (link_key m.link (forms_of z m.link).response) id)
@@ -146,7 +146,7 @@ module _ (s z : SettingsValue) (link : LinkId) (others : (l : LinkId) → l ≢ 
           standing = standing i;
           decider = decider_in t (standing i);
           route = route_in (versions i) m;
-          lapsed = lapsed_in (record s { clock = clock i }) m;
+          lapsed = lapsed_in (record s { windows = windows i; clock = clock i }) m;
         }
 
     -- facts stay outside of the link's messages

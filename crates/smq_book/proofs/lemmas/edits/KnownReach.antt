@@ -23,24 +23,25 @@ use Rattle.smq_frame.specs.Stream as stream
 use Rattle.smq_frame.specs.Tail.{tail_from}
 use Rattle.smq_pair.specs.declared.pairing.Pair.{Pair}
 use Rattle.smq_pair.specs.Pairing.{pair_at}
+use Rattle.smq_tally.specs.declared.outcome.Outcome.{Outcome}
 use Rattle.smq_pdu.specs.Header.{word_at}
 use Rattle.smq_pdu.specs.Numbers.{number_of, digits_of}
 use Rattle.smq_pdu.specs.Pairing.{nth_index}
 use Rattle.smq_pdu.specs.Pdu.{body_of, submit_of, deliver_of, id_of}
 use Rattle.smq_pdu.specs.Readers.{mandatory_at, address_at, c_octet_at, octets_at, number_at, tlv_at, tlvs_within, tlvs_of}
-use Rattle.smq_book.specs.declared.present.edit.Edit.TheVariants.{Advance, Withdraw}
+use Rattle.smq_book.specs.declared.present.edit.Edit.TheVariants.{Advance, SetWindow, Withdraw}
 use Rattle.smq_book.specs.declared.present.kept.Content.TheVariants as c
 use Rattle.smq_book.specs.declared.present.kept.KeptPdu.{KeptPdu}
 use Rattle.smq_book.specs.declared.present.session.Session.{Session}
 use Rattle.smq_book.specs.known.Pairing.{place_at, known_origin, submit_octets, response_octets}
 use Rattle.smq_book.specs.known.Present.{waiting}
-use Rattle.smq_book.specs.known.Reach.{submitted_session, accepted_session, submitted_book, accepted_book, submitting, accepting}
+use Rattle.smq_book.specs.known.Reach.{submitted_session, accepted_session, submitted_book, accepted_book, accepted_at, submitting, accepting}
 use Rattle.smq_book.specs.present.Batch.{batch_of}
 use Rattle.smq_book.specs.present.Kept.{kept_pdus}
-use Rattle.smq_book.specs.present.Present.{PresentValue, octets_in}
+use Rattle.smq_book.specs.present.Present.{PresentValue}
 use Rattle.smq_book.specs.present.Present as present
 use Rattle.smq_book.specs.present.Replies.{append_refusals}
-use Rattle.smq_book.specs.present.Settings.{opening_forms, with_clock}
+use Rattle.smq_book.specs.present.Settings.{opening_forms, opening_window, with_clock}
 use Rattle.smq_book.specs.present.Steps.{session_after, step}
 use Rattle.smq_book.specs.present.Stream.{last_moment}
 use Rattle.smq_book.specs.pairing.Traffic.{Message, ReceivedReceipt, messages_among, receipts_among, pairing_among, place_of, traffic_of, session_messages, session_receipts}
@@ -48,9 +49,10 @@ use Rattle.smq_book.specs.join.Circumstances.{decider_in, route_in}
 use Rattle.smq_book.specs.join.Keyed.{accepted_id, can_decide}
 use Rattle.smq_group.specs.Matching.{Candidate, GroupedReceipt, Single, Shared, Standing, earlier}
 use Rattle.smq_book.specs.join.Outcomes.{outcome_by}
-use Rattle.smq_book.specs.edits.Reached.{is_open, is_under, lapsing, due_by, messages_under, passing}
+use Rattle.smq_book.specs.edits.Reached.{is_due, is_open, is_under, lapsing, due_by, messages_due_on, messages_under, passing}
 use Rattle.smq_book.specs.edits.Reach.{groups, link_places, pair_in, weight, weights, batch_places, places_in, session_places, reach}
 use Rattle.smq_book.proofs.lemmas.edits.Advances.{due-lapse}
+use Rattle.smq_book.proofs.lemmas.edits.WindowEdits.{same-due}
 use Rattle.smq_book.proofs.lemmas.present.Changes.{step-made}
 use Rattle.smq_book.proofs.lemmas.present.Growth.{kept_pdus-nil}
 
@@ -188,22 +190,39 @@ module _ (s : Session) (client centre : List KeptPdu) (of_client : kept_pdus s.c
         cond (count_by (same_key key) (map (λ e. e.1) submits) == 1)
         (Single (option_map (λ (c : Candidate). c.1) (reduce earlier (map (λ e. (e.1.moment, e.0)) (filter (λ e. same_key key e.1.key && e.1.decides) noted))))) Shared
 
-    abbrev due_from : List (Place × LinkKey) → List (Place × GroupedReceipt) → ℕ → Message → Option LinkKey → Bool
-    due_from submits noted clock m key =
-        is_open (outcome_by m (record {
-          standing = option_map (standing_from submits noted) key;
-          decider = decider_in (traffic_of p.sessions) (option_map (standing_from submits noted) key);
-          route = route_in p.settings.versions m;
-          lapsed = nat_le (m.moment + 172_800_000) 0;
-        })) && nat_le (m.moment + 172_800_000) clock
+    -- what became of a message, from lists and by its window
+    abbrev outcome_from : List (Place × LinkKey) → List (Place × GroupedReceipt) → ℕ → Message → Option LinkKey → Outcome
+    outcome_from submits noted window m key = outcome_by m (record {
+      standing = option_map (standing_from submits noted) key;
+      decider = decider_in (traffic_of p.sessions) (option_map (standing_from submits noted) key);
+      route = route_in p.settings.versions m;
+      lapsed = nat_le (m.moment + window) 0;
+    })
+
+    abbrev due_from : List (Place × LinkKey) → List (Place × GroupedReceipt) → ℕ → ℕ → Message → Option LinkKey → Bool
+    due_from submits noted window clock m key = is_open (outcome_from submits noted window m key) && nat_le (m.moment + window) clock
 
     pub lapsing-is : (clock : ℕ) → len (lapsing p.settings (with_clock p.settings clock) (traffic_of p.sessions))
-        ≡ length (flat_map (kept_of (λ place (m : Message). cond (due_from accepted noted clock m (key_of m)) (Some m) None)) messages)
+        ≡ length (flat_map (kept_of (λ place (m : Message). cond (due_from accepted noted opening_window clock m (key_of m)) (Some m) None)) messages)
     lapsing-is clock =
         ap len (due-lapse p.settings (traffic_of p.sessions) clock)
         ∙ len-entries (due_by p.settings (traffic_of p.sessions) clock)
         ∙ ap length (maps.entries-chosen places_total places_exact _ (traffic_of p.sessions).messages)
-        ∙ (λ i. length (flat_map (kept_of (λ place (m : Message). cond (due_from (submits-are i) (noted-are i) clock m (option_map (link_key m.link (unwrap_or (get-empty nat_cmp m.link.0 i) opening_forms).response) (accepted_id m.response))) (Some m) None)) (messages-are i)))
+        ∙ (λ i. length (flat_map (kept_of (λ place (m : Message). cond (due_from (submits-are i) (noted-are i) (unwrap_or (get-empty nat_cmp m.link.0 i) opening_window) clock m (option_map (link_key m.link (unwrap_or (get-empty nat_cmp m.link.0 i) opening_forms).response) (accepted_id m.response))) (Some m) None)) (messages-are i)))
+
+    -- ---- a window
+
+    abbrev due_on_from : List (Place × LinkKey) → List (Place × GroupedReceipt) → ℕ → LinkId → Message → Option LinkKey → Bool
+    due_on_from submits noted window link m key = m.link.0 == link.0 && is_due (outcome_from submits noted window m key)
+
+    -- whatever the clock is
+    pub due_on-is : (clock : ℕ) (link : LinkId) → len (messages_due_on link (with_clock p.settings clock) (traffic_of p.sessions))
+        ≡ length (flat_map (kept_of (λ place (m : Message). cond (due_on_from accepted noted opening_window link m (key_of m)) (Some m) None)) messages)
+    due_on-is clock link =
+        ap len (same-due p.settings empty clock link (traffic_of p.sessions))
+        ∙ len-entries (messages_due_on link p.settings (traffic_of p.sessions))
+        ∙ ap length (maps.entries-chosen places_total places_exact _ (traffic_of p.sessions).messages)
+        ∙ (λ i. length (flat_map (kept_of (λ place (m : Message). cond (due_on_from (submits-are i) (noted-are i) (unwrap_or (get-empty nat_cmp m.link.0 i) opening_window) link m (option_map (link_key m.link (unwrap_or (get-empty nat_cmp m.link.0 i) opening_forms).response) (accepted_id m.response))) (Some m) None)) (messages-are i)))
 
 -- ---- what edits leave
 
@@ -285,6 +304,22 @@ before-the-end = lapsing-is accepted_session known_client known_centre client-is
 pub at-the-end : reach accepted_book (Advance 172801000) ≡ 1
 unfolding nth_index
 at-the-end = lapsing-is accepted_session known_client known_centre client-is centre-is refl tt tt 172801000
+
+pub window-reaches : reach accepted_book (SetWindow (record { 0 = 1 }) 1000) ≡ 1
+unfolding nth_index
+window-reaches = due_on-is accepted_session known_client known_centre client-is centre-is refl tt tt 0 (record { 0 = 1 })
+
+pub window-elsewhere : reach accepted_book (SetWindow (record { 0 = 2 }) 1000) ≡ 0
+unfolding nth_index
+window-elsewhere = due_on-is accepted_session known_client known_centre client-is centre-is refl tt tt 0 (record { 0 = 2 })
+
+pub window-unanswered : reach submitted_book (SetWindow (record { 0 = 1 }) 1000) ≡ 0
+unfolding nth_index
+window-unanswered = due_on-is submitted_session known_client [] client-is kept_pdus-nil refl tt tt 0 (record { 0 = 1 })
+
+pub window-at-the-end : reach (accepted_at 172801000) (SetWindow (record { 0 = 1 }) 1000) ≡ 1
+unfolding nth_index
+window-at-the-end = due_on-is accepted_session known_client known_centre client-is centre-is refl tt tt 172801000 (record { 0 = 1 })
 
 pub under : len (messages_under (codes "44") (traffic_of accepted_book.sessions)) ≡ 1
 under = under-is accepted_session known_client known_centre client-is centre-is refl tt tt (codes "44")

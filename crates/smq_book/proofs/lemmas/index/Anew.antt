@@ -1,9 +1,12 @@
 -- Facts that are set anew at the places that an edit of what is set reaches are those under what is set then.
-use Rattle.std.proofs.Common.{◌≡◌, ℕ, ◌≤◌, false, List, [], ◌∷◌, Option, refl, sym, ◌∙◌}
+use Rattle.std.proofs.Common.{◌≡◌, ℕ, ◌≤◌, false, ◌||◌, List, [], ◌∷◌, Option, refl, sym, ap, ◌∙◌}
 use Rattle.std.specs.Prelude.{fold}
 use Rattle.std.specs.List.{list_any}
-use Rattle.std.specs.Ordering.{eq_by_cmp}
+use Rattle.std.specs.Ordering.{eq_by_cmp, is_eq, nat_cmp}
+use Rattle.std.specs.Cmp.{tied_itself}
 use Rattle.std.specs.FinMap.{FinMap, get, keys}
+use Rattle.std.proofs.lemmas.Bool.{false≢true}
+use Rattle.smq_kit.specs.declared.names.LinkId.{LinkId}
 use Rattle.smq_kit.specs.declared.names.RouteId.{RouteId}
 use Rattle.smq_kit.specs.declared.place.Place.{Place}
 use Rattle.smq_kit.specs.Maps.{SameOutside, patched, set_at}
@@ -14,17 +17,17 @@ use Rattle.smq_route.specs.declared.version.Version.{Version}
 use Rattle.smq_route.specs.Edits.{added, changed}
 use Rattle.smq_route.specs.Numbers.{places_under}
 use Rattle.smq_route.specs.Versions.{Versions, begins, route_at}
-use Rattle.smq_book.specs.present.Settings.{SettingsValue, with_clock, with_versions}
+use Rattle.smq_book.specs.present.Settings.{SettingsValue, with_clock, with_versions, with_windows}
 use Rattle.smq_book.specs.pairing.Traffic.{TrafficValue}
 use Rattle.smq_book.specs.join.Facts.{facts_of}
 use Rattle.smq_book.specs.join.Keyed.{grouping_of}
 use Rattle.smq_book.specs.join.Listings.{notes_of}
-use Rattle.smq_book.specs.edits.Reached.{due_by, messages_under}
-use Rattle.smq_book.specs.index.Due.{due_of, places_due}
+use Rattle.smq_book.specs.edits.Reached.{due_by, messages_due_on, messages_under}
+use Rattle.smq_book.specs.index.Due.{due_of, places_due_on, places_ending}
 use Rattle.smq_book.specs.index.Numbered.{numbers_of}
 use Rattle.smq_book.proofs.lemmas.edits.Advances.{due-outside}
 use Rattle.smq_book.proofs.lemmas.edits.RouteEdits.{added-outside, changed-outside, routes-outside}
-use Rattle.smq_book.proofs.lemmas.index.Due.{due-up-to}
+use Rattle.smq_book.proofs.lemmas.index.Due.{due-ending, due-on-link}
 use Rattle.smq_book.proofs.lemmas.index.Numbered.{under-is}
 
 module _ {X : Type 0} where
@@ -86,14 +89,23 @@ routed-notes s t others = refl
 -- ---- a clock that goes on
 
 module _ (s : SettingsValue) (t : TrafficValue) (clock : ℕ) where
-  -- the places that are due by it are enough
+  -- the places of those whose windows end by it are enough
   pub clocked : s.clock ≤ clock
-      → fold (λ m q. set_at m q (get (facts_of (with_clock s clock) t) q)) (facts_of s t) (places_due (due_of s t) clock)
+      → fold (λ m q. set_at m q (get (facts_of (with_clock s clock) t) q)) (facts_of s t) (places_ending s.windows s.clock clock (due_of s t))
       ≡ facts_of (with_clock s clock) t
   clocked forward =
-      set-anew (places_due (due_of s t) clock) (facts_of s t) (facts_of (with_clock s clock) t)
-      (outside-alike (places_due (due_of s t) clock) (keys (due_by s t clock)) (facts_of s t) (facts_of (with_clock s clock) t) (due-up-to s t clock)
-      (due-outside s t clock forward))
+      set-anew (places_ending s.windows s.clock clock (due_of s t)) (facts_of s t) (facts_of (with_clock s clock) t)
+      (outside-alike (places_ending s.windows s.clock clock (due_of s t)) (keys (due_by s t clock)) (facts_of s t)
+      (facts_of (with_clock s clock) t) (λ q. due-ending s t q clock) (due-outside s t clock forward))
+
+  -- no place is there where no message is
+  pub none-ending : keys (due_by s t clock) ≡ [] → places_ending s.windows s.clock clock (due_of s t) ≡ []
+  none-ending none =
+      by (places_ending s.windows s.clock clock (due_of s t)) (λ q. due-ending s t q clock ∙ ap (list_any (eq_by_cmp place_cmp q)) none)
+    where
+      by : (ps : List Place) → ((q : Place) → list_any (eq_by_cmp place_cmp q) ps ≡ false) → ps ≡ []
+      by [] h = refl
+      by (p ∷ ps) h = absurd (false≢true (sym (h p) ∙ ap (λ b. b || list_any (eq_by_cmp place_cmp p) ps) (ap is_eq (tied_itself places_total p))))
 
   -- it leaves members and notes
   pub clocked-members : grouping_of (with_clock s clock) t ≡ grouping_of s t
@@ -101,3 +113,15 @@ module _ (s : SettingsValue) (t : TrafficValue) (clock : ℕ) where
 
   pub clocked-notes : notes_of (with_clock s clock) t ≡ notes_of s t
   clocked-notes = refl
+
+-- ---- windows that differ in a link's
+
+-- the places of the link's messages whose receipts are due are enough
+pub windowed : (s : SettingsValue) (t : TrafficValue) (windows : FinMap nat_cmp ℕ) (link : LinkId)
+    → SameOutside (keys (messages_due_on link s t)) (facts_of s t) (facts_of (with_windows s windows) t)
+    → fold (λ m q. set_at m q (get (facts_of (with_windows s windows) t) q)) (facts_of s t) (places_due_on link (due_of s t))
+    ≡ facts_of (with_windows s windows) t
+windowed s t windows link same =
+    set-anew (places_due_on link (due_of s t)) (facts_of s t) (facts_of (with_windows s windows) t)
+    (outside-alike (places_due_on link (due_of s t)) (keys (messages_due_on link s t)) (facts_of s t)
+    (facts_of (with_windows s windows) t) (λ q. due-on-link s t q link) same)

@@ -103,7 +103,7 @@ module _ {s : SettingsValue} {u : TrafficValue} {ms : List (Place × Message)} {
         ∙ stores.stands.apart q m (ap (λ (x : FinMap place_cmp Message). get x q) (sym stores.messages) ∙ there);
   }
 
-  -- where no message stands, a fact that is taken out leaves the open messages
+  -- where no message stands, a fact that is taken out leaves those whose receipts are due
   pub due-dropped : {later : FinMap place_cmp Fact} (q : Place) → get u.messages q ≡ None → (facts : FinMap place_cmp Fact) → later ≡ remove facts q
       → due_in (messages_in ms) facts ≡ due_in (messages_in ms) later
   due-dropped q none facts took =
@@ -115,14 +115,14 @@ pub are-held : (s : SettingsValue) (t : TrafficValue) (i : Index) → IsTraffic 
     → AreOf s (stored_traffic i.messages.content i.receipts.content) i.standings.members
 are-held s t i traffic held = are-stored (stored-held s t i traffic held)
 
--- ---- a fact that is set anew by other routes or another clock
+-- ---- a fact that is set anew by other routes, other windows or another clock
 
 module _ (z : SettingsValue) (t : TrafficValue) (facts : FinMap place_cmp Fact) (i : Index) (traffic : IsTraffic t)
     (held : held_now i ≡ held_by z t facts) where
   are-by : AreOf z (stored_traffic i.messages.content i.receipts.content) i.standings.members
   are-by = are-stored (stored-by z t facts i traffic held)
 
-  -- the open messages that are held are those of these facts
+  -- the messages that are held as those whose receipts are due are those of these facts
   due-by : dues_in i.due.content ≡ due_in (messages_in i.messages.content) i.tally.facts
   due-by =
       ap (λ (h : Holding). h.due) held
@@ -255,14 +255,14 @@ module _ {s : SettingsValue} {t : TrafficValue} {ms : List (Place × Message)} {
     stands = traffic-stands s (take_receipt q t) (kept-traffic t traffic (TakeReceipt q) tt);
   }
 
--- ---- open messages and numbers
+-- ---- messages whose receipts are due, and numbers
 
 module _ (s : SettingsValue) (t : TrafficValue) (i : Index) (held : held_now i ≡ held_of s t) where
   due-local : dues_in i.due.content ≡ due_in t.messages i.tally.facts
   due-local = ap (λ (h : Holding). h.due) held ∙ ap (due_in t.messages) (sym (ap (λ (h : Holding). h.facts) held))
 
   module _ {now : FinMap place_cmp Message} where
-    -- the open messages stay where messages do
+    -- those whose receipts are due stay where messages do
     pub due-kept : now ≡ t.messages → dues_in i.due.content ≡ due_in now i.tally.facts
     due-kept same = due-local ∙ ap (λ m. due_in m i.tally.facts) (sym same)
 
@@ -278,18 +278,18 @@ module _ (s : SettingsValue) (t : TrafficValue) (i : Index) (held : held_now i �
             ∙ fact-at s t q
             ∙ ap (option_map (λ (m : Message). fact_by q m (circumstances s t m))) none
 
-    -- one in the place of a message of the same moment leaves the open ones
-    pub due-stays : (q : Place) (old m : Message) → get t.messages q ≡ Some old → old.moment ≡ m.moment → now ≡ insert t.messages q m
-        → dues_in i.due.content ≡ due_in now i.tally.facts
-    due-stays q old m is moment same =
-        due-local ∙ sym (due-again t.messages i.tally.facts q old m is moment) ∙ ap (λ m. due_in m i.tally.facts) (sym same)
+    -- one in the place of a message of the same link and moment leaves those whose receipts are due
+    pub due-stays : (q : Place) (old m : Message) → get t.messages q ≡ Some old → old.link ≡ m.link → old.moment ≡ m.moment
+        → now ≡ insert t.messages q m → dues_in i.due.content ≡ due_in now i.tally.facts
+    due-stays q old m is link moment same =
+        due-local ∙ sym (due-again t.messages i.tally.facts q old m is link moment) ∙ ap (λ m. due_in m i.tally.facts) (sym same)
 
-    -- a message that is taken out takes its moment with it
+    -- a message that is taken out takes its key with it
     pub due-went : {dues : FinSet due_cmp} (q : Place) (m : Message) → get t.messages q ≡ Some m → now ≡ remove t.messages q
-        → dues ≡ remove (dues_in i.due.content) (due_at m.moment q) → dues ≡ due_in now i.tally.facts
+        → dues ≡ remove (dues_in i.due.content) (due_at m.link m.moment q) → dues ≡ due_in now i.tally.facts
     due-went q m there same gone =
         gone
-        ∙ ap (λ (d : FinSet due_cmp). remove d (due_at m.moment q)) due-local
+        ∙ ap (λ (d : FinSet due_cmp). remove d (due_at m.link m.moment q)) due-local
         ∙ sym (due-taken t.messages i.tally.facts q m there)
         ∙ ap (λ m. due_in m i.tally.facts) (sym same)
 
@@ -344,8 +344,8 @@ module _ (s : SettingsValue) (t u : TrafficValue) (i : Index) {ms : List (Place 
   were_noted : i.tally.notes ≡ notes_of s t
   were_noted = ap (λ (x : Holding). x.notes) held
 
-  -- where messages, receipts, members, facts, notes and numbers of an index are those of the traffic, and the open messages are
-  -- those of its facts, it holds that
+  -- where messages, receipts, members, facts, notes and numbers of an index are those of the traffic, and the messages
+  -- whose receipts are due are those of its facts, it holds that
   pub holds : (j : Index) → j.messages.content ≡ ms → j.receipts.content ≡ rs → j.standings.members ≡ h → j.tally.facts ≡ facts_of s u
       → j.tally.notes ≡ notes_of s u → dues_in j.due.content ≡ due_in (messages_in ms) j.tally.facts → j.numbers.numbers ≡ numbers_of u
       → held_now j ≡ held_of s u

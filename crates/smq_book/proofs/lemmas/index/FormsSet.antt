@@ -1,10 +1,10 @@
 -- Forms of a link that are set while all of it is out, and forms that are brought back.
-use Rattle.std.proofs.Common.{◌≡◌, ◌≢◌, ℕ, Bool, true, false, cond, List, Option, Some, refl, sym, ap, ◌∙◌, subst}
+use Rattle.std.proofs.Common.{◌≡◌, ◌≢◌, Bool, true, false, cond, List, Option, Some, refl, sym, ap, ◌∙◌, subst}
 use Rattle.std.specs.Prelude.{unwrap_or}
 use Rattle.std.specs.Option.{IsSome}
-use Rattle.std.specs.Cmp.{nat_cmp_total, tied_itself}
-use Rattle.std.specs.Ordering.{eq_by_cmp, is_eq, nat_cmp}
-use Rattle.std.specs.FinMap.{FinMap, get, get-insert, insert, same_map, nat_cmp-IsAntisymmetric}
+use Rattle.std.specs.Cmp.{nat_cmp_total}
+use Rattle.std.specs.Ordering.{eq_by_cmp, nat_cmp}
+use Rattle.std.specs.FinMap.{FinMap, get, get-insert, nat_cmp-IsAntisymmetric}
 use Rattle.smq_kit.specs.declared.names.LinkId.{LinkId}
 use Rattle.smq_kit.specs.declared.place.Place.{Place}
 use Rattle.smq_kit.specs.Maps.{set_at}
@@ -16,22 +16,7 @@ use Rattle.smq_book.specs.pairing.Traffic.{Message, ReceivedReceipt, TrafficValu
 use Rattle.smq_book.specs.index.Held.{Holding, IsHeld, traffic_held}
 use Rattle.smq_book.specs.index.LinkOut.{IsOut}
 use Rattle.smq_book.proofs.lemmas.index.LinkOut.{held-idle}
-
-module _ (m : FinMap nat_cmp Forms) (k : ℕ) (f : Forms) where
-  -- forms that are set are there
-  pub set-there : get (insert m k f) k ≡ Some f
-  set-there = get-insert nat_cmp_total m k f k ∙ ap (λ b. cond b (Some f) (get m k)) (ap is_eq (tied_itself nat_cmp_total k))
-
-  -- and where those before them are brought back, all are as they were
-  set-back : set_at (insert m k f) k (get m k) ≡ m
-  set-back = same_map nat_cmp_total nat_cmp-IsAntisymmetric _ _ (λ q.
-      maps.get-set_at nat_cmp_total nat_cmp-IsAntisymmetric (insert m k f) k (get m k) q
-      ∙ ap (cond (eq_by_cmp nat_cmp q k) (get m k)) (get-insert nat_cmp_total m k f q)
-      ∙ by q (eq_by_cmp nat_cmp q k) refl)
-    where
-      by : (q : ℕ) (b : Bool) → eq_by_cmp nat_cmp q k ≡ b → cond b (get m k) (cond b (Some f) (get m q)) ≡ get m q
-      by q true t = ap (get m) (sym (maps.same_key nat_cmp_total nat_cmp-IsAntisymmetric q k t))
-      by q false t = refl
+use Rattle.smq_book.proofs.lemmas.present.NumberMaps.{set-back, set-there}
 
 module _ (s : SettingsValue) (link : LinkId) (f : Forms) (z : SettingsValue) (set : z ≡ with_forms s link f) where
   -- the forms of other links stay
@@ -49,7 +34,7 @@ module _ (s : SettingsValue) (link : LinkId) (f : Forms) (z : SettingsValue) (se
       → IsOut link t ms rs (traffic_held h) → IsHeld z h
   held-set t ms rs h held out =
       subst (λ (z : SettingsValue). IsHeld z h) (sym set)
-      (held-idle s (with_forms s link f) link h refl refl others-stay held out.no_message out.no_receipt)
+      (held-idle s (with_forms s link f) link h refl refl refl others-stay held out.no_message out.no_receipt)
 
   -- the link has forms
   pub forms-there : IsSome (set_forms_of z link.0)

@@ -384,15 +384,16 @@ module _ (link : LinkId) (t : TrafficValue) (ms : List (Place × Message)) (rs :
       })
 
 -- while it is out, its forms are idle
-module _ (s z : SettingsValue) (link : LinkId) (h : Holding) (versions : s.versions ≡ z.versions) (clock : s.clock ≡ z.clock)
+module _ (s z : SettingsValue) (link : LinkId) (h : Holding)
+    (windows : s.windows ≡ z.windows) (versions : s.versions ≡ z.versions) (clock : s.clock ≡ z.clock)
     (others : (l : LinkId) → l ≢ link → forms_of s l ≡ forms_of z l) (is : IsHeld s h)
     (no_message : (q : Place) (m : Message) → get (traffic_held h).messages q ≡ Some m → m.link ≢ link)
     (no_receipt : (q : Place) (r : ReceivedReceipt) → get (traffic_held h).receipts q ≡ Some r → r.link ≢ link) where
   pub held-idle : IsHeld z h
   held-idle =
       let u = traffic_held h in
-      let groups = grouping-ignores s z u link versions clock others no_message no_receipt in
-      let facts = facts-ignore s z u link versions clock others no_message no_receipt in
+      let groups = grouping-ignores s z u link windows versions clock others no_message no_receipt in
+      let facts = facts-ignore s z u link windows versions clock others no_message no_receipt in
       record {
         held = is.held ∙ (λ i. record {
           messages = u.messages;

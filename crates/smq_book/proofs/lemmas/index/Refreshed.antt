@@ -2,23 +2,25 @@
 use Rattle.std.proofs.Common.{◌≡◌, ℕ, ◌+◌, ◌<◌, ◌≤◌, List, length, get_or, take, sym, ap, ◌∙◌}
 use Rattle.std.specs.FinMap.{FinMap, get, keys}
 use Rattle.std.specs.FinSet.{FinSet}
+use Rattle.std.specs.Ordering.{nat_cmp}
 use Rattle.std.proofs.lemmas.List.{take_all}
 use Rattle.std.proofs.lemmas.List.Sums.{fold_more}
+use Rattle.smq_kit.specs.declared.names.LinkId.{LinkId}
 use Rattle.smq_kit.specs.declared.place.Place.{Place}
 use Rattle.smq_kit.specs.Maps.{SameOutside, set_at}
 use Rattle.smq_kit.specs.Orders.{place_cmp}
 use Rattle.smq_tally.specs.declared.fact.Fact.{Fact}
 use Rattle.smq_route.specs.Numbers.{number_cmp, places_under}
 use Rattle.smq_route.specs.Versions.{Versions}
-use Rattle.smq_book.specs.present.Settings.{SettingsValue, with_clock, with_versions}
+use Rattle.smq_book.specs.present.Settings.{SettingsValue, with_clock, with_versions, with_windows}
 use Rattle.smq_book.specs.pairing.Traffic.{TrafficValue}
 use Rattle.smq_book.specs.join.Facts.{facts_of}
-use Rattle.smq_book.specs.edits.Reached.{messages_under}
-use Rattle.smq_book.specs.index.Due.{places_due}
+use Rattle.smq_book.specs.edits.Reached.{messages_due_on, messages_under}
+use Rattle.smq_book.specs.index.Due.{places_due_on, places_ending}
 use Rattle.smq_book.specs.index.Held.{Holding, IsHeld, held_by, held_of, traffic_held}
 use Rattle.smq_book.specs.index.Refreshed.{refreshed}
-use Rattle.smq_book.proofs.lemmas.index.Anew.{clocked, outside-alike, set-anew}
-use Rattle.smq_book.proofs.lemmas.index.Kept.{kept}
+use Rattle.smq_book.proofs.lemmas.index.Anew.{clocked, outside-alike, set-anew, windowed}
+use Rattle.smq_book.proofs.lemmas.index.Kept.{kept, traffic-again}
 use Rattle.smq_book.proofs.lemmas.index.Numbered.{under-is}
 
 -- ---- in turn
@@ -40,10 +42,10 @@ module _ (z : SettingsValue) (t : TrafficValue) (facts : FinMap place_cmp Fact) 
 pub told-numbers : (g : Holding) (numbers : FinSet number_cmp) → numbers ≡ g.numbers → record g { numbers = numbers } ≡ g
 told-numbers g numbers same = λ i. record g { numbers = same i }
 
--- traffic stays, whatever the facts are
-pub traffic-stays : (s : SettingsValue) (versions : Versions) (clock : ℕ) (g h : Holding) (facts : FinMap place_cmp Fact) → IsHeld s g
-    → h ≡ held_by (with_clock (with_versions s versions) clock) (traffic_held g) facts → traffic_held h ≡ traffic_held g
-traffic-stays s versions clock g h facts is set = ap traffic_held set ∙ ap traffic_held (sym is.held)
+-- traffic stays, whatever is set and whatever the facts are
+pub traffic-stays : (s z : SettingsValue) (g h : Holding) (facts : FinMap place_cmp Fact) → IsHeld s g
+    → h ≡ held_by z (traffic_held g) facts → traffic_held h ≡ traffic_held g
+traffic-stays s z g h facts is set = ap traffic_held set ∙ traffic-again z (traffic_held g) is.traffic
 
 module _ (s : SettingsValue) (g h : Holding) (is : IsHeld s g) where
   -- routes that differ in versions of a prefix
@@ -66,7 +68,7 @@ module _ (s : SettingsValue) (g h : Holding) (is : IsHeld s g) where
       (under-is t prefix) same)))
 
   -- a clock that goes on
-  pub clock-held : (clock : ℕ) (places : List Place) → s.clock ≤ clock → places ≡ places_due g.due clock
+  pub clock-held : (clock : ℕ) (places : List Place) → s.clock ≤ clock → places ≡ places_ending s.windows s.clock clock g.due
       → h ≡ held_by (with_clock s clock) (traffic_held g)
       (refreshed (with_clock s clock) (traffic_held g) (facts_of s (traffic_held g)) places)
       → IsHeld (with_clock s clock) h
@@ -75,5 +77,22 @@ module _ (s : SettingsValue) (g h : Holding) (is : IsHeld s g) where
       let t = traffic_held g in
       kept z t h is.traffic
       (set
-      ∙ ap (λ (ps : List Place). held_by z t (refreshed z t (facts_of s t) ps)) (are ∙ ap (λ (x : Holding). places_due x.due clock) is.held)
+      ∙ ap (λ (ps : List Place). held_by z t (refreshed z t (facts_of s t) ps))
+      (are ∙ ap (λ (x : Holding). places_ending s.windows s.clock clock x.due) is.held)
       ∙ ap (held_by z t) (clocked s t clock forward))
+
+  -- windows that differ in a link's
+  pub window-held : (windows : FinMap nat_cmp ℕ) (link : LinkId) (places : List Place)
+      → SameOutside (keys (messages_due_on link s (traffic_held g))) (facts_of s (traffic_held g))
+      (facts_of (with_windows s windows) (traffic_held g))
+      → places ≡ places_due_on link g.due
+      → h ≡ held_by (with_windows s windows) (traffic_held g)
+      (refreshed (with_windows s windows) (traffic_held g) (facts_of s (traffic_held g)) places)
+      → IsHeld (with_windows s windows) h
+  window-held windows link places same are set =
+      let z = with_windows s windows in
+      let t = traffic_held g in
+      kept z t h is.traffic
+      (set
+      ∙ ap (λ (ps : List Place). held_by z t (refreshed z t (facts_of s t) ps)) (are ∙ ap (λ (x : Holding). places_due_on link x.due) is.held)
+      ∙ ap (held_by z t) (windowed s t windows link same))

@@ -65,7 +65,7 @@ outcome-stays b o.Open h l = absurd (h refl)
 outcome-stays b o.Lapsed h l = absurd (l refl)
 outcome-stays b _ h l = refl
 
-fact-lapses : (q : Place) (m : Message) (c : Circumstances) (b : Bool) → fact_by q m (record c { lapsed = b }) ≡ with_lapse b (fact_by q m c)
+pub fact-lapses : (q : Place) (m : Message) (c : Circumstances) (b : Bool) → fact_by q m (record c { lapsed = b }) ≡ with_lapse b (fact_by q m c)
 fact-lapses q m c b =
     let outcome = outcome-lapses m c b in
     let decided = decided-stays b (outcome_by m c) in

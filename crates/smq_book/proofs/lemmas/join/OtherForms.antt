@@ -15,7 +15,8 @@ use Rattle.smq_book.specs.join.Keyed.{accepted_id, accepted_key, keyed_receipt, 
 use Rattle.smq_book.specs.join.Circumstances.{circumstances, decider_in, route_in, lapsed_in}
 use Rattle.smq_book.specs.join.Facts.{fact_by, facts_of}
 
-module _ (s z : SettingsValue) (t : TrafficValue) (link : LinkId) (versions : s.versions ≡ z.versions) (clock : s.clock ≡ z.clock)
+module _ (s z : SettingsValue) (t : TrafficValue) (link : LinkId)
+    (windows : s.windows ≡ z.windows) (versions : s.versions ≡ z.versions) (clock : s.clock ≡ z.clock)
     (others : (l : LinkId) → l ≢ link → forms_of s l ≡ forms_of z l)
     (no_message : (q : Place) (m : Message) → get t.messages q ≡ Some m
     → m.link ≢ link) (no_receipt : (q : Place) (r : ReceivedReceipt) → get t.receipts q ≡ Some r → r.link ≢ link) where
@@ -42,5 +43,5 @@ module _ (s z : SettingsValue) (t : TrafficValue) (link : LinkId) (versions : s.
         standing = option_map (submit_standing (grouping-ignores i)) (same-key m (no_message q m e) i);
         decider = decider_in t (option_map (submit_standing (grouping-ignores i)) (same-key m (no_message q m e) i));
         route = route_in (versions i) m;
-        lapsed = lapsed_in (record s { clock = clock i }) m;
+        lapsed = lapsed_in (record s { windows = windows i; clock = clock i }) m;
       })))

@@ -21,15 +21,15 @@ use Rattle.smq_frame.specs.Stream.{Octet, handed_in}
 use Rattle.smq_route.specs.Edits.{ending, corrected}
 use Rattle.smq_route.specs.Versions.{Versions, key_at}
 use Rattle.smq_book.specs.declared.present.edit.Edit.{Edit}
-use Rattle.smq_book.specs.declared.present.edit.Edit.TheVariants.{Append, Withdraw, SetForm, AddRoute, EndRoute, CorrectRoute, Advance}
+use Rattle.smq_book.specs.declared.present.edit.Edit.TheVariants.{Append, Withdraw, SetForm, SetWindow, AddRoute, EndRoute, CorrectRoute, Advance}
 use Rattle.smq_book.specs.declared.present.forms.Forms.{Forms}
 use Rattle.smq_book.specs.declared.present.session.Session.{Session}
 use Rattle.smq_book.specs.present.Batch.{BatchValue}
 use Rattle.smq_book.specs.present.Present.{PresentValue, session_of, direction, octets_in, octets_of}
-use Rattle.smq_book.specs.present.Settings.{set_forms_of, with_versions, with_clock}
+use Rattle.smq_book.specs.present.Settings.{set_forms_of, set_window_of, with_windows, with_versions, with_clock}
 use Rattle.smq_kit.specs.Replies.{first_of}
 use Rattle.smq_book.specs.present.Replies.{no_session, append_refusals, reply}
-use Rattle.smq_book.specs.present.Steps.{session_with, session_after, change, step_unless, step, steps, Appends, Withdraws, SetsForm, AddsRoute, EndsRoute, CorrectsRoute, Advances, is_append_to, is_of_session, edits_without, LeavesNoTrace, IsAsNeverThere, AreAppendedAgain, AppendsCommute}
+use Rattle.smq_book.specs.present.Steps.{session_with, session_after, change, step_unless, step, steps, Appends, Withdraws, SetsForm, SetsWindow, AddsRoute, EndsRoute, CorrectsRoute, Advances, is_append_to, is_of_session, edits_without, LeavesNoTrace, IsAsNeverThere, AreAppendedAgain, AppendsCommute}
 use Rattle.smq_book.proofs.lemmas.present.BatchReplies.{new_session}
 use Rattle.smq_book.proofs.lemmas.present.NumberMaps.{remove-none}
 use Rattle.smq_book.proofs.lemmas.present.VersionLemmas.{put-there, put-elsewhere, changed-there, changed-elsewhere, same_versions}
@@ -77,7 +77,7 @@ unless k q v w Less e ne = refl
 unless k q v w Equal e ne = absurd (ne (nat_cmp-IsAntisymmetric q k e))
 unless k q v w Greater e ne = refl
 
-get-elsewhere : {X : Type 0} (m : FinMap nat_cmp X) (k q : ℕ) (v : X) → q ≢ k → get (insert m k v) q ≡ get m q
+pub get-elsewhere : {X : Type 0} (m : FinMap nat_cmp X) (k q : ℕ) (v : X) → q ≢ k → get (insert m k v) q ≡ get m q
 get-elsewhere m k q v ne = get-insert nat_cmp_total m k v q ∙ unless k q (Some v) (get m q) (nat_cmp q k) refl ne
 
 get-removed : {X : Type 0} (m : FinMap nat_cmp X) (k : ℕ) → get (remove m k) k ≡ None
@@ -110,6 +110,13 @@ pub sets-change : (p : PresentValue) (link : LinkId) (response receipt : Form)
 sets-change p link response receipt = record {
   there = get-here p.settings.forms link.0 (record { response = response; receipt = receipt });
   elsewhere = λ q ne. get-elsewhere p.settings.forms link.0 q (record { response = response; receipt = receipt }) ne;
+  rest = refl;
+}
+
+pub window-change : (p : PresentValue) (link : LinkId) (window : ℕ) → SetsWindow p (change p (SetWindow link window)) link window
+window-change p link window = record {
+  there = get-here p.settings.windows link.0 window;
+  elsewhere = λ q ne. get-elsewhere p.settings.windows link.0 q window ne;
   rest = refl;
 }
 
@@ -216,6 +223,21 @@ sets-alone p q link response receipt one =
     (same_forms p q new link response receipt one (sets-change p link response receipt)) in
     one.rest ∙ ap (λ (m : FinMap nat_cmp Forms). record p { settings = record p.settings { forms = m } }) same
 
+same_windows : (p q r : PresentValue) (link : LinkId) (window : ℕ) → SetsWindow p q link window → SetsWindow p r link window
+    → (n : ℕ) → set_window_of q.settings n ≡ set_window_of r.settings n
+same_windows p q r link window one two n =
+    elim (either_number n link.0 (nat_cmp n link.0) refl) [
+      | inl is ↦ subst (λ (m : ℕ). set_window_of q.settings m ≡ set_window_of r.settings m) (sym is) (one.there ∙ sym two.there)
+      | inr ne ↦ one.elsewhere n ne ∙ sym (two.elsewhere n ne)
+    ]
+
+pub window-alone : (p q : PresentValue) (link : LinkId) (window : ℕ) → SetsWindow p q link window → q ≡ change p (SetWindow link window)
+window-alone p q link window one =
+    let new = change p (SetWindow link window) in
+    let same : q.settings.windows ≡ new.settings.windows =
+    same_map nat_cmp_total nat_cmp-IsAntisymmetric _ _ (same_windows p q new link window one (window-change p link window)) in
+    one.rest ∙ ap (λ (m : FinMap nat_cmp ℕ). record p { settings = with_windows p.settings m }) same
+
 pub adds-alone : (p q : PresentValue) (prefix : List ℕ) (from : ℕ) (route : RouteId) (network : List ℕ)
     → AddsRoute p q prefix from route network → q ≡ change p (AddRoute prefix from route network)
 adds-alone p q prefix from route network one =
@@ -277,6 +299,7 @@ hidden p s (Append b) None h = ap (λ (m : FinMap nat_cmp Session). record p { s
     (remove-insert p.sessions s.0 b.session.0 (session_after (session_of p b.session.0) b) (same_number b.session.0 s.0 h))
 hidden p s (Withdraw t) None h = absurd (false≢true h)
 hidden p s (SetForm link response receipt) None h = absurd (false≢true h)
+hidden p s (SetWindow link window) None h = absurd (false≢true h)
 hidden p s (AddRoute prefix from route network) None h = absurd (false≢true h)
 hidden p s (EndRoute prefix from until) None h = absurd (false≢true h)
 hidden p s (CorrectRoute prefix from route network) None h = absurd (false≢true h)
@@ -364,6 +387,7 @@ apart p s (Withdraw t) h =
     ∙ ap (λ (m : FinMap nat_cmp Session). record p { sessions = m }) (remove-remove p.sessions s.0 t.0)
     ∙ sym (step-withdraw (without p s) t)
 apart p s (SetForm link response receipt) h = refl
+apart p s (SetWindow link window) h = refl
 apart p s (AddRoute prefix from route network) h =
     either_way p s (AddRoute prefix from route network) (reply p (AddRoute prefix from route network)) refl
 apart p s (EndRoute prefix from until) h = either_way p s (EndRoute prefix from until) (reply p (EndRoute prefix from until)) refl
@@ -378,6 +402,7 @@ of_it p s (Withdraw t) h =
     ap (λ (q : PresentValue). without q s) (step-withdraw p t)
     ∙ ap (λ (m : FinMap nat_cmp Session). record p { sessions = m }) (remove-twice p.sessions s.0 t.0 (same_number t.0 s.0 h))
 of_it p s (SetForm link response receipt) h = absurd (false≢true h)
+of_it p s (SetWindow link window) h = absurd (false≢true h)
 of_it p s (AddRoute prefix from route network) h = absurd (false≢true h)
 of_it p s (EndRoute prefix from until) h = absurd (false≢true h)
 of_it p s (CorrectRoute prefix from route network) h = absurd (false≢true h)
@@ -437,7 +462,7 @@ same_reply : (p : PresentValue) (one two : BatchValue) → two.session.0 ≢ one
     ≡ reply p (Append two)
 same_reply p one two ne = ap (λ (o : Option Session). first_of (append_refusals o two)) (left_alone p one two ne (reply p (Append one)))
 
-insert-insert : {X : Type 0} (m : FinMap nat_cmp X) (j k : ℕ) (v w : X) → k ≢ j → insert (insert m j v) k w ≡ insert (insert m k w) j v
+pub insert-insert : {X : Type 0} (m : FinMap nat_cmp X) (j k : ℕ) (v w : X) → k ≢ j → insert (insert m j v) k w ≡ insert (insert m k w) j v
 insert-insert m j k v w ne = same_map nat_cmp_total nat_cmp-IsAntisymmetric _ _ (λ q.
     elim (either_number q k (nat_cmp q k) refl) [
       | inl at ↦ subst (λ (n : ℕ). get (insert (insert m j v) k w) n ≡ get (insert (insert m k w) j v) n) (sym at)

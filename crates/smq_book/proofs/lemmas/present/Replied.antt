@@ -8,7 +8,7 @@ use Rattle.smq_route.specs.declared.version.Version.{Version}
 use Rattle.smq_route.specs.Edits.{no_route, ended, bad_end}
 use Rattle.smq_route.specs.Versions.{version_of, overlap}
 use Rattle.smq_book.specs.declared.present.edit.Edit.{Edit}
-use Rattle.smq_book.specs.declared.present.edit.Edit.TheVariants.{Append, Withdraw, SetForm, AddRoute, EndRoute, CorrectRoute, Advance}
+use Rattle.smq_book.specs.declared.present.edit.Edit.TheVariants.{Append, Withdraw, SetForm, SetWindow, AddRoute, EndRoute, CorrectRoute, Advance}
 use Rattle.smq_book.specs.declared.present.session.Session.{Session}
 use Rattle.smq_book.specs.present.Batch.{BatchValue}
 use Rattle.smq_book.specs.present.Present.{PresentValue, session_of, octets_in}
@@ -57,6 +57,7 @@ of_edit : (p : PresentValue) (edit : Edit) → AllOfEdits (reply p edit)
 of_edit p (Append b) = of_append (session_of p b.session.0) b
 of_edit p (Withdraw s) = tested _ NoSession (omega arith, omega arith)
 of_edit p (SetForm link response receipt) = tt
+of_edit p (SetWindow link window) = tt
 of_edit p (AddRoute prefix from route network) =
     first (option_map Overlap (overlap p.settings.versions prefix from)) [] (of_overlap (overlap p.settings.versions prefix from)) tt
 of_edit p (EndRoute prefix from until) =

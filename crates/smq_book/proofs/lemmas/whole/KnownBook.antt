@@ -1,6 +1,6 @@
 -- The book whose octets are written out: its PDUs, its messages and receipts as lists, its facts.
 use Rattle.std.proofs.Common.{◌≡◌, ℕ, false, List, [], ◌∷◌, ◌++◌, Option, Some, None, refl, ap, ◌∙◌}
-use Rattle.std.specs.Prelude.{codes, filter, map, option_and_then, option_map, pos, ◌-ℤ◌, unwrap_or, ℤ}
+use Rattle.std.specs.Prelude.{◌+◌, codes, filter, map, nat_le, option_and_then, option_map, pos, ◌-ℤ◌, unwrap_or, ℤ}
 use Rattle.std.specs.List.{flat_map}
 use Rattle.std.specs.Option.{option_zip}
 use Rattle.std.specs.Cmp.{nat_cmp_total}
@@ -55,7 +55,7 @@ use Rattle.smq_book.specs.known.Pairing.{place_at}
 use Rattle.smq_book.specs.known.Join.{settings_with}
 use Rattle.smq_book.specs.known.Whole.{known_session, other_session, far_session, known_book, nested_versions, fact_of}
 use Rattle.smq_book.specs.present.Kept.{kept_pdus}
-use Rattle.smq_book.specs.present.Settings.{opening_forms, forms_of}
+use Rattle.smq_book.specs.present.Settings.{opening_forms, opening_window, forms_of}
 use Rattle.smq_book.specs.pairing.Traffic.{traffic_of, Origin, notes_among, broken_notes, session_notes}
 use Rattle.smq_book.specs.join.Facts.{fact_by, facts_of}
 use Rattle.smq_book.specs.within.Lists.{session_submits, session_receipts, submits_of, receipts_of, notes_of, facts_listed, receipt_notes_listed, placed_fact}
@@ -215,23 +215,25 @@ abbrev route_from : List (VersionKey × Version) → SubmittedMessage → Option
 route_from versions s = option_and_then (λ number. option_map (λ e. (e.1.route, e.1.network))
     (longest (filter (serves number s.moment) versions))) s.number
 
--- the facts of messages, where these are the versions
-abbrev facts_from : List (VersionKey × Version) → List SubmittedMessage → List KeyedReceipt → List Fact
-facts_from versions submits receipts = map
+-- the facts of messages, where these are the versions, and these the windows that were set
+abbrev facts_from : List (VersionKey × Version) → (ℕ → Option ℕ) → List SubmittedMessage → List KeyedReceipt → List Fact
+facts_from versions windows submits receipts = map
     (λ m. fact_by m.place (message_from m) (record (circumstances_of known_book.settings submits receipts m) {
       route =
           route_from versions m;
+      lapsed =
+          nat_le (m.moment + unwrap_or (windows m.link.0) opening_window) known_book.settings.clock;
     })) submits
 
 versions-are : entries known_book.settings.versions ≡ nested_versions
 versions-are = entries-from_entries versions_total versions_exact nested_versions tt
 
-facts-computed : facts_from nested_versions (submits decimal opening_forms) (receipts decimal opening_forms) ≡ facts
+facts-computed : facts_from nested_versions (λ number. None) (submits decimal opening_forms) (receipts decimal opening_forms) ≡ facts
 unfolding nth_index decimal
 facts-computed = refl
 
 facts-listed-of-book : facts_listed known_book ≡ facts
-facts-listed-of-book = (λ i. facts_from (versions-are i) (submits-are i) (receipts-are i)) ∙ facts-computed
+facts-listed-of-book = (λ i. facts_from (versions-are i) (λ number. get-empty nat_cmp number i) (submits-are i) (receipts-are i)) ∙ facts-computed
 
 pub facts-of-book : values (facts_of known_book.settings (traffic_of known_book.sessions)) ≡ facts
 facts-of-book = facts-are known_book ∙ facts-listed-of-book

@@ -2,11 +2,9 @@
 use Rattle.std.proofs.Common.{◌≡◌, Bool, true, false, cond, ◌||◌, List, [], ◌∷◌, ◌++◌, Some, None, refl, sym, ap, ◌∙◌}
 use Rattle.std.specs.Prelude.{T, map, is_some}
 use Rattle.std.specs.List.{AllByRecursion, list_any}
-use Rattle.std.specs.declared.cmp.Ordering.TheVariants.{Less}
-use Rattle.std.specs.Ordering.{is_eq, ordering_reverse}
-use Rattle.std.specs.FinMap.{FinMap, entries, entries_sorted, find, from_entries, from_entries_push, get, insert, is_sorted, keys, values, contains_key-keys, get-entries, get-from_entries, get-insert, same_map}
+use Rattle.std.specs.Ordering.{is_eq}
+use Rattle.std.specs.FinMap.{FinMap, entries, entries_sorted, find, from_entries, get, is_sorted, keys, values, contains_key-keys, get-entries, get-from_entries, same_map}
 use Rattle.std.specs.FinMap.Entries.{below_all}
-use Rattle.std.proofs.lemmas.List.{map-append}
 use Rattle.smq_kit.specs.declared.place.Place.{Place}
 use Rattle.smq_kit.specs.Orders.{place_cmp}
 use Rattle.smq_kit.proofs.Comparisons.{is_less, first_test, second_test}

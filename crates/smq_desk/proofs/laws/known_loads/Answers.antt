@@ -1,7 +1,7 @@
 use Rattle.std.proofs.Common.{true, ◌≡◌, ℕ, [], ◌∷◌, refl, ap, arith}
 use Rattle.std.proofs.lemmas.List.Elements.{All-nil, All-cons}
 use Rattle.smq_book.specs.declared.present.edit.Edit.{Edit}
-use Rattle.smq_book.specs.declared.present.edit.Edit.TheVariants.{Append, Withdraw, SetForm, AddRoute, EndRoute, CorrectRoute, Advance}
+use Rattle.smq_book.specs.declared.present.edit.Edit.TheVariants.{Append, Withdraw, SetForm, SetWindow, AddRoute, EndRoute, CorrectRoute, Advance}
 use Rattle.smq_desk.specs.declared.entry.Entry.{Entry}
 use Rattle.smq_desk.specs.KnownLoads.{first_rows, first_call, refused_call, second_call, waiting}
 use Rattle.smq_desk.specs.Loads.{is_of_rows}
@@ -11,6 +11,7 @@ moment_of : Edit → ℕ
 moment_of (Append batch) = batch.moment
 moment_of (Withdraw session) = 0
 moment_of (SetForm link response receipt) = 0
+moment_of (SetWindow link window) = 0
 moment_of (AddRoute prefix from route network) = 0
 moment_of (EndRoute prefix from until) = 0
 moment_of (CorrectRoute prefix from route network) = 0

@@ -1,6 +1,6 @@
 use Rattle.std.proofs.Common.{◌≡◌, length}
 use Rattle.csv.specs.Records.{fields_of}
-use Rattle.smq_load.proofs.RecordLemmas.{drop-two, drop-four, drop-five, drop-six}
+use Rattle.smq_load.proofs.RecordLemmas.{drop-two, drop-three, drop-four, drop-five, drop-six}
 use Rattle.smq_load.proofs.record.read_fields.Goals as goal
 
 pub returns-in-Piece : goal.returns-in-Piece
@@ -26,6 +26,14 @@ returns-in-Form c =
     let parts = drop-four fields c.field-in-Form.result.now c.field-in-Form-2.result.now c.field-in-Form-3.result.now count
     c.field-in-Form.ensures c.field-in-Form-2.ensures c.field-in-Form-3.ensures in
     rw (c.in-Form.is, parts) c.read_forms.ensures
+
+pub returns-in-Window : goal.returns-in-Window
+returns-in-Window c =
+    let fields = fields_of c.args.fields.now in
+    let count : length fields ≡ 3 = rw c.in-Window.is at c.requires in
+    let parts = drop-three fields c.field-in-Window.result.now c.field-in-Window-2.result.now count c.field-in-Window.ensures
+    c.field-in-Window-2.ensures in
+    rw (c.in-Window.is, parts) c.read_link_window.ensures
 
 pub returns-in-Route : goal.returns-in-Route
 returns-in-Route c =

@@ -1,6 +1,7 @@
-use Rattle.std.proofs.Common.{◌≡◌, map, take}
-use Rattle.smq_load.specs.Settings.{form_row}
+use Rattle.std.proofs.Common.{◌≡◌, take}
+use Rattle.std.specs.List.{flat_map}
+use Rattle.smq_load.specs.Settings.{link_rows}
 use Rattle.smq_load.proofs.settings.rows_with.Given as goal
 
-abbrev pub invariant-loop-forms : goal.invariant-loop-forms
-invariant-loop-forms l = l.rows.items ≡ map form_row (take l.forms-index l.links)
+abbrev pub invariant-loop-link : goal.invariant-loop-link
+invariant-loop-link l = l.rows.items ≡ flat_map link_rows (take l.link-index l.links)

@@ -8,6 +8,7 @@ use std::process::Abort;
 pub(crate) const EACH: &[u8] = b"piece,007,18446744073709551615,centre,4102444800000,00fF
 withdraw,10
 form,1,hexadecimal,decimal
+window,4294967295,4102444800000
 route,44,1970-01-03T00:00:01Z,7,23410
 end,44,172801000,172802000
 correct,447700,1970-01-01T00:00:00Z,8,310026
@@ -40,13 +41,16 @@ fn is_edit(place: usize, edit: &Edit) -> bool {
         } => {
             place == 2 && link.0 == 1 && *response == Form::Hexadecimal && *receipt == Form::Decimal
         }
+        Edit::SetWindow { link, window } => {
+            place == 3 && link.0 == u32::MAX && window.milliseconds() == 4_102_444_800_000
+        }
         Edit::AddRoute {
             prefix,
             from,
             route,
             network,
         } => {
-            place == 3
+            place == 4
                 && prefix.as_slice() == b"44".as_slice()
                 && from.milliseconds() == 172_801_000
                 && route.0 == 7
@@ -57,7 +61,7 @@ fn is_edit(place: usize, edit: &Edit) -> bool {
             from,
             until,
         } => {
-            place == 4
+            place == 5
                 && prefix.as_slice() == b"44".as_slice()
                 && from.milliseconds() == 172_801_000
                 && until.milliseconds() == 172_802_000
@@ -68,18 +72,18 @@ fn is_edit(place: usize, edit: &Edit) -> bool {
             route,
             network,
         } => {
-            place == 5
+            place == 6
                 && prefix.as_slice() == b"447700".as_slice()
                 && from.milliseconds() == 0
                 && route.0 == 8
                 && network.as_slice() == b"310026".as_slice()
         }
-        Edit::Advance { clock } => place == 6 && clock.milliseconds() == 951_868_799_000,
+        Edit::Advance { clock } => place == 7 && clock.milliseconds() == 951_868_799_000,
     }
 }
 
 fn assert_read(rt: &impl Abort, rows: &[Row]) {
-    assert!(rt; rows.len() == 7);
+    assert!(rt; rows.len() == 8);
     for (place, row) in rows.iter().enumerate() {
         assert!(rt; is_read(place, row), "record {place}");
     }

@@ -78,7 +78,7 @@ const PIECES: &[Case] = &[
     ),
 ];
 
-/// Records of withdrawals, forms and the clock.
+/// Records of withdrawals, forms, windows and the clock.
 const SETTINGS: &[Case] = &[
     (b"withdraw\n", Err(1), "no session"),
     (b"withdraw,1,1\n", Err(1), "two sessions"),
@@ -98,6 +98,21 @@ const SETTINGS: &[Case] = &[
     (b"form,1,decimal,decimal,\n", Err(1), "a fifth field"),
     (b"form,1,decimal,hex\n", Err(1), "a form cut short"),
     (b"form,1,,decimal\n", Err(1), "an empty form"),
+    (b"window,1,1\n", Ok(1), "the least window"),
+    (b"window,1,4102444800000\n", Ok(1), "the greatest window"),
+    (b"window,1,4102444800001\n", Err(1), "a window past it"),
+    (b"window,1,0\n", Err(1), "a window of 0"),
+    (b"window,1,\n", Err(1), "an empty window"),
+    (b"window,1,-1\n", Err(1), "a negative window"),
+    (
+        b"window,1,1970-01-03T00:00:00Z\n",
+        Err(1),
+        "an instant for a window",
+    ),
+    (b"window,1\n", Err(1), "no window"),
+    (b"window,1,1,\n", Err(1), "a fourth field of a window"),
+    (b"window,4294967296,1\n", Err(1), "a link past the greatest"),
+    (b"windows,1,1\n", Err(1), "another word for it"),
     (b"clock\n", Err(1), "no moment"),
     (b"clock,1,\n", Err(1), "a third field"),
     (b"clock,4102444800000\n", Ok(1), "the last moment"),

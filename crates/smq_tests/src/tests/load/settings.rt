@@ -45,6 +45,39 @@ const LINKS: &[Case] = &[
         None,
         "another key of a link",
     ),
+    (
+        b"[[link]]\nid = 1\nwindow = 1\n",
+        Some(2),
+        "the least window",
+    ),
+    (
+        b"[[link]]\nwindow = 4102444800000\nid = 1\n",
+        Some(2),
+        "the greatest window",
+    ),
+    (
+        b"[[link]]\nid = 1\nwindow = 4102444800001\n",
+        None,
+        "a window past it",
+    ),
+    (b"[[link]]\nid = 1\nwindow = 0\n", None, "a window of 0"),
+    (
+        b"[[link]]\nid = 1\nwindow = -1\n",
+        None,
+        "a negative window",
+    ),
+    (
+        b"[[link]]\nid = 1\nwindow = 1.0\n",
+        None,
+        "a float for a window",
+    ),
+    (
+        b"[[link]]\nid = 1\nwindow = '1'\n",
+        None,
+        "a text for a window",
+    ),
+    (b"[[link]]\nwindow = 1\n", None, "a window and no id"),
+    (b"window = 1\n", None, "a window of no link"),
     (b"[link]\nid = 1\n", None, "one table and no array"),
     (b"link = [1]\n", None, "a number for a table"),
 ];
@@ -89,12 +122,13 @@ fn settings_have_rows_or_are_bad(rt: HostRuntime) {
     }
 }
 
-/// Two links, and the clock before them.
+/// Two links, one with a window, and the clock before them.
 pub(crate) const EXAMPLE: &[u8] = b"clock = 172801000
 
 [[link]]
 id = 7
 receipt = \"decimal\"
+window = 86400000
 
 [[link]]
 id = 1
@@ -117,15 +151,21 @@ pub(crate) fn is_set(place: usize, row: &Row) -> bool {
             } else {
                 (1, Form::Hexadecimal)
             };
-            place < 2 && link.0 == want && *response == form && *receipt == Form::Decimal
+            (place == 0 || place == 2)
+                && link.0 == want
+                && *response == form
+                && *receipt == Form::Decimal
         }
-        Row::Plain(Edit::Advance { clock }) => { place == 2 && clock.milliseconds() == 172_801_000 }
+        Row::Plain(Edit::SetWindow { link, window }) => {
+            place == 1 && link.0 == 7 && window.milliseconds() == 86_400_000
+        }
+        Row::Plain(Edit::Advance { clock }) => { place == 3 && clock.milliseconds() == 172_801_000 }
         _ => false,
     }
 }
 
 fn assert_set(rt: &impl Abort, rows: &[Row]) {
-    assert!(rt; rows.len() == 3);
+    assert!(rt; rows.len() == 4);
     for (place, row) in rows.iter().enumerate() {
         assert!(rt; is_set(place, row), "row {place}");
     }

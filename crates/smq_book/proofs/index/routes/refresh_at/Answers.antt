@@ -12,18 +12,18 @@ none = record { session = record { 0 = 0 }; dir = FromClient; offset = 0 }
 
 pub loop-place-preserved : goal.loop-place-preserved
 loop-place-preserved c = record {
-  held = λ z t facts traffic routes clock held.
+  held = λ z t facts traffic routes windows clock held.
       let i = c.loop-place.place-index in
       let places = c.args.places.now in
       refreshed-next z t facts places i none (held_now c.refresh_by.new.self) c.loop-place-test.true
-      (c.in_ok-refresh_by.ensures.held z t (refreshed z t facts (take i places)) traffic routes clock
-      (c.loop-place.invariant.held z t facts traffic routes clock held));
+      (c.in_ok-refresh_by.ensures.held z t (refreshed z t facts (take i places)) traffic routes windows clock
+      (c.loop-place.invariant.held z t facts traffic routes windows clock held));
   settled = c.refresh_by.ensures.settled ∙ c.loop-place.invariant.settled;
   touches = omega (arith, c.in_ok-refresh_by.ensures.touches, c.loop-place.invariant.touches);
   counted = omega (arith, c.refresh_by.ensures.counted, c.loop-place.invariant.counted);
 }
 
 pub returns-clause-held : goal.returns-clause-held
-returns-clause-held c = λ z t facts traffic routes clock held.
+returns-clause-held c = λ z t facts traffic routes windows clock held.
     refreshed-all z t facts c.args.places.now c.loop-place.place-index (held_now c.loop-place.index) (omega arith)
-    (c.loop-place.invariant.held z t facts traffic routes clock held)
+    (c.loop-place.invariant.held z t facts traffic routes windows clock held)

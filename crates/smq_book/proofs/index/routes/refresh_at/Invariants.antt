@@ -13,7 +13,8 @@ use Rattle.smq_book.proofs.index.routes.refresh_at.Given as goal
 abbrev pub invariant-loop-place : goal.invariant-loop-place
 invariant-loop-place l = record {
   held : (z : SettingsValue) (t : TrafficValue) (facts : FinMap place_cmp Fact)
-      → IsTraffic t → z.versions ≡ l.routes.versions → z.clock ≡ l.clock → held_now l.initial.index ≡ held_by z t facts
+      → IsTraffic t → z.versions ≡ l.routes.versions → z.windows ≡ l.windows → z.clock ≡ l.clock
+      → held_now l.initial.index ≡ held_by z t facts
       → held_now l.index ≡ held_by z t (refreshed z t facts (take l.place-index l.places));
   settled : held_settled l.index ≡ held_settled l.initial.index;
   touches : index_cost l.index ≤ index_cost l.initial.index + 6 * l.place-index;

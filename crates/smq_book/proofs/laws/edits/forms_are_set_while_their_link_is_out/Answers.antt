@@ -6,7 +6,10 @@ returns c = record {
   taken = taken;
   no_message = no-message;
   no_receipt = no-receipt;
-  idle = λ link t s z versions clock others.
-      (facts-idle link t s z versions clock others, groups-idle link t s z versions clock others, notes-idle link t s z versions clock others);
+  idle = λ link t s z windows versions clock others. (
+    facts-idle link t s z windows versions clock others,
+    groups-idle link t s z windows versions clock others,
+    notes-idle link t s z windows versions clock others,
+  );
   again = again;
 }

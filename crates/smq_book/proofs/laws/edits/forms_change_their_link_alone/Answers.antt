@@ -3,6 +3,6 @@ use Rattle.smq_book.proofs.laws.edits.forms_change_their_link_alone.Goals as goa
 
 pub returns : goal.returns
 returns c = record {
-  facts = λ s z t link versions clock others. facts-outside s z link others t versions clock;
-  notes = λ s z t link versions clock others. link-notes-outside s z link others t versions clock;
+  facts = λ s z t link windows versions clock others. facts-outside s z link others t windows versions clock;
+  notes = λ s z t link windows versions clock others. link-notes-outside s z link others t windows versions clock;
 }

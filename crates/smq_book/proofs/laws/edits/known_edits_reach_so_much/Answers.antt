@@ -1,4 +1,4 @@
-use Rattle.smq_book.proofs.lemmas.edits.KnownReach.{submitted-made, submits, accepted-made, accepts, withdraws, before-the-end, at-the-end, under, elsewhere, of-its-link, of-no-link}
+use Rattle.smq_book.proofs.lemmas.edits.KnownReach.{submitted-made, submits, accepted-made, accepts, withdraws, before-the-end, at-the-end, window-reaches, window-elsewhere, window-unanswered, window-at-the-end, under, elsewhere, of-its-link, of-no-link}
 use Rattle.smq_book.proofs.laws.edits.known_edits_reach_so_much.Goals as goal
 
 pub returns : goal.returns
@@ -10,6 +10,10 @@ returns c = record {
   withdraws = withdraws;
   before_the_end = before-the-end;
   at_the_end = at-the-end;
+  windows_of_its_link = window-reaches;
+  windows_of_no_link = window-elsewhere;
+  windows_before_its_response = window-unanswered;
+  windows_at_the_end = window-at-the-end;
   adds_under_its_number = under;
   adds_elsewhere = elsewhere;
   ends_under_its_number = under;

@@ -1,4 +1,4 @@
-use Rattle.smq_book.proofs.lemmas.present.Changes.{appends-change, appends-alone, withdraws-change, withdraws-alone, sets-change, sets-alone, adds-change, adds-alone, ends-change, ends-alone, corrects-change, corrects-alone, advances-change, advances-alone, step-made, step-refused}
+use Rattle.smq_book.proofs.lemmas.present.Changes.{appends-change, appends-alone, withdraws-change, withdraws-alone, sets-change, sets-alone, window-change, window-alone, adds-change, adds-alone, ends-change, ends-alone, corrects-change, corrects-alone, advances-change, advances-alone, step-made, step-refused}
 use Rattle.smq_book.proofs.laws.present.steps_are_plain_changes.Goals as goal
 
 pub returns : goal.returns
@@ -9,6 +9,8 @@ returns c = record {
   alone_withdrawn = withdraws-alone;
   sets_form = sets-change;
   alone_form = sets-alone;
+  sets_window = window-change;
+  alone_window = window-alone;
   adds_route = adds-change;
   alone_added = adds-alone;
   ends_route = ends-change;

@@ -59,7 +59,7 @@ returns-in_default-clause-held c = λ t traffic held.
     (c.in_ok-refresh.ensures.facts (are-stored stores) ∙ facts-alone s t u i held stores traffic q move refl alike)
     (c.in_ok-refresh.ensures.notes (are-stored stores) (unlisted s t u i held stores traffic q move refl (λ m e. free))
     ∙ notes-alone s t u i held stores traffic q move refl alike)
-    (c.in_ok-refresh.ensures.due (due-stays s t i held q old m is refl stores.messages))
+    (c.in_ok-refresh.ensures.due (due-stays s t i held q old m is refl refl stores.messages))
     (ap (λ (n : NumbersValue). n.numbers) c.refresh.ensures.numbers ∙ numbers-stay s t i held q old m is refl)
 
 pub returns-clause-held : goal.returns-clause-held
@@ -93,7 +93,7 @@ returns-clause-held c = λ t traffic held.
     (c.in_ok-follow.ensures.facts (are-stored stores) ∙ facts-told s t u i held stores traffic q move refl cs tells there)
     (c.in_ok-follow.ensures.notes (are-stored stores) (unlisted s t u i held stores traffic q move refl (λ m e. free))
     ∙ notes-told s t u i held stores traffic q move refl cs tells there)
-    (c.in_ok-follow.ensures.due (due-stays s t i held q old m is refl stores.messages))
+    (c.in_ok-follow.ensures.due (due-stays s t i held q old m is refl refl stores.messages))
     (ap (λ (n : NumbersValue). n.numbers) c.follow.ensures.numbers ∙ numbers-stay s t i held q old m is refl)
 
 pub returns-in_default-clause-touches : goal.returns-in_default-clause-touches

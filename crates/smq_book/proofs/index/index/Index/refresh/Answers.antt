@@ -13,7 +13,7 @@ use Rattle.smq_book.proofs.index.index.Index.refresh.Goals as goal
 
 pub returns-then-is_message-clause-facts : goal.returns-then-is_message-clause-facts
 returns-then-is_message-clause-facts c = λ are.
-    c.in_ok-is_message.ensures.facts c.args.settings.now (sym c.routes.ensures) (sym c.clock.ensures) are
+    c.in_ok-is_message.ensures.facts c.args.settings.now (sym c.routes.ensures) (sym c.windows_set.ensures) (sym c.clock.ensures) are
 
 pub returns-then-is_message-clause-notes : goal.returns-then-is_message-clause-notes
 returns-then-is_message-clause-notes c = λ are unlisted.
@@ -29,7 +29,7 @@ returns-then-is_message-clause-unlisted c = λ are unlisted.
 pub returns-clause-facts : goal.returns-clause-facts
 returns-clause-facts c = λ are.
     c.in_ok-set_listing.ensures.facts
-    ∙ c.in_ok-is_message.ensures.facts c.args.settings.now (sym c.routes.ensures) (sym c.clock.ensures) are
+    ∙ c.in_ok-is_message.ensures.facts c.args.settings.now (sym c.routes.ensures) (sym c.windows_set.ensures) (sym c.clock.ensures) are
 
 pub returns-clause-notes : goal.returns-clause-notes
 returns-clause-notes c = λ are unlisted.

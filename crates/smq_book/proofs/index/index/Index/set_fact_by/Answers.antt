@@ -5,7 +5,7 @@ use Rattle.std.specs.Prelude.{is_some}
 use Rattle.smq_kit.specs.Maps.{set_at}
 use Rattle.smq_kit.specs.declared.place.Place.{Place}
 use Rattle.smq_tally.specs.declared.fact.Fact.{Fact}
-use Rattle.smq_book.specs.index.Due.{due_at, due_in, is_open_fact}
+use Rattle.smq_book.specs.index.Due.{due_at, due_in, is_due_fact}
 use Rattle.smq_book.specs.index.Held.{messages_in, noted, stored_traffic}
 use Rattle.smq_book.specs.pairing.Traffic.{Message}
 use Rattle.smq_book.proofs.lemmas.index.Due.{due-fact, due-fact-absent, noted-marked}
@@ -21,7 +21,7 @@ returns-in_default-clause-is_message c =
     ap is_some (sym none)
 
 pub returns-in_default-clause-facts : goal.returns-in_default-clause-facts
-returns-in_default-clause-facts c = λ z versions clock are.
+returns-in_default-clause-facts c = λ z versions windows clock are.
     let i = c.args.self.now in
     let q = c.args.place in
     let gone : ◌≡◌ {A = Option Message} None (option_copied c.get.result) = search rules in
@@ -50,7 +50,7 @@ returns-clause-is_message c =
     ap is_some (sym there)
 
 pub returns-clause-facts : goal.returns-clause-facts
-returns-clause-facts c = λ z versions clock are.
+returns-clause-facts c = λ z versions windows clock are.
     let i = c.args.self.now in
     let q = c.args.place in
     let m = c.in-Some.message.now in
@@ -59,7 +59,7 @@ returns-clause-facts c = λ z versions clock are.
     c.in_ok-set.ensures.ok
     ∙ ap (λ (p : Place). insert i.tally.facts p c.fact_at-fact.result) c.fact_at-fact.ensures.place
     ∙ ap (set_at i.tally.facts q)
-    (c.fact_at-fact.ensures.value z (stored_traffic i.messages.content i.receipts.content) versions clock are refl there)
+    (c.fact_at-fact.ensures.value z (stored_traffic i.messages.content i.receipts.content) versions windows clock are refl there)
 
 pub returns-clause-due : goal.returns-clause-due
 returns-clause-due c = λ same.
@@ -72,7 +72,7 @@ returns-clause-due c = λ same.
     let there : get ms q ≡ Some m = sym (some ∙ c.get.ensures ∙ stored-at i.messages.content q) in
     let sets = c.in_ok-set.ensures.ok ∙ ap (λ (p : Place). insert i.tally.facts p fact) c.fact_at-fact.ensures.place in
     c.in_ok-set_due.ensures.value
-    ∙ (λ j. set_at (same j) (due_at (c.message.view_is j).moment q) (noted (c.is_open-is_open.ensures j)))
-    ∙ ap (set_at (due_in ms i.tally.facts) (due_at m.moment q)) (noted-marked (is_open_fact (Some fact)))
+    ∙ (λ j. set_at (same j) (due_at (c.message.view_is j).link (c.message.view_is j).moment q) (noted (c.is_due-is_due.ensures j)))
+    ∙ ap (set_at (due_in ms i.tally.facts) (due_at m.link m.moment q)) (noted-marked (is_due_fact (Some fact)))
     ∙ sym (due-fact ms i.tally.facts q (Some fact) m there)
     ∙ ap (due_in ms) (sym sets)

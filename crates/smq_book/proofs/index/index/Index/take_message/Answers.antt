@@ -64,7 +64,7 @@ returns-in_default-key-clause-held c = λ t traffic held.
     sym (ap (λ (h : Holding). get h.messages q) held) ∙ sym (some ∙ c.get.ensures ∙ stored-at i.messages.content q) in
     let gone : c.key-key.result ≡ None = search rules in
     let gone-due = c.in_ok-set_due.ensures.value
-    ∙ (λ j. remove (dues_in i.due.content) (due_at (c.message.view_is j).moment q)) in
+    ∙ (λ j. remove (dues_in i.due.content) (due_at (c.message.view_is j).link (c.message.view_is j).moment q)) in
     let none = submit-there s q t m there ∙ sym c.key-key.ensures ∙ gone in
     let stores = stored-dropped (stored-held s t i traffic held) q traffic none c.in_ok-remove.ensures.ordered c.in_ok-remove.ensures.content in
     let apart = (stored-held s t i traffic held).stands.apart q m there in
@@ -108,7 +108,7 @@ returns-clause-held c = λ t traffic held.
     let tells : TellsChanges g h cs =
     subst (λ (l : List Change). TellsChanges g h l) (sym c.as_slice.ensures.value) c.in_ok-changes.ensures.changes in
     let gone-due = c.in_ok-set_due.ensures.value
-    ∙ (λ j. remove (dues_in i.due.content) (due_at (c.message.view_is j).moment q)) in
+    ∙ (λ j. remove (dues_in i.due.content) (due_at (c.message.view_is j).link (c.message.view_is j).moment q)) in
     let taken = c.in_ok-take_fact-2.ensures.facts in
     holds s t u i held stores traffic q move refl
     (record {

@@ -16,7 +16,7 @@ use Rattle.smq_book.proofs.present.settings.Settings.end_route.Goals as goal
 
 pub returns-clause-held : goal.returns-clause-held
 returns-clause-held c =
-    let s : SettingsValue = record { forms = forms_in c.self.inside.forms; versions = c.self.inside.routes.versions; clock = c.self.inside.clock } in
+    let s : SettingsValue = record { forms = forms_in c.self.inside.forms; windows = c.self.inside.windows; versions = c.self.inside.routes.versions; clock = c.self.inside.clock } in
     let was : IsHeld s (held_now c.args.index.now) = subst (λ (z : SettingsValue). IsHeld z (held_now c.args.index.now)) (sym c.self.view_is) c.requires.held in
     let changed_versions : c.end.new.self.versions ≡ changed s.versions c.args.prefix.now c.args.from (ending c.args.until) = made (first_of (end_refusals (version_of s.versions c.args.prefix.now c.args.from) c.args.from c.args.until)) tt _ _ c.in_ok-end.ensures.reply in
     let traffic : TrafficValue = traffic_held (held_now c.args.index.now) in
@@ -24,5 +24,5 @@ returns-clause-held c =
     subst (λ (v : Versions). SameOutside (fin.keys (messages_under c.args.prefix.now traffic)) (facts_of s traffic) (facts_of (with_versions s v) traffic)) (sym changed_versions)
     (changed-outside s traffic c.args.prefix.now c.args.from (ending c.args.until)) in
     held-after s (held_now c.args.index.now) (held_now c.follow.new.index) _ c.end.new.self.versions c.follow.new.routes.versions _ _ _ c.follow.result
-    c.follow.ensures.ok (c.follow.ensures.held s refl was outside) c.follow.ensures.err
+    c.follow.ensures.ok (c.follow.ensures.held s refl refl was outside) c.follow.ensures.err
     (c.end.ensures.settled ∙ c.self.invariant) c.requires.settled was

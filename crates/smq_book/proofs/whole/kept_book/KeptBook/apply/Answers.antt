@@ -8,7 +8,7 @@ use Rattle.smq_book.specs.index.Kept.{IsKept}
 use Rattle.smq_book.specs.present.Book.{BookValue}
 use Rattle.smq_book.specs.present.Present.{PresentValue}
 use Rattle.smq_book.proofs.lemmas.whole.Unreached.{another, clock_of, unreached}
-use Rattle.smq_book.proofs.whole.kept_book.KeptBook.apply.Goals.{in-Append, in-Withdraw, in-SetForm, in-AddRoute, in-EndRoute, in-CorrectRoute, in-Advance}
+use Rattle.smq_book.proofs.whole.kept_book.KeptBook.apply.Goals.{in-Append, in-Withdraw, in-SetForm, in-SetWindow, in-AddRoute, in-EndRoute, in-CorrectRoute, in-Advance}
 use Rattle.smq_book.proofs.whole.kept_book.KeptBook.apply.Goals as goal
 
 -- what a book keeps beside what is present
@@ -22,6 +22,7 @@ invariant_of-self c =
       | in-Append w ↦ subst Keeps (sym w.self-inside-is) (tail, w.append.ensures.kept)
       | in-Withdraw w ↦ subst Keeps (sym w.self-inside-is) (tail, w.withdraw.ensures.kept)
       | in-SetForm w ↦ subst Keeps (sym w.self-inside-is) (tail, w.set_forms.ensures.kept c.self.inside.pairings c.self.invariant.1)
+      | in-SetWindow w ↦ subst Keeps (sym w.self-inside-is) (tail, w.set_window.ensures.kept c.self.inside.pairings c.self.invariant.1)
       | in-AddRoute w ↦ subst Keeps (sym w.self-inside-is) (tail, w.add_route.ensures.kept c.self.inside.pairings c.self.invariant.1)
       | in-EndRoute w ↦ subst Keeps (sym w.self-inside-is) (tail, w.end_route.ensures.kept c.self.inside.pairings c.self.invariant.1)
       | in-CorrectRoute w ↦ subst Keeps (sym w.self-inside-is) (tail, w.correct_route.ensures.kept c.self.inside.pairings c.self.invariant.1)
@@ -34,6 +35,7 @@ returns-clause-unreached c =
       | in-Append w ↦ another ⊥ c.args.edit clock (ap clock_of w.in-Append.is) is
       | in-Withdraw w ↦ another ⊥ c.args.edit clock (ap clock_of w.in-Withdraw.is) is
       | in-SetForm w ↦ another ⊥ c.args.edit clock (ap clock_of w.in-SetForm.is) is
+      | in-SetWindow w ↦ another ⊥ c.args.edit clock (ap clock_of w.in-SetWindow.is) is
       | in-AddRoute w ↦ another ⊥ c.args.edit clock (ap clock_of w.in-AddRoute.is) is
       | in-EndRoute w ↦ another ⊥ c.args.edit clock (ap clock_of w.in-EndRoute.is) is
       | in-CorrectRoute w ↦ another ⊥ c.args.edit clock (ap clock_of w.in-CorrectRoute.is) is

@@ -1,2 +1,0 @@
-//! What settings make of messages.
-pub mod circumstances;
