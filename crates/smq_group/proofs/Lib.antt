@@ -10,6 +10,7 @@ pub mod MatchingLemmas
 pub mod StoringReceipts
 pub mod Turning
 pub mod Changing
+pub mod Counting
 pub mod Moving
 pub mod Calling
 pub mod Vacating

@@ -32,7 +32,7 @@ use Rattle.smq_shelf.specs.Places.{content_of, with_place}
 
 -- ---- nothing
 
-empty_entries : {X : Type 0} → entries (from_entries {X = X} {R = place_cmp} []) ≡ []
+pub empty_entries : {X : Type 0} → entries (from_entries {X = X} {R = place_cmp} []) ≡ []
 empty_entries = maps.entries-from_entries places_total places_exact [] tt
 
 none_candidate : (c : Candidate) → cond (is_candidate c (get (from_entries {R = place_cmp} []) c.place)) (Some true) None ≡ None
@@ -97,7 +97,7 @@ module _ (s : List (Member × Bool)) (r : List (Member × Said)) (i : List (Cand
   abbrev earliest : LinkKey → Option Earliest
   earliest k = option_map earliest_at (reduce earlier (candidates (grouping_in s r) k))
 
-  counted-more : at submit_value place s ≡ None → (k : LinkKey) (b : Bool) → same_key k key ≡ b → matches (grouping_in more r) k ≡ matches (grouping_in s r) k + cond b 1 0
+  pub counted-more : at submit_value place s ≡ None → (k : LinkKey) (b : Bool) → same_key k key ≡ b → matches (grouping_in more r) k ≡ matches (grouping_in s r) k + cond b 1 0
   counted-more none k b e =
       ap (number_of (same_key k)) (with-member submit_value member true s none)
       ∙ number-more (grouping_in s r).submits key k place b (get-from_entries places_total (map (by_place submit_value) s) place ∙ none) e
@@ -132,7 +132,7 @@ module _ (s : List (Member × Bool)) (r : List (Member × Said)) (i : List (Cand
       let f = found submit_value place key s (sym (get-from_entries places_total (map (by_place submit_value) s) place) ∙ there) in
       (f.v, ap (λ (k : LinkKey). lookup (is_at (kept_member_cmp (record { key = k; place = place }))) s) (sym f.is) ∙ f.there)
 
-  counted-less : get (grouping_in s r).submits place ≡ Some key → AreStored s r i o → (k : LinkKey) (b : Bool) → same_key k key ≡ b
+  pub counted-less : get (grouping_in s r).submits place ≡ Some key → AreStored s r i o → (k : LinkKey) (b : Bool) → same_key k key ≡ b
       → matches (grouping_in less r) k + cond b 1 0 ≡ matches (grouping_in s r) k
   counted-less there st k b e =
       ap (λ (m : FinMap place_cmp LinkKey). number_of (same_key k) m + cond b 1 0) (taken there st)
@@ -170,7 +170,7 @@ module _ (s : List (Member × Bool)) (r : List (Member × Said)) (i : List (Cand
 
 -- ---- the number of submits of a key is at most that of places
 
-from-cons : {X : Type 0} (e : Place × X) (es : List (Place × X)) → from_entries {R = place_cmp} (e ∷ es) ≡ insert (from_entries es) e.0 e.1
+pub from-cons : {X : Type 0} (e : Place × X) (es : List (Place × X)) → from_entries {R = place_cmp} (e ∷ es) ≡ insert (from_entries es) e.0 e.1
 from-cons e es = same_map places_total places_exact _ _ (λ q.
     get-from_entries places_total (e ∷ es) q ∙ ap (cond (eq_by_cmp place_cmp q e.0) (Some e.1)) (sym (get-from_entries places_total es q)) ∙ sym (get-insert places_total (from_entries es) e.0 e.1 q))
 

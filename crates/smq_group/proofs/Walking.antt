@@ -1,11 +1,12 @@
 -- A walk over the members of a key, from place to place.
-use Rattle.std.proofs.Common.{◌≡◌, ◌+◌, ◌++◌, arith, length, append_assoc, suc, Bool, true, false, cond, List, [], ◌∷◌, Option, Some, None, refl, sym, ap, ◌∙◌, map, filter, find}
+use Rattle.std.proofs.Common.{◌≡◌, ◌≤◌, ◌+◌, ◌++◌, arith, length, append_assoc, length-append, suc, Bool, true, false, cond, List, [], ◌∷◌, Option, Some, None, refl, sym, ap, ◌∙◌, map, filter, find}
 use Rattle.std.specs.Prelude.{◌&&◌, not, is_some, option_map}
 use Rattle.std.specs.declared.cmp.Ordering.TheVariants.{Less}
 use Rattle.std.specs.Ordering.{ordering_then}
 use Rattle.std.specs.List.{AllByRecursion}
 use Rattle.std.specs.List.Sorted.{IsStrictlySortedBy}
 use Rattle.std.specs.Map.{keys_of}
+use Rattle.std.proofs.lemmas.List.Filters.{length-filter_both}
 use Rattle.std.proofs.lemmas.Map.Keys.{sorted_head, sorted_tail}
 use Rattle.smq_kit.specs.declared.place.Place.{Place}
 use Rattle.smq_kit.specs.declared.link_key.LinkKey.{LinkKey}
@@ -76,6 +77,13 @@ module _ {V : Type 0} (key : LinkKey) where
       let p = parted es in
       let l : length members ≡ length (filter (of_key key) (content_of es)) = ap length are ∙ length_places (filter (of_key key) content) ∙ ap (λ (xs : List (Member × V)). length (filter (of_key key) xs)) shown in
       omega (arith, p, l)
+
+  -- a key has at most as many members as there are places
+  pub members-fit : (es : List (Member × Option V)) (content : List (Member × V)) → content ≡ content_of es → length (map placed (filter (of_key key) content)) ≤ length es
+  members-fit es content shown =
+      let p = places-parted es content (map placed (filter (of_key key) content)) shown refl in
+      let b = length-filter_both (of_key key) (λ e. not (of_key key e)) (λ e. refl) es in
+      omega (arith, p, b)
 
 module _ {V : Type 0} (key : LinkKey) (es : List (Member × Option V)) (so : IsStrictlySortedBy kept_member_cmp (keys_of es)) where
   abbrev of : Member × Option V → Bool
@@ -150,6 +158,26 @@ end-gathered key es next members content g n shown =
     ∙ sym (ap (λ (m : Option (Place × Option _)). members ++ content_of (left_after key es m)) n)
     ∙ g ∙ members-are key es ∙ ap (λ (xs : List (Member × _)). map placed (filter (of_key key) xs)) (sym shown)
 
+-- a list of no length has nothing
+pub none_of : {A : Type 0} (xs : List A) → length xs ≤ 0 → xs ≡ []
+none_of [] h = refl
+none_of (x ∷ xs) h = absurd (omega (arith, h))
+
+whole : {A : Type 0} (xs rest all : List A) → xs ++ rest ≡ all → length all ≤ length xs → xs ≡ all
+whole xs rest all e h =
+    let l : length xs + length rest ≡ length all = sym (length-append xs rest) ∙ ap length e in
+    sym (append_none xs) ∙ ap (λ ys. xs ++ ys) (sym (none_of rest (omega (arith, l, h)))) ∙ e
+
+-- at as many as there can be: these are all
+pub full-gathered : {V : Type 0} (key : LinkKey) (es : List (Member × Option V)) (so : IsStrictlySortedBy kept_member_cmp (keys_of es)) (p : Place) (x : Option V) (next : Option (Place × Option V)) (members more : List (Place × V)) (content : List (Member × V))
+    → members ++ content_of (left_after key es next) ≡ content_of (map placed (filter (of_key key) es)) → next ≡ Some (p, x) → more ≡ members ++ content_of ((p, x) ∷ []) → content ≡ content_of es
+    → length (map placed (filter (of_key key) content)) ≤ length more → more ≡ map placed (filter (of_key key) content)
+full-gathered key es so p x next members more content g n m shown full =
+    let then : Option (Place × Option _) = option_map placed (find (is_past key p) es) in
+    let all : more ++ content_of (left_after key es then) ≡ map placed (filter (of_key key) content) =
+    step-gathered key es so p x next then members more (content_of (map placed (filter (of_key key) es))) n refl g m ∙ members-are key es ∙ ap (λ (xs : List (Member × _)). map placed (filter (of_key key) xs)) (sym shown) in
+    whole more (content_of (left_after key es then)) (map placed (filter (of_key key) content)) all full
+
 place_above : (key : LinkKey) (j k : Member) → same_key key j.key ≡ true → same_key key k.key ≡ true → kept_member_cmp j k ≡ Less → place_cmp j.place k.place ≡ Less
 place_above key j k sj sk l =
     let ej : key ≡ j.key = link_keys_exact key j.key (is_equal (link_key_cmp key j.key) sj) in
@@ -160,7 +188,7 @@ sorted_cons : (p : Place) (ps : List Place) → AllByRecursion (λ j. place_cmp 
 unfolding IsStrictlySortedBy
 sorted_cons p ps a s = (a, s)
 
-sorted_none : IsStrictlySortedBy place_cmp []
+pub sorted_none : IsStrictlySortedBy place_cmp []
 unfolding IsStrictlySortedBy
 sorted_none = tt
 

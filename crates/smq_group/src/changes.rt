@@ -3,7 +3,7 @@ ghost use Rattle.std.specs.Prelude.{◌≡◌, ◌≤◌, ◌+◌, length, false
 ghost use Rattle.std.specs.BTreeMap.{is_at};
 ghost use Rattle.smq_kit.specs.LinkKeys.{kept_key_cmp};
 ghost use Rattle.smq_group.specs.within.Outlooks.{decider_of, outlook_at};
-ghost use Rattle.smq_group.specs.within.Told.{ReceiptsByPlace, SubmitsByPlace, change_at, decider_changes, members_in, newcomer_receipt, newcomer_submit, receipt_changes, rival, same_decider, submit_changes, told_receipts, told_submits, turn_between};
+ghost use Rattle.smq_group.specs.within.Told.{HoldsAdded, ReceiptsByPlace, SubmitsByPlace, change_at, decider_changes, is_alone, members_in, newcomer_receipt, newcomer_submit, receipt_changes, rival, same_decider, submit_changes, told_receipts, told_submits, turn_between};
 ghost use Rattle.smq_group.specs.within.Walked.{Stays, member_key, vacant_of};
 
 use crate::member::{Member, Said};
@@ -45,6 +45,8 @@ pub(crate) fn tell(
     after: &Outlook,
     added: Added,
 ) -> Result<Vec<Change>, AllocError>
+    requires counted { after.now.matches ≡ length (members_in key.now submits.old.content) }
+    requires added { HoldsAdded key.now added submits.old.content }
     ensures submits { Stays submits.old submits.new }
     ensures receipts { Stays receipts.old receipts.new }
     ensures here { OnOk result (outlook_at key.now outlooks.new.content ≡ after.now) }
@@ -84,6 +86,8 @@ fn changes_of_key(
     after: &Outlook,
     added: Added,
 ) -> Result<Vec<Change>, AllocError>
+    requires counted { after.now.matches ≡ length (members_in key.now submits.old.content) }
+    requires added { HoldsAdded key.now added submits.old.content }
     ensures submits { Stays submits.old submits.new }
     ensures receipts { Stays receipts.old receipts.new }
     ensures told { IfOk result (λ changes. changes.items
@@ -138,7 +142,7 @@ fn is_same_decider(before: &Outlook, after: &Outlook) -> bool
     }
 }
 
-// The changes of submits.
+// The changes of submits. A newcomer that is the only one needs no walk.
 fn tell_submits(
     changes: &mut Vec<Change>,
     alloc: Global,
@@ -148,6 +152,8 @@ fn tell_submits(
     turn: Turn,
     added: Added,
 ) -> Result<(), AllocError>
+    requires counted { after.now.matches ≡ length (members_in key.now submits.old.content) }
+    requires added { HoldsAdded key.now added submits.old.content }
     ensures submits { Stays submits.old submits.new }
     ensures told { OnOk result (changes.new.items ≡ changes.old.items
         ++ told_submits turn after.now added (members_in key.now submits.old.content)) }
@@ -159,12 +165,27 @@ fn tell_submits(
 {
     match turn {
         Turn::Each | Turn::Deciders => {
-            let members = members_of(alloc, submits, key)?;
+            if is_alone(after, added) {
+                push_new_submit(changes, after, added)?;
+                return Ok(());
+            }
+            let members = members_of(alloc, submits, key, after.matches)?;
             push_submits(changes, &members, after)?;
         }
         Turn::Newcomer => push_new_submit(changes, after, added)?,
     }
     Ok(())
+}
+
+// Whether a submit was put in, and is the only one.
+fn is_alone(after: &Outlook, added: Added) -> bool
+    ensures { result ≡ is_alone after.now added }
+{
+    match added {
+        Added::Submit(_) => after.matches == 1,
+        Added::Receipt(_, _) => false,
+        Added::Nothing => false,
+    }
 }
 
 // The changes of receipts.
@@ -191,7 +212,8 @@ fn tell_receipts(
 {
     match turn {
         Turn::Each => {
-            let members = members_of(alloc, receipts, key)?;
+            let most = receipts.place_count() as u64;
+            let members = members_of(alloc, receipts, key, most)?;
             push_receipts(changes, &members, after)?;
         }
         Turn::Deciders => push_deciders(changes, rival_of(before, added), after.decider_place())?,

@@ -20,12 +20,15 @@ const LEAST: Place = Place {
     offset: 0,
 };
 
-/// The members of a key, by place, with what is kept of each.
+/// The members of a key, by place, with what is kept of each. There are no more than `most`: the walk ends with the last that
+/// there can be.
 pub(crate) fn members_of<V: Copy + Drop>(
     alloc: Global,
     kept: &mut Kept<Member, V>,
     key: &LinkKey,
+    most: u64,
 ) -> Result<Vec<(Place, V)>, AllocError>
+    requires most { length (map placed (filter (of_key key.now) kept.old.content)) ≤ most }
     ensures value { IfOk result (λ members. members.items
         ≡ map placed (filter (of_key key.now) kept.old.content)) }
     ensures by_place { IfOk result (λ members.
@@ -36,9 +39,15 @@ pub(crate) fn members_of<V: Copy + Drop>(
         + vacant_of member_key key.now kept.old.places + length members.items) }
 {
     let mut members = Vec::new(alloc);
+    if most == 0 {
+        return Ok(members);
+    }
     let mut next = first_of(kept, key);
     while let Some((place, value)) = next {
         push_there(&mut members, place, value)?;
+        if members.len() as u64 == most {
+            return Ok(members);
+        }
         next = next_of(kept, key, place);
     }
     Ok(members)

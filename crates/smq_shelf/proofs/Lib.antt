@@ -6,4 +6,5 @@ pub mod Seen
 pub mod Steps
 pub mod Vacancies
 pub mod Occupied
+pub mod Counted
 pub mod Nearest

@@ -1,11 +1,13 @@
 //! A shelf whose changes since it was last settled can be undone.
-ghost use Rattle.std.specs.Prelude.{◌≡◌, [], ◌∷◌, List, Option, ◌++◌, ◌+◌, ◌-◌, ◌*◌, ◌≤◌, ◌<◌, ◌^◌, IfOk, OnOk, OnErr, None, Some, IsSome, is_some, find, length, if◌then◌else◌};
+ghost use Rattle.std.specs.Prelude.{◌≡◌, false, [], ◌∷◌, List, Option, ◌++◌, ◌+◌, ◌-◌, ◌*◌, ◌≤◌, ◌<◌, ◌^◌, IfOk, OnOk, OnErr, None, Some, IsSome, is_some, find, length, unwrap_or, if◌then◌else◌};
 ghost use Rattle.std.specs.Option.{option_copied, option_map};
 ghost use Rattle.std.specs.Map.Iter.{deref_pair};
 ghost use Rattle.std.specs.Ordering.{is_le, is_lt};
 ghost use Rattle.std.specs.List.Sorted.{IsStrictlySortedBy};
 ghost use Rattle.std.specs.Map.{keys_of, lookup, remove_entry};
 ghost use Rattle.std.specs.BTreeMap.{is_at, insert_entry};
+ghost use Rattle.smq_kit.specs.Maps.{positive};
+ghost use Rattle.smq_shelf.specs.Counts.{count_at, with_count};
 ghost use Rattle.smq_shelf.specs.Keeping.{with_touches};
 ghost use Rattle.smq_shelf.specs.Shown.{touched};
 ghost use Rattle.smq_shelf.specs.Places.{content_of, places_of};
@@ -180,6 +182,72 @@ impl<K: ShelfKey, V: Drop> Kept<K, V> {
     }
 }
 
+impl<K: ShelfKey> Kept<K, u64> {
+    /// Adds one to the count at a key, which is 1 where there was none: one touch where the key has a place, and two
+    /// where it has none. An error changes nothing but the touches.
+    pub fn add_one(&mut self, key: K) -> Result<(), AllocError>
+        requires room { count_at K.cmp key self.old.content + 1 < 2 ^ 64 }
+        ensures content { OnOk result (self.new.content ≡ insert_entry K.cmp self.old.content key
+            (count_at K.cmp key self.old.content + 1)) }
+        ensures places { OnOk result (self.new.places ≡ insert_entry K.cmp self.old.places key
+            (Some (count_at K.cmp key self.old.content + 1))) }
+        ensures past { OnOk result (self.new.past ≡ self.old.places ∷ self.old.past) }
+        ensures pending { OnOk result (self.new.pending ≡ self.old.pending + 1) }
+        ensures touched { OnOk result (touched self.old.touches ≤ self.new.touches) }
+        ensures once { OnOk result (IsSome (lookup (is_at (K.cmp key)) self.old.places)
+            → self.new.touches ≡ touched self.old.touches) }
+        ensures unchanged { OnErr result (self.new ≡ with_touches self.new.touches self.old) }
+        ensures err { OnErr result (self.new.content ≡ self.old.content) }
+        ensures err_places { OnErr result (self.new.places ≡ self.old.places) }
+        ensures err_past { OnErr result (self.new.past ≡ self.old.past) }
+        ensures err_pending { OnErr result (self.new.pending ≡ self.old.pending) }
+        ensures settled { self.new.settled ≡ self.old.settled }
+        ensures shown { self.old.content ≡ content_of self.old.places }
+        ensures touches { self.new.touches ≤ self.old.touches + 2 }
+        ensures counted { self.old.touches ≤ self.new.touches }
+    {
+        raise(&mut self.shelf, &mut self.log, key)?;
+        Ok(())
+    }
+
+    /// Takes one from the count at a key, and takes the key out where that leaves none: one touch. It tells whether
+    /// there was one. The place of a key that is taken out stays, vacant, until the map is settled or undone. An error
+    /// changes nothing but the touches.
+    pub fn take_one(&mut self, key: K) -> Result<bool, AllocError>
+        ensures had { IfOk result (λ had. had
+            ≡ is_some (lookup (is_at (K.cmp key)) self.old.content)) }
+        ensures content { OnOk result (self.new.content ≡ with_count K.cmp key
+            (positive (count_at K.cmp key self.old.content - 1)) self.old.content) }
+        ensures places { IfOk result (λ had. self.new.places ≡ if had
+            then insert_entry K.cmp self.old.places key
+            (positive (count_at K.cmp key self.old.content - 1))
+            else self.old.places) }
+        ensures past { IfOk result (λ had. self.new.past
+            ≡ if had then self.old.places ∷ self.old.past else self.old.past) }
+        ensures pending { IfOk result (λ had. self.new.pending
+            ≡ if had then self.old.pending + 1 else self.old.pending) }
+        ensures absent { IfOk result (λ had. had ≡ false
+            → self.new ≡ with_touches self.new.touches self.old) }
+        ensures touched { OnOk result (self.new.touches ≡ touched self.old.touches) }
+        ensures unchanged { OnErr result (self.new ≡ with_touches self.new.touches self.old) }
+        ensures err { OnErr result (self.new.content ≡ self.old.content) }
+        ensures err_places { OnErr result (self.new.places ≡ self.old.places) }
+        ensures err_past { OnErr result (self.new.past ≡ self.old.past) }
+        ensures err_pending { OnErr result (self.new.pending ≡ self.old.pending) }
+        ensures settled { self.new.settled ≡ self.old.settled }
+        ensures shown { self.old.content ≡ content_of self.old.places }
+        ensures ordered { IsStrictlySortedBy K.cmp (keys_of self.old.content) }
+        ensures touches { self.new.touches ≤ self.old.touches + 1 }
+        ensures counted { self.old.touches ≤ self.new.touches }
+    {
+        let Some(count) = lower(&mut self.shelf, &mut self.log, key)? else {
+            return Ok(false);
+        };
+        self.has_vacant |= count < 2;
+        Ok(true)
+    }
+}
+
 impl<K: ShelfKey, V> Kept<K, V> {
     ghost use Rattle.std.specs.Borrow.{sem};
     ghost use Rattle.smq_shelf.specs.KeptLending.{LeavesKept};
@@ -329,6 +397,70 @@ fn vacate<K: ShelfKey, V: Drop>(
         }
         Some(None) => Ok(false),
         None => Ok(false),
+    }
+}
+
+// Adds one to the count of the place of a key, and puts what was there into the log. A key that has a place is looked
+// up once.
+fn raise<K: ShelfKey>(
+    shelf: &mut Shelf<K, Option<u64>>,
+    log: &mut Vec<(K, Option<Option<u64>>)>,
+    key: K,
+) -> Result<(), AllocError>
+    requires { unwrap_or (flatten (lookup (is_at (K.cmp key)) shelf.old.entries)) 0 + 1 < 2 ^ 64 }
+    ensures entries { OnOk result (shelf.new.entries ≡ insert_entry K.cmp shelf.old.entries key
+        (Some (unwrap_or (flatten (lookup (is_at (K.cmp key)) shelf.old.entries)) 0 + 1))) }
+    ensures ordered { OnOk result (IsStrictlySortedBy K.cmp (keys_of shelf.new.entries)) }
+    ensures log { OnOk result (log.new.items
+        ≡ log.old.items ++ (key, lookup (is_at (K.cmp key)) shelf.old.entries) ∷ []) }
+    ensures touched { OnOk result (touched shelf.old.touches ≤ shelf.new.touches) }
+    ensures once { OnOk result (IsSome (lookup (is_at (K.cmp key)) shelf.old.entries)
+        → shelf.new.touches ≡ touched shelf.old.touches) }
+    ensures err { OnErr result (shelf.new.entries ≡ shelf.old.entries) }
+    ensures err_log { OnErr result (log.new.items ≡ log.old.items) }
+    ensures touches { shelf.new.touches ≤ shelf.old.touches + 2 }
+    ensures counted { shelf.old.touches ≤ shelf.new.touches }
+{
+    log.reserve(1)?;
+    match shelf.raise(&key) {
+        Some(before) => {
+            log.push((key, Some(before)))?;
+            Ok(())
+        }
+        None => put(shelf, log, key, Some(1)),
+    }
+}
+
+// Takes one from the count of the place of a key, which is vacant where that leaves none, and puts the count that was
+// there into the log. It gives that count.
+fn lower<K: ShelfKey>(
+    shelf: &mut Shelf<K, Option<u64>>,
+    log: &mut Vec<(K, Option<Option<u64>>)>,
+    key: K,
+) -> Result<Option<u64>, AllocError>
+    ensures count { IfOk result (λ count. count
+        ≡ flatten (lookup (is_at (K.cmp key)) shelf.old.entries)) }
+    ensures entries { IfOk result (λ count. shelf.new.entries ≡ if is_some count
+        then insert_entry K.cmp shelf.old.entries key (positive (unwrap_or count 0 - 1))
+        else shelf.old.entries) }
+    ensures log { IfOk result (λ count. log.new.items ≡ (if is_some count
+        then log.old.items ++ (key, lookup (is_at (K.cmp key)) shelf.old.entries) ∷ []
+        else log.old.items)) }
+    ensures ordered { OnOk result (IsStrictlySortedBy K.cmp (keys_of shelf.new.entries)) }
+    ensures touched { OnOk result (shelf.new.touches ≡ touched shelf.old.touches) }
+    ensures err { OnErr result (shelf.new.entries ≡ shelf.old.entries) }
+    ensures err_log { OnErr result (log.new.items ≡ log.old.items) }
+    ensures touches { shelf.new.touches ≤ shelf.old.touches + 1 }
+    ensures counted { shelf.old.touches ≤ shelf.new.touches }
+{
+    log.reserve(1)?;
+    match shelf.lower(&key) {
+        Some(Some(count)) => {
+            log.push((key, Some(Some(count))))?;
+            Ok(Some(count))
+        }
+        Some(None) => Ok(None),
+        None => Ok(None),
     }
 }
 

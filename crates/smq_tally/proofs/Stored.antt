@@ -1,5 +1,5 @@
 -- Counts and listed places in maps that can be undone, seen as finite ones.
-use Rattle.std.proofs.Common.{◌≡◌, Bor, ℕ, zero, suc, ◌+◌, ◌-◌, ◌<◌, List, [], ◌++◌, Option, Some, None, refl, sym, ap, ◌∙◌, arith}
+use Rattle.std.proofs.Common.{◌≡◌, Bor, ℕ, ◌+◌, ◌-◌, List, [], ◌++◌, Option, Some, None, refl, sym, ap, ◌∙◌}
 use Rattle.std.specs.Prelude.{map, is_some, unwrap_or}
 use Rattle.std.specs.List.{flat_map}
 use Rattle.std.specs.Option.{option_copied}
@@ -8,6 +8,7 @@ use Rattle.std.specs.Map.{keys_of, lookup, remove_entry}
 use Rattle.std.specs.BTreeMap.{is_at, insert_entry}
 use Rattle.std.specs.FinMap.{get, insert, remove, contains_key, empty, from_entries}
 use Rattle.smq_kit.specs.Maps.{positive, set_at}
+use Rattle.smq_shelf.specs.Counts.{count_at, with_count}
 use Rattle.smq_shelf.proofs.Seen as seen
 use Rattle.smq_tally.specs.declared.counts.Step.TheVariants as s
 use Rattle.smq_tally.specs.declared.fact.CountKey.{CountKey}
@@ -42,40 +43,27 @@ count-found es q n found = ap (λ c. unwrap_or c 0) (found ∙ sym (get-count es
 pub count-missed : (es : Entries) (q : CountKey) → None ≡ lookup (is_at (kept_cmp q)) es → 0 ≡ count_in (counts_in es) q
 count-missed es q found = ap (λ (c : Option ℕ). unwrap_or c 0) (found ∙ sym (get-count es q))
 
+-- the count that a map of counts tells
+pub count-seen : (es : Entries) (q : CountKey) → count_at kept_cmp q es ≡ count_in (counts_in es) q
+count-seen es q = ap (λ (c : Option ℕ). unwrap_or c 0) (sym (get-count es q))
+
 -- a count goes up by one
-pub more-seen : (es fs : Entries) (k : CountKey) (n : ℕ) → n ≡ count_in (counts_in es) k → fs ≡ insert_entry kept_cmp es k (n + 1)
+pub more-seen : (es fs : Entries) (k : CountKey) → fs ≡ insert_entry kept_cmp es k (count_at kept_cmp k es + 1)
     → counts_in fs ≡ one_step s.More (counts_in es) k
-more-seen es fs k n count put =
-    ap counts_in put ∙ seen.inserted count_keys_total count_keys_exact count_key-order es k (n + 1) ∙ ap (λ m. insert (counts_in es) k (m + 1)) count
+more-seen es fs k put =
+    ap counts_in put ∙ seen.inserted count_keys_total count_keys_exact count_key-order es k (count_at kept_cmp k es + 1)
+    ∙ ap (λ m. insert (counts_in es) k (m + 1)) (count-seen es k)
 
-some-positive : (n : ℕ) → 0 < n → positive n ≡ Some n
-some-positive zero h = absurd (omega arith)
-some-positive (suc n) h = refl
-
--- a count above 1 goes back by one
-pub less-seen : (es fs : Entries) (k : CountKey) (n : ℕ) → Some n ≡ lookup (is_at (kept_cmp k)) es → 1 < n → fs ≡ insert_entry kept_cmp es k (n - 1)
+-- a count goes back by one, and is taken out where that leaves none
+pub less-seen : (es fs : Entries) (k : CountKey) → IsStrictlySortedBy kept_cmp (keys_of es)
+    → fs ≡ with_count kept_cmp k (positive (count_at kept_cmp k es - 1)) es
     → counts_in fs ≡ one_step s.Less (counts_in es) k
-less-seen es fs k n found above put =
-    let left : positive (count_in (counts_in es) k - 1) ≡ Some (n - 1) = ap (λ m. positive (m - 1)) (sym (count-found es k n found))
-    ∙ some-positive (n - 1) (omega (arith, above)) in
-    ap counts_in put ∙ seen.inserted count_keys_total count_keys_exact count_key-order es k (n - 1)
-    ∙ ap (λ (o : Option ℕ). set_at (counts_in es) k o) (sym left)
-
--- a count of 1 is taken out
-pub gone-seen : (es fs : Entries) (k : CountKey) (n : ℕ) → Some n ≡ lookup (is_at (kept_cmp k)) es → n < 2 → IsStrictlySortedBy kept_cmp (keys_of es)
-    → fs ≡ remove_entry (is_at (kept_cmp k)) es
-    → counts_in fs ≡ one_step s.Less (counts_in es) k
-gone-seen es fs k n found below sorted took =
-    let none : count_in (counts_in es) k - 1 ≡ 0 = let count = count-found es k n found in omega (arith, count, below) in
-    ap counts_in took ∙ seen.removed count_keys_total count_keys_exact count_key-order es k sorted
-    ∙ ap (λ (o : Option ℕ). set_at (counts_in es) k o) (sym (ap positive none))
-
--- where none stands, none is taken out
-pub none-seen : (es : Entries) (k : CountKey) → None ≡ lookup (is_at (kept_cmp k)) es → counts_in es ≡ one_step s.Less (counts_in es) k
-none-seen es k found =
-    let none : count_in (counts_in es) k - 1 ≡ 0 = let count = count-missed es k found in omega (arith, count) in
-    sym (remove-none count_keys_total count_keys_exact (counts_in es) k (get-count es k ∙ sym found))
-    ∙ ap (λ (o : Option ℕ). set_at (counts_in es) k o) (sym (ap positive none))
+less-seen es fs k sorted put =
+    ap counts_in put ∙ stored (positive (count_at kept_cmp k es - 1)) ∙ ap (λ m. set_at (counts_in es) k (positive (m - 1))) (count-seen es k)
+  where
+    stored : (n : Option ℕ) → counts_in (with_count kept_cmp k n es) ≡ set_at (counts_in es) k n
+    stored None = seen.removed count_keys_total count_keys_exact count_key-order es k sorted
+    stored (Some n) = seen.inserted count_keys_total count_keys_exact count_key-order es k n
 
 -- ---- listed places
 

@@ -107,9 +107,7 @@ fn add_at(counts: &mut KeptMap<CountKey, u64>, key: CountKey) -> Result<(), Allo
     ensures settled { counts.new.settled ≡ counts.old.settled }
     ensures err { OnErr result (counts.new ≡ counts.old) }
 {
-    let count = count_of(counts, &key);
-    counts.set(key, count + 1)?;
-    Ok(())
+    counts.add_one(key)
 }
 
 fn take_at(counts: &mut KeptMap<CountKey, u64>, key: CountKey) -> Result<bool, AllocError>
@@ -119,16 +117,7 @@ fn take_at(counts: &mut KeptMap<CountKey, u64>, key: CountKey) -> Result<bool, A
     ensures settled { counts.new.settled ≡ counts.old.settled }
     ensures err { OnErr result (counts.new ≡ counts.old) }
 {
-    let count = match counts.get(&key) {
-        Some(count) => *count,
-        None => return Ok(false),
-    };
-    if count < 2 {
-        counts.remove(&key)?;
-    } else {
-        counts.set(key, count - 1)?;
-    }
-    Ok(true)
+    counts.take_one(key)
 }
 
 /// The count at a key, 0 where none stands.

@@ -1,5 +1,6 @@
 //! A shelf's calls, changes of kept maps that are taken back, undone and settled, and refused memory.
 use smq_shelf::{Kept, KeptMap, Shelf};
+use std::alloc::AllocError;
 use std::process::Abort;
 use std::test::Fail;
 
@@ -134,6 +135,70 @@ fn a_refused_change_changes_nothing(rt: HostRuntime) {
     assert!(rt; kept.first_from(&29) == Some((&29, Some(&2))));
     kept.settle();
     assert_eq!(rt; kept.place_count(), 1);
+}
+
+/// Adds one to a count below ten.
+fn add_one(kept: &mut Kept<u32, u64>, key: u32) -> Result<(), AllocError> {
+    match kept.get(&key).copied() {
+        Some(count) if count > 9 => Err(AllocError),
+        _ => kept.add_one(key),
+    }
+}
+
+#[test]
+fn counts_are_changed_in_place(rt: HostRuntime) -> Result<(), Fail> {
+    let mut kept = Kept::new(rt.alloc());
+    add_one(&mut kept, 1)?;
+    add_one(&mut kept, 1)?;
+    add_one(&mut kept, 2)?;
+    assert!(rt; kept.get(&1).copied() == Some(2));
+    kept.settle();
+    assert!(rt; kept.take_one(2)?, "the last one");
+    assert!(rt; kept.first_from(&2) == Some((&2, None)));
+    assert!(rt; !kept.take_one(2)?, "none is left");
+    assert!(rt; !kept.take_one(3)?, "none was there");
+    assert!(rt; kept.take_one(1)?, "one of two");
+    assert!(rt; kept.get(&1).copied() == Some(1));
+    add_one(&mut kept, 2)?;
+    assert!(rt; kept.get(&2).copied() == Some(1));
+    kept.take_back();
+    assert!(rt; kept.first_from(&2) == Some((&2, None)));
+    kept.undo();
+    assert!(rt; kept.get(&1).copied() == Some(2));
+    assert!(rt; kept.get(&2).copied() == Some(1));
+    kept.take_one(2)?;
+    kept.settle();
+    assert_eq!(rt; kept.place_count(), 1);
+    Ok(())
+}
+
+/// Adds one, and takes one of two, again where memory was refused: the count was as before.
+fn add_and_take(rt: &impl Abort, kept: &mut Kept<u32, u64>, key: u32) {
+    let before = (kept.get(&key).copied(), kept.place_count());
+    if add_one(kept, key).is_err() {
+        let after = (kept.get(&key).copied(), kept.place_count());
+        assert!(rt; after == before, "the map is as before");
+        assert!(rt; add_one(kept, key).is_ok(), "there is memory again");
+    }
+    let added = kept.get(&key).copied();
+    if kept.take_one(key).is_err() {
+        assert!(rt; kept.get(&key).copied() == added, "the count is as before");
+        assert!(rt; kept.take_one(key) == Ok(true), "there is memory again");
+    }
+}
+
+/// With each allocation refused in turn (`rt try --test --fail-alloc N`) a refused count stays, and is changed when it is tried
+/// again.
+#[test]
+fn a_refused_count_stays(rt: HostRuntime) {
+    let mut kept = Kept::new(rt.alloc());
+    for key in 0..30u32 {
+        add_and_take(&rt, &mut kept, key);
+        assert!(rt; kept.first_from(&key) == Some((&key, None)), "none is left");
+        add_and_take(&rt, &mut kept, key);
+    }
+    kept.settle();
+    assert_eq!(rt; kept.place_count(), 0);
 }
 
 /// Sets keys from 0 until memory is refused, or up to a number, and gives how many have the value.

@@ -1,8 +1,9 @@
 -- What is told of a key's members when its outlook changes.
-use Rattle.std.specs.Prelude.{⊤, Bool, not, ◌==◌, ◌&&◌, min, if◌then◌else◌, List, [], ◌∷◌, map, filter, Option, Some, None}
+use Rattle.std.specs.Prelude.{◌≡◌, ⊤, Bool, true, false, not, ◌==◌, ◌&&◌, min, if◌then◌else◌, List, [], ◌∷◌, map, filter, Option, Some, None}
 use Rattle.std.specs.Ordering.{eq_by_cmp, is_lt}
 use Rattle.std.specs.List.Sorted.{IsStrictlySortedBy}
-use Rattle.std.specs.Map.{keys_of}
+use Rattle.std.specs.Map.{keys_of, lookup}
+use Rattle.std.specs.BTreeMap.{is_at}
 use Rattle.smq_kit.specs.declared.place.Place.{Place}
 use Rattle.smq_kit.specs.declared.link_key.LinkKey.{LinkKey}
 use Rattle.smq_kit.specs.Orders.{place_cmp}
@@ -17,7 +18,9 @@ use Rattle.smq_group.specs.declared.changes.Turn.TheVariants.{Each, Deciders, Ne
 use Rattle.smq_group.specs.declared.member.Member.{Member}
 use Rattle.smq_group.specs.declared.member.Said.{Said}
 use Rattle.smq_group.specs.declared.outlook.Outlook.{Outlook}
+use Rattle.smq_group.specs.within.Orders.{kept_member_cmp}
 use Rattle.smq_group.specs.within.Outlooks.{decider_of, submit_standing_of, receipt_standing_of}
+use Rattle.smq_group.specs.within.Stored.{member_of}
 use Rattle.smq_group.specs.within.Walked.{of_key, placed}
 
 -- the members of a key, by place
@@ -52,6 +55,18 @@ abbrev pub newcomer_submit : Outlook → Added → List Change
 newcomer_submit o (put.Submit place) = change_at place (submit_standing_of o) ∷ []
 newcomer_submit o (put.Receipt _ _) = []
 newcomer_submit o put.Nothing = []
+
+-- the submit that is put in, if one is, is a member of the key
+abbrev pub HoldsAdded : LinkKey → Added → List (Member × Bool) → Type 0
+HoldsAdded key (put.Submit place) es = lookup (is_at (kept_member_cmp (member_of key place))) es ≡ Some true
+HoldsAdded key (put.Receipt _ _) es = ⊤
+HoldsAdded key put.Nothing es = ⊤
+
+-- whether a submit is put in, and is the only one
+abbrev pub is_alone : Outlook → Added → Bool
+is_alone after (put.Submit _) = after.matches == 1
+is_alone after (put.Receipt _ _) = false
+is_alone after put.Nothing = false
 
 -- the change of the receipt that is put in, if one is
 abbrev pub newcomer_receipt : Outlook → Added → List Change

@@ -7,11 +7,18 @@ use Rattle.smq_group.specs.Groups.{GroupsValue, key_on, receipt_with}
 use Rattle.smq_group.specs.within.Outlooks.{outlook_at, outlook_with}
 use Rattle.smq_group.specs.within.Stored.{earliest_of_said, grouping_in}
 use Rattle.smq_group.proofs.Calling.{tells-call, receipts-back, candidates-back}
+use Rattle.smq_group.proofs.Counting.{counted}
 use Rattle.smq_group.proofs.Moving.{moves-receipt}
 use Rattle.smq_group.proofs.StoringReceipts.{receipt-more, receipt-stored, has-more}
 use Rattle.smq_group.specs.within.Walked.{member_key, vacant_of}
 use Rattle.smq_group.proofs.Vacating.{candidate-filled, counted-vacant, member-filled}
 use Rattle.smq_group.proofs.groups.Groups.add_receipt.Goals as goal
+
+pub tell-requires-clause-counted : goal.tell-requires-clause-counted
+tell-requires-clause-counted c =
+    ap (λ (o : Outlook). o.matches) c.with_receipt-after.ensures
+    ∙ counted c.self.inside.submits.content c.self.inside.receipts.content c.self.inside.candidates.content c.self.inside.outlooks.content (key_on c.args.link c.args.key) c.outlook_of-before.result
+    c.self.invariant.0 c.outlook_of-before.ensures.value
 
 pub invariant_of-self-in-Ok : goal.invariant_of-self-in-Ok
 invariant_of-self-in-Ok c =

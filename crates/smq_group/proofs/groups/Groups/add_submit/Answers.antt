@@ -1,14 +1,17 @@
 use Rattle.std.proofs.Common.{◌≡◌, ◌+◌, None, sym, ap, ◌∙◌, subst, arith, true}
 use Rattle.std.specs.FinMap.{get}
+use Rattle.smq_shelf.proofs.Changes.{lookup-insert_entry}
 use Rattle.smq_group.specs.declared.outlook.Outlook.{Outlook}
 use Rattle.smq_group.specs.Groups.{GroupsValue, key_on}
 use Rattle.smq_group.specs.Matching.{Grouping, matches}
 use Rattle.smq_group.specs.declared.changes.Added.TheVariants as put
 use Rattle.smq_group.specs.within.Outlooks.{an_outlook, outlook_at}
-use Rattle.smq_group.specs.within.Stored.{grouping_in, outlook_in}
+use Rattle.smq_group.specs.within.Stored.{grouping_in, member_of, outlook_in}
 use Rattle.smq_group.proofs.Calling.{tells-call}
 use Rattle.smq_group.proofs.Changing.{Moves}
+use Rattle.smq_group.proofs.Counting.{counted-add}
 use Rattle.smq_group.proofs.Moving.{moves-submit}
+use Rattle.smq_group.proofs.Placing.{members_total}
 use Rattle.smq_group.proofs.Storing.{absent, grouping-more, matches-fit, submit-stored}
 use Rattle.smq_group.specs.within.Walked.{member_key, vacant_of}
 use Rattle.smq_group.proofs.Vacating.{counted-vacant, member-filled}
@@ -22,6 +25,16 @@ overflow_add-after c =
     let fit = matches-fit c.self.inside.submits.content c.self.inside.receipts.content (key_on c.args.link c.args.key) c.args.place c.set.new.self.places c.place_count-places.result none
     (rw (← c.copy.ensures) (sym c.in_ok-set.ensures.content) ∙ c.place_count-places.ensures.content) c.place_count-places.ensures.count in
     omega (arith, fit, count)
+
+pub tell-requires-clause-counted : goal.tell-requires-clause-counted
+tell-requires-clause-counted c =
+    let none : get (grouping_in c.self.inside.submits.content c.self.inside.receipts.content).submits c.args.place ≡ None = ap (λ (v : GroupsValue). get v.members.submits c.args.place) c.self.view_is ∙ c.requires.absent in
+    counted-add c.self.inside.submits.content c.self.inside.receipts.content c.self.inside.candidates.content c.self.inside.outlooks.content (key_on c.args.link c.args.key) c.outlook_of-before.result
+    c.self.invariant.0 c.outlook_of-before.ensures.value c.args.place c.set.new.self.content none (rw (← c.copy.ensures) c.in_ok-set.ensures.content)
+
+pub tell-requires-clause-added : goal.tell-requires-clause-added
+tell-requires-clause-added c =
+    rw (c.in_ok-set.ensures.content, c.copy.ensures) (lookup-insert_entry members_total (member_of (key_on c.args.link c.args.key) c.args.place) true c.self.inside.submits.content)
 
 pub invariant_of-self-in-Ok : goal.invariant_of-self-in-Ok
 invariant_of-self-in-Ok c =

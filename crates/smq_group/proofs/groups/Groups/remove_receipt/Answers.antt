@@ -7,6 +7,7 @@ use Rattle.smq_group.specs.Groups.{GroupsValue, key_on}
 use Rattle.smq_group.specs.within.Outlooks.{an_outlook, outlook_at, is_decided_by}
 use Rattle.smq_group.specs.within.Stored.{grouping_in, receipt_value}
 use Rattle.smq_group.proofs.Calling.{tells-call, receipts-back, candidates-back}
+use Rattle.smq_group.proofs.Counting.{counted}
 use Rattle.smq_group.proofs.Moving.{moves-no_receipt}
 use Rattle.smq_group.proofs.StoringReceipts.{receipt-held, receipt-is_held, receipt-less, receipt-taken, has-less, in-index}
 use Rattle.std.specs.BTreeMap.{insert_entry}
@@ -45,6 +46,11 @@ returns-in_default-clause-changes c =
     let k = ap (λ (v : GroupsValue). option_map (λ x. x.key) (get v.members.receipts c.args.place)) c.self.view_is ∙ c.requires.there ∙ ap Some (sym c.key_of_link-key.ensures) in
     let held = receipt-is_held c.self.inside.submits.content c.self.inside.receipts.content c.self.inside.candidates.content c.self.inside.candidates.content c.self.inside.outlooks.content c.self.inside.outlooks.content key c.args.place (record { moment = 0; decides = false }) k in
     absurd (c.in_default.not-Some held.0 (c.said_at-found.ensures.value ∙ held.1))
+
+pub tell-requires-clause-counted : goal.tell-requires-clause-counted
+tell-requires-clause-counted c =
+    counted c.self.inside.submits.content c.self.inside.receipts.content c.self.inside.candidates.content c.self.inside.outlooks.content c.key_of_link-key.result c.outlook_of-before.result
+    c.self.invariant.0 c.outlook_of-before.ensures.value
 
 pub invariant_of-self-in-Ok : goal.invariant_of-self-in-Ok
 invariant_of-self-in-Ok c =

@@ -8,6 +8,7 @@ use Rattle.smq_group.specs.within.Outlooks.{an_outlook, outlook_at}
 use Rattle.smq_group.specs.within.Stored.{grouping_in, outlook_in}
 use Rattle.smq_group.proofs.Calling.{tells-call}
 use Rattle.smq_group.proofs.Changing.{Moves}
+use Rattle.smq_group.proofs.Counting.{counted-remove}
 use Rattle.smq_group.proofs.Moving.{moves-no_submit}
 use Rattle.smq_group.proofs.Storing.{grouping-less, some-match, submit-taken, is_held}
 use Rattle.smq_kit.specs.LinkKeys.{same_key}
@@ -22,6 +23,12 @@ overflow_sub-after c =
     ap (λ (o : Outlook). o.matches) (c.outlook_of-before.ensures.value ∙ ap (λ k. outlook_at k c.self.inside.outlooks.content) c.key_of_link-key.ensures ∙ c.self.invariant.0.indexed.outlook (key_on c.args.link c.args.key.now)) in
     let some = some-match c.self.inside.submits.content c.self.inside.receipts.content (key_on c.args.link c.args.key.now) c.args.place there in
     omega (arith, some, count)
+
+pub tell-requires-clause-counted : goal.tell-requires-clause-counted
+tell-requires-clause-counted c =
+    let there : get (grouping_in c.self.inside.submits.content c.self.inside.receipts.content).submits c.args.place ≡ Some c.key_of_link-key.result = ap (λ (v : GroupsValue). get v.members.submits c.args.place) c.self.view_is ∙ c.requires.there ∙ ap Some (sym c.key_of_link-key.ensures) in
+    counted-remove c.self.inside.submits.content c.self.inside.receipts.content c.self.inside.candidates.content c.self.inside.outlooks.content c.key_of_link-key.result c.outlook_of-before.result
+    c.self.invariant.0 c.outlook_of-before.ensures.value c.args.place c.remove.new.self.content there (rw (← c.copy.ensures) c.in_ok-remove.ensures.content)
 
 pub invariant_of-self-in-Ok : goal.invariant_of-self-in-Ok
 invariant_of-self-in-Ok c =
