@@ -1,0 +1,179 @@
+"""Which wrong bodies were seen refused, and what has changed since: the file wrong-bodies.tried.
+
+It has a line for each edit, with two sums. The first is of what the verdict rests on in the edit's own crate: the edit;
+wrong_bodies.py; what rt version and HANDLES say; the function that it names, with its body and what is written of its proof; the
+bodies that it changes; what its proof reaches; and what `use` lines and attributes say of these names. The second is of that and of
+what is reached, without bodies, in the crates below. An edit of which no more can be told rests on all of its crate, and on all
+below but bodies. Comments count for nothing.
+
+A line is written only by a run that saw the edit refused, where the sums were the same before and after; a line that doesn't fit
+counts for nothing. What no sum shows: lemmas that nothing names but `search` finds, and limits of time and memory.
+"""
+import collections
+import hashlib
+import os
+import re
+import subprocess
+
+import wrong_bodies
+from wrong_bodies import Crate, last_of, names_in, read_edits, text_of, write
+
+TRIED = "wrong-bodies.tried"
+# The lines of a file that say what its names mean.
+MEANS = re.compile(r"(?m)^(?:(?:pub(?:\([\w ]+\))? |ghost )*(?:use|unfolding)\b.*(?:\n[ })].*)*|#!\[.*)$")
+# Where what a verdict rests on has changed.
+CRATE, BELOW, NOWHERE = "crate", "below", ""
+
+
+def without_bodies(crate):
+    """Returns the texts by file of all that crates above may reach."""
+    inside = {(it.file, at) for it in crate.functions.values() for at in range(it.opens + 1, it.ends)}
+    code = {path: "\n".join(line for at, line in enumerate(lines) if (path, at) not in inside) for path, lines in crate.lines.items()}
+    return {**code, **{it: text_of(f"{crate.folder}/{it}") for part in ("specs", "proofs") for it in crate.files(part, ".antt")}}
+
+
+def whole(crate):
+    """Returns the texts by file of all of a crate."""
+    return {it: text_of(f"{crate.folder}/{it}") for part in ("src", "specs", "proofs") for it in crate.files(part, (".rt", ".antt"))}
+
+
+def own_texts(crate, edit, known):
+    """Returns the texts by file of the function that an edit names, of what is written of its proof, and of the bodies that the edit
+    changes."""
+    found = collections.defaultdict(str)
+    for it in sorted((crate.functions[name] for name in {known.name, *edit.bodies} if name in crate.functions), key=lambda it: it.name):
+        found[it.file] += "\n".join([*it.block, *crate.lines[it.file][it.begins : it.ends + 1]])
+    for folder in crate.proofs_of(known.name):
+        for at, _, names in os.walk(folder):
+            found.update({os.path.relpath(f"{at}/{it}", crate.folder): text_of(f"{at}/{it}") for it in names})
+    return found
+
+
+def brought_by(path):
+    """Yields what the `use` lines and attributes of a file bring, one by one, each with its names and with its signs where it has
+    no name."""
+    for line in MEANS.findall(text_of(path)):
+        head, _, names = re.sub(r"\s+", " ", line).partition("{")
+        parts = names.rpartition("}")[0].split(",") if names.count("{") == 0 else [names]
+        for it in (it.strip() for it in parts if it.strip()) if names else [head]:
+            said = names_in(it)
+            yield head + it if names else head, said, [] if said else [sign for sign in it.split("◌") if sign]
+
+
+class Sums:
+    """The sums of edits of a repository, of the texts as they stand."""
+
+    def __init__(self, root, crates):
+        self.root, self.crates, self.brought = root, crates, {}
+        told = subprocess.run(["rt", "version"], stdin=subprocess.DEVNULL, stdout=subprocess.PIPE, encoding="utf-8", check=True).stdout
+        handles = text_of(f"{root}/HANDLES") if os.path.isfile(f"{root}/HANDLES") else ""
+        self.version = told + text_of(wrong_bodies.__file__) + handles
+        self.known = {name: Crate(f"{root}/crates/{name}") for name in crates}
+
+    def means(self, crate, path):
+        if (crate.name, path) not in self.brought:
+            self.brought[crate.name, path] = [*brought_by(f"{crate.folder}/{path}")]
+        return self.brought[crate.name, path]
+
+    def rests_on(self, edit, crate, below):
+        """Returns the texts on which the verdict on an edit rests in its crate and those below, by crate and file."""
+        known = crate.functions.get(re.sub(r"\bfn::(\w+)::.*", r"\1", edit.function))
+        if not known or edit.turned is None:
+            found = {(crate.name, path): said for path, said in whole(crate).items()}
+            return {**found, **{(it.name, path): said for it in below for path, said in without_bodies(it).items()}}
+        reached = reach_of(edit.reach | {f"fn {last_of(known.name)}"}, [crate, *below])
+        rests = {}
+        for it in (crate, *below):
+            found = collections.defaultdict(str, own_texts(crate, edit, known) if it is crate else {})
+            for name in sorted(reached & it.texts.keys()):
+                for path, said in it.texts[name].items():
+                    found[path] += said
+            for path in {"src/lib.rt", "src/main.rt"} & it.lines.keys():
+                found[path] += ""
+            for path, said in found.items():
+                rests[it.name, path] = "\n".join([*self.means_of(it, path, reached, said), said])
+        return rests
+
+    def means_of(self, crate, path, reached, said):
+        """Returns what the `use` lines and attributes of a file bring of these names, and of the signs of a text."""
+        return [it for it, names, signs in self.means(crate, path)
+                if "#!" in it or names & reached or signs and all(sign in said for sign in signs)]
+
+    def sum_of(self, edit, below, *more):
+        """Returns the sum of an edit with its crate and those below."""
+        crate = self.known[edit.label.split(" ")[0]]
+        text = text_of(f"{self.root}/crates/{edit.label.replace(' ', '/', 1)}")
+        rests = self.rests_on(edit, crate, [self.known[it] for it in below])
+        lines = [f"{' '.join(it)}\n{without_comments(rests[it])}" for it in sorted(rests)]
+        return hashlib.sha256("\0".join([self.version, *more, edit.label, text, *lines]).encode()).hexdigest()[:16]
+
+    def of(self, edit):
+        """Returns the two sums of an edit."""
+        every = all_below(self.crates, [edit.label.split(" ")[0]])
+        return self.sum_of(edit, []), self.sum_of(edit, every[:-1], repr([self.crates[it] for it in every]))
+
+
+def all_below(crates, names):
+    """Returns these crates and those on which they stand, lowest first, without the toolchain's."""
+    needed, left = set(), [*names]
+    while left:
+        name = left.pop()
+        if name in crates and name not in needed:
+            needed.add(name)
+            left += crates[name]
+    return [it for it in crates if it in needed]
+
+
+def reach_of(names, crates):
+    """Returns all names that these reach through the crates."""
+    left, reached = set(names), set()
+    while left:
+        name = left.pop()
+        if name not in reached:
+            reached.add(name)
+            left.update(*(it.brings[name] for it in crates if name in it.brings))
+    return reached
+
+
+def without_comments(text):
+    return re.sub(r"(?m)^ *(?:--|//).*\n?", "", text)
+
+
+def sums_of(root, crates, names):
+    """Returns the two sums of each edit of these crates by its label, of the texts as they stand."""
+    sums = Sums(root, crates)
+    return {it.label: sums.of(it) for name in names for it in read_edits(sums.known[name])[0]}
+
+
+def read_tried(root):
+    """Returns the sums of the edits that were seen refused, by their labels."""
+    lines = text_of(f"{root}/{TRIED}").split("\n") if os.path.isfile(f"{root}/{TRIED}") else []
+    return {label: tuple(sums) for label, *sums in (it.rsplit(" ", 2) for it in lines) if label}
+
+
+def changes_of(sums, tried):
+    """Returns where what the verdict on each edit rests on has changed, by its label."""
+    was = {it: tried.get(it, ("", "")) for it in sums}
+    return {it: CRATE if was[it][:1] != sums[it][:1] else BELOW if was[it] != sums[it] else NOWHERE for it in sums}
+
+
+def note(root, crates, names, sums, verdicts):
+    """Writes the lines of what was seen refused now, where these sums, of before, still hold, and keeps those that still say
+    something."""
+    tried, now = read_tried(root), sums_of(root, crates, names)
+    lines = {it: was for it, was in tried.items() if it.split(" ")[0] not in names}
+    for it, change in changes_of(sums, tried).items():
+        # (what has changed below is still so where it wasn't tried)
+        line = sums[it] if verdicts.get(it) else tried[it] if it not in verdicts and change != CRATE else None
+        if line and now.get(it) == sums[it]:
+            lines[it] = line
+    write(f"{root}/{TRIED}", "".join(f"{label} {' '.join(lines[label])}\n" for label in sorted(lines)))
+
+
+def share_of(rounds, part, word):
+    """Returns the labels of rounds that a word chooses, so many that they have one edit in so many at least."""
+    wanted, found = -(-sum(map(len, rounds)) // part), set()
+    for it in sorted(rounds, key=lambda it: hashlib.sha256(f"{word} {sorted(edit.label for edit in it)}".encode()).hexdigest()):
+        if len(found) < wanted:
+            found |= {edit.label for edit in it}
+    return found
