@@ -225,7 +225,34 @@ fn push_found(found: &mut Vec<Found>, frames: &[Frame]) -> Result<(), AllocError
     Ok(())
 }
 
+/// The frames of a piece, which the tail takes.
+pub fn frames_of(
+    rt: &impl Abort,
+    alloc: Global,
+    tail: &mut Tail,
+    moment: Moment,
+    piece: &Bytes,
+) -> Vec<Frame> {
+    assert!(rt; tail.has_room(piece.len()), "room");
+    let (frames, after) = frames(alloc, tail, moment, piece).expect(rt, "frames");
+    *tail = after;
+    frames
+}
+
 /// The tail takes a piece, and what was found gets its frames.
+fn take_piece(
+    rt: &impl Abort,
+    alloc: Global,
+    tail: &mut Tail,
+    found: &mut Vec<Found>,
+    moment: Moment,
+    piece: &Bytes,
+) {
+    let frames = frames_of(rt, alloc, tail, moment, piece);
+    push_found(found, frames.as_slice()).expect(rt, "found frames");
+}
+
+/// The tail takes octets, and what was found gets their frames.
 pub fn take(
     rt: &impl Abort,
     alloc: Global,
@@ -235,10 +262,7 @@ pub fn take(
     octets: &[u8],
 ) {
     let piece = Bytes::copy_from_slice(alloc, octets).expect(rt, "a piece");
-    assert!(rt; tail.has_room(piece.len()), "room");
-    let (frames, after) = frames(alloc, tail, moment, &piece).expect(rt, "frames");
-    push_found(found, frames.as_slice()).expect(rt, "found frames");
-    *tail = after;
+    take_piece(rt, alloc, tail, found, moment, &piece);
 }
 
 /// The moment of the n-th piece.
@@ -246,17 +270,34 @@ pub fn moment_of(rt: &impl Abort, number: usize) -> Moment {
     Moment::new((number as u64).saturating_mul(1000)).expect(rt, "a moment")
 }
 
-/// What is known of the frames of a row's octets, which the tail takes.
-fn feed(rt: &impl Abort, alloc: Global, tail: &mut Tail, row: &Row) -> Vec<Found> {
-    let octets = octets_of(rt, alloc, row);
-    let mut found = Vec::new(alloc);
-    assert!(rt; row.piece > 0, "a piece");
+/// The tail takes octets in pieces of so many, and what was found gets their frames.
+fn take_all(
+    rt: &impl Abort,
+    alloc: Global,
+    tail: &mut Tail,
+    found: &mut Vec<Found>,
+    octets: &[u8],
+    piece: usize,
+) {
+    assert!(rt; piece > 0, "a piece");
     let mut number: usize = 0;
-    for part in octets.as_slice().chunks(row.piece) {
+    for part in octets.chunks(piece) {
         number = number.saturating_add(1);
-        take(rt, alloc, tail, &mut found, moment_of(rt, number), part);
+        take(rt, alloc, tail, found, moment_of(rt, number), part);
     }
-    found
+}
+
+/// Asserts what is known of the frames of a row's octets, which the tail takes.
+fn assert_frames(rt: &impl Abort, alloc: Global, tail: &mut Tail, octets: &[u8], row: &Row) {
+    let mut found = Vec::new(alloc);
+    take_all(rt, alloc, tail, &mut found, octets, row.piece);
+    assert!(rt; found.as_slice() == row.found, "frames of {}", row.message);
+}
+
+/// A row's octets come, whose frames are as known.
+fn feed(rt: &impl Abort, alloc: Global, tail: &mut Tail, row: &Row) {
+    let octets = octets_of(rt, alloc, row);
+    assert_frames(rt, alloc, tail, octets.as_slice(), row);
 }
 
 /// What a tail shows.
@@ -272,22 +313,29 @@ pub fn is_copied(tail: &Tail) -> bool {
     }
 }
 
+/// Whether a tail is that of a stream of whole frames and so many octets.
+pub fn is_plain(tail: &Tail, offset: u64) -> bool {
+    tail.is_same(&Tail::at(offset))
+}
+
 /// Whether a tail shows this, and is that of a stream of whole frames only where nothing waits and nothing is broken.
-fn is_in_state(tail: &Tail, state: State) -> bool {
-    let (offset, waiting, broken) = state;
-    let is_plain = waiting == 0 && broken.is_none();
-    state_of(tail) == state && tail.is_same(&Tail::at(offset)) == is_plain
+fn is_in_state(tail: &Tail, (offset, waiting, broken): State) -> bool {
+    state_of(tail) == (offset, waiting, broken)
+        && is_plain(tail, offset) == (waiting == 0 && broken.is_none())
+}
+
+fn assert_tail(rt: &impl Abort, tail: &Tail, row: &Row) {
+    assert!(rt;
+        is_in_state(tail, row.tail) && is_copied(tail),
+        "tail after {}",
+        row.message
+    );
 }
 
 fn assert_row(rt: &impl Abort, alloc: Global, row: &Row) {
     let mut tail = Tail::at(row.offset);
-    let found = feed(rt, alloc, &mut tail, row);
-    assert!(rt; found.as_slice() == row.found, "frames of {}", row.message);
-    assert!(rt;
-        is_in_state(&tail, row.tail) && is_copied(&tail),
-        "tail after {}",
-        row.message
-    );
+    feed(rt, alloc, &mut tail, row);
+    assert_tail(rt, &tail, row);
 }
 
 #[test]
@@ -308,11 +356,15 @@ const ROOMS: &[(u64, usize, bool)] = &[
     (0, usize::MAX, false),
 ];
 
+fn has_room(offset: u64, octets: usize) -> bool {
+    Tail::at(offset).has_room(octets)
+}
+
 #[test]
 fn a_stream_has_room_for_2_to_the_power_48_octets(rt: HostRuntime) {
-    for (offset, octets, has_room) in ROOMS {
+    for (offset, octets, wanted) in ROOMS {
         assert!(rt;
-            Tail::at(*offset).has_room(*octets) == *has_room,
+            has_room(*offset, *octets) == *wanted,
             "{octets} after {offset}"
         );
     }

@@ -4,6 +4,7 @@ use smq_kit::{
     Moment, Network, OPENING_WINDOW, Refusal, Window, key_of,
 };
 use std::alloc::Global;
+use std::process::Abort;
 
 const ZEROS_64: &str = "0000000000000000000000000000000000000000000000000000000000000000";
 
@@ -179,44 +180,17 @@ fn has_key(id: &MessageId, form: Form, number: Option<u128>) -> bool {
     key_of(form, id) == wanted && key.link == LinkId(7) && key.key == wanted
 }
 
+/// Asserts the number of an id's key under a form.
+fn assert_key(rt: &impl Abort, form: Form, text: &str, number: Option<u128>) {
+    let id = MessageId::new(text.as_bytes()).expect(rt, text);
+    assert!(rt; has_key(&id, form, number), "{text}");
+}
+
 #[test]
 fn ids_are_numbers_under_their_forms(rt: HostRuntime) {
     for (form, text, number) in KEYS {
-        let id = MessageId::new(text.as_bytes()).expect(&rt, text);
-        assert!(rt; has_key(&id, *form, *number), "{text}");
+        assert_key(&rt, *form, text, *number);
     }
-}
-
-/// Refusals that tell of this moment, if of any, with their numbers and what they print.
-fn refusals(moment: Moment) -> [(Refusal, u32, &'static str); 22] {
-    [
-        (Refusal::EmptyPiece, 1, "1 EmptyPiece"),
-        (Refusal::BadMoment, 2, "2 BadMoment"),
-        (Refusal::Backward { last: moment }, 3, "3 Backward 20000"),
-        (Refusal::OtherLink { link: LinkId(7) }, 4, "4 OtherLink 7"),
-        (Refusal::OutOfStep { offset: 49 }, 5, "5 OutOfStep 49"),
-        (Refusal::NoSession, 6, "6 NoSession"),
-        (Refusal::Overlap { from: moment }, 7, "7 Overlap 20000"),
-        (Refusal::NoRoute, 8, "8 NoRoute"),
-        (Refusal::Ended { until: moment }, 9, "9 Ended 20000"),
-        (Refusal::BadEnd, 10, "10 BadEnd"),
-        (
-            Refusal::ClockBack { clock: moment },
-            11,
-            "11 ClockBack 20000",
-        ),
-        (Refusal::HistoryFull, 12, "12 HistoryFull"),
-        (Refusal::Memory, 13, "13 Memory"),
-        (Refusal::StreamFull, 14, "14 StreamFull"),
-        (Refusal::NoThread, 15, "15 NoThread"),
-        (Refusal::NoSeat, 16, "16 NoSeat"),
-        (Refusal::NoWatcher, 17, "17 NoWatcher"),
-        (Refusal::BadWindow, 18, "18 BadWindow"),
-        (Refusal::TornSeat { number: 3 }, 19, "19 TornSeat 3"),
-        (Refusal::BadPrefix, 20, "20 BadPrefix"),
-        (Refusal::BadNetwork, 21, "21 BadNetwork"),
-        (Refusal::BadId, 22, "22 BadId"),
-    ]
 }
 
 fn is_printed(alloc: Global, refusal: Refusal, text: &str) -> bool {
@@ -226,13 +200,52 @@ fn is_printed(alloc: Global, refusal: Refusal, text: &str) -> bool {
     }
 }
 
+/// Asserts the number of a refusal and what it prints.
+fn assert_refusal(rt: &impl Abort, alloc: Global, refusal: Refusal, number: u32, text: &str) {
+    assert!(rt;
+        refusal.number() == number && is_printed(alloc, refusal, text),
+        "{text}"
+    );
+}
+
+fn assert_refusals_to_11(rt: &impl Abort, alloc: Global, moment: Moment) {
+    assert_refusal(rt, alloc, Refusal::EmptyPiece, 1, "1 EmptyPiece");
+    assert_refusal(rt, alloc, Refusal::BadMoment, 2, "2 BadMoment");
+    let backward = Refusal::Backward { last: moment };
+    assert_refusal(rt, alloc, backward, 3, "3 Backward 20000");
+    let other_link = Refusal::OtherLink { link: LinkId(7) };
+    assert_refusal(rt, alloc, other_link, 4, "4 OtherLink 7");
+    let out_of_step = Refusal::OutOfStep { offset: 49 };
+    assert_refusal(rt, alloc, out_of_step, 5, "5 OutOfStep 49");
+    assert_refusal(rt, alloc, Refusal::NoSession, 6, "6 NoSession");
+    let overlap = Refusal::Overlap { from: moment };
+    assert_refusal(rt, alloc, overlap, 7, "7 Overlap 20000");
+    assert_refusal(rt, alloc, Refusal::NoRoute, 8, "8 NoRoute");
+    let ended = Refusal::Ended { until: moment };
+    assert_refusal(rt, alloc, ended, 9, "9 Ended 20000");
+    assert_refusal(rt, alloc, Refusal::BadEnd, 10, "10 BadEnd");
+    let clock_back = Refusal::ClockBack { clock: moment };
+    assert_refusal(rt, alloc, clock_back, 11, "11 ClockBack 20000");
+}
+
+fn assert_refusals_from_12(rt: &impl Abort, alloc: Global) {
+    assert_refusal(rt, alloc, Refusal::HistoryFull, 12, "12 HistoryFull");
+    assert_refusal(rt, alloc, Refusal::Memory, 13, "13 Memory");
+    assert_refusal(rt, alloc, Refusal::StreamFull, 14, "14 StreamFull");
+    assert_refusal(rt, alloc, Refusal::NoThread, 15, "15 NoThread");
+    assert_refusal(rt, alloc, Refusal::NoSeat, 16, "16 NoSeat");
+    assert_refusal(rt, alloc, Refusal::NoWatcher, 17, "17 NoWatcher");
+    assert_refusal(rt, alloc, Refusal::BadWindow, 18, "18 BadWindow");
+    let torn_seat = Refusal::TornSeat { number: 3 };
+    assert_refusal(rt, alloc, torn_seat, 19, "19 TornSeat 3");
+    assert_refusal(rt, alloc, Refusal::BadPrefix, 20, "20 BadPrefix");
+    assert_refusal(rt, alloc, Refusal::BadNetwork, 21, "21 BadNetwork");
+    assert_refusal(rt, alloc, Refusal::BadId, 22, "22 BadId");
+}
+
 #[test]
 fn refusals_print_number_name_and_field(rt: HostRuntime) {
     let moment = Moment::new(20_000).expect(&rt, "a moment");
-    for (refusal, number, text) in refusals(moment) {
-        assert!(rt;
-            refusal.number() == number && is_printed(rt.alloc(), refusal, text),
-            "{text}"
-        );
-    }
+    assert_refusals_to_11(&rt, rt.alloc(), moment);
+    assert_refusals_from_12(&rt, rt.alloc());
 }

@@ -53,6 +53,13 @@ pub fn first_alone(pairing: &Pairing) -> (Option<Place>, Option<Place>) {
     (pairing.waiting().next(), pairing.strays().next())
 }
 
+/// Adds a PDU for which memory was refused, which left it the next.
+fn add_again(rt: &impl Abort, pairing: &mut Pairing, at: Place, pdu: Pdu) -> Option<Pair> {
+    let (_, command, seq, status) = pdu;
+    assert!(rt; pairing.is_next(at), "as before");
+    pairing.add(at, seq, command, status).expect(rt, "a PDU")
+}
+
 /// Adds a PDU, again where memory was refused, which left all as it was.
 pub fn add(rt: &impl Abort, pairing: &mut Pairing, at: Place, pdu: Pdu) -> Option<Pair> {
     let (_, command, seq, status) = pdu;
@@ -65,8 +72,36 @@ pub fn add(rt: &impl Abort, pairing: &mut Pairing, at: Place, pdu: Pdu) -> Optio
         pairing.pair_of(at).is_none() && first_alone(pairing) == alone,
         "as before"
     );
-    assert!(rt; pairing.is_next(at), "as before");
-    pairing.add(at, seq, command, status).expect(rt, "a PDU")
+    add_again(rt, pairing, at, pdu)
+}
+
+/// Adds the submit_sm of a pair, which makes none.
+fn add_request(rt: &impl Abort, pairing: &mut Pairing, pair: Pair) {
+    let made = add(rt, pairing, pair.request, (CLIENT, SUBMIT_SM, 7, 0));
+    assert!(rt; made.is_none(), "no pair");
+}
+
+/// Adds the submit_sm_resp of a pair, which makes it.
+fn add_response(rt: &impl Abort, pairing: &mut Pairing, pair: Pair) {
+    let made = add(
+        rt,
+        pairing,
+        pair.response,
+        (CENTRE, SUBMIT_SM_RESP, 7, 0x45),
+    );
+    assert!(rt; made == Some(pair), "a pair");
+}
+
+/// The response comes, and nothing is alone; then that is undone, and the request waits.
+fn assert_undone(rt: &impl Abort, pairing: &mut Pairing, pair: Pair) {
+    add_response(rt, pairing, pair);
+    assert!(rt; first_alone(pairing) == (None, None), "a pair");
+    pairing.undo();
+    assert!(rt;
+        first_alone(pairing) == (Some(pair.request), None),
+        "the request waits"
+    );
+    assert!(rt; pairing.pair_of(pair.request).is_none(), "no pair");
 }
 
 /// A response whose coming is undone leaves its request waiting, and makes the pair when it comes again.
@@ -79,31 +114,9 @@ fn a_response_is_undone_and_comes_again(rt: HostRuntime) {
         agrees: true,
         status: 0x45,
     };
-    let made = add(&rt, &mut pairing, pair.request, (CLIENT, SUBMIT_SM, 7, 0));
-    assert!(rt; made.is_none(), "no pair");
+    add_request(&rt, &mut pairing, pair);
     pairing.settle();
-    let made = add(
-        &rt,
-        &mut pairing,
-        pair.response,
-        (CENTRE, SUBMIT_SM_RESP, 7, 0x45),
-    );
-    assert!(rt;
-        made == Some(pair) && first_alone(&pairing) == (None, None),
-        "a pair"
-    );
-    pairing.undo();
-    assert!(rt;
-        first_alone(&pairing) == (Some(pair.request), None),
-        "the request waits"
-    );
-    assert!(rt; pairing.pair_of(pair.request).is_none(), "no pair");
-    let made = add(
-        &rt,
-        &mut pairing,
-        pair.response,
-        (CENTRE, SUBMIT_SM_RESP, 7, 0x45),
-    );
-    assert!(rt; made == Some(pair), "a pair again");
+    assert_undone(&rt, &mut pairing, pair);
+    add_response(&rt, &mut pairing, pair);
     assert!(rt; pairing.pair_of(pair.request) == Some(pair), "a pair again");
 }

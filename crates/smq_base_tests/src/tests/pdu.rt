@@ -5,8 +5,9 @@ mod data_sms;
 mod destinations;
 mod whole;
 
+use crate::tests::frame::frames_of;
 use bytes::Bytes;
-use smq_frame::{Frame, Tail, frames};
+use smq_frame::{Frame, Tail};
 use smq_kit::{Digits, MessageId, Moment};
 use smq_pdu::{Body, DataSm, Deliver, Pdu, Submit, SubmitAnswer, decode};
 use std::alloc::{AllocError, Global};
@@ -150,13 +151,21 @@ fn is_pdu(pdu: &Pdu<'_>, (seq, command, status): Header, says: &Says) -> bool {
     *pdu == wanted && is_copied(&pdu.body) && says_both(&pdu.body, says)
 }
 
-/// The frame that these octets are.
-fn frame_of(rt: &impl Abort, alloc: Global, octets: &[u8]) -> Frame {
-    assert!(rt; octets.len() <= 1000, "few octets");
-    let piece = Bytes::copy_from_slice(alloc, octets).expect(rt, "a piece");
-    let (mut found, _) = frames(alloc, &Tail::at(0), Moment::epoch(), &piece).expect(rt, "frames");
-    assert!(rt; found.len() == 1, "one frame");
-    found.pop().expect(rt, "a frame")
+/// Asserts what a frame says.
+fn assert_frame(rt: &impl Abort, frame: &Frame, header: Header, says: &Says, message: &str) {
+    assert!(rt; is_pdu(&decode(frame), header, says), "{message}");
+}
+
+/// Asserts what the only frame says.
+fn assert_frames(rt: &impl Abort, frames: &[Frame], header: Header, says: &Says, message: &str) {
+    assert!(rt; frames.len() == 1, "one frame");
+    assert_frame(rt, &frames[0], header, says, message);
+}
+
+/// The frames of a piece.
+fn frames_of_piece(rt: &impl Abort, alloc: Global, piece: &Bytes) -> Vec<Frame> {
+    let mut tail = Tail::at(0);
+    frames_of(rt, alloc, &mut tail, Moment::epoch(), piece)
 }
 
 /// Asserts what the octets of a PDU say.
@@ -168,8 +177,10 @@ pub fn assert_pdu(
     says: &Says,
     message: &str,
 ) {
-    let frame = frame_of(rt, alloc, octets);
-    assert!(rt; is_pdu(&decode(&frame), header, says), "{message}");
+    assert!(rt; octets.len() <= 1000, "few octets");
+    let piece = Bytes::copy_from_slice(alloc, octets).expect(rt, "a piece");
+    let frames = frames_of_piece(rt, alloc, &piece);
+    assert_frames(rt, frames.as_slice(), header, says, message);
 }
 
 /// The octets of a PDU of this length with this body (SMPP 3.4, 3.2).

@@ -6,6 +6,7 @@ mod plans;
 use crate::tests::route::plans::PLANS;
 use smq_kit::{Digits, Moment, Network, Refusal, RouteId};
 use smq_route::{Routes, Version, VersionKey};
+use std::alloc::Global;
 use std::process::Abort;
 
 /// A version: its prefix, its beginning, its end, its route and its network.
@@ -179,18 +180,45 @@ fn make(
     );
 }
 
-/// Plays the step that comes after so many: an edit is made, undone and made again.
+/// Whether the versions are those after so many steps once what came since is undone.
+fn is_undone(routes: &mut Routes, plan: &Plan, count: usize) -> bool {
+    routes.undo();
+    has_versions_after(routes, plan, count)
+}
+
+/// Makes the edit that comes after so many steps, undoes it, and makes it again.
+fn make_twice(
+    rt: &impl Abort,
+    routes: &mut Routes,
+    plan: &Plan,
+    count: usize,
+    edit: &Edit,
+    reply: &Reply,
+) {
+    routes.settle();
+    make(rt, routes, plan, count, edit, reply);
+    assert!(rt; is_undone(routes, plan, count), "{}", plan.fact);
+    make(rt, routes, plan, count, edit, reply);
+}
+
+/// Plays the step that comes after so many.
 fn play(rt: &impl Abort, routes: &mut Routes, plan: &Plan, count: usize, step: &Step) {
     match step {
-        Step::Edit(edit, reply) => {
-            routes.settle();
-            make(rt, routes, plan, count, edit, reply);
-            routes.undo();
-            assert!(rt; has_versions_after(routes, plan, count), "{}", plan.fact);
-            make(rt, routes, plan, count, edit, reply);
-        }
+        Step::Edit(edit, reply) => make_twice(rt, routes, plan, count, edit, reply),
         Step::At(number, at, route) => assert_route(rt, routes, number, *at, *route),
     }
+}
+
+/// Plays the steps of a plan.
+fn play_steps(rt: &impl Abort, routes: &mut Routes, plan: &Plan) {
+    for (count, step) in plan.steps.iter().enumerate() {
+        play(rt, routes, plan, count, step);
+    }
+}
+
+fn play_all(rt: &impl Abort, alloc: Global, plan: &Plan) {
+    let mut routes = Routes::new(alloc);
+    play_steps(rt, &mut routes, plan);
 }
 
 /// With each allocation refused in turn (`rt try --test --fail-alloc`) an edit leaves the versions as they were, and is made
@@ -198,9 +226,6 @@ fn play(rt: &impl Abort, routes: &mut Routes, plan: &Plan, count: usize, step: &
 #[test]
 fn plans_are_edited_and_route_as_known(rt: HostRuntime) {
     for plan in &PLANS {
-        let mut routes = Routes::new(rt.alloc());
-        for (count, step) in plan.steps.iter().enumerate() {
-            play(&rt, &mut routes, plan, count, step);
-        }
+        play_all(&rt, rt.alloc(), plan);
     }
 }

@@ -24,22 +24,32 @@ fn is_settled(pairing: &Pairing, number: usize) -> bool {
     !pairing.is_next(place(CLIENT, number)) && first_alone(pairing) == (None, None)
 }
 
-/// The n-th response is that of the n-th request, however many there are of one number. With each allocation refused in
-/// turn (`rt try --test --fail-alloc`) the same pairs are made.
-#[test]
-fn many_of_one_number_are_paired_in_turn(rt: HostRuntime) {
-    let mut pairing = Pairing::new(rt.alloc());
-    for number in 0..2000 {
+/// Adds so many requests.
+fn add_requests(rt: &impl Abort, pairing: &mut Pairing, count: usize) {
+    for number in 0..count {
         let made = add(
-            &rt,
-            &mut pairing,
+            rt,
+            pairing,
             place(CLIENT, number),
             (CLIENT, SUBMIT_SM, 7, 0),
         );
         assert!(rt; made.is_none(), "no pair");
     }
-    for number in 0..2000 {
-        assert!(rt; is_pair_added(&rt, &mut pairing, number), "a pair");
+}
+
+/// Adds so many responses, each of which makes its pair.
+fn add_responses(rt: &impl Abort, pairing: &mut Pairing, count: usize) {
+    for number in 0..count {
+        assert!(rt; is_pair_added(rt, pairing, number), "a pair");
     }
+}
+
+/// The n-th response is that of the n-th request, however many there are of one number. With each allocation refused in
+/// turn (`rt try --test --fail-alloc`) the same pairs are made.
+#[test]
+fn many_of_one_number_are_paired_in_turn(rt: HostRuntime) {
+    let mut pairing = Pairing::new(rt.alloc());
+    add_requests(&rt, &mut pairing, 2000);
+    add_responses(&rt, &mut pairing, 2000);
     assert!(rt; is_settled(&pairing, 1999), "nothing alone");
 }

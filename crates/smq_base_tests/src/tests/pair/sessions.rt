@@ -299,6 +299,13 @@ impl Session {
         }
     }
 
+    /// Puts the PDUs of one direction after those of another.
+    fn put(&self, rt: &impl Abort, pairing: &mut Pairing, turns: &[Option<Dir>]) {
+        for turn in turns {
+            self.put_turn(rt, pairing, *turn);
+        }
+    }
+
     fn has_pairs(&self, pairing: &mut Pairing) -> bool {
         for (number, pdu) in self.pdus.iter().enumerate() {
             if pairing.pair_of(place(pdu.0, number)) != self.pair(number) {
@@ -327,9 +334,7 @@ impl Session {
 
 fn assert_session(rt: &impl Abort, alloc: Global, session: &Session, turns: &[Option<Dir>]) {
     let mut pairing = Pairing::new(alloc);
-    for turn in turns {
-        session.put_turn(rt, &mut pairing, *turn);
-    }
+    session.put(rt, &mut pairing, turns);
     assert!(rt; session.is_paired(&mut pairing), "{}", session.fact);
 }
 

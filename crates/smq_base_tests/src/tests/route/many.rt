@@ -78,17 +78,27 @@ fn add_version(rt: &impl Abort, routes: &mut Routes, number: u32) {
     end(rt, routes, number).expect(rt, "an end");
 }
 
+/// Adds the first so many versions.
+fn add_versions(rt: &impl Abort, routes: &mut Routes, count: u32) {
+    for number in 0..count {
+        add_version(rt, routes, number);
+    }
+}
+
+/// Asserts that the subscriber of each of so many versions has its route where it begins.
+fn assert_routes(rt: &impl Abort, routes: &Routes, count: u32) {
+    for number in 0..count {
+        let (subscriber, at) = (subscriber(number), beginning_of(number));
+        let wanted = Some((number, b"25001".as_slice()));
+        assert_route(rt, routes, &subscriber, at, wanted);
+    }
+}
+
 /// Five versions of each of 2,000 prefixes, of which the last is open.
 #[test]
 fn many_versions_are_added_and_found(rt: HostRuntime) {
     let mut routes = Routes::new(rt.alloc());
-    for number in 0..10_000 {
-        add_version(&rt, &mut routes, number);
-    }
+    add_versions(&rt, &mut routes, 10_000);
     assert!(rt; has_first(&routes, 10_000), "all versions");
-    for number in 0..10_000 {
-        let (subscriber, at) = (subscriber(number), beginning_of(number));
-        let wanted = Some((number, b"25001".as_slice()));
-        assert_route(&rt, &routes, &subscriber, at, wanted);
-    }
+    assert_routes(&rt, &routes, 10_000);
 }
