@@ -9,7 +9,6 @@ use std::io;
 use std::io::Write;
 use std::sync::Wait;
 use std::sync::atomic::{AtomicU64, Ordering};
-use std::test::Fail;
 use std::thread::Threads;
 
 /// A submit_sm to 447700900123 with sequence number 1, which asks for a receipt (SMPP 3.4, 4.4.1).
@@ -51,41 +50,54 @@ fn push_piece(
     script.push('\n')
 }
 
-/// A submit_sm and its response of session 10 of link 1, an octet a row.
-fn single_octets(alloc: Global) -> Result<String, AllocError> {
-    let mut script = String::new(alloc);
-    for octet in SUBMIT {
-        push_piece(&mut script, 10, "client", 1000, &[*octet])?;
+/// Puts the octets of a PDU of session 10 of link 1 after a script, an octet a row.
+fn push_octets(
+    script: &mut String,
+    dir: &str,
+    moment: u64,
+    octets: &[u8],
+) -> Result<(), AllocError> {
+    for octet in octets {
+        push_piece(script, 10, dir, moment, &[*octet])?;
     }
-    for octet in RESPONSE {
-        push_piece(&mut script, 10, "centre", 1200, &[*octet])?;
-    }
-    Ok(script)
+    Ok(())
 }
 
-/// A submit_sm and its response of each of 64 sessions of link 1, the responses after all submit_sm.
-fn many_sessions(alloc: Global) -> Result<String, AllocError> {
-    let mut script = String::new(alloc);
-    for session in 0..64 {
-        push_piece(&mut script, session, "client", 1000, SUBMIT)?;
-    }
-    for session in 0..64 {
-        push_piece(&mut script, session, "centre", 1200, RESPONSE)?;
-    }
-    Ok(script)
+/// A submit_sm and its response, an octet a row.
+fn push_single_octets(script: &mut String) -> Result<(), AllocError> {
+    push_octets(script, "client", 1000, SUBMIT)?;
+    push_octets(script, "centre", 1200, RESPONSE)
 }
 
-/// What a check answers and writes.
+/// Puts a PDU of each of 64 sessions of link 1 after a script.
+fn push_sessions(
+    script: &mut String,
+    dir: &str,
+    moment: u64,
+    octets: &[u8],
+) -> Result<(), AllocError> {
+    for session in 0..64 {
+        push_piece(script, session, dir, moment, octets)?;
+    }
+    Ok(())
+}
+
+/// A submit_sm and its response of each of 64 sessions, the responses after all submit_sm.
+fn push_many_sessions(script: &mut String) -> Result<(), AllocError> {
+    push_sessions(script, "client", 1000, SUBMIT)?;
+    push_sessions(script, "centre", 1200, RESPONSE)
+}
+
+/// What a check answers, and what it writes.
 fn answer<RT: AllocGlobal + Threads + Wait + Sync, G: Gate + Sync>(
     rt: &RT,
     settings: &[u8],
     script: &[u8],
+    written: &mut Vec<u8>,
     gate: &G,
-) -> (Result<Checked, RunFault>, Vec<u8>) {
-    let mut written = Vec::new(rt.alloc());
+) -> Result<Checked, RunFault> {
     let mut reader = script;
-    let answer = check(rt, &mut reader, settings, &mut written, gate);
-    (answer, written)
+    check(rt, &mut reader, settings, written, gate)
 }
 
 /// Whether a check writes this line, and answers what it says.
@@ -97,7 +109,8 @@ fn tells<RT: AllocGlobal + Threads + Wait + Sync, G: Gate + Sync>(
     wanted: Checked,
     line: &str,
 ) -> bool {
-    let (answer, written) = answer(rt, settings, script, gate);
+    let mut written = Vec::new(rt.alloc());
+    let answer = answer(rt, settings, script, &mut written, gate);
     answer == Ok(wanted) && written.as_slice() == line.as_bytes()
 }
 
@@ -108,7 +121,8 @@ fn fails<RT: AllocGlobal + Threads + Wait + Sync>(
     script: &[u8],
     wanted: RunFault,
 ) -> bool {
-    let (answer, written) = answer(rt, settings, script, &NoGate);
+    let mut written = Vec::new(rt.alloc());
+    let answer = answer(rt, settings, script, &mut written, &NoGate);
     answer == Err(wanted) && written.is_empty()
 }
 
@@ -140,35 +154,40 @@ fn same(entries: u64, refused: u64) -> Checked {
     }
 }
 
-#[test]
-fn each_piece_passes_the_gate(rt: HostRuntime) -> Result<(), Fail> {
-    let script = single_octets(rt.alloc())?;
+/// How often a gate was called before and after rows.
+fn calls_of(gate: &Counts) -> (u64, u64) {
+    (
+        gate.before.load(Ordering::SeqCst),
+        gate.after.load(Ordering::SeqCst),
+    )
+}
+
+/// Whether each of 67 rows of a script passes the gate, and they are told.
+fn passes_the_gate<RT: AllocGlobal + Threads + Wait + Sync>(rt: &RT, script: &[u8]) -> bool {
     let gate = Counts {
         before: AtomicU64::new(0),
         after: AtomicU64::new(0),
     };
-    let told = tells(
-        &rt,
-        b"",
-        script.as_bytes(),
-        &gate,
-        same(67, 0),
-        "same entries 67 refused 0\n",
-    );
-    assert!(rt; told);
-    assert_eq!(rt; gate.before.load(Ordering::SeqCst), 67);
-    assert_eq!(rt; gate.after.load(Ordering::SeqCst), 67);
-    let script = many_sessions(rt.alloc())?;
-    let told = tells(
-        &rt,
-        b"",
-        script.as_bytes(),
-        &NoGate,
-        same(128, 0),
-        "same entries 128 refused 0\n",
-    );
-    assert!(rt; told);
-    Ok(())
+    let line = "same entries 67 refused 0\n";
+    tells(rt, b"", script, &gate, same(67, 0), line) && calls_of(&gate) == (67, 67)
+}
+
+fn single_octets_pass<RT: AllocGlobal + Threads + Wait + Sync>(rt: &RT) -> bool {
+    let mut script = String::new(rt.alloc());
+    push_single_octets(&mut script).is_ok() && passes_the_gate(rt, script.as_bytes())
+}
+
+fn many_sessions_are_told<RT: AllocGlobal + Threads + Wait + Sync>(rt: &RT) -> bool {
+    let mut script = String::new(rt.alloc());
+    let line = "same entries 128 refused 0\n";
+    push_many_sessions(&mut script).is_ok()
+        && tells(rt, b"", script.as_bytes(), &NoGate, same(128, 0), line)
+}
+
+#[test]
+fn each_piece_passes_the_gate(rt: HostRuntime) {
+    assert!(rt; single_octets_pass(&rt));
+    assert!(rt; many_sessions_are_told(&rt));
 }
 
 /// Settings with a form and a clock.
