@@ -13,3 +13,4 @@ mod sizes;
 mod tallies;
 mod versions;
 mod windows;
+mod writers;

@@ -2,7 +2,10 @@
 use crate::tests::scripts::Sent::*;
 use crate::tests::scripts::Step::*;
 use crate::tests::scripts::*;
+use smq_book::Tables;
 use smq_kit::Form;
+use std::alloc::Global;
+use std::process::Abort;
 
 const LATE: Step = Centre(11, 4000, Receipt(1, b"id:1 stat:DELIVRD"));
 
@@ -89,11 +92,29 @@ const EQUAL: &[(&str, &[Step], &[Step], bool)] = &[
     ("rows differ", OPEN_THEN_REFUSED, &[], false),
 ];
 
+/// Whether these are the tables that a script leaves.
+fn has_tables(
+    rt: &impl Abort,
+    alloc: Global,
+    what: &str,
+    script: &[Step],
+    tables: &Tables,
+) -> bool {
+    let book = book_after(rt, alloc, what, script);
+    *tables == *book.tables()
+}
+
+fn are_equal(rt: &impl Abort, alloc: Global, what: &str, one: &[Step], other: &[Step]) -> bool {
+    let book = book_after(rt, alloc, what, one);
+    has_tables(rt, alloc, what, other, book.tables())
+}
+
 #[test]
 fn tables_are_equal_where_rows_and_counts_are(rt: HostRuntime) {
     for (what, one, other, wanted) in EQUAL {
-        let one = book_after(&rt, rt.alloc(), what, one);
-        let other = book_after(&rt, rt.alloc(), what, other);
-        assert!(rt; (*one.tables() == *other.tables()) == *wanted, "{what}");
+        assert!(rt;
+            are_equal(&rt, rt.alloc(), what, one, other) == *wanted,
+            "{what}"
+        );
     }
 }

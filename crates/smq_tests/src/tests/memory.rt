@@ -1,13 +1,13 @@
 //! Edits of each kind for which memory runs out: what is present and the tables are as before, and the same edit is made then.
+use crate::tests::edits::tables_of;
 use crate::tests::scripts::Sent::*;
 use crate::tests::scripts::Step::*;
 use crate::tests::scripts::*;
 use smq_book::*;
 use smq_kit::{Form, Refusal};
 use smq_scratch::tables_anew;
-use std::alloc::{AllocError, Global};
+use std::alloc::Global;
 use std::process::Abort;
-use std::test::Fail;
 
 /// Two messages of one link, whose receipt comes before its forms make their ids one; a route that is corrected and ends; a
 /// clock at which the second message lapses, a window under which it is open again and one under which it isn't, and its receipt; withdrawals of what decides, and of the messages.
@@ -48,48 +48,49 @@ fn is_as_counted(alloc: Global, book: &Book) -> bool {
     }
 }
 
+/// Makes an equal edit, which wants no memory of its own.
+fn apply(rt: &impl Abort, book: &mut Book, edit: &Edit) -> Result<(), Refusal> {
+    let copy = edit.copy().expect(rt, "a copy");
+    book.apply(copy)
+}
+
 /// Whether an edit is made, or else leaves these tables and what is present, and is made when it is tried again.
-fn is_made(alloc: Global, book: &mut Book, edit: Edit, again: Edit, before: &Tables) -> bool {
-    match book.apply(edit) {
+fn is_made(rt: &impl Abort, alloc: Global, book: &mut Book, edit: &Edit, before: &Tables) -> bool {
+    match apply(rt, book, edit) {
         Ok(()) => true,
         Err(refusal) => {
             refusal == Refusal::Memory
                 && *book.tables() == *before
                 && is_counted(alloc, book)
-                && book.apply(again).is_ok()
+                && apply(rt, book, edit).is_ok()
         }
     }
 }
 
-/// Makes the edit of a step.
-fn make(
-    rt: &impl Abort,
-    alloc: Global,
-    book: &mut Book,
-    step: Step,
-    before: &Tables,
-) -> Result<(), Fail> {
-    let edit = edit_of(alloc, book, step)?;
-    let again = edit.copy()?;
-    assert!(rt; is_made(alloc, book, edit, again, before) && is_counted(alloc, book));
-    Ok(())
+/// The edit of a step, which is made once more where memory runs out.
+fn new_edit(rt: &impl Abort, alloc: Global, book: &Book, step: Step) -> Edit {
+    edit_of(alloc, book, step)
+        .or_else(|_| edit_of(alloc, book, step))
+        .expect(rt, "an edit")
 }
 
-fn make_step(rt: &impl Abort, alloc: Global, book: &mut Book, step: Step) -> Result<(), Fail> {
-    let before = tables_anew(alloc, book.present())?;
-    make(rt, alloc, book, step, &before)
+/// Whether the edit of a step is made.
+fn makes(rt: &impl Abort, alloc: Global, book: &mut Book, step: Step, before: &Tables) -> bool {
+    let edit = new_edit(rt, alloc, book, step);
+    is_made(rt, alloc, book, &edit, before)
 }
 
-fn make_all(rt: &impl Abort, alloc: Global, book: &mut Book) -> Result<(), Fail> {
-    for step in SCRIPT {
-        make_step(rt, alloc, book, *step)?;
-    }
-    Ok(())
+fn make_step(rt: &impl Abort, alloc: Global, book: &mut Book, step: Step) {
+    let before = tables_of(rt, alloc, book);
+    assert!(rt; makes(rt, alloc, book, step, &before));
+    assert!(rt; is_counted(alloc, book));
 }
 
 /// With each allocation refused in turn (`rt try --test --fail-alloc`), an edit is made whole, or not at all.
 #[test]
-fn an_edit_that_wants_memory_changes_nothing(rt: HostRuntime) -> Result<(), Fail> {
-    let mut book = boxed_book(rt.alloc()).ok_or(AllocError)?;
-    make_all(&rt, rt.alloc(), &mut book)
+fn an_edit_that_wants_memory_changes_nothing(rt: HostRuntime) {
+    let mut book = boxed_book(rt.alloc()).expect(&rt, "a book");
+    for step in SCRIPT {
+        make_step(&rt, rt.alloc(), &mut book, *step);
+    }
 }

@@ -4,7 +4,8 @@ use crate::tests::scripts::Sent::*;
 use crate::tests::scripts::Step::*;
 use crate::tests::scripts::*;
 use smq_book::*;
-use smq_kit::{Dir, Form, Refusal};
+use smq_kit::{Dir, Form, Moment};
+use smq_route::{Version, VersionKey};
 use std::alloc::Global;
 use std::process::Abort;
 
@@ -121,72 +122,95 @@ fn step(random: &mut Random, moment: u64) -> Option<Step> {
     })
 }
 
-/// Gives a book the pieces of one direction of a session.
+/// Gives a book the pieces of one direction of a session of a link.
 fn give_pieces(
+    rt: &impl Abort,
     alloc: Global,
     book: &mut Book,
     session: (u32, u64, Dir),
     pieces: &[Piece],
-) -> Result<(), Refusal> {
+) {
     let (link, session, dir) = session;
     for piece in pieces {
         let origin = (link, session, dir, piece.moment.milliseconds());
-        append(alloc, book, origin, piece.octets.as_slice())?;
+        append(alloc, book, origin, piece.octets.as_slice()).expect(rt, "a piece");
     }
-    Ok(())
 }
 
-/// Gives a book what is set in another.
-fn give_settings(book: &mut Book, present: &Present) -> Result<(), Refusal> {
+/// Gives a book the forms of another.
+fn give_forms(rt: &impl Abort, book: &mut Book, present: &Present) {
     for (link, forms) in present.forms() {
-        set_forms(book, *link, forms.response, forms.receipt)?;
+        set_forms(book, *link, forms.response, forms.receipt).expect(rt, "forms");
     }
+}
+
+/// Gives a book the windows of another.
+fn give_windows(rt: &impl Abort, book: &mut Book, present: &Present) {
     for (link, window) in present.windows() {
-        set_window(book, *link, window.milliseconds())?;
+        set_window(book, *link, window.milliseconds()).expect(rt, "a window");
     }
+}
+
+/// Gives a book a version of a prefix.
+fn give_version(rt: &impl Abort, book: &mut Book, key: &VersionKey, version: &Version) {
+    let added = book.apply(Edit::AddRoute {
+        prefix: key.prefix.copy(),
+        from: key.from,
+        route: version.route,
+        network: version.network.copy(),
+    });
+    added.expect(rt, "a version");
+    if let Some(until) = version.until {
+        give_end(rt, book, key, until);
+    }
+}
+
+fn give_end(rt: &impl Abort, book: &mut Book, key: &VersionKey, until: Moment) {
+    let ended = book.apply(Edit::EndRoute {
+        prefix: key.prefix.copy(),
+        from: key.from,
+        until,
+    });
+    ended.expect(rt, "an end");
+}
+
+/// Gives a book the versions of another.
+fn give_versions(rt: &impl Abort, book: &mut Book, present: &Present) {
     for (key, version) in present.versions() {
-        book.apply(Edit::AddRoute {
-            prefix: key.prefix.copy(),
-            from: key.from,
-            route: version.route,
-            network: version.network.copy(),
-        })?;
-        if let Some(until) = version.until {
-            book.apply(Edit::EndRoute {
-                prefix: key.prefix.copy(),
-                from: key.from,
-                until,
-            })?;
-        }
+        give_version(rt, book, key, version);
     }
-    let clock = present.clock();
-    book.apply(Edit::Advance { clock })
+}
+
+fn give_session(rt: &impl Abort, alloc: Global, book: &mut Book, number: u64, session: &Session) {
+    let link = session.link.0;
+    let client = (link, number, Dir::FromClient);
+    give_pieces(rt, alloc, book, client, session.client.pieces());
+    let centre = (link, number, Dir::FromCentre);
+    give_pieces(rt, alloc, book, centre, session.centre.pieces());
 }
 
 /// Gives a book the sessions of another.
-fn give_sessions(alloc: Global, book: &mut Book, present: &Present) -> Result<(), Refusal> {
+fn give_sessions(rt: &impl Abort, alloc: Global, book: &mut Book, present: &Present) {
     for (number, session) in present.sessions() {
-        let link = session.link.0;
-        let client = (link, *number, Dir::FromClient);
-        give_pieces(alloc, book, client, session.client.pieces())?;
-        let centre = (link, *number, Dir::FromCentre);
-        give_pieces(alloc, book, centre, session.centre.pieces())?;
+        give_session(rt, alloc, book, *number, session);
     }
-    Ok(())
 }
 
 /// Gives a book what is present in another: its settings first, then its sessions.
-fn give_all(alloc: Global, book: &mut Book, present: &Present) -> Result<(), Refusal> {
-    give_settings(book, present)?;
-    give_sessions(alloc, book, present)
+fn give_all(rt: &impl Abort, alloc: Global, book: &mut Book, present: &Present) {
+    give_forms(rt, book, present);
+    give_windows(rt, book, present);
+    give_versions(rt, book, present);
+    let clock = present.clock();
+    book.apply(Edit::Advance { clock }).expect(rt, "a clock");
+    give_sessions(rt, alloc, book, present);
 }
 
 /// Whether the tables of a book are those of a new book that is given what is present in it.
-fn is_given_anew(alloc: Global, book: &Book) -> bool {
-    let Some(mut anew) = boxed_book(alloc) else {
-        return false;
-    };
-    give_all(alloc, &mut anew, book.present()).is_ok() && *anew.tables() == *book.tables()
+fn is_given_anew(rt: &impl Abort, alloc: Global, book: &Book) -> bool {
+    let mut anew = boxed_book(alloc).expect(rt, "a new book");
+    give_all(rt, alloc, &mut anew, book.present());
+    *anew.tables() == *book.tables()
 }
 
 /// Whether a random edit leaves tables that are current, and no fewer touches.
@@ -207,7 +231,7 @@ fn play_edits(rt: &impl Abort, alloc: Global, random: &mut Random, book: &mut Bo
 fn play_random(rt: &impl Abort, alloc: Global, random: &mut Random) {
     let mut book = boxed_book(alloc).expect(rt, "a book");
     play_edits(rt, alloc, random, &mut book);
-    assert!(rt; is_given_anew(alloc, &book) && book.touches() > 0);
+    assert!(rt; is_given_anew(rt, alloc, &book) && book.touches() > 0);
 }
 
 #[test]

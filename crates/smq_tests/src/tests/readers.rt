@@ -4,7 +4,7 @@ use crate::tests::scripts::Step::*;
 use crate::tests::scripts::*;
 use smq_book::{List, Outcome, Tables, View};
 use smq_kit::Dir::{self, FromCentre, FromClient};
-use smq_kit::{Place, SessionId};
+use std::process::Abort;
 
 /// Messages that failed, are mismatched, lapsed, open and ambiguous; receipts that decide, are extra, stray, ambiguous and
 /// unreadable; a PDU that can't be decoded, a bad length and a response without a request.
@@ -66,35 +66,39 @@ const PLACES: &[(List, u64, Dir)] = &[
 ];
 
 /// Whether the first row of a view has this outcome, and this count by both readers.
-fn begins_with_row(tables: &Tables, view: View, wanted: (Outcome, u64)) -> bool {
-    match tables.rows(view).next() {
+fn begins_with_row(tables: &Tables, view: View, wanted: Outcome, number: u64) -> bool {
+    let mut rows = tables.rows(view);
+    match rows.next() {
         None => false,
         Some((value, outcome, count)) => {
-            (outcome, count) == wanted && tables.count(view, value, outcome) == count
+            outcome == wanted && count == number && tables.count(view, value, outcome) == count
         },
     }
 }
 
 fn begins_with_place(tables: &Tables, list: List, session: u64, dir: Dir) -> bool {
-    let place = Place {
-        session: SessionId(session),
-        dir,
-        offset: 0,
-    };
-    tables.list(list).next() == Some(place)
+    let mut places = tables.list(list);
+    match places.next() {
+        None => false,
+        Some(place) => place.session.0 == session && place.dir == dir && place.offset == 0,
+    }
+}
+
+fn assert_rows(rt: &impl Abort, tables: &Tables) {
+    for (view, outcome, count) in ROWS {
+        assert!(rt; begins_with_row(tables, *view, *outcome, *count), "a view");
+    }
+}
+
+fn assert_places(rt: &impl Abort, tables: &Tables) {
+    for (list, session, dir) in PLACES {
+        assert!(rt; begins_with_place(tables, *list, *session, *dir), "a list");
+    }
 }
 
 #[test]
 fn every_view_and_list_is_read(rt: HostRuntime) {
     let book = book_after(&rt, rt.alloc(), "everything", EVERYTHING);
-    let tables = book.tables();
-    for (view, outcome, count) in ROWS {
-        assert!(rt;
-            begins_with_row(tables, *view, (*outcome, *count)),
-            "a view"
-        );
-    }
-    for (list, session, dir) in PLACES {
-        assert!(rt; begins_with_place(tables, *list, *session, *dir), "a list");
-    }
+    assert_rows(&rt, book.tables());
+    assert_places(&rt, book.tables());
 }

@@ -5,16 +5,16 @@ use crate::tests::readers::EVERYTHING;
 use crate::tests::scripts::Sent::*;
 use crate::tests::scripts::Step::*;
 use crate::tests::scripts::*;
+use crate::tests::writers::Expecting;
 use smq_book::*;
 use smq_frame::Tail;
 use smq_kit::{Dir, Refusal, SessionId};
 use smq_load::{LoadFault, Row, read_script, read_settings};
 use smq_receipt::MessageState;
-use smq_report::{Format, Pick, ReportFault, write_csv, write_table};
+use smq_report::{Pick, ReportFault, write_csv, write_table};
 use smq_scratch::audit;
 use std::alloc::Global;
-use std::io;
-use std::io::Write;
+use std::process::Abort;
 use std::thread::Threads;
 
 /// The script of examples/first-report.
@@ -140,9 +140,13 @@ fn is_decoded(tail: &Tail, batch: &Batch) -> bool {
         }
 }
 
+/// Whether a PDU has this offset and command_id, the command_status 0 and the sequence number 1.
+fn is_headed(pdu: &KeptPdu, offset: u64, command: u32) -> bool {
+    pdu.offset == offset && pdu.command == command && pdu.status == 0 && pdu.seq == 1
+}
+
 fn is_response(pdu: &KeptPdu) -> bool {
-    let header = (pdu.offset, pdu.command, pdu.status, pdu.seq);
-    header == (0, 0x8000_0004, 0, 1)
+    is_headed(pdu, 0, 0x8000_0004)
         && match pdu.content.message_id() {
             Some(id) => id.as_slice() == b"1".as_slice(),
             None => false,
@@ -150,8 +154,7 @@ fn is_response(pdu: &KeptPdu) -> bool {
 }
 
 fn is_receipt(pdu: &KeptPdu) -> bool {
-    let header = (pdu.offset, pdu.command, pdu.status, pdu.seq);
-    header == (18, 0x0000_0005, 0, 1)
+    is_headed(pdu, 18, 0x0000_0005)
         && match pdu.content.receipt() {
             Some(receipt) => {
                 receipt.id.as_slice() == b"1".as_slice() && receipt.state == MessageState::Delivered
@@ -216,52 +219,23 @@ fn are_set(rows: &[Row]) -> bool {
     rows.len() == 4
 }
 
-/// Takes the octets of a text, and no others. It wants no memory.
-#[derive(Drop)]
-struct Expecting {
-    /// What is still to come.
-    left: &'static [u8],
-    /// Whether all that came was expected.
-    is_right: bool,
-}
-
-impl Write for Expecting {
-    fn write(&mut self, buf: &[u8]) -> io::Result<usize> {
-        match self.left.strip_prefix(buf) {
-            Some(left) => self.left = left,
-            None => self.is_right = false,
-        }
-        Ok(buf.len())
-    }
-
-    fn flush(&mut self) -> io::Result<()> {
-        Ok(())
-    }
-}
-
 /// What a report comes to: it is whole, or a part of it was written when memory ran out.
 fn written(answer: Result<(), ReportFault>, writer: &Expecting) -> Came {
     match answer {
-        Ok(()) => right_if(writer.is_right && writer.left.is_empty()),
-        Err(ReportFault::Memory) if writer.is_right => Came::Memory,
+        Ok(()) => right_if(writer.has_all()),
+        Err(ReportFault::Memory) if writer.is_right() => Came::Memory,
         Err(_) => Came::Wrong,
     }
 }
 
-fn report(alloc: Global, tables: &Tables, format: Format) -> Came {
-    let left = match format {
-        Format::Csv => CSV,
-        Format::Table => TABLE,
-    };
-    let mut writer = Expecting {
-        left,
-        is_right: true,
-    };
-    let answer = match format {
-        Format::Csv => write_csv(alloc, tables, Pick::All, &mut writer),
-        Format::Table => write_table(alloc, tables, Pick::All, &mut writer),
-    };
-    written(answer, &writer)
+fn report_csv(alloc: Global, tables: &Tables) -> Came {
+    let mut writer = Expecting::of(CSV, usize::MAX);
+    written(write_csv(alloc, tables, Pick::All, &mut writer), &writer)
+}
+
+fn report_table(alloc: Global, tables: &Tables) -> Came {
+    let mut writer = Expecting::of(TABLE, usize::MAX);
+    written(write_table(alloc, tables, Pick::All, &mut writer), &writer)
 }
 
 fn count_anew<R: Threads + Sync>(rt: &R, alloc: Global, book: &Book) -> Came {
@@ -279,8 +253,8 @@ fn make<R: Threads + Sync>(rt: &R, alloc: Global, call: Call, first: &Book, othe
         Call::BadScript => load_bad_script(alloc),
         Call::Settings => load_settings(alloc),
         Call::BadSettings => load_bad_settings(alloc),
-        Call::Csv => report(alloc, first.tables(), Format::Csv),
-        Call::Table => report(alloc, first.tables(), Format::Table),
+        Call::Csv => report_csv(alloc, first.tables()),
+        Call::Table => report_table(alloc, first.tables()),
         Call::Audit => count_anew(rt, alloc, other),
     }
 }
@@ -316,22 +290,27 @@ fn plays_all(alloc: Global, book: &mut Book, script: &[Step]) -> bool {
 
 /// A book, which is asked for once more where memory runs out.
 fn new_book(alloc: Global) -> Option<Box<Book>> {
-    match boxed_book(alloc) {
-        Some(book) => Some(book),
-        None => boxed_book(alloc),
+    boxed_book(alloc).or_else(|| boxed_book(alloc))
+}
+
+fn assert_answers<R: Threads + Sync + Abort>(rt: &R, alloc: Global, first: &Book, other: &Book) {
+    for (what, call) in CALLS {
+        assert!(rt; is_answered(rt, alloc, *call, first, other), "{what}");
     }
+}
+
+/// Makes the calls on the first book and on another.
+fn make_calls<R: Threads + Sync + Abort>(rt: &R, alloc: Global, first: &Book) {
+    let mut other = new_book(alloc).expect(rt, "a book");
+    assert!(rt; plays_all(alloc, &mut other, EVERYTHING));
+    assert!(rt; plays(alloc, &mut other, Centre(23, 1900, Octets(CUT))));
+    assert_answers(rt, alloc, first, &other);
 }
 
 /// With each allocation refused in turn (`rt try --test --fail-alloc`), a call says so, and is answered then as ever.
 #[test]
 fn a_call_that_wants_memory_is_answered_when_it_is_made_again(rt: HostRuntime) {
-    let alloc = rt.alloc();
-    let mut first = new_book(alloc).expect(&rt, "a book");
-    assert!(rt; plays_all(alloc, &mut first, FIRST));
-    let mut other = new_book(alloc).expect(&rt, "a book");
-    assert!(rt; plays_all(alloc, &mut other, EVERYTHING));
-    assert!(rt; plays(alloc, &mut other, Centre(23, 1900, Octets(CUT))));
-    for (what, call) in CALLS {
-        assert!(rt; is_answered(&rt, alloc, *call, &first, &other), "{what}");
-    }
+    let mut first = new_book(rt.alloc()).expect(&rt, "a book");
+    assert!(rt; plays_all(rt.alloc(), &mut first, FIRST));
+    make_calls(&rt, rt.alloc(), &first);
 }

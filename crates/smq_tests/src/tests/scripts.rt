@@ -31,34 +31,47 @@ pub(crate) enum Sent {
     Octets(&'static [u8]),
 }
 
-/// A PDU of this header, with these parts as its body.
-fn pdu_of(
-    alloc: Global,
-    command: u32,
-    status: u32,
-    seq: u32,
-    parts: &[&[u8]],
-) -> Result<Vec<u8>, AllocError> {
+/// How many octets a PDU with these parts as its body has.
+fn length_of(parts: &[&[u8]]) -> u32 {
     let mut length = 16u32;
     for part in parts {
         length = length.saturating_add(u32::try_from(part.len()).unwrap_or(0));
     }
-    let mut octets = Vec::new(alloc);
-    for word in [length, command, status, seq] {
+    length
+}
+
+fn push_words(octets: &mut Vec<u8>, words: &[u32]) -> Result<(), AllocError> {
+    for word in words {
         octets.extend_from_slice(&word.to_be_bytes())?;
     }
+    Ok(())
+}
+
+fn push_parts(octets: &mut Vec<u8>, parts: &[&[u8]]) -> Result<(), AllocError> {
     for part in parts {
         octets.extend_from_slice(part)?;
     }
-    Ok(octets)
+    Ok(())
 }
 
-fn submit_of(
-    alloc: Global,
+/// Puts a PDU of this header, with these parts as its body, after some octets.
+fn push_pdu(
+    octets: &mut Vec<u8>,
+    command: u32,
+    status: u32,
+    seq: u32,
+    parts: &[&[u8]],
+) -> Result<(), AllocError> {
+    push_words(octets, &[length_of(parts), command, status, seq])?;
+    push_parts(octets, parts)
+}
+
+fn push_submit(
+    octets: &mut Vec<u8>,
     seq: u32,
     destination: &[u8],
     registered_delivery: u8,
-) -> Result<Vec<u8>, AllocError> {
+) -> Result<(), AllocError> {
     let parts: &[&[u8]] = &[
         b"\0\0\01000\0\x01\x01",
         destination,
@@ -66,10 +79,15 @@ fn submit_of(
         &[registered_delivery],
         b"\0\0\0\0",
     ];
-    pdu_of(alloc, 0x0000_0004, 0, seq, parts)
+    push_pdu(octets, 0x0000_0004, 0, seq, parts)
 }
 
-fn deliver_of(alloc: Global, seq: u32, esm_class: u8, text: &[u8]) -> Result<Vec<u8>, AllocError> {
+fn push_deliver(
+    octets: &mut Vec<u8>,
+    seq: u32,
+    esm_class: u8,
+    text: &[u8],
+) -> Result<(), AllocError> {
     let parts: &[&[u8]] = &[
         b"\0\0\0\0\0\0\0",
         &[esm_class],
@@ -77,24 +95,31 @@ fn deliver_of(alloc: Global, seq: u32, esm_class: u8, text: &[u8]) -> Result<Vec
         &[u8::try_from(text.len()).unwrap_or(0)],
         text,
     ];
-    pdu_of(alloc, 0x0000_0005, 0, seq, parts)
+    push_pdu(octets, 0x0000_0005, 0, seq, parts)
 }
 
-pub(crate) fn octets_of(alloc: Global, sent: Sent) -> Result<Vec<u8>, AllocError> {
+/// Puts what is sent after some octets.
+fn push_sent(octets: &mut Vec<u8>, sent: Sent) -> Result<(), AllocError> {
     match sent {
-        Sent::Submit(seq, destination) => submit_of(alloc, seq, destination, 1),
-        Sent::Asking(seq, registered_delivery) => submit_of(
-            alloc,
+        Sent::Submit(seq, destination) => push_submit(octets, seq, destination, 1),
+        Sent::Asking(seq, registered_delivery) => push_submit(
+            octets,
             seq,
             NUMBER,
             registered_delivery,
         ),
-        Sent::Response(seq, status, id) => pdu_of(alloc, 0x8000_0004, status, seq, &[id, b"\0"]),
-        Sent::Pdu(command, status, seq, body) => pdu_of(alloc, command, status, seq, &[body]),
-        Sent::Message(seq, text) => deliver_of(alloc, seq, 0, text),
-        Sent::Receipt(seq, text) => deliver_of(alloc, seq, 0x04, text),
-        Sent::Octets(octets) => Vec::from_slice(alloc, octets),
+        Sent::Response(seq, status, id) => push_pdu(octets, 0x8000_0004, status, seq, &[id, b"\0"]),
+        Sent::Pdu(command, status, seq, body) => push_pdu(octets, command, status, seq, &[body]),
+        Sent::Message(seq, text) => push_deliver(octets, seq, 0, text),
+        Sent::Receipt(seq, text) => push_deliver(octets, seq, 0x04, text),
+        Sent::Octets(given) => octets.extend_from_slice(given),
     }
+}
+
+pub(crate) fn octets_of(alloc: Global, sent: Sent) -> Result<Vec<u8>, AllocError> {
+    let mut octets = Vec::new(alloc);
+    push_sent(&mut octets, sent)?;
+    Ok(octets)
 }
 
 /// How a piece is refused that is prepared on a tail of its own.
@@ -213,11 +238,6 @@ pub(crate) fn send(
     append(alloc, book, origin, octets.as_slice())
 }
 
-/// Makes an edit of routes, if it is one.
-pub(crate) fn made(book: &mut Book, edit: Result<Edit, Refusal>) -> Result<(), Refusal> {
-    book.apply(edit?)
-}
-
 pub(crate) fn set_forms(
     book: &mut Book,
     link: u32,
@@ -239,7 +259,7 @@ pub(crate) fn set_window(book: &mut Book, link: u32, window: u64) -> Result<(), 
 }
 
 /// The edit that adds a version of a prefix.
-pub(crate) fn added(prefix: &[u8], from: u64, route: u32, network: &[u8]) -> Result<Edit, Refusal> {
+fn added(prefix: &[u8], from: u64, route: u32, network: &[u8]) -> Result<Edit, Refusal> {
     Ok(Edit::AddRoute {
         prefix: Digits::parse(prefix)?,
         from: Moment::new(from)?,
@@ -268,7 +288,12 @@ fn corrected(prefix: &[u8], from: u64, route: u32, network: &[u8]) -> Result<Edi
 /// What an end of a session sends, or the client of session 10 as if it had sent so many octets.
 fn appended(alloc: Global, tail: &Tail, origin: Origin, sent: Sent) -> Result<Edit, Refusal> {
     let octets = octets_of(alloc, sent).map_err(|_| Refusal::Memory)?;
-    let batch = batch_on(alloc, tail, origin, octets.as_slice())?;
+    putting(alloc, tail, origin, octets.as_slice())
+}
+
+/// The edit that puts octets after a tail.
+fn putting(alloc: Global, tail: &Tail, origin: Origin, octets: &[u8]) -> Result<Edit, Refusal> {
+    let batch = batch_on(alloc, tail, origin, octets)?;
     Ok(Edit::Append { batch })
 }
 
@@ -375,12 +400,21 @@ fn play_steps(rt: &impl Abort, alloc: Global, what: &str, book: &mut Book, scrip
     }
 }
 
+/// Whether the book that a script leaves shows all this.
+fn leaves(rt: &impl Abort, alloc: Global, what: &str, script: &[Step], wanted: &[Shown]) -> bool {
+    let book = book_after(rt, alloc, what, script);
+    shows_all(&book, wanted)
+}
+
+fn assert_scripts(rt: &impl Abort, alloc: Global, table: Table) {
+    for (what, script, wanted) in table {
+        assert!(rt; leaves(rt, alloc, what, script, wanted), "{what}");
+    }
+}
+
 #[test]
 fn each_script_leaves_what_it_shows(rt: HostRuntime) {
-    for table in [edits::EDITS, versions::VERSIONS, windows::WINDOWS] {
-        for (what, script, wanted) in table {
-            let book = book_after(&rt, rt.alloc(), what, script);
-            assert!(rt; shows_all(&book, wanted), "{what}");
-        }
-    }
+    assert_scripts(&rt, rt.alloc(), edits::EDITS);
+    assert_scripts(&rt, rt.alloc(), versions::VERSIONS);
+    assert_scripts(&rt, rt.alloc(), windows::WINDOWS);
 }

@@ -2,7 +2,7 @@
 use crate::tests::scripts::*;
 use crate::tests::shown::messages_of;
 use smq_book::*;
-use smq_kit::{Dir, LinkId, Moment, Refusal, SessionId};
+use smq_kit::{Dir, Moment, Refusal, SessionId};
 use std::alloc::{AllocError, Global};
 use std::process::Abort;
 
@@ -23,7 +23,7 @@ fn id_of(seq: u32) -> [u8; 3] {
 
 /// Puts a delivery receipt of the message of a sequence number after some octets: a deliver_sm without addresses
 /// (SMPP 3.4, 4.6.1), of 52 octets.
-pub(crate) fn push_receipt(octets: &mut Vec<u8>, seq: u32) -> Result<(), AllocError> {
+fn push_receipt(octets: &mut Vec<u8>, seq: u32) -> Result<(), AllocError> {
     octets.extend_from_slice(b"\0\0\0\x34\0\0\0\x05\0\0\0\0\0\0\0\x01")?;
     octets.extend_from_slice(b"\0\0\0\0\0\0\0\x04\0\0\0\0\0\0\0\0\x13id:")?;
     octets.extend_from_slice(&id_of(seq))?;
@@ -31,43 +31,83 @@ pub(crate) fn push_receipt(octets: &mut Vec<u8>, seq: u32) -> Result<(), AllocEr
 }
 
 /// Puts the response of a sequence number with its message id after some octets: a submit_sm_resp (4.4.2) of 20 octets.
-pub(crate) fn push_response(octets: &mut Vec<u8>, seq: u32) -> Result<(), AllocError> {
+fn push_response(octets: &mut Vec<u8>, seq: u32) -> Result<(), AllocError> {
     octets.extend_from_slice(b"\0\0\0\x14\x80\0\0\x04\0\0\0\0")?;
     octets.extend_from_slice(&seq.to_be_bytes())?;
     octets.extend_from_slice(&id_of(seq))?;
     octets.extend_from_slice(b"\0")
 }
 
-fn responses(alloc: Global) -> Result<Vec<u8>, AllocError> {
-    let mut octets = Vec::new(alloc);
-    for seq in 1..=MESSAGES {
-        push_response(&mut octets, seq)?;
-    }
-    Ok(octets)
-}
-
-fn receipts(alloc: Global) -> Result<Vec<u8>, AllocError> {
-    let mut octets = Vec::new(alloc);
-    for seq in 1..=MESSAGES {
-        push_receipt(&mut octets, seq)?;
-    }
-    Ok(octets)
-}
-
-/// Puts octets after a direction of the far session.
-fn put(rt: &impl Abort, alloc: Global, book: &mut Book, dir: Dir, moment: u64, octets: &[u8]) {
-    let origin = (FAR_LINK, FAR_SESSION, dir, moment);
-    append(alloc, book, origin, octets).expect(rt, "far octets");
-}
-
-/// Lapses all messages of the far link by a window, and opens them again by a greater one. They stand at 1000.
-fn lapse_and_open_again(book: &mut Book) -> Result<(), Refusal> {
-    set_clock(book, 2000)?;
-    for (window, open, lapsed) in [(1000, 0, 300), (1001, 300, 0), (4_102_444_800_000, 300, 0)] {
-        set_window(book, FAR_LINK, window)?;
-        has_due(book, open, lapsed)?;
+/// Puts the responses of so many sequence numbers after some octets.
+fn push_responses(octets: &mut Vec<u8>, count: u32) -> Result<(), AllocError> {
+    for seq in 0..count {
+        push_response(octets, seq.saturating_add(1))?;
     }
     Ok(())
+}
+
+/// Puts their delivery receipts after some octets.
+fn push_receipts(octets: &mut Vec<u8>, count: u32) -> Result<(), AllocError> {
+    for seq in 0..count {
+        push_receipt(octets, seq.saturating_add(1))?;
+    }
+    Ok(())
+}
+
+/// Puts the messages of so many sequence numbers, each in a piece.
+pub(crate) fn put_submits(
+    rt: &impl Abort,
+    alloc: Global,
+    book: &mut Book,
+    origin: Origin,
+    count: u32,
+) {
+    for seq in 0..count {
+        let sent = Sent::Submit(seq.saturating_add(1), NUMBER);
+        send(rt, alloc, book, origin, sent).expect(rt, "a submit");
+    }
+}
+
+/// Puts their responses, in one piece.
+pub(crate) fn put_responses(
+    rt: &impl Abort,
+    alloc: Global,
+    book: &mut Book,
+    origin: Origin,
+    count: u32,
+) {
+    let mut octets = Vec::new(alloc);
+    push_responses(&mut octets, count).expect(rt, "responses");
+    append(alloc, book, origin, octets.as_slice()).expect(rt, "responses are put");
+}
+
+/// Puts their delivery receipts, in one piece.
+pub(crate) fn put_receipts(
+    rt: &impl Abort,
+    alloc: Global,
+    book: &mut Book,
+    origin: Origin,
+    count: u32,
+) {
+    let mut octets = Vec::new(alloc);
+    push_receipts(&mut octets, count).expect(rt, "receipts");
+    append(alloc, book, origin, octets.as_slice()).expect(rt, "receipts are put");
+}
+
+/// Windows of the far link, and how many of its messages are open and have lapsed under each. They stand at 1000, and the clock
+/// at 2000.
+const WINDOWS: &[(u64, u64, u64)] = &[(1000, 0, 300), (1001, 300, 0), (4_102_444_800_000, 300, 0)];
+
+/// Whether all messages of the far link lapse by a window, and are open again by a greater one.
+fn lapse_and_open_again(rt: &impl Abort, book: &mut Book) -> bool {
+    set_clock(book, 2000).expect(rt, "a clock");
+    for (window, open, lapsed) in WINDOWS {
+        set_window(book, FAR_LINK, *window).expect(rt, "a window");
+        if !are_due(book, *open, *lapsed) {
+            return false;
+        }
+    }
+    true
 }
 
 fn set_clock(book: &mut Book, clock: u64) -> Result<(), Refusal> {
@@ -75,90 +115,83 @@ fn set_clock(book: &mut Book, clock: u64) -> Result<(), Refusal> {
     book.apply(Edit::Advance { clock })
 }
 
-/// Nothing, where so many messages of the far link are open and so many have lapsed.
-fn has_due(book: &Book, open: u64, lapsed: u64) -> Result<(), Refusal> {
-    let found = (
-        messages_of(book, FAR_LINK, Outcome::Open),
-        messages_of(book, FAR_LINK, Outcome::Lapsed),
-    );
-    if found == (open, lapsed) {
-        Ok(())
-    } else {
-        Err(Refusal::BadWindow)
-    }
+/// Whether so many messages of the far link are open and so many have lapsed.
+fn are_due(book: &Book, open: u64, lapsed: u64) -> bool {
+    messages_of(book, FAR_LINK, Outcome::Open) == open
+        && messages_of(book, FAR_LINK, Outcome::Lapsed) == lapsed
 }
 
 /// A submit_sm of `MESSAGES` sequence numbers, each in a piece, then their responses in one piece, then their receipts.
 fn put_messages(rt: &impl Abort, alloc: Global, book: &mut Book) {
-    let origin = (FAR_LINK, FAR_SESSION, Dir::FromClient, 1000);
-    for seq in 1..=MESSAGES {
-        send(rt, alloc, book, origin, Sent::Submit(seq, NUMBER)).expect(rt, "a far submit");
-    }
-    let octets = responses(alloc).expect(rt, "responses");
-    put(rt, alloc, book, Dir::FromCentre, 2000, octets.as_slice());
-    assert!(rt;
-        lapse_and_open_again(book) == Ok(()),
-        "windows of far messages"
-    );
-    let octets = receipts(alloc).expect(rt, "receipts");
-    put(rt, alloc, book, Dir::FromCentre, 3000, octets.as_slice());
+    let client = (FAR_LINK, FAR_SESSION, Dir::FromClient, 1000);
+    put_submits(rt, alloc, book, client, MESSAGES);
+    let centre = (FAR_LINK, FAR_SESSION, Dir::FromCentre, 2000);
+    put_responses(rt, alloc, book, centre, MESSAGES);
+    assert!(rt; lapse_and_open_again(rt, book), "windows of far messages");
+    let centre = (FAR_LINK, FAR_SESSION, Dir::FromCentre, 3000);
+    put_receipts(rt, alloc, book, centre, MESSAGES);
 }
 
-/// A PDU of 70,000 octets, of the command `enquire_link`.
-fn long_pdu(alloc: Global) -> Result<Vec<u8>, AllocError> {
-    let mut octets = Vec::new(alloc);
+/// Puts a PDU of 70,000 octets, of the command `enquire_link`, in the place of no octets.
+fn push_long_pdu(octets: &mut Vec<u8>) -> Result<(), AllocError> {
     octets.extend_from_slice(b"\0\x01\x11\x70\0\0\0\x15\0\0\0\0\0\0\0\x09")?;
-    octets.resize(70_000, 0)?;
-    Ok(octets)
+    octets.resize(70_000, 0)
 }
 
-/// The number of octets, of pieces and of PDUs of one direction of a session.
-fn sizes_of(book: &Book, session: u64, dir: Dir) -> Option<(u64, usize, usize)> {
-    let direction = book.present().session(SessionId(session))?.direction(dir);
-    Some((
-        direction.tail().offset(),
-        direction.pieces().len(),
-        direction.pdus().len(),
-    ))
+/// Whether a direction of a session has so many octets, pieces and PDUs.
+fn has_sizes(book: &Book, session: u64, dir: Dir, wanted: (u64, usize, usize)) -> bool {
+    match book.present().session(SessionId(session)) {
+        Some(session) => is_as_large(session.direction(dir), wanted),
+        None => false,
+    }
+}
+
+fn is_as_large(direction: &Direction, wanted: (u64, usize, usize)) -> bool {
+    let (octets, pieces, pdus) = wanted;
+    direction.tail().offset() == octets
+        && direction.pieces().len() == pieces
+        && direction.pdus().len() == pdus
 }
 
 /// Whether a submit_sm came a piece, 300 other PDUs a piece, and session 1 is absent.
 fn has_far_sizes(book: &Book) -> bool {
-    sizes_of(book, FAR_SESSION, Dir::FromClient) == Some((14_700, 300, 300))
-        && sizes_of(book, FAR_SESSION, Dir::FromCentre) == Some((21_600, 2, 600))
+    has_sizes(book, FAR_SESSION, Dir::FromClient, (14_700, 300, 300))
+        && has_sizes(book, FAR_SESSION, Dir::FromCentre, (21_600, 2, 600))
         && book.present().session(SessionId(1)).is_none()
 }
 
 /// The long PDU in one piece of session 1, then a submit_sm.
 fn put_long_pdu(rt: &impl Abort, alloc: Global, book: &mut Book) {
-    let octets = long_pdu(alloc).expect(rt, "a long PDU");
     let origin = (1, 1, Dir::FromClient, 1000);
-    append(alloc, book, origin, octets.as_slice()).expect(rt, "a long piece");
-    let first = sizes_of(book, 1, Dir::FromClient);
-    assert!(rt; first == Some((70_000, 1, 1)), "a piece of one long PDU");
+    put_long_piece(rt, alloc, book, origin);
+    assert!(rt;
+        has_sizes(book, 1, Dir::FromClient, (70_000, 1, 1)),
+        "a piece of one long PDU"
+    );
     send(rt, alloc, book, origin, Sent::Submit(1, NUMBER)).expect(rt, "a submit");
 }
 
-/// Asserts what is counted of session 1 and session 2^32 + 1, and the link of the far one.
-fn assert_far_rows(rt: &impl Abort, book: &Book) {
-    let tables = book.tables();
-    let near = tables.count(View::Link, &Value::Link(LinkId(1)), Outcome::Waiting);
-    let far = tables.count(
-        View::Link,
-        &Value::Link(LinkId(FAR_LINK)),
-        Outcome::Delivered,
-    );
-    assert!(rt; (near, far) == (1, 300), "far numbers");
-    let far = book.present().session(SessionId(FAR_SESSION));
-    assert!(rt; far.map(|session| session.link) == Some(LinkId(FAR_LINK)));
+fn put_long_piece(rt: &impl Abort, alloc: Global, book: &mut Book, origin: Origin) {
+    let mut octets = Vec::new(alloc);
+    push_long_pdu(&mut octets).expect(rt, "a long PDU");
+    append(alloc, book, origin, octets.as_slice()).expect(rt, "a long piece");
+}
+
+/// Whether this is counted of session 1 and session 2^32 + 1, and is the link of the far one.
+fn has_far_rows(book: &Book) -> bool {
+    messages_of(book, 1, Outcome::Waiting) == 1
+        && messages_of(book, FAR_LINK, Outcome::Delivered) == 300
+        && match book.present().session(SessionId(FAR_SESSION)) {
+            Some(session) => session.link.0 == FAR_LINK,
+            None => false,
+        }
 }
 
 #[test]
 fn far_numbers_and_large_sizes_are_taken(rt: HostRuntime) {
-    let alloc = rt.alloc();
-    let mut book = boxed_book(alloc).expect(&rt, "a book");
-    put_messages(&rt, alloc, &mut book);
-    assert!(rt; has_far_sizes(&book));
-    put_long_pdu(&rt, alloc, &mut book);
-    assert_far_rows(&rt, &book);
+    let mut book = boxed_book(rt.alloc()).expect(&rt, "a book");
+    put_messages(&rt, rt.alloc(), &mut book);
+    assert!(rt; has_far_sizes(&book), "far sizes");
+    put_long_pdu(&rt, rt.alloc(), &mut book);
+    assert!(rt; has_far_rows(&book), "far numbers");
 }

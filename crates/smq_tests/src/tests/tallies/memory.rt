@@ -1,6 +1,6 @@
 //! Many facts, and refused memory.
 use crate::tests::tallies::known::CLIENT;
-use crate::tests::tallies::tables::{add, network, place_of};
+use crate::tests::tallies::tables::{add, boxed_tally, network, place_of};
 use smq_kit::{LinkId, RouteId};
 use smq_tally::{Band, Fact, List, Outcome, SubmitError, Tables, Tally, View};
 use std::alloc::{AllocError, Global};
@@ -49,20 +49,36 @@ fn make_below(rt: &impl Abort, tally: &mut Tally, end: u32, stops: bool) -> Opti
     None
 }
 
+/// A new tally, which is asked for once more where memory runs out.
+fn new_tally(rt: &impl Abort, alloc: Global) -> Box<Tally> {
+    boxed_tally(alloc)
+        .or_else(|| boxed_tally(alloc))
+        .expect(rt, "a tally")
+}
+
 /// A tally of the steps below a number.
-fn tally_below(rt: &impl Abort, alloc: Global, end: u32) -> Tally {
-    let mut tally = Tally::new(alloc);
+fn tally_below(rt: &impl Abort, alloc: Global, end: u32) -> Box<Tally> {
+    let mut tally = new_tally(rt, alloc);
     make_below(rt, &mut tally, end, false);
     tally
 }
 
-/// How many rows a view has, and how many facts they count.
-fn rows_and_facts(tables: &Tables, view: View) -> (u64, u64) {
-    let mut numbers: (u64, u64) = (0, 0);
-    for (_, _, facts) in tables.rows(view) {
-        numbers = (numbers.0.saturating_add(1), numbers.1.saturating_add(facts));
+/// How many rows a view has.
+fn number_of_rows(tables: &Tables, view: View) -> u64 {
+    let mut number: u64 = 0;
+    for _row in tables.rows(view) {
+        number = number.saturating_add(1);
     }
-    numbers
+    number
+}
+
+/// How many facts the rows of a view count.
+fn number_of_facts(tables: &Tables, view: View) -> u64 {
+    let mut number: u64 = 0;
+    for (_, _, facts) in tables.rows(view) {
+        number = number.saturating_add(facts);
+    }
+    number
 }
 
 /// How many places a list has.
@@ -78,26 +94,48 @@ fn number_listed(tables: &Tables, list: List) -> u64 {
 /// made when it is tried again.
 #[test]
 fn want_of_memory_changes_nothing(rt: HostRuntime) {
-    let mut tally = Tally::new(rt.alloc());
+    let mut tally = new_tally(&rt, rt.alloc());
     let refused = make_below(&rt, &mut tally, 4000, true);
-    let others = tally_below(&rt, rt.alloc(), refused.unwrap_or(4000));
-    assert!(rt; *tally.tables() == *others.tables());
-
-    let whole = tally_below(&rt, rt.alloc(), 4000);
-    let tables = whole.tables();
-    assert!(rt; rows_and_facts(tables, View::Link) == (28, 2000));
-    assert!(rt; rows_and_facts(tables, View::Route) == (2000, 2000));
-    assert!(rt; number_listed(tables, List::Open) == 2000);
-    assert!(rt; number_listed(tables, List::Lapsed) == 500);
+    assert!(rt; is_of_all_below(&rt, rt.alloc(), &tally, refused.unwrap_or(4000)));
+    assert_whole(&rt, rt.alloc());
 }
 
-/// Whether two tables have as many rows in each view, which count as many facts, and as many places in each list.
-fn are_as_long(tables: &Tables, others: &Tables) -> bool {
+/// Whether a tally has the tables of the steps below a number.
+fn is_of_all_below(rt: &impl Abort, alloc: Global, tally: &Tally, end: u32) -> bool {
+    let others = tally_below(rt, alloc, end);
+    *tally.tables() == *others.tables()
+}
+
+/// Asserts what a tally of all steps shows.
+fn assert_whole(rt: &impl Abort, alloc: Global) {
+    let whole = tally_below(rt, alloc, 4000);
+    assert_rows(rt, whole.tables());
+    assert!(rt; number_listed(whole.tables(), List::Open) == 2000);
+    assert!(rt; number_listed(whole.tables(), List::Lapsed) == 500);
+}
+
+fn assert_rows(rt: &impl Abort, tables: &Tables) {
+    assert!(rt; number_of_rows(tables, View::Link) == 28);
+    assert!(rt; number_of_facts(tables, View::Link) == 2000);
+    assert!(rt; number_of_rows(tables, View::Route) == 2000);
+    assert!(rt; number_of_facts(tables, View::Route) == 2000);
+}
+
+/// Whether two tables have as many rows in each view, which count as many facts.
+fn have_as_many_rows(tables: &Tables, others: &Tables) -> bool {
     for view in View::all() {
-        if rows_and_facts(tables, *view) != rows_and_facts(others, *view) {
+        if number_of_rows(tables, *view) != number_of_rows(others, *view) {
+            return false;
+        }
+        if number_of_facts(tables, *view) != number_of_facts(others, *view) {
             return false;
         }
     }
+    true
+}
+
+/// Whether two tables have as many places in each list.
+fn have_as_many_places(tables: &Tables, others: &Tables) -> bool {
     for list in List::all() {
         if number_listed(tables, *list) != number_listed(others, *list) {
             return false;
@@ -107,19 +145,17 @@ fn are_as_long(tables: &Tables, others: &Tables) -> bool {
 }
 
 /// A copy of tables. Where memory runs out it is made once more.
-fn copied(alloc: Global, tables: &Tables) -> Option<Tables> {
-    match tables.copy(alloc) {
-        Ok(copy) => Some(copy),
-        Err(_) => tables.copy(alloc).ok(),
-    }
+fn copied(rt: &impl Abort, alloc: Global, tables: &Tables) -> Tables {
+    tables
+        .copy(alloc)
+        .or_else(|_| tables.copy(alloc))
+        .expect(rt, "a copy")
 }
 
 /// Whether a copy of tables is equal, by `==` and by its rows and places.
-fn is_copied(alloc: Global, tables: &Tables) -> bool {
-    match copied(alloc, tables) {
-        Some(copy) => copy == *tables && are_as_long(&copy, tables),
-        None => false,
-    }
+fn is_copied(rt: &impl Abort, alloc: Global, tables: &Tables) -> bool {
+    let copy = copied(rt, alloc, tables);
+    copy == *tables && have_as_many_rows(&copy, tables) && have_as_many_places(&copy, tables)
 }
 
 /// With each allocation refused in turn (`rt try --test --fail-alloc`) a copy of many rows and places, settled or not, shows
@@ -127,11 +163,19 @@ fn is_copied(alloc: Global, tables: &Tables) -> bool {
 #[test]
 fn a_copy_shows_what_its_tables_show(rt: HostRuntime) {
     let mut tally = tally_below(&rt, rt.alloc(), 1000);
-    assert!(rt; is_copied(rt.alloc(), tally.tables()), "nothing is settled");
-    tally.settle();
-    assert!(rt; is_copied(rt.alloc(), tally.tables()), "all is settled");
     assert!(rt;
-        is_copied(rt.alloc(), Tally::new(rt.alloc()).tables()),
-        "nothing is there"
+        is_copied(&rt, rt.alloc(), tally.tables()),
+        "nothing is settled"
     );
+    tally.settle();
+    assert!(rt;
+        is_copied(&rt, rt.alloc(), tally.tables()),
+        "all is settled"
+    );
+    assert!(rt; nothing_is_copied(&rt, rt.alloc()), "nothing is there");
+}
+
+fn nothing_is_copied(rt: &impl Abort, alloc: Global) -> bool {
+    let tally = new_tally(rt, alloc);
+    is_copied(rt, alloc, tally.tables())
 }
