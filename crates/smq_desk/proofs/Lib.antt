@@ -11,6 +11,7 @@ pub mod AsMany
 pub mod ToldSeat
 pub mod AgreeAtEach
 pub mod BoardSteps
+pub mod OpeningTables
 pub mod TornCalls
 pub mod FilterLemmas
 pub mod Scopes

@@ -65,15 +65,13 @@ impl Ledger {
         requires { limit ≤ LONGEST_HISTORY }
         ensures { IfOk result (λ ledger. ledger ≡ opened limit) }
     {
-        let book = Book::new(alloc);
-        let history = History::new(alloc);
-        let board = open_board(alloc, PublishedHistory::of(alloc, &history, &book)?)?;
+        let board = open_board(alloc, PublishedHistory::opening(alloc)?)?;
         Ok(Ledger {
             alloc,
             limit,
             seats: 0,
-            book,
-            history,
+            book: Book::new(alloc),
+            history: History::new(alloc),
             board,
         })
     }

@@ -1,5 +1,5 @@
 //! What stands on a board: a history with its tables, as they were when they were published.
-ghost use Rattle.std.specs.Prelude.{◌≡◌, IfOk};
+ghost use Rattle.std.specs.Prelude.{◌≡◌, [], IfOk};
 ghost use Rattle.std.specs.Arc.{arc_value};
 ghost use Rattle.smq_book.specs.whole.Scratch.{scratch};
 ghost use Rattle.smq_desk.specs.History.{replay, IsLegal};
@@ -43,7 +43,22 @@ impl PublishedHistory {
     {
         let history = history.copy()?;
         let tables = book.tables().copy(alloc)?;
-        match Arc::new(alloc, PublishedHistory { history, tables }) {
+        PublishedHistory { history, tables }.shared(alloc)
+    }
+
+    /// That of no entry. No book is made for it: its tables are counted of nothing.
+    pub(crate) fn opening(alloc: Global) -> Result<Arc<PublishedHistory>, AllocError>
+        ensures { IfOk result (λ published. arc_value published ≡ []) }
+    {
+        let tables = Tables::of(alloc, &[], &[])?;
+        let history = History::new(alloc);
+        PublishedHistory { history, tables }.shared(alloc)
+    }
+
+    fn shared(self, alloc: Global) -> Result<Arc<PublishedHistory>, AllocError>
+        ensures { IfOk result (λ published. arc_value published ≡ self) }
+    {
+        match Arc::new(alloc, self) {
             Ok(published) => Ok(published),
             Err(_) => Err(AllocError),
         }
