@@ -1,8 +1,9 @@
 -- Batches, and edits, are equal by `==` where they are one.
-use Rattle.std.proofs.Common.{◌≡◌, ℕ, true, List, sym, ap, rules}
+use Rattle.std.proofs.Common.{◌≡◌, ◌∙◌, ℕ, true, false, List, refl, sym, ap, eqb, rules}
 use Rattle.std.specs.Prelude.{nat_eq}
 use Rattle.std.specs.Bool.{Decides}
 use Rattle.std.specs.Cmp.Lexicographic.{pointwise, same_text, bytes_decides}
+use Rattle.std.proofs.lemmas.Bool.{false≢true, eq-eqb}
 use Rattle.std.proofs.lemmas.Bool.Decides.{Decides-and, Decides-like, Decides-eqb}
 use Rattle.smq_kit.specs.declared.names.LinkId.{LinkId}
 use Rattle.smq_kit.specs.declared.names.SessionId.{SessionId}
@@ -144,70 +145,88 @@ clocks clock their_clock =
     (λ e. (let same : clock ≡ their_clock = cc in same))
     (Decides-eqb clock their_clock)
 
+-- which kind an edit is of
+abbrev kind : Edit → ℕ
+kind (v.Append batch) = 0
+kind (v.Withdraw session) = 1
+kind (v.SetForm link response receipt) = 2
+kind (v.SetWindow link window) = 3
+kind (v.AddRoute prefix from route network) = 4
+kind (v.EndRoute prefix from until) = 5
+kind (v.CorrectRoute prefix from route network) = 6
+kind (v.Advance clock) = 7
+
+-- edits of two kinds aren't equal
+unlike : (a b : Edit) → edits_eq a b ≡ false → eqb (kind a) (kind b) ≡ false → Decides (edits_eq a b) (a ≡ b)
+unlike a b differ apart = (
+  λ t. absurd (false≢true (sym differ ∙ t)),
+  λ e. absurd (false≢true (sym apart ∙ eq-eqb (kind a) (kind b) (ap kind e))),
+)
+
 pub edits : (a b : Edit) → Decides (edits_eq a b) (a ≡ b)
 edits (v.Append a) (v.Append s) = appends a s
-edits (v.Append a) (v.Withdraw s) = (λ h. absurd cc, λ e. absurd cc)
-edits (v.Append a) (v.SetForm s t u) = (λ h. absurd cc, λ e. absurd cc)
-edits (v.Append a) (v.SetWindow s t) = (λ h. absurd cc, λ e. absurd cc)
-edits (v.Append a) (v.AddRoute s t u w) = (λ h. absurd cc, λ e. absurd cc)
-edits (v.Append a) (v.EndRoute s t u) = (λ h. absurd cc, λ e. absurd cc)
-edits (v.Append a) (v.CorrectRoute s t u w) = (λ h. absurd cc, λ e. absurd cc)
-edits (v.Append a) (v.Advance s) = (λ h. absurd cc, λ e. absurd cc)
-edits (v.Withdraw a) (v.Append s) = (λ h. absurd cc, λ e. absurd cc)
+edits (v.Append a) (v.Withdraw s) = unlike (v.Append a) (v.Withdraw s) refl refl
+edits (v.Append a) (v.SetForm s t u) = unlike (v.Append a) (v.SetForm s t u) refl refl
+edits (v.Append a) (v.SetWindow s t) = unlike (v.Append a) (v.SetWindow s t) refl refl
+edits (v.Append a) (v.AddRoute s t u w) = unlike (v.Append a) (v.AddRoute s t u w) refl refl
+edits (v.Append a) (v.EndRoute s t u) = unlike (v.Append a) (v.EndRoute s t u) refl refl
+edits (v.Append a) (v.CorrectRoute s t u w) = unlike (v.Append a) (v.CorrectRoute s t u w) refl refl
+edits (v.Append a) (v.Advance s) = unlike (v.Append a) (v.Advance s) refl refl
+edits (v.Withdraw a) (v.Append s) = unlike (v.Withdraw a) (v.Append s) refl refl
 edits (v.Withdraw a) (v.Withdraw s) = withdrawals a s
-edits (v.Withdraw a) (v.SetForm s t u) = (λ h. absurd cc, λ e. absurd cc)
-edits (v.Withdraw a) (v.SetWindow s t) = (λ h. absurd cc, λ e. absurd cc)
-edits (v.Withdraw a) (v.AddRoute s t u w) = (λ h. absurd cc, λ e. absurd cc)
-edits (v.Withdraw a) (v.EndRoute s t u) = (λ h. absurd cc, λ e. absurd cc)
-edits (v.Withdraw a) (v.CorrectRoute s t u w) = (λ h. absurd cc, λ e. absurd cc)
-edits (v.Withdraw a) (v.Advance s) = (λ h. absurd cc, λ e. absurd cc)
-edits (v.SetForm a b c) (v.Append s) = (λ h. absurd cc, λ e. absurd cc)
-edits (v.SetForm a b c) (v.Withdraw s) = (λ h. absurd cc, λ e. absurd cc)
+edits (v.Withdraw a) (v.SetForm s t u) = unlike (v.Withdraw a) (v.SetForm s t u) refl refl
+edits (v.Withdraw a) (v.SetWindow s t) = unlike (v.Withdraw a) (v.SetWindow s t) refl refl
+edits (v.Withdraw a) (v.AddRoute s t u w) = unlike (v.Withdraw a) (v.AddRoute s t u w) refl refl
+edits (v.Withdraw a) (v.EndRoute s t u) = unlike (v.Withdraw a) (v.EndRoute s t u) refl refl
+edits (v.Withdraw a) (v.CorrectRoute s t u w) = unlike (v.Withdraw a) (v.CorrectRoute s t u w) refl refl
+edits (v.Withdraw a) (v.Advance s) = unlike (v.Withdraw a) (v.Advance s) refl refl
+edits (v.SetForm a b c) (v.Append s) = unlike (v.SetForm a b c) (v.Append s) refl refl
+edits (v.SetForm a b c) (v.Withdraw s) = unlike (v.SetForm a b c) (v.Withdraw s) refl refl
 edits (v.SetForm a b c) (v.SetForm s t u) = forms_set a s b t c u
-edits (v.SetForm a b c) (v.SetWindow s t) = (λ h. absurd cc, λ e. absurd cc)
-edits (v.SetForm a b c) (v.AddRoute s t u w) = (λ h. absurd cc, λ e. absurd cc)
-edits (v.SetForm a b c) (v.EndRoute s t u) = (λ h. absurd cc, λ e. absurd cc)
-edits (v.SetForm a b c) (v.CorrectRoute s t u w) = (λ h. absurd cc, λ e. absurd cc)
-edits (v.SetForm a b c) (v.Advance s) = (λ h. absurd cc, λ e. absurd cc)
-edits (v.SetWindow a b) (v.Append s) = (λ h. absurd cc, λ e. absurd cc)
-edits (v.SetWindow a b) (v.Withdraw s) = (λ h. absurd cc, λ e. absurd cc)
-edits (v.SetWindow a b) (v.SetForm s t u) = (λ h. absurd cc, λ e. absurd cc)
+edits (v.SetForm a b c) (v.SetWindow s t) = unlike (v.SetForm a b c) (v.SetWindow s t) refl refl
+edits (v.SetForm a b c) (v.AddRoute s t u w) = unlike (v.SetForm a b c) (v.AddRoute s t u w) refl refl
+edits (v.SetForm a b c) (v.EndRoute s t u) = unlike (v.SetForm a b c) (v.EndRoute s t u) refl refl
+edits (v.SetForm a b c) (v.CorrectRoute s t u w) = unlike (v.SetForm a b c) (v.CorrectRoute s t u w) refl refl
+edits (v.SetForm a b c) (v.Advance s) = unlike (v.SetForm a b c) (v.Advance s) refl refl
+edits (v.SetWindow a b) (v.Append s) = unlike (v.SetWindow a b) (v.Append s) refl refl
+edits (v.SetWindow a b) (v.Withdraw s) = unlike (v.SetWindow a b) (v.Withdraw s) refl refl
+edits (v.SetWindow a b) (v.SetForm s t u) = unlike (v.SetWindow a b) (v.SetForm s t u) refl refl
 edits (v.SetWindow a b) (v.SetWindow s t) = windows_set a s b t
-edits (v.SetWindow a b) (v.AddRoute s t u w) = (λ h. absurd cc, λ e. absurd cc)
-edits (v.SetWindow a b) (v.EndRoute s t u) = (λ h. absurd cc, λ e. absurd cc)
-edits (v.SetWindow a b) (v.CorrectRoute s t u w) = (λ h. absurd cc, λ e. absurd cc)
-edits (v.SetWindow a b) (v.Advance s) = (λ h. absurd cc, λ e. absurd cc)
-edits (v.AddRoute a b c d) (v.Append s) = (λ h. absurd cc, λ e. absurd cc)
-edits (v.AddRoute a b c d) (v.Withdraw s) = (λ h. absurd cc, λ e. absurd cc)
-edits (v.AddRoute a b c d) (v.SetForm s t u) = (λ h. absurd cc, λ e. absurd cc)
-edits (v.AddRoute a b c d) (v.SetWindow s t) = (λ h. absurd cc, λ e. absurd cc)
+edits (v.SetWindow a b) (v.AddRoute s t u w) = unlike (v.SetWindow a b) (v.AddRoute s t u w) refl refl
+edits (v.SetWindow a b) (v.EndRoute s t u) = unlike (v.SetWindow a b) (v.EndRoute s t u) refl refl
+edits (v.SetWindow a b) (v.CorrectRoute s t u w) = unlike (v.SetWindow a b) (v.CorrectRoute s t u w) refl refl
+edits (v.SetWindow a b) (v.Advance s) = unlike (v.SetWindow a b) (v.Advance s) refl refl
+edits (v.AddRoute a b c d) (v.Append s) = unlike (v.AddRoute a b c d) (v.Append s) refl refl
+edits (v.AddRoute a b c d) (v.Withdraw s) = unlike (v.AddRoute a b c d) (v.Withdraw s) refl refl
+edits (v.AddRoute a b c d) (v.SetForm s t u) = unlike (v.AddRoute a b c d) (v.SetForm s t u) refl refl
+edits (v.AddRoute a b c d) (v.SetWindow s t) = unlike (v.AddRoute a b c d) (v.SetWindow s t) refl refl
 edits (v.AddRoute a b c d) (v.AddRoute s t u w) = routes_added a s b t c u d w
-edits (v.AddRoute a b c d) (v.EndRoute s t u) = (λ h. absurd cc, λ e. absurd cc)
-edits (v.AddRoute a b c d) (v.CorrectRoute s t u w) = (λ h. absurd cc, λ e. absurd cc)
-edits (v.AddRoute a b c d) (v.Advance s) = (λ h. absurd cc, λ e. absurd cc)
-edits (v.EndRoute a b c) (v.Append s) = (λ h. absurd cc, λ e. absurd cc)
-edits (v.EndRoute a b c) (v.Withdraw s) = (λ h. absurd cc, λ e. absurd cc)
-edits (v.EndRoute a b c) (v.SetForm s t u) = (λ h. absurd cc, λ e. absurd cc)
-edits (v.EndRoute a b c) (v.SetWindow s t) = (λ h. absurd cc, λ e. absurd cc)
-edits (v.EndRoute a b c) (v.AddRoute s t u w) = (λ h. absurd cc, λ e. absurd cc)
+edits (v.AddRoute a b c d) (v.EndRoute s t u) = unlike (v.AddRoute a b c d) (v.EndRoute s t u) refl refl
+edits (v.AddRoute a b c d) (v.CorrectRoute s t u w) = unlike (v.AddRoute a b c d) (v.CorrectRoute s t u w) refl refl
+edits (v.AddRoute a b c d) (v.Advance s) = unlike (v.AddRoute a b c d) (v.Advance s) refl refl
+edits (v.EndRoute a b c) (v.Append s) = unlike (v.EndRoute a b c) (v.Append s) refl refl
+edits (v.EndRoute a b c) (v.Withdraw s) = unlike (v.EndRoute a b c) (v.Withdraw s) refl refl
+edits (v.EndRoute a b c) (v.SetForm s t u) = unlike (v.EndRoute a b c) (v.SetForm s t u) refl refl
+edits (v.EndRoute a b c) (v.SetWindow s t) = unlike (v.EndRoute a b c) (v.SetWindow s t) refl refl
+edits (v.EndRoute a b c) (v.AddRoute s t u w) = unlike (v.EndRoute a b c) (v.AddRoute s t u w) refl refl
 edits (v.EndRoute a b c) (v.EndRoute s t u) = routes_ended a s b t c u
-edits (v.EndRoute a b c) (v.CorrectRoute s t u w) = (λ h. absurd cc, λ e. absurd cc)
-edits (v.EndRoute a b c) (v.Advance s) = (λ h. absurd cc, λ e. absurd cc)
-edits (v.CorrectRoute a b c d) (v.Append s) = (λ h. absurd cc, λ e. absurd cc)
-edits (v.CorrectRoute a b c d) (v.Withdraw s) = (λ h. absurd cc, λ e. absurd cc)
-edits (v.CorrectRoute a b c d) (v.SetForm s t u) = (λ h. absurd cc, λ e. absurd cc)
-edits (v.CorrectRoute a b c d) (v.SetWindow s t) = (λ h. absurd cc, λ e. absurd cc)
-edits (v.CorrectRoute a b c d) (v.AddRoute s t u w) = (λ h. absurd cc, λ e. absurd cc)
-edits (v.CorrectRoute a b c d) (v.EndRoute s t u) = (λ h. absurd cc, λ e. absurd cc)
+edits (v.EndRoute a b c) (v.CorrectRoute s t u w) = unlike (v.EndRoute a b c) (v.CorrectRoute s t u w) refl refl
+edits (v.EndRoute a b c) (v.Advance s) = unlike (v.EndRoute a b c) (v.Advance s) refl refl
+edits (v.CorrectRoute a b c d) (v.Append s) = unlike (v.CorrectRoute a b c d) (v.Append s) refl refl
+edits (v.CorrectRoute a b c d) (v.Withdraw s) = unlike (v.CorrectRoute a b c d) (v.Withdraw s) refl refl
+edits (v.CorrectRoute a b c d) (v.SetForm s t u) = unlike (v.CorrectRoute a b c d) (v.SetForm s t u) refl refl
+edits (v.CorrectRoute a b c d) (v.SetWindow s t) = unlike (v.CorrectRoute a b c d) (v.SetWindow s t) refl refl
+edits (v.CorrectRoute a b c d) (v.AddRoute s t u w) = unlike (v.CorrectRoute a b c d) (v.AddRoute s t u w) refl refl
+edits (v.CorrectRoute a b c d) (v.EndRoute s t u) = unlike (v.CorrectRoute a b c d) (v.EndRoute s t u) refl refl
 edits (v.CorrectRoute a b c d) (v.CorrectRoute s t u w) = routes_corrected a s b t c u d w
-edits (v.CorrectRoute a b c d) (v.Advance s) = (λ h. absurd cc, λ e. absurd cc)
-edits (v.Advance a) (v.Append s) = (λ h. absurd cc, λ e. absurd cc)
-edits (v.Advance a) (v.Withdraw s) = (λ h. absurd cc, λ e. absurd cc)
-edits (v.Advance a) (v.SetForm s t u) = (λ h. absurd cc, λ e. absurd cc)
-edits (v.Advance a) (v.SetWindow s t) = (λ h. absurd cc, λ e. absurd cc)
-edits (v.Advance a) (v.AddRoute s t u w) = (λ h. absurd cc, λ e. absurd cc)
-edits (v.Advance a) (v.EndRoute s t u) = (λ h. absurd cc, λ e. absurd cc)
-edits (v.Advance a) (v.CorrectRoute s t u w) = (λ h. absurd cc, λ e. absurd cc)
+edits (v.CorrectRoute a b c d) (v.Advance s) = unlike (v.CorrectRoute a b c d) (v.Advance s) refl refl
+edits (v.Advance a) (v.Append s) = unlike (v.Advance a) (v.Append s) refl refl
+edits (v.Advance a) (v.Withdraw s) = unlike (v.Advance a) (v.Withdraw s) refl refl
+edits (v.Advance a) (v.SetForm s t u) = unlike (v.Advance a) (v.SetForm s t u) refl refl
+edits (v.Advance a) (v.SetWindow s t) = unlike (v.Advance a) (v.SetWindow s t) refl refl
+edits (v.Advance a) (v.AddRoute s t u w) = unlike (v.Advance a) (v.AddRoute s t u w) refl refl
+edits (v.Advance a) (v.EndRoute s t u) = unlike (v.Advance a) (v.EndRoute s t u) refl refl
+edits (v.Advance a) (v.CorrectRoute s t u w) = unlike (v.Advance a) (v.CorrectRoute s t u w) refl refl
 edits (v.Advance a) (v.Advance s) = clocks a s
 
 pub edits_eq-one : (a b : Edit) → edits_eq a b ≡ true → a ≡ b
