@@ -5,14 +5,15 @@ ghost use Rattle.std.specs.IoError.{error_kind};
 ghost use Rattle.std.specs.Prelude.{◌≡◌, ◌≢◌, ◌⊎◌};
 ghost use Rattle.std.specs.declared.io.ErrorKind.TheVariants as io_kind;
 ghost use Rattle.clap.specs.Words.{kind_of};
-ghost use Rattle.smq.specs.Statuses.{bad_words_status, fault_status};
+ghost use Rattle.smq.specs.Statuses.{bad_words_status, fault_status, run_status};
 
 mod laws;
 mod status;
 
 use clap::error::ErrorKind;
 use smq_desk::NoGate;
-use smq_engine::{RunFault, check, run};
+use smq_engine::{Checked, Ran, RunFault, check, run};
+use smq_kit::Refusal;
 use smq_load::MOST_SETTINGS;
 use smq_words::{Order, Query, order, own_words};
 use status::{BAD_INPUT, DONE, FAULT, check_status, fault_status, ran_status};
@@ -112,15 +113,30 @@ fn read_start<R: Files + AllocGlobal>(rt: &R, path: &str) -> io::Result<Vec<u8>>
 
 /// Plays the script after the settings, writes what the query asks for, and tells what was refused.
 fn tell<R: Input + Print + Eprint + AllocGlobal>(rt: &R, query: Query, settings: &[u8]) -> u8 {
-    match run(rt, &mut rt.reader(), settings, query, &mut io::writer(rt)) {
-        Ok(ran) => {
-            for (row, refusal) in &ran.refused {
-                let _ = eprintln!(rt; "row {row}: {refusal}");
-            }
-            ran_status(ran.refused.as_slice())
-        }
+    match play(rt, query, settings) {
+        Ok(ran) => tell_refused(rt, ran.refused.as_slice()),
         Err(fault) => fail(rt, fault),
     }
+}
+
+/// Plays the script after the settings, and writes what the query asks for. What `run` promises of it ends here, so that telling it is
+/// proved over little.
+fn play<R: Input + Print + AllocGlobal>(
+    rt: &R,
+    query: Query,
+    settings: &[u8],
+) -> Result<Ran, RunFault> {
+    run(rt, &mut rt.reader(), settings, query, &mut io::writer(rt))
+}
+
+/// Tells what was refused, and gives the status.
+fn tell_refused<R: Eprint>(rt: &R, refused: &[(u64, Refusal)]) -> u8
+    ensures { result ≡ run_status refused.now }
+{
+    for (row, refusal) in refused {
+        let _ = eprintln!(rt; "row {row}: {refusal}");
+    }
+    ran_status(refused)
 }
 
 /// Checks the script after the settings, and writes what was found.
@@ -128,10 +144,18 @@ fn tell_check<R: Input + Print + Eprint + AllocGlobal + Threads + Wait + Sync>(
     rt: &R,
     settings: &[u8],
 ) -> u8 {
-    match check(rt, &mut rt.reader(), settings, &mut io::writer(rt), &NoGate) {
+    match play_and_compare(rt, settings) {
         Ok(checked) => check_status(checked),
         Err(fault) => fail(rt, fault),
     }
+}
+
+/// Checks the script after the settings, and writes what was found. What `check` promises of it ends here, too.
+fn play_and_compare<R: Input + Print + AllocGlobal + Threads + Wait + Sync>(
+    rt: &R,
+    settings: &[u8],
+) -> Result<Checked, RunFault> {
+    check(rt, &mut rt.reader(), settings, &mut io::writer(rt), &NoGate)
 }
 
 /// Tells why the script wasn't run or checked, or that help couldn't be written, and gives the status.
