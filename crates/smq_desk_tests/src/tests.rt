@@ -1,32 +1,33 @@
 //! What no clause says of a desk: that its calls succeed with ample memory and room, what they answer then, and that two
-//! threads share it.
-//!
-//! A desk ends by a call of its own, so a test lends it to a function, ends it, and then asserts; or it aborts while the desk is
-//! there, by `expect`. A desk stands on the heap: a proof that owns an address is short, and one that owns all parts of a book
-//! is not.
-ghost use Rattle.std.specs.Prelude.{◌≤◌};
-ghost use Rattle.smq_desk.specs.declared.ledger.TheConstants.{LONGEST_HISTORY};
+//! threads share it. A function owns one seat, watcher or batch at most beside a desk, and lends it; what must be there comes by
+//! `expect`.
 
 mod closes;
 mod contention;
 mod crowds;
+mod desks;
 mod editions;
 mod histories;
+mod jobs;
 mod memory;
 mod stopped_jobs;
 mod workers;
 
 use bytes::Bytes;
-use smq_book::{Edit, Outcome, Tables, Value, View, prepare};
-use smq_desk::{CloseFault, Closed, Desk, Seat};
+use desks::{
+    Ended, Told, close, close_and_end, close_late, count, end, end_closed, end_desk, entries_of,
+    fault_of, is_whole, new_desk,
+};
+use smq_book::{Batch, Edit, Outcome, prepare};
+use smq_desk::{CloseFault, Desk, Entry, Reply, Seat};
 use smq_frame::Tail;
 use smq_kit::{Dir, LinkId, Moment, Refusal, SessionId};
 use std::alloc::{AllocError, AllocGlobal, Global};
 use std::process::Abort;
 use std::sync::Wait;
 use std::sync::atomic::{AtomicBool, Ordering};
-use std::test::Fail;
 use std::thread;
+use std::thread::Threads;
 
 /// A submit_sm to 447700900123 with sequence number 1, which asks for a receipt (SMPP 3.4, 4.4.1).
 const SUBMIT: &[u8] =
@@ -38,14 +39,20 @@ const RESPONSE: &[u8] = b"\0\0\0\x12\x80\0\0\x04\0\0\0\0\0\0\0\x011\0";
 /// A session of a link, and the direction, moment and octets of a piece.
 type Row = (u32, u64, Dir, u64, &'static [u8]);
 
-/// The edit of a piece on a tail.
-fn append(alloc: Global, tail: &Tail, row: Row) -> Result<Edit, Refusal> {
-    let (link, session, dir, moment, octets) = row;
+/// A submit_sm of session 10 of link 1.
+const FIRST: Row = (1, 10, Dir::FromClient, 1000, SUBMIT);
+
+/// A session of a link, and a direction and moment.
+type Origin = (u32, u64, Dir, u64);
+
+/// The batch of octets on a tail.
+fn batch_on(alloc: Global, tail: &Tail, origin: Origin, octets: &[u8]) -> Result<Batch, Refusal> {
+    let (link, session, dir, moment) = origin;
     let moment = Moment::new(moment)?;
     let Ok(octets) = Bytes::copy_from_slice(alloc, octets) else {
         return Err(Refusal::Memory);
     };
-    let batch = prepare(
+    prepare(
         alloc,
         LinkId(link),
         SessionId(session),
@@ -53,8 +60,21 @@ fn append(alloc: Global, tail: &Tail, row: Row) -> Result<Edit, Refusal> {
         tail,
         moment,
         octets,
-    )?;
-    Ok(Edit::Append { batch })
+    )
+}
+
+/// Commits a piece that is prepared on a tail.
+fn put_on<R: Wait>(
+    rt: &R,
+    alloc: Global,
+    desk: &Desk,
+    seat: &mut Seat,
+    tail: &Tail,
+    row: Row,
+) -> Result<u64, Refusal> {
+    let (link, session, dir, moment, octets) = row;
+    let batch = batch_on(alloc, tail, (link, session, dir, moment), octets)?;
+    desk.commit(rt, seat, Edit::Append { batch })
 }
 
 /// Commits a piece on the tail as it is now.
@@ -66,10 +86,10 @@ fn put<R: Wait>(
     row: Row,
 ) -> Result<u64, Refusal> {
     let tail = desk.tail(rt, SessionId(row.1), row.2)?;
-    desk.commit(rt, seat, append(alloc, &tail, row)?)
+    put_on(rt, alloc, desk, seat, &tail, row)
 }
 
-/// Commits a submit_sm and its response, and gives the numbers of their entries.
+/// Commits a submit_sm and its response, and gives the numbers of their entries, where both were made.
 fn put_both<R: Wait>(
     rt: &R,
     alloc: Global,
@@ -77,12 +97,15 @@ fn put_both<R: Wait>(
     seat: &mut Seat,
     link: u32,
     session: u64,
-) -> (Result<u64, Refusal>, Result<u64, Refusal>) {
+) -> Option<(u64, u64)> {
     let submit = (link, session, Dir::FromClient, 1000, SUBMIT);
     let response = (link, session, Dir::FromCentre, 1200, RESPONSE);
     let first = put(rt, alloc, desk, seat, submit);
     let second = put(rt, alloc, desk, seat, response);
-    (first, second)
+    match (first, second) {
+        (Ok(first), Ok(second)) => Some((first, second)),
+        _ => None,
+    }
 }
 
 /// Commits a submit_sm for session 30 that is prepared on the tail of no octets.
@@ -93,140 +116,80 @@ fn put_at_start<R: Wait>(
     seat: &mut Seat,
 ) -> Result<u64, Refusal> {
     let row = (3, 30, Dir::FromClient, 1000, SUBMIT);
-    desk.commit(rt, seat, append(alloc, &Tail::at(0), row)?)
+    put_on(rt, alloc, desk, seat, &Tail::at(0), row)
 }
 
-/// How many messages of a link have an outcome.
-fn count(tables: &Tables, link: u32, outcome: Outcome) -> u64 {
-    tables.count(View::Link, &Value::Link(LinkId(link)), outcome)
+/// Commits a clock of so many ms.
+fn commit_clock<R: Wait>(
+    rt: &R,
+    desk: &Desk,
+    seat: &mut Seat,
+    milliseconds: u64,
+) -> Result<u64, Refusal> {
+    let clock = Moment::new(milliseconds)?;
+    desk.commit(rt, seat, Edit::Advance { clock })
 }
 
-/// What a close comes to. `Lost` is a desk that found no memory for its box.
-enum Ended {
-    Closed(Box<Closed>),
-    Open(CloseFault, Box<Desk>, Vec<Seat>),
-    Lost,
-}
-
-/// A desk of an empty book, for so many entries at most.
-fn new_desk<R: Wait + AllocGlobal>(rt: &R, limit: u64) -> Result<Box<Desk>, Refusal>
-    requires { (1 ≤ limit) × (limit ≤ LONGEST_HISTORY) }
-{
-    let desk = Desk::new(rt, limit)?;
-    boxed_desk(rt, rt.alloc(), desk)
-}
-
-fn boxed_desk<R: Wait>(rt: &R, alloc: Global, desk: Desk) -> Result<Box<Desk>, Refusal> {
-    match Box::new(alloc, desk) {
-        Ok(desk) => Ok(desk),
-        Err(failed) => {
-            failed.value.end(rt);
-            Err(Refusal::Memory)
-        }
+/// Publishes a seat's calls.
+fn publish<R: Wait>(rt: &R, desk: &Desk, seat: &mut Seat) -> Result<(), Refusal> {
+    match desk.publish(rt, seat) {
+        Ok(_note) => Ok(()),
+        Err(refusal) => Err(refusal),
     }
 }
 
-fn boxed_closed<R: Wait>(rt: &R, alloc: Global, closed: Closed) -> Ended {
-    match Box::new(alloc, closed) {
-        Ok(closed) => Ended::Closed(closed),
-        Err(failed) => {
-            failed.value.end(rt);
-            Ended::Lost
-        }
-    }
+/// A seat of a desk.
+fn seat_of<R: Abort + Wait>(rt: &R, desk: &Desk) -> Seat {
+    desk.seat(rt).expect(rt, "a seat")
 }
 
-fn end_desk<R: Wait>(rt: &R, desk: Box<Desk>) {
-    Box::into_inner(desk).end(rt);
+/// A list of one seat of a desk.
+fn one_seat<R: Abort + Wait>(rt: &R, alloc: Global, desk: &Desk) -> Vec<Seat> {
+    let mut seats = Vec::new(alloc);
+    put_seat(rt, &mut seats, seat_of(rt, desk));
+    seats
 }
 
-fn end_closed<R: Wait>(rt: &R, closed: Box<Closed>) {
-    Box::into_inner(closed).end(rt);
-}
-
-/// Closes a desk for seats.
-fn close<R: Wait>(rt: &R, alloc: Global, desk: Box<Desk>, seats: Vec<Seat>) -> Ended {
-    match Box::into_inner(desk).close(seats) {
-        Ok(closed) => boxed_closed(rt, alloc, closed),
-        Err((fault, desk, seats)) => match boxed_desk(rt, alloc, desk) {
-            Ok(desk) => Ended::Open(fault, desk, seats),
-            Err(_) => Ended::Lost,
-        },
-    }
-}
-
-/// How many entries the desk has that these seats close, if they do.
-fn entries_of<R: Wait>(rt: &R, ended: Ended) -> Option<usize> {
-    match ended {
-        Ended::Closed(closed) => {
-            let count = closed.entries().count();
-            end_closed(rt, closed);
-            Some(count)
-        }
-        Ended::Open(_, desk, _) => {
-            end_desk(rt, desk);
-            None
-        }
-        Ended::Lost => None,
-    }
-}
-
-/// Whether the desk closes with six entries, and its book's tables are as wanted.
-fn closes_whole<R: Wait>(rt: &R, alloc: Global, desk: Box<Desk>, seats: Vec<Seat>) -> bool {
-    match close(rt, alloc, desk, seats) {
-        Ended::Closed(closed) => {
-            let whole = is_whole(&closed);
-            end_closed(rt, closed);
-            whole
-        }
-        Ended::Open(_, desk, _) => {
-            end_desk(rt, desk);
-            false
-        }
-        Ended::Lost => false,
-    }
-}
-
-/// Whether a desk that is closed has six entries, and its book's tables are as wanted.
-fn is_whole(closed: &Closed) -> bool {
-    let tables = closed.book().tables();
-    closed.entries().count() == 6
-        && count(tables, 1, Outcome::Open) == 1
-        && count(tables, 2, Outcome::Open) == 1
-        && count(tables, 3, Outcome::Waiting) == 1
+/// Puts a seat into a list.
+fn put_seat(rt: &impl Abort, seats: &mut Vec<Seat>, seat: Seat) {
+    seats.push(seat).expect(rt, "memory");
 }
 
 #[test]
-fn four_seats_commit_one_after_the_other(rt: HostRuntime) -> Result<(), Fail> {
+fn four_seats_commit_one_after_the_other(rt: HostRuntime) {
     let alloc = rt.alloc();
-    let desk = new_desk(&rt, 100)?;
-    let mut one = desk.seat(&rt).expect(&rt, "a seat");
-    let mut two = desk.seat(&rt).expect(&rt, "a seat");
-    let mut three = desk.seat(&rt).expect(&rt, "a seat");
-    let mut four = desk.seat(&rt).expect(&rt, "a seat");
-    assert_eq!(rt; (one.number(), four.number()), (1, 4));
-    assert_eq!(rt;
-        put_both(&rt, alloc, &desk, &mut one, 1, 10),
-        (Ok(1), Ok(2))
-    );
-    assert_eq!(rt;
-        put_both(&rt, alloc, &desk, &mut two, 2, 20),
-        (Ok(3), Ok(4))
-    );
-    assert_eq!(rt; put_at_start(&rt, alloc, &desk, &mut three), Ok(5));
-    let refused = put_at_start(&rt, alloc, &desk, &mut four);
-    assert_eq!(rt; refused, Err(Refusal::OutOfStep { offset: 49 }));
+    let desk = new_desk(&rt, 100).expect(&rt, "a desk");
+    let mut one = seat_of(&rt, &desk);
+    let mut two = seat_of(&rt, &desk);
+    let mut three = seat_of(&rt, &desk);
+    let mut four = seat_of(&rt, &desk);
+    assert!(rt; (one.number(), four.number()) == (1, 4));
+    assert!(rt; put_both(&rt, alloc, &desk, &mut one, 1, 10) == Some((1, 2)));
+    assert!(rt; put_both(&rt, alloc, &desk, &mut two, 2, 20) == Some((3, 4)));
+    assert_fifth(&rt, alloc, &desk, &mut three, &mut four);
     let seats = vec![in alloc; one, two, three, four].expect(&rt, "memory");
-    let closes = closes_whole(&rt, alloc, desk, seats);
+    let closes = is_whole(close_and_end(&rt, alloc, desk, seats));
     assert!(rt; closes);
-    Ok(())
+}
+
+/// Asserts that of two pieces on the tail of no octets the first is the fifth entry, and the second is out of step.
+fn assert_fifth<R: Abort + Wait>(
+    rt: &R,
+    alloc: Global,
+    desk: &Desk,
+    three: &mut Seat,
+    four: &mut Seat,
+) {
+    assert!(rt; put_at_start(rt, alloc, desk, three) == Ok(5));
+    let refused = put_at_start(rt, alloc, desk, four);
+    assert!(rt; refused == Err(Refusal::OutOfStep { offset: 49 }));
 }
 
 /// Whether both commits of a thread were made, in their order.
-fn is_ordered(numbers: (Result<u64, Refusal>, Result<u64, Refusal>)) -> bool {
+fn is_ordered(numbers: Option<(u64, u64)>) -> bool {
     match numbers {
-        (Ok(first), Ok(second)) => first < second,
-        _ => false,
+        Some((first, second)) => first < second,
+        None => false,
     }
 }
 
@@ -240,96 +203,84 @@ fn meet(ours: &AtomicBool, theirs: &AtomicBool) {
     }
 }
 
-#[test]
-fn two_threads_commit_in_their_own_order(rt: HostRuntime) -> Result<(), Fail> {
-    let alloc = rt.alloc();
-    let desk = new_desk(&rt, 100)?;
-    let mut one = desk.seat(&rt).expect(&rt, "a seat");
-    let mut two = desk.seat(&rt).expect(&rt, "a seat");
-    let mut three = desk.seat(&rt).expect(&rt, "a seat");
-    let mut four = desk.seat(&rt).expect(&rt, "a seat");
+/// Whether each of two threads commits in its own order.
+fn commit_in_order<R: Threads + Wait + Sync>(
+    rt: &R,
+    alloc: Global,
+    desk: &Desk,
+    one: &mut Seat,
+    two: &mut Seat,
+) -> bool {
     let (left, right) = (AtomicBool::new(false), AtomicBool::new(false));
     let (first, second) = thread::join_mut(
-        &rt,
+        rt,
         &mut || {
             meet(&left, &right);
-            put_both(&rt, alloc, &desk, &mut one, 1, 10)
+            put_both(rt, alloc, desk, one, 1, 10)
         },
         &mut || {
             meet(&right, &left);
-            put_both(&rt, alloc, &desk, &mut two, 2, 20)
+            put_both(rt, alloc, desk, two, 2, 20)
         },
     );
-    let ordered = is_ordered(first) && is_ordered(second);
-    assert!(rt; ordered);
-    assert_eq!(rt; put_at_start(&rt, alloc, &desk, &mut three), Ok(5));
-    let refused = put_at_start(&rt, alloc, &desk, &mut four);
-    assert_eq!(rt; refused, Err(Refusal::OutOfStep { offset: 49 }));
-    let seats = vec![in alloc; one, two, three, four].expect(&rt, "memory");
-    let closes = closes_whole(&rt, alloc, desk, seats);
-    assert!(rt; closes);
-    Ok(())
-}
-
-/// Whether a desk stays open for want of a seat, and closes with two entries once that comes.
-fn closes_late<R: Wait>(
-    rt: &R,
-    alloc: Global,
-    desk: Box<Desk>,
-    seats: Vec<Seat>,
-    missing: Seat,
-) -> bool {
-    match close(rt, alloc, desk, seats) {
-        Ended::Open(CloseFault::SeatsOut, desk, mut seats) => {
-            let added = seats.push(missing).is_ok();
-            let entries = entries_of(rt, close(rt, alloc, desk, seats));
-            added && entries == Some(2)
-        }
-        other => {
-            entries_of(rt, other);
-            false
-        }
-    }
+    is_ordered(first) && is_ordered(second)
 }
 
 #[test]
-fn a_full_history_takes_no_entry_and_a_missing_seat_keeps_the_desk_open(
-    rt: HostRuntime,
-) -> Result<(), Fail> {
+fn two_threads_commit_in_their_own_order(rt: HostRuntime) {
     let alloc = rt.alloc();
-    let desk = new_desk(&rt, 2)?;
-    let mut one = desk.seat(&rt).expect(&rt, "a seat");
-    let two = desk.seat(&rt).expect(&rt, "a seat");
-    assert_eq!(rt;
-        put_both(&rt, alloc, &desk, &mut one, 1, 10),
-        (Ok(1), Ok(2))
-    );
-    let full = put_at_start(&rt, alloc, &desk, &mut one);
-    assert_eq!(rt; full, Err(Refusal::HistoryFull));
-    let seats = vec![in alloc; one].expect(&rt, "memory");
-    let closes = closes_late(&rt, alloc, desk, seats, two);
+    let desk = new_desk(&rt, 100).expect(&rt, "a desk");
+    let mut one = seat_of(&rt, &desk);
+    let mut two = seat_of(&rt, &desk);
+    let mut three = seat_of(&rt, &desk);
+    let mut four = seat_of(&rt, &desk);
+    let ordered = commit_in_order(&rt, alloc, &desk, &mut one, &mut two);
+    assert!(rt; ordered);
+    assert_fifth(&rt, alloc, &desk, &mut three, &mut four);
+    let seats = vec![in alloc; one, two, three, four].expect(&rt, "memory");
+    let closes = is_whole(close_and_end(&rt, alloc, desk, seats));
     assert!(rt; closes);
-    Ok(())
+}
+
+#[test]
+fn a_full_history_takes_no_entry_and_a_missing_seat_keeps_the_desk_open(rt: HostRuntime) {
+    let alloc = rt.alloc();
+    let desk = new_desk(&rt, 2).expect(&rt, "a desk");
+    let mut one = seat_of(&rt, &desk);
+    let mut missing = Some(seat_of(&rt, &desk));
+    assert!(rt; put_both(&rt, alloc, &desk, &mut one, 1, 10) == Some((1, 2)));
+    let full = put_at_start(&rt, alloc, &desk, &mut one);
+    assert!(rt; full == Err(Refusal::HistoryFull));
+    let seats = vec![in alloc; one].expect(&rt, "memory");
+    let closed = close_late(&rt, alloc, desk, seats, &mut missing);
+    assert!(rt; closed == Ok(Some(2)));
 }
 
 /// The number of the last of 65,536 seats, and how the next is refused.
 fn last_seat<R: Wait>(rt: &R, desk: &Desk) -> (u32, Option<Refusal>) {
     let mut last = 0;
     for _ in 0..65_536 {
-        match desk.seat(rt) {
-            Ok(seat) => last = seat.number(),
+        match seat_number(rt, desk) {
+            Ok(number) => last = number,
             Err(refusal) => return (last, Some(refusal)),
         }
     }
-    (last, desk.seat(rt).err())
+    (last, seat_number(rt, desk).err())
+}
+
+/// The number of another seat.
+fn seat_number<R: Wait>(rt: &R, desk: &Desk) -> Result<u32, Refusal> {
+    match desk.seat(rt) {
+        Ok(seat) => Ok(seat.number()),
+        Err(refusal) => Err(refusal),
+    }
 }
 
 #[test]
-fn the_desk_gives_out_65536_seats(rt: HostRuntime) -> Result<(), Fail> {
-    let desk = new_desk(&rt, 1)?;
+fn the_desk_gives_out_65536_seats(rt: HostRuntime) {
+    let desk = new_desk(&rt, 1).expect(&rt, "a desk");
     let (last, refused) = last_seat(&rt, &desk);
     end_desk(&rt, desk);
-    assert_eq!(rt; last, 65_536);
-    assert_eq!(rt; refused, Some(Refusal::NoSeat));
-    Ok(())
+    assert!(rt; last == 65_536);
+    assert!(rt; refused == Some(Refusal::NoSeat));
 }

@@ -6,48 +6,47 @@ type Clock = (bool, u64);
 
 /// Two seats of a desk after these commits, of which those that are wanted come into a list. Commits that the book refuses have an
 /// entry and a call, too.
-fn play<R: Wait>(
+fn play<R: Abort + Wait>(
     rt: &R,
     desk: &Desk,
     commits: &[Clock],
     wanted: (bool, bool),
     seats: &mut Vec<Seat>,
-) -> Result<(), Refusal> {
-    let mut one = desk.seat(rt)?;
-    let mut two = desk.seat(rt)?;
+) {
+    let mut one = seat_of(rt, desk);
+    let mut two = seat_of(rt, desk);
+    commit_clocks(rt, desk, &mut one, &mut two, commits);
+    put_wanted(rt, seats, one, wanted.0);
+    put_wanted(rt, seats, two, wanted.1);
+}
+
+fn commit_clocks<R: Wait>(rt: &R, desk: &Desk, one: &mut Seat, two: &mut Seat, commits: &[Clock]) {
     for (first, clock) in commits {
-        let edit = Edit::Advance {
-            clock: Moment::new(*clock)?,
-        };
         let _ = if *first {
-            desk.commit(rt, &mut one, edit)
+            commit_clock(rt, desk, one, *clock)
         } else {
-            desk.commit(rt, &mut two, edit)
+            commit_clock(rt, desk, two, *clock)
         };
     }
-    put_seat(seats, one, wanted.0)?;
-    put_seat(seats, two, wanted.1)
 }
 
 /// The same at a desk of its own, which then ends.
-fn play_elsewhere<R: Wait + AllocGlobal>(
+fn play_elsewhere<R: Abort + Wait + AllocGlobal>(
     rt: &R,
     commits: &[Clock],
     wanted: (bool, bool),
     seats: &mut Vec<Seat>,
-) -> Result<(), Refusal> {
-    let desk = new_desk(rt, 100)?;
-    let played = play(rt, &desk, commits, wanted, seats);
+) {
+    let desk = new_desk(rt, 100).expect(rt, "a desk");
+    play(rt, &desk, commits, wanted, seats);
     end_desk(rt, desk);
-    played
 }
 
 /// Puts a seat into a list, or not.
-fn put_seat(seats: &mut Vec<Seat>, seat: Seat, taken: bool) -> Result<(), Refusal> {
-    if taken && seats.push(seat).is_err() {
-        return Err(Refusal::Memory);
+fn put_wanted(rt: &impl Abort, seats: &mut Vec<Seat>, seat: Seat, is_wanted: bool) {
+    if is_wanted {
+        put_seat(rt, seats, seat);
     }
-    Ok(())
 }
 
 /// What two desks with two seats each commit, which of the first desk's seats and which of the other's come to the close
@@ -62,41 +61,22 @@ type Close = (
 );
 
 /// What `close` tells.
-fn told<R: Wait + AllocGlobal>(
-    rt: &R,
-    alloc: Global,
-    case: &Close,
-) -> Result<Option<(u32, u64)>, Refusal> {
+fn told<R: Abort + Wait + AllocGlobal>(rt: &R, alloc: Global, case: &Close) -> Option<(u32, u64)> {
     let (_, ours, theirs, own, other, _) = case;
-    let desk = new_desk(rt, 100)?;
+    let desk = new_desk(rt, 100).expect(rt, "a desk");
     let mut seats = Vec::new(alloc);
-    let played = play(rt, &desk, ours, *own, &mut seats);
-    let others = play_elsewhere(rt, theirs, *other, &mut seats);
-    let told = fault_of(rt, close(rt, alloc, desk, seats));
-    played?;
-    others?;
-    Ok(told)
+    play(rt, &desk, ours, *own, &mut seats);
+    play_elsewhere(rt, theirs, *other, &mut seats);
+    told_by(close_and_end(rt, alloc, desk, seats))
 }
 
 /// The seat and number that are told as torn: of no seat where the desk closes, of seat 0 where seats are out.
-fn fault_of<R: Wait>(rt: &R, ended: Ended) -> Option<(u32, u64)> {
-    match ended {
-        Ended::Closed(closed) => {
-            end_closed(rt, closed);
-            None
-        }
-        Ended::Open(fault, desk, _) => {
-            end_desk(rt, desk);
-            Some(told_by(fault))
-        }
-        Ended::Lost => Some((u32::MAX, 0)),
-    }
-}
-
-fn told_by(fault: CloseFault) -> (u32, u64) {
-    match fault {
-        CloseFault::SeatsOut => (0, 0),
-        CloseFault::Torn { seat, number } => (seat, number),
+fn told_by(told: Told) -> Option<(u32, u64)> {
+    match told {
+        Told::Closed(_) => None,
+        Told::Open(CloseFault::SeatsOut) => Some((0, 0)),
+        Told::Open(CloseFault::Torn { seat, number }) => Some((seat, number)),
+        Told::Lost => Some((u32::MAX, 0)),
     }
 }
 
@@ -184,10 +164,9 @@ const CLOSES: &[Close] = &[
 ];
 
 #[test]
-fn a_desk_closes_for_the_seats_whose_calls_are_its_history(rt: HostRuntime) -> Result<(), Fail> {
+fn a_desk_closes_for_the_seats_whose_calls_are_its_history(rt: HostRuntime) {
     for case in CLOSES {
-        let is_as_wanted = told(&rt, rt.alloc(), case)? == case.5;
+        let is_as_wanted = told(&rt, rt.alloc(), case) == case.5;
         assert!(rt; is_as_wanted, "{}", case.0);
     }
-    Ok(())
 }

@@ -3,23 +3,10 @@ ghost use Rattle.std.specs.Prelude.{◌≤◌};
 ghost use Rattle.smq_desk.specs.declared.ledger.TheConstants.{LONGEST_HISTORY};
 
 use crate::tests::*;
-use smq_book::Batch;
 
 /// The batch of octets for session 10 of link 1 from the client, on a tail.
 fn batch_of(alloc: Global, tail: &Tail, octets: &[u8]) -> Result<Batch, Refusal> {
-    let Ok(octets) = Bytes::copy_from_slice(alloc, octets) else {
-        return Err(Refusal::Memory);
-    };
-    let moment = Moment::new(1000)?;
-    prepare(
-        alloc,
-        LinkId(1),
-        SessionId(10),
-        Dir::FromClient,
-        tail,
-        moment,
-        octets,
-    )
+    batch_on(alloc, tail, (1, 10, Dir::FromClient, 1000), octets)
 }
 
 /// The tail of session 10 from the client.
@@ -97,170 +84,139 @@ const FULL: &[Step] = &[
     Step::Withdraw(9, Answer::HistoryFull),
 ];
 
-/// Two callers, and what the first prepared.
-#[derive(Drop)]
-struct Callers {
-    first: Seat,
-    second: Seat,
-    prepared: Option<Batch>,
-}
-
 /// Whether a step is answered as it says.
-fn is_answered<R: Wait>(
+fn is_answered<R: Abort + Wait>(
     rt: &R,
     alloc: Global,
     desk: &Desk,
-    callers: &mut Callers,
+    first: &mut Seat,
+    second: &mut Seat,
+    prepared: &mut Option<Batch>,
     step: Step,
-) -> Result<bool, Refusal> {
+) -> bool {
     match step {
         Step::Prepare => {
-            callers.prepared = Some(submit_batch(alloc, &tail_of(rt, desk)?, 2)?);
-            Ok(true)
+            prepare_submit(rt, alloc, desk, prepared);
+            true
         }
-        Step::Commit(wanted) => Ok(commit_prepared(rt, desk, callers) == Some(wanted)),
-        Step::Put(octets, wanted) => {
-            let batch = batch_of(alloc, &tail_of(rt, desk)?, octets)?;
-            let answer = desk.commit(rt, &mut callers.second, Edit::Append { batch });
-            Ok(answer_of(answer) == wanted)
-        }
-        Step::Withdraw(session, wanted) => {
-            let session = SessionId(session);
-            let answer = desk.commit(rt, &mut callers.second, Edit::Withdraw { session });
-            Ok(answer_of(answer) == wanted)
-        }
+        Step::Commit(wanted) => commit_prepared(rt, desk, first, prepared) == Some(wanted),
+        Step::Put(octets, wanted) => put_octets(rt, alloc, desk, second, octets) == wanted,
+        Step::Withdraw(session, wanted) => withdraw(rt, desk, second, session) == wanted,
     }
 }
 
-fn commit_prepared<R: Wait>(rt: &R, desk: &Desk, callers: &mut Callers) -> Option<Answer> {
-    let batch = callers.prepared.take()?;
-    let answer = desk.commit(rt, &mut callers.first, Edit::Append { batch });
+fn prepare_submit<R: Abort + Wait>(
+    rt: &R,
+    alloc: Global,
+    desk: &Desk,
+    prepared: &mut Option<Batch>,
+) {
+    let tail = tail_of(rt, desk).expect(rt, "a tail");
+    *prepared = Some(submit_batch(alloc, &tail, 2).expect(rt, "a batch"));
+}
+
+fn commit_prepared<R: Wait>(
+    rt: &R,
+    desk: &Desk,
+    first: &mut Seat,
+    prepared: &mut Option<Batch>,
+) -> Option<Answer> {
+    let batch = prepared.take()?;
+    let answer = desk.commit(rt, first, Edit::Append { batch });
     Some(answer_of(answer))
 }
 
-/// Whether all steps are answered as they say, and both seats.
-fn play<R: Wait>(
+fn put_octets<R: Abort + Wait>(
     rt: &R,
     alloc: Global,
     desk: &Desk,
+    second: &mut Seat,
+    octets: &[u8],
+) -> Answer {
+    let tail = tail_of(rt, desk).expect(rt, "a tail");
+    let batch = batch_of(alloc, &tail, octets).expect(rt, "a batch");
+    answer_of(desk.commit(rt, second, Edit::Append { batch }))
+}
+
+fn withdraw<R: Wait>(rt: &R, desk: &Desk, second: &mut Seat, session: u64) -> Answer {
+    let session = SessionId(session);
+    answer_of(desk.commit(rt, second, Edit::Withdraw { session }))
+}
+
+/// Whether all steps of two callers are answered as they say.
+fn are_answered<R: Abort + Wait>(
+    rt: &R,
+    alloc: Global,
+    desk: &Desk,
+    first: &mut Seat,
+    second: &mut Seat,
     steps: &[Step],
-) -> Result<(Vec<Seat>, bool), Refusal> {
-    let mut callers = Callers {
-        first: desk.seat(rt)?,
-        second: desk.seat(rt)?,
-        prepared: None,
-    };
+) -> bool {
+    let mut prepared = None;
     let mut are_answered = true;
     for step in steps {
-        are_answered = is_answered(rt, alloc, desk, &mut callers, *step)? && are_answered;
+        are_answered = is_answered(rt, alloc, desk, first, second, &mut prepared, *step)
+            && are_answered;
     }
-    let Callers {
-        first,
-        second,
-        prepared: _prepared,
-    } = callers;
-    let Ok(seats) = vec![in alloc; first, second] else {
-        return Err(Refusal::Memory);
-    };
-    Ok((seats, are_answered))
+    are_answered
 }
 
 /// Whether all steps are answered as they say, and with how many entries the desk closes for both seats.
-fn play_and_close<R: Wait + AllocGlobal>(
+fn play_and_close<R: Abort + Wait + AllocGlobal>(
     rt: &R,
     limit: u64,
     steps: &[Step],
-) -> Result<(bool, Option<usize>), Refusal>
+) -> (bool, Option<usize>)
     requires { (1 ≤ limit) × (limit ≤ LONGEST_HISTORY) }
 {
     let alloc = rt.alloc();
-    let desk = new_desk(rt, limit)?;
-    match play(rt, alloc, &desk, steps) {
-        Ok((seats, are_answered)) => Ok((
-            are_answered,
-            entries_of(rt, close(rt, alloc, desk, seats)),
-        )),
-        Err(refusal) => {
-            end_desk(rt, desk);
-            Err(refusal)
-        }
-    }
+    let desk = new_desk(rt, limit).expect(rt, "a desk");
+    let mut first = seat_of(rt, &desk);
+    let mut second = seat_of(rt, &desk);
+    let are_answered = are_answered(rt, alloc, &desk, &mut first, &mut second, steps);
+    let seats = vec![in alloc; first, second].expect(rt, "memory");
+    let entries = entries_of(close_and_end(rt, alloc, desk, seats));
+    (are_answered, entries)
 }
 
 #[test]
-fn commits_are_answered_by_what_came_before_them(rt: HostRuntime) -> Result<(), Fail> {
-    for (limit, steps, entries) in [(100, BETWEEN, 7), (3, FULL, 3)] {
-        let played = play_and_close(&rt, limit, steps);
-        assert_eq!(rt; played, Ok((true, Some(entries))), "limit {limit}");
-    }
-    Ok(())
+fn commits_are_answered_by_what_came_before_them(rt: HostRuntime) {
+    assert_played(&rt, 100, BETWEEN, 7);
+    assert_played(&rt, 3, FULL, 3);
+}
+
+/// Asserts that all steps are answered as they say at a desk of so many entries, which then closes with so many.
+fn assert_played<R: Abort + Wait + AllocGlobal>(rt: &R, limit: u64, steps: &[Step], entries: usize)
+    requires { (1 ≤ limit) × (limit ≤ LONGEST_HISTORY) }
+{
+    let played = play_and_close(rt, limit, steps);
+    assert!(rt; played == (true, Some(entries)), "limit {limit}");
 }
 
 /// A seat of a desk that ended, which made one call there.
-fn seat_elsewhere<R: Wait + AllocGlobal>(rt: &R) -> Result<Seat, Refusal> {
-    let alloc = rt.alloc();
-    let desk = new_desk(rt, 100)?;
-    let seat = seat_with_call(rt, alloc, &desk);
+fn seat_elsewhere<R: Abort + Wait + AllocGlobal>(rt: &R) -> Seat {
+    let desk = new_desk(rt, 100).expect(rt, "a desk");
+    let mut seat = seat_of(rt, &desk);
+    put_at_start(rt, rt.alloc(), &desk, &mut seat).expect(rt, "a call");
     end_desk(rt, desk);
     seat
 }
 
-fn seat_with_call<R: Wait>(rt: &R, alloc: Global, desk: &Desk) -> Result<Seat, Refusal> {
-    let mut seat = desk.seat(rt)?;
-    put_at_start(rt, alloc, desk, &mut seat)?;
-    Ok(seat)
-}
-
-/// What `publish` answers another desk's seat, and both seats.
-fn publish_elsewhere<R: Wait>(
-    rt: &R,
-    alloc: Global,
-    desk: &Desk,
-    other: Seat,
-) -> Result<(Vec<Seat>, Option<Refusal>), Refusal> {
-    let own = desk.seat(rt)?;
-    let mut other = other;
-    let refusal = desk.publish(rt, &mut other).err();
-    let Ok(seats) = vec![in alloc; own, other] else {
-        return Err(Refusal::Memory);
-    };
-    Ok((seats, refusal))
-}
-
-/// Why a desk doesn't close.
-fn fault_of<R: Wait>(rt: &R, ended: Ended) -> Option<CloseFault> {
-    match ended {
-        Ended::Open(fault, desk, _) => {
-            end_desk(rt, desk);
-            Some(fault)
-        }
-        other => {
-            entries_of(rt, other);
-            None
-        }
-    }
-}
-
 /// What `publish` and `close` answer another desk's seat.
-fn bring_elsewhere<R: Wait + AllocGlobal>(
-    rt: &R,
-) -> Result<(Option<Refusal>, Option<CloseFault>), Refusal> {
+fn bring_elsewhere<R: Abort + Wait + AllocGlobal>(rt: &R) -> (Option<Refusal>, Option<CloseFault>) {
     let alloc = rt.alloc();
-    let other = seat_elsewhere(rt)?;
-    let desk = new_desk(rt, 100)?;
-    match publish_elsewhere(rt, alloc, &desk, other) {
-        Ok((seats, refusal)) => Ok((refusal, fault_of(rt, close(rt, alloc, desk, seats)))),
-        Err(refusal) => {
-            end_desk(rt, desk);
-            Err(refusal)
-        }
-    }
+    let mut other = seat_elsewhere(rt);
+    let desk = new_desk(rt, 100).expect(rt, "a desk");
+    let mut seats = one_seat(rt, alloc, &desk);
+    let refusal = publish(rt, &desk, &mut other).err();
+    put_seat(rt, &mut seats, other);
+    let fault = fault_of(close_and_end(rt, alloc, desk, seats));
+    (refusal, fault)
 }
 
 #[test]
-fn a_seat_of_another_desk_neither_publishes_nor_closes(rt: HostRuntime) -> Result<(), Fail> {
-    let (refusal, fault) = bring_elsewhere(&rt)?;
-    assert_eq!(rt; refusal, Some(Refusal::TornSeat { number: 1 }));
-    assert_eq!(rt; fault, Some(CloseFault::Torn { seat: 1, number: 1 }));
-    Ok(())
+fn a_seat_of_another_desk_neither_publishes_nor_closes(rt: HostRuntime) {
+    let (refusal, fault) = bring_elsewhere(&rt);
+    assert!(rt; refusal == Some(Refusal::TornSeat { number: 1 }));
+    assert!(rt; fault == Some(CloseFault::Torn { seat: 1, number: 1 }));
 }

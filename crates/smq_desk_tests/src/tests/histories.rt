@@ -1,23 +1,11 @@
 //! Histories up to an entry less than a chunk, a chunk, and an entry more: entries by number, copies, beginnings, closed
 //! desks.
-use super::{close, end_desk, entries_of, new_desk};
-use smq_book::Edit;
-use smq_desk::{Desk, Edition, Entries, Entry, History, LONGEST_HISTORY, Reply, Seat};
-use smq_kit::{Moment, Refusal};
-use std::alloc::{AllocGlobal, Global};
-use std::process::Abort;
-use std::sync::Wait;
-use std::test::Fail;
-
-/// The edit of a clock of so many ms.
-fn clock(milliseconds: u64) -> Result<Edit, Refusal> {
-    let clock = Moment::new(milliseconds)?;
-    Ok(Edit::Advance { clock })
-}
+use crate::tests::*;
+use smq_desk::{Edition, Entries, History, LONGEST_HISTORY, Watcher};
 
 /// Puts the entry of a clock at the end.
 fn push(history: &mut History, milliseconds: u64) -> Result<(), Refusal> {
-    let edit = clock(milliseconds)?;
+    let clock = Moment::new(milliseconds)?;
     if history.len() >= LONGEST_HISTORY {
         return Err(Refusal::HistoryFull);
     }
@@ -26,22 +14,28 @@ fn push(history: &mut History, milliseconds: u64) -> Result<(), Refusal> {
     };
     history.push_reserved(Entry {
         seat: 7,
-        edit,
+        edit: Edit::Advance { clock },
         reply: Reply::Done,
     });
     Ok(())
 }
 
-/// A history of so many entries, each the clock of its number, but the last that of another number.
-fn filled(alloc: Global, size: u64, last: u64) -> Result<History, Refusal> {
-    let mut history = History::new(alloc);
+/// Puts entries at the end up to so many, each the clock of its number, but the last that of another number.
+fn fill(history: &mut History, size: u64, last: u64) -> Result<(), Refusal> {
     for number in 1..size {
-        push(&mut history, number)?;
+        push(history, number)?;
     }
     if size > 0 {
-        push(&mut history, last)?;
+        push(history, last)?;
     }
-    Ok(history)
+    Ok(())
+}
+
+/// A history of so many entries, each the clock of its number, but the last that of another number.
+fn filled(rt: &impl Abort, alloc: Global, size: u64, last: u64) -> History {
+    let mut history = History::new(alloc);
+    fill(&mut history, size, last).expect(rt, "entries");
+    history
 }
 
 /// Whether this is the entry of a clock of so many ms.
@@ -114,28 +108,36 @@ fn push_again(history: &mut History, number: u64) -> bool {
 /// With each allocation refused in turn (`rt try --test --fail-alloc`), a history grows past the end of a chunk all the same,
 /// and is copied, if not at once.
 #[test]
-fn want_of_memory_leaves_a_history_as_it_was(rt: HostRuntime) -> Result<(), Fail> {
+fn want_of_memory_leaves_a_history_as_it_was(rt: HostRuntime) {
     let mut history = History::new(rt.alloc());
-    for number in 1..=1_030 {
-        let is_put = push_again(&mut history, number);
-        assert!(rt; is_put, "entry {number}");
-    }
+    push_all_again(&rt, &mut history, 1_030);
     let is_as_wanted = has_numbers(&history, 1_030) && (is_copied(&history) || is_copied(&history));
     assert!(rt; is_as_wanted);
-    Ok(())
+}
+
+/// Puts so many entries, each once more where memory was wanting.
+fn push_all_again(rt: &impl Abort, history: &mut History, size: u64) {
+    for number in 1..=size {
+        let is_put = push_again(history, number);
+        assert!(rt; is_put, "entry {number}");
+    }
 }
 
 /// How many entries histories have here.
 const SIZES: &[u64] = &[0, 1, 1_023, 1_024, 1_025, 2_048, 2_049];
 
 #[test]
-fn entries_are_numbered_through_chunks(rt: HostRuntime) -> Result<(), Fail> {
+fn entries_are_numbered_through_chunks(rt: HostRuntime) {
     for size in SIZES {
-        let history = filled(rt.alloc(), *size, *size)?;
-        let is_as_wanted = is_filled(&history, *size);
+        let is_as_wanted = is_numbered(&rt, rt.alloc(), *size);
         assert!(rt; is_as_wanted, "{size} entries");
     }
-    Ok(())
+}
+
+/// Whether a history of so many entries has each, wherever it is read.
+fn is_numbered(rt: &impl Abort, alloc: Global, size: u64) -> bool {
+    let history = filled(rt, alloc, size, size);
+    is_filled(&history, size)
 }
 
 /// The sizes of two histories and the clocks of their last entries, and whether the first begins with the second.
@@ -153,27 +155,25 @@ const BEGINNINGS: &[Beginning] = &[
 ];
 
 /// Whether the first begins with the second.
-fn begins_with(alloc: Global, case: &Beginning) -> Result<bool, Refusal> {
-    let one = filled(alloc, case.0.0, case.0.1)?;
-    let other = filled(alloc, case.1.0, case.1.1)?;
-    Ok(one.starts_with(&other))
+fn begins_with(rt: &impl Abort, alloc: Global, case: &Beginning) -> bool {
+    let one = filled(rt, alloc, case.0.0, case.0.1);
+    let other = filled(rt, alloc, case.1.0, case.1.1);
+    one.starts_with(&other)
 }
 
 #[test]
-fn a_history_begins_with_its_earlier_entries_alone(rt: HostRuntime) -> Result<(), Fail> {
+fn a_history_begins_with_its_earlier_entries_alone(rt: HostRuntime) {
     for case in BEGINNINGS {
-        let is_as_wanted = begins_with(rt.alloc(), case)? == case.2;
+        let is_as_wanted = begins_with(&rt, rt.alloc(), case) == case.2;
         assert!(rt; is_as_wanted, "{case:?}");
     }
-    Ok(())
 }
 
 /// Commits so many clocks from a seat.
-fn play<R: Wait>(rt: &R, desk: &Desk, seat: &mut Seat, size: u64) -> Result<(), Refusal> {
+fn play<R: Abort + Wait>(rt: &R, desk: &Desk, seat: &mut Seat, size: u64) {
     for number in 1..=size {
-        let _entry = desk.commit(rt, seat, clock(number)?)?;
+        commit_clock(rt, desk, seat, number).expect(rt, "an entry");
     }
-    Ok(())
 }
 
 /// Whether an edition has so many entries, each the clock of its number, and none of number 0 or beyond the front.
@@ -196,40 +196,38 @@ fn shows_entry(edition: &Edition, number: u64) -> bool {
     }
 }
 
-/// A seat that committed and published so many clocks, and whether a watcher shows them.
-fn published<R: Wait>(
-    rt: &R,
-    alloc: Global,
-    desk: &Desk,
-    size: u64,
-) -> Result<(Vec<Seat>, bool), Refusal> {
-    let mut seat = desk.seat(rt)?;
-    play(rt, desk, &mut seat, size)?;
-    desk.publish(rt, &mut seat)?;
-    let shown = shows_numbers(&desk.watcher(rt)?.edition()?, size);
-    let Ok(seats) = vec![in alloc; seat] else {
-        return Err(Refusal::Memory);
-    };
-    Ok((seats, shown))
+/// Whether an edition of a watcher shows them.
+fn sees_numbers(watcher: &mut Watcher, size: u64) -> bool {
+    match watcher.edition() {
+        Ok(edition) => shows_numbers(&edition, size),
+        Err(_) => false,
+    }
+}
+
+/// Commits and publishes so many clocks from a seat, and says whether a watcher shows them.
+fn published<R: Abort + Wait>(rt: &R, desk: &Desk, seat: &mut Seat, size: u64) -> bool {
+    play(rt, desk, seat, size);
+    publish(rt, desk, seat).expect(rt, "a note");
+    let mut watcher = desk.watcher(rt).expect(rt, "a watcher");
+    sees_numbers(&mut watcher, size)
 }
 
 /// How many entries a desk closes with, to which one seat committed so many clocks, and whether a watcher showed them.
-fn closed_with<R: Wait + AllocGlobal>(rt: &R, size: u64) -> Result<(Option<usize>, bool), Refusal> {
-    let desk = new_desk(rt, 10_000)?;
-    match published(rt, rt.alloc(), &desk, size) {
-        Ok((seats, shown)) => Ok((entries_of(rt, close(rt, rt.alloc(), desk, seats)), shown)),
-        Err(refusal) => {
-            end_desk(rt, desk);
-            Err(refusal)
-        }
-    }
+fn closed_with<R: Abort + Wait + AllocGlobal>(rt: &R, size: u64) -> (Option<usize>, bool) {
+    let alloc = rt.alloc();
+    let desk = new_desk(rt, 10_000).expect(rt, "a desk");
+    let mut seat = seat_of(rt, &desk);
+    let shown = published(rt, &desk, &mut seat, size);
+    let seats = vec![in alloc; seat].expect(rt, "memory");
+    let entries = entries_of(close_and_end(rt, alloc, desk, seats));
+    (entries, shown)
 }
 
 #[test]
-fn a_desk_publishes_and_closes_at_the_end_of_a_chunk(rt: HostRuntime) -> Result<(), Fail> {
-    for size in [1_023, 1_024, 1_025] {
-        let closed = closed_with(&rt, size)?;
-        assert_eq!(rt; closed, (Some(size as usize), true));
+fn a_desk_publishes_and_closes_at_the_end_of_a_chunk(rt: HostRuntime) {
+    let sizes: &[u64] = &[1_023, 1_024, 1_025];
+    for size in sizes {
+        let closed = closed_with(&rt, *size);
+        assert!(rt; closed == (Some(*size as usize), true));
     }
-    Ok(())
 }

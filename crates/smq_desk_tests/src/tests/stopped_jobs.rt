@@ -4,11 +4,10 @@ ghost use Rattle.std.specs.Prelude.{◌≤◌, length, All, IfOk};
 ghost use Rattle.smq_desk.specs.Jobs.{IsFresh};
 ghost use Rattle.smq_desk.specs.declared.ledger.TheConstants.{LONGEST_HISTORY};
 
-use crate::tests::workers::{fresh, job, seats_of};
+use crate::tests::jobs::{fresh, job, pair, take_seats};
 use crate::tests::*;
 use smq_book::PieceRow;
 use smq_desk::{LinkJob, NoGate, load_links};
-use std::thread::Threads;
 
 /// The rows of a job: a submit_sm, its response, and a submit_sm again.
 const ONE: &[Row] = &[
@@ -24,17 +23,24 @@ const TWO: &[Row] = &[
     (2, 20, Dir::FromClient, 1300, SUBMIT),
 ];
 
-/// Two jobs as a list.
-fn pair(alloc: Global, one: LinkJob, two: LinkJob) -> Result<Vec<LinkJob>, Refusal>
-    requires one { IsFresh one }
-    requires two { IsFresh two }
+/// Both jobs, from two new seats.
+fn two_jobs<R: Wait>(rt: &R, alloc: Global, desk: &Desk) -> Result<Vec<LinkJob>, Refusal>
     ensures fresh { IfOk result (λ jobs. All IsFresh jobs.items) }
     ensures few { IfOk result (λ jobs. length jobs.items ≤ 64) }
 {
-    let Ok(jobs) = vec![in alloc; one, two] else {
-        return Err(Refusal::Memory);
-    };
-    Ok(jobs)
+    let one = job(rt, alloc, desk, ONE)?;
+    let two = job(rt, alloc, desk, TWO)?;
+    pair(alloc, one, two)
+}
+
+/// The rows that are left of a list of which so many are done.
+fn left_of(rows: Vec<PieceRow>, done: u64) -> Result<Vec<PieceRow>, Refusal> {
+    let mut rows = rows;
+    let done = rows.len().min(done as usize);
+    match rows.split_off(done) {
+        Ok(left) => Ok(left),
+        Err(_) => Err(Refusal::Memory),
+    }
 }
 
 /// The rows of a job that are left, as a job from its seat.
@@ -48,25 +54,29 @@ fn rest_of(job: LinkJob) -> Result<LinkJob, Refusal>
         refused: _,
         stop: _,
     } = job;
-    let mut rows = rows;
-    let done = rows.len().min(next as usize);
-    let Ok(left) = rows.split_off(done) else {
-        return Err(Refusal::Memory);
-    };
-    Ok(fresh(seat, left))
+    match left_of(rows, next) {
+        Ok(left) => Ok(fresh(seat, left)),
+        Err(refusal) => Err(refusal),
+    }
+}
+
+/// The same of the last of some jobs.
+fn rest_of_last(jobs: &mut Vec<LinkJob>) -> Result<LinkJob, Refusal>
+    ensures { IfOk result IsFresh }
+{
+    match jobs.pop() {
+        Some(job) => rest_of(job),
+        None => Err(Refusal::NoSeat),
+    }
 }
 
 /// The same of two jobs.
-fn rests_of(alloc: Global, jobs: Vec<LinkJob>) -> Result<Vec<LinkJob>, Refusal>
+fn rests_of(alloc: Global, jobs: &mut Vec<LinkJob>) -> Result<Vec<LinkJob>, Refusal>
     ensures fresh { IfOk result (λ jobs. All IsFresh jobs.items) }
     ensures few { IfOk result (λ jobs. length jobs.items ≤ 64) }
 {
-    let mut jobs = jobs;
-    let (Some(two), Some(one)) = (jobs.pop(), jobs.pop()) else {
-        return Err(Refusal::NoSeat);
-    };
-    let one = rest_of(one)?;
-    let two = rest_of(two)?;
+    let two = rest_of_last(jobs)?;
+    let one = rest_of_last(jobs)?;
     pair(alloc, one, two)
 }
 
@@ -136,22 +146,24 @@ fn are_kept(jobs: &[LinkJob], before: (usize, usize), limit: u64) -> bool {
     kept && (is_full || !stops_for(jobs, Refusal::HistoryFull))
 }
 
-/// The seats of two jobs that are loaded, once more where memory or a thread was wanting, and whether all came back as wanted.
+/// Whether two jobs that are loaded, once more where memory or a thread was wanting, come back as wanted. Their seats come into a
+/// list.
 fn load_whole<R: Threads + Wait + Sync>(
     rt: &R,
     alloc: Global,
     desk: &Desk,
     limit: u64,
-) -> Result<(Vec<Seat>, bool), Refusal> {
-    let one = job(rt, alloc, desk, ONE)?;
-    let two = job(rt, alloc, desk, TWO)?;
-    let jobs = load_links(rt, desk, pair(alloc, one, two)?, &NoGate);
+    seats: &mut Vec<Seat>,
+) -> Result<bool, Refusal> {
+    let jobs = load_links(rt, desk, two_jobs(rt, alloc, desk)?, &NoGate);
     let kept = are_kept(jobs.as_slice(), (0, 0), limit);
     if was_wanting(jobs.as_slice()) {
-        let (seats, is_rest_kept) = load_rests(rt, alloc, desk, limit, jobs)?;
-        return Ok((seats, kept && is_rest_kept));
+        return Ok(load_rests(rt, alloc, desk, limit, jobs, seats)? && kept);
     }
-    Ok((seats_of(alloc, jobs)?, kept))
+    if !take_seats(jobs, seats) {
+        return Err(Refusal::Memory);
+    }
+    Ok(kept)
 }
 
 /// The same of the rows that are left. Nothing is wanting any more.
@@ -161,63 +173,20 @@ fn load_rests<R: Threads + Wait + Sync>(
     desk: &Desk,
     limit: u64,
     jobs: Vec<LinkJob>,
-) -> Result<(Vec<Seat>, bool), Refusal> {
+    seats: &mut Vec<Seat>,
+) -> Result<bool, Refusal> {
+    let mut jobs = jobs;
     let before = calls_of(jobs.as_slice());
-    let jobs = load_links(rt, desk, rests_of(alloc, jobs)?, &NoGate);
+    let jobs = load_links(rt, desk, rests_of(alloc, &mut jobs)?, &NoGate);
     let kept = are_kept(jobs.as_slice(), before, limit) && !was_wanting(jobs.as_slice());
-    Ok((seats_of(alloc, jobs)?, kept))
+    if !take_seats(jobs, seats) {
+        return Err(Refusal::Memory);
+    }
+    Ok(kept)
 }
 
-/// With how many entries a desk closes that stayed open for want of its last seat.
-fn close_late<R: Wait>(
-    rt: &R,
-    alloc: Global,
-    desk: Box<Desk>,
-    seats: Vec<Seat>,
-) -> Result<Option<usize>, Refusal> {
-    let mut seats = seats;
-    let missing = seats.pop();
-    match close(rt, alloc, desk, seats) {
-        Ended::Open(CloseFault::SeatsOut, desk, seats) => {
-            close_with(rt, alloc, desk, seats, missing)
-        }
-        other => none_of(rt, other),
-    }
-}
-
-/// The same once that seat has come.
-fn close_with<R: Wait>(
-    rt: &R,
-    alloc: Global,
-    desk: Box<Desk>,
-    seats: Vec<Seat>,
-    missing: Option<Seat>,
-) -> Result<Option<usize>, Refusal> {
-    let mut seats = seats;
-    if let Some(missing) = missing {
-        if seats.push(missing).is_err() {
-            end_desk(rt, desk);
-            return Err(Refusal::Memory);
-        }
-    }
-    match close(rt, alloc, desk, seats) {
-        Ended::Lost => Err(Refusal::Memory),
-        ended => Ok(entries_of(rt, ended)),
-    }
-}
-
-/// Ends a desk that didn't come to what was wanted.
-fn none_of<R: Wait>(rt: &R, ended: Ended) -> Result<Option<usize>, Refusal> {
-    match ended {
-        Ended::Lost => Err(Refusal::Memory),
-        other => {
-            entries_of(rt, other);
-            Ok(None)
-        }
-    }
-}
-
-/// Whether two jobs come back as wanted at a desk of so many entries, and with how many it closes for their seats.
+/// Whether two jobs come back as wanted at a desk of so many entries, and with how many it closes for their seats, of which the last
+/// comes late.
 fn load_and_close<R: Threads + Wait + Sync + AllocGlobal>(
     rt: &R,
     limit: u64,
@@ -226,13 +195,33 @@ fn load_and_close<R: Threads + Wait + Sync + AllocGlobal>(
 {
     let alloc = rt.alloc();
     let desk = new_desk(rt, limit)?;
-    match load_whole(rt, alloc, &desk, limit) {
-        Ok((seats, kept)) => Ok((kept, close_late(rt, alloc, desk, seats)?)),
+    let mut seats = Vec::new(alloc);
+    match load_whole(rt, alloc, &desk, limit, &mut seats) {
+        Ok(kept) => with_late(kept, close_without_last(rt, alloc, desk, seats)),
         Err(refusal) => {
             end_desk(rt, desk);
             Err(refusal)
         }
     }
+}
+
+fn with_late(
+    kept: bool,
+    closed: Result<Option<usize>, Refusal>,
+) -> Result<(bool, Option<usize>), Refusal> {
+    Ok((kept, closed?))
+}
+
+/// With how many entries a desk closes that stayed open for want of its last seat.
+fn close_without_last<R: Wait>(
+    rt: &R,
+    alloc: Global,
+    desk: Box<Desk>,
+    seats: Vec<Seat>,
+) -> Result<Option<usize>, Refusal> {
+    let mut seats = seats;
+    let mut missing = seats.pop();
+    close_late(rt, alloc, desk, seats, &mut missing)
 }
 
 /// The same, all of it once more where memory was wanting for a desk, a job or a list of seats.
@@ -249,12 +238,15 @@ fn load_again<R: Threads + Wait + Sync + AllocGlobal>(
 }
 
 #[test]
-fn jobs_that_stop_keep_their_rows_and_their_desk_closes_for_all_seats(
-    rt: HostRuntime,
-) -> Result<(), Fail> {
-    for (limit, entries) in [(3, 3), (100, 6)] {
-        let told = load_again(&rt, limit);
-        assert_eq!(rt; told, Ok((true, Some(entries))), "limit {limit}");
-    }
-    Ok(())
+fn jobs_that_stop_keep_their_rows_and_their_desk_closes_for_all_seats(rt: HostRuntime) {
+    assert_loaded(&rt, 3, 3);
+    assert_loaded(&rt, 100, 6);
+}
+
+/// Asserts that two jobs come back as wanted at a desk of so many entries, which then closes with so many.
+fn assert_loaded<R: Abort + Threads + Wait + Sync + AllocGlobal>(rt: &R, limit: u64, entries: usize)
+    requires { (1 ≤ limit) × (limit ≤ LONGEST_HISTORY) }
+{
+    let told = load_again(rt, limit);
+    assert!(rt; told == Ok((true, Some(entries))), "limit {limit}");
 }

@@ -1,13 +1,12 @@
 //! Workers that do rows of jobs at one desk: in the order that a gate gives, with rows that are refused, up to where they stop.
-ghost use Rattle.std.specs.Prelude.{◌≡◌, ◌≤◌, length, All, IfOk};
+ghost use Rattle.std.specs.Prelude.{◌≤◌, length, All};
 ghost use Rattle.smq_desk.specs.Jobs.{IsFresh};
 ghost use Rattle.smq_desk.specs.declared.ledger.TheConstants.{LONGEST_HISTORY};
 
+use crate::tests::jobs::{job, pair, take_seats};
 use crate::tests::*;
-use smq_book::PieceRow;
 use smq_desk::{Call, Gate, LinkJob, NoGate, load_links};
 use std::sync::atomic::AtomicU64;
-use std::thread::Threads;
 
 /// Holds one worker before its first row until another has done one.
 #[derive(Drop)]
@@ -60,54 +59,6 @@ impl Gate for Holds {
     }
 }
 
-/// The row of a piece.
-fn piece_row(alloc: Global, row: Row) -> Result<PieceRow, Refusal> {
-    let (link, session, dir, moment, octets) = row;
-    let moment = Moment::new(moment)?;
-    let Ok(octets) = Bytes::copy_from_slice(alloc, octets) else {
-        return Err(Refusal::Memory);
-    };
-    Ok(PieceRow {
-        link: LinkId(link),
-        session: SessionId(session),
-        dir,
-        moment,
-        octets,
-    })
-}
-
-/// A job of these rows, from a new seat.
-pub(crate) fn job<R: Wait>(
-    rt: &R,
-    alloc: Global,
-    desk: &Desk,
-    pieces: &[Row],
-) -> Result<LinkJob, Refusal>
-    ensures { IfOk result IsFresh }
-{
-    let seat = desk.seat(rt)?;
-    let mut rows = Vec::new(alloc);
-    for row in pieces {
-        if rows.push(piece_row(alloc, *row)?).is_err() {
-            return Err(Refusal::Memory);
-        }
-    }
-    Ok(fresh(seat, rows))
-}
-
-/// A job of which nothing is done.
-pub(crate) fn fresh(seat: Seat, rows: Vec<PieceRow>) -> LinkJob
-    ensures { IsFresh result }
-{
-    LinkJob {
-        seat,
-        rows,
-        next: 0,
-        refused: 0,
-        stop: None,
-    }
-}
-
 /// A submit_sm and its response.
 fn both_pieces(link: u32, session: u64) -> [Row; 2] {
     [
@@ -117,16 +68,13 @@ fn both_pieces(link: u32, session: u64) -> [Row; 2] {
 }
 
 /// Jobs of a submit_sm and its response each: of link 1 and session 10, and of link 2 and session 20.
-fn two_jobs<R: Wait>(rt: &R, alloc: Global, desk: &Desk) -> Result<Vec<LinkJob>, Refusal>
-    ensures fresh { IfOk result (λ jobs. All IsFresh jobs.items) }
-    ensures few { IfOk result (λ jobs. length jobs.items ≤ 64) }
+fn two_jobs<R: Abort + Wait>(rt: &R, alloc: Global, desk: &Desk) -> Vec<LinkJob>
+    ensures fresh { All IsFresh result.items }
+    ensures few { length result.items ≤ 64 }
 {
-    let one = job(rt, alloc, desk, &both_pieces(1, 10))?;
-    let two = job(rt, alloc, desk, &both_pieces(2, 20))?;
-    let Ok(jobs) = vec![in alloc; one, two] else {
-        return Err(Refusal::Memory);
-    };
-    Ok(jobs)
+    let one = job(rt, alloc, desk, &both_pieces(1, 10)).expect(rt, "a job");
+    let two = job(rt, alloc, desk, &both_pieces(2, 20)).expect(rt, "a job");
+    pair(alloc, one, two).expect(rt, "memory")
 }
 
 /// Whether both rows of each job are done and became its seat's calls, in their order, and the first call of all is of the worker
@@ -172,72 +120,52 @@ fn first_number(job: &LinkJob) -> Option<u64> {
     job.seat.calls().first().map(|call| call.number)
 }
 
-/// The seats of jobs that came back.
-pub(crate) fn seats_of(alloc: Global, jobs: Vec<LinkJob>) -> Result<Vec<Seat>, Refusal> {
-    let mut seats = Vec::new(alloc);
-    for job in jobs {
-        put_seat(&mut seats, job.seat)?;
-    }
-    Ok(seats)
-}
-
-fn put_seat(seats: &mut Vec<Seat>, seat: Seat) -> Result<(), Refusal> {
-    if seats.push(seat).is_err() {
-        return Err(Refusal::Memory);
-    }
-    Ok(())
-}
-
-/// Does two jobs, of which one is held, and commits two pieces on one tail: whether all comes as wanted, and the seats.
-fn load_held<R: Threads + Wait + Sync>(
+/// Does two jobs, of which one is held, and says whether all comes as wanted. The seats come into a list.
+fn load_held<R: Abort + Threads + Wait + Sync>(
     rt: &R,
     alloc: Global,
     desk: &Desk,
     held: u32,
-) -> Result<(Vec<Seat>, bool), Refusal> {
+    seats: &mut Vec<Seat>,
+) -> bool {
     let gate = Holds::new(held);
-    let jobs = load_links(rt, desk, two_jobs(rt, alloc, desk)?, &gate);
+    let jobs = load_links(rt, desk, two_jobs(rt, alloc, desk), &gate);
     let are_loaded = are_done(jobs.as_slice(), held) && gate.held_back();
-    let mut seats = seats_of(alloc, jobs)?;
-    let are_answered = commit_twice(rt, alloc, desk, &mut seats)?;
-    Ok((seats, are_loaded && are_answered))
+    take_seats(jobs, seats) && are_loaded
 }
 
 /// Commits two pieces on the tail of no octets, from two more seats: whether the first is made and the second refused.
-fn commit_twice<R: Wait>(
+fn commit_twice<R: Abort + Wait>(
     rt: &R,
     alloc: Global,
     desk: &Desk,
     seats: &mut Vec<Seat>,
-) -> Result<bool, Refusal> {
-    let mut three = desk.seat(rt)?;
-    let mut four = desk.seat(rt)?;
+) -> bool {
+    let mut three = seat_of(rt, desk);
+    let mut four = seat_of(rt, desk);
     let first = put_at_start(rt, alloc, desk, &mut three);
     let second = put_at_start(rt, alloc, desk, &mut four);
-    put_seat(seats, three)?;
-    put_seat(seats, four)?;
-    Ok(first == Ok(5) && second == Err(Refusal::OutOfStep { offset: 49 }))
+    put_seat(rt, seats, three);
+    put_seat(rt, seats, four);
+    first == Ok(5) && second == Err(Refusal::OutOfStep { offset: 49 })
 }
 
-/// Whether the same holds, and the desk then closes with six entries and the tables that are wanted.
-fn loads_held<R: Threads + Wait + Sync + AllocGlobal>(rt: &R, held: u32) -> Result<bool, Refusal> {
-    let desk = new_desk(rt, 100)?;
-    match load_held(rt, rt.alloc(), &desk, held) {
-        Ok((seats, are_loaded)) => Ok(closes_whole(rt, rt.alloc(), desk, seats) && are_loaded),
-        Err(refusal) => {
-            end_desk(rt, desk);
-            Err(refusal)
-        }
-    }
+/// Whether two jobs and two pieces come as wanted, and the desk then closes with six entries and the tables that are wanted.
+fn loads_held<R: Abort + Threads + Wait + Sync + AllocGlobal>(rt: &R, held: u32) -> bool {
+    let alloc = rt.alloc();
+    let desk = new_desk(rt, 100).expect(rt, "a desk");
+    let mut seats = Vec::new(alloc);
+    let are_loaded = load_held(rt, alloc, &desk, held, &mut seats);
+    let are_answered = commit_twice(rt, alloc, &desk, &mut seats);
+    is_whole(close_and_end(rt, alloc, desk, seats)) && are_loaded && are_answered
 }
 
 #[test]
-fn workers_wait_for_one_another_by_a_gate(rt: HostRuntime) -> Result<(), Fail> {
-    for held in [0, 1] {
+fn workers_wait_for_one_another_by_a_gate(rt: HostRuntime) {
+    for held in 0..2 {
         let is_as_wanted = loads_held(&rt, held);
-        assert_eq!(rt; is_as_wanted, Ok(true), "worker {held} is held");
+        assert!(rt; is_as_wanted, "worker {held} is held");
     }
-    Ok(())
 }
 
 /// Pieces of session 10 of link 1: one without octets, one that comes before the last moment of its direction, and three that are
@@ -251,24 +179,25 @@ const MIXED: &[Row] = &[
 ];
 
 /// How many rows of a job are done and refused, why it stopped, and how many calls its seat has.
-type Told = (u64, u64, Option<Refusal>, usize);
+type JobTold = (u64, u64, Option<Refusal>, usize);
 
-/// What is told of one job of these pieces, and its seat.
-fn load_one<R: Threads + Wait + Sync>(
+/// What is told of one job of these pieces, whose seat comes into a list.
+fn load_one<R: Abort + Threads + Wait + Sync>(
     rt: &R,
     alloc: Global,
     desk: &Desk,
     pieces: &[Row],
-) -> Result<(Option<Told>, Vec<Seat>), Refusal> {
-    let job = job(rt, alloc, desk, pieces)?;
-    let Ok(jobs) = vec![in alloc; job] else {
-        return Err(Refusal::Memory);
-    };
+    seats: &mut Vec<Seat>,
+) -> Option<JobTold> {
+    let job = job(rt, alloc, desk, pieces).expect(rt, "a job");
+    let jobs = vec![in alloc; job].expect(rt, "memory");
     let jobs = load_links(rt, desk, jobs, &NoGate);
-    Ok((told(jobs.as_slice()), seats_of(alloc, jobs)?))
+    let told = told(jobs.as_slice());
+    assert!(rt; take_seats(jobs, seats));
+    told
 }
 
-fn told(jobs: &[LinkJob]) -> Option<Told> {
+fn told(jobs: &[LinkJob]) -> Option<JobTold> {
     match jobs {
         [job] => Some((job.next, job.refused, job.stop, job.seat.calls().len())),
         _ => None,
@@ -277,80 +206,67 @@ fn told(jobs: &[LinkJob]) -> Option<Told> {
 
 /// What is told of a job of rows of which some are refused, at a desk of so many entries, and with how many entries the desk closes
 /// for its seat.
-fn load_mixed<R: Threads + Wait + Sync + AllocGlobal>(
+fn load_mixed<R: Abort + Threads + Wait + Sync + AllocGlobal>(
     rt: &R,
     limit: u64,
-) -> Result<(Option<Told>, Option<usize>), Refusal>
+) -> (Option<JobTold>, Option<usize>)
     requires { (1 ≤ limit) × (limit ≤ LONGEST_HISTORY) }
 {
     let alloc = rt.alloc();
-    let desk = new_desk(rt, limit)?;
-    match load_one(rt, alloc, &desk, MIXED) {
-        Ok((told, seats)) => Ok((told, entries_of(rt, close(rt, alloc, desk, seats)))),
-        Err(refusal) => {
-            end_desk(rt, desk);
-            Err(refusal)
-        }
-    }
+    let desk = new_desk(rt, limit).expect(rt, "a desk");
+    let mut seats = Vec::new(alloc);
+    let told = load_one(rt, alloc, &desk, MIXED, &mut seats);
+    let entries = entries_of(close_and_end(rt, alloc, desk, seats));
+    (told, entries)
 }
 
 #[test]
-fn a_job_counts_its_refusals_and_stops_where_the_history_is_full(
-    rt: HostRuntime,
-) -> Result<(), Fail> {
+fn a_job_counts_its_refusals_and_stops_where_the_history_is_full(rt: HostRuntime) {
     let whole = load_mixed(&rt, 100);
-    assert_eq!(rt; whole, Ok((Some((5, 2, None, 4)), Some(4))));
+    assert!(rt; whole == (Some((5, 2, None, 4)), Some(4)));
     let full = load_mixed(&rt, 3);
-    assert_eq!(rt;
-        full,
-        Ok((Some((4, 2, Some(Refusal::HistoryFull), 3)), Some(3)))
-    );
+    assert!(rt; full == (Some((4, 2, Some(Refusal::HistoryFull), 3)), Some(3)));
     let none = load_mixed(&rt, 1);
-    assert_eq!(rt;
-        none,
-        Ok((Some((2, 1, Some(Refusal::HistoryFull), 1)), Some(1)))
-    );
-    Ok(())
+    assert!(rt; none == (Some((2, 1, Some(Refusal::HistoryFull), 1)), Some(1)));
 }
 
 /// So many jobs, each of a submit_sm of a link and session of its own.
-fn many_jobs<R: Wait>(
-    rt: &R,
-    alloc: Global,
-    desk: &Desk,
-    count: u32,
-) -> Result<Vec<LinkJob>, Refusal>
+fn many_jobs<R: Abort + Wait>(rt: &R, alloc: Global, desk: &Desk, count: u32) -> Vec<LinkJob>
     requires { count ≤ 64 }
-    ensures fresh { IfOk result (λ jobs. All IsFresh jobs.items) }
-    ensures few { IfOk result (λ jobs. length jobs.items ≤ 64) }
+    ensures fresh { All IsFresh result.items }
+    ensures few { length result.items ≤ 64 }
 {
     let mut jobs = Vec::new(alloc);
     for link in 0..count {
         let submit = (link, u64::from(link), Dir::FromClient, 1000, SUBMIT);
-        let job = job(rt, alloc, desk, &[submit])?;
-        if jobs.push(job).is_err() {
-            return Err(Refusal::Memory);
-        }
+        let job = job(rt, alloc, desk, &[submit]).expect(rt, "a job");
+        jobs.push(job).expect(rt, "memory");
     }
-    Ok(jobs)
+    jobs
 }
 
-/// How many of so many jobs come back in their order with their row done, and their seats.
-fn load_many<R: Threads + Wait + Sync>(
+/// How many of so many jobs come back in their order with their row done. Their seats come into a list.
+fn load_many<R: Abort + Threads + Wait + Sync>(
     rt: &R,
     alloc: Global,
     desk: &Desk,
     count: u32,
-) -> Result<(usize, Vec<Seat>), Refusal>
+    seats: &mut Vec<Seat>,
+) -> usize
     requires { count ≤ 64 }
 {
-    let jobs = load_links(rt, desk, many_jobs(rt, alloc, desk, count)?, &NoGate);
-    let done = jobs
-        .iter()
+    let jobs = load_links(rt, desk, many_jobs(rt, alloc, desk, count), &NoGate);
+    let done = rows_done(jobs.as_slice());
+    assert!(rt; take_seats(jobs, seats));
+    done
+}
+
+/// How many jobs have their row done and stand at their place.
+fn rows_done(jobs: &[LinkJob]) -> usize {
+    jobs.iter()
         .enumerate()
         .filter(|(place, job)| is_row_of(job, *place))
-        .count();
-    Ok((done, seats_of(alloc, jobs)?))
+        .count()
 }
 
 /// Whether the row of a job is done, which is the job of this place.
@@ -368,28 +284,34 @@ fn is_row_of(job: &LinkJob, place: usize) -> bool {
 }
 
 /// How many of so many jobs come back as wanted, and with how many entries the desk closes for their seats.
-fn close_many<R: Threads + Wait + Sync + AllocGlobal>(
+fn close_many<R: Abort + Threads + Wait + Sync + AllocGlobal>(
     rt: &R,
     count: u32,
-) -> Result<(usize, Option<usize>), Refusal>
+) -> (usize, Option<usize>)
     requires { count ≤ 64 }
 {
     let alloc = rt.alloc();
-    let desk = new_desk(rt, 100)?;
-    match load_many(rt, alloc, &desk, count) {
-        Ok((done, seats)) => Ok((done, entries_of(rt, close(rt, alloc, desk, seats)))),
-        Err(refusal) => {
-            end_desk(rt, desk);
-            Err(refusal)
-        }
-    }
+    let desk = new_desk(rt, 100).expect(rt, "a desk");
+    let mut seats = Vec::new(alloc);
+    let done = load_many(rt, alloc, &desk, count, &mut seats);
+    let entries = entries_of(close_and_end(rt, alloc, desk, seats));
+    (done, entries)
+}
+
+/// Asserts that so many jobs come back as wanted.
+fn assert_many<R: Abort + Threads + Wait + Sync + AllocGlobal>(rt: &R, count: u32)
+    requires { count ≤ 64 }
+{
+    let closed = close_many(rt, count);
+    assert!(rt;
+        closed == (count as usize, Some(count as usize)),
+        "{count} jobs"
+    );
 }
 
 #[test]
-fn up_to_64_jobs_come_back_in_their_order(rt: HostRuntime) -> Result<(), Fail> {
+fn up_to_64_jobs_come_back_in_their_order(rt: HostRuntime) {
     for count in [0, 1, 2, 3, 7, 63, 64] {
-        let closed = close_many(&rt, count);
-        assert_eq!(rt; closed, Ok((count as usize, Some(count as usize))));
+        assert_many(&rt, count);
     }
-    Ok(())
 }
