@@ -157,17 +157,33 @@ def changes_of(sums, tried):
     return {it: CRATE if was[it][:1] != sums[it][:1] else BELOW if was[it] != sums[it] else NOWHERE for it in sums}
 
 
-def note(root, crates, names, sums, verdicts):
-    """Writes the lines of what was seen refused now, where these sums, of before, still hold, and keeps those that still say
-    something."""
-    tried, now = read_tried(root), sums_of(root, crates, names)
-    lines = {it: was for it, was in tried.items() if it.split(" ")[0] not in names}
-    for it, change in changes_of(sums, tried).items():
-        # (what has changed below is still so where it wasn't tried)
-        line = sums[it] if verdicts.get(it) else tried[it] if it not in verdicts and change != CRATE else None
-        if line and now.get(it) == sums[it]:
-            lines[it] = line
-    write(f"{root}/{TRIED}", "".join(f"{label} {' '.join(lines[label])}\n" for label in sorted(lines)))
+class Record:
+    """What is noted of the edits of these crates, whose sums were these when the run began."""
+
+    def __init__(self, root, crates, names, sums):
+        self.root, self.crates, self.names, self.sums = root, crates, names, sums
+        self.texts, self.verdicts = self.sum_of_texts(), {}
+
+    def sum_of_texts(self):
+        """Returns the sum of all from which sums are made."""
+        folders = [f"{self.root}/crates/{name}/{part}" for name in self.crates for part in ("src", "specs", "proofs", "wrong-bodies")]
+        files = sorted(f"{at}/{it}" for folder in folders for at, _, names in os.walk(folder) for it in names)
+        files += [it for it in (f"{self.root}/crates.txt", f"{self.root}/HANDLES", wrong_bodies.__file__) if os.path.isfile(it)]
+        return hashlib.sha256("\0".join(f"{it}\n{text_of(it)}" for it in files).encode()).hexdigest()
+
+    def note(self, verdicts):
+        """Writes the lines of what was seen refused, where these sums, of before, still hold, and keeps those that still say something."""
+        self.verdicts.update(verdicts)
+        now = self.sums if self.sum_of_texts() == self.texts else sums_of(self.root, self.crates, self.names)
+        tried = read_tried(self.root)
+        lines = {it: was for it, was in tried.items() if it.split(" ")[0] not in self.names}
+        for it, change in changes_of(self.sums, tried).items():
+            # (what has changed below is still so where it wasn't tried)
+            refused = self.verdicts.get(it)
+            line = self.sums[it] if refused else tried[it] if refused is None and change != CRATE else None
+            if line and now.get(it) == self.sums[it]:
+                lines[it] = line
+        write(f"{self.root}/{TRIED}", "".join(f"{label} {' '.join(lines[label])}\n" for label in sorted(lines)))
 
 
 def share_of(rounds, part, word):
