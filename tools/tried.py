@@ -1,6 +1,6 @@
 """Which wrong bodies were seen refused, and what has changed since: the file wrong-bodies.tried.
 
-It has a line for each edit, with two sums. The first is of what the verdict rests on in the edit's own crate: the edit;
+It has a line for each edit, with two sums. The first is of what the verdict rests on in the edit's own crate: the edit; the code of
 wrong_bodies.py; what rt version and HANDLES say; the function that it names, with its body and what is written of its proof; the
 bodies that it changes; what its proof reaches; and what `use` lines and attributes say of these names. The second is of that and of
 what is reached, without bodies, in the crates below. An edit of which no more can be told rests on all of its crate, and on all
@@ -60,6 +60,11 @@ def brought_by(path):
             yield head + it if names else head, said, [] if said else [sign for sign in it.split("◌") if sign]
 
 
+def code_of(path):
+    """Returns the text of a file of Python without comments and descriptions."""
+    return re.sub(r"(?m)^ *#.*\n", "", re.sub(r'(?ms)^ *""".*?"""\n', "", text_of(path)))
+
+
 class Sums:
     """The sums of edits of a repository, of the texts as they stand."""
 
@@ -67,7 +72,7 @@ class Sums:
         self.root, self.crates, self.brought = root, crates, {}
         told = subprocess.run(["rt", "version"], stdin=subprocess.DEVNULL, stdout=subprocess.PIPE, encoding="utf-8", check=True).stdout
         handles = text_of(f"{root}/HANDLES") if os.path.isfile(f"{root}/HANDLES") else ""
-        self.version = told + text_of(wrong_bodies.__file__) + handles
+        self.version = told + code_of(wrong_bodies.__file__) + handles
         self.known = {name: Crate(f"{root}/crates/{name}") for name in crates}
 
     def means(self, crate, path):

@@ -45,6 +45,8 @@ What FAILED among others is tried again without those that were refused (on a co
 was, so an edit is told as FAILED for what it does alone. Not told apart: a false goal, and a true one that `search` doesn't
 find within its limits or whose written answer no longer fits (so a harmless `x * 1` for `x` may pass for a wrong body). Where
 the check found values at which a goal is false, the edit's line says so. An edit of a contract is not noticed: make none.
+
+It stands in one file although it is long: a change of its code has every edit tried again, so what judges is in it alone.
 """
 import collections
 import os
