@@ -1,10 +1,11 @@
-//! Edits of each kind for which memory runs out: what is present and the tables are as before, and the same edit is made then.
-use crate::tests::edits::tables_of;
+//! Edits of each kind for which memory runs out, and submits and routes in turn: what is present and the tables are as before, and the
+//! same edit is made then.
 use crate::tests::scripts::Sent::*;
 use crate::tests::scripts::Step::*;
 use crate::tests::scripts::*;
+use crate::tests::shown::{first_session, has_pdus, octets_from_client};
 use smq_book::*;
-use smq_kit::{Form, Refusal};
+use smq_kit::{Dir, Form, Refusal};
 use smq_scratch::tables_anew;
 use std::alloc::Global;
 use std::process::Abort;
@@ -93,4 +94,115 @@ fn an_edit_that_wants_memory_changes_nothing(rt: HostRuntime) {
     for step in SCRIPT {
         make_step(&rt, rt.alloc(), &mut book, *step);
     }
+}
+
+/// A submit_sm of sequence number 1 from 1000 to 447700900123, with a receipt asked (SMPP 3.4, 4.4.1): 49 octets.
+const SUBMITTED: &[u8] =
+    b"\0\0\0\x31\0\0\0\x04\0\0\0\0\0\0\0\x01\0\0\01000\0\x01\x01447700900123\0\0\0\0\0\0\x01\0\0\0\0";
+
+/// Its submit_sm_resp, with the message id `1` (SMPP 3.4, 4.4.2): 18 octets.
+const ANSWERED: &[u8] = b"\0\0\0\x12\x80\0\0\x04\0\0\0\0\0\0\0\x011\0";
+
+/// Puts the octets of a submit_sm after those of the client of session 10.
+fn submit(alloc: Global, book: &mut Book, moment: u64) -> Result<(), Refusal> {
+    append(alloc, book, (1, 10, Dir::FromClient, moment), SUBMITTED)
+}
+
+fn answer(alloc: Global, book: &mut Book) -> Result<(), Refusal> {
+    append(alloc, book, (1, 10, Dir::FromCentre, 1200), ANSWERED)
+}
+
+/// Whether session 10 has so many submits and a response.
+fn has_submits(book: &Book, count: u32) -> bool {
+    octets_from_client(book) == 49 * u64::from(count)
+        && match first_session(book) {
+            Some(session) => has_pdus(session, 1, count as usize, 1),
+            None => false,
+        }
+}
+
+/// Whether a submit is put after so many others, again where memory was refused, which left them.
+fn is_put(alloc: Global, book: &mut Book, count: u32) -> bool {
+    is_put_or_left(alloc, book, count) && has_submits(book, count.saturating_add(1))
+}
+
+fn is_put_or_left(alloc: Global, book: &mut Book, count: u32) -> bool {
+    submit(alloc, book, 2000).is_ok()
+        || (has_submits(book, count) && submit(alloc, book, 2000).is_ok())
+}
+
+/// The tables of what is present, which are counted again where memory was refused.
+fn tables_of(rt: &impl Abort, alloc: Global, book: &Book) -> Tables {
+    tables_anew(alloc, book.present())
+        .or_else(|_| tables_anew(alloc, book.present()))
+        .expect(rt, "tables")
+}
+
+fn add_route(alloc: Global, book: &mut Book, prefix: &'static [u8]) -> Result<(), Refusal> {
+    play_step(alloc, book, Route(prefix, 0, 1, b"23410"))
+}
+
+fn versions_of(book: &Book) -> usize {
+    let mut count = 0usize;
+    for _ in book.present().versions() {
+        count = count.saturating_add(1);
+    }
+    count
+}
+
+/// Whether a version of a prefix is added after so many others, again where memory was refused, which left versions and tables.
+fn is_added(
+    alloc: Global,
+    book: &mut Book,
+    before: &Tables,
+    number: usize,
+    prefix: &'static [u8],
+) -> bool {
+    let is_added = match add_route(alloc, book, prefix) {
+        Ok(()) => true,
+        Err(refusal) => {
+            refusal == Refusal::Memory
+                && is_left(book, before, number)
+                && add_route(alloc, book, prefix).is_ok()
+        }
+    };
+    is_added && versions_of(book) == number.saturating_add(1)
+}
+
+fn is_left(book: &Book, before: &Tables, number: usize) -> bool {
+    versions_of(book) == number && *book.tables() == *before
+}
+
+const PREFIXES: &[&[u8]] = &[b"1", b"2", b"3", b"5", b"6", b"7", b"8"];
+
+fn are_added(alloc: Global, book: &mut Book, before: &Tables) -> bool {
+    let mut number = 0usize;
+    for prefix in PREFIXES {
+        if !is_added(alloc, book, before, number, *prefix) {
+            return false;
+        }
+        number = number.saturating_add(1);
+    }
+    *book.tables() == *before
+}
+
+fn routes_are_added(rt: &impl Abort, alloc: Global, book: &mut Book) {
+    let before = tables_of(rt, alloc, book);
+    assert!(rt; are_added(alloc, book, &before), "routes");
+}
+
+fn submits_are_put(rt: &impl Abort, alloc: Global, book: &mut Book) {
+    assert!(rt; submit(alloc, book, 1000).is_ok() || submit(alloc, book, 1000).is_ok());
+    assert!(rt; answer(alloc, book).is_ok() || answer(alloc, book).is_ok());
+    for count in 1..8 {
+        assert!(rt; is_put(alloc, book, count), "{count} submits");
+    }
+}
+
+/// With each allocation refused in turn (`rt try --test --fail-alloc`), what is present is as before the refusal.
+#[test]
+fn want_of_memory_leaves_what_was_present(rt: HostRuntime) {
+    let mut book = boxed_book(rt.alloc()).expect(&rt, "a book");
+    submits_are_put(&rt, rt.alloc(), &mut book);
+    routes_are_added(&rt, rt.alloc(), &mut book);
 }

@@ -1,4 +1,5 @@
-//! Scripts that are played on a book, and what it shows then.
+//! Scripts that are played on a book, and what it shows then. It stands in one file although it is long: the words of scripts, the octets
+//! that they send and the edits that they make are read together.
 use crate::tests::shown::*;
 use crate::tests::{edits, versions, windows};
 use bytes::Bytes;
