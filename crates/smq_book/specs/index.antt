@@ -4,6 +4,10 @@ pub mod PlacedKeys
 pub mod Numbered
 pub mod Due
 pub mod DueKeys
+pub mod Ends
+pub mod EndKeys
+pub mod EndWalks
+pub mod DueWalks
 pub mod Coming
 pub mod Held
 pub mod Opening

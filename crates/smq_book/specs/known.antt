@@ -5,4 +5,5 @@ pub mod Pairing
 pub mod Join
 pub mod Whole
 pub mod Reach
+pub mod Touches
 pub mod Appended

@@ -11,6 +11,7 @@ mod scripts;
 mod shown;
 mod sizes;
 mod tallies;
+mod touches;
 mod versions;
 mod windows;
 mod writers;

@@ -4,6 +4,8 @@ pub mod Unlisted
 pub mod PlacedKeys
 pub mod Numbered
 pub mod Due
+pub mod Ends
+pub mod EndWalks
 pub mod Anew
 pub mod Coming
 pub mod Members
@@ -26,3 +28,12 @@ pub mod Refreshed
 pub mod Walks
 pub mod LinkOut
 pub mod FormsSet
+pub mod Lengths
+pub mod Weights
+pub mod Comes
+pub mod PushBounds
+pub mod Bounds
+pub mod FormCosts
+pub mod FormBounds
+pub mod Rises
+pub mod LowerBounds

@@ -10,3 +10,4 @@ pub mod UnreadPlaces
 pub mod PairLemmas
 pub mod PushLemmas
 pub mod KnownNotes
+pub mod PairsStay

@@ -1,5 +1,5 @@
 -- How much an edit reaches: what bounds its cost.
-use Rattle.std.specs.Prelude.{◌+◌, ℕ, List, [], ◌++◌, map, Option, option_map, option_and_then, unwrap_or}
+use Rattle.std.specs.Prelude.{◌+◌, ◌*◌, ℕ, List, [], ◌++◌, map, Option, option_map, option_and_then, unwrap_or}
 use Rattle.std.specs.List.{sum_by}
 use Rattle.std.specs.Option.{option_or}
 use Rattle.std.specs.FinMap as fin
@@ -93,3 +93,7 @@ reached p q (Advance clock) = fin.len (lapsing p.settings q.settings (traffic_of
 -- begins. A clock: the messages that it lapses.
 abbrev pub reach : PresentValue → Edit → ℕ
 reach p edit = reached p (step p edit) edit
+
+-- How many touches an accepted edit adds at most: 64 for each that it reaches, and 64 more.
+abbrev pub most_touches : PresentValue → Edit → ℕ
+most_touches p edit = 64 * (1 + reach p edit)

@@ -1,6 +1,6 @@
 -- The messages whose receipts are due, the open and the lapsed ones, by link, then by moment: so a clock finds those whose windows
 -- end by it, and a window those of its link.
-use Rattle.std.specs.Prelude.{◌+◌, ◌==◌, ◌&&◌, not, nat_le, ℕ, Bool, false, List, map, filter, if◌then◌else◌, Option, Some, None, option_map, unwrap_or}
+use Rattle.std.specs.Prelude.{◌+◌, ◌==◌, nat_le, ℕ, Bool, false, List, map, filter, if◌then◌else◌, Option, Some, None, option_map, unwrap_or}
 use Rattle.std.specs.declared.cmp.Ordering.{Ordering}
 use Rattle.std.specs.Ordering.{nat_cmp, ordering_then}
 use Rattle.std.specs.FinMap as fin
@@ -11,7 +11,7 @@ use Rattle.smq_kit.specs.declared.place.Place.{Place}
 use Rattle.smq_kit.specs.Orders.{place_cmp}
 use Rattle.smq_tally.specs.declared.fact.Fact.{Fact}
 use Rattle.smq_book.specs.declared.index.due_at.DueAt.{DueAt}
-use Rattle.smq_book.specs.present.Settings.{SettingsValue, window_in}
+use Rattle.smq_book.specs.present.Settings.{SettingsValue}
 use Rattle.smq_book.specs.pairing.Traffic.{Message, TrafficValue}
 use Rattle.smq_book.specs.join.Facts.{facts_of}
 use Rattle.smq_book.specs.edits.Reached.{is_due}
@@ -45,31 +45,14 @@ due_in messages facts = keys_made (due_by_fact facts) messages
 abbrev pub due_of : SettingsValue → TrafficValue → FinSet due_cmp
 due_of s t = due_in t.messages (facts_of s t)
 
--- the keys from the link of a number on
-abbrev pub keys_from : ℕ → FinSet due_cmp → List DueAt
-keys_from number due = filter (λ k. nat_le number k.link.0) (fin.keys due)
-
 -- whether a window of a message of a moment has ended by a clock
 abbrev pub has_ended : ℕ → ℕ → ℕ → Bool
 has_ended clock moment window = nat_le (moment + window) clock
 
--- whether it ends after a clock and by another
-abbrev pub ends_between : ℕ → ℕ → ℕ → ℕ → Bool
-ends_between from clock moment window = not (has_ended from moment window) && has_ended clock moment window
+-- those of a link, by moment, then by place
+abbrev pub keys_on : LinkId → FinSet due_cmp → List DueAt
+keys_on link due = filter (λ k. k.link.0 == link.0) (fin.keys due)
 
--- whether the window of a key's link does
-abbrev pub is_ending : fin.FinMap nat_cmp ℕ → ℕ → ℕ → DueAt → Bool
-is_ending windows from clock k = ends_between from clock k.moment (window_in windows k.link)
-
--- the places of those whose windows end after a clock and by another, by link, then by moment, then by place
-abbrev pub places_ending : fin.FinMap nat_cmp ℕ → ℕ → ℕ → FinSet due_cmp → List Place
-places_ending windows from clock due = map (λ k. k.place) (filter (is_ending windows from clock) (fin.keys due))
-
--- the same of a link's alone
-abbrev pub places_ending_on : LinkId → ℕ → ℕ → ℕ → FinSet due_cmp → List Place
-places_ending_on link window from clock due =
-    map (λ k. k.place) (filter (λ k. k.link.0 == link.0 && ends_between from clock k.moment window) (fin.keys due))
-
--- the places of those of a link, by moment, then by place
+-- their places
 abbrev pub places_due_on : LinkId → FinSet due_cmp → List Place
-places_due_on link due = map (λ k. k.place) (filter (λ k. k.link.0 == link.0) (fin.keys due))
+places_due_on link due = map (λ k. k.place) (keys_on link due)

@@ -16,7 +16,9 @@ use Rattle.smq_group.specs.declared.change.Standing.TheVariants as t
 use Rattle.smq_group.specs.Matching.{Grouping, receipt_standing}
 use Rattle.smq_route.specs.Numbers.{number_cmp}
 use Rattle.smq_book.specs.declared.index.due_at.DueAt.{DueAt}
+use Rattle.smq_book.specs.declared.index.end_at.EndAt.{EndAt}
 use Rattle.smq_book.specs.index.Due.{due_cmp, due_in, due_of}
+use Rattle.smq_book.specs.index.Ends.{end_cmp, ends_by, ends_of}
 use Rattle.smq_book.specs.index.Numbered.{numbers_of}
 use Rattle.smq_book.specs.present.Settings.{SettingsValue}
 use Rattle.smq_book.specs.declared.index.index.Index.{Index}
@@ -37,6 +39,10 @@ receipts_in es = fin.from_entries es
 -- keys of messages whose receipts are due, stored as a set
 abbrev pub dues_in : List (DueAt × ⊤) → FinSet due_cmp
 dues_in es = fin.from_entries es
+
+-- ends of their windows, stored as a set
+abbrev pub ends_in : List (EndAt × ⊤) → FinSet end_cmp
+ends_in es = fin.from_entries es
 
 -- the receipt that decides a message of this standing
 abbrev pub decider_held : fin.FinMap place_cmp ReceivedReceipt → Option told.Standing → Option ReceivedReceipt
@@ -135,6 +141,7 @@ pub record Holding : Type 0 where
   pub facts : fin.FinMap place_cmp Fact
   pub notes : FinSet listed_cmp
   pub due : FinSet due_cmp
+  pub ends : FinSet end_cmp
   pub numbers : FinSet number_cmp
 
 -- those of traffic under what is set
@@ -146,12 +153,13 @@ held_of s t = record {
   facts = facts_of s t;
   notes = notes_of s t;
   due = due_of s t;
+  ends = ends_of s t;
   numbers = numbers_of t;
 }
 
 -- the same where these are the facts, of which some may be those of other routes, other windows or another clock
 abbrev pub held_by : SettingsValue → TrafficValue → fin.FinMap place_cmp Fact → Holding
-held_by s t facts = record (held_of s t) { facts = facts; due = due_in t.messages facts }
+held_by s t facts = record (held_of s t) { facts = facts; due = due_in t.messages facts; ends = ends_by s.windows t.messages facts }
 
 -- those that an index holds now, and those that were settled
 abbrev pub held_now : Index → Holding
@@ -162,6 +170,7 @@ held_now i = record {
   facts = i.tally.facts;
   notes = i.tally.notes;
   due = dues_in i.due.content;
+  ends = ends_in i.ends.content;
   numbers = i.numbers.numbers;
 }
 
@@ -173,6 +182,7 @@ held_settled i = record {
   facts = i.tally.settled.facts;
   notes = i.tally.settled.notes;
   due = dues_in i.due.settled;
+  ends = ends_in i.ends.settled;
   numbers = i.numbers.settled;
 }
 

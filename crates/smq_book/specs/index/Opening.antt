@@ -12,5 +12,6 @@ nothing_held = record {
   facts = fin.empty;
   notes = fin.empty;
   due = fin.empty;
+  ends = fin.empty;
   numbers = fin.empty;
 }

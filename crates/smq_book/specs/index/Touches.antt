@@ -1,26 +1,38 @@
 -- How often the shelves of what is stored were touched, and what a move of it costs: its touches, with those that settle it.
-use Rattle.std.specs.Prelude.{◌≡◌, ◌≤◌, ◌+◌, ◌*◌, ◌-◌, ◌^◌, ℕ, Bool, false, List, [], length, min, Option, Some, None, option_map}
+use Rattle.std.specs.Prelude.{◌≡◌, ◌<◌, ◌≤◌, ◌+◌, ◌*◌, ◌-◌, ◌^◌, ℕ, ⊤, Bool, true, false, is_some, List, [], ◌∷◌, length, min, Option, Some, None, option_and_then, option_map}
 use Rattle.std.specs.FinMap as fin
 use Rattle.smq_kit.specs.LinkKeys.{same_key}
 use Rattle.smq_kit.specs.declared.link_key.LinkKey.{LinkKey}
 use Rattle.smq_kit.specs.declared.place.Place.{Place}
 use Rattle.smq_group.specs.Changes.{TellsChanges}
 use Rattle.smq_group.specs.Groups.{GroupsValue, vacancies}
-use Rattle.smq_group.specs.Matching.{Grouping}
+use Rattle.smq_group.specs.Matching.{Grouping, GroupedReceipt}
 use Rattle.smq_group.specs.declared.change.Change.{Change}
+use Rattle.smq_pair.specs.Pairing.{PairingValue, pair_at}
+use Rattle.smq_pair.specs.declared.pairing.Pair.{Pair}
 use Rattle.smq_route.specs.Numbers.{NumbersValue}
+use Rattle.smq_shelf.specs.Keeping.{Keeping}
+use Rattle.smq_shelf.specs.Places.{places_of}
 use Rattle.smq_tally.specs.Tally.{TallyValue}
 use Rattle.smq_book.specs.declared.index.index.Index.{Index}
 use Rattle.smq_book.specs.declared.index.pairings.Pairings.{Pairings}
+use Rattle.smq_book.specs.edits.Reach.{members}
 use Rattle.smq_book.specs.index.Pairs.{pairs_pending}
+use Rattle.smq_book.specs.declared.present.kept.KeptPdu.{KeptPdu}
+use Rattle.smq_book.specs.join.Keyed.{accepted_key, receipt_key}
+use Rattle.smq_book.specs.present.Settings.{SettingsValue}
+use Rattle.smq_book.specs.pairing.Traffic.{Message, Origin, ReceivedReceipt, place_of}
+use Rattle.smq_kit.specs.Orders.{place_cmp}
+use Rattle.smq_kit.specs.declared.place.Dir.{Dir}
+use Rattle.smq_kit.specs.declared.place.Dir.TheVariants.{FromClient, FromCentre}
 
 -- a number of touches as it is counted: up to the greatest u64
 abbrev pub counted : ℕ → ℕ
 counted touches = min touches (2 ^ 64 - 1)
 
--- those of groups, facts and numbers
+-- those of groups, facts, numbers and deadlines
 abbrev pub touches_in : Index → ℕ
-touches_in i = i.standings.touches + i.tally.touches + i.numbers.touches
+touches_in i = i.standings.touches + i.tally.touches + i.numbers.touches + i.due.touches + i.ends.touches
 
 -- the same as they are counted
 abbrev pub index_touches : Index → ℕ
@@ -37,9 +49,13 @@ tally_cost t = t.touches + 2 * t.pending
 abbrev pub numbers_cost : NumbersValue → ℕ
 numbers_cost n = n.touches + 2 * n.pending
 
--- those of groups, facts and numbers
+abbrev pub kept_cost : {K V : Type 0} → Keeping K V → ℕ
+kept_cost k = k.touches + 2 * k.pending
+
+-- those of groups, facts, numbers and deadlines
 abbrev pub index_cost : Index → ℕ
-index_cost i = (i.standings.touches + 2 * i.standings.pending) + tally_cost i.tally + numbers_cost i.numbers
+index_cost i =
+    (i.standings.touches + 2 * i.standings.pending) + tally_cost i.tally + numbers_cost i.numbers + kept_cost i.due + kept_cost i.ends
 
 -- and those of pairs, where those of one session are pending
 abbrev pub pairs_cost : Pairings → ℕ → ℕ
@@ -47,13 +63,17 @@ pairs_cost p number = p.touches + 2 * pairs_pending p number
 
 -- how many changes `undo` would take back
 abbrev pub pending_in : Index → ℕ
-pending_in i = i.standings.pending + i.tally.pending + i.numbers.pending
+pending_in i = i.standings.pending + i.tally.pending + i.numbers.pending + i.due.pending + i.ends.pending
 
 -- No change is pending, and no place is vacant.
 pub record HasNothingPending (i : Index) : Type 0 where
   pub standings : i.standings.pending ≡ 0
   pub facts : i.tally.pending ≡ 0
   pub numbers : i.numbers.pending ≡ 0
+  pub due : i.due.pending ≡ 0
+  pub ends : i.ends.pending ≡ 0
+  pub places_due : i.due.places ≡ places_of i.due.content
+  pub places_ends : i.ends.places ≡ places_of i.ends.content
   pub vacant : i.standings.vacant ≡ []
   pub vacant_numbers : i.numbers.vacant ≡ []
 
@@ -71,8 +91,90 @@ abbrev pub is_key : LinkKey → Option LinkKey → Bool
 is_key k None = false
 is_key k (Some key) = same_key k key
 
--- A move changes the standings that are told, and costs so many touches at most, and ten for each of those.
+-- A move changes the standings that are told, and costs so many touches at most, and fifteen for each of those.
 pub record CostsAtMost (old new : Index) (most : ℕ) : Type 0 where
   pub changes : List Change
   pub told : TellsChanges old.standings.members new.standings.members changes
-  pub bound : index_cost new ≤ index_cost old + most + 10 * length changes
+  pub bound : index_cost new ≤ index_cost old + most + 15 * length changes
+
+-- what a move of a key walks over, and fifteen for each member that it may tell
+abbrev pub load_of : GroupsValue → Option LinkKey → ℕ
+load_of g None = 0
+load_of g (Some key) = vacancies g key + 15 * members g.members key
+
+-- the same of something that is taken out, which is a member
+abbrev pub taken_of : GroupsValue → Option LinkKey → ℕ
+taken_of g None = 0
+taken_of g (Some key) = vacancies g key + 33 * members g.members key
+
+-- Members go, and none comes: two places of its key stay vacant for each at most.
+pub record MembersGo (old new : GroupsValue) : Type 0 where
+  pub submits : (q : Place) (k : LinkKey) → fin.get new.members.submits q ≡ Some k → fin.get old.members.submits q ≡ Some k
+  pub receipts : (q : Place) (r : GroupedReceipt) → fin.get new.members.receipts q ≡ Some r → fin.get old.members.receipts q ≡ Some r
+  pub fewer : (k : LinkKey) → members new.members k ≤ members old.members k
+  pub vacant : (k : LinkKey) → vacancies new k + 2 * members new.members k ≤ vacancies old k + 2 * members old.members k
+
+-- what it costs at most to take the message that a PDU of the client is out, or the delivery receipt that one of the centre is
+abbrev pub message_load : GroupsValue → Origin → KeptPdu → ℕ
+message_load g origin p = 42 + taken_of g (fin.get g.members.submits (place_of origin FromClient p))
+
+abbrev pub receipt_load : GroupsValue → Origin → KeptPdu → ℕ
+receipt_load g origin p = 49 + taken_of g (receipt_key_at g.members (place_of origin FromCentre p))
+
+-- how many members have a key, where there is a key
+abbrev pub members_at : Grouping → Option LinkKey → ℕ
+members_at g None = 0
+members_at g (Some key) = members g key
+
+-- No place of a key is vacant.
+pub record HasNoneVacant (g : GroupsValue) : Type 0 where
+  pub each : (k : LinkKey) → vacancies g k ≡ 0
+
+-- Members come, and none goes: no more places of a key are vacant.
+pub record MembersCome (old new : GroupsValue) : Type 0 where
+  pub submits : (q : Place) (k : LinkKey) → fin.get old.members.submits q ≡ Some k → fin.get new.members.submits q ≡ Some k
+  pub receipts : (q : Place) (r : GroupedReceipt) → fin.get old.members.receipts q ≡ Some r → fin.get new.members.receipts q ≡ Some r
+  pub more : (k : LinkKey) → members old.members k ≤ members new.members k
+  pub vacant : (k : LinkKey) → vacancies new k ≤ vacancies old k
+
+-- the key of the message at the request of a pair, where there is one
+abbrev pub answered_key : Grouping → Option Pair → Option LinkKey
+answered_key g pair = option_and_then (λ pair. fin.get g.submits pair.request) pair
+
+-- what a PDU at a place costs at most that stands in this pair, if any, among these members
+abbrev pub push_load : Grouping → Option Pair → Place → ℕ
+push_load g pair place =
+    55 + 15 * members_at g (fin.get g.submits place) + 43 * members_at g (receipt_key_at g place) + 15 * members_at g (answered_key g pair)
+
+-- the same of a PDU of a direction, among the members and the pairs that there are
+abbrev pub pdu_load : Grouping → PairingValue → Origin → Dir → KeptPdu → ℕ
+pdu_load g v origin dir p = push_load g (pair_at v (place_of origin dir p)) (place_of origin dir p)
+
+-- what it costs at most to take out what stands at a place: a message, or a delivery receipt
+abbrev pub taken_load : GroupsValue → Place → ℕ
+taken_load g q = 42 + taken_of g (fin.get g.members.submits q)
+
+abbrev pub forgotten_load : GroupsValue → Place → ℕ
+forgotten_load g q = 49 + taken_of g (receipt_key_at g.members q)
+
+-- what a move of a key walks over where so many places are vacant, and fifteen for each of these members that it may tell
+abbrev pub walk_of : GroupsValue → Grouping → Option LinkKey → ℕ
+walk_of g n None = 0
+walk_of g n (Some key) = vacancies g key + 15 * members n key
+
+-- what it costs at most to put a message in, or a delivery receipt
+abbrev pub put_load : GroupsValue → Grouping → SettingsValue → Place × Message → ℕ
+put_load g n s e = 43 + walk_of g n (accepted_key s e.1)
+
+abbrev pub received_load : GroupsValue → Grouping → SettingsValue → Place × ReceivedReceipt → ℕ
+received_load g n s e = 43 + walk_of g n (Some (receipt_key s e.1))
+
+-- At each of these places something stands, and still does once what stands at those before it is taken out.
+abbrev pub AreTaken : {X : Type 0} → fin.FinMap place_cmp X → List Place → Type 0
+AreTaken m [] = ⊤
+AreTaken m (q ∷ qs) = (is_some (fin.get m q) ≡ true) × AreTaken (fin.remove m q) qs
+
+-- Touches don't fall, and where a fact changes they rise, unless they are at the greatest u64.
+pub record RisesWithFacts (old new : Index) : Type 0 where
+  pub counted : touches_in old ≤ touches_in new
+  pub facts : touches_in new ≡ touches_in old → touches_in old < 2 ^ 64 - 1 → new.tally.facts ≡ old.tally.facts

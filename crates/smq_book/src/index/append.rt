@@ -1,20 +1,22 @@
 //! What an append changes: what each PDU says that its batch completes, in turn, and the bad length at which the batch leaves its
 //! direction broken.
-ghost use Rattle.std.specs.Prelude.{◌≡◌, ◌≢◌, ℕ, ◌++◌, Some, None, IfSome, OnOk};
+ghost use Rattle.std.specs.Prelude.{◌≡◌, ◌≢◌, ◌≤◌, ◌+◌, ℕ, ◌++◌, Some, None, IfSome, OnOk};
 ghost use Rattle.std.specs.FinMap as fin;
+ghost use Rattle.std.specs.List.{sum_by};
 ghost use Rattle.smq_frame.specs.Stream.{handed_in, values};
 ghost use Rattle.smq_frame.specs.Tail.{tail_of};
 ghost use Rattle.smq_kit.specs.declared.place.Dir.TheVariants.{FromClient, FromCentre};
 ghost use Rattle.smq_book.specs.edits.AppendedNotes.{broken_moves};
 ghost use Rattle.smq_book.specs.index.Held.{IsHeld, held_now, held_settled, traffic_held};
-ghost use Rattle.smq_book.specs.index.Pairs.{pairing_in, pairs_now, pairs_settled};
+ghost use Rattle.smq_book.specs.index.Pairs.{pairing_in, pairs_now, pairs_pending, pairs_settled};
+ghost use Rattle.smq_book.specs.index.Touches.{HasNoneVacant, MembersCome, RisesWithFacts, index_cost, pairs_cost, pdu_load};
 ghost use Rattle.smq_book.specs.index.Pushed.{IsHeldAfter, IsSaidBy, origin_at, pairing_with, pushed_moves};
 ghost use Rattle.smq_book.specs.pairing.Traffic.{session_pairing, traffic_of};
 ghost use Rattle.smq_book.specs.present.Batch.{batch_pdus, next_tail};
 ghost use Rattle.smq_book.specs.present.Kept.{kept_pdus};
 ghost use Rattle.smq_book.specs.present.Present.{direction, octets_in};
 ghost use Rattle.smq_book.specs.present.Steps.{session_after, session_with};
-ghost use Rattle.smq_book.specs.within.Pairs.{Rises, SubmitsAreRequests};
+ghost use Rattle.smq_book.specs.within.Pairs.{Rises, SubmitsAreRequests, from_session};
 
 use crate::index::index::Index;
 use crate::index::notes::note_broken;
@@ -50,7 +52,16 @@ pub(crate) fn append(
         (session_after (fin.get present.now.sessions number) batch.now)) number) }
     ensures other_pairs { (number : ℕ) → number ≢ batch.now.session.0
         → pairs_now pairings.new number ≡ pairs_now pairings.old number }
+    ensures other_pending { (number : ℕ) → number ≢ batch.now.session.0
+        → pairs_pending pairings.new number ≡ pairs_pending pairings.old number }
     ensures settled { held_settled index.new ≡ held_settled index.old }
+    ensures rises { OnOk result (RisesWithFacts index.old index.new) }
+    ensures pairs_counted { pairings.old.touches ≤ pairings.new.touches }
+    ensures touches { HasNoneVacant index.old.standings
+        → OnOk result (index_cost index.new + pairs_cost pairings.new batch.now.session.0
+        ≤ index_cost index.old + pairs_cost pairings.old batch.now.session.0
+        + sum_by (pdu_load index.new.standings.members (pairs_now pairings.new batch.now.session.0)
+        (from_session batch.now.session) batch.now.dir) (batch_pdus batch.now)) }
     ensures settled_pairs { (number : ℕ)
         → pairs_settled pairings.new number ≡ pairs_settled pairings.old number }
 {
@@ -85,11 +96,20 @@ fn append_to(
         ++ broken_moves origin batch.now.dir (next_tail batch.now))
         (held_now index.new)) }
     ensures settled { held_settled index.new ≡ held_settled index.old }
+    ensures rises { OnOk result (RisesWithFacts index.old index.new) }
+    ensures pairs_counted { pairings.old.touches ≤ pairings.new.touches }
+    ensures touches { HasNoneVacant index.old.standings
+        → OnOk result (index_cost index.new + pairs_cost pairings.new batch.now.session.0
+        ≤ index_cost index.old + pairs_cost pairings.old batch.now.session.0
+        + sum_by (pdu_load index.new.standings.members (pairs_now pairings.new batch.now.session.0)
+        (from_session batch.now.session) batch.now.dir) (batch_pdus batch.now)) }
     ensures pairs { let octets = handed_in batch.now.moment batch.now.octets in
         OnOk result (pairs_now pairings.new batch.now.session.0 ≡ session_pairing
         (batch.now.session.0, session_with batch.now.dir octets session.now)) }
     ensures other_pairs { (number : ℕ) → number ≢ batch.now.session.0
         → pairs_now pairings.new number ≡ pairs_now pairings.old number }
+    ensures other_pending { (number : ℕ) → number ≢ batch.now.session.0
+        → pairs_pending pairings.new number ≡ pairs_pending pairings.old number }
     ensures settled_pairs { (number : ℕ)
         → pairs_settled pairings.new number ≡ pairs_settled pairings.old number }
 {
@@ -130,11 +150,21 @@ fn push_all(
         (kept_pdus session.now.client) (kept_pdus session.now.centre) pdus.now)
         (held_now index.new)) }
     ensures settled { held_settled index.new ≡ held_settled index.old }
+    ensures rises { OnOk result (RisesWithFacts index.old index.new) }
+    ensures pairs_counted { pairings.old.touches ≤ pairings.new.touches }
+    ensures came { OnOk result (MembersCome index.old.standings index.new.standings) }
+    ensures touches { HasNoneVacant index.old.standings
+        → OnOk result (index_cost index.new + pairs_cost pairings.new number.0
+        ≤ index_cost index.old + pairs_cost pairings.old number.0
+        + sum_by (pdu_load index.new.standings.members (pairs_now pairings.new number.0)
+        (from_session number) dir) pdus.now) }
     ensures pairs { OnOk result (pairs_now pairings.new number.0
         ≡ pairing_with (origin_at number session.now.link) dir
         (kept_pdus session.now.client) (kept_pdus session.now.centre) pdus.now) }
     ensures other_pairs { (other : ℕ) → other ≢ number.0
         → pairs_now pairings.new other ≡ pairs_now pairings.old other }
+    ensures other_pending { (other : ℕ) → other ≢ number.0
+        → pairs_pending pairings.new other ≡ pairs_pending pairings.old other }
     ensures settled_pairs { (other : ℕ)
         → pairs_settled pairings.new other ≡ pairs_settled pairings.old other }
 {
@@ -165,11 +195,21 @@ fn push_all_of_client(
         (kept_pdus session.now.client) (kept_pdus session.now.centre) pdus.now)
         (held_now index.new)) }
     ensures settled { held_settled index.new ≡ held_settled index.old }
+    ensures rises { OnOk result (RisesWithFacts index.old index.new) }
+    ensures pairs_counted { pairings.old.touches ≤ pairings.new.touches }
+    ensures came { OnOk result (MembersCome index.old.standings index.new.standings) }
+    ensures touches { HasNoneVacant index.old.standings
+        → OnOk result (index_cost index.new + pairs_cost pairings.new number.0
+        ≤ index_cost index.old + pairs_cost pairings.old number.0
+        + sum_by (pdu_load index.new.standings.members (pairs_now pairings.new number.0)
+        (from_session number) FromClient) pdus.now) }
     ensures pairs { OnOk result (pairs_now pairings.new number.0
         ≡ pairing_with (origin_at number session.now.link) FromClient
         (kept_pdus session.now.client) (kept_pdus session.now.centre) pdus.now) }
     ensures other_pairs { (other : ℕ) → other ≢ number.0
         → pairs_now pairings.new other ≡ pairs_now pairings.old other }
+    ensures other_pending { (other : ℕ) → other ≢ number.0
+        → pairs_pending pairings.new other ≡ pairs_pending pairings.old other }
     ensures settled_pairs { (other : ℕ)
         → pairs_settled pairings.new other ≡ pairs_settled pairings.old other }
 {
@@ -200,11 +240,21 @@ fn push_all_of_centre(
         (kept_pdus session.now.client) (kept_pdus session.now.centre) pdus.now)
         (held_now index.new)) }
     ensures settled { held_settled index.new ≡ held_settled index.old }
+    ensures rises { OnOk result (RisesWithFacts index.old index.new) }
+    ensures pairs_counted { pairings.old.touches ≤ pairings.new.touches }
+    ensures came { OnOk result (MembersCome index.old.standings index.new.standings) }
+    ensures touches { HasNoneVacant index.old.standings
+        → OnOk result (index_cost index.new + pairs_cost pairings.new number.0
+        ≤ index_cost index.old + pairs_cost pairings.old number.0
+        + sum_by (pdu_load index.new.standings.members (pairs_now pairings.new number.0)
+        (from_session number) FromCentre) pdus.now) }
     ensures pairs { OnOk result (pairs_now pairings.new number.0
         ≡ pairing_with (origin_at number session.now.link) FromCentre
         (kept_pdus session.now.client) (kept_pdus session.now.centre) pdus.now) }
     ensures other_pairs { (other : ℕ) → other ≢ number.0
         → pairs_now pairings.new other ≡ pairs_now pairings.old other }
+    ensures other_pending { (other : ℕ) → other ≢ number.0
+        → pairs_pending pairings.new other ≡ pairs_pending pairings.old other }
     ensures settled_pairs { (other : ℕ)
         → pairs_settled pairings.new other ≡ pairs_settled pairings.old other }
 {

@@ -1,15 +1,22 @@
 //! What the forms of a link's message ids change: the keys of its messages and delivery receipts. All of the link is taken
 //! out before its forms are set, and put in again after it. On an error what is held is of no use: the caller undoes it.
-ghost use Rattle.std.specs.Prelude.{◌≡◌, ◌++◌, [], ◌∷◌, map, option_map, option_to_list, IfOk, OnOk};
-ghost use Rattle.std.specs.List.{flat_map};
+ghost use Rattle.std.specs.Prelude.{◌≡◌, ◌≤◌, ◌+◌, ◌++◌, Some, None, [], ◌∷◌, map, option_map, option_to_list, IfOk, OnOk};
+ghost use Rattle.std.specs.List.{flat_map, sum_by};
 ghost use Rattle.std.specs.Option.{option_copied};
 ghost use Rattle.std.specs.FinMap as fin;
 ghost use Rattle.smq_kit.specs.declared.place.Dir.TheVariants.{FromClient, FromCentre};
 ghost use Rattle.smq_book.specs.index.Held.{IsHeld, held_now, held_settled, traffic_held};
 ghost use Rattle.smq_book.specs.index.LinkOut as out;
 ghost use Rattle.smq_book.specs.index.LinkOut.{AllFrom, IsOut, TakesOut, is_receipt, is_submit, of_link, puts_of};
+ghost use Rattle.smq_group.specs.Matching.{Grouping};
+ghost use Rattle.smq_kit.specs.declared.link_key.LinkKey.{LinkKey};
+ghost use Rattle.smq_book.specs.edits.Reach.{members};
+ghost use Rattle.smq_book.specs.edits.Reached.{link_messages, link_receipts};
+ghost use Rattle.smq_book.specs.index.Coming.{AreNew};
+ghost use Rattle.smq_book.specs.index.Touches.{AreTaken, MembersCome, MembersGo, RisesWithFacts, forgotten_load, index_cost, load_of, put_load, received_load, taken_load};
 ghost use Rattle.smq_book.specs.index.Pushed.{IsHeldAfter};
 ghost use Rattle.smq_book.specs.join.Moves.{PutMessage, PutReceipt, TakeMessage, TakeReceipt};
+ghost use Rattle.smq_book.specs.join.Keyed.{accepted_key, receipt_key};
 ghost use Rattle.smq_book.specs.pairing.Traffic.{places_where, traffic_of};
 ghost use Rattle.smq_book.specs.within.Pairs.{from_session};
 
@@ -41,6 +48,16 @@ pub(crate) fn take_link(
     ensures out { IfOk result (λ taken. IsOut link (traffic_of present.now.sessions)
         taken.messages.items taken.receipts.items (traffic_held (held_now index.new))) }
     ensures settled { held_settled index.new ≡ held_settled index.old }
+    ensures rises { OnOk result (RisesWithFacts index.old index.new) }
+    ensures went { OnOk result (MembersGo index.old.standings index.new.standings) }
+    ensures touches { let t = traffic_of present.now.sessions in
+        OnOk result (index_cost index.new ≤ index_cost index.old
+        + sum_by (taken_load index.old.standings) (fin.keys (link_messages link t))
+        + sum_by (forgotten_load index.old.standings) (fin.keys (link_receipts link t))) }
+    ensures all_messages { IfOk result (λ taken. taken.messages.items
+        ≡ fin.entries (link_messages link (traffic_of present.now.sessions))) }
+    ensures all_receipts { IfOk result (λ taken. taken.receipts.items
+        ≡ fin.entries (link_receipts link (traffic_of present.now.sessions))) }
 {
     let settings = present.settings();
     let of_messages = message_places(alloc, present, link)?;
@@ -62,6 +79,15 @@ pub(crate) fn put_link(
     ensures held { OnOk result (IsHeldAfter settings.now (held_now index.old)
         (puts_of taken.messages.items taken.receipts.items) (held_now index.new)) }
     ensures settled { held_settled index.new ≡ held_settled index.old }
+    ensures rises { OnOk result (RisesWithFacts index.old index.new) }
+    ensures came { AreNew (traffic_held (held_now index.old))
+        (puts_of taken.messages.items taken.receipts.items)
+        → OnOk result (MembersCome index.old.standings index.new.standings) }
+    ensures touches { let n = index.new.standings.members in AreNew (traffic_held (held_now index.old))
+        (puts_of taken.messages.items taken.receipts.items)
+        → OnOk result (index_cost index.new ≤ index_cost index.old
+        + sum_by (put_load index.old.standings n settings.now) taken.messages.items
+        + sum_by (received_load index.old.standings n settings.now) taken.receipts.items) }
 {
     let Taken { messages, receipts } = taken;
     put_messages(index, settings, messages)?;
@@ -186,6 +212,12 @@ fn take_messages(
     ensures taken { IfOk result (λ taken. TakesOut (held_now index.old).messages taken.items
         (held_now index.new).messages) }
     ensures settled { held_settled index.new ≡ held_settled index.old }
+    ensures rises { OnOk result (RisesWithFacts index.old index.new) }
+    ensures went { OnOk result (MembersGo index.old.standings index.new.standings) }
+    ensures touches { OnOk result (index_cost index.new ≤ index_cost index.old
+        + sum_by (taken_load index.old.standings) places.now) }
+    ensures all { AreTaken (held_now index.old).messages places.now
+        → IfOk result (λ taken. map (λ e. e.0) taken.items ≡ places.now) }
 {
     let mut taken = Vec::new(alloc);
     for place in places {
@@ -207,6 +239,12 @@ fn take_receipts(
     ensures taken { IfOk result (λ taken. TakesOut (held_now index.old).receipts taken.items
         (held_now index.new).receipts) }
     ensures settled { held_settled index.new ≡ held_settled index.old }
+    ensures rises { OnOk result (RisesWithFacts index.old index.new) }
+    ensures went { OnOk result (MembersGo index.old.standings index.new.standings) }
+    ensures touches { OnOk result (index_cost index.new ≤ index_cost index.old
+        + sum_by (forgotten_load index.old.standings) places.now) }
+    ensures all { AreTaken (held_now index.old).receipts places.now
+        → IfOk result (λ taken. map (λ e. e.0) taken.items ≡ places.now) }
 {
     let mut taken = Vec::new(alloc);
     for place in places {
@@ -229,6 +267,10 @@ fn take_message_at(
         ++ option_to_list (option_map (λ m. (place, m))
         (fin.get (held_now index.old).messages place))) }
     ensures settled { held_settled index.new ≡ held_settled index.old }
+    ensures rises { OnOk result (RisesWithFacts index.old index.new) }
+    ensures went { OnOk result (MembersGo index.old.standings index.new.standings) }
+    ensures touches { OnOk result (index_cost index.new ≤ index_cost index.old
+        + taken_load index.old.standings place) }
 {
     push_message(taken, place, index.messages.get(&place))?;
     index.take_message(settings, place)?;
@@ -264,6 +306,10 @@ fn take_receipt_at(
         ++ option_to_list (option_map (λ r. (place, r))
         (fin.get (held_now index.old).receipts place))) }
     ensures settled { held_settled index.new ≡ held_settled index.old }
+    ensures rises { OnOk result (RisesWithFacts index.old index.new) }
+    ensures went { OnOk result (MembersGo index.old.standings index.new.standings) }
+    ensures touches { OnOk result (index_cost index.new ≤ index_cost index.old
+        + forgotten_load index.old.standings place) }
 {
     push_receipt(taken, place, index.receipts.get(&place))?;
     index.take_receipt(settings, place)?;
@@ -296,6 +342,13 @@ fn put_messages(
     ensures held { OnOk result (IsHeldAfter settings.now (held_now index.old)
         (map PutMessage messages.items) (held_now index.new)) }
     ensures settled { held_settled index.new ≡ held_settled index.old }
+    ensures rises { OnOk result (RisesWithFacts index.old index.new) }
+    ensures came { AreNew (traffic_held (held_now index.old)) (map PutMessage messages.items)
+        → OnOk result (MembersCome index.old.standings index.new.standings) }
+    ensures touches { (n : Grouping) → AreNew (traffic_held (held_now index.old)) (map PutMessage messages.items)
+        → ((k : LinkKey) → members index.new.standings.members k ≤ members n k)
+        → OnOk result (index_cost index.new ≤ index_cost index.old
+        + sum_by (put_load index.old.standings n settings.now) messages.items) }
 {
     for (place, message) in messages {
         put_message_at(index, settings, place, message)?;
@@ -314,6 +367,13 @@ fn put_receipts(
     ensures held { OnOk result (IsHeldAfter settings.now (held_now index.old)
         (map PutReceipt receipts.items) (held_now index.new)) }
     ensures settled { held_settled index.new ≡ held_settled index.old }
+    ensures rises { OnOk result (RisesWithFacts index.old index.new) }
+    ensures came { AreNew (traffic_held (held_now index.old)) (map PutReceipt receipts.items)
+        → OnOk result (MembersCome index.old.standings index.new.standings) }
+    ensures touches { (n : Grouping) → AreNew (traffic_held (held_now index.old)) (map PutReceipt receipts.items)
+        → ((k : LinkKey) → members index.new.standings.members k ≤ members n k)
+        → OnOk result (index_cost index.new ≤ index_cost index.old
+        + sum_by (received_load index.old.standings n settings.now) receipts.items) }
 {
     for (place, receipt) in receipts {
         put_receipt_at(index, settings, place, receipt)?;
@@ -333,6 +393,12 @@ fn put_message_at(
     ensures held { OnOk result (IsHeldAfter settings.now (held_now index.old)
         (PutMessage (place, message) ∷ []) (held_now index.new)) }
     ensures settled { held_settled index.new ≡ held_settled index.old }
+    ensures rises { OnOk result (RisesWithFacts index.old index.new) }
+    ensures came { fin.get (held_now index.old).messages place ≡ None
+        → OnOk result (MembersCome index.old.standings index.new.standings) }
+    ensures touches { fin.get (held_now index.old).messages place ≡ None
+        → OnOk result (index_cost index.new ≤ index_cost index.old + 43
+        + load_of index.old.standings (accepted_key settings.now message)) }
 {
     index.take_message(settings, place)?;
     index.put_message(settings, place, message)?;
@@ -351,6 +417,12 @@ fn put_receipt_at(
     ensures held { OnOk result (IsHeldAfter settings.now (held_now index.old)
         (PutReceipt (place, receipt) ∷ []) (held_now index.new)) }
     ensures settled { held_settled index.new ≡ held_settled index.old }
+    ensures rises { OnOk result (RisesWithFacts index.old index.new) }
+    ensures came { fin.get (held_now index.old).receipts place ≡ None
+        → OnOk result (MembersCome index.old.standings index.new.standings) }
+    ensures touches { fin.get (held_now index.old).receipts place ≡ None
+        → OnOk result (index_cost index.new ≤ index_cost index.old + 43
+        + load_of index.old.standings (Some (receipt_key settings.now receipt))) }
 {
     index.take_receipt(settings, place)?;
     index.put_receipt(settings, place, receipt)?;

@@ -2,7 +2,7 @@
 //!
 //! Each call that puts a message or a receipt in, or takes one out, sets the facts and the listings of the places alone
 //! whose standings it changes.
-ghost use Rattle.std.specs.Prelude.{◌≡◌, ◌≤◌, ◌+◌, ◌*◌, true, Some, is_some, length, IfOk, OnOk};
+ghost use Rattle.std.specs.Prelude.{◌≡◌, ◌<◌, ◌≤◌, ◌+◌, ◌-◌, ◌*◌, ◌^◌, true, if◌then◌else◌, Some, is_some, length, IfOk, OnOk};
 ghost use Rattle.std.specs.Option.{option_copied};
 ghost use Rattle.std.specs.FinMap as fin;
 ghost use Rattle.smq_kit.specs.Maps.{set_at};
@@ -11,14 +11,16 @@ ghost use Rattle.smq_tally.specs.Lists.{listed};
 ghost use Rattle.smq_tally.specs.declared.fact.Fact.{Fact as FactOf};
 ghost use Rattle.smq_book.specs.index.Opening.{nothing_held};
 ghost use Rattle.smq_book.specs.index.Due.{due_in, is_due_fact};
+ghost use Rattle.smq_book.specs.index.Ends.{ends_by};
 ghost use Rattle.smq_book.specs.index.Stored.{is_told_shared};
-ghost use Rattle.smq_book.specs.index.Held.{AreOf, AreUnlisted, IsTraffic, decider_held, dues_in, facts_anew, held_by, held_now, held_settled, list_by, list_held, messages_in, noted, notes_anew, receipts_in, stored_traffic, with_listing};
-ghost use Rattle.smq_book.specs.index.Touches.{HasNothingPending, index_cost, index_touches, pending_in, tally_cost, touches_in};
+ghost use Rattle.smq_book.specs.index.Held.{AreOf, AreUnlisted, IsTraffic, decider_held, dues_in, ends_in, facts_anew, held_by, held_now, held_settled, list_by, list_held, messages_in, noted, notes_anew, receipts_in, stored_traffic, traffic_held, with_listing};
+ghost use Rattle.smq_book.specs.index.Touches.{HasNothingPending, RisesWithFacts, index_cost, index_touches, kept_cost, pending_in, tally_cost, touches_in};
 ghost use Rattle.smq_book.specs.join.Facts.{facts_of};
 ghost use Rattle.smq_book.specs.pairing.Traffic.{TrafficValue};
 ghost use Rattle.smq_book.specs.present.Settings.{SettingsValue};
 
 use crate::index::due_at::DueAt;
+use crate::index::end_at::EndAt;
 use crate::index::fact::fact_of;
 use crate::index::stored::{StoredMessage, StoredReceipt};
 use crate::present::settings::Settings;
@@ -27,7 +29,7 @@ use crate::{Fact, List, Outcome};
 use smq_group::{Change, Standing, Standings};
 use smq_kit::{Moment, Place};
 use smq_route::{Numbers, Routes};
-use smq_shelf::KeptMap;
+use smq_shelf::{Kept, KeptMap};
 use smq_tally::Tally;
 use std::alloc::{AllocError, Global};
 
@@ -40,7 +42,9 @@ pub(crate) struct Index {
     pub receipts: KeptMap<Place, StoredReceipt>,
     pub tally: Tally,
     /// The messages whose receipts are due: the open and the lapsed ones, by link and moment.
-    pub due: KeptMap<DueAt, ()>,
+    pub due: Kept<DueAt, ()>,
+    /// The same messages, by the ends of their windows.
+    pub ends: Kept<EndAt, ()>,
     /// The numbers of the messages.
     pub numbers: Numbers,
 }
@@ -58,7 +62,8 @@ impl Index {
             messages: KeptMap::new(alloc),
             receipts: KeptMap::new(alloc),
             tally: Tally::new(alloc),
-            due: KeptMap::new(alloc),
+            due: Kept::new(alloc),
+            ends: Kept::new(alloc),
             numbers: Numbers::new(alloc),
         }
     }
@@ -76,6 +81,7 @@ impl Index {
         self.receipts.undo();
         self.tally.undo();
         self.due.undo();
+        self.ends.undo();
         self.numbers.undo();
     }
 
@@ -86,12 +92,14 @@ impl Index {
         ensures pending { HasNothingPending self.new }
         ensures touches { index_cost self.new ≤ index_cost self.old }
         ensures counted { touches_in self.old ≤ touches_in self.new }
+        ensures rises { RisesWithFacts self.old self.new }
     {
         self.standings.settle();
         self.messages.settle();
         self.receipts.settle();
         self.tally.settle();
         self.due.settle();
+        self.ends.settle();
         self.numbers.settle();
     }
 
@@ -104,6 +112,8 @@ impl Index {
         of_groups
             .saturating_add(of_facts)
             .saturating_add(self.numbers.touches())
+            .saturating_add(self.due.touches())
+            .saturating_add(self.ends.touches())
     }
 
     /// Sets the fact and the listing of a place anew.
@@ -114,6 +124,7 @@ impl Index {
         ensures numbers { self.new.numbers ≡ self.old.numbers }
         ensures settled { self.new.tally.settled ≡ self.old.tally.settled }
         ensures settled_due { self.new.due.settled ≡ self.old.due.settled }
+        ensures settled_ends { self.new.ends.settled ≡ self.old.ends.settled }
         ensures facts { let traffic = stored_traffic self.old.messages.content self.old.receipts.content in
             AreOf settings.now traffic self.old.standings.members
             → OnOk result (self.new.tally.facts
@@ -130,8 +141,12 @@ impl Index {
         ensures due { let messages = messages_in self.old.messages.content in
             dues_in self.old.due.content ≡ due_in messages self.old.tally.facts
             → OnOk result (dues_in self.new.due.content ≡ due_in messages self.new.tally.facts) }
-        ensures touches { OnOk result (index_cost self.new ≤ index_cost self.old + 9) }
+        ensures ends { let messages = messages_in self.old.messages.content in
+            ends_in self.old.ends.content ≡ ends_by settings.now.windows messages self.old.tally.facts
+            → OnOk result (ends_in self.new.ends.content ≡ ends_by settings.now.windows messages self.new.tally.facts) }
+        ensures touches { OnOk result (index_cost self.new ≤ index_cost self.old + 14) }
         ensures counted { touches_in self.old ≤ touches_in self.new }
+        ensures rises { OnOk result (RisesWithFacts self.old self.new) }
     {
         let is_message = self.set_fact_by(
             settings.routes(),
@@ -160,9 +175,11 @@ impl Index {
             → held_now self.old ≡ held_by z t facts
             → OnOk result (held_now self.new
             ≡ held_by z t (set_at facts place (fin.get (facts_of z t) place))) }
+        ensures traffic { OnOk result (traffic_held (held_now self.new) ≡ traffic_held (held_now self.old)) }
         ensures settled { held_settled self.new ≡ held_settled self.old }
-        ensures touches { OnOk result (index_cost self.new ≤ index_cost self.old + 6) }
+        ensures touches { OnOk result (index_cost self.new ≤ index_cost self.old + 14) }
         ensures counted { touches_in self.old ≤ touches_in self.new }
+        ensures rises { OnOk result (RisesWithFacts self.old self.new) }
     {
         self.set_fact_by(routes, windows, clock, place)?;
         Ok(())
@@ -180,6 +197,7 @@ impl Index {
         ensures numbers { self.new.numbers ≡ self.old.numbers }
         ensures settled { self.new.tally.settled ≡ self.old.tally.settled }
         ensures settled_due { self.new.due.settled ≡ self.old.due.settled }
+        ensures settled_ends { self.new.ends.settled ≡ self.old.ends.settled }
         ensures facts { let traffic = stored_traffic self.old.messages.content self.old.receipts.content in
             AreOf settings.now traffic self.old.standings.members
             → OnOk result (self.new.tally.facts
@@ -196,8 +214,12 @@ impl Index {
         ensures due { let messages = messages_in self.old.messages.content in
             dues_in self.old.due.content ≡ due_in messages self.old.tally.facts
             → OnOk result (dues_in self.new.due.content ≡ due_in messages self.new.tally.facts) }
-        ensures touches { OnOk result (index_cost self.new ≤ index_cost self.old + 9 * length changes.now) }
+        ensures ends { let messages = messages_in self.old.messages.content in
+            ends_in self.old.ends.content ≡ ends_by settings.now.windows messages self.old.tally.facts
+            → OnOk result (ends_in self.new.ends.content ≡ ends_by settings.now.windows messages self.new.tally.facts) }
+        ensures touches { OnOk result (index_cost self.new ≤ index_cost self.old + 14 * length changes.now) }
         ensures counted { touches_in self.old ≤ touches_in self.new }
+        ensures rises { OnOk result (RisesWithFacts self.old self.new) }
     {
         for change in changes {
             self.refresh(settings, change.place)?;
@@ -223,6 +245,7 @@ impl Index {
         ensures notes { OnOk result (self.new.tally.notes ≡ self.old.tally.notes) }
         ensures settled { self.new.tally.settled ≡ self.old.tally.settled }
         ensures settled_due { self.new.due.settled ≡ self.old.due.settled }
+        ensures settled_ends { self.new.ends.settled ≡ self.old.ends.settled }
         ensures facts { (z : SettingsValue) → z.versions ≡ routes.now.versions
             → z.windows ≡ windows.now → z.clock ≡ clock
             → (let traffic = stored_traffic self.old.messages.content self.old.receipts.content in
@@ -232,8 +255,13 @@ impl Index {
         ensures due { let messages = messages_in self.old.messages.content in
             dues_in self.old.due.content ≡ due_in messages self.old.tally.facts
             → OnOk result (dues_in self.new.due.content ≡ due_in messages self.new.tally.facts) }
-        ensures touches { OnOk result (index_cost self.new ≤ index_cost self.old + 6) }
+        ensures ends { let messages = messages_in self.old.messages.content in
+            ends_in self.old.ends.content ≡ ends_by windows.now messages self.old.tally.facts
+            → OnOk result (ends_in self.new.ends.content ≡ ends_by windows.now messages self.new.tally.facts) }
+        ensures touches { IfOk result (λ is_message. index_cost self.new
+            ≤ index_cost self.old + (if is_message then 14 else 6)) }
         ensures counted { touches_in self.old ≤ touches_in self.new }
+        ensures rises { OnOk result (RisesWithFacts self.old self.new) }
     {
         let Some(message) = self.messages.get(&place) else {
             take_fact(&mut self.tally, place)?;
@@ -244,6 +272,7 @@ impl Index {
             moment: message.moment,
             place,
         };
+        let end = EndAt::of(message.moment, windows.of(message.link), place);
         let fact = fact_at(
             &self.receipts,
             &self.standings,
@@ -256,6 +285,7 @@ impl Index {
         let is_due = is_due(&fact);
         self.tally.set(fact)?;
         set_due(&mut self.due, due, is_due)?;
+        set_end(&mut self.ends, end, is_due)?;
         Ok(true)
     }
 }
@@ -338,6 +368,8 @@ pub(crate) fn take_fact(tally: &mut Tally, place: Place) -> Result<(), AllocErro
     ensures settled { tally.new.settled ≡ tally.old.settled }
     ensures touches { OnOk result (tally_cost tally.new ≤ tally_cost tally.old + 6) }
     ensures counted { tally.old.touches ≤ tally.new.touches }
+    ensures rises { OnOk result (tally.new.touches ≡ tally.old.touches → tally.old.touches < 2 ^ 64 - 1
+        → tally.new.facts ≡ tally.old.facts) }
 {
     if tally.has_fact(place) {
         tally.remove(place)?;
@@ -346,20 +378,38 @@ pub(crate) fn take_fact(tally: &mut Tally, place: Place) -> Result<(), AllocErro
 }
 
 /// Puts a key of a message in, or takes it out.
-pub(crate) fn set_due(
-    due: &mut KeptMap<DueAt, ()>,
-    key: DueAt,
-    is_due: bool,
-) -> Result<(), AllocError>
+pub(crate) fn set_due(due: &mut Kept<DueAt, ()>, key: DueAt, is_due: bool) -> Result<(), AllocError>
     ensures value { OnOk result
         (dues_in due.new.content ≡ set_at (dues_in due.old.content) key (noted is_due)) }
     ensures settled { due.new.settled ≡ due.old.settled }
+    ensures touches { OnOk result (kept_cost due.new ≤ kept_cost due.old + 4) }
+    ensures counted { due.old.touches ≤ due.new.touches }
 {
     if is_due {
         due.set(key, ())?;
         return Ok(());
     }
     due.remove(&key)?;
+    Ok(())
+}
+
+/// Puts the end of a message's window in, or takes it out.
+pub(crate) fn set_end(
+    ends: &mut Kept<EndAt, ()>,
+    key: EndAt,
+    is_due: bool,
+) -> Result<(), AllocError>
+    ensures value { OnOk result
+        (ends_in ends.new.content ≡ set_at (ends_in ends.old.content) key (noted is_due)) }
+    ensures settled { ends.new.settled ≡ ends.old.settled }
+    ensures touches { OnOk result (kept_cost ends.new ≤ kept_cost ends.old + 4) }
+    ensures counted { ends.old.touches ≤ ends.new.touches }
+{
+    if is_due {
+        ends.set(key, ())?;
+        return Ok(());
+    }
+    ends.remove(&key)?;
     Ok(())
 }
 

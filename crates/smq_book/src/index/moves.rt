@@ -9,7 +9,7 @@ ghost use Rattle.smq_book.specs.index.Numbered.{numbered};
 ghost use Rattle.smq_book.specs.index.Pushed.{without_response};
 ghost use Rattle.smq_book.specs.index.PlacedKeys.{with_key, without_key};
 ghost use Rattle.smq_book.specs.index.Held.{AreOf, IsTraffic, held_now, held_of, held_settled, is_traffic_list, messages_in, receipts_in, stored_traffic};
-ghost use Rattle.smq_book.specs.index.Touches.{CostsAtMost, index_cost, is_key, numbers_cost, receipt_key_at, touches_in, vacancies_at};
+ghost use Rattle.smq_book.specs.index.Touches.{CostsAtMost, RisesWithFacts, index_cost, is_key, load_of, numbers_cost, receipt_key_at, taken_of, touches_in, vacancies_at};
 ghost use Rattle.smq_book.specs.join.Keyed.{accepted_key, receipt_key};
 ghost use Rattle.smq_book.specs.join.Moves as moves;
 ghost use Rattle.smq_book.specs.join.Moves.{PutNote, TakeNote, moved};
@@ -18,7 +18,8 @@ ghost use Rattle.smq_book.specs.present.Settings.{SettingsValue};
 
 use crate::List;
 use crate::index::due_at::DueAt;
-use crate::index::index::{Index, set_due, take_fact};
+use crate::index::end_at::EndAt;
+use crate::index::index::{Index, set_due, set_end, take_fact};
 use crate::index::stored::{StoredMessage, StoredReceipt};
 use crate::present::settings::Settings;
 use smq_kit::Place;
@@ -43,10 +44,13 @@ impl Index {
             (held_now self.new ≡ held_of settings.now (moves.put_message place message t)) }
         ensures settled { held_settled self.new ≡ held_settled self.old }
         ensures touches { OnOk result (CostsAtMost self.old self.new
-            (13 + vacancies_at self.old.standings (accepted_key settings.now message))) }
+            (17 + vacancies_at self.old.standings (accepted_key settings.now message))) }
+        ensures weighs { OnOk result (index_cost self.new ≤ index_cost self.old + 43
+            + load_of self.old.standings (accepted_key settings.now message)) }
         ensures vacant { OnOk result ((k : LinkKey)
             → vacancies self.new.standings k ≤ vacancies self.old.standings k) }
         ensures counted { touches_in self.old ≤ touches_in self.new }
+        ensures rises { OnOk result (RisesWithFacts self.old self.new) }
     {
         let key = message.key(settings);
         put_number(&mut self.numbers, place, &message)?;
@@ -77,10 +81,13 @@ impl Index {
             (held_now self.new ≡ held_of settings.now (moves.put_message place answered t)) }
         ensures settled { held_settled self.new ≡ held_settled self.old }
         ensures touches { OnOk result (CostsAtMost self.old self.new
-            (10 + vacancies_at self.old.standings (accepted_key settings.now answered))) }
+            (14 + vacancies_at self.old.standings (accepted_key settings.now answered))) }
+        ensures weighs { OnOk result (index_cost self.new ≤ index_cost self.old + 40
+            + load_of self.old.standings (accepted_key settings.now answered)) }
         ensures vacant { OnOk result ((k : LinkKey)
             → vacancies self.new.standings k ≤ vacancies self.old.standings k) }
         ensures counted { touches_in self.old ≤ touches_in self.new }
+        ensures rises { OnOk result (RisesWithFacts self.old self.new) }
     {
         let key = answered.key(settings);
         self.messages.set(place, answered)?;
@@ -109,11 +116,16 @@ impl Index {
             (held_now self.new ≡ held_of settings.now (moves.take_message place t)) }
         ensures settled { held_settled self.new ≡ held_settled self.old }
         ensures touches { let key = fin.get self.old.standings.members.submits place in
-            OnOk result (CostsAtMost self.old self.new (22 + vacancies_at self.old.standings key)) }
+            OnOk result (CostsAtMost self.old self.new (30 + vacancies_at self.old.standings key)) }
+        ensures weighs { OnOk result (index_cost self.new ≤ index_cost self.old + 42
+            + taken_of self.old.standings (fin.get self.old.standings.members.submits place)) }
+        ensures idle { fin.get (messages_in self.old.messages.content) place ≡ None
+            → OnOk result (self.new ≡ self.old) }
         ensures vacant { OnOk result ((k : LinkKey)
             → vacancies self.new.standings k ≤ vacancies self.old.standings k
             + (if is_key k (fin.get self.old.standings.members.submits place) then 1 else 0)) }
         ensures counted { touches_in self.old ≤ touches_in self.new }
+        ensures rises { OnOk result (RisesWithFacts self.old self.new) }
     {
         let Some(message) = self.messages.get(&place) else {
             return Ok(());
@@ -124,8 +136,11 @@ impl Index {
             moment: message.moment,
             place,
         };
+        let window = settings.windows_set().of(message.link);
+        let end = EndAt::of(message.moment, window, place);
         take_number(&mut self.numbers, place, message)?;
         set_due(&mut self.due, due, false)?;
+        set_end(&mut self.ends, end, false)?;
         self.messages.remove(&place)?;
         let Some(key) = key else {
             take_fact(&mut self.tally, place)?;
@@ -155,9 +170,12 @@ impl Index {
         ensures settled { held_settled self.new ≡ held_settled self.old }
         ensures touches { OnOk result (CostsAtMost self.old self.new
             (13 + vacancies_at self.old.standings (Some (receipt_key settings.now receipt)))) }
+        ensures weighs { OnOk result (index_cost self.new ≤ index_cost self.old + 43
+            + load_of self.old.standings (Some (receipt_key settings.now receipt))) }
         ensures vacant { OnOk result ((k : LinkKey)
             → vacancies self.new.standings k ≤ vacancies self.old.standings k) }
         ensures counted { touches_in self.old ≤ touches_in self.new }
+        ensures rises { OnOk result (RisesWithFacts self.old self.new) }
     {
         let key = receipt.key(settings);
         let moment = receipt.moment;
@@ -184,11 +202,16 @@ impl Index {
             (held_now self.new ≡ held_of settings.now (moves.take_receipt place t)) }
         ensures settled { held_settled self.new ≡ held_settled self.old }
         ensures touches { let key = receipt_key_at self.old.standings.members place in
-            OnOk result (CostsAtMost self.old self.new (29 + vacancies_at self.old.standings key)) }
+            OnOk result (CostsAtMost self.old self.new (34 + vacancies_at self.old.standings key)) }
+        ensures weighs { OnOk result (index_cost self.new ≤ index_cost self.old + 49
+            + taken_of self.old.standings (receipt_key_at self.old.standings.members place)) }
+        ensures idle { fin.get (receipts_in self.old.receipts.content) place ≡ None
+            → OnOk result (self.new ≡ self.old) }
         ensures vacant { OnOk result ((k : LinkKey)
             → vacancies self.new.standings k ≤ vacancies self.old.standings k
             + (if is_key k (receipt_key_at self.old.standings.members place) then 2 else 0)) }
         ensures counted { touches_in self.old ≤ touches_in self.new }
+        ensures rises { OnOk result (RisesWithFacts self.old self.new) }
     {
         let Some(receipt) = self.receipts.get(&place) else {
             return Ok(());
@@ -209,6 +232,7 @@ impl Index {
         ensures standings { self.new.standings ≡ self.old.standings }
         ensures touches { index_cost self.new ≤ index_cost self.old }
         ensures counted { touches_in self.old ≤ touches_in self.new }
+        ensures rises { OnOk result (RisesWithFacts self.old self.new) }
     {
         self.tally.note(list, place)?;
         Ok(())
@@ -223,6 +247,7 @@ impl Index {
         ensures standings { self.new.standings ≡ self.old.standings }
         ensures touches { index_cost self.new ≤ index_cost self.old + 1 }
         ensures counted { touches_in self.old ≤ touches_in self.new }
+        ensures rises { OnOk result (RisesWithFacts self.old self.new) }
     {
         if self.tally.is_noted(list, place) {
             self.tally.forget(list, place)?;

@@ -1,6 +1,6 @@
 //! The notes that an append changes: of each PDU those of the pair that it makes, if any, and of its content; and at last that
 //! of a bad length.
-ghost use Rattle.std.specs.Prelude.{◌≡◌, true, [], ◌∷◌, OnOk};
+ghost use Rattle.std.specs.Prelude.{◌≡◌, ◌≤◌, ◌+◌, true, [], ◌∷◌, OnOk};
 ghost use Rattle.smq_kit.specs.declared.place.Dir.TheVariants.{FromClient, FromCentre};
 ghost use Rattle.smq_pair.specs.Pairing.{placed_header};
 ghost use Rattle.smq_pdu.specs.Header.{header_with};
@@ -8,6 +8,7 @@ ghost use Rattle.smq_tally.specs.Lists.{listed};
 ghost use Rattle.smq_book.specs.edits.AppendedNotes.{alone_moves, broken_moves, met_moves, pair_moves, undecodable_moves, unreadable_moves};
 ghost use Rattle.smq_book.specs.index.Held.{IsHeld, held_now, held_settled, is_traffic_list};
 ghost use Rattle.smq_book.specs.index.Pushed.{IsHeldAfter, mismatch_moves, noted_moves, other_move};
+ghost use Rattle.smq_book.specs.index.Touches.{RisesWithFacts, index_cost};
 ghost use Rattle.smq_book.specs.join.Moves.{PutNote, TakeNote};
 ghost use Rattle.smq_book.specs.present.Settings.{SettingsValue};
 ghost use Rattle.smq_book.specs.within.Pairs.{from_session};
@@ -28,6 +29,9 @@ fn note_place(index: &mut Index, list: List, place: Place) -> Result<(), AllocEr
         → OnOk result (IsHeldAfter s (held_now index.old)
         (PutNote (listed list place) ∷ []) (held_now index.new)) }
     ensures settled { held_settled index.new ≡ held_settled index.old }
+    ensures rises { OnOk result (RisesWithFacts index.old index.new) }
+    ensures standings { index.new.standings ≡ index.old.standings }
+    ensures touches { index_cost index.new ≤ index_cost index.old }
 {
     index.put_note(list, place)?;
     Ok(())
@@ -40,6 +44,9 @@ fn forget_place(index: &mut Index, list: List, place: Place) -> Result<(), Alloc
         → OnOk result (IsHeldAfter s (held_now index.old)
         (TakeNote (listed list place) ∷ []) (held_now index.new)) }
     ensures settled { held_settled index.new ≡ held_settled index.old }
+    ensures rises { OnOk result (RisesWithFacts index.old index.new) }
+    ensures standings { index.new.standings ≡ index.old.standings }
+    ensures touches { index_cost index.new ≤ index_cost index.old + 1 }
 {
     index.take_note(list, place)?;
     Ok(())
@@ -51,6 +58,9 @@ fn note_alone(index: &mut Index, place: Place, command: u32) -> Result<(), Alloc
         → OnOk result (IsHeldAfter s (held_now index.old)
         (alone_moves (placed_header place command 0 0)) (held_now index.new)) }
     ensures settled { held_settled index.new ≡ held_settled index.old }
+    ensures rises { OnOk result (RisesWithFacts index.old index.new) }
+    ensures standings { index.new.standings ≡ index.old.standings }
+    ensures touches { index_cost index.new ≤ index_cost index.old }
 {
     if is_request(command) {
         note_place(index, List::Waiting, place)?;
@@ -69,6 +79,9 @@ fn forget_other(index: &mut Index, command: u32, pair: Pair) -> Result<(), Alloc
         → OnOk result (IsHeldAfter s (held_now index.old)
         (other_move (header_with command) pair ∷ []) (held_now index.new)) }
     ensures settled { held_settled index.new ≡ held_settled index.old }
+    ensures rises { OnOk result (RisesWithFacts index.old index.new) }
+    ensures standings { index.new.standings ≡ index.old.standings }
+    ensures touches { index_cost index.new ≤ index_cost index.old + 1 }
 {
     if is_request(command) {
         forget_place(index, List::StrayAnswers, pair.response)?;
@@ -84,6 +97,9 @@ fn note_mismatched(index: &mut Index, pair: Pair) -> Result<(), AllocError>
         → OnOk result (IsHeldAfter s (held_now index.old)
         (mismatch_moves pair) (held_now index.new)) }
     ensures settled { held_settled index.new ≡ held_settled index.old }
+    ensures rises { OnOk result (RisesWithFacts index.old index.new) }
+    ensures standings { index.new.standings ≡ index.old.standings }
+    ensures touches { index_cost index.new ≤ index_cost index.old }
 {
     if pair.agrees {
         return Ok(());
@@ -98,6 +114,9 @@ fn note_pair(index: &mut Index, place: Place, command: u32, pair: Pair) -> Resul
         → OnOk result (IsHeldAfter s (held_now index.old)
         (pair_moves (placed_header place command 0 0) pair) (held_now index.new)) }
     ensures settled { held_settled index.new ≡ held_settled index.old }
+    ensures rises { OnOk result (RisesWithFacts index.old index.new) }
+    ensures standings { index.new.standings ≡ index.old.standings }
+    ensures touches { index_cost index.new ≤ index_cost index.old + 1 }
 {
     forget_other(index, command, pair)?;
     note_mismatched(index, pair)?;
@@ -115,6 +134,9 @@ fn note_met(
         → OnOk result (IsHeldAfter s (held_now index.old)
         (met_moves (placed_header place command 0 0) made) (held_now index.new)) }
     ensures settled { held_settled index.new ≡ held_settled index.old }
+    ensures rises { OnOk result (RisesWithFacts index.old index.new) }
+    ensures standings { index.new.standings ≡ index.old.standings }
+    ensures touches { index_cost index.new ≤ index_cost index.old + 1 }
 {
     match made {
         Some(pair) => note_pair(index, place, command, pair),
@@ -133,6 +155,9 @@ fn note_undecodable(
         → OnOk result (IsHeldAfter s (held_now index.old)
         (undecodable_moves (from_session session) dir pdu.now) (held_now index.new)) }
     ensures settled { held_settled index.new ≡ held_settled index.old }
+    ensures rises { OnOk result (RisesWithFacts index.old index.new) }
+    ensures standings { index.new.standings ≡ index.old.standings }
+    ensures touches { index_cost index.new ≤ index_cost index.old }
 {
     if pdu.content.is_undecodable() {
         note_place(index, List::Undecodable, place_of(session, dir, pdu))?;
@@ -147,6 +172,9 @@ fn note_unreadable(index: &mut Index, session: SessionId, pdu: &KeptPdu) -> Resu
         → OnOk result (IsHeldAfter s (held_now index.old)
         (unreadable_moves (from_session session) FromCentre pdu.now) (held_now index.new)) }
     ensures settled { held_settled index.new ≡ held_settled index.old }
+    ensures rises { OnOk result (RisesWithFacts index.old index.new) }
+    ensures standings { index.new.standings ≡ index.old.standings }
+    ensures touches { index_cost index.new ≤ index_cost index.old }
 {
     if pdu.content.is_unreadable() {
         note_place(
@@ -170,6 +198,9 @@ pub(crate) fn note_of_client(
         → OnOk result (IsHeldAfter s (held_now index.old)
         (noted_moves (from_session session) FromClient pdu.now made) (held_now index.new)) }
     ensures settled { held_settled index.new ≡ held_settled index.old }
+    ensures rises { OnOk result (RisesWithFacts index.old index.new) }
+    ensures standings { index.new.standings ≡ index.old.standings }
+    ensures touches { index_cost index.new ≤ index_cost index.old + 1 }
 {
     let place = place_of(session, Dir::FromClient, pdu);
     note_met(index, place, pdu.command, made)?;
@@ -188,6 +219,9 @@ pub(crate) fn note_of_centre(
         → OnOk result (IsHeldAfter s (held_now index.old)
         (noted_moves (from_session session) FromCentre pdu.now made) (held_now index.new)) }
     ensures settled { held_settled index.new ≡ held_settled index.old }
+    ensures rises { OnOk result (RisesWithFacts index.old index.new) }
+    ensures standings { index.new.standings ≡ index.old.standings }
+    ensures touches { index_cost index.new ≤ index_cost index.old + 1 }
 {
     let place = place_of(session, Dir::FromCentre, pdu);
     note_met(index, place, pdu.command, made)?;
@@ -207,6 +241,9 @@ pub(crate) fn note_broken(
         → OnOk result (IsHeldAfter s (held_now index.old)
         (broken_moves (from_session session) dir tail.now) (held_now index.new)) }
     ensures settled { held_settled index.new ≡ held_settled index.old }
+    ensures rises { OnOk result (RisesWithFacts index.old index.new) }
+    ensures standings { index.new.standings ≡ index.old.standings }
+    ensures touches { index_cost index.new ≤ index_cost index.old }
 {
     let Some(offset) = tail.broken() else {
         return Ok(());

@@ -1,16 +1,18 @@
 //! One PDU more of a session: it makes a pair or waits for one, puts in the message or the delivery receipt that it is, and gives
 //! a message its response.
-ghost use Rattle.std.specs.Prelude.{◌≡◌, ◌≢◌, ℕ, List, [], ◌∷◌, ◌++◌, Some, None, OnOk};
+ghost use Rattle.std.specs.Prelude.{◌≡◌, ◌≢◌, ◌≤◌, ◌+◌, ◌*◌, ℕ, List, [], ◌∷◌, ◌++◌, Some, None, OnOk};
 ghost use Rattle.std.specs.FinMap as fin;
 ghost use Rattle.smq_kit.specs.declared.place.Dir.TheVariants.{FromClient, FromCentre};
 ghost use Rattle.smq_kit.specs.declared.names.SessionId.{SessionId as SessionIdOf};
+ghost use Rattle.smq_pair.specs.declared.pairing.Pair.{Pair as PairOf};
 ghost use Rattle.smq_pair.specs.Growth.{IsNext, made_by, pushed as pushed_pairs};
 ghost use Rattle.smq_book.specs.index.Held.{IsHeld, held_now, held_settled};
-ghost use Rattle.smq_book.specs.index.Pairs.{pairs_now, pairs_settled};
+ghost use Rattle.smq_book.specs.index.Pairs.{pairs_now, pairs_pending, pairs_settled};
+ghost use Rattle.smq_book.specs.index.Touches.{HasNoneVacant, MembersCome, RisesWithFacts, answered_key, index_cost, members_at, pairs_cost, pdu_load, receipt_key_at};
 ghost use Rattle.smq_book.specs.index.Pushed as pushed;
 ghost use Rattle.smq_book.specs.index.Pushed.{IsHeldAfter, answer_moves, centre_by, origin_at, pdu_moves, receipt_moves, said_by, submit_moves};
 ghost use Rattle.smq_book.specs.pairing.Traffic as traffic;
-ghost use Rattle.smq_book.specs.pairing.Traffic.{pairing_among, placed};
+ghost use Rattle.smq_book.specs.pairing.Traffic.{Message as MessageOf, pairing_among, placed};
 ghost use Rattle.smq_book.specs.declared.present.kept.KeptPdu.{KeptPdu as KeptPduOf};
 ghost use Rattle.smq_book.specs.within.Pairs.{Rises, SubmitsAreRequests, from_session};
 
@@ -88,6 +90,12 @@ fn put_submit(
     ensures held { OnOk result (IsHeldAfter settings.now (held_now index.old)
         (submit_moves (origin_at session link) pdu.now response) (held_now index.new)) }
     ensures settled { held_settled index.new ≡ held_settled index.old }
+    ensures rises { OnOk result (RisesWithFacts index.old index.new) }
+    ensures came { OnOk result (MembersCome index.old.standings index.new.standings) }
+    ensures touches { let place = traffic.place_of (from_session session) FromClient pdu.now in
+        HasNoneVacant index.old.standings → OnOk result (index_cost index.new ≤ index_cost index.old + 43
+        + 15 * members_at index.new.standings.members
+        (fin.get index.new.standings.members.submits place)) }
 {
     let Some(submit) = pdu.content.submit() else {
         return Ok(());
@@ -120,11 +128,21 @@ pub(crate) fn push_of_client(
         (pdu_moves (origin_at session link) FromClient client centre.now pdu.now)
         (held_now index.new)) }
     ensures settled { held_settled index.new ≡ held_settled index.old }
+    ensures rises { OnOk result (RisesWithFacts index.old index.new) }
+    ensures pairs_counted { pairings.old.touches ≤ pairings.new.touches }
+    ensures came { OnOk result (MembersCome index.old.standings index.new.standings) }
+    ensures touches { HasNoneVacant index.old.standings
+        → OnOk result (index_cost index.new + pairs_cost pairings.new session.0
+        ≤ index_cost index.old + pairs_cost pairings.old session.0
+        + pdu_load index.new.standings.members (pairs_now pairings.new session.0)
+        (from_session session) FromClient pdu.now) }
     ensures pairs { OnOk result (pairs_now pairings.new session.0
         ≡ pushed_pairs (pairs_now pairings.old session.0)
         (placed (from_session session) FromClient pdu.now)) }
     ensures other_pairs { (number : ℕ) → number ≢ session.0
         → pairs_now pairings.new number ≡ pairs_now pairings.old number }
+    ensures other_pending { (number : ℕ) → number ≢ session.0
+        → pairs_pending pairings.new number ≡ pairs_pending pairings.old number }
     ensures settled_pairs { (number : ℕ)
         → pairs_settled pairings.new number ≡ pairs_settled pairings.old number }
 {
@@ -152,8 +170,7 @@ fn with_response(message: &StoredMessage, response: StoredResponse) -> StoredMes
     }
 }
 
-/// Puts the message at the request of a pair, if one is stored there, in anew with what its response says: in its place, where it
-/// had no response.
+/// Puts the message at the request of a pair, if one is stored there, in anew with what its response says. It had none.
 fn answer(
     index: &mut Index,
     settings: &Settings,
@@ -161,22 +178,24 @@ fn answer(
     response: &KeptPdu,
 ) -> Result<(), AllocError>
     requires held { IsHeld settings.now (held_now index.old) }
+    requires waits { (m : MessageOf) → fin.get (held_now index.old).messages pair.request ≡ Some m
+        → m.response ≡ None }
     ensures held { OnOk result (IsHeldAfter settings.now (held_now index.old)
         (answer_moves (held_now index.old).messages (Some pair) response.now)
         (held_now index.new)) }
     ensures settled { held_settled index.new ≡ held_settled index.old }
+    ensures rises { OnOk result (RisesWithFacts index.old index.new) }
+    ensures came { OnOk result (MembersCome index.old.standings index.new.standings) }
+    ensures touches { HasNoneVacant index.old.standings
+        → OnOk result (index_cost index.new ≤ index_cost index.old + 40
+        + 15 * members_at index.new.standings.members
+        (answered_key index.new.standings.members (Some pair))) }
 {
     let Some(message) = index.messages.get(&pair.request) else {
         return Ok(());
     };
     let answered = with_response(message, said(pair, response));
-    let is_first = message.response.is_none();
-    if is_first {
-        index.answer_message(settings, pair.request, answered)?;
-        return Ok(());
-    }
-    index.take_message(settings, pair.request)?;
-    index.put_message(settings, pair.request, answered)?;
+    index.answer_message(settings, pair.request, answered)?;
     Ok(())
 }
 
@@ -188,9 +207,17 @@ fn answer_made(
     response: &KeptPdu,
 ) -> Result<(), AllocError>
     requires held { IsHeld settings.now (held_now index.old) }
+    requires waits { (pair : PairOf) (m : MessageOf) → made ≡ Some pair
+        → fin.get (held_now index.old).messages pair.request ≡ Some m → m.response ≡ None }
     ensures held { OnOk result (IsHeldAfter settings.now (held_now index.old)
         (answer_moves (held_now index.old).messages made response.now) (held_now index.new)) }
     ensures settled { held_settled index.new ≡ held_settled index.old }
+    ensures rises { OnOk result (RisesWithFacts index.old index.new) }
+    ensures came { OnOk result (MembersCome index.old.standings index.new.standings) }
+    ensures touches { HasNoneVacant index.old.standings
+        → OnOk result (index_cost index.new ≤ index_cost index.old + 40
+        + 15 * members_at index.new.standings.members
+        (answered_key index.new.standings.members made)) }
 {
     match made {
         Some(pair) => answer(index, settings, pair, response),
@@ -212,6 +239,12 @@ fn put_received(
     ensures held { OnOk result (IsHeldAfter settings.now (held_now index.old)
         (receipt_moves (origin_at session link) pdu.now) (held_now index.new)) }
     ensures settled { held_settled index.new ≡ held_settled index.old }
+    ensures rises { OnOk result (RisesWithFacts index.old index.new) }
+    ensures came { OnOk result (MembersCome index.old.standings index.new.standings) }
+    ensures touches { let place = traffic.place_of (from_session session) FromCentre pdu.now in
+        HasNoneVacant index.old.standings → OnOk result (index_cost index.new ≤ index_cost index.old
+        + 43 * members_at index.new.standings.members
+        (receipt_key_at index.new.standings.members place)) }
 {
     let Some(receipt) = pdu.content.receipt() else {
         return Ok(());
@@ -239,17 +272,31 @@ pub(crate) fn push_of_centre(
         (traffic.place_of (from_session session) FromCentre pdu.now) ≡ None }
     requires next { IsNext (pairs_now pairings.old session.0)
         (traffic.place_of (from_session session) FromCentre pdu.now) }
+    requires waits { (pair : PairOf) (m : MessageOf)
+        → made_by (pairs_now pairings.old session.0) (placed (from_session session) FromCentre pdu.now)
+        ≡ Some pair
+        → fin.get (held_now index.old).messages pair.request ≡ Some m → m.response ≡ None }
     ensures held { OnOk result (IsHeldAfter settings.now (held_now index.old)
         (centre_by (origin_at session link) (held_now index.old).messages pdu.now
         (made_by (pairs_now pairings.old session.0)
         (placed (from_session session) FromCentre pdu.now)))
         (held_now index.new)) }
     ensures settled { held_settled index.new ≡ held_settled index.old }
+    ensures rises { OnOk result (RisesWithFacts index.old index.new) }
+    ensures pairs_counted { pairings.old.touches ≤ pairings.new.touches }
+    ensures came { OnOk result (MembersCome index.old.standings index.new.standings) }
+    ensures touches { HasNoneVacant index.old.standings
+        → OnOk result (index_cost index.new + pairs_cost pairings.new session.0
+        ≤ index_cost index.old + pairs_cost pairings.old session.0
+        + pdu_load index.new.standings.members (pairs_now pairings.new session.0)
+        (from_session session) FromCentre pdu.now) }
     ensures pairs { OnOk result (pairs_now pairings.new session.0
         ≡ pushed_pairs (pairs_now pairings.old session.0)
         (placed (from_session session) FromCentre pdu.now)) }
     ensures other_pairs { (number : ℕ) → number ≢ session.0
         → pairs_now pairings.new number ≡ pairs_now pairings.old number }
+    ensures other_pending { (number : ℕ) → number ≢ session.0
+        → pairs_pending pairings.new number ≡ pairs_pending pairings.old number }
     ensures settled_pairs { (number : ℕ)
         → pairs_settled pairings.new number ≡ pairs_settled pairings.old number }
 {

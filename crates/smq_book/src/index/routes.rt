@@ -8,7 +8,7 @@ ghost use Rattle.smq_tally.specs.declared.fact.Fact.{Fact as FactOf};
 ghost use Rattle.smq_book.specs.edits.Reached.{messages_under};
 ghost use Rattle.smq_book.specs.index.Held.{IsHeld, IsTraffic, held_by, held_now, held_settled, traffic_held};
 ghost use Rattle.smq_book.specs.index.Refreshed.{refreshed};
-ghost use Rattle.smq_book.specs.index.Touches.{index_cost, touches_in};
+ghost use Rattle.smq_book.specs.index.Touches.{RisesWithFacts, index_cost, touches_in};
 ghost use Rattle.smq_book.specs.join.Facts.{facts_of};
 ghost use Rattle.smq_book.specs.pairing.Traffic.{TrafficValue};
 ghost use Rattle.smq_book.specs.present.Settings.{SettingsValue, with_versions};
@@ -38,8 +38,9 @@ pub(crate) fn set_routes(
     ensures settled { held_settled index.new ≡ held_settled index.old }
     ensures touches { OnOk result (index_cost index.new ≤ index_cost index.old + 1
         + vacancies index.old.numbers prefix.now
-        + 7 * length (places_under index.old.numbers.numbers prefix.now)) }
+        + 15 * length (places_under index.old.numbers.numbers prefix.now)) }
     ensures counted { touches_in index.old ≤ touches_in index.new }
+    ensures rises { OnOk result (RisesWithFacts index.old index.new) }
 {
     let places = index.numbers.under(prefix)?;
     refresh_at(index, routes, windows, clock, places.as_slice())?;
@@ -58,11 +59,13 @@ pub(crate) fn refresh_at(
         → IsTraffic t → z.versions ≡ routes.now.versions → z.windows ≡ windows.now → z.clock ≡ clock
         → held_now index.old ≡ held_by z t facts
         → OnOk result (held_now index.new ≡ held_by z t (refreshed z t facts places.now)) }
+    ensures traffic { OnOk result (traffic_held (held_now index.new) ≡ traffic_held (held_now index.old)) }
     ensures none { places.now ≡ [] → result ≡ Ok tt }
     ensures settled { held_settled index.new ≡ held_settled index.old }
     ensures touches { OnOk result
-        (index_cost index.new ≤ index_cost index.old + 6 * length places.now) }
+        (index_cost index.new ≤ index_cost index.old + 14 * length places.now) }
     ensures counted { touches_in index.old ≤ touches_in index.new }
+    ensures rises { OnOk result (RisesWithFacts index.old index.new) }
 {
     for place in places {
         index.refresh_by(routes, windows, clock, *place)?;

@@ -1,25 +1,34 @@
-//! What a window changes: the facts of the messages of its link whose receipts are due, the open and the lapsed ones.
-ghost use Rattle.std.specs.Prelude.{◌≡◌, ◌≤◌, ◌+◌, ◌*◌, length, IfOk, OnOk};
+//! What a window changes: the ends and the facts of the messages of its link whose receipts are due, the open and the lapsed ones.
+ghost use Rattle.std.specs.Prelude.{◌≡◌, ◌≢◌, ◌≤◌, ◌+◌, ◌++◌, ◌∷◌, ◌*◌, [], filter, find, length, map, IfOk, OnOk};
 ghost use Rattle.std.specs.FinMap as fin;
+ghost use Rattle.std.specs.List.Sorted.{IsStrictlySortedBy};
+ghost use Rattle.std.specs.Map.{keys_of};
 ghost use Rattle.smq_kit.specs.Maps.{SameOutside};
+ghost use Rattle.smq_kit.specs.declared.names.LinkId.{LinkId as LinkIdOf};
+ghost use Rattle.smq_shelf.specs.Places.{content_of, places_of};
 ghost use Rattle.smq_book.specs.edits.Reached.{messages_due_on};
-ghost use Rattle.smq_book.specs.index.Due.{places_due_on};
-ghost use Rattle.smq_book.specs.index.Held.{IsHeld, dues_in, held_now, held_settled, traffic_held};
-ghost use Rattle.smq_book.specs.index.Touches.{index_cost, touches_in};
+ghost use Rattle.smq_book.specs.index.Due.{keys_on, places_due_on};
+ghost use Rattle.smq_book.specs.index.DueKeys.{kept_due_cmp};
+ghost use Rattle.smq_book.specs.index.DueWalks.{filled, is_on, is_past};
+ghost use Rattle.smq_book.specs.index.Ends.{ends_put, ends_taken};
+ghost use Rattle.smq_book.specs.index.EndWalks.{IsWalked};
+ghost use Rattle.smq_book.specs.index.Held.{IsHeld, dues_in, ends_in, held_now, held_settled, traffic_held};
+ghost use Rattle.smq_book.specs.index.Touches.{HasNothingPending, RisesWithFacts, index_cost, kept_cost, touches_in};
 ghost use Rattle.smq_book.specs.join.Facts.{facts_of};
-ghost use Rattle.smq_book.specs.present.Settings.{SettingsValue, with_windows};
+ghost use Rattle.smq_book.specs.present.Settings.{SettingsValue, window_in, with_windows};
 
 use crate::index::due_at::DueAt;
-use crate::index::index::Index;
+use crate::index::end_at::EndAt;
+use crate::index::index::{Index, set_end};
 use crate::index::routes::refresh_at;
 use crate::present::windows::Windows;
-use smq_kit::{LinkId, Moment, Place};
+use smq_kit::{LinkId, Moment, Place, Window};
 use smq_route::Routes;
-use smq_shelf::KeptMap;
+use smq_shelf::{Kept, ShelfKey};
 use std::alloc::{AllocError, Global};
 
-/// Sets the facts of the messages of a link whose receipts are due anew, by windows that differ in that link alone. On an error
-/// what is held is of no use: the caller undoes it.
+/// Sets the ends and the facts of the messages of a link whose receipts are due anew, by windows that differ in that link alone, in
+/// which its window was another before. On an error what is held is of no use: the caller undoes it.
 pub(crate) fn set_window(
     alloc: Global,
     index: &mut Index,
@@ -27,9 +36,11 @@ pub(crate) fn set_window(
     windows: &Windows,
     clock: Moment,
     link: LinkId,
+    before: Window,
 ) -> Result<(), AllocError>
     ensures held { (s : SettingsValue) → s.versions ≡ routes.now.versions → s.clock ≡ clock
-        → IsHeld s (held_now index.old)
+        → IsHeld s (held_now index.old) → window_in s.windows link ≡ before
+        → ((l : LinkIdOf) → l ≢ link → window_in s.windows l ≡ window_in windows.now l)
         → (let traffic = traffic_held (held_now index.old) in
         SameOutside (fin.keys (messages_due_on link s traffic)) (facts_of s traffic)
         (facts_of (with_windows s windows.now) traffic))
@@ -37,29 +48,114 @@ pub(crate) fn set_window(
     ensures traffic { (s : SettingsValue) → IsHeld s (held_now index.old)
         → OnOk result (traffic_held (held_now index.new) ≡ traffic_held (held_now index.old)) }
     ensures settled { held_settled index.new ≡ held_settled index.old }
-    ensures touches { OnOk result (index_cost index.new
-        ≤ index_cost index.old + 6 * length (places_due_on link (dues_in index.old.due.content))) }
+    ensures touches { HasNothingPending index.old → OnOk result (index_cost index.new
+        ≤ index_cost index.old + 1 + 23 * length (places_due_on link (dues_in index.old.due.content))) }
     ensures counted { touches_in index.old ≤ touches_in index.new }
+    ensures rises { OnOk result (RisesWithFacts index.old index.new) }
 {
-    let places = due_places(alloc, &index.due, link)?;
+    let keys = due_on(alloc, &mut index.due, link)?;
+    take_ends(&mut index.ends, keys.as_slice(), before)?;
+    put_ends(&mut index.ends, keys.as_slice(), windows.of(link))?;
+    let places = places_of_keys(alloc, keys.as_slice())?;
     refresh_at(index, routes, windows, clock, places.as_slice())?;
     Ok(())
 }
 
-/// The places of the messages of a link whose receipts are due, by moment, then by place. No other link is looked at, but for the
-/// first key after it.
-fn due_places(
-    alloc: Global,
-    due: &KeptMap<DueAt, ()>,
-    link: LinkId,
-) -> Result<Vec<Place>, AllocError>
-    ensures { IfOk result (λ places. places.items ≡ places_due_on link (dues_in due.now.content)) }
+/// The keys of the messages of a link whose receipts are due, by moment, then by place. It looks at these alone, and at one more.
+fn due_on(alloc: Global, due: &mut Kept<DueAt, ()>, link: LinkId) -> Result<Vec<DueAt>, AllocError>
+    ensures value { IfOk result (λ keys. keys.items ≡ keys_on link (dues_in due.old.content)) }
+    ensures walked { IsWalked (1 + length (filter (is_on link) due.old.places)) due.old due.new }
+    ensures touches { due.old.places ≡ places_of due.old.content → IfOk result (λ keys.
+        due.new.touches ≤ due.old.touches + 1 + length keys.items) }
+{
+    let mut keys = Vec::new(alloc);
+    let mut next = first_due(due, link);
+    while let Some((found, value)) = next {
+        push_there(&mut keys, &found, value)?;
+        next = next_due(due, &found, link);
+    }
+    Ok(keys)
+}
+
+/// Puts a key at the end, unless its place is vacant.
+fn push_there(keys: &mut Vec<DueAt>, found: &DueAt, value: Option<()>) -> Result<(), AllocError>
+    ensures { OnOk result (keys.new.items ≡ keys.old.items ++ filled ((found.now, value) ∷ [])) }
+{
+    if value.is_some() {
+        keys.push(found.copy())?;
+    }
+    Ok(())
+}
+
+/// The first place of a link, vacant or not.
+fn first_due(due: &mut Kept<DueAt, ()>, link: LinkId) -> Option<(DueAt, Option<()>)>
+    ensures value { result ≡ find (is_on link) due.old.places }
+    ensures walked { IsWalked 1 due.old due.new }
+    ensures content { due.old.content ≡ content_of due.old.places }
+    ensures ordered { IsStrictlySortedBy kept_due_cmp (keys_of due.old.places) }
+{
+    match due.first_from(&DueAt::first_from(link, Moment::epoch())) {
+        Some((found, value)) => {
+            if found.link.0 == link.0 {
+                Some((found.copy(), value.copied()))
+            } else {
+                None
+            }
+        }
+        None => None,
+    }
+}
+
+/// The next place of a link after one of it, vacant or not.
+fn next_due(due: &mut Kept<DueAt, ()>, after: &DueAt, link: LinkId) -> Option<(DueAt, Option<()>)>
+    requires { after.now.link.0 ≡ link.0 }
+    ensures value { result ≡ find (is_past link after.now) due.old.places }
+    ensures walked { IsWalked 1 due.old due.new }
+{
+    match due.first_after(after) {
+        Some((found, value)) => {
+            if found.link.0 == link.0 {
+                Some((found.copy(), value.copied()))
+            } else {
+                None
+            }
+        }
+        None => None,
+    }
+}
+
+/// Takes the ends of messages that waited so long out.
+fn take_ends(ends: &mut Kept<EndAt, ()>, keys: &[DueAt], window: Window) -> Result<(), AllocError>
+    ensures value { OnOk result (ends_in ends.new.content ≡ ends_taken window (ends_in ends.old.content) keys.now) }
+    ensures settled { ends.new.settled ≡ ends.old.settled }
+    ensures touches { OnOk result (kept_cost ends.new ≤ kept_cost ends.old + 4 * length keys.now) }
+    ensures counted { ends.old.touches ≤ ends.new.touches }
+{
+    for key in keys {
+        set_end(ends, EndAt::of(key.moment, window, key.place), false)?;
+    }
+    Ok(())
+}
+
+/// Puts the ends of messages that wait so long in.
+fn put_ends(ends: &mut Kept<EndAt, ()>, keys: &[DueAt], window: Window) -> Result<(), AllocError>
+    ensures value { OnOk result (ends_in ends.new.content ≡ ends_put window (ends_in ends.old.content) keys.now) }
+    ensures settled { ends.new.settled ≡ ends.old.settled }
+    ensures touches { OnOk result (kept_cost ends.new ≤ kept_cost ends.old + 4 * length keys.now) }
+    ensures counted { ends.old.touches ≤ ends.new.touches }
+{
+    for key in keys {
+        set_end(ends, EndAt::of(key.moment, window, key.place), true)?;
+    }
+    Ok(())
+}
+
+/// The places of keys.
+fn places_of_keys(alloc: Global, keys: &[DueAt]) -> Result<Vec<Place>, AllocError>
+    ensures { IfOk result (λ places. places.items ≡ map (λ k. k.place) keys.now) }
 {
     let mut places = Vec::new(alloc);
-    for (key, _) in due.iter_from(&DueAt::first_from(link, Moment::epoch())) {
-        if key.link.0 != link.0 {
-            return Ok(places);
-        }
+    for key in keys {
         places.push(key.place)?;
     }
     Ok(places)

@@ -1,11 +1,14 @@
 //! What a withdrawal takes out: the messages, the delivery receipts and the notes of its session.
-ghost use Rattle.std.specs.Prelude.{◌≡◌, ℕ, OnOk, Some};
+ghost use Rattle.std.specs.Prelude.{◌≡◌, ◌≤◌, ◌+◌, ℕ, length, OnOk, Some};
+ghost use Rattle.std.specs.List.{sum_by};
 ghost use Rattle.std.specs.FinMap as fin;
 ghost use Rattle.smq_book.specs.index.Held.{IsHeld, held_now, held_settled, traffic_held};
-ghost use Rattle.smq_book.specs.index.Pairs.{pairs_now, pairs_settled};
+ghost use Rattle.smq_book.specs.index.Pairs.{pairs_now, pairs_pending, pairs_settled};
 ghost use Rattle.smq_book.specs.index.Pushed.{IsHeldAfter};
 ghost use Rattle.smq_book.specs.index.Taken.{AllTraffic, note_takes, receipt_take, receipt_takes, submit_take, submit_takes};
-ghost use Rattle.smq_book.specs.pairing.Traffic.{session_pairing, traffic_of};
+ghost use Rattle.smq_book.specs.index.Touches.{MembersGo, RisesWithFacts, index_cost, message_load, receipt_load};
+ghost use Rattle.smq_book.specs.pairing.Traffic.{session_notes, session_pairing, traffic_of};
+ghost use Rattle.smq_book.specs.present.Kept.{kept_pdus};
 ghost use Rattle.smq_book.specs.present.Settings.{SettingsValue};
 ghost use Rattle.smq_book.specs.within.Pairs.{from_session};
 
@@ -33,8 +36,16 @@ pub(crate) fn withdraw(
     ensures traffic { OnOk result (traffic_held (held_now index.new)
         ≡ traffic_of (fin.remove present.now.sessions number.0)) }
     ensures settled { held_settled index.new ≡ held_settled index.old }
+    ensures rises { OnOk result (RisesWithFacts index.old index.new) }
     ensures pairs { (other : ℕ) → pairs_now pairings.new other ≡ pairs_now pairings.old other }
     ensures settled_pairs { (other : ℕ) → pairs_settled pairings.new other ≡ pairs_settled pairings.old other }
+    ensures pending_pairs { (other : ℕ) → pairs_pending pairings.new other ≡ pairs_pending pairings.old other }
+    ensures touches { let g = index.old.standings in let origin = from_session number in
+        OnOk result (index_cost index.new ≤ index_cost index.old
+        + sum_by (message_load g origin) (kept_pdus session.now.client)
+        + sum_by (receipt_load g origin) (kept_pdus session.now.centre)
+        + length (session_notes (number.0, session.now))) }
+    ensures pairs_touches { pairings.new.touches ≡ pairings.old.touches }
 {
     let settings = present.settings();
     take_messages(index, settings, number, session.client.pdus())?;
@@ -56,6 +67,10 @@ fn take_messages(
     ensures held { OnOk result (IsHeldAfter settings.now (held_now index.old)
         (submit_takes (from_session number) client.now) (held_now index.new)) }
     ensures settled { held_settled index.new ≡ held_settled index.old }
+    ensures rises { OnOk result (RisesWithFacts index.old index.new) }
+    ensures went { OnOk result (MembersGo index.old.standings index.new.standings) }
+    ensures touches { OnOk result (index_cost index.new ≤ index_cost index.old
+        + sum_by (message_load index.old.standings (from_session number)) client.now) }
 {
     for pdu in client {
         take_submit(index, settings, number, pdu)?;
@@ -74,6 +89,10 @@ fn take_submit(
     ensures held { OnOk result (IsHeldAfter settings.now (held_now index.old)
         (submit_take (from_session number) pdu.now) (held_now index.new)) }
     ensures settled { held_settled index.new ≡ held_settled index.old }
+    ensures rises { OnOk result (RisesWithFacts index.old index.new) }
+    ensures went { OnOk result (MembersGo index.old.standings index.new.standings) }
+    ensures touches { OnOk result (index_cost index.new ≤ index_cost index.old
+        + message_load index.old.standings (from_session number) pdu.now) }
 {
     let Some(_) = pdu.content.submit() else {
         return Ok(());
@@ -93,6 +112,10 @@ fn take_receipts(
     ensures held { OnOk result (IsHeldAfter settings.now (held_now index.old)
         (receipt_takes (from_session number) centre.now) (held_now index.new)) }
     ensures settled { held_settled index.new ≡ held_settled index.old }
+    ensures rises { OnOk result (RisesWithFacts index.old index.new) }
+    ensures went { OnOk result (MembersGo index.old.standings index.new.standings) }
+    ensures touches { OnOk result (index_cost index.new ≤ index_cost index.old
+        + sum_by (receipt_load index.old.standings (from_session number)) centre.now) }
 {
     for pdu in centre {
         take_received(index, settings, number, pdu)?;
@@ -111,6 +134,10 @@ fn take_received(
     ensures held { OnOk result (IsHeldAfter settings.now (held_now index.old)
         (receipt_take (from_session number) pdu.now) (held_now index.new)) }
     ensures settled { held_settled index.new ≡ held_settled index.old }
+    ensures rises { OnOk result (RisesWithFacts index.old index.new) }
+    ensures went { OnOk result (MembersGo index.old.standings index.new.standings) }
+    ensures touches { OnOk result (index_cost index.new ≤ index_cost index.old
+        + receipt_load index.old.standings (from_session number) pdu.now) }
 {
     let Some(_) = pdu.content.receipt() else {
         return Ok(());
@@ -126,6 +153,8 @@ fn take_notes(index: &mut Index, notes: &[Listed]) -> Result<(), AllocError>
         → OnOk result (IsHeldAfter s (held_now index.old)
         (note_takes notes.now) (held_now index.new)) }
     ensures settled { held_settled index.new ≡ held_settled index.old }
+    ensures rises { OnOk result (RisesWithFacts index.old index.new) }
+    ensures touches { OnOk result (index_cost index.new ≤ index_cost index.old + length notes.now) }
 {
     for note in notes {
         index.take_note(note.list, note.place)?;

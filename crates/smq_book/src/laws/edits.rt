@@ -49,6 +49,7 @@ ghost use Rattle.smq_book.specs.edits.Told.{circumstances_told, is_list_told, to
 ghost use Rattle.smq_book.specs.edits.Withdrawn.{withdrawal_moves};
 ghost use Rattle.smq_book.specs.known.Appended.{KnownAppendNotes};
 ghost use Rattle.smq_book.specs.known.Reach.{KnownReach};
+ghost use Rattle.smq_book.specs.known.Touches.{KnownTouches};
 ghost use Rattle.smq_book.specs.edits.Reach.{link_places, members, reach};
 
 /// An edit of routes changes no fact but those of messages whose numbers its prefix begins, and no note.
@@ -382,6 +383,12 @@ pub fn edits_change_as_few_places_as_they_reach()
 /// clock; and what is of its link.
 pub fn known_edits_reach_so_much()
     ensures { KnownReach }
+{}
+
+/// How many touches edits of a book of one message add at most: its submit_sm, its response, a clock before its window ends and
+/// one at the end, a window, and a withdrawal.
+pub fn known_edits_touch_so_often()
+    ensures { KnownTouches }
 {}
 
 /// What batches put into the notes and take out: a submit_sm, its response, one as another command, a stray, a response before

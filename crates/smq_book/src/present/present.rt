@@ -2,14 +2,16 @@
 //!
 //! Who changes what an edit does tests all that refuses it first, in the order of specs/present/Replies.antt. Then what is
 //! stored takes it, which can be undone, and last what is present: so a refused edit changes nothing.
-ghost use Rattle.std.specs.Prelude.{◌≡◌, ◌≢◌, ℕ, [], None, Err, OnOk, option_copied};
+ghost use Rattle.std.specs.Prelude.{◌≡◌, ◌≢◌, ◌≤◌, ◌+◌, ◌*◌, ℕ, [], None, Err, OnOk, option_copied};
 ghost use Rattle.std.specs.FinMap as map;
 ghost use Rattle.std.specs.Map.Iter.{ShowsInOrder, deref_pair};
+ghost use Rattle.smq_book.specs.edits.Reach.{reach};
 ghost use Rattle.smq_book.specs.edits.Reached.{due_by};
 ghost use Rattle.smq_book.specs.index.Held.{IsHeld, held_now, held_settled, traffic_held};
 ghost use Rattle.smq_book.specs.declared.index.pairings.Pairings.{Pairings as PairingsOf};
 ghost use Rattle.smq_book.specs.index.Kept.{IsKept};
-ghost use Rattle.smq_book.specs.index.Pairs.{pairs_now, pairs_settled};
+ghost use Rattle.smq_book.specs.index.Pairs.{pairs_now, pairs_pending, pairs_settled};
+ghost use Rattle.smq_book.specs.index.Touches.{HasNothingPending, RisesWithFacts, index_cost, touches_in};
 ghost use Rattle.smq_book.specs.pairing.Traffic.{traffic_of};
 ghost use Rattle.smq_book.specs.within.InOrder.{sessions_in};
 ghost use Rattle.smq_book.specs.present.Present.{empty, session_of};
@@ -140,6 +142,11 @@ impl Present {
         ensures reply { IsReply (reply self.old (Edit.Append batch)) result
             (self.new ≡ change self.old (Edit.Append batch)) (self.new ≡ self.old) }
         ensures kept { IsKept self.new index.new pairings.new }
+        ensures touches { OnOk result (index_cost index.new + pairings.new.touches
+            ≤ index_cost index.old + pairings.old.touches
+            + 64 * (1 + reach self.old (Edit.Append batch))) }
+        ensures rises { OnOk result (RisesWithFacts index.old index.new) }
+        ensures pairs_counted { OnOk result (pairings.old.touches ≤ pairings.new.touches) }
     {
         let session = batch.session;
         if let Some(refusal) = self.append_refusal(alloc, &batch) {
@@ -172,6 +179,11 @@ impl Present {
         ensures reply { IsReply (reply self.old (Edit.Withdraw session)) result
             (self.new ≡ change self.old (Edit.Withdraw session)) (self.new ≡ self.old) }
         ensures kept { IsKept self.new index.new pairings.new }
+        ensures touches { OnOk result (index_cost index.new + pairings.new.touches
+            ≤ index_cost index.old + pairings.old.touches
+            + 64 * (1 + reach self.old (Edit.Withdraw session))) }
+        ensures rises { OnOk result (RisesWithFacts index.old index.new) }
+        ensures pairs_counted { OnOk result (pairings.old.touches ≤ pairings.new.touches) }
     {
         let found = match self.sessions.get(&session.0) {
             Some(found) => found,
@@ -207,6 +219,10 @@ impl Present {
         ensures settled { held_settled index.new ≡ held_now index.new }
         ensures kept { (pairings : PairingsOf) → IsKept self.old index.old pairings
             → IsKept self.new index.new pairings }
+        ensures touches { (pairings : PairingsOf) → IsKept self.old index.old pairings
+            → OnOk result (index_cost index.new ≤ index_cost index.old
+            + 64 * (1 + reach self.old (Edit.SetForm link forms.response forms.receipt))) }
+        ensures rises { OnOk result (RisesWithFacts index.old index.new) }
     {
         let Ok(()) = self.change_forms(alloc, index, link, forms) else {
             index.undo();
@@ -234,6 +250,10 @@ impl Present {
         ensures traffic { OnOk result
             (traffic_held (held_now index.new) ≡ traffic_held (held_now index.old)) }
         ensures settled { held_settled index.new ≡ held_settled index.old }
+        ensures touches { (pairings : PairingsOf) → IsKept self.old index.old pairings
+            → OnOk result (index_cost index.new ≤ index_cost index.old
+            + 64 * (1 + reach self.old (Edit.SetForm link forms.response forms.receipt))) }
+        ensures rises { OnOk result (RisesWithFacts index.old index.new) }
     {
         let Ok(taken) = take_link(alloc, index, self, link) else {
             return Err(Refusal::Memory);
@@ -266,6 +286,11 @@ impl Present {
         ensures settled { held_settled index.new ≡ held_now index.new }
         ensures kept { (pairings : PairingsOf) → IsKept self.old index.old pairings
             → IsKept self.new index.new pairings }
+        ensures touches { (pairings : PairingsOf) → IsKept self.old index.old pairings
+            → OnOk result (index_cost index.new ≤ index_cost index.old
+            + 64 * (1 + reach self.old (Edit.SetWindow link window))) }
+        ensures counted { touches_in index.old ≤ touches_in index.new }
+        ensures rises { OnOk result (RisesWithFacts index.old index.new) }
     {
         self.settings.set_window(alloc, index, link, window)
     }
@@ -289,6 +314,11 @@ impl Present {
         ensures settled { held_settled index.new ≡ held_now index.new }
         ensures kept { (pairings : PairingsOf) → IsKept self.old index.old pairings
             → IsKept self.new index.new pairings }
+        ensures touches { (pairings : PairingsOf) → IsKept self.old index.old pairings
+            → OnOk result (index_cost index.new ≤ index_cost index.old
+            + 64 * (1 + reach self.old (Edit.AddRoute prefix from route network))) }
+        ensures counted { touches_in index.old ≤ touches_in index.new }
+        ensures rises { OnOk result (RisesWithFacts index.old index.new) }
     {
         self.settings.add_route(index, prefix, from, route, network)
     }
@@ -311,6 +341,11 @@ impl Present {
         ensures settled { held_settled index.new ≡ held_now index.new }
         ensures kept { (pairings : PairingsOf) → IsKept self.old index.old pairings
             → IsKept self.new index.new pairings }
+        ensures touches { (pairings : PairingsOf) → IsKept self.old index.old pairings
+            → OnOk result (index_cost index.new ≤ index_cost index.old
+            + 64 * (1 + reach self.old (Edit.EndRoute prefix.now from until))) }
+        ensures counted { touches_in index.old ≤ touches_in index.new }
+        ensures rises { OnOk result (RisesWithFacts index.old index.new) }
     {
         self.settings.end_route(index, prefix, from, until)
     }
@@ -334,6 +369,11 @@ impl Present {
         ensures settled { held_settled index.new ≡ held_now index.new }
         ensures kept { (pairings : PairingsOf) → IsKept self.old index.old pairings
             → IsKept self.new index.new pairings }
+        ensures touches { (pairings : PairingsOf) → IsKept self.old index.old pairings
+            → OnOk result (index_cost index.new ≤ index_cost index.old
+            + 64 * (1 + reach self.old (Edit.CorrectRoute prefix.now from route network))) }
+        ensures counted { touches_in index.old ≤ touches_in index.new }
+        ensures rises { OnOk result (RisesWithFacts index.old index.new) }
     {
         self.settings
             .correct_route(index, prefix, from, route, network)
@@ -355,6 +395,11 @@ impl Present {
         ensures settled { held_settled index.new ≡ held_now index.new }
         ensures kept { (pairings : PairingsOf) → IsKept self.old index.old pairings
             → IsKept self.new index.new pairings }
+        ensures touches { (pairings : PairingsOf) → IsKept self.old index.old pairings
+            → OnOk result (index_cost index.new ≤ index_cost index.old
+            + 64 * (1 + reach self.old (Edit.Advance clock))) }
+        ensures counted { touches_in index.old ≤ touches_in index.new }
+        ensures rises { OnOk result (RisesWithFacts index.old index.new) }
         ensures none { map.keys (due_by self.old.settings (traffic_held (held_now index.old)) clock) ≡ []
             → result ≢ Err Refusal.Memory }
     {
@@ -371,6 +416,10 @@ fn undo(index: &mut Index, pairings: &mut Pairings, session: SessionId)
         → pairs_now pairings.new number ≡ pairs_now pairings.old number }
     ensures settled_pairs { (number : ℕ)
         → pairs_settled pairings.new number ≡ pairs_settled pairings.old number }
+    ensures pending { HasNothingPending index.new }
+    ensures pending_pairs { pairs_pending pairings.new session.0 ≡ 0 }
+    ensures other_pending { (number : ℕ) → number ≢ session.0
+        → pairs_pending pairings.new number ≡ pairs_pending pairings.old number }
 {
     index.undo();
     pairings.undo(session);

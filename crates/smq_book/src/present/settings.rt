@@ -1,13 +1,17 @@
 //! What is set: for the sessions of links, for the numbers that prefixes begin, and the clock.
-ghost use Rattle.std.specs.Prelude.{◌≡◌, ◌≢◌, ℕ, [], Err, IfErr, IfOk, IsSome, MatchResult, OnOk};
+ghost use Rattle.std.specs.Prelude.{◌≡◌, ◌≢◌, ◌≤◌, ◌+◌, ◌*◌, ℕ, [], length, Err, IfErr, IfOk, IsSome, MatchResult, OnOk};
 ghost use Rattle.std.specs.FinMap as map;
 ghost use Rattle.std.specs.Map.Iter.{ShowsInOrder, deref_pair};
 ghost use Rattle.smq_kit.specs.Maps.{SameOutside, set_at};
 ghost use Rattle.smq_kit.specs.Replies.{IsReply, first_of};
 ghost use Rattle.smq_route.specs.Edits.{add_refusals, end_refusals, correct_refusals, added, changed, ending, corrected};
+ghost use Rattle.smq_route.specs.Numbers.{places_under, vacancies};
 ghost use Rattle.smq_route.specs.Versions.{AreApart, version_of, route_at};
 ghost use Rattle.smq_book.specs.edits.Reached.{due_by, messages_under};
-ghost use Rattle.smq_book.specs.index.Held.{IsHeld, held_now, held_settled, traffic_held};
+ghost use Rattle.smq_book.specs.index.Due.{places_due_on};
+ghost use Rattle.smq_book.specs.index.Ends.{places_ending};
+ghost use Rattle.smq_book.specs.index.Held.{IsHeld, dues_in, ends_in, held_now, held_settled, traffic_held};
+ghost use Rattle.smq_book.specs.index.Touches.{HasNothingPending, RisesWithFacts, index_cost, touches_in};
 ghost use Rattle.smq_book.specs.join.Facts.{facts_of};
 ghost use Rattle.smq_book.specs.present.Replies.{clock_back};
 ghost use Rattle.smq_book.specs.join.Circumstances.{window_of};
@@ -192,9 +196,23 @@ impl Settings {
         ensures held { IsHeld self.new (held_now index.new) }
         ensures traffic { traffic_held (held_now index.new) ≡ traffic_held (held_now index.old) }
         ensures settled { held_settled index.new ≡ held_now index.new }
+        ensures pending { HasNothingPending index.old → HasNothingPending index.new }
+        ensures touches { HasNothingPending index.old → OnOk result (index_cost index.new ≤ index_cost index.old + 1
+            + 23 * length (places_due_on link (dues_in index.old.due.content))) }
+        ensures counted { touches_in index.old ≤ touches_in index.new }
+        ensures rises { OnOk result (RisesWithFacts index.old index.new) }
     {
+        let waited = self.windows.of(link);
         let before = self.windows.set(link, window)?;
-        let Ok(()) = set_window(alloc, index, &self.routes, &self.windows, self.clock, link) else {
+        let Ok(()) = set_window(
+            alloc,
+            index,
+            &self.routes,
+            &self.windows,
+            self.clock,
+            link,
+            waited,
+        ) else {
             self.windows.restore(link, before);
             index.undo();
             return Err(Refusal::Memory);
@@ -222,6 +240,12 @@ impl Settings {
         ensures held { IsHeld self.new (held_now index.new) }
         ensures traffic { traffic_held (held_now index.new) ≡ traffic_held (held_now index.old) }
         ensures settled { held_settled index.new ≡ held_now index.new }
+        ensures pending { HasNothingPending index.old → HasNothingPending index.new }
+        ensures touches { OnOk result (index_cost index.new ≤ index_cost index.old + 1
+            + vacancies index.old.numbers prefix
+            + 15 * length (places_under index.old.numbers.numbers prefix)) }
+        ensures counted { touches_in index.old ≤ touches_in index.new }
+        ensures rises { OnOk result (RisesWithFacts index.old index.new) }
     {
         let under = prefix.copy();
         self.routes.add(prefix, from, route, network)?;
@@ -245,6 +269,12 @@ impl Settings {
         ensures held { IsHeld self.new (held_now index.new) }
         ensures traffic { traffic_held (held_now index.new) ≡ traffic_held (held_now index.old) }
         ensures settled { held_settled index.new ≡ held_now index.new }
+        ensures pending { HasNothingPending index.old → HasNothingPending index.new }
+        ensures touches { OnOk result (index_cost index.new ≤ index_cost index.old + 1
+            + vacancies index.old.numbers prefix.now
+            + 15 * length (places_under index.old.numbers.numbers prefix.now)) }
+        ensures counted { touches_in index.old ≤ touches_in index.new }
+        ensures rises { OnOk result (RisesWithFacts index.old index.new) }
     {
         self.routes.end(prefix, from, until)?;
         follow(&mut self.routes, index, &self.windows, self.clock, prefix)
@@ -269,6 +299,12 @@ impl Settings {
         ensures held { IsHeld self.new (held_now index.new) }
         ensures traffic { traffic_held (held_now index.new) ≡ traffic_held (held_now index.old) }
         ensures settled { held_settled index.new ≡ held_now index.new }
+        ensures pending { HasNothingPending index.old → HasNothingPending index.new }
+        ensures touches { OnOk result (index_cost index.new ≤ index_cost index.old + 1
+            + vacancies index.old.numbers prefix.now
+            + 15 * length (places_under index.old.numbers.numbers prefix.now)) }
+        ensures counted { touches_in index.old ≤ touches_in index.new }
+        ensures rises { OnOk result (RisesWithFacts index.old index.new) }
     {
         self.routes.correct(prefix, from, route, network)?;
         follow(&mut self.routes, index, &self.windows, self.clock, prefix)
@@ -289,6 +325,11 @@ impl Settings {
         ensures held { IsHeld self.new (held_now index.new) }
         ensures traffic { traffic_held (held_now index.new) ≡ traffic_held (held_now index.old) }
         ensures settled { held_settled index.new ≡ held_now index.new }
+        ensures pending { HasNothingPending index.old → HasNothingPending index.new }
+        ensures touches { HasNothingPending index.old → OnOk result (index_cost index.new ≤ index_cost index.old + 1
+            + 15 * length (places_ending self.old.clock clock (ends_in index.old.ends.content))) }
+        ensures counted { touches_in index.old ≤ touches_in index.new }
+        ensures rises { OnOk result (RisesWithFacts index.old index.new) }
         ensures none { map.keys (due_by self.old (traffic_held (held_now index.old)) clock) ≡ []
             → result ≢ Err Refusal.Memory }
     {
@@ -329,6 +370,12 @@ fn follow(
         × ((held_now index.new ≡ held_settled index.old)
         × (held_settled index.new ≡ held_settled index.old)))) }
     ensures settled { routes.new.settled ≡ routes.new.versions }
+    ensures pending { HasNothingPending index.new }
+    ensures touches { OnOk result (index_cost index.new ≤ index_cost index.old + 1
+        + vacancies index.old.numbers prefix.now
+        + 15 * length (places_under index.old.numbers.numbers prefix.now)) }
+    ensures counted { touches_in index.old ≤ touches_in index.new }
+    ensures rises { OnOk result (RisesWithFacts index.old index.new) }
 {
     if set_routes(index, routes, windows, clock, prefix).is_err() {
         routes.undo();

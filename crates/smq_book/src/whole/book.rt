@@ -1,7 +1,7 @@
 //! The book: it makes an edit or refuses it, and hands out the tables of what is present.
-ghost use Rattle.std.specs.Prelude.{◌≡◌, ◌≢◌, ℕ, [], ◌∷◌, Err, IfOk, MatchResult};
+ghost use Rattle.std.specs.Prelude.{◌≡◌, ◌≢◌, ◌≤◌, ◌+◌, ◌-◌, ◌^◌, ℕ, [], ◌∷◌, Err, IfOk, MatchResult, OnOk};
 ghost use Rattle.smq_kit.specs.Replies.{IsReply};
-ghost use Rattle.smq_book.specs.edits.Reach.{reach};
+ghost use Rattle.smq_book.specs.edits.Reach.{most_touches, reach};
 ghost use Rattle.smq_book.specs.present.Present.{empty, tail_in};
 ghost use Rattle.smq_book.specs.present.Replies.{reply};
 ghost use Rattle.smq_book.specs.whole.Scratch.{scratch};
@@ -67,11 +67,17 @@ impl Book {
     /// and where its end isn't after the beginning (`BadEnd`). A `CorrectRoute` is refused where no version has its prefix
     /// and beginning (`NoRoute`), and an `Advance` where its clock is below the present one (`ClockBack`). Each of them, a
     /// `SetForm` and a `SetWindow` are refused last for want of memory (`Memory`): an `Advance` that lapses no message never is.
+    /// An edit that is made adds at most 64 touches for each that it reaches, and 64 more; one at least where a count of a view
+    /// differs after it, unless they stand at the greatest u64.
     pub fn apply(&mut self, edit: Edit) -> Result<(), Refusal>
         ensures reply { IsReply (reply self.old.present edit) result
             (self.new.present ≡ step self.old.present edit) (self.new.present ≡ self.old.present) }
         ensures unreached { (clock : ℕ) → edit ≡ Edit.Advance clock → reach self.old.present edit ≡ 0
             → result ≢ Err Refusal.Memory }
+        ensures touches { OnOk result
+            (self.new.touches ≤ self.old.touches + most_touches self.old.present edit) }
+        ensures touched { (scratch self.new.present).counts ≢ (scratch self.old.present).counts
+            → self.old.touches ≢ 2 ^ 64 - 1 → 1 + self.old.touches ≤ self.new.touches }
     {
         self.kept.apply(edit)
     }
@@ -104,7 +110,7 @@ impl Book {
         }
     }
 
-    /// How often the shelves of what it stores were touched: of pairs, groups, facts and numbers, those of sessions that were
+    /// How often the shelves of what it stores were touched: of pairs, groups, facts, numbers and deadlines, those of sessions that were
     /// withdrawn and of refused edits among them. It stays at the greatest u64 once it is there.
     pub fn touches(&self) -> u64
         ensures { result ≡ self.now.touches }

@@ -1,8 +1,8 @@
 //! What a book keeps: what is present, and what is stored of it, which each edit keeps current. A type of its own has the sentence
 //! that ties both, so that who holds a book carries nothing of it.
-ghost use Rattle.std.specs.Prelude.{◌≡◌, ◌≢◌, ℕ, Err};
+ghost use Rattle.std.specs.Prelude.{◌≡◌, ◌≢◌, ◌≤◌, ◌+◌, ◌-◌, ◌^◌, ℕ, Err, OnOk};
 ghost use Rattle.smq_kit.specs.Replies.{IsReply};
-ghost use Rattle.smq_book.specs.edits.Reach.{reach};
+ghost use Rattle.smq_book.specs.edits.Reach.{most_touches, reach};
 ghost use Rattle.smq_book.specs.present.Present.{empty, tail_in};
 ghost use Rattle.smq_book.specs.present.Replies.{reply};
 ghost use Rattle.smq_book.specs.present.Steps.{step};
@@ -81,6 +81,10 @@ impl KeptBook {
             (self.new.present ≡ step self.old.present edit) (self.new.present ≡ self.old.present) }
         ensures unreached { (clock : ℕ) → edit ≡ Edit.Advance clock → reach self.old.present edit ≡ 0
             → result ≢ Err Refusal.Memory }
+        ensures touches { OnOk result
+            (self.new.touches ≤ self.old.touches + most_touches self.old.present edit) }
+        ensures touched { (scratch self.new.present).counts ≢ (scratch self.old.present).counts
+            → self.old.touches ≢ 2 ^ 64 - 1 → 1 + self.old.touches ≤ self.new.touches }
     {
         let KeptBook {
             alloc,

@@ -56,7 +56,7 @@ fn push_parts(octets: &mut Vec<u8>, parts: &[&[u8]]) -> Result<(), AllocError> {
 }
 
 /// Puts a PDU of this header, with these parts as its body, after some octets.
-fn push_pdu(
+pub(crate) fn push_pdu(
     octets: &mut Vec<u8>,
     command: u32,
     status: u32,
@@ -83,7 +83,7 @@ fn push_submit(
     push_pdu(octets, 0x0000_0004, 0, seq, parts)
 }
 
-fn push_deliver(
+pub(crate) fn push_deliver(
     octets: &mut Vec<u8>,
     seq: u32,
     esm_class: u8,

@@ -23,11 +23,13 @@ use Rattle.smq_book.specs.join.Facts.{facts_of}
 use Rattle.smq_book.specs.join.Keyed.{grouping_of}
 use Rattle.smq_book.specs.join.Listings.{notes_of}
 use Rattle.smq_book.specs.edits.Reached.{due_by, messages_due_on, messages_under}
-use Rattle.smq_book.specs.index.Due.{due_of, places_due_on, places_ending}
+use Rattle.smq_book.specs.index.Due.{due_of, places_due_on}
+use Rattle.smq_book.specs.index.Ends.{ends_of, places_ending}
 use Rattle.smq_book.specs.index.Numbered.{numbers_of}
 use Rattle.smq_book.proofs.lemmas.edits.Advances.{due-outside}
 use Rattle.smq_book.proofs.lemmas.edits.RouteEdits.{added-outside, changed-outside, routes-outside}
-use Rattle.smq_book.proofs.lemmas.index.Due.{due-ending, due-on-link}
+use Rattle.smq_book.proofs.lemmas.index.Due.{due-on-link}
+use Rattle.smq_book.proofs.lemmas.index.Ends.{end-ending}
 use Rattle.smq_book.proofs.lemmas.index.Numbered.{under-is}
 
 module _ {X : Type 0} where
@@ -91,17 +93,17 @@ routed-notes s t others = refl
 module _ (s : SettingsValue) (t : TrafficValue) (clock : ℕ) where
   -- the places of those whose windows end by it are enough
   pub clocked : s.clock ≤ clock
-      → fold (λ m q. set_at m q (get (facts_of (with_clock s clock) t) q)) (facts_of s t) (places_ending s.windows s.clock clock (due_of s t))
+      → fold (λ m q. set_at m q (get (facts_of (with_clock s clock) t) q)) (facts_of s t) (places_ending s.clock clock (ends_of s t))
       ≡ facts_of (with_clock s clock) t
   clocked forward =
-      set-anew (places_ending s.windows s.clock clock (due_of s t)) (facts_of s t) (facts_of (with_clock s clock) t)
-      (outside-alike (places_ending s.windows s.clock clock (due_of s t)) (keys (due_by s t clock)) (facts_of s t)
-      (facts_of (with_clock s clock) t) (λ q. due-ending s t q clock) (due-outside s t clock forward))
+      set-anew (places_ending s.clock clock (ends_of s t)) (facts_of s t) (facts_of (with_clock s clock) t)
+      (outside-alike (places_ending s.clock clock (ends_of s t)) (keys (due_by s t clock)) (facts_of s t)
+      (facts_of (with_clock s clock) t) (λ q. end-ending s t q clock) (due-outside s t clock forward))
 
   -- no place is there where no message is
-  pub none-ending : keys (due_by s t clock) ≡ [] → places_ending s.windows s.clock clock (due_of s t) ≡ []
+  pub none-ending : keys (due_by s t clock) ≡ [] → places_ending s.clock clock (ends_of s t) ≡ []
   none-ending none =
-      by (places_ending s.windows s.clock clock (due_of s t)) (λ q. due-ending s t q clock ∙ ap (list_any (eq_by_cmp place_cmp q)) none)
+      by (places_ending s.clock clock (ends_of s t)) (λ q. end-ending s t q clock ∙ ap (list_any (eq_by_cmp place_cmp q)) none)
     where
       by : (ps : List Place) → ((q : Place) → list_any (eq_by_cmp place_cmp q) ps ≡ false) → ps ≡ []
       by [] h = refl

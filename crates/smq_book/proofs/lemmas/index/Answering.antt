@@ -1,5 +1,5 @@
 -- The pair that the next PDU of the centre makes is that of the message which it answers, if any.
-use Rattle.std.proofs.Common.{◌≡◌, ℕ, zero, suc, ◌+◌, ◌<◌, ◌≤◌, Bool, true, false, cond, List, [], ◌∷◌, ◌++◌, Option, Some, None}
+use Rattle.std.proofs.Common.{◌≡◌, ℕ, zero, suc, ◌+◌, ◌<◌, ◌≤◌, Bool, true, false, cond, List, [], ◌∷◌, ◌++◌, take, Option, Some, None}
 use Rattle.std.proofs.Common.{refl, sym, ap, ◌∙◌, subst, arith}
 use Rattle.std.specs.Prelude.{◌==◌, ◌&&◌, not, map, filter, slice_get, count_by, option_and_then, option_map, option_to_list}
 use Rattle.std.specs.List.{flat_map}
@@ -7,7 +7,7 @@ use Rattle.std.specs.FinMap.{FinMap, find, get}
 use Rattle.std.specs.Cmp.{tied_itself}
 use Rattle.std.specs.Ordering.{eq_by_cmp, is_eq}
 use Rattle.std.proofs.lemmas.Bool.{false≢true, eqb-true, eq-eqb}
-use Rattle.std.proofs.lemmas.List.{append-nil, map-append}
+use Rattle.std.proofs.lemmas.List.{append-nil, append_assoc, map-append}
 use Rattle.std.proofs.lemmas.List.Sums.{sum_by-cons}
 use Rattle.std.proofs.lemmas.Option.{slice_get-map}
 use Rattle.smq_kit.specs.declared.place.Dir.{Dir}
@@ -58,6 +58,48 @@ module _ (test : Header → Bool) where
         | false ↦ let same : 0 + count_by test (headers_of ps) ≡ count_by test (headers_of ps) = omega arith in
             ap (λ n. slice_get (passing (ps ++ x ∷ [])) n) same ∙ last-passing ps x passes
       ]
+
+  -- none is past those that pass
+  past-passing : (ps : List KeptPdu) → slice_get (passing ps) (count_by test (headers_of ps)) ≡ None
+  past-passing [] = refl
+  past-passing (p ∷ ps) =
+      ap (λ n. slice_get (passing (p ∷ ps)) n) (sum_by-cons (λ h. cond (test h) 1 0) (header_of p) (headers_of ps))
+      ∙ elim (test (header_of p)) as (λ b. slice_get (cond b (p ∷ passing ps) (passing ps)) (cond b 1 0 + count_by test (headers_of ps)) ≡ None) [
+        | true ↦ let more : 1 + count_by test (headers_of ps) ≡ suc (count_by test (headers_of ps)) = omega arith in
+            ap (λ n. slice_get (p ∷ passing ps) n) more ∙ past-passing ps
+        | false ↦ let same : 0 + count_by test (headers_of ps) ≡ count_by test (headers_of ps) = omega arith in
+            ap (λ n. slice_get (passing ps) n) same ∙ past-passing ps
+      ]
+
+  -- One that passes stands among all, after as many that pass as its rank.
+  pub record StandsRanked (ps : List KeptPdu) (rank : ℕ) (p : KeptPdu) : Type 0 where
+    pub index : ℕ
+    pub at : slice_get ps index ≡ Some p
+    pub ranked : count_by test (headers_of (take index ps)) ≡ rank
+    pub passes : test (header_of p) ≡ true
+
+  passing-ranked : (ps : List KeptPdu) (rank : ℕ) (p : KeptPdu) → slice_get (passing ps) rank ≡ Some p → StandsRanked ps rank p
+  passing-ranked [] rank p at = absurd cc
+  passing-ranked (x ∷ ps) rank p at = by (λ n. passing-ranked ps n p) (test (header_of x)) refl rank at
+    where
+      later : (b : Bool) (rest : ℕ) → test (header_of x) ≡ b → StandsRanked ps rest p → StandsRanked (x ∷ ps) (cond b 1 0 + rest) p
+      later b rest e r = record {
+        index = suc r.index;
+        at = r.at;
+        ranked = sum_by-cons (λ h. cond (test h) 1 0) (header_of x) (headers_of (take r.index ps)) ∙ (λ i. cond (e i) 1 0 + r.ranked i);
+        passes = r.passes;
+      }
+
+      by : ((n : ℕ) → slice_get (passing ps) n ≡ Some p → StandsRanked ps n p) → (b : Bool) → test (header_of x) ≡ b → (n : ℕ)
+          → slice_get (cond b (x ∷ passing ps) (passing ps)) n ≡ Some p → StandsRanked (x ∷ ps) n p
+      by rest true t zero e = let one : x ≡ p = cc in record {
+        index = 0;
+        at = ap Some one;
+        ranked = refl;
+        passes = ap (λ (y : KeptPdu). test (header_of y)) (sym one) ∙ t;
+      }
+      by rest true t (suc n) e = let more : 1 + n ≡ suc n = omega arith in subst (λ n. StandsRanked (x ∷ ps) n p) more (later true n t (rest n e))
+      by rest false t n e = let same : 0 + n ≡ n = omega arith in subst (λ n. StandsRanked (x ∷ ps) n p) same (later false n t (rest n e))
 
   -- one that passes stands among all
   passing-stands : (ps : List KeptPdu) (rank : ℕ) (p : KeptPdu) → slice_get (passing ps) rank ≡ Some p → (j : ℕ) × (slice_get ps j ≡ Some p)
@@ -256,6 +298,27 @@ module _ (origin : Origin) (centre : List KeptPdu) where
             ∙ rest.1,
       )
 
+  -- and that response is the one of its rank
+  pub own-ranked : (before ps : List KeptPdu) (low j : ℕ) (p : KeptPdu) → Rises low ps → slice_get ps j ≡ Some p
+      → find place_cmp (place_of origin FromClient p) (said_from before ps)
+      ≡ option_map (λ (submit : Submit). message_of origin p submit (response_to centre (before ++ take j ps) p)) (submit_in p.content)
+  own-ranked before [] low j p rises at = absurd cc
+  own-ranked before (x ∷ ps) low zero p rises at =
+      let one : x ≡ p = cc in
+      ap (λ (p : KeptPdu). find place_cmp (place_of origin FromClient p) (said_from before (x ∷ ps))) (sym one)
+      ∙ stands x (response_to centre before x) (submit_in x.content) (said_from (before ++ x ∷ []) ps)
+      (none-below (before ++ x ∷ []) ps (x.offset + 1) x (omega arith) rises.1)
+      ∙ ap (λ (p : KeptPdu). option_map (λ (submit : Submit). message_of origin p submit (response_to centre before p)) (submit_in p.content)) one
+      ∙ ap (λ (es : List KeptPdu). option_map (λ (submit : Submit). message_of origin p submit (response_to centre es p)) (submit_in p.content))
+      (sym (append-nil before))
+  own-ranked before (x ∷ ps) low (suc j) p rises at =
+      let more = above-bound ps (x.offset + 1) j p rises.1 at in
+      passes (place_of origin FromClient p) x (response_to centre before x) (submit_in x.content) (said_from (before ++ x ∷ []) ps)
+      (elsewhere origin FromClient p x (λ same. omega (arith, more, same)))
+      ∙ own-ranked (before ++ x ∷ []) ps (x.offset + 1) j p rises.1 at
+      ∙ ap (λ (es : List KeptPdu). option_map (λ (submit : Submit). message_of origin p submit (response_to centre es p)) (submit_in p.content))
+      (append_assoc before (x ∷ []) (take j ps))
+
 -- ---- the pair that the next PDU of the centre makes
 
 module _ (origin : Origin) (client centre : List KeptPdu) (next : KeptPdu) where
@@ -356,3 +419,49 @@ module _ (origin : Origin) (client centre : List KeptPdu) (next : KeptPdu) where
           (cond (e i) (option_map (λ r. pair_of r here) (pairs.request_of theirs mine here)) None)))
           ∙ by-request t.messages none (is_request (header_of next)) (pairs.response_to theirs mine here)
           ∙ ap (flat_map anew) (sym (none-answered origin centre next [] client e))
+
+  -- the message that it answers had no response
+  pub waits-for : (t : TrafficValue) → IsTraffic t → IsSaidBy origin client centre t → Rises 0 client → Rises 0 (centre ++ next ∷ [])
+      → (pair : Pair) (m : Message) → made_by (pairing_among origin client centre) here ≡ Some pair → get t.messages pair.request ≡ Some m
+      → m.response ≡ None
+  waits-for t is said rises centre_rises pair m made there =
+      by (is_request (header_of next)) (is_response (header_of next)) (sym (made-after centre_rises) ∙ made)
+    where
+      at-centre : (q : Place) → pair.request ≡ q → q.dir ≡ FromCentre → m.response ≡ None
+      at-centre q same centre =
+          let clash : FromCentre ≡ FromClient = sym centre ∙ is.messages q m (ap (get t.messages) (sym same) ∙ there) in absurd cc
+
+      asked : (r : Option PlacedHeader) → option_map (λ r. pair_of here r) r ≡ Some pair → m.response ≡ None
+      asked None e = absurd cc
+      asked (Some r) e =
+          let one : pair_of here r ≡ pair = cc in at-centre (place_of origin FromCentre next) (ap (λ (x : Pair). x.request) (sym one)) refl
+
+      answering : (p : KeptPdu) → slice_get (filter (asks origin centre next) client) (turn origin centre next) ≡ Some p
+          → pair.request ≡ place_of origin FromClient p → m.response ≡ None
+      answering p at same =
+          let ranked = passing-ranked (is_request_of next.seq) client (turn origin centre next) p at in
+          let seq : p.seq ≡ next.seq = eqb-true p.seq next.seq (and_second (is_request (header_of p)) (p.seq == next.seq) ranked.passes) in
+          let none : response_to centre (take ranked.index client) p ≡ None =
+          ap (λ (n : ℕ). slice_get (filter (λ r. is_response_of n (header_of r)) centre) (count_by (is_request_of n) (headers_of (take ranked.index client)))) seq
+          ∙ ap (λ (n : ℕ). slice_get (filter (λ r. is_response_of next.seq (header_of r)) centre) n) ranked.ranked
+          ∙ past-passing (is_response_of next.seq) centre in
+          let found = sym (said.messages (place_of origin FromClient p) refl ∙ own-ranked origin centre [] client 0 ranked.index p rises ranked.at)
+          ∙ ap (get t.messages) (sym same) ∙ there in
+          told (submit_in p.content)
+          (ap (λ (r : Option KeptPdu). option_map (λ (submit : Submit). message_of origin p submit r) (submit_in p.content)) (sym none) ∙ found)
+        where
+          told : (submit : Option Submit) → option_map (λ (submit : Submit). message_of origin p submit None) submit ≡ Some m → m.response ≡ None
+          told None e = absurd cc
+          told (Some submit) e = let one : message_of origin p submit None ≡ m = cc in ap (λ (x : Message). x.response) (sym one)
+
+      answered-by : (p : Option KeptPdu) → request ≡ p → option_map (λ r. pair_of r here) (option_map (placed origin FromClient) p) ≡ Some pair
+          → m.response ≡ None
+      answered-by None at e = absurd cc
+      answered-by (Some p) at e =
+          let one : pair_of (placed origin FromClient p) here ≡ pair = cc in answering p at (ap (λ (x : Pair). x.request) (sym one))
+
+      by : (a b : Bool) → cond a (option_map (λ r. pair_of here r) (pairs.response_to theirs mine here))
+          (cond b (option_map (λ r. pair_of r here) (pairs.request_of theirs mine here)) None) ≡ Some pair → m.response ≡ None
+      by true b e = asked (pairs.response_to theirs mine here) e
+      by false true e = answered-by request refl (ap (option_map (λ r. pair_of r here)) (sym requests-placed) ∙ e)
+      by false false e = absurd cc

@@ -8,7 +8,7 @@ use Rattle.smq_group.specs.declared.change.Standing.{Standing}
 use Rattle.smq_group.proofs.Turning.{standing-itself}
 
 -- a standing that stays isn't told
-unchanged : (x : Option Standing) → None ≡ changed x x
+pub unchanged : (x : Option Standing) → None ≡ changed x x
 unchanged None = refl
 unchanged (Some s) = sym (ap (λ b. cond b None (Some s)) (standing-itself s))
 

@@ -1,7 +1,7 @@
 -- The messages whose receipts are due, by link and moment, change with what stands at a place and with its fact. Those whose windows
 -- end by a clock are the open ones that it lapses, and those of a link are its open and lapsed ones.
-use Rattle.std.proofs.Common.{◌≡◌, ℕ, ◌+◌, Bool, true, false, cond, List, Option, Some, None, refl, sym, ap, ◌∙◌, arith}
-use Rattle.std.specs.Prelude.{◌==◌, ◌&&◌, not, nat_le, map, filter, is_none, is_some, option_and_then, option_map}
+use Rattle.std.proofs.Common.{◌≡◌, ℕ, Bool, true, false, cond, List, Option, Some, None, refl, sym, ap, ◌∙◌, arith}
+use Rattle.std.specs.Prelude.{◌==◌, ◌&&◌, not, map, filter, is_none, is_some, option_and_then, option_map}
 use Rattle.std.specs.List.{list_any}
 use Rattle.std.specs.declared.cmp.Ordering.{Ordering}
 use Rattle.std.specs.declared.cmp.Ordering.TheVariants.{Less, Equal, Greater}
@@ -28,11 +28,11 @@ use Rattle.smq_tally.proofs.Listings.{marked}
 use Rattle.smq_book.specs.declared.index.due_at.DueAt.{DueAt}
 use Rattle.smq_book.specs.present.Settings.{SettingsValue}
 use Rattle.smq_book.specs.pairing.Traffic.{Message, TrafficValue}
-use Rattle.smq_book.specs.join.Circumstances.{circumstances, lapsed_in, window_of}
+use Rattle.smq_book.specs.join.Circumstances.{circumstances, lapsed_in}
 use Rattle.smq_book.specs.join.Facts.{fact_by, facts_of}
 use Rattle.smq_book.specs.join.Outcomes.{is_shared, responded, says_delivered}
-use Rattle.smq_book.specs.edits.Reached.{due_by, is_due, is_open, messages_due_on, outcome_in}
-use Rattle.smq_book.specs.index.Due.{due_at, due_by_fact, due_cmp, due_in, due_of, is_due_fact, is_ending, places_due_on, places_ending}
+use Rattle.smq_book.specs.edits.Reached.{is_due, is_open, messages_due_on, outcome_in}
+use Rattle.smq_book.specs.index.Due.{due_at, due_by_fact, due_cmp, due_in, due_of, is_due_fact, places_due_on}
 use Rattle.smq_book.specs.index.DueKeys.{kept_due_cmp, one_due}
 use Rattle.smq_book.specs.index.Held.{dues_in, noted}
 use Rattle.smq_book.specs.index.PlacedKeys.{passes, with_key, without_key}
@@ -72,14 +72,14 @@ noted-marked false = refl
 
 -- ---- their places
 
-abbrev place_of_due : DueAt → Place
+abbrev pub place_of_due : DueAt → Place
 place_of_due k = k.place
 
 own_due : (q : Place) (link : LinkId) (moment : ℕ) (b : Bool) (k : DueAt) → cond b (Some (due_at link moment q)) None ≡ Some k → k.place ≡ q
 own_due q link moment true k e = let one : due_at link moment q ≡ k = cc in ap place_of_due (sym one)
 own_due q link moment false k e = absurd cc
 
-due-placed : (facts : FinMap place_cmp Fact) → made.HasItsPlace due_total due_exact place_of_due (due_by_fact facts)
+pub due-placed : (facts : FinMap place_cmp Fact) → made.HasItsPlace due_total due_exact place_of_due (due_by_fact facts)
 due-placed facts = record { own = λ q m k e. own_due q m.link m.moment (is_due_fact (get facts q)) k e }
 
 -- ---- what is there
@@ -254,24 +254,20 @@ due_open_of false false false false false false false true l = refl
 due_open_of false false false false false false false false true = refl
 due_open_of false false false false false false false false false = refl
 
-and_joined : (a b c : Bool) → (a && (b && c)) ≡ ((a && b) && c)
-and_joined true b c = refl
-and_joined false b c = refl
-
 and_turned : (a b : Bool) → (a && b) ≡ (b && a)
 and_turned true b = and_true b
 and_turned false b = and_false b
 
 module _ (s : SettingsValue) (t : TrafficValue) (q : Place) where
   -- a message whose receipt is due and whose window hasn't ended is open
-  due-open : (m : Message) → (is_due (outcome_in s t m) && not (lapsed_in s m)) ≡ is_open (outcome_in s t m)
+  pub due-open : (m : Message) → (is_due (outcome_in s t m) && not (lapsed_in s m)) ≡ is_open (outcome_in s t m)
   due-open m =
       let c = circumstances s t m in
       due_open_of (is_none m.response) (responded (λ r. not r.agrees) m.response) (responded (λ r. not (r.status == 0)) m.response)
       (responded (λ r. is_none r.id) m.response)
       (is_shared c.standing) (says_delivered c.decider) (is_some c.decider) (not m.asks_receipt) c.lapsed
 
-  told-due : (m : Message) → get t.messages q ≡ Some m → is_due_fact (get (facts_of s t) q) ≡ is_due (outcome_in s t m)
+  pub told-due : (m : Message) → get t.messages q ≡ Some m → is_due_fact (get (facts_of s t) q) ≡ is_due (outcome_in s t m)
   told-due m is = ap is_due_fact (fact-at s t q ∙ ap (option_map (λ m. fact_by q m (circumstances s t m))) is)
 
   passes-due : (test : DueAt → Bool) (m : Message) (b : Bool)
@@ -285,40 +281,24 @@ module _ (s : SettingsValue) (t : TrafficValue) (q : Place) where
   due-passing test =
       made.places-made due_total due_exact place_of_due (due_by_fact (facts_of s t)) (due-placed (facts_of s t)) t.messages test q
 
-  module _ (clock : ℕ) where
-    abbrev test_ended : Place → Message → Bool
-    test_ended place m = is_open (outcome_in s t m) && nat_le (m.moment + window_of s m.link) clock
-
-    ending-by : (x : Option Message) → get t.messages q ≡ x
-        → passes (is_ending s.windows s.clock clock) (option_and_then (due_by_fact (facts_of s t) q) x)
-        ≡ list_any (eq_by_cmp place_cmp q) (keys (due_by s t clock))
-    ending-by None is = sym (passing-none test_ended t.messages q is)
-    ending-by (Some m) is =
-        let ends : Bool = nat_le (m.moment + window_of s m.link) clock in
-        passes-due (is_ending s.windows s.clock clock) m (is_due_fact (get (facts_of s t) q))
-        ∙ ap (λ b. b && (not (lapsed_in s m) && ends)) (told-due m is)
-        ∙ and_joined (is_due (outcome_in s t m)) (not (lapsed_in s m)) ends
-        ∙ ap (λ b. b && ends) (due-open m)
-        ∙ sym (passing-at test_ended t.messages q m is)
-
-    -- those whose windows end after the clock and by another are the open messages whose windows have ended by that
-    pub due-ending : list_any (eq_by_cmp place_cmp q) (places_ending s.windows s.clock clock (due_of s t))
-        ≡ list_any (eq_by_cmp place_cmp q) (keys (due_by s t clock))
-    due-ending = due-passing (is_ending s.windows s.clock clock) ∙ ending-by (get t.messages q) refl
-
   module _ (link : LinkId) where
     abbrev test_on : Place → Message → Bool
     test_on place m = m.link.0 == link.0 && is_due (outcome_in s t m)
+
+    -- the key of a message that stands there is of the link exactly where the message is, and its receipt is due
+    pub on-link-there : (m : Message) → get t.messages q ≡ Some m
+        → passes (λ (k : DueAt). k.link.0 == link.0) (due_by_fact (facts_of s t) q m)
+        ≡ (m.link.0 == link.0 && is_due (outcome_in s t m))
+    on-link-there m is =
+        passes-due (λ (k : DueAt). k.link.0 == link.0) m (is_due_fact (get (facts_of s t) q))
+        ∙ ap (λ b. b && m.link.0 == link.0) (told-due m is)
+        ∙ and_turned (is_due (outcome_in s t m)) (m.link.0 == link.0)
 
     on-link-by : (x : Option Message) → get t.messages q ≡ x
         → passes (λ (k : DueAt). k.link.0 == link.0) (option_and_then (due_by_fact (facts_of s t) q) x)
         ≡ list_any (eq_by_cmp place_cmp q) (keys (messages_due_on link s t))
     on-link-by None is = sym (passing-none test_on t.messages q is)
-    on-link-by (Some m) is =
-        passes-due (λ (k : DueAt). k.link.0 == link.0) m (is_due_fact (get (facts_of s t) q))
-        ∙ ap (λ b. b && m.link.0 == link.0) (told-due m is)
-        ∙ and_turned (is_due (outcome_in s t m)) (m.link.0 == link.0)
-        ∙ sym (passing-at test_on t.messages q m is)
+    on-link-by (Some m) is = on-link-there m is ∙ sym (passing-at test_on t.messages q m is)
 
     -- those of a link are its messages whose receipts are due
     pub due-on-link : list_any (eq_by_cmp place_cmp q) (places_due_on link (due_of s t))

@@ -1,5 +1,5 @@
 -- What an index holds after a move, where it follows what groups tell.
-use Rattle.std.proofs.Common.{◌≡◌, Bool, true, false, cond, ◌||◌, List, Option, Some, None, subst, refl, sym, ap, ◌∙◌}
+use Rattle.std.proofs.Common.{◌≡◌, ◌+◌, Bool, true, false, cond, ◌||◌, List, Option, Some, None, subst, refl, sym, ap, ◌∙◌}
 use Rattle.std.specs.BTreeMap.{is_at, insert_entry}
 use Rattle.std.specs.Cmp.{tied_itself}
 use Rattle.std.specs.FinMap.{FinMap, empty, get, get-insert, insert, remove}
@@ -27,7 +27,7 @@ use Rattle.smq_group.specs.Groups.{GroupsValue, with_receipt, with_submit, witho
 use Rattle.smq_group.specs.Matching.{Grouping}
 use Rattle.smq_route.specs.Numbers.{NumbersValue, number_cmp}
 use Rattle.smq_book.specs.declared.index.index.Index.{Index}
-use Rattle.smq_book.specs.present.Settings.{SettingsValue}
+use Rattle.smq_book.specs.present.Settings.{SettingsValue, window_in}
 use Rattle.smq_book.specs.pairing.Traffic.{Message, ReceivedReceipt, TrafficValue}
 use Rattle.smq_book.specs.join.Circumstances.{circumstances}
 use Rattle.smq_book.specs.join.Facts.{fact_by, facts_of}
@@ -35,13 +35,15 @@ use Rattle.smq_book.specs.join.Keyed.{accepted_key, grouping_of, keyed_receipt}
 use Rattle.smq_book.specs.join.Listings.{notes_of}
 use Rattle.smq_book.specs.join.Moves.{IsMove, TakeMessage, TakeReceipt, put_message, put_receipt, take_message, take_receipt}
 use Rattle.smq_book.specs.index.Due.{due_at, due_cmp, due_in}
-use Rattle.smq_book.specs.index.Held.{AreOf, AreUnlisted, Holding, IsTraffic, IsUnlisted, dues_in, facts_anew, held_by, held_now, held_of}
+use Rattle.smq_book.specs.index.Ends.{end_at, end_cmp, ends_by}
+use Rattle.smq_book.specs.index.Held.{AreOf, AreUnlisted, Holding, IsTraffic, IsUnlisted, dues_in, ends_in, facts_anew, held_by, held_now, held_of}
 use Rattle.smq_book.specs.index.Held.{is_ambiguous, is_extra, is_stray, is_traffic_list, noted}
 use Rattle.smq_book.specs.index.Held.{list_held, messages_in, notes_anew, receipts_in, stored_traffic, with_listing}
 use Rattle.smq_book.specs.index.Numbered.{numbered, numbers_of}
 use Rattle.smq_book.specs.index.PlacedKeys.{with_key, without_key}
 use Rattle.smq_book.proofs.lemmas.join.MoveLemmas.{fact-at}
 use Rattle.smq_book.proofs.lemmas.index.Due.{due-again, due-fact-absent, due-put, due-taken}
+use Rattle.smq_book.proofs.lemmas.index.Ends.{end-again, end-fact-absent, end-put, end-taken}
 use Rattle.smq_book.proofs.lemmas.index.Numbered.{number-again, number-comes, number-goes}
 use Rattle.smq_book.proofs.lemmas.index.Members.{kept-traffic, members-put, members-taken, members-unmoved, members-unput}
 use Rattle.smq_book.proofs.lemmas.index.Members.{members-untaken, received-put, received-taken, traffic-apart}
@@ -110,6 +112,12 @@ module _ {s : SettingsValue} {u : TrafficValue} {ms : List (Place × Message)} {
       sym (due-fact-absent (messages_in ms) facts q None (ap (λ (x : FinMap place_cmp Message). get x q) stores.messages ∙ none))
       ∙ ap (due_in (messages_in ms)) (sym took)
 
+  pub ends-dropped : {later : FinMap place_cmp Fact} (q : Place) → get u.messages q ≡ None → (facts : FinMap place_cmp Fact) → later ≡ remove facts q
+      → ends_by s.windows (messages_in ms) facts ≡ ends_by s.windows (messages_in ms) later
+  ends-dropped q none facts took =
+      sym (end-fact-absent s.windows (messages_in ms) facts q None (ap (λ (x : FinMap place_cmp Message). get x q) stores.messages ∙ none))
+      ∙ ap (ends_by s.windows (messages_in ms)) (sym took)
+
 -- members that an index holds of traffic are those of what it stores
 pub are-held : (s : SettingsValue) (t : TrafficValue) (i : Index) → IsTraffic t → held_now i ≡ held_of s t
     → AreOf s (stored_traffic i.messages.content i.receipts.content) i.standings.members
@@ -128,6 +136,11 @@ module _ (z : SettingsValue) (t : TrafficValue) (facts : FinMap place_cmp Fact) 
       ap (λ (h : Holding). h.due) held
       ∙ (λ k. due_in (sym (ap (λ (h : Holding). h.messages) held) k) (sym (ap (λ (h : Holding). h.facts) held) k))
 
+  ends-now : ends_in i.ends.content ≡ ends_by z.windows (messages_in i.messages.content) i.tally.facts
+  ends-now =
+      ap (λ (h : Holding). h.ends) held
+      ∙ (λ k. ends_by z.windows (sym (ap (λ (h : Holding). h.messages) held) k) (sym (ap (λ (h : Holding). h.facts) held) k))
+
   -- where what is stored stays, so does all that is held but the fact of the place
   pub held-refreshed : (j : Index) (q : Place) → j.messages ≡ i.messages → j.receipts ≡ i.receipts → j.standings ≡ i.standings
       → j.numbers ≡ i.numbers → j.tally.notes ≡ i.tally.notes
@@ -135,14 +148,17 @@ module _ (z : SettingsValue) (t : TrafficValue) (facts : FinMap place_cmp Fact) 
       → j.tally.facts ≡ set_at i.tally.facts q (get (facts_of z (stored_traffic i.messages.content i.receipts.content)) q))
       → (dues_in i.due.content ≡ due_in (messages_in i.messages.content) i.tally.facts
       → dues_in j.due.content ≡ due_in (messages_in i.messages.content) j.tally.facts)
+      → (ends_in i.ends.content ≡ ends_by z.windows (messages_in i.messages.content) i.tally.facts
+      → ends_in j.ends.content ≡ ends_by z.windows (messages_in i.messages.content) j.tally.facts)
       → held_now j ≡ held_by z t (set_at facts q (get (facts_of z t) q))
-  held-refreshed j q messages receipts standings numbers notes sets dues = λ k. record {
+  held-refreshed j q messages receipts standings numbers notes sets dues ends = λ k. record {
     messages = (ap (λ (m : KeepingMap Place Message). messages_in m.content) messages ∙ ap (λ (h : Holding). h.messages) held) k;
     receipts = (ap (λ (r : KeepingMap Place ReceivedReceipt). receipts_in r.content) receipts ∙ ap (λ (h : Holding). h.receipts) held) k;
     members = (ap (λ (v : GroupsValue). v.members) standings ∙ ap (λ (h : Holding). h.members) held) k;
     facts = set k;
     notes = (notes ∙ ap (λ (h : Holding). h.notes) held) k;
     due = (dues due-by ∙ (λ l. due_in (held l).messages (set l))) k;
+    ends = (ends ends-now ∙ (λ l. ends_by z.windows (held l).messages (set l))) k;
     numbers = (ap (λ (n : NumbersValue). n.numbers) numbers ∙ ap (λ (h : Holding). h.numbers) held) k;
   }
     where
@@ -261,7 +277,38 @@ module _ (s : SettingsValue) (t : TrafficValue) (i : Index) (held : held_now i �
   due-local : dues_in i.due.content ≡ due_in t.messages i.tally.facts
   due-local = ap (λ (h : Holding). h.due) held ∙ ap (due_in t.messages) (sym (ap (λ (h : Holding). h.facts) held))
 
+  ends-local : ends_in i.ends.content ≡ ends_by s.windows t.messages i.tally.facts
+  ends-local = ap (λ (h : Holding). h.ends) held ∙ ap (ends_by s.windows t.messages) (sym (ap (λ (h : Holding). h.facts) held))
+
   module _ {now : FinMap place_cmp Message} where
+    -- the same of their ends
+    pub ends-kept : now ≡ t.messages → ends_in i.ends.content ≡ ends_by s.windows now i.tally.facts
+    ends-kept same = ends-local ∙ ap (λ m. ends_by s.windows m i.tally.facts) (sym same)
+
+    pub ends-came : (q : Place) (m : Message) → get t.messages q ≡ None → now ≡ insert t.messages q m
+        → ends_in i.ends.content ≡ ends_by s.windows now i.tally.facts
+    ends-came q m none same =
+        ends-local ∙ sym (end-put s.windows t.messages i.tally.facts q m none unknown) ∙ ap (λ m. ends_by s.windows m i.tally.facts) (sym same)
+      where
+        unknown : get i.tally.facts q ≡ None
+        unknown =
+            ap (λ (h : Holding). get h.facts q) held
+            ∙ fact-at s t q
+            ∙ ap (option_map (λ (m : Message). fact_by q m (circumstances s t m))) none
+
+    pub ends-stay : (q : Place) (old m : Message) → get t.messages q ≡ Some old → old.link ≡ m.link → old.moment ≡ m.moment
+        → now ≡ insert t.messages q m → ends_in i.ends.content ≡ ends_by s.windows now i.tally.facts
+    ends-stay q old m is link moment same =
+        ends-local ∙ sym (end-again s.windows t.messages i.tally.facts q old m is link moment) ∙ ap (λ m. ends_by s.windows m i.tally.facts) (sym same)
+
+    pub ends-went : {ends : FinSet end_cmp} (q : Place) (m : Message) → get t.messages q ≡ Some m → now ≡ remove t.messages q
+        → ends ≡ remove (ends_in i.ends.content) (end_at (m.moment + window_in s.windows m.link) q) → ends ≡ ends_by s.windows now i.tally.facts
+    ends-went q m there same gone =
+        gone
+        ∙ ap (λ (d : FinSet end_cmp). remove d (end_at (m.moment + window_in s.windows m.link) q)) ends-local
+        ∙ sym (end-taken s.windows t.messages i.tally.facts q m there)
+        ∙ ap (λ m. ends_by s.windows m i.tally.facts) (sym same)
+
     -- those whose receipts are due stay where messages do
     pub due-kept : now ≡ t.messages → dues_in i.due.content ≡ due_in now i.tally.facts
     due-kept same = due-local ∙ ap (λ m. due_in m i.tally.facts) (sym same)
@@ -347,15 +394,17 @@ module _ (s : SettingsValue) (t u : TrafficValue) (i : Index) {ms : List (Place 
   -- where messages, receipts, members, facts, notes and numbers of an index are those of the traffic, and the messages
   -- whose receipts are due are those of its facts, it holds that
   pub holds : (j : Index) → j.messages.content ≡ ms → j.receipts.content ≡ rs → j.standings.members ≡ h → j.tally.facts ≡ facts_of s u
-      → j.tally.notes ≡ notes_of s u → dues_in j.due.content ≡ due_in (messages_in ms) j.tally.facts → j.numbers.numbers ≡ numbers_of u
+      → j.tally.notes ≡ notes_of s u → dues_in j.due.content ≡ due_in (messages_in ms) j.tally.facts
+      → ends_in j.ends.content ≡ ends_by s.windows (messages_in ms) j.tally.facts → j.numbers.numbers ≡ numbers_of u
       → held_now j ≡ held_of s u
-  holds j messages receipts members facts notes due numbers = λ k. record {
+  holds j messages receipts members facts notes due ends numbers = λ k. record {
     messages = (ap messages_in messages ∙ stores.messages) k;
     receipts = (ap receipts_in receipts ∙ stores.receipts) k;
     members = (members ∙ stores.members) k;
     facts = facts k;
     notes = notes k;
     due = (due ∙ (λ l. due_in (stores.messages l) (facts l))) k;
+    ends = (ends ∙ (λ l. ends_by s.windows (stores.messages l) (facts l))) k;
     numbers = numbers k;
   }
 

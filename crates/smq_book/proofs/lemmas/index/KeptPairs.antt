@@ -18,7 +18,8 @@ use Rattle.smq_book.specs.declared.index.pairings.Pairings.{Pairings}
 use Rattle.smq_book.specs.index.Opening.{nothing_held}
 use Rattle.smq_book.specs.index.Held.{Holding, IsHeld, held_now, held_settled, traffic_held}
 use Rattle.smq_book.specs.index.Kept.{IsKept}
-use Rattle.smq_book.specs.index.Pairs.{pairing_in, pairs_now, pairs_settled}
+use Rattle.smq_book.specs.index.Pairs.{pairing_in, pairs_now, pairs_pending, pairs_settled}
+use Rattle.smq_book.specs.index.Touches.{HasNothingPending}
 use Rattle.smq_book.specs.pairing.Traffic.{session_pairing, traffic_of}
 use Rattle.smq_book.specs.present.Present.{PresentValue, empty}
 use Rattle.smq_book.specs.present.Replies.{no_session}
@@ -54,29 +55,62 @@ module _ (n : ℕ) (before after : ℕ → PairingValue) (sessions : FinMap nat_
   pairs-put s own = pairs-by (insert sessions n s) (Some s) (λ number. get-insert nat_cmp_total sessions n s number)
       (own ∙ ap (said n) (get-insert nat_cmp_total sessions n s n ∙ ap (λ b. cond b (Some s) (get sessions n)) (ap is_eq (tied_itself nat_cmp_total n))))
 
+-- no change of pairs is pending, where none of one session is, and those of the others stay
+pub none-pending : (n : ℕ) (before after : ℕ → ℕ) → after n ≡ 0 → ((number : ℕ) → number ≢ n → after number ≡ before number)
+    → ((number : ℕ) → before number ≡ 0) → (number : ℕ) → after number ≡ 0
+none-pending n before after own others were number = by (eq_by_cmp nat_cmp number n) refl
+  where
+    by : (b : Bool) → eq_by_cmp nat_cmp number n ≡ b → after number ≡ 0
+    by true t = ap after (same_key nat_cmp_total nat_cmp-IsAntisymmetric number n t) ∙ own
+    by false f =
+        others number (λ same. false≢true (sym f ∙ ap (λ (m : ℕ). eq_by_cmp nat_cmp m n) same ∙ ap is_eq (tied_itself nat_cmp_total n)))
+        ∙ were number
+
+-- what is of one number as it was, where all others are, too, is as it was
+pub as-was : {X : Type 0} (n : ℕ) (before after : ℕ → X) → after n ≡ before n → ((number : ℕ) → number ≢ n → after number ≡ before number)
+    → (number : ℕ) → after number ≡ before number
+as-was n before after own others number = by (eq_by_cmp nat_cmp number n) refl
+  where
+    by : (b : Bool) → eq_by_cmp nat_cmp number n ≡ b → after number ≡ before number
+    by true t =
+        let same : number ≡ n = same_key nat_cmp_total nat_cmp-IsAntisymmetric number n t in
+        ap after same ∙ own ∙ ap before (sym same)
+    by false f = others number (λ same. false≢true (sym f ∙ ap (λ (m : ℕ). eq_by_cmp nat_cmp m n) same ∙ ap is_eq (tied_itself nat_cmp_total n)))
+
+-- what was refused is as it was
+pub unmade : (T : Type 0) (r : Option Refusal) (e : Refusal) (Made Unchanged : Type 0) → IsReply {T = T} r (Err e) Made Unchanged → Unchanged
+unmade T None e Made Unchanged is = is.1
+unmade T (Some refusal) e Made Unchanged is = is.1
+
 -- ---- what is kept, once it is settled
 
 module _ (p : PresentValue) (j : Index) (k : Pairings) (h : Holding) where
   pub kept-settled : held_now j ≡ h → held_settled j ≡ h → IsHeld p.settings h → traffic_held h ≡ traffic_of p.sessions
       → ((number : ℕ) → pairs_now k number ≡ pairing_in p.sessions number) → ((number : ℕ) → pairs_settled k number ≡ pairing_in p.sessions number)
+      → HasNothingPending j → ((number : ℕ) → pairs_pending k number ≡ 0)
       → IsKept p j k
-  kept-settled now settled held traffic pairs settled_pairs = record {
+  kept-settled now settled held traffic pairs settled_pairs pending pending_pairs = record {
     held = subst (IsHeld p.settings) (sym now) held;
     traffic = ap traffic_held now ∙ traffic;
     settled = settled ∙ sym now;
     pairs = pairs;
     settled_pairs = settled_pairs;
+    pending = pending;
+    pending_pairs = pending_pairs;
   }
 
 -- what is kept where settings alone change
 pub kept-settings : (p q : PresentValue) (i j : Index) (k : Pairings) → p.sessions ≡ q.sessions → IsHeld q.settings (held_now j)
-    → traffic_held (held_now j) ≡ traffic_held (held_now i) → held_settled j ≡ held_now j → IsKept p i k → IsKept q j k
-kept-settings p q i j k same held traffic settled kept = record {
+    → traffic_held (held_now j) ≡ traffic_held (held_now i) → held_settled j ≡ held_now j → HasNothingPending j
+    → IsKept p i k → IsKept q j k
+kept-settings p q i j k same held traffic settled pending kept = record {
   held = held;
   traffic = traffic ∙ kept.traffic ∙ ap traffic_of same;
   settled = settled;
   pairs = λ number. kept.pairs number ∙ ap (λ (m : FinMap nat_cmp Session). pairing_in m number) same;
   settled_pairs = λ number. kept.settled_pairs number ∙ ap (λ (m : FinMap nat_cmp Session). pairing_in m number) same;
+  pending = pending;
+  pending_pairs = kept.pending_pairs;
 }
 
 no-pairs : (number : ℕ) → pairing_in fin.empty number ≡ no_pdus
@@ -84,11 +118,13 @@ no-pairs number = ap (said number) (get-empty nat_cmp number)
 
 -- what is kept of nothing
 pub kept-nothing : (p : PresentValue) (i : Index) (k : Pairings) → p ≡ empty → held_now i ≡ nothing_held → held_settled i ≡ nothing_held
-    → ((number : ℕ) → pairs_now k number ≡ no_pdus) → ((number : ℕ) → pairs_settled k number ≡ no_pdus) → IsKept p i k
-kept-nothing p i k none now settled pairs settled_pairs =
+    → ((number : ℕ) → pairs_now k number ≡ no_pdus) → ((number : ℕ) → pairs_settled k number ≡ no_pdus)
+    → HasNothingPending i → ((number : ℕ) → pairs_pending k number ≡ 0) → IsKept p i k
+kept-nothing p i k none now settled pairs settled_pairs pending pending_pairs =
     subst (λ (q : PresentValue). IsKept q i k) (sym none)
     (kept-settled empty i k nothing_held now settled nothing-is-held nothing-is-said
-    (λ number. pairs number ∙ sym (no-pairs number)) (λ number. settled_pairs number ∙ sym (no-pairs number)))
+    (λ number. pairs number ∙ sym (no-pairs number)) (λ number. settled_pairs number ∙ sym (no-pairs number))
+    pending pending_pairs)
 
 -- ---- the reply to a withdrawal
 

@@ -30,6 +30,7 @@ use Rattle.smq_book.specs.pairing.Traffic.{session_messages, session_receipts, w
 use Rattle.smq_book.specs.join.Listings.{receipt_notes}
 use Rattle.smq_book.specs.join.Moves.{Move, PutMessage, PutReceipt, TakeMessage, TakeReceipt, moved, moved_by}
 use Rattle.smq_book.specs.index.Due.{due_in}
+use Rattle.smq_book.specs.index.Ends.{ends_by}
 use Rattle.smq_book.specs.index.Held.{Holding, IsHeld, IsTraffic, traffic_held}
 use Rattle.smq_book.specs.index.LinkOut.{AllFrom, IsOut, TakesOut, is_receipt, is_submit, of_link, puts_of, receipt_places, submit_places}
 use Rattle.smq_book.specs.index.Numbered.{numbers_of}
@@ -402,6 +403,7 @@ module _ (s z : SettingsValue) (link : LinkId) (h : Holding)
           facts = facts i;
           notes = listed_set (keys u.notes ++ receipt_notes (groups i));
           due = due_in u.messages (facts i);
+          ends = ends_by (windows i) u.messages (facts i);
           numbers = numbers_of u;
         });
         traffic = is.traffic;

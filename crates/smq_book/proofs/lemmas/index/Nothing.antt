@@ -27,11 +27,13 @@ use Rattle.smq_book.specs.join.Facts.{fact_by, facts_of}
 use Rattle.smq_book.specs.join.Keyed.{accepted_key, grouping_of, keyed_receipt}
 use Rattle.smq_book.specs.join.Listings.{notes_of, receipt_listing, receipt_notes}
 use Rattle.smq_book.specs.index.Due.{due_by_fact}
+use Rattle.smq_book.specs.index.Ends.{end_by_fact}
 use Rattle.smq_book.specs.index.Held.{IsHeld, IsTraffic, held_of, is_traffic_list, traffic_held, traffic_notes}
 use Rattle.smq_book.specs.index.Numbered.{numbered}
 use Rattle.smq_book.specs.index.Opening.{nothing_held}
 use Rattle.smq_book.specs.index.PlacedKeys.{keys_made}
 use Rattle.smq_book.proofs.lemmas.index.Due.{due_total, due_exact}
+use Rattle.smq_book.proofs.lemmas.index.Ends.{end_total, end_exact}
 
 -- no messages, receipts and notes
 abbrev pub nothing_said : TrafficValue
@@ -88,6 +90,7 @@ module _ (s : SettingsValue) where
     facts = facts-none i;
     notes = notes-none i;
     due = keys-none due_total due_exact (due_by_fact (facts_of s nothing_said)) i;
+    ends = keys-none end_total end_exact (end_by_fact s.windows (facts_of s nothing_said)) i;
     numbers = keys-none numbers_total numbers_exact numbered i;
   }
 

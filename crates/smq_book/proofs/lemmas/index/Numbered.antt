@@ -102,7 +102,7 @@ numbers-take-note note t = refl
 -- ---- the messages under a prefix
 
 module _ (t : TrafficValue) (prefix : List ℕ) (q : Place) where
-  begun : (number : Option (List ℕ))
+  pub begun : (number : Option (List ℕ))
       → passes (λ (k : NumberAt). begins k.number prefix) (option_map (λ n. number_at n q) number)
       ≡ unwrap_or (option_map (λ n. begins n prefix) number) false
   begun None = refl

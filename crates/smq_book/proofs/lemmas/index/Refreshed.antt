@@ -16,7 +16,8 @@ use Rattle.smq_book.specs.present.Settings.{SettingsValue, with_clock, with_vers
 use Rattle.smq_book.specs.pairing.Traffic.{TrafficValue}
 use Rattle.smq_book.specs.join.Facts.{facts_of}
 use Rattle.smq_book.specs.edits.Reached.{messages_due_on, messages_under}
-use Rattle.smq_book.specs.index.Due.{places_due_on, places_ending}
+use Rattle.smq_book.specs.index.Due.{places_due_on}
+use Rattle.smq_book.specs.index.Ends.{places_ending}
 use Rattle.smq_book.specs.index.Held.{Holding, IsHeld, held_by, held_of, traffic_held}
 use Rattle.smq_book.specs.index.Refreshed.{refreshed}
 use Rattle.smq_book.proofs.lemmas.index.Anew.{clocked, outside-alike, set-anew, windowed}
@@ -68,7 +69,7 @@ module _ (s : SettingsValue) (g h : Holding) (is : IsHeld s g) where
       (under-is t prefix) same)))
 
   -- a clock that goes on
-  pub clock-held : (clock : ℕ) (places : List Place) → s.clock ≤ clock → places ≡ places_ending s.windows s.clock clock g.due
+  pub clock-held : (clock : ℕ) (places : List Place) → s.clock ≤ clock → places ≡ places_ending s.clock clock g.ends
       → h ≡ held_by (with_clock s clock) (traffic_held g)
       (refreshed (with_clock s clock) (traffic_held g) (facts_of s (traffic_held g)) places)
       → IsHeld (with_clock s clock) h
@@ -78,7 +79,7 @@ module _ (s : SettingsValue) (g h : Holding) (is : IsHeld s g) where
       kept z t h is.traffic
       (set
       ∙ ap (λ (ps : List Place). held_by z t (refreshed z t (facts_of s t) ps))
-      (are ∙ ap (λ (x : Holding). places_ending s.windows s.clock clock x.due) is.held)
+      (are ∙ ap (λ (x : Holding). places_ending s.clock clock x.ends) is.held)
       ∙ ap (held_by z t) (clocked s t clock forward))
 
   -- windows that differ in a link's

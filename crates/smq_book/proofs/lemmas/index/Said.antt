@@ -11,6 +11,7 @@ use Rattle.smq_kit.specs.declared.place.Place.{Place}
 use Rattle.smq_kit.specs.Orders.{place_cmp}
 use Rattle.smq_kit.proofs.MapLemmas.{same_key}
 use Rattle.smq_receipt.specs.declared.reading.Receipt.{Receipt}
+use Rattle.smq_pair.specs.declared.pairing.Pair.{Pair}
 use Rattle.smq_pair.specs.Growth.{IsNext, made_by, pushed}
 use Rattle.smq_book.specs.declared.present.kept.KeptPdu.{KeptPdu}
 use Rattle.smq_book.specs.present.Kept.{receipt_in}
@@ -27,7 +28,7 @@ use Rattle.smq_book.proofs.lemmas.edits.Appends.{HasPdus, centre-step, client-st
 use Rattle.smq_book.proofs.lemmas.edits.Moved.{moved-both}
 use Rattle.smq_book.proofs.lemmas.edits.PushNotes as places
 use Rattle.smq_book.proofs.lemmas.pairing.Paired.{above}
-use Rattle.smq_book.proofs.lemmas.index.Answering.{answers-are, elsewhere, none-above}
+use Rattle.smq_book.proofs.lemmas.index.Answering.{answers-are, elsewhere, none-above, waits-for}
 use Rattle.smq_book.proofs.lemmas.index.Pushed.{AreOfNotes, after-both, after-same, messages-stay, receipts-stay}
 use Rattle.smq_book.proofs.lemmas.index.PushedAll.{messages-by, next-of-notes, receipts-by}
 
@@ -250,6 +251,13 @@ module _ (origin : Origin) (client centre pdus : List KeptPdu) (i : ℕ) (x : Ke
         subst (IsSaidBy origin client (centre ++ take (i + 1) pdus)) (sym after)
         (subst (λ ps. IsSaidBy origin client ps (moved_by t (pdu_moves origin FromCentre client (centre ++ take i pdus) x))) (grown centre)
         (said-centre origin client (centre ++ take i pdus) x t client_rises (rises-to centre rises) said))
+
+    -- the message at the request of the pair that it makes had no response
+    pub centre-waits : (t : TrafficValue) → IsTraffic t → IsSaidBy origin client (centre ++ take i pdus) t → (pair : Pair) (m : Message)
+        → made_by (pairing_among origin client (centre ++ take i pdus)) (placed origin FromCentre x) ≡ Some pair
+        → get t.messages pair.request ≡ Some m → m.response ≡ None
+    centre-waits t is said pair m made there =
+        waits-for origin client (centre ++ take i pdus) x t is said client_rises (rises-to centre rises) pair m made there
 
     -- the pair that it makes tells the message that it answers
     pub centre-moves : (t : TrafficValue) → IsTraffic t → IsSaidBy origin client (centre ++ take i pdus) t → SubmitsAreRequests client

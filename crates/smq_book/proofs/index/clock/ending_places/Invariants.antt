@@ -1,17 +1,16 @@
--- The places so far, and those that are left from the next link on, are all that end.
-use Rattle.std.proofs.Common.{◌≡◌, ◌++◌, ◌+◌}
-use Rattle.std.specs.Prelude.{◌-◌}
-use Rattle.smq_book.specs.index.Due.{places_ending}
-use Rattle.smq_book.specs.index.Held.{dues_in}
-use Rattle.smq_book.proofs.lemmas.index.Walks.{ending_from}
+-- The places so far, and those that are left of the walk, are all that are met.
+use Rattle.std.proofs.Common.{◌≡◌, ◌≤◌, ◌+◌, ◌++◌, length, filter}
+use Rattle.smq_book.specs.index.EndWalks.{IsWalked, ends_in_between, filled, left_after}
 use Rattle.smq_book.proofs.index.clock.ending_places.Given as goal
 
-abbrev pub invariant-loop-link : goal.invariant-loop-link
-invariant-loop-link l = record {
-  gathered : l.places.items ++ ending_from l.windows l.fn.from l.clock l.at_least.0 (dues_in l.due.content)
-      ≡ places_ending l.windows l.fn.from l.clock (dues_in l.due.content);
+abbrev pub invariant-loop-next : goal.invariant-loop-next
+invariant-loop-next l = record {
+  walked : IsWalked (1 + length (filter (ends_in_between l.fn.from l.clock) l.fn.ends.places)) l.fn.ends l.ends;
+  touches : l.ends.touches + length (left_after l.clock l.fn.ends.places l.next)
+      ≤ l.fn.ends.touches + 1 + length (filter (ends_in_between l.fn.from l.clock) l.fn.ends.places);
+  gathered : l.places.items ++ filled (left_after l.clock l.fn.ends.places l.next)
+      ≡ filled (filter (ends_in_between l.fn.from l.clock) l.fn.ends.places);
 }
 
--- the links that are left
-abbrev pub decreases-loop-link : goal.decreases-loop-link
-decreases-loop-link l = (l.last.0 + 1) - l.at_least.0
+abbrev pub decreases-loop-next : goal.decreases-loop-next
+decreases-loop-next l = length (left_after l.clock l.fn.ends.places l.next)

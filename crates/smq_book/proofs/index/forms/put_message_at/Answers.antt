@@ -1,4 +1,4 @@
-use Rattle.std.proofs.Common.{◌∷◌, [], ap, ◌∙◌}
+use Rattle.std.proofs.Common.{◌∷◌, [], ap, ◌∙◌, ◌≡◌, ◌≤◌, ◌+◌, subst}
 use Rattle.std.specs.FinMap.{FinMap, get}
 use Rattle.smq_kit.specs.Orders.{place_cmp}
 use Rattle.smq_kit.proofs.MapLemmas.{get-removed}
@@ -10,6 +10,14 @@ use Rattle.smq_book.specs.pairing.Traffic.{Message}
 use Rattle.smq_book.proofs.lemmas.index.Followed.{are-held}
 use Rattle.smq_book.proofs.lemmas.index.LinkOut.{put-anew}
 use Rattle.smq_book.proofs.lemmas.index.Pushed.{after-both, after-one}
+use Rattle.smq_kit.specs.declared.link_key.LinkKey.{LinkKey}
+use Rattle.smq_group.specs.Groups.{vacancies}
+use Rattle.smq_group.specs.Matching.{Grouping}
+use Rattle.smq_book.specs.join.Keyed.{accepted_key}
+use Rattle.smq_book.specs.declared.index.index.Index.{Index}
+use Rattle.smq_book.specs.index.Touches.{index_cost, load_of}
+use Rattle.smq_book.proofs.lemmas.index.Comes.{message-comes}
+use Rattle.smq_book.proofs.lemmas.index.Members.{submit-absent}
 use Rattle.smq_book.proofs.index.forms.put_message_at.Goals as goal
 
 pub put_message-requires-clause-are : goal.put_message-requires-clause-are
@@ -47,3 +55,26 @@ returns-clause-held c =
       traffic = both.traffic ∙ ap (λ (m : FinMap place_cmp Message). record (traffic_held g) { messages = m })
           (put-anew g.messages q x);
     }
+
+-- where nothing stands nothing is taken out
+pub returns-clause-came : goal.returns-clause-came
+returns-clause-came c = λ none.
+    let s = c.args.settings.now in
+    let i = c.args.index.now in
+    let j = c.put_message.new.self in
+    let q = c.args.place in
+    let x : Message = c.args.message in
+    let t = traffic_held (held_now i) in
+    let same : c.take_message.new.self ≡ i = c.in_ok-take_message.ensures.idle none in
+    let were = ap (λ (h : Holding). h.members) c.requires.held.held in
+    let held = ap held_now same ∙ c.requires.held.held in
+    let are = ap (λ (h : Holding). h.members) (c.in_ok-put_message.ensures.held t c.requires.held.traffic held) in
+    let absent = ap (λ (g : Grouping). get g.submits q) were ∙ submit-absent s q t none in
+    message-comes i.standings j.standings q
+    (subst (λ (x : Index). (k : LinkKey) → vacancies j.standings k ≤ vacancies x.standings k) same c.in_ok-put_message.ensures.vacant)
+    s t x were are absent
+
+pub returns-clause-touches : goal.returns-clause-touches
+returns-clause-touches c = λ none.
+    subst (λ (x : Index). index_cost c.put_message.new.self ≤ index_cost x + 43 + load_of x.standings (accepted_key c.args.settings.now c.args.message)) (c.in_ok-take_message.ensures.idle none)
+    c.in_ok-put_message.ensures.weighs

@@ -1,14 +1,25 @@
-use Rattle.std.proofs.Common.{◌≡◌, ◌∷◌, List, length, ap, sym, subst, ◌∙◌, rules}
+use Rattle.std.proofs.Common.{◌≡◌, ◌∷◌, List, length, ap, sym, subst, ◌∙◌, rules, ◌≤◌, arith}
+use Rattle.std.specs.List.{sum_by}
+use Rattle.std.proofs.lemmas.List.Sums.{sum_by-cons}
 use Rattle.std.specs.Prelude.{map}
 use Rattle.std.specs.Vec.Iter.{into_iter_items}
 use Rattle.std.proofs.lemmas.List.{nil_from_length}
 use Rattle.smq_kit.specs.declared.place.Dir.TheVariants.{FromClient}
 use Rattle.smq_kit.specs.declared.place.Place.{Place}
 use Rattle.smq_book.specs.index.Held.{held_now, traffic_held}
+use Rattle.smq_kit.specs.declared.link_key.LinkKey.{LinkKey}
+use Rattle.smq_book.specs.edits.Reach.{members}
+use Rattle.smq_book.specs.index.Coming.{AreNew}
 use Rattle.smq_book.specs.index.LinkOut.{AllFrom}
+use Rattle.smq_book.specs.index.Touches.{put_load}
+use Rattle.smq_book.specs.join.Keyed.{accepted_key}
+use Rattle.smq_book.specs.pairing.Traffic.{TrafficValue}
 use Rattle.smq_book.specs.join.Moves.{PutMessage, moved_by}
 use Rattle.smq_book.specs.pairing.Traffic.{Message}
+use Rattle.smq_book.proofs.lemmas.index.Comes.{both-come}
+use Rattle.smq_book.proofs.lemmas.index.FormCosts.{walks-more}
 use Rattle.smq_book.proofs.lemmas.index.LinkOut.{moves-more}
+use Rattle.smq_book.proofs.lemmas.index.Rises.{both-rise}
 use Rattle.smq_book.proofs.index.forms.put_messages.Goals as goal
 
 pub put_message_at-requires-clause-dir : goal.put_message_at-requires-clause-dir
@@ -34,6 +45,26 @@ loop-place-preserved c =
           (ap (map PutMessage) next) c.loop-place.invariant.traffic;
       dirs = from.1;
       settled = c.put_message_at.ensures.settled ∙ c.loop-place.invariant.settled;
+      new = λ fresh.
+          let was = c.loop-place.invariant.new fresh in
+          let now = subst (λ (es : List (Place × Message)). AreNew (traffic_held g) (map PutMessage es)) next was.0 in (
+            subst (λ (t : TrafficValue). AreNew t (map PutMessage (into_iter_items c.next.new.self))) (sym after.traffic) now.1,
+            both-come c.args.index.now.standings c.loop-place.index.standings c.put_message_at.new.index.standings was.1 (c.in_ok-put_message_at.ensures.came now.0),
+          );
+      touches = λ n fresh fewer.
+          let was = c.loop-place.invariant.new fresh in
+          let now = subst (λ (es : List (Place × Message)). AreNew (traffic_held g) (map PutMessage es)) next was.0 in
+          let come = c.in_ok-put_message_at.ensures.came now.0 in
+          let less : (k : LinkKey) → members c.loop-place.index.standings.members k ≤ members n k = λ k.
+          (let a = come.more k in let b = fewer k in omega (arith, a, b)) in
+          let before = c.loop-place.invariant.touches n fresh less in
+          let this = c.in_ok-put_message_at.ensures.touches now.0 in
+          let f = put_load c.args.index.now.standings n c.args.settings.now in
+          let sums = ap (sum_by f) next ∙ sum_by-cons f (c.in-Some.place, c.in-Some.message) (into_iter_items c.next.new.self) in
+          let walked = walks-more c.args.index.now.standings c.loop-place.index.standings was.1 n less (accepted_key c.args.settings.now c.in-Some.message) in
+          omega (arith, before, this, sums, walked);
+      rises = both-rise c.args.index.now c.loop-place.index c.put_message_at.new.index c.loop-place.invariant.rises
+          c.in_ok-put_message_at.ensures.rises;
     }
 
 pub returns-clause-held : goal.returns-clause-held
@@ -46,3 +77,11 @@ returns-clause-held c =
           (sym (nil_from_length (into_iter_items c.loop-place.place-iterator) none))
           ∙ c.loop-place.invariant.traffic;
     }
+
+pub returns-clause-came : goal.returns-clause-came
+returns-clause-came c = λ fresh. (c.loop-place.invariant.new fresh).1
+
+pub returns-clause-touches : goal.returns-clause-touches
+returns-clause-touches c = λ n fresh fewer.
+    let before = c.loop-place.invariant.touches n fresh fewer in
+    omega (arith, before)

@@ -1,4 +1,4 @@
-use Rattle.std.proofs.Common.{◌∷◌, [], ap, ◌∙◌}
+use Rattle.std.proofs.Common.{◌∷◌, [], ap, ◌∙◌, ◌≡◌, ◌≤◌, ◌+◌, Some, subst}
 use Rattle.std.specs.FinMap.{FinMap, get}
 use Rattle.smq_kit.specs.Orders.{place_cmp}
 use Rattle.smq_kit.proofs.MapLemmas.{get-removed}
@@ -10,6 +10,14 @@ use Rattle.smq_book.specs.pairing.Traffic.{ReceivedReceipt}
 use Rattle.smq_book.proofs.lemmas.index.Followed.{are-held}
 use Rattle.smq_book.proofs.lemmas.index.LinkOut.{put-anew}
 use Rattle.smq_book.proofs.lemmas.index.Pushed.{after-both, after-one}
+use Rattle.smq_kit.specs.declared.link_key.LinkKey.{LinkKey}
+use Rattle.smq_group.specs.Groups.{vacancies}
+use Rattle.smq_group.specs.Matching.{Grouping}
+use Rattle.smq_book.specs.join.Keyed.{receipt_key}
+use Rattle.smq_book.specs.declared.index.index.Index.{Index}
+use Rattle.smq_book.specs.index.Touches.{index_cost, load_of}
+use Rattle.smq_book.proofs.lemmas.index.Comes.{received-comes}
+use Rattle.smq_book.proofs.lemmas.index.Members.{receipt-absent}
 use Rattle.smq_book.proofs.index.forms.put_receipt_at.Goals as goal
 
 pub put_receipt-requires-clause-are : goal.put_receipt-requires-clause-are
@@ -47,3 +55,26 @@ returns-clause-held c =
       traffic = both.traffic ∙ ap (λ (m : FinMap place_cmp ReceivedReceipt). record (traffic_held g) { receipts = m })
           (put-anew g.receipts q x);
     }
+
+-- where nothing stands nothing is taken out
+pub returns-clause-came : goal.returns-clause-came
+returns-clause-came c = λ none.
+    let s = c.args.settings.now in
+    let i = c.args.index.now in
+    let j = c.put_receipt.new.self in
+    let q = c.args.place in
+    let x : ReceivedReceipt = c.args.receipt in
+    let t = traffic_held (held_now i) in
+    let same : c.take_receipt.new.self ≡ i = c.in_ok-take_receipt.ensures.idle none in
+    let were = ap (λ (h : Holding). h.members) c.requires.held.held in
+    let held = ap held_now same ∙ c.requires.held.held in
+    let are = ap (λ (h : Holding). h.members) (c.in_ok-put_receipt.ensures.held t c.requires.held.traffic held) in
+    let absent = ap (λ (g : Grouping). get g.receipts q) were ∙ receipt-absent s q t none in
+    received-comes i.standings j.standings q
+    (subst (λ (x : Index). (k : LinkKey) → vacancies j.standings k ≤ vacancies x.standings k) same c.in_ok-put_receipt.ensures.vacant)
+    s t x were are absent
+
+pub returns-clause-touches : goal.returns-clause-touches
+returns-clause-touches c = λ none.
+    subst (λ (x : Index). index_cost c.put_receipt.new.self ≤ index_cost x + 43 + load_of x.standings (Some (receipt_key c.args.settings.now c.args.receipt))) (c.in_ok-take_receipt.ensures.idle none)
+    c.in_ok-put_receipt.ensures.weighs

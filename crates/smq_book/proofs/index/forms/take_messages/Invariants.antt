@@ -1,8 +1,10 @@
 -- What is held is what the places so far leave of it, and what stood there is taken.
-use Rattle.std.proofs.Common.{◌≡◌, drop}
+use Rattle.std.proofs.Common.{◌≡◌, ◌≤◌, ◌+◌, drop, take}
+use Rattle.std.specs.List.{sum_by}
 use Rattle.std.specs.Prelude.{map}
 use Rattle.smq_book.specs.index.Held.{IsHeld, held_now, held_settled, traffic_held}
 use Rattle.smq_book.specs.index.LinkOut.{TakesOut}
+use Rattle.smq_book.specs.index.Touches.{AreTaken, MembersGo, RisesWithFacts, index_cost, taken_load}
 use Rattle.smq_book.specs.join.Moves.{TakeMessage, moved_by}
 use Rattle.smq_book.proofs.index.forms.take_messages.Given as goal
 
@@ -13,4 +15,9 @@ invariant-loop-place l = record {
       ≡ moved_by (traffic_held (held_now l.initial.index)) (map TakeMessage l.places);
   taken : TakesOut (held_now l.initial.index).messages l.taken.items (held_now l.index).messages;
   settled : held_settled l.index ≡ held_settled l.initial.index;
+  went : MembersGo l.initial.index.standings l.index.standings;
+  touches : index_cost l.index ≤ index_cost l.initial.index + sum_by (taken_load l.initial.index.standings) (take l.place-index l.places);
+  all : AreTaken (held_now l.initial.index).messages l.places
+      → AreTaken (held_now l.index).messages (drop l.place-index l.places) × (map (λ e. e.0) l.taken.items ≡ take l.place-index l.places);
+  rises : RisesWithFacts l.initial.index l.index;
 }

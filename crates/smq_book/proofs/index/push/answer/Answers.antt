@@ -1,12 +1,15 @@
-use Rattle.std.proofs.Common.{◌≡◌, [], ◌∷◌, Option, Some, None, ap, sym, ◌∙◌, rules}
+use Rattle.std.proofs.Common.{◌≡◌, [], ◌∷◌, Option, Some, None, ap, refl, sym, ◌∙◌, rules, arith}
 use Rattle.std.specs.FinMap.{get}
 use Rattle.std.specs.Option.{option_copied}
+use Rattle.smq_group.specs.Matching.{Grouping}
 use Rattle.smq_book.specs.index.Held.{Holding, held_now, traffic_held}
 use Rattle.smq_book.specs.index.Pushed.{answer_moves, with_response, without_response}
 use Rattle.smq_book.specs.join.Moves.{PutMessage, TakeMessage}
 use Rattle.smq_book.specs.pairing.Traffic.{Message}
+use Rattle.smq_book.proofs.lemmas.index.Comes.{message-comes, message-weighed, none-come}
 use Rattle.smq_book.proofs.lemmas.index.Followed.{are-held}
-use Rattle.smq_book.proofs.lemmas.index.Pushed.{after-both, after-none, after-one, after-over, after-same, answer-none, answer-one, no-receipt, taken-out}
+use Rattle.smq_book.proofs.lemmas.index.Members.{submit-there}
+use Rattle.smq_book.proofs.lemmas.index.Pushed.{after-none, after-one, after-over, after-same, answer-none, answer-one}
 use Rattle.smq_book.proofs.lemmas.index.Stored.{stored-at}
 use Rattle.smq_book.proofs.index.push.answer.Goals as goal
 
@@ -20,71 +23,29 @@ returns-in_default-clause-held c =
     after-same s g g [] (answer_moves g.messages (Some c.args.pair) c.args.response.now)
     (answer-none g.messages c.args.response.now c.args.pair none) (after-none s g c.requires.held)
 
-pub put_message-requires-clause-are : goal.put_message-requires-clause-are
-put_message-requires-clause-are c =
-    let s = c.args.settings.now in
-    let g = held_now c.args.index.now in
-    let taken = held_now c.take_message.new.self in
-    let first = after-one s g taken (TakeMessage c.args.pair.request) c.requires.held tt
-    (c.in_ok-take_message.ensures.held (traffic_held g) c.requires.held.traffic c.requires.held.held) in
-    are-held s (traffic_held taken) c.take_message.new.self first.held.traffic first.held.held
+pub returns-in_default-clause-came : goal.returns-in_default-clause-came
+returns-in_default-clause-came c = none-come c.args.index.now.standings c.args.index.now.standings refl
 
-pub put_message-requires-clause-absent : goal.put_message-requires-clause-absent
-put_message-requires-clause-absent c =
-    let g = held_now c.args.index.now in
-    let q = c.args.pair.request in
-    ap (λ (h : Holding). get h.messages q)
-    (c.in_ok-take_message.ensures.held (traffic_held g) c.requires.held.traffic c.requires.held.held)
-    ∙ taken-out g.messages q
+pub returns-in_default-clause-touches : goal.returns-in_default-clause-touches
+returns-in_default-clause-touches c = λ full. omega arith
 
-pub put_message-requires-clause-apart : goal.put_message-requires-clause-apart
-put_message-requires-clause-apart c =
-    let g = held_now c.args.index.now in
-    let q = c.args.pair.request in
-    let m = c.in-Some.message.now in
-    let some : ◌≡◌ {A = Option Message} (Some m) (option_copied c.get.result) = search rules in
-    let there : get g.messages q ≡ Some m = sym (some ∙ c.get.ensures ∙ stored-at c.args.index.now.messages.content q) in
-    ap (λ (h : Holding). get h.receipts q)
-    (c.in_ok-take_message.ensures.held (traffic_held g) c.requires.held.traffic c.requires.held.held)
-    ∙ no-receipt (traffic_held g) c.requires.held.traffic q m there
-
-pub returns-clause-held : goal.returns-clause-held
-returns-clause-held c =
-    let s = c.args.settings.now in
-    let g = held_now c.args.index.now in
-    let taken = held_now c.take_message.new.self in
-    let put = held_now c.put_message.new.self in
-    let q = c.args.pair.request in
-    let m = c.in-Some.message.now in
-    let n = c.with_response-answered.result in
-    let some : ◌≡◌ {A = Option Message} (Some m) (option_copied c.get.result) = search rules in
-    let there : get g.messages q ≡ Some m = sym (some ∙ c.get.ensures ∙ stored-at c.args.index.now.messages.content q) in
-    let first = after-one s g taken (TakeMessage q) c.requires.held tt
-    (c.in_ok-take_message.ensures.held (traffic_held g) c.requires.held.traffic c.requires.held.held) in
-    let second = after-one s taken put (PutMessage (q, n)) first.held (c.requires.held.traffic.messages q m there)
-    (c.in_ok-put_message.ensures.held (traffic_held taken) first.held.traffic first.held.held) in
-    after-same s g put (TakeMessage q ∷ PutMessage (q, n) ∷ []) (answer_moves g.messages (Some c.args.pair) c.args.response.now)
-    (answer-one g.messages c.args.response.now c.args.pair m n there (c.with_response-answered.ensures ∙ ap (with_response m) c.said.ensures))
-    (after-both s g taken put first second)
-
--- the message that has no response yet is the answered one without it
 pub answer_message-requires-clause-are : goal.answer_message-requires-clause-are
 answer_message-requires-clause-are c =
     are-held c.args.settings.now (traffic_held (held_now c.args.index.now)) c.args.index.now c.requires.held.traffic c.requires.held.held
 
+-- the message that is stored there is the answered one without its response
 pub answer_message-requires-clause-unanswered : goal.answer_message-requires-clause-unanswered
 answer_message-requires-clause-unanswered c =
     let m = c.in-Some.message.now in
     let some : ◌≡◌ {A = Option Message} (Some m) (option_copied c.get.result) = search rules in
     let there : get (held_now c.args.index.now).messages c.args.pair.request ≡ Some m =
     sym (some ∙ c.get.ensures ∙ stored-at c.args.index.now.messages.content c.args.pair.request) in
-    let none : m.response ≡ None = search rules in
     there
-    ∙ ap (λ r. Some (record m { response = r })) none
+    ∙ ap (λ r. Some (record m { response = r })) (c.requires.waits m there)
     ∙ sym (ap (λ x. Some (without_response x)) c.with_response-answered.ensures)
 
-pub returns-then-is_first-clause-held : goal.returns-then-is_first-clause-held
-returns-then-is_first-clause-held c =
+pub returns-clause-held : goal.returns-clause-held
+returns-clause-held c =
     let s = c.args.settings.now in
     let g = held_now c.args.index.now in
     let put = held_now c.answer_message.new.self in
@@ -98,3 +59,38 @@ returns-then-is_first-clause-held c =
     after-same s g put (TakeMessage q ∷ PutMessage (q, n) ∷ []) (answer_moves g.messages (Some c.args.pair) c.args.response.now)
     (answer-one g.messages c.args.response.now c.args.pair m n there (c.with_response-answered.ensures ∙ ap (with_response m) c.said.ensures))
     (after-over s g put q n one)
+
+pub returns-clause-came : goal.returns-clause-came
+returns-clause-came c =
+    let s = c.args.settings.now in
+    let t = traffic_held (held_now c.args.index.now) in
+    let g = c.args.index.now.standings in
+    let h = c.answer_message.new.self.standings in
+    let q = c.args.pair.request in
+    let m = c.in-Some.message.now in
+    let n = c.with_response-answered.result in
+    let were = ap (λ (x : Holding). x.members) c.requires.held.held in
+    let are = ap (λ (x : Holding). x.members) (c.in_ok-answer_message.ensures.held t c.requires.held.traffic c.requires.held.held) in
+    let some : ◌≡◌ {A = Option Message} (Some m) (option_copied c.get.result) = search rules in
+    let there : get t.messages q ≡ Some m = sym (some ∙ c.get.ensures ∙ stored-at c.args.index.now.messages.content q) in
+    let waited : get t.messages q ≡ Some (without_response m) = there ∙ ap (λ r. Some (record m { response = r })) (c.requires.waits m there) in
+    let none : get g.members.submits q ≡ None = ap (λ (x : Grouping). get x.submits q) were ∙ submit-there s q t (without_response m) waited in
+    message-comes g h q c.in_ok-answer_message.ensures.vacant s t n were are none
+
+pub returns-clause-touches : goal.returns-clause-touches
+returns-clause-touches c = λ full.
+    let s = c.args.settings.now in
+    let t = traffic_held (held_now c.args.index.now) in
+    let g = c.args.index.now.standings in
+    let h = c.answer_message.new.self.standings in
+    let q = c.args.pair.request in
+    let m = c.in-Some.message.now in
+    let n = c.with_response-answered.result in
+    let were = ap (λ (x : Holding). x.members) c.requires.held.held in
+    let are = ap (λ (x : Holding). x.members) (c.in_ok-answer_message.ensures.held t c.requires.held.traffic c.requires.held.held) in
+    let some : ◌≡◌ {A = Option Message} (Some m) (option_copied c.get.result) = search rules in
+    let there : get t.messages q ≡ Some m = sym (some ∙ c.get.ensures ∙ stored-at c.args.index.now.messages.content q) in
+    let waited : get t.messages q ≡ Some (without_response m) = there ∙ ap (λ r. Some (record m { response = r })) (c.requires.waits m there) in
+    let none : get g.members.submits q ≡ None = ap (λ (x : Grouping). get x.submits q) were ∙ submit-there s q t (without_response m) waited in
+    let weighed = message-weighed g h q c.in_ok-answer_message.ensures.vacant s t n were are none full in
+    omega (arith, weighed, c.in_ok-answer_message.ensures.weighs)

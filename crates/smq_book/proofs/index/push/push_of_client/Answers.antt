@@ -1,9 +1,11 @@
-use Rattle.std.proofs.Common.{◌≡◌, ◌++◌, Option, ap, ◌∙◌}
+use Rattle.std.proofs.Common.{◌≡◌, ◌++◌, Option, ap, sym, subst, ◌∙◌, arith}
 use Rattle.smq_kit.specs.declared.place.Dir.TheVariants.{FromClient}
 use Rattle.smq_pair.specs.Growth.{made_by, pushed}
 use Rattle.smq_pair.specs.Pairing.{PairingValue, pair_at, placed_header}
 use Rattle.smq_pair.specs.declared.pairing.Pair.{Pair}
+use Rattle.smq_group.specs.Groups.{GroupsValue}
 use Rattle.smq_book.specs.index.Held.{held_now}
+use Rattle.smq_book.specs.index.Touches.{HasNoneVacant, MembersCome}
 use Rattle.smq_book.specs.index.Pushed.{noted_moves, origin_at, pdu_moves, submit_moves}
 use Rattle.smq_book.specs.pairing.Traffic.{pairing_among, placed}
 use Rattle.smq_book.proofs.lemmas.index.Pushed.{after-both, after-same, client-pushed}
@@ -28,3 +30,12 @@ returns-clause-held c = λ client rises asks pairs.
     (pdu_moves origin FromClient client centre next)
     (client-pushed origin next client centre made response rises c.requires.centre asks made_is c.said_in-response.ensures)
     (after-both s g (held_now c.note_of_client.new.index) (held_now c.put_submit.new.index) first c.in_ok-put_submit.ensures.held)
+
+pub returns-clause-came : goal.returns-clause-came
+returns-clause-came c =
+    subst (λ (x : GroupsValue). MembersCome x c.put_submit.new.index.standings) c.note_of_client.ensures.standings c.in_ok-put_submit.ensures.came
+
+pub returns-clause-touches : goal.returns-clause-touches
+returns-clause-touches c = λ full.
+    let put = c.in_ok-put_submit.ensures.touches (subst HasNoneVacant (sym c.note_of_client.ensures.standings) full) in
+    omega (arith, put, c.in_ok-made.ensures.touches, c.note_of_client.ensures.touches)

@@ -4,6 +4,7 @@ use Rattle.smq_kit.specs.declared.place.Place.{Place}
 use Rattle.smq_book.specs.index.Held.{held_now}
 use Rattle.smq_book.specs.index.Refreshed.{refreshed}
 use Rattle.smq_book.proofs.lemmas.index.Refreshed.{refreshed-all, refreshed-next}
+use Rattle.smq_book.proofs.lemmas.index.Rises.{both-rise}
 use Rattle.smq_book.proofs.index.routes.refresh_at.Goals as goal
 
 -- the place that is read past the end of a list
@@ -18,9 +19,12 @@ loop-place-preserved c = record {
       refreshed-next z t facts places i none (held_now c.refresh_by.new.self) c.loop-place-test.true
       (c.in_ok-refresh_by.ensures.held z t (refreshed z t facts (take i places)) traffic routes windows clock
       (c.loop-place.invariant.held z t facts traffic routes windows clock held));
+  traffic = c.in_ok-refresh_by.ensures.traffic ∙ c.loop-place.invariant.traffic;
   settled = c.refresh_by.ensures.settled ∙ c.loop-place.invariant.settled;
   touches = omega (arith, c.in_ok-refresh_by.ensures.touches, c.loop-place.invariant.touches);
   counted = omega (arith, c.refresh_by.ensures.counted, c.loop-place.invariant.counted);
+  rises = both-rise c.args.index.now c.loop-place.index c.refresh_by.new.self c.loop-place.invariant.rises
+      c.in_ok-refresh_by.ensures.rises;
 }
 
 pub returns-clause-held : goal.returns-clause-held

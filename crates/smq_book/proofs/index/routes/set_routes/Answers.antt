@@ -1,10 +1,9 @@
 use Rattle.std.proofs.Common.{ap, refl, ◌∙◌}
 use Rattle.smq_route.specs.Numbers.{NumbersValue}
-use Rattle.smq_book.specs.present.Settings.{with_clock, with_versions, with_windows}
+use Rattle.smq_book.specs.present.Settings.{with_versions}
 use Rattle.smq_book.specs.join.Facts.{facts_of}
 use Rattle.smq_book.specs.index.Held.{held_now, traffic_held}
-use Rattle.smq_book.specs.index.Refreshed.{refreshed}
-use Rattle.smq_book.proofs.lemmas.index.Refreshed.{routes-held, told-numbers, traffic-stays}
+use Rattle.smq_book.proofs.lemmas.index.Refreshed.{routes-held, told-numbers}
 use Rattle.smq_book.proofs.index.routes.set_routes.Goals as goal
 
 pub returns-clause-held : goal.returns-clause-held
@@ -18,11 +17,4 @@ returns-clause-held c = λ s windows clock is same.
     (unmoved ∙ is.held))
 
 pub returns-clause-traffic : goal.returns-clause-traffic
-returns-clause-traffic c = λ s is.
-    let g = held_now c.args.index.now in
-    let versions = c.args.routes.now.versions in
-    let z = with_clock (with_windows (with_versions s versions) c.args.windows.now) c.args.clock in
-    let unmoved = told-numbers g c.under.new.self.numbers (ap (λ (n : NumbersValue). n.numbers) c.under.ensures.unchanged) in
-    traffic-stays s z g (held_now c.refresh_at.new.index)
-    (refreshed z (traffic_held g) (facts_of s (traffic_held g)) c.as_slice.result.now) is
-    (c.in_ok-refresh_at.ensures.held z (traffic_held g) (facts_of s (traffic_held g)) is.traffic refl refl refl (unmoved ∙ is.held))
+returns-clause-traffic c = λ s is. c.in_ok-refresh_at.ensures.traffic

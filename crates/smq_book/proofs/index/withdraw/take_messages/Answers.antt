@@ -1,13 +1,27 @@
-use Rattle.std.proofs.Common.{refl, ◌∙◌, arith}
+use Rattle.std.proofs.Common.{refl, ap, ◌∙◌, arith}
+use Rattle.std.specs.List.{sum_by}
+use Rattle.std.proofs.lemmas.List.{take_all}
+use Rattle.std.proofs.lemmas.List.Sums.{sum_by_more}
+use Rattle.smq_kit.specs.declared.place.Dir.TheVariants.{FromClient}
 use Rattle.smq_book.specs.index.Held.{held_now}
 use Rattle.smq_book.specs.index.Taken.{submit_take}
+use Rattle.smq_book.specs.index.Touches.{message_load}
+use Rattle.smq_book.specs.pairing.Traffic.{place_of}
 use Rattle.smq_book.specs.within.Pairs.{from_session}
 use Rattle.smq_book.proofs.lemmas.index.Pushed.{after-none}
 use Rattle.smq_book.proofs.lemmas.index.Taken.{all-taken, next-taken}
+use Rattle.smq_book.proofs.lemmas.index.Weights.{both-go, message-lighter, none-go}
+use Rattle.smq_book.proofs.lemmas.index.Rises.{both-rise, none-rise}
 use Rattle.smq_book.proofs.index.withdraw.take_messages.Goals as goal
 
 pub loop-pdu-init : goal.loop-pdu-init
-loop-pdu-init c = record { held = after-none c.args.settings.now (held_now c.args.index.now) c.requires; settled = refl }
+loop-pdu-init c = record {
+  held = after-none c.args.settings.now (held_now c.args.index.now) c.requires;
+  settled = refl;
+  went = none-go c.args.index.now.standings c.args.index.now.standings refl;
+  touches = omega arith;
+  rises = none-rise c.args.index.now;
+}
 
 pub take_submit-requires : goal.take_submit-requires
 take_submit-requires c = c.loop-pdu.invariant.held.held
@@ -18,9 +32,25 @@ loop-pdu-preserved c = record {
       c.loop-pdu.pdu-index c.pdu-item.result (held_now c.loop-pdu.index) (held_now c.take_submit.new.index) c.loop-pdu-test.true
       c.pdu-item.is c.loop-pdu.invariant.held c.in_ok-take_submit.ensures.held;
   settled = c.take_submit.ensures.settled ∙ c.loop-pdu.invariant.settled;
+  went = both-go c.args.index.now.standings c.loop-pdu.index.standings c.take_submit.new.index.standings c.loop-pdu.invariant.went
+      c.in_ok-take_submit.ensures.went;
+  touches = (let f = message_load c.args.index.now.standings (from_session c.args.number) in
+      let more = sum_by_more f c.args.client.now c.loop-pdu.pdu-index c.pdu-item.result c.loop-pdu-test.true in
+      let this = ap f c.pdu-item.is in
+      let less = message-lighter c.args.index.now.standings c.loop-pdu.index.standings c.loop-pdu.invariant.went
+      (place_of (from_session c.args.number) FromClient c.pdu-item.result) in
+      omega (arith, more, this, less, c.loop-pdu.invariant.touches, c.in_ok-take_submit.ensures.touches));
+  rises = both-rise c.args.index.now c.loop-pdu.index c.take_submit.new.index c.loop-pdu.invariant.rises
+      c.in_ok-take_submit.ensures.rises;
 }
 
 pub returns-clause-held : goal.returns-clause-held
 returns-clause-held c =
     all-taken c.args.settings.now (held_now c.args.index.now) (submit_take (from_session c.args.number)) c.args.client.now
     c.loop-pdu.pdu-index (held_now c.loop-pdu.index) (omega arith) c.loop-pdu.invariant.held
+
+pub returns-clause-touches : goal.returns-clause-touches
+returns-clause-touches c =
+    let all = ap (sum_by (message_load c.args.index.now.standings (from_session c.args.number)))
+    (take_all c.loop-pdu.pdu-index c.args.client.now (omega arith)) in
+    omega (arith, all, c.loop-pdu.invariant.touches)

@@ -7,6 +7,7 @@ use Rattle.smq_book.specs.index.Held.{held_now, traffic_held}
 use Rattle.smq_book.specs.join.Moves.{TakeNote}
 use Rattle.smq_book.proofs.lemmas.index.Pushed.{after-none, after-one}
 use Rattle.smq_book.proofs.lemmas.index.Taken.{all-notes, next-note, traffic-at}
+use Rattle.smq_book.proofs.lemmas.index.Rises.{both-rise, none-rise}
 use Rattle.smq_book.proofs.index.withdraw.take_notes.Goals as goal
 
 -- the note that is read past the end of a list
@@ -14,7 +15,12 @@ abbrev none : Listed
 none = listed Waiting (record { session = record { 0 = 0 }; dir = FromClient; offset = 0 })
 
 pub loop-note-init : goal.loop-note-init
-loop-note-init c = record { held = λ s is. after-none s (held_now c.args.index.now) is; settled = refl }
+loop-note-init c = record {
+  held = λ s is. after-none s (held_now c.args.index.now) is;
+  settled = refl;
+  touches = omega arith;
+  rises = none-rise c.args.index.now;
+}
 
 pub loop-note-preserved : goal.loop-note-preserved
 loop-note-preserved c = record {
@@ -28,6 +34,9 @@ loop-note-preserved c = record {
       let this = c.in_ok-take_note.ensures.held s (traffic_held h) (traffic-at notes i none c.requires c.loop-note-test.true) before.held.held in
       next-note s g notes i none h k c.loop-note-test.true before (after-one s h k (TakeNote (get_or notes i none)) before.held tt this);
   settled = c.take_note.ensures.settled ∙ c.loop-note.invariant.settled;
+  touches = omega (arith, c.take_note.ensures.touches, c.loop-note.invariant.touches);
+  rises = both-rise c.args.index.now c.loop-note.index c.take_note.new.self c.loop-note.invariant.rises
+      c.in_ok-take_note.ensures.rises;
 }
 
 pub returns-clause-held : goal.returns-clause-held

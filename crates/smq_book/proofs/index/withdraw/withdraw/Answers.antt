@@ -1,11 +1,17 @@
-use Rattle.std.proofs.Common.{◌≡◌, ◌++◌, List, subst, ap, sym, ◌∙◌}
+use Rattle.std.proofs.Common.{◌≡◌, ◌++◌, List, length, subst, ap, sym, ◌∙◌, arith}
+use Rattle.std.specs.List.{sum_by}
+use Rattle.std.proofs.lemmas.List.Sums.{sum_by-le-sum_by}
+use Rattle.smq_kit.specs.declared.place.Dir.TheVariants.{FromCentre}
 use Rattle.smq_tally.specs.declared.list.Listed.{Listed}
 use Rattle.smq_book.specs.present.Settings.{SettingsValue}
-use Rattle.smq_book.specs.pairing.Traffic.{session_notes}
+use Rattle.smq_book.specs.pairing.Traffic.{place_of, session_notes}
+use Rattle.smq_book.specs.within.Pairs.{from_session}
+use Rattle.smq_book.specs.index.Touches.{message_load, receipt_load}
 use Rattle.smq_book.specs.index.Held.{IsHeld, held_now}
 use Rattle.smq_book.specs.index.Taken.{AllTraffic}
 use Rattle.smq_book.proofs.lemmas.index.Pushed.{after-both}
 use Rattle.smq_book.proofs.lemmas.index.Taken.{session-lists, withdrawn-after}
+use Rattle.smq_book.proofs.lemmas.index.Weights.{receipt-lighter}
 use Rattle.smq_book.proofs.index.withdraw.withdraw.Goals as goal
 
 pub take_messages-requires : goal.take_messages-requires
@@ -41,3 +47,27 @@ returns-clause-traffic c =
     (after-both s g taken last c.in_ok-take_messages.ensures.held
     (after-both s taken received last c.in_ok-take_receipts.ensures.held
     (c.in_ok-take_notes.ensures.held s c.in_ok-take_receipts.ensures.held.held)))
+
+pub returns-clause-touches : goal.returns-clause-touches
+returns-clause-touches c =
+    let g = c.args.index.now.standings in
+    let h = c.take_messages.new.index.standings in
+    let origin = from_session c.args.number in
+    let noted : c.as_slice.result.now ≡ session_notes (c.args.number.0, c.args.session.now) =
+    c.as_slice.ensures.value ∙ c.in_ok-push_notes.ensures.notes
+    ∙ ap (λ (before : List Listed). before ++ session_notes (c.args.number.0, c.args.session.now)) c.new-notes.ensures.items in
+    let messages = ap (sum_by (message_load g origin)) c.pdus.ensures in
+    let receipts = ap (sum_by (receipt_load g origin)) c.pdus-2.ensures in
+    let lighter = sum_by-le-sum_by (receipt_load h origin) (receipt_load g origin) c.pdus-2.result.now (λ p.
+    (let less = receipt-lighter g h c.in_ok-take_messages.ensures.went (place_of origin FromCentre p) in omega (arith, less))) in
+    let many = ap (length {A = Listed}) noted in
+    omega (
+      arith,
+      messages,
+      receipts,
+      lighter,
+      many,
+      c.in_ok-take_messages.ensures.touches,
+      c.in_ok-take_receipts.ensures.touches,
+      c.in_ok-take_notes.ensures.touches,
+    )

@@ -12,13 +12,16 @@ use Rattle.smq_book.specs.index.Pushed.{without_response}
 use Rattle.smq_book.specs.join.Keyed.{accepted_key, grouping_of}
 use Rattle.smq_book.specs.join.Moves.{put_message}
 use Rattle.smq_book.specs.pairing.Traffic.{Message, ReceivedReceipt}
-use Rattle.smq_book.proofs.lemmas.index.Followed.{are-stored, due-stays, facts-alone, facts-told, holds, notes-alone, numbers-stay}
+use Rattle.smq_book.proofs.lemmas.index.Followed.{are-stored, due-stays, ends-stay, facts-alone, facts-told, holds, notes-alone, numbers-stay}
 use Rattle.smq_book.proofs.lemmas.index.Followed.{notes-told, put-there, stored-accepted, stored-held, stored-unmoved, unlisted}
 use Rattle.smq_book.proofs.lemmas.index.Members.{members-unmoved, receipt-absent, submit-there}
 use Rattle.smq_book.proofs.lemmas.index.Moves.{came-submit}
 use Rattle.smq_book.proofs.lemmas.join.MoveLemmas.{put_message-moves}
 use Rattle.smq_book.proofs.lemmas.index.Costs.{tells-none}
 use Rattle.smq_book.specs.index.Touches.{vacancies_at}
+use Rattle.smq_book.specs.edits.Reached.{IsMoveOf}
+use Rattle.smq_book.specs.index.Touches.{load_of}
+use Rattle.smq_book.proofs.lemmas.index.Weights.{few-changes, submit-put}
 use Rattle.smq_book.proofs.index.index.Index.answer_message.Goals as goal
 
 pub add_submit-requires-clause-absent : goal.add_submit-requires-clause-absent
@@ -60,6 +63,7 @@ returns-in_default-clause-held c = λ t traffic held.
     (c.in_ok-refresh.ensures.notes (are-stored stores) (unlisted s t u i held stores traffic q move refl (λ m e. free))
     ∙ notes-alone s t u i held stores traffic q move refl alike)
     (c.in_ok-refresh.ensures.due (due-stays s t i held q old m is refl refl stores.messages))
+    (c.in_ok-refresh.ensures.ends (ends-stay s t i held q old m is refl refl stores.messages))
     (ap (λ (n : NumbersValue). n.numbers) c.refresh.ensures.numbers ∙ numbers-stay s t i held q old m is refl)
 
 pub returns-clause-held : goal.returns-clause-held
@@ -94,6 +98,7 @@ returns-clause-held c = λ t traffic held.
     (c.in_ok-follow.ensures.notes (are-stored stores) (unlisted s t u i held stores traffic q move refl (λ m e. free))
     ∙ notes-told s t u i held stores traffic q move refl cs tells there)
     (c.in_ok-follow.ensures.due (due-stays s t i held q old m is refl refl stores.messages))
+    (c.in_ok-follow.ensures.ends (ends-stay s t i held q old m is refl refl stores.messages))
     (ap (λ (n : NumbersValue). n.numbers) c.follow.ensures.numbers ∙ numbers-stay s t i held q old m is refl)
 
 pub returns-in_default-clause-touches : goal.returns-in_default-clause-touches
@@ -120,3 +125,24 @@ pub returns-clause-vacant : goal.returns-clause-vacant
 returns-clause-vacant c = λ k.
     subst (λ (v : GroupsValue). vacancies v k ≤ vacancies c.args.self.now.standings k) (sym c.follow.ensures.standings)
     (c.in_ok-changes.ensures.vacant k)
+
+pub returns-in_default-clause-weighs : goal.returns-in_default-clause-weighs
+returns-in_default-clause-weighs c = omega (arith, c.in_ok-refresh.ensures.touches)
+
+pub returns-clause-weighs : goal.returns-clause-weighs
+returns-clause-weighs c =
+    let i = c.args.self.now in
+    let s = c.args.settings.now in
+    let q = c.args.place in
+    let old = without_response c.args.answered in
+    let g = i.standings.members in
+    let h = c.add_submit.new.self.members in
+    let key = c.in-Some.accepted in
+    let t = stored_traffic i.messages.content i.receipts.content in
+    let absent = ap (λ (x : Grouping). get x.submits q) c.requires.are.grouped ∙ submit-there s q t old c.requires.unanswered in
+    let free = ap (λ (x : Grouping). get x.receipts q) c.requires.are.grouped ∙ receipt-absent s q t (c.requires.are.apart q old c.requires.unanswered) in
+    let move = subst (λ (x : Grouping). IsMoveOf key q g x) (sym c.in_ok-changes.ensures.ok) (submit-put g q key absent free) in
+    let told = few-changes g h c.in_ok-changes.changes.items c.in_ok-changes.ensures.changes key q move in
+    let loaded = ap (load_of i.standings) (sym c.key-key.ensures ∙ c.in-Some.is) in
+    let as-many = ap (length {A = Change}) c.as_slice.ensures.value in
+    omega (arith, loaded, told, as-many, c.in_ok-changes.ensures.touches, c.in_ok-changes.ensures.pending, c.in_ok-follow.ensures.touches)

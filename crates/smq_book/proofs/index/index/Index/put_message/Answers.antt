@@ -11,13 +11,16 @@ use Rattle.smq_book.specs.index.Held.{Holding, stored_traffic}
 use Rattle.smq_book.specs.join.Keyed.{accepted_key}
 use Rattle.smq_book.specs.join.Moves.{put_message}
 use Rattle.smq_book.specs.pairing.Traffic.{Message, ReceivedReceipt}
-use Rattle.smq_book.proofs.lemmas.index.Followed.{are-stored, due-came, facts-alone, facts-told, holds, notes-alone, numbers-came}
+use Rattle.smq_book.proofs.lemmas.index.Followed.{are-stored, due-came, ends-came, facts-alone, facts-told, holds, notes-alone, numbers-came}
 use Rattle.smq_book.proofs.lemmas.index.Followed.{notes-told, put-there, stored-accepted, stored-held, stored-refused, unlisted}
 use Rattle.smq_book.proofs.lemmas.index.Members.{members-unput, receipt-absent, submit-absent}
 use Rattle.smq_book.proofs.lemmas.index.Moves.{came-submit}
 use Rattle.smq_book.proofs.lemmas.join.MoveLemmas.{put_message-moves}
 use Rattle.smq_book.proofs.lemmas.index.Costs.{tells-none}
 use Rattle.smq_book.specs.index.Touches.{vacancies_at}
+use Rattle.smq_book.specs.edits.Reached.{IsMoveOf}
+use Rattle.smq_book.specs.index.Touches.{load_of}
+use Rattle.smq_book.proofs.lemmas.index.Weights.{few-changes, submit-put}
 use Rattle.smq_book.proofs.index.index.Index.put_message.Goals as goal
 
 pub add_submit-requires-clause-absent : goal.add_submit-requires-clause-absent
@@ -55,6 +58,7 @@ returns-in_default-clause-held c = λ t traffic held.
     (c.in_ok-refresh.ensures.notes (are-stored stores) (unlisted s t u i held stores traffic q move refl (λ m e. free))
     ∙ notes-alone s t u i held stores traffic q move refl alike)
     (c.in_ok-refresh.ensures.due (due-came s t i held q m none stores.messages))
+    (c.in_ok-refresh.ensures.ends (ends-came s t i held q m none stores.messages))
     (ap (λ (n : NumbersValue). n.numbers) c.refresh.ensures.numbers ∙ numbers-came s t i held q m none numbered)
 
 pub returns-clause-held : goal.returns-clause-held
@@ -88,6 +92,7 @@ returns-clause-held c = λ t traffic held.
     (c.in_ok-follow.ensures.notes (are-stored stores) (unlisted s t u i held stores traffic q move refl (λ m e. free))
     ∙ notes-told s t u i held stores traffic q move refl cs tells there)
     (c.in_ok-follow.ensures.due (due-came s t i held q m none stores.messages))
+    (c.in_ok-follow.ensures.ends (ends-came s t i held q m none stores.messages))
     (ap (λ (n : NumbersValue). n.numbers) c.follow.ensures.numbers ∙ numbers-came s t i held q m none numbered)
 
 pub returns-in_default-clause-touches : goal.returns-in_default-clause-touches
@@ -116,3 +121,23 @@ pub returns-clause-vacant : goal.returns-clause-vacant
 returns-clause-vacant c = λ k.
     subst (λ (v : GroupsValue). vacancies v k ≤ vacancies c.args.self.now.standings k) (sym c.follow.ensures.standings)
     (c.in_ok-changes.ensures.vacant k)
+
+pub returns-in_default-clause-weighs : goal.returns-in_default-clause-weighs
+returns-in_default-clause-weighs c = omega (arith, c.put_number.ensures.touches, c.in_ok-refresh.ensures.touches)
+
+pub returns-clause-weighs : goal.returns-clause-weighs
+returns-clause-weighs c =
+    let i = c.args.self.now in
+    let s = c.args.settings.now in
+    let q = c.args.place in
+    let g = i.standings.members in
+    let h = c.add_submit.new.self.members in
+    let key = c.in-Some.key in
+    let t = stored_traffic i.messages.content i.receipts.content in
+    let absent = ap (λ (x : Grouping). get x.submits q) c.requires.are.grouped ∙ submit-absent s q t c.requires.absent in
+    let free = ap (λ (x : Grouping). get x.receipts q) c.requires.are.grouped ∙ receipt-absent s q t c.requires.apart in
+    let move = subst (λ (x : Grouping). IsMoveOf key q g x) (sym c.in_ok-changes.ensures.ok) (submit-put g q key absent free) in
+    let told = few-changes g h c.in_ok-changes.changes.items c.in_ok-changes.ensures.changes key q move in
+    let loaded = ap (load_of i.standings) (sym c.key-key.ensures ∙ c.in-Some.is) in
+    let as-many = ap (length {A = Change}) c.as_slice.ensures.value in
+    omega (arith, loaded, told, as-many, c.put_number.ensures.touches, c.in_ok-changes.ensures.touches, c.in_ok-changes.ensures.pending, c.in_ok-follow.ensures.touches)

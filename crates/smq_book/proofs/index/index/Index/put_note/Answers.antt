@@ -18,6 +18,7 @@ returns-clause-held c = λ s t held.
       notes = (ap (λ (v : TallyValue). v.notes) c.in_ok-note.ensures.ok
           ∙ ap (λ (h : Holding). insert h.notes note tt) held ∙ sym (note-put s t note)) i;
       due = (held i).due;
+      ends = (held i).ends;
       numbers = (held i).numbers;
     }
 

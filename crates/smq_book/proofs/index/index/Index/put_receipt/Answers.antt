@@ -1,4 +1,4 @@
-use Rattle.std.proofs.Common.{◌≡◌, ◌≤◌, List, None, length, subst, refl, ap, sym, ◌∙◌, arith}
+use Rattle.std.proofs.Common.{◌≡◌, ◌≤◌, List, None, length, subst, refl, ap, sym, ◌∙◌, arith, Some}
 use Rattle.std.specs.FinMap.{get}
 use Rattle.smq_shelf.specs.Keeping.{KeepingMap}
 use Rattle.smq_kit.specs.declared.place.Place.{Place}
@@ -11,11 +11,16 @@ use Rattle.smq_book.specs.index.Held.{Holding, stored_traffic}
 use Rattle.smq_book.specs.join.Keyed.{keyed_receipt}
 use Rattle.smq_book.specs.join.Moves.{put_receipt}
 use Rattle.smq_book.specs.pairing.Traffic.{Message, ReceivedReceipt}
-use Rattle.smq_book.proofs.lemmas.index.Followed.{are-stored, due-kept, facts-told, holds, notes-told, put-there}
+use Rattle.smq_book.proofs.lemmas.index.Followed.{are-stored, due-kept, ends-kept, facts-told, holds, notes-told, put-there}
 use Rattle.smq_book.proofs.lemmas.index.Followed.{stored-held, stored-received, unlisted}
 use Rattle.smq_book.proofs.lemmas.index.Members.{receipt-absent, submit-absent}
 use Rattle.smq_book.proofs.lemmas.index.Moves.{came-receipt}
 use Rattle.smq_book.proofs.lemmas.join.MoveLemmas.{put_receipt-moves}
+use Rattle.smq_kit.specs.declared.link_key.LinkKey.{LinkKey}
+use Rattle.smq_group.specs.Matching.{GroupedReceipt}
+use Rattle.smq_book.specs.edits.Reached.{IsMoveOf}
+use Rattle.smq_book.specs.index.Touches.{load_of}
+use Rattle.smq_book.proofs.lemmas.index.Weights.{few-changes, receipt-put}
 use Rattle.smq_book.proofs.index.index.Index.put_receipt.Goals as goal
 
 pub add_receipt-requires-clause-absent : goal.add_receipt-requires-clause-absent
@@ -64,6 +69,7 @@ returns-clause-held c = λ t traffic held.
     (c.in_ok-follow.ensures.notes (are-stored stores) (unlisted s t u i held stores traffic q move refl (λ m e. none))
     ∙ notes-told s t u i held stores traffic q move refl cs tells there)
     (c.in_ok-follow.ensures.due (due-kept s t i held stores.messages))
+    (c.in_ok-follow.ensures.ends (ends-kept s t i held stores.messages))
     (ap (λ (n : NumbersValue). n.numbers) c.follow.ensures.numbers ∙ ap (λ (h : Holding). h.numbers) held)
 
 pub returns-clause-touches : goal.returns-clause-touches
@@ -82,3 +88,21 @@ pub returns-clause-vacant : goal.returns-clause-vacant
 returns-clause-vacant c = λ k.
     subst (λ (v : GroupsValue). vacancies v k ≤ vacancies c.args.self.now.standings k) (sym c.follow.ensures.standings)
     (c.in_ok-changes.ensures.vacant k)
+
+pub returns-clause-weighs : goal.returns-clause-weighs
+returns-clause-weighs c =
+    let i = c.args.self.now in
+    let s = c.args.settings.now in
+    let q = c.args.place in
+    let g = i.standings.members in
+    let h = c.add_receipt.new.self.members in
+    let key = c.key-key.result in
+    let r : GroupedReceipt = record { key = key; moment = c.receipt.inside.moment; decides = c.can_decide-decides.result } in
+    let t = stored_traffic i.messages.content i.receipts.content in
+    let absent = ap (λ (x : Grouping). get x.receipts q) c.requires.are.grouped ∙ receipt-absent s q t c.requires.absent in
+    let free = ap (λ (x : Grouping). get x.submits q) c.requires.are.grouped ∙ submit-absent s q t c.requires.apart in
+    let move = subst (λ (x : Grouping). IsMoveOf key q g x) (sym c.in_ok-changes.ensures.ok) (receipt-put g q r absent free) in
+    let told = few-changes g h c.in_ok-changes.changes.items c.in_ok-changes.ensures.changes key q move in
+    let loaded = ap (λ (k : LinkKey). load_of i.standings (Some k)) c.key-key.ensures in
+    let as-many = ap (length {A = Change}) c.as_slice.ensures.value in
+    omega (arith, loaded, told, as-many, c.in_ok-changes.ensures.touches, c.in_ok-changes.ensures.pending, c.in_ok-follow.ensures.touches)

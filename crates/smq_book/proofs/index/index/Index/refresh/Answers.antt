@@ -6,7 +6,8 @@ use Rattle.smq_group.specs.Groups.{GroupsValue}
 use Rattle.smq_group.specs.Matching.{Grouping}
 use Rattle.smq_shelf.specs.Keeping.{KeepingMap}
 use Rattle.smq_book.specs.index.Due.{due_in}
-use Rattle.smq_book.specs.index.Held.{AreOf, AreUnlisted, list_held, messages_in, receipts_in, stored_traffic, with_listing}
+use Rattle.smq_book.specs.index.Ends.{Windows, ends_by}
+use Rattle.smq_book.specs.index.Held.{AreOf, AreUnlisted, ends_in, list_held, messages_in, receipts_in, stored_traffic, with_listing}
 use Rattle.smq_book.specs.pairing.Traffic.{ReceivedReceipt}
 use Rattle.smq_book.proofs.lemmas.index.Unlisted.{listing-idle, unlisted-again}
 use Rattle.smq_book.proofs.index.index.Index.refresh.Goals as goal
@@ -60,3 +61,20 @@ returns-clause-unlisted c = λ are unlisted.
 pub returns-clause-due : goal.returns-clause-due
 returns-clause-due c = λ same.
     c.in_ok-is_message.ensures.due same ∙ ap (due_in (messages_in c.args.self.now.messages.content)) (sym c.in_ok-set_listing.ensures.facts)
+
+pub returns-then-is_message-clause-ends : goal.returns-then-is_message-clause-ends
+returns-then-is_message-clause-ends c = λ same.
+    let i = c.args.self.now in
+    subst (λ (w : Windows). ends_in c.set_fact_by.new.self.ends.content
+    ≡ ends_by w (messages_in i.messages.content) c.set_fact_by.new.self.tally.facts) c.windows_set.ensures
+    (c.in_ok-is_message.ensures.ends (subst (λ (w : Windows). ends_in i.ends.content
+    ≡ ends_by w (messages_in i.messages.content) i.tally.facts) (sym c.windows_set.ensures) same))
+
+pub returns-clause-ends : goal.returns-clause-ends
+returns-clause-ends c = λ same.
+    let i = c.args.self.now in
+    subst (λ (w : Windows). ends_in c.set_fact_by.new.self.ends.content
+    ≡ ends_by w (messages_in i.messages.content) c.set_fact_by.new.self.tally.facts) c.windows_set.ensures
+    (c.in_ok-is_message.ensures.ends (subst (λ (w : Windows). ends_in i.ends.content
+    ≡ ends_by w (messages_in i.messages.content) i.tally.facts) (sym c.windows_set.ensures) same))
+    ∙ ap (ends_by c.args.settings.now.windows (messages_in i.messages.content)) (sym c.in_ok-set_listing.ensures.facts)

@@ -1,4 +1,4 @@
-use Rattle.std.proofs.Common.{◌≡◌, Option, Some, None, refl, ap, sym, ◌∙◌, rules}
+use Rattle.std.proofs.Common.{◌≡◌, ◌+◌, Option, Some, None, refl, ap, sym, ◌∙◌, rules}
 use Rattle.std.specs.FinMap.{get, insert}
 use Rattle.std.specs.Option.{option_copied}
 use Rattle.std.specs.Prelude.{is_some}
@@ -6,9 +6,12 @@ use Rattle.smq_kit.specs.Maps.{set_at}
 use Rattle.smq_kit.specs.declared.place.Place.{Place}
 use Rattle.smq_tally.specs.declared.fact.Fact.{Fact}
 use Rattle.smq_book.specs.index.Due.{due_at, due_in, is_due_fact}
+use Rattle.smq_book.specs.index.Ends.{end_at, ends_by}
+use Rattle.smq_book.specs.present.Settings.{window_in}
 use Rattle.smq_book.specs.index.Held.{messages_in, noted, stored_traffic}
 use Rattle.smq_book.specs.pairing.Traffic.{Message}
 use Rattle.smq_book.proofs.lemmas.index.Due.{due-fact, due-fact-absent, noted-marked}
+use Rattle.smq_book.proofs.lemmas.index.Ends.{end-fact, end-fact-absent}
 use Rattle.smq_book.proofs.lemmas.index.Stored.{fact-absent, stored-at}
 use Rattle.smq_book.proofs.index.index.Index.set_fact_by.Goals as goal
 
@@ -76,3 +79,32 @@ returns-clause-due c = λ same.
     ∙ ap (set_at (due_in ms i.tally.facts) (due_at m.link m.moment q)) (noted-marked (is_due_fact (Some fact)))
     ∙ sym (due-fact ms i.tally.facts q (Some fact) m there)
     ∙ ap (due_in ms) (sym sets)
+
+pub returns-in_default-clause-ends : goal.returns-in_default-clause-ends
+returns-in_default-clause-ends c = λ same.
+    let i = c.args.self.now in
+    let q = c.args.place in
+    let w = c.args.windows.now in
+    let gone : ◌≡◌ {A = Option Message} None (option_copied c.get.result) = search rules in
+    let none : get (messages_in i.messages.content) q ≡ None = sym (gone ∙ c.get.ensures ∙ stored-at i.messages.content q) in
+    same
+    ∙ sym (end-fact-absent w (messages_in i.messages.content) i.tally.facts q None none)
+    ∙ ap (ends_by w (messages_in i.messages.content)) (sym c.in_ok-take_fact.ensures.facts)
+
+pub returns-clause-ends : goal.returns-clause-ends
+returns-clause-ends c = λ same.
+    let i = c.args.self.now in
+    let q = c.args.place in
+    let w = c.args.windows.now in
+    let m = c.in-Some.message.now in
+    let ms = messages_in i.messages.content in
+    let fact : Fact = c.fact_at-fact.result in
+    let some : ◌≡◌ {A = Option Message} (Some m) (option_copied c.get.result) = search rules in
+    let there : get ms q ≡ Some m = sym (some ∙ c.get.ensures ∙ stored-at i.messages.content q) in
+    let sets = c.in_ok-set.ensures.ok ∙ ap (λ (p : Place). insert i.tally.facts p fact) c.fact_at-fact.ensures.place in
+    c.in_ok-set_end.ensures.value
+    ∙ (λ j. set_at (same j) (c.of-end.ensures j) (noted (c.is_due-is_due.ensures j)))
+    ∙ (λ j. set_at (ends_by w ms i.tally.facts) (end_at ((c.message.view_is j).moment + (c.of.ensures ∙ (λ k. window_in w (c.message.view_is k).link)) j) q) (noted (is_due_fact (Some fact))))
+    ∙ ap (set_at (ends_by w ms i.tally.facts) (end_at (m.moment + window_in w m.link) q)) (noted-marked (is_due_fact (Some fact)))
+    ∙ sym (end-fact w ms i.tally.facts q (Some fact) m there)
+    ∙ ap (ends_by w ms) (sym sets)

@@ -1,4 +1,4 @@
-use Rattle.std.proofs.Common.{◌≡◌, ℕ, if◌then◌else◌, Option, List, [], Some, None, length, subst, refl, ap, sym, ◌∙◌, rules, arith}
+use Rattle.std.proofs.Common.{◌≡◌, ◌+◌, ℕ, if◌then◌else◌, Option, List, [], Some, None, length, subst, refl, ap, sym, ◌∙◌, rules, arith}
 use Rattle.std.specs.FinMap.{get, remove}
 use Rattle.std.specs.Option.{option_copied}
 use Rattle.smq_shelf.specs.Keeping.{KeepingMap}
@@ -12,10 +12,12 @@ use Rattle.smq_group.specs.Groups.{GroupsValue, vacancies}
 use Rattle.smq_group.specs.Matching.{Grouping}
 use Rattle.smq_route.specs.Numbers.{NumbersValue}
 use Rattle.smq_book.specs.index.Due.{due_at}
-use Rattle.smq_book.specs.index.Held.{Holding, dues_in, held_of, messages_in, stored_traffic}
+use Rattle.smq_book.specs.index.Ends.{end_at}
+use Rattle.smq_book.specs.present.Settings.{window_in}
+use Rattle.smq_book.specs.index.Held.{Holding, dues_in, ends_in, held_of, messages_in, stored_traffic}
 use Rattle.smq_book.specs.join.Moves.{take_message}
 use Rattle.smq_book.specs.pairing.Traffic.{Message, ReceivedReceipt}
-use Rattle.smq_book.proofs.lemmas.index.Followed.{are-stored, due-dropped, due-went, facts-gone, facts-left, holds, notes-gone, notes-left}
+use Rattle.smq_book.proofs.lemmas.index.Followed.{are-stored, due-dropped, due-went, ends-dropped, ends-went, facts-gone, facts-left, holds, notes-gone, notes-left}
 use Rattle.smq_book.proofs.lemmas.index.Followed.{numbers-went, stored-dropped, stored-held, stored-withdrawn, unlisted}
 use Rattle.smq_book.proofs.lemmas.index.Members.{members-untaken, submit-there}
 use Rattle.smq_book.proofs.lemmas.index.Stored.{stored-at}
@@ -23,6 +25,10 @@ use Rattle.smq_book.proofs.lemmas.join.MoveLemmas.{take_message-moves}
 use Rattle.smq_book.proofs.lemmas.index.Costs.{tells-none}
 use Rattle.smq_book.specs.index.Touches.{is_key, vacancies_at}
 use Rattle.smq_kit.specs.declared.link_key.LinkKey.{LinkKey}
+use Rattle.smq_book.specs.edits.Reached.{IsMoveOf}
+use Rattle.smq_book.specs.index.Touches.{taken_of}
+use Rattle.smq_book.proofs.lemmas.index.Members.{receipt-absent}
+use Rattle.smq_book.proofs.lemmas.index.Weights.{few-changes, not-there, submit-counts, submit-taken}
 use Rattle.smq_book.proofs.index.index.Index.take_message.Goals as goal
 
 pub returns-in_default-clause-held : goal.returns-in_default-clause-held
@@ -65,6 +71,9 @@ returns-in_default-key-clause-held c = λ t traffic held.
     let gone : c.key-key.result ≡ None = search rules in
     let gone-due = c.in_ok-set_due.ensures.value
     ∙ (λ j. remove (dues_in i.due.content) (due_at (c.message.view_is j).link (c.message.view_is j).moment q)) in
+    let gone-end = c.in_ok-set_end.ensures.value
+    ∙ ap (remove (ends_in i.ends.content)) (c.of-end.ensures
+    ∙ (λ j. end_at ((c.message.view_is j).moment + (c.of-window.ensures ∙ (λ k. window_in (c.windows_set.ensures k) (c.message.view_is k).link)) j) q)) in
     let none = submit-there s q t m there ∙ sym c.key-key.ensures ∙ gone in
     let stores = stored-dropped (stored-held s t i traffic held) q traffic none c.in_ok-remove.ensures.ordered c.in_ok-remove.ensures.content in
     let apart = (stored-held s t i traffic held).stands.apart q m there in
@@ -79,12 +88,14 @@ returns-in_default-key-clause-held c = λ t traffic held.
       receipts = i.receipts;
       tally = c.take_fact.new.tally;
       due = c.set_due.new.due;
+      ends = c.set_end.new.ends;
       numbers = c.take_number.new.numbers;
     })
     refl refl refl
     (taken ∙ facts-left s t u i held stores traffic q move refl free apart apart alike)
     (c.take_fact.ensures.notes ∙ notes-left s t u i held stores traffic q move refl free apart apart alike)
     (due-went s t i held q m there stores.messages gone-due ∙ due-dropped stores q free i.tally.facts taken)
+    (ends-went s t i held q m there stores.messages gone-end ∙ ends-dropped stores q free i.tally.facts taken)
     (numbers-went s t i held q m there c.in_ok-take_number.ensures.value)
 
 pub returns-clause-held : goal.returns-clause-held
@@ -109,6 +120,9 @@ returns-clause-held c = λ t traffic held.
     subst (λ (l : List Change). TellsChanges g h l) (sym c.as_slice.ensures.value) c.in_ok-changes.ensures.changes in
     let gone-due = c.in_ok-set_due.ensures.value
     ∙ (λ j. remove (dues_in i.due.content) (due_at (c.message.view_is j).link (c.message.view_is j).moment q)) in
+    let gone-end = c.in_ok-set_end.ensures.value
+    ∙ ap (remove (ends_in i.ends.content)) (c.of-end.ensures
+    ∙ (λ j. end_at ((c.message.view_is j).moment + (c.of-window.ensures ∙ (λ k. window_in (c.windows_set.ensures k) (c.message.view_is k).link)) j) q)) in
     let taken = c.in_ok-take_fact-2.ensures.facts in
     holds s t u i held stores traffic q move refl
     (record {
@@ -117,6 +131,7 @@ returns-clause-held c = λ t traffic held.
       receipts = c.follow.new.self.receipts;
       tally = c.take_fact-2.new.tally;
       due = c.follow.new.self.due;
+      ends = c.follow.new.self.ends;
       numbers = c.follow.new.self.numbers;
     })
     (ap (λ (k : KeepingMap Place Message). k.content) c.follow.ensures.messages)
@@ -130,6 +145,8 @@ returns-clause-held c = λ t traffic held.
     ∙ notes-gone s t u i held stores traffic q move refl free apart apart cs tells)
     (c.in_ok-follow.ensures.due (due-went s t i held q m there stores.messages gone-due)
     ∙ due-dropped stores q free c.follow.new.self.tally.facts taken)
+    (c.in_ok-follow.ensures.ends (ends-went s t i held q m there stores.messages gone-end)
+    ∙ ends-dropped stores q free c.follow.new.self.tally.facts taken)
     (ap (λ (n : NumbersValue). n.numbers) c.follow.ensures.numbers ∙ numbers-went s t i held q m there c.in_ok-take_number.ensures.value)
 
 pub returns-in_default-clause-touches : goal.returns-in_default-clause-touches
@@ -143,7 +160,7 @@ pub returns-in_default-key-clause-touches : goal.returns-in_default-key-clause-t
 returns-in_default-key-clause-touches c = record {
   changes = [];
   told = tells-none c.args.self.now.standings.members c.args.self.now.standings.members refl;
-  bound = omega (arith, c.take_number.ensures.touches, c.in_ok-take_fact.ensures.touches);
+  bound = omega (arith, c.take_number.ensures.touches, c.in_ok-set_due.ensures.touches, c.in_ok-set_end.ensures.touches, c.in_ok-take_fact.ensures.touches);
 }
 
 pub returns-clause-touches : goal.returns-clause-touches
@@ -167,6 +184,8 @@ returns-clause-touches c =
         walked,
         as-many,
         c.take_number.ensures.touches,
+        c.in_ok-set_due.ensures.touches,
+        c.in_ok-set_end.ensures.touches,
         c.in_ok-changes.ensures.touches,
         c.in_ok-changes.ensures.pending,
         c.in_ok-follow.ensures.touches,
@@ -187,3 +206,59 @@ returns-clause-vacant c = λ k.
     let taken = ap {B = ℕ} (λ (key : Option LinkKey). if is_key k key then 1 else 0) (keyed ∙ c.in-Some-key.is) in
     let same = ap (λ (v : GroupsValue). vacancies v k) c.follow.ensures.standings in
     omega (arith, taken, same, c.in_ok-changes.ensures.vacant k)
+
+pub returns-in_default-key-clause-weighs : goal.returns-in_default-key-clause-weighs
+returns-in_default-key-clause-weighs c = omega (arith, c.take_number.ensures.touches, c.in_ok-set_due.ensures.touches, c.in_ok-set_end.ensures.touches, c.in_ok-take_fact.ensures.touches)
+
+pub returns-clause-weighs : goal.returns-clause-weighs
+returns-clause-weighs c =
+    let i = c.args.self.now in
+    let s = c.args.settings.now in
+    let q = c.args.place in
+    let m = c.in-Some.message.now in
+    let g = i.standings.members in
+    let h = c.remove_submit.new.self.members in
+    let key = c.in-Some-key.key in
+    let t = stored_traffic i.messages.content i.receipts.content in
+    let some : ◌≡◌ {A = Option Message} (Some m) (option_copied c.get.result) = search rules in
+    let there : get (messages_in i.messages.content) q ≡ Some m = sym (some ∙ c.get.ensures ∙ stored-at i.messages.content q) in
+    let keyed : get g.submits q ≡ Some key = ap (λ (g : Grouping). get g.submits q) c.requires.are.grouped
+    ∙ submit-there s q t m there ∙ sym c.key-key.ensures ∙ c.in-Some-key.is in
+    let free = ap (λ (x : Grouping). get x.receipts q) c.requires.are.grouped ∙ receipt-absent s q t (c.requires.are.apart q m there) in
+    let move = subst (λ (x : Grouping). IsMoveOf key q g x) (sym c.in_ok-changes.ensures.ok) (submit-taken g q key keyed free) in
+    let told = few-changes g h c.in_ok-changes.changes.items c.in_ok-changes.ensures.changes key q move in
+    let loaded = ap (taken_of i.standings) keyed in
+    let one = submit-counts g q key keyed in
+    let as-many = ap (length {A = Change}) c.as_slice.ensures.value in
+    omega (
+      arith,
+      loaded,
+      one,
+      told,
+      as-many,
+      c.take_number.ensures.touches,
+      c.in_ok-set_due.ensures.touches,
+      c.in_ok-set_end.ensures.touches,
+      c.in_ok-changes.ensures.touches,
+      c.in_ok-changes.ensures.pending,
+      c.in_ok-follow.ensures.touches,
+      c.in_ok-take_fact-2.ensures.touches,
+    )
+
+pub returns-clause-idle : goal.returns-clause-idle
+returns-clause-idle c = λ none.
+    let i = c.args.self.now in
+    let q = c.args.place in
+    let m = c.in-Some.message.now in
+    let some : ◌≡◌ {A = Option Message} (Some m) (option_copied c.get.result) = search rules in
+    let there : get (messages_in i.messages.content) q ≡ Some m = sym (some ∙ c.get.ensures ∙ stored-at i.messages.content q) in
+    not-there (get (messages_in i.messages.content) q) m none there
+
+pub returns-in_default-key-clause-idle : goal.returns-in_default-key-clause-idle
+returns-in_default-key-clause-idle c = λ none.
+    let i = c.args.self.now in
+    let q = c.args.place in
+    let m = c.in-Some.message.now in
+    let some : ◌≡◌ {A = Option Message} (Some m) (option_copied c.get.result) = search rules in
+    let there : get (messages_in i.messages.content) q ≡ Some m = sym (some ∙ c.get.ensures ∙ stored-at i.messages.content q) in
+    not-there (get (messages_in i.messages.content) q) m none there

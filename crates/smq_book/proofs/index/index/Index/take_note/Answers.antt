@@ -19,6 +19,7 @@ returns-in_ok-forget-clause-held c = λ s t of_traffic held.
       facts = (c.in_ok-forget.ensures.facts ∙ ap (λ (h : Holding). h.facts) held) i;
       notes = (c.in_ok-forget.ensures.ok ∙ ap (λ (h : Holding). remove h.notes note) held ∙ sym (note-taken s t note of_traffic)) i;
       due = (held i).due;
+      ends = (held i).ends;
       numbers = (held i).numbers;
     }
 
@@ -35,5 +36,6 @@ returns-else-is_noted-clause-held c = λ s t of_traffic held.
       notes = (sym (remove-none listed_total listed_exact c.args.self.now.tally.notes note none)
           ∙ ap (λ (h : Holding). remove h.notes note) held ∙ sym (note-taken s t note of_traffic)) i;
       due = (held i).due;
+      ends = (held i).ends;
       numbers = (held i).numbers;
     }

@@ -15,17 +15,23 @@ use Rattle.smq_group.specs.Matching.{Grouping, GroupedReceipt}
 use Rattle.smq_book.specs.declared.index.index.Index.{Index}
 use Rattle.smq_route.specs.Numbers.{NumbersValue}
 use Rattle.smq_book.specs.index.Due.{due_in}
+use Rattle.smq_book.specs.index.Ends.{ends_by}
 use Rattle.smq_book.specs.index.Held.{AreOf, AreUnlisted, Holding, held_of, list_held, messages_in, receipts_in, stored_traffic, with_listing}
 use Rattle.smq_book.specs.join.Facts.{facts_of}
 use Rattle.smq_book.specs.join.Moves.{take_receipt}
 use Rattle.smq_book.specs.pairing.Traffic.{Message, ReceivedReceipt}
-use Rattle.smq_book.proofs.lemmas.index.Followed.{are-stored, due-kept, facts-taken, holds, notes-taken, stored-forgotten, stored-held, unlisted}
+use Rattle.smq_book.proofs.lemmas.index.Followed.{are-stored, due-kept, ends-kept, facts-taken, holds, notes-taken, stored-forgotten, stored-held, unlisted}
 use Rattle.smq_book.proofs.lemmas.index.Members.{receipt-there}
 use Rattle.smq_book.proofs.lemmas.index.Stored.{stored-at}
 use Rattle.smq_book.proofs.lemmas.join.MoveLemmas.{take_receipt-moves}
 use Rattle.smq_book.proofs.lemmas.index.Costs.{tells-none}
 use Rattle.smq_book.specs.index.Touches.{is_key, receipt_key_at, vacancies_at}
 use Rattle.smq_kit.specs.declared.link_key.LinkKey.{LinkKey}
+use Rattle.smq_book.specs.join.Keyed.{keyed_receipt, receipt_key}
+use Rattle.smq_book.specs.edits.Reached.{IsMoveOf}
+use Rattle.smq_book.specs.index.Touches.{taken_of}
+use Rattle.smq_book.proofs.lemmas.index.Members.{submit-absent}
+use Rattle.smq_book.proofs.lemmas.index.Weights.{few-changes, no-message-there, not-there, receipt-taken, receipt-counts}
 use Rattle.smq_book.proofs.index.index.Index.take_receipt.Goals as goal
 
 pub returns-in_default-clause-held : goal.returns-in_default-clause-held
@@ -80,6 +86,7 @@ returns-clause-held c = λ t traffic held.
       receipts = sym c.follow.ensures.receipts j;
       tally = c.follow.new.self.tally;
       due = c.follow.new.self.due;
+      ends = c.follow.new.self.ends;
       numbers = c.follow.new.self.numbers;
     })
     (are-stored stores) in
@@ -98,6 +105,9 @@ returns-clause-held c = λ t traffic held.
     (c.in_ok-refresh.ensures.due (c.in_ok-follow.ensures.due (due-kept s t i held stores.messages)
     ∙ (λ j. due_in (messages_in (sym mc j)) c.follow.new.self.tally.facts))
     ∙ (λ j. due_in (messages_in (mc j)) c.refresh.new.self.tally.facts))
+    (c.in_ok-refresh.ensures.ends (c.in_ok-follow.ensures.ends (ends-kept s t i held stores.messages)
+    ∙ (λ j. ends_by s.windows (messages_in (sym mc j)) c.follow.new.self.tally.facts))
+    ∙ (λ j. ends_by s.windows (messages_in (mc j)) c.refresh.new.self.tally.facts))
     (ap (λ (n : NumbersValue). n.numbers) (c.refresh.ensures.numbers ∙ c.follow.ensures.numbers) ∙ ap (λ (h : Holding). h.numbers) held)
 
 pub returns-in_default-clause-touches : goal.returns-in_default-clause-touches
@@ -149,3 +159,45 @@ returns-clause-vacant c = λ k.
     let taken = ap {B = ℕ} (λ (key : Option LinkKey). if is_key k key then 2 else 0) keyed in
     let same = ap (λ (v : GroupsValue). vacancies v k) (c.refresh.ensures.standings ∙ c.follow.ensures.standings) in
     omega (arith, taken, same, c.in_ok-changes.ensures.vacant k)
+
+pub returns-clause-weighs : goal.returns-clause-weighs
+returns-clause-weighs c =
+    let i = c.args.self.now in
+    let s = c.args.settings.now in
+    let q = c.args.place in
+    let r = c.in-Some.receipt.now in
+    let g = i.standings.members in
+    let h = c.remove_receipt.new.self.members in
+    let t = stored_traffic i.messages.content i.receipts.content in
+    let some : ◌≡◌ {A = Option ReceivedReceipt} (Some r) (option_copied c.get.result) = search rules in
+    let there : get (receipts_in i.receipts.content) q ≡ Some r = sym (some ∙ c.get.ensures ∙ stored-at i.receipts.content q) in
+    let keyed : get g.receipts q ≡ Some (keyed_receipt s r) = ap (λ (g : Grouping). get g.receipts q) c.requires.are.grouped ∙ receipt-there s q t r there in
+    let free = ap (λ (x : Grouping). get x.submits q) c.requires.are.grouped ∙ submit-absent s q t (no-message-there t q r (c.requires.are.apart q) there) in
+    let move = subst (λ (x : Grouping). IsMoveOf (receipt_key s r) q g x) (sym c.in_ok-changes.ensures.ok) (receipt-taken g q (keyed_receipt s r) keyed free) in
+    let told = few-changes g h c.in_ok-changes.changes.items c.in_ok-changes.ensures.changes (receipt_key s r) q move in
+    let walked = ap (vacancies i.standings) c.key-key.ensures in
+    let loaded : taken_of i.standings (receipt_key_at g q) ≡ taken_of i.standings (Some (receipt_key s r)) =
+    ap (λ (x : Option GroupedReceipt). taken_of i.standings (option_map (λ (x : GroupedReceipt). x.key) x)) keyed in
+    let as-many = ap (length {A = Change}) c.as_slice.ensures.value in
+    let one = receipt-counts g q (keyed_receipt s r) keyed in
+    omega (
+      arith,
+      loaded,
+      one,
+      walked,
+      told,
+      as-many,
+      c.in_ok-changes.ensures.touches,
+      c.in_ok-changes.ensures.pending,
+      c.in_ok-follow.ensures.touches,
+      c.in_ok-refresh.ensures.touches,
+    )
+
+pub returns-clause-idle : goal.returns-clause-idle
+returns-clause-idle c = λ none.
+    let i = c.args.self.now in
+    let q = c.args.place in
+    let r = c.in-Some.receipt.now in
+    let some : ◌≡◌ {A = Option ReceivedReceipt} (Some r) (option_copied c.get.result) = search rules in
+    let there : get (receipts_in i.receipts.content) q ≡ Some r = sym (some ∙ c.get.ensures ∙ stored-at i.receipts.content q) in
+    not-there (get (receipts_in i.receipts.content) q) r none there

@@ -1,4 +1,4 @@
-use Rattle.std.proofs.Common.{◌≡◌, sym, ap, subst, ◌∙◌}
+use Rattle.std.proofs.Common.{◌≡◌, sym, ap, subst, ◌∙◌, arith}
 use Rattle.smq_book.specs.index.Held.{Holding, IsHeld, held_now, traffic_held}
 use Rattle.smq_book.specs.pairing.Traffic.{traffic_of}
 use Rattle.smq_book.specs.present.Present.{PresentValue}
@@ -26,7 +26,7 @@ returns-in_default-clause-kept c = λ pairings kept.
     (ap (λ (p : PresentValue). p.sessions) (sym c.in_default.ensures.reply.1))
     (subst (λ (h : Holding). IsHeld c.change_forms.new.self.settings h) (sym undone)
     (subst (λ (p : PresentValue). IsHeld p.settings (held_now c.args.index.now)) (sym c.in_default.ensures.reply.1) c.requires.held))
-    (ap traffic_held undone) (c.undo.ensures.settled ∙ sym c.undo.ensures.held) kept
+    (ap traffic_held undone) (c.undo.ensures.settled ∙ sym c.undo.ensures.held) c.undo.ensures.pending kept
 
 pub returns-clause-held : goal.returns-clause-held
 returns-clause-held c = subst (λ (h : Holding). IsHeld c.change_forms.new.self.settings h) (sym c.settle.ensures.held) c.in-Ok.ensures.held
@@ -41,4 +41,10 @@ returns-clause-kept c = λ pairings kept.
     kept-settings c.args.self.now c.change_forms.new.self c.args.index.now c.settle.new.self pairings
     (ap (λ (p : PresentValue). p.sessions) (sym c.in-Ok.ensures.reply))
     (subst (λ (h : Holding). IsHeld c.change_forms.new.self.settings h) (sym c.settle.ensures.held) c.in-Ok.ensures.held)
-    (ap traffic_held c.settle.ensures.held ∙ c.in-Ok.ensures.traffic) (c.settle.ensures.settled ∙ sym c.settle.ensures.held) kept
+    (ap traffic_held c.settle.ensures.held ∙ c.in-Ok.ensures.traffic) (c.settle.ensures.settled ∙ sym c.settle.ensures.held)
+    c.settle.ensures.pending kept
+
+pub returns-clause-touches : goal.returns-clause-touches
+returns-clause-touches c = λ pairings kept.
+    let made = c.in-Ok.ensures.touches pairings kept in
+    omega (arith, made, c.settle.ensures.touches)

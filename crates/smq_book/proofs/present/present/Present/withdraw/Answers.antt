@@ -1,15 +1,16 @@
-use Rattle.std.proofs.Common.{◌≡◌, Option, Some, None, refl, sym, ap, subst, ◌∙◌}
+use Rattle.std.proofs.Common.{◌≡◌, Option, Some, None, refl, sym, ap, subst, ◌∙◌, arith}
 use Rattle.std.specs.Prelude.{option_map, unwrap_or}
 use Rattle.std.specs.FinMap.{FinMap, get, remove}
 use Rattle.std.specs.Ordering.{nat_cmp}
 use Rattle.smq_pair.specs.Paired.{no_pdus}
 use Rattle.smq_book.specs.declared.present.session.Session.{Session}
 use Rattle.smq_book.specs.index.Held.{IsHeld, held_now}
-use Rattle.smq_book.specs.index.Pairs.{pairing_in, pairs_now, pairs_settled}
+use Rattle.smq_book.specs.index.Pairs.{pairing_in, pairs_now, pairs_pending, pairs_settled}
 use Rattle.smq_book.specs.pairing.Traffic.{session_pairing, traffic_of}
 use Rattle.smq_book.specs.present.Present.{PresentValue}
 use Rattle.smq_book.specs.within.InOrder.{sessions_in}
-use Rattle.smq_book.proofs.lemmas.index.KeptPairs.{absent-reply, kept-settled, made-there, not-refused, pairs-removed, wanting-reply}
+use Rattle.smq_book.proofs.lemmas.index.Bounds.{withdraw-bound}
+use Rattle.smq_book.proofs.lemmas.index.KeptPairs.{absent-reply, kept-settled, made-there, none-pending, not-refused, pairs-removed, wanting-reply}
 use Rattle.smq_book.proofs.lemmas.present.NumberMaps.{get-seen}
 use Rattle.smq_book.proofs.present.present.Present.withdraw.Goals as goal
 
@@ -69,3 +70,14 @@ returns-clause-kept c =
     pairs-removed n (pairs_settled c.args.pairings.now) (pairs_settled c.remove.new.self) c.args.self.now.sessions
     (λ other apart. c.remove.ensures.others_settled other apart ∙ c.withdraw.ensures.settled_pairs other) kept.settled_pairs c.remove.ensures.settled number
     ∙ ap (λ (m : FinMap nat_cmp Session). pairing_in m number) left)
+    c.settle.ensures.pending
+    (none-pending n (pairs_pending c.args.pairings.now) (pairs_pending c.remove.new.self) c.remove.ensures.pending
+    (λ other apart. c.remove.ensures.other_pending other apart ∙ c.withdraw.ensures.pending_pairs other) kept.pending_pairs)
+
+pub returns-clause-touches : goal.returns-clause-touches
+returns-clause-touches c =
+    let n = c.args.session.0 in
+    let there : get c.args.self.now.sessions n ≡ Some c.in-Some.found.now =
+    ap (λ (p : PresentValue). get p.sessions n) (sym c.self.view_is) ∙ get-seen c.self.inside.sessions.entries n ∙ sym c.in-Some.ensures.value in
+    let bound = withdraw-bound c.args.self.now c.args.index.now c.args.pairings.now c.requires.kept c.args.session c.in-Some.found.now there in
+    omega (arith, bound, c.in-Ok.ensures.touches, c.settle.ensures.touches, c.withdraw.ensures.pairs_touches, c.remove.ensures.touches)

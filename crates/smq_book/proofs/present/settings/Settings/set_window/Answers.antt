@@ -1,7 +1,8 @@
-use Rattle.std.proofs.Common.{◌≡◌, ℕ, ap, refl, subst, sym, ◌∙◌}
+use Rattle.std.proofs.Common.{◌≡◌, ◌≢◌, ℕ, ap, refl, subst, sym, ◌∙◌}
 use Rattle.std.specs.FinMap.{FinMap, get}
 use Rattle.std.specs.Option.{IsSome}
 use Rattle.std.specs.Ordering.{nat_cmp}
+use Rattle.smq_kit.specs.declared.names.LinkId.{LinkId}
 use Rattle.smq_kit.specs.Maps.{set_at}
 use Rattle.smq_book.specs.index.Held.{IsHeld, held_now, traffic_held}
 use Rattle.smq_book.specs.present.Settings.{SettingsValue, window_in}
@@ -52,6 +53,8 @@ returns-clause-held c =
     } in
     let was : IsHeld s (held_now c.args.index.now) =
     subst (λ (z : SettingsValue). IsHeld z (held_now c.args.index.now)) (sym c.self.view_is) c.requires.held in
-    let outside = window-outside s c.set.new.self c.args.link (traffic_held (held_now c.args.index.now)) (λ l apart.
-    ap (λ (m : FinMap nat_cmp ℕ). window_in m l) c.in_ok-before.ensures.reply ∙ inserted-others s c.args.link c.args.window l apart) in
-    subst (IsHeld (record s { windows = c.set.new.self })) (sym c.settle.ensures.held) (c.in-Ok.ensures.held s refl refl was outside)
+    let same : (l : LinkId) → l ≢ c.args.link → window_in c.set.new.self l ≡ window_in s.windows l =
+    (λ l apart. ap (λ (m : FinMap nat_cmp ℕ). window_in m l) c.in_ok-before.ensures.reply ∙ inserted-others s c.args.link c.args.window l apart) in
+    let outside = window-outside s c.set.new.self c.args.link (traffic_held (held_now c.args.index.now)) same in
+    subst (IsHeld (record s { windows = c.set.new.self })) (sym c.settle.ensures.held)
+    (c.in-Ok.ensures.held s refl refl was (sym c.of-waited.ensures) (λ l apart. sym (same l apart)) outside)

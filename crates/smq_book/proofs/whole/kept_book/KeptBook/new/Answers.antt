@@ -7,5 +7,5 @@ pub invariant_of-result : goal.invariant_of-result
 invariant_of-result c = (
   c.at.ensures ∙ sym tail_of-nil,
   kept-nothing c.new.result c.new-2.result c.new-3.result c.new.ensures c.new-2.ensures.held c.new-2.ensures.settled
-      c.new-3.ensures.now c.new-3.ensures.settled,
+      c.new-3.ensures.now c.new-3.ensures.settled c.new-2.ensures.pending c.new-3.ensures.pending,
 )

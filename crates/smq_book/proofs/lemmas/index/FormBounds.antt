@@ -1,0 +1,497 @@
+-- Forms that are set cost no more than 64 for each weight of the link's messages and delivery receipts, as they were and as they are left.
+use Rattle.std.proofs.Common.{◌≡◌, ℕ, ◌+◌, ◌*◌, ◌≤◌, Bool, true, false, cond, ◌||◌, List, [], ◌∷◌, ◌++◌, length, Option, Some, None, refl, sym, ap, subst, ◌∙◌, arith}
+use Rattle.std.specs.Prelude.{◌==◌, count_by, map, option_and_then, option_map, option_to_list, unwrap_or}
+use Rattle.std.specs.List.{AllByRecursion, flat_map, list_any, sum_by}
+use Rattle.std.specs.Option.{option_or}
+use Rattle.std.specs.FinMap.{FinMap, entries, get, keys}
+use Rattle.std.proofs.lemmas.Bool.{false≢true, eq-eqb, eqb-true}
+use Rattle.std.proofs.lemmas.List.Sums.{sum_by-append, sum_by-cons, sum_by-le-sum_by}
+use Rattle.smq_kit.specs.declared.link_key.LinkKey.{LinkKey}
+use Rattle.smq_kit.specs.declared.names.LinkId.{LinkId}
+use Rattle.smq_kit.specs.declared.form.Form.{Form}
+use Rattle.smq_kit.specs.declared.place.Place.{Place}
+use Rattle.smq_kit.specs.LinkKeys.{link_key, same_key}
+use Rattle.smq_kit.specs.Maps.{kept_of}
+use Rattle.smq_kit.specs.Orders.{place_cmp}
+use Rattle.smq_kit.proofs.MapLemmas as maps
+use Rattle.smq_kit.proofs.PlaceOrders.{places_total, places_exact}
+use Rattle.smq_group.proofs.Earliest.{one_key, own_key}
+use Rattle.smq_group.specs.Groups.{GroupsValue}
+use Rattle.smq_group.specs.Matching.{Grouping, GroupedReceipt}
+use Rattle.smq_book.specs.declared.index.index.Index.{Index}
+use Rattle.smq_book.specs.declared.index.pairings.Pairings.{Pairings}
+use Rattle.smq_book.specs.declared.present.edit.Edit.TheVariants.{SetForm}
+use Rattle.smq_book.specs.present.Present.{PresentValue}
+use Rattle.smq_book.specs.present.Settings.{SettingsValue, forms_of}
+use Rattle.smq_book.specs.present.Steps.{change}
+use Rattle.smq_book.specs.pairing.Traffic.{Message, ReceivedReceipt, TrafficValue, traffic_of}
+use Rattle.smq_book.specs.join.Keyed.{accepted_id, accepted_key, grouping_of, keyed_receipt, receipt_key}
+use Rattle.smq_book.specs.edits.Reach.{groups, link_places, members, pair_in, reach, weight, weights}
+use Rattle.smq_book.specs.edits.Reached.{link_messages, link_receipts, passing}
+use Rattle.smq_book.specs.index.Held.{IsTraffic}
+use Rattle.smq_book.specs.index.Kept.{IsKept}
+use Rattle.smq_book.specs.index.Touches.{MembersGo, forgotten_load, taken_of, members_at, put_load, received_load, taken_load, walk_of}
+use Rattle.smq_book.proofs.lemmas.edits.Passing.{entries-passing}
+use Rattle.smq_book.proofs.lemmas.index.Bounds.{load-kept, members-kept}
+use Rattle.smq_book.proofs.lemmas.index.Members.{no-message, receipt-there, submit-absent, submit-there}
+
+-- ---- how often keys of two lists are one
+
+abbrev hits : LinkKey → List LinkKey → ℕ
+hits k ks = count_by (same_key k) ks
+
+abbrev meets : List LinkKey → List LinkKey → ℕ
+meets xs ys = sum_by (λ x. hits x ys) xs
+
+-- a list without the first that is this key
+abbrev without : LinkKey → List LinkKey → List LinkKey
+without x [] = []
+without x (y ∷ ys) = cond (same_key x y) ys (y ∷ without x ys)
+
+turned : (a b : LinkKey) → same_key a b ≡ same_key b a
+turned a b = by (same_key a b) refl (same_key b a) refl
+  where
+    by : (c : Bool) → same_key a b ≡ c → (d : Bool) → same_key b a ≡ d → c ≡ d
+    by true s true t = refl
+    by false s false t = refl
+    by true s false t = absurd (false≢true (sym t ∙ ap (same_key b) (one_key a b s) ∙ own_key b))
+    by false s true t = absurd (false≢true (sym s ∙ ap (same_key a) (one_key b a t) ∙ own_key a))
+
+none-hit : (x : LinkKey) (ys : List LinkKey) → list_any (same_key x) ys ≡ false → hits x ys ≡ 0
+none-hit x [] h = refl
+none-hit x (y ∷ ys) h = by (none-hit x ys) (same_key x y) refl h
+  where
+    by : (list_any (same_key x) ys ≡ false → hits x ys ≡ 0) → (b : Bool) → same_key x y ≡ b → (b || list_any (same_key x) ys) ≡ false → hits x (y ∷ ys) ≡ 0
+    by later true t h = absurd (false≢true (sym h))
+    by later false t h =
+        let sum = sum_by-cons (λ c. cond (same_key x c) 1 0) y ys in
+        let none : ◌≡◌ {A = ℕ} (cond (same_key x y) 1 0) 0 = ap (λ b. cond b 1 0) t in
+        let rest = later h in
+        omega (arith, sum, none, rest)
+
+taken-out : (h : LinkKey → ℕ) (x : LinkKey) (ys : List LinkKey) → list_any (same_key x) ys ≡ true → sum_by h ys ≡ h x + sum_by h (without x ys)
+taken-out h x [] a = absurd (false≢true a)
+taken-out h x (y ∷ ys) a = by (taken-out h x ys) (same_key x y) refl a
+  where
+    by : (list_any (same_key x) ys ≡ true → sum_by h ys ≡ h x + sum_by h (without x ys)) → (b : Bool) → same_key x y ≡ b
+        → (b || list_any (same_key x) ys) ≡ true → sum_by h (y ∷ ys) ≡ h x + sum_by h (cond b ys (y ∷ without x ys))
+    by later true t a =
+        let sum = sum_by-cons h y ys in
+        let one = ap h (one_key x y t) in
+        omega (arith, sum, one)
+    by later false t a =
+        let sum = sum_by-cons h y ys in
+        let more = sum_by-cons h y (without x ys) in
+        let rest = later a in
+        omega (arith, sum, more, rest)
+
+-- those of a list that are this key, counted from either side
+sides : (x : LinkKey) (ys : List LinkKey) → sum_by (λ y. cond (same_key y x) 1 0) ys ≡ hits x ys
+sides x [] = refl
+sides x (y ∷ ys) =
+    let a = sum_by-cons (λ y. cond (same_key y x) 1 0) y ys in
+    let b = sum_by-cons (λ c. cond (same_key x c) 1 0) y ys in
+    let same : ◌≡◌ {A = ℕ} (cond (same_key y x) 1 0) (cond (same_key x y) 1 0) = ap (λ c. cond c 1 0) (turned y x) in
+    let rest = sides x ys in
+    omega (arith, a, b, same, rest)
+
+sum-both : {X : Type 0} (f g h : X → ℕ) → ((x : X) → h x ≡ f x + g x) → (xs : List X) → sum_by h xs ≡ sum_by f xs + sum_by g xs
+sum-both f g h each [] = refl
+sum-both f g h each (x ∷ xs) =
+    let a = sum_by-cons f x xs in
+    let b = sum_by-cons g x xs in
+    let c = sum_by-cons h x xs in
+    let one = each x in
+    let rest = sum-both f g h each xs in
+    omega (arith, a, b, c, one, rest)
+
+meets-more : (xs : List LinkKey) (y : LinkKey) (ys : List LinkKey) → meets xs (y ∷ ys) ≡ hits y xs + meets xs ys
+meets-more xs y ys =
+    let both = sum-both (λ x. cond (same_key x y) 1 0) (λ x. hits x ys) (λ x. hits x (y ∷ ys)) (λ x. sum_by-cons (λ c. cond (same_key x c) 1 0) y ys) xs in
+    let side = sides y xs in
+    omega (arith, both, side)
+
+meets-without : (xs : List LinkKey) (x : LinkKey) (ys : List LinkKey) → list_any (same_key x) ys ≡ true → meets xs ys ≡ hits x xs + meets xs (without x ys)
+meets-without xs x ys a =
+    let both = sum-both (λ y. cond (same_key y x) 1 0) (λ y. hits y (without x ys)) (λ y. hits y ys) (λ y. taken-out (λ c. cond (same_key y c) 1 0) x ys a) xs in
+    let side = sides x xs in
+    omega (arith, both, side)
+
+-- twice as many are no more than those of each list with itself
+few-meet : (xs ys : List LinkKey) → 2 * meets xs ys ≤ meets xs xs + meets ys ys
+few-meet [] ys = omega arith
+few-meet (x ∷ xs) ys = by (few-meet xs) (list_any (same_key x) ys) refl
+  where
+    by : ((zs : List LinkKey) → 2 * meets xs zs ≤ meets xs xs + meets zs zs) → (b : Bool) → list_any (same_key x) ys ≡ b
+        → 2 * meets (x ∷ xs) ys ≤ meets (x ∷ xs) (x ∷ xs) + meets ys ys
+    by rest false t =
+        let few = rest ys in
+        let none = none-hit x ys t in
+        let a = sum_by-cons (λ x. hits x ys) x xs in
+        let b = sum_by-cons (λ y. hits y (x ∷ xs)) x xs in
+        let c = meets-more xs x xs in
+        omega (arith, few, none, a, b, c)
+    by rest true t =
+        let zs = without x ys in
+        let few = rest zs in
+        let a = sum_by-cons (λ x. hits x ys) x xs in
+        let own : ◌≡◌ {A = ℕ} (cond (same_key x x) 1 0) 1 = ap (λ b. cond b 1 0) (own_key x) in
+        let b = taken-out (λ c. cond (same_key x c) 1 0) x ys t in
+        let c = meets-without xs x ys t in
+        let d = sum_by-cons (λ y. hits y (x ∷ xs)) x xs in
+        let e = sum_by-cons (λ c. cond (same_key x c) 1 0) x xs in
+        let f = meets-more xs x xs in
+        let g = taken-out (λ y. hits y ys) x ys t in
+        let h = meets-without zs x ys t in
+        omega (arith, few, a, own, b, c, d, e, f, g, h)
+
+-- ---- the keys of entries, and of those that pass a test
+
+hits-both : (k : LinkKey) (xs ys : List LinkKey) → hits k (xs ++ ys) ≡ hits k xs + hits k ys
+hits-both k xs ys = sum_by-append (λ c. cond (same_key k c) 1 0) xs ys
+
+module _ {X : Type 0} (of : Place × X → List LinkKey) (test : Place → X → Bool) where
+  abbrev those : Place → X → Option X
+  those place v = cond (test place v) (Some v) None
+
+  -- one entry, where it passes
+  module _ (e : Place × X) (later all : List (Place × X)) where
+    abbrev with_one : Bool → List (Place × X)
+    with_one b = map (λ v. (e.0, v)) (option_to_list (cond b (Some e.1) None)) ++ later
+
+    part-one : (k : LinkKey) (b : Bool) → hits k (flat_map of later) ≤ hits k (flat_map of all) → hits k (flat_map of (with_one b)) ≤ hits k (flat_map of (e ∷ all))
+    part-one k true less =
+        let a = hits-both k (of e) (flat_map of later) in
+        let b = hits-both k (of e) (flat_map of all) in
+        omega (arith, less, a, b)
+    part-one k false less =
+        let b = hits-both k (of e) (flat_map of all) in
+        omega (arith, less, b)
+
+    whole-one : (k : LinkKey) (b : Bool) → (b ≡ false → hits k (of e) ≡ 0) → hits k (flat_map of later) ≡ hits k (flat_map of all)
+        → hits k (flat_map of (with_one b)) ≡ hits k (flat_map of (e ∷ all))
+    whole-one k true none same =
+        let a = hits-both k (of e) (flat_map of later) in
+        let b = hits-both k (of e) (flat_map of all) in
+        omega (arith, same, a, b)
+    whole-one k false none same =
+        let b = hits-both k (of e) (flat_map of all) in
+        let zero = none refl in
+        omega (arith, same, b, zero)
+
+  part : (k : LinkKey) (es : List (Place × X)) → hits k (flat_map of (flat_map (kept_of those) es)) ≤ hits k (flat_map of es)
+  part k [] = omega arith
+  part k (e ∷ es) = part-one e (flat_map (kept_of those) es) es k (test e.0 e.1) (part k es)
+
+  whole : (k : LinkKey) → ((e : Place × X) → test e.0 e.1 ≡ false → hits k (of e) ≡ 0) → (es : List (Place × X))
+      → hits k (flat_map of (flat_map (kept_of those) es)) ≡ hits k (flat_map of es)
+  whole k none [] = refl
+  whole k none (e ∷ es) = whole-one e (flat_map (kept_of those) es) es k (test e.0 e.1) (none e) (whole k none es)
+
+  -- what holds of the keys of those that pass
+  holds : (P : LinkKey → Type 0) → ((e : Place × X) → test e.0 e.1 ≡ true → AllByRecursion P (of e)) → (es : List (Place × X))
+      → AllByRecursion P (flat_map of (flat_map (kept_of those) es))
+  holds P each [] = tt
+  holds P each (e ∷ es) = by (holds P each es) (test e.0 e.1) refl
+    where
+      both : (xs ys : List LinkKey) → AllByRecursion P xs → AllByRecursion P ys → AllByRecursion P (xs ++ ys)
+      both [] ys a b = b
+      both (x ∷ xs) ys a b = (a.0, both xs ys a.1 b)
+
+      by : AllByRecursion P (flat_map of (flat_map (kept_of those) es)) → (b : Bool) → test e.0 e.1 ≡ b
+          → AllByRecursion P (flat_map of (map (λ v. (e.0, v)) (option_to_list (cond b (Some e.1) None)) ++ flat_map (kept_of those) es))
+      by later true t = both (of e) (flat_map of (flat_map (kept_of those) es)) (each e t) later
+      by later false t = later
+
+  module _ (m : FinMap place_cmp X) where
+    passed : entries (passing test m) ≡ flat_map (kept_of those) (entries m)
+    passed = maps.entries-chosen places_total places_exact those m
+
+    part-of : (k : LinkKey) → hits k (flat_map of (entries (passing test m))) ≤ hits k (flat_map of (entries m))
+    part-of k = let some = part k (entries m) in let same = ap (λ es. hits k (flat_map of es)) passed in omega (arith, some, same)
+
+    whole-of : (k : LinkKey) → ((e : Place × X) → test e.0 e.1 ≡ false → hits k (of e) ≡ 0)
+        → hits k (flat_map of (entries (passing test m))) ≡ hits k (flat_map of (entries m))
+    whole-of k none = ap (λ es. hits k (flat_map of es)) passed ∙ whole k none (entries m)
+
+    holds-of : (P : LinkKey → Type 0) → ((e : Place × X) → test e.0 e.1 ≡ true → AllByRecursion P (of e))
+        → AllByRecursion P (flat_map of (entries (passing test m)))
+    holds-of P each = subst (λ es. AllByRecursion P (flat_map of es)) (sym passed) (holds P each (entries m))
+
+-- ---- the members of a key are those of all messages and delivery receipts
+
+abbrev message_keys : SettingsValue → Place × Message → List LinkKey
+message_keys s e = option_to_list (accepted_key s e.1)
+
+abbrev receipt_keys : SettingsValue → Place × ReceivedReceipt → List LinkKey
+receipt_keys s e = receipt_key s e.1 ∷ []
+
+matched : (s : SettingsValue) (k : LinkKey) (es : List (Place × Message))
+    → count_by (same_key k) (map (λ e. e.1) (flat_map (kept_of (λ place m. accepted_key s m)) es)) ≡ hits k (flat_map (message_keys s) es)
+matched s k [] = refl
+matched s k (e ∷ es) = by (accepted_key s e.1) (matched s k es)
+  where
+    by : (o : Option LinkKey) → count_by (same_key k) (map (λ e. e.1) (flat_map (kept_of (λ place m. accepted_key s m)) es)) ≡ hits k (flat_map (message_keys s) es)
+        → count_by (same_key k) (map (λ (e : Place × LinkKey). e.1) (map (λ y. (e.0, y)) (option_to_list o) ++ flat_map (kept_of (λ place m. accepted_key s m)) es))
+        ≡ hits k (option_to_list o ++ flat_map (message_keys s) es)
+    by None same = same
+    by (Some x) same =
+        let a = sum_by-cons (λ c. cond (same_key k c) 1 0) x (map (λ (e : Place × LinkKey). e.1) (flat_map (kept_of (λ place m. accepted_key s m)) es)) in
+        let b = sum_by-cons (λ c. cond (same_key k c) 1 0) x (flat_map (message_keys s) es) in
+        omega (arith, same, a, b)
+
+received : (s : SettingsValue) (k : LinkKey) (es : List (Place × ReceivedReceipt))
+    → count_by (λ r. same_key k r.key) (map (λ e. e.1) (flat_map (kept_of (λ place r. Some (keyed_receipt s r))) es)) ≡ hits k (flat_map (receipt_keys s) es)
+received s k [] = refl
+received s k (e ∷ es) =
+    let a = sum_by-cons (λ (r : GroupedReceipt). cond (same_key k r.key) 1 0) (keyed_receipt s e.1)
+    (map (λ (e : Place × GroupedReceipt). e.1) (flat_map (kept_of (λ place r. Some (keyed_receipt s r))) es)) in
+    let b = sum_by-cons (λ c. cond (same_key k c) 1 0) (receipt_key s e.1) (flat_map (receipt_keys s) es) in
+    let rest = received s k es in
+    omega (arith, a, b, rest)
+
+module _ (s : SettingsValue) (t : TrafficValue) where
+  members-are : (k : LinkKey) → members (grouping_of s t) k ≡ hits k (flat_map (message_keys s) (entries t.messages)) + hits k (flat_map (receipt_keys s) (entries t.receipts))
+  members-are k =
+      let a = ap (λ (es : List (Place × LinkKey)). count_by (same_key k) (map (λ e. e.1) es)) (maps.entries-chosen places_total places_exact (λ place m. accepted_key s m) t.messages) in
+      let b = ap (λ (es : List (Place × GroupedReceipt)). count_by (λ r. same_key k r.key) (map (λ e. e.1) es)) (maps.entries-chosen places_total places_exact (λ place r. Some (keyed_receipt s r)) t.receipts) in
+      let c = matched s k (entries t.messages) in
+      let d = received s k (entries t.receipts) in
+      omega (arith, a, b, c, d)
+
+  module _ (link : LinkId) where
+    abbrev on_link : Place → Message → Bool
+    on_link place m = m.link.0 == link.0
+
+    abbrev receipt_on_link : Place → ReceivedReceipt → Bool
+    receipt_on_link place r = r.link.0 == link.0
+
+    -- the keys of a link's messages and delivery receipts
+    abbrev link_keys : List LinkKey
+    link_keys = flat_map (message_keys s) (entries (link_messages link t)) ++ flat_map (receipt_keys s) (entries (link_receipts link t))
+
+    keys-few : (k : LinkKey) → hits k link_keys ≤ members (grouping_of s t) k
+    keys-few k =
+        let all = members-are k in
+        let both = hits-both k (flat_map (message_keys s) (entries (link_messages link t))) (flat_map (receipt_keys s) (entries (link_receipts link t))) in
+        let a = part-of (message_keys s) on_link t.messages k in
+        let b = part-of (receipt_keys s) receipt_on_link t.receipts k in
+        omega (arith, all, both, a, b)
+
+    other-key : (k x : LinkKey) → k.link ≡ link → (x.link.0 == link.0) ≡ false → hits k (x ∷ []) ≡ 0
+    other-key k x of apart = by (same_key k x) refl
+      where
+        by : (b : Bool) → same_key k x ≡ b → hits k (x ∷ []) ≡ 0
+        by true t =
+            absurd (false≢true (sym apart ∙ ap (λ (l : LinkId). l.0 == link.0) (sym (ap (λ (y : LinkKey). y.link) (one_key k x t)) ∙ of) ∙ eq-eqb link.0 link.0 refl))
+        by false t =
+            let sum = sum_by-cons (λ c. cond (same_key k c) 1 0) x [] in
+            let none : ◌≡◌ {A = ℕ} (cond (same_key k x) 1 0) 0 = ap (λ b. cond b 1 0) t in
+            omega (arith, sum, none)
+
+    -- all members of a key of the link are among them
+    keys-all : (k : LinkKey) → k.link ≡ link → hits k link_keys ≡ members (grouping_of s t) k
+    keys-all k of =
+        let all = members-are k in
+        let both = hits-both k (flat_map (message_keys s) (entries (link_messages link t))) (flat_map (receipt_keys s) (entries (link_receipts link t))) in
+        let a = whole-of (message_keys s) on_link t.messages k (λ e apart. messages-apart e (accepted_id e.1.response) apart) in
+        let b = whole-of (receipt_keys s) receipt_on_link t.receipts k (λ e apart. other-key k (receipt_key s e.1) of apart) in
+        omega (arith, all, both, a, b)
+      where
+        messages-apart : (e : Place × Message) (id : Option (List ℕ)) → (e.1.link.0 == link.0) ≡ false
+            → hits k (option_to_list (option_map (link_key e.1.link (forms_of s e.1.link).response) id)) ≡ 0
+        messages-apart e None apart = refl
+        messages-apart e (Some id) apart = other-key k (link_key e.1.link (forms_of s e.1.link).response id) of apart
+
+    same-link : (l : LinkId) → (l.0 == link.0) ≡ true → l ≡ link
+    same-link l t = ap (λ n. record { 0 = n }) (eqb-true l.0 link.0 t)
+
+    -- and they are of the link
+    keys-linked : AllByRecursion (λ (k : LinkKey). k.link ≡ link) link_keys
+    keys-linked = all-both (flat_map (message_keys s) (entries (link_messages link t))) (flat_map (receipt_keys s) (entries (link_receipts link t)))
+        (holds-of (message_keys s) on_link t.messages (λ (k : LinkKey). k.link ≡ link) (λ e on. of-message e (accepted_id e.1.response) on))
+        (holds-of (receipt_keys s) receipt_on_link t.receipts (λ (k : LinkKey). k.link ≡ link) (λ e on. (same-link e.1.link on, tt)))
+      where
+        all-both : (xs ys : List LinkKey) → AllByRecursion (λ (k : LinkKey). k.link ≡ link) xs → AllByRecursion (λ (k : LinkKey). k.link ≡ link) ys
+            → AllByRecursion (λ (k : LinkKey). k.link ≡ link) (xs ++ ys)
+        all-both [] ys a b = b
+        all-both (x ∷ xs) ys a b = (a.0, all-both xs ys a.1 b)
+
+        of-message : (e : Place × Message) (id : Option (List ℕ)) → (e.1.link.0 == link.0) ≡ true
+            → AllByRecursion (λ (k : LinkKey). k.link ≡ link) (option_to_list (option_map (link_key e.1.link (forms_of s e.1.link).response) id))
+        of-message e None on = tt
+        of-message e (Some id) on = (same-link e.1.link on, tt)
+
+sum-less : (f g : LinkKey → ℕ) (P : LinkKey → Type 0) → ((k : LinkKey) → P k → f k ≤ g k) → (ks : List LinkKey) → AllByRecursion P ks → sum_by f ks ≤ sum_by g ks
+sum-less f g P each [] a = omega arith
+sum-less f g P each (k ∷ ks) a =
+    let x = sum_by-cons f k ks in
+    let y = sum_by-cons g k ks in
+    let one = each k a.0 in
+    let rest = sum-less f g P each ks a.1 in
+    omega (arith, x, y, one, rest)
+
+-- the members of what is put in under new forms that were there under the old ones
+few-were : (s z : SettingsValue) (t : TrafficValue) (link : LinkId)
+    → 2 * sum_by (members (grouping_of s t)) (link_keys z t link)
+    ≤ sum_by (members (grouping_of z t)) (link_keys z t link) + sum_by (members (grouping_of s t)) (link_keys s t link)
+few-were s z t link =
+    let old = link_keys s t link in
+    let new = link_keys z t link in
+    let met = sum-less (members (grouping_of s t)) (λ k. hits k old) (λ (k : LinkKey). k.link ≡ link)
+    (λ k of. (let same = keys-all s t link k of in omega (arith, same))) new (keys-linked z t link) in
+    let few = few-meet new old in
+    let a = sum_by-le-sum_by (λ k. hits k new) (members (grouping_of z t)) new (keys-few z t link) in
+    let b = sum_by-le-sum_by (λ k. hits k old) (members (grouping_of s t)) old (keys-few s t link) in
+    omega (arith, met, few, a, b)
+
+-- ---- what all entries of a link cost, and weigh
+
+abbrev message_sum : Grouping → SettingsValue → List (Place × Message) → ℕ
+message_sum g s es = sum_by (members g) (flat_map (message_keys s) es)
+
+abbrev receipt_sum : Grouping → SettingsValue → List (Place × ReceivedReceipt) → ℕ
+receipt_sum g s es = sum_by (members g) (flat_map (receipt_keys s) es)
+
+sum-more : (g : Grouping) (o : Option LinkKey) (ks : List LinkKey) → sum_by (members g) (option_to_list o ++ ks) ≡ members_at g o + sum_by (members g) ks
+sum-more g None ks = omega arith
+sum-more g (Some k) ks = sum_by-cons (members g) k ks
+
+-- what takes and puts cost
+module _ (p : PresentValue) (i : Index) (pairings : Pairings) (kept : IsKept p i pairings) (z : SettingsValue) (h : GroupsValue) (n : Grouping)
+    (went : MembersGo i.standings h) where
+  abbrev t : TrafficValue
+  t = traffic_of p.sessions
+
+  loaded : (key : Option LinkKey) → taken_of i.standings key ≡ 33 * members_at (groups p) key
+  loaded None = refl
+  loaded (Some key) = load-kept p i pairings kept key
+
+  walked : (key : Option LinkKey) → walk_of h n key ≤ 2 * members_at (groups p) key + 15 * members_at n key
+  walked None = omega arith
+  walked (Some key) =
+      let vacant = went.vacant key in
+      let load = load-kept p i pairings kept key in
+      let same = ap (λ (g : Grouping). members g key) (members-kept p i pairings kept) in
+      omega (arith, vacant, load, same)
+
+  messages-cost : (es : List (Place × Message)) → AllByRecursion (λ e. get t.messages e.0 ≡ Some e.1) es
+      → sum_by (taken_load i.standings) (map (λ e. e.0) es) + sum_by (put_load h n z) es
+      ≤ 85 * length es + 33 * message_sum (groups p) p.settings es + 2 * message_sum (groups p) z es + 15 * message_sum n z es
+  messages-cost [] a = omega arith
+  messages-cost (e ∷ es) a =
+      let b = sum_by-cons (taken_load i.standings) e.0 (map (λ e. e.0) es) in
+      let c = sum_by-cons (put_load h n z) e es in
+      let here = ap (taken_of i.standings) (ap (λ (g : Grouping). get g.submits e.0) (members-kept p i pairings kept) ∙ submit-there p.settings e.0 t e.1 a.0) in
+      let load = loaded (accepted_key p.settings e.1) in
+      let walk = walked (accepted_key z e.1) in
+      let x = sum-more (groups p) (accepted_key p.settings e.1) (flat_map (message_keys p.settings) es) in
+      let y = sum-more (groups p) (accepted_key z e.1) (flat_map (message_keys z) es) in
+      let w = sum-more n (accepted_key z e.1) (flat_map (message_keys z) es) in
+      let rest = messages-cost es a.1 in
+      omega (arith, b, c, here, load, walk, x, y, w, rest)
+
+  receipts-cost : (es : List (Place × ReceivedReceipt)) → AllByRecursion (λ e. get t.receipts e.0 ≡ Some e.1) es
+      → sum_by (forgotten_load i.standings) (map (λ e. e.0) es) + sum_by (received_load h n z) es
+      ≤ 92 * length es + 33 * receipt_sum (groups p) p.settings es + 2 * receipt_sum (groups p) z es + 15 * receipt_sum n z es
+  receipts-cost [] a = omega arith
+  receipts-cost (e ∷ es) a =
+      let b = sum_by-cons (forgotten_load i.standings) e.0 (map (λ e. e.0) es) in
+      let c = sum_by-cons (received_load h n z) e es in
+      let here = ap (λ (x : Option GroupedReceipt). taken_of i.standings (option_map (λ r. r.key) x))
+      (ap (λ (g : Grouping). get g.receipts e.0) (members-kept p i pairings kept) ∙ receipt-there p.settings e.0 t e.1 a.0) in
+      let load = loaded (Some (receipt_key p.settings e.1)) in
+      let walk = walked (Some (receipt_key z e.1)) in
+      let x = sum_by-cons (members (groups p)) (receipt_key p.settings e.1) (flat_map (receipt_keys p.settings) es) in
+      let y = sum_by-cons (members (groups p)) (receipt_key z e.1) (flat_map (receipt_keys z) es) in
+      let w = sum_by-cons (members n) (receipt_key z e.1) (flat_map (receipt_keys z) es) in
+      let rest = receipts-cost es a.1 in
+      omega (arith, b, c, here, load, walk, x, y, w, rest)
+
+-- what they weigh
+module _ (p : PresentValue) (is : IsTraffic (traffic_of p.sessions)) where
+  abbrev said : TrafficValue
+  said = traffic_of p.sessions
+
+  message-weighs : (q : Place) (m : Message) → get said.messages q ≡ Some m → 1 + members_at (groups p) (accepted_key p.settings m) ≤ weight p q
+  message-weighs q m there = by (accepted_key p.settings m) (submit-there p.settings q said m there)
+    where
+      by : (o : Option LinkKey) → get (groups p).submits q ≡ o → 1 + members_at (groups p) o ≤ weight p q
+      by None at = omega arith
+      by (Some key) at =
+          let own : ◌≡◌ {A = ℕ} (weight p q) (1 + members (groups p) key) =
+          ap (λ (o : Option LinkKey). 1 + unwrap_or (option_map (members (groups p)) (option_or o
+          (option_or (option_map (λ r. r.key) (get (groups p).receipts q))
+          (option_and_then (λ pair. get (groups p).submits pair.request) (pair_in p q))))) 0) at in
+          omega (arith, own)
+
+  receipt-weighs : (q : Place) (r : ReceivedReceipt) → get said.receipts q ≡ Some r → 1 + members (groups p) (receipt_key p.settings r) ≤ weight p q
+  receipt-weighs q r there =
+      let none : get (groups p).submits q ≡ None = submit-absent p.settings q said (no-message said is q (is.receipts q r there)) in
+      let at : get (groups p).receipts q ≡ Some (keyed_receipt p.settings r) = receipt-there p.settings q said r there in
+      let own : ◌≡◌ {A = ℕ} (weight p q) (1 + members (groups p) (receipt_key p.settings r)) =
+      (λ j. 1 + unwrap_or (option_map (members (groups p)) (option_or (none j)
+      (option_or (option_map (λ r. r.key) (at j))
+      (option_and_then (λ pair. get (groups p).submits pair.request) (pair_in p q))))) 0) in
+      omega (arith, own)
+
+  messages-weigh : (es : List (Place × Message)) → AllByRecursion (λ e. get said.messages e.0 ≡ Some e.1) es
+      → length es + message_sum (groups p) p.settings es ≤ weights p (map (λ e. e.0) es)
+  messages-weigh [] a = omega arith
+  messages-weigh (e ∷ es) a =
+      let one = message-weighs e.0 e.1 a.0 in
+      let x = sum-more (groups p) (accepted_key p.settings e.1) (flat_map (message_keys p.settings) es) in
+      let y = sum_by-cons (weight p) e.0 (map (λ e. e.0) es) in
+      let rest = messages-weigh es a.1 in
+      omega (arith, one, x, y, rest)
+
+  receipts-weigh : (es : List (Place × ReceivedReceipt)) → AllByRecursion (λ e. get said.receipts e.0 ≡ Some e.1) es
+      → length es + receipt_sum (groups p) p.settings es ≤ weights p (map (λ e. e.0) es)
+  receipts-weigh [] a = omega arith
+  receipts-weigh (e ∷ es) a =
+      let one = receipt-weighs e.0 e.1 a.0 in
+      let x = sum_by-cons (members (groups p)) (receipt_key p.settings e.1) (flat_map (receipt_keys p.settings) es) in
+      let y = sum_by-cons (weight p) e.0 (map (λ e. e.0) es) in
+      let rest = receipts-weigh es a.1 in
+      omega (arith, one, x, y, rest)
+
+  link-weighs : (link : LinkId)
+      → length (entries (link_messages link said)) + length (entries (link_receipts link said)) + sum_by (members (groups p)) (link_keys p.settings said link)
+      ≤ weights p (link_places link said)
+  link-weighs link =
+      let ms = entries (link_messages link said) in
+      let rs = entries (link_receipts link said) in
+      let a = messages-weigh ms (entries-passing (λ place (m : Message). m.link.0 == link.0) said.messages) in
+      let b = receipts-weigh rs (entries-passing (λ place (r : ReceivedReceipt). r.link.0 == link.0) said.receipts) in
+      let c = sum_by-append (weight p) (keys (link_messages link said)) (keys (link_receipts link said)) in
+      let d = sum_by-append (members (groups p)) (flat_map (message_keys p.settings) ms) (flat_map (receipt_keys p.settings) rs) in
+      omega (arith, a, b, c, d)
+
+-- forms that are set
+pub forms-bound : (p : PresentValue) (i : Index) (pairings : Pairings) → IsKept p i pairings → (link : LinkId) (response receipt : Form)
+    → (z : SettingsValue) (h : GroupsValue) (n : Grouping) → MembersGo i.standings h
+    → z ≡ (change p (SetForm link response receipt)).settings → n ≡ groups (change p (SetForm link response receipt))
+    → sum_by (taken_load i.standings) (keys (link_messages link (traffic_of p.sessions)))
+    + sum_by (forgotten_load i.standings) (keys (link_receipts link (traffic_of p.sessions)))
+    + sum_by (put_load h n z) (entries (link_messages link (traffic_of p.sessions)))
+    + sum_by (received_load h n z) (entries (link_receipts link (traffic_of p.sessions)))
+    ≤ 64 * (1 + reach p (SetForm link response receipt))
+forms-bound p i pairings kept link response receipt z h n went settings members_then =
+    let q = change p (SetForm link response receipt) in
+    let t = traffic_of p.sessions in
+    let is : IsTraffic t = subst IsTraffic kept.traffic kept.held.traffic in
+    let ms = entries (link_messages link t) in
+    let rs = entries (link_receipts link t) in
+    let a = messages-cost p i pairings kept z h n went ms (entries-passing (λ place (m : Message). m.link.0 == link.0) t.messages) in
+    let b = receipts-cost p i pairings kept z h n went rs (entries-passing (λ place (r : ReceivedReceipt). r.link.0 == link.0) t.receipts) in
+    let before = link-weighs p is link in
+    let after = link-weighs q is link in
+    let were = few-were p.settings z t link in
+    let c = sum_by-append (members (groups p)) (flat_map (message_keys z) ms) (flat_map (receipt_keys z) rs) in
+    let d = sum_by-append (members (groups p)) (flat_map (message_keys p.settings) ms) (flat_map (receipt_keys p.settings) rs) in
+    let e = sum_by-append (members n) (flat_map (message_keys z) ms) (flat_map (receipt_keys z) rs) in
+    let new : grouping_of z t ≡ n = ap (λ (s : SettingsValue). grouping_of s t) settings ∙ sym members_then in
+    let f = ap (λ (g : Grouping). sum_by (members g) (link_keys z t link)) new in
+    let g : sum_by (members n) (link_keys z t link) ≡ sum_by (members (groups q)) (link_keys q.settings t link) =
+    (λ j. sum_by (members (members_then j)) (link_keys (settings j) t link)) in
+    omega (arith, a, b, before, after, were, c, d, e, f, g)

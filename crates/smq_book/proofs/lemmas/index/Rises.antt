@@ -1,0 +1,25 @@
+-- Touches don't fall, and where a fact changes they rise, whatever comes in turn.
+use Rattle.std.proofs.Common.{◌≡◌, ◌≤◌, refl, ◌∙◌, arith}
+use Rattle.smq_book.specs.declared.index.index.Index.{Index}
+use Rattle.smq_book.specs.index.Touches.{RisesWithFacts, touches_in}
+
+-- where facts stay
+pub stay-rise : (i j : Index) → touches_in i ≤ touches_in j → j.tally.facts ≡ i.tally.facts → RisesWithFacts i j
+stay-rise i j counted same = record { counted = counted; facts = λ touches low. same }
+
+pub none-rise : (i : Index) → RisesWithFacts i i
+none-rise i = record { counted = omega arith; facts = λ touches low. refl }
+
+pub both-rise : (i j k : Index) → RisesWithFacts i j → RisesWithFacts j k → RisesWithFacts i k
+both-rise i j k a b =
+    let x = a.counted in
+    let y = b.counted in
+    record {
+      counted = omega (arith, x, y);
+      facts = λ touches low.
+          b.facts (omega (arith, x, y, touches)) (omega (arith, x, y, touches, low)) ∙ a.facts (omega (arith, x, y, touches)) low;
+    }
+
+-- where the facts of what lies between are those of before, and its touches too at least
+pub part-rise : (i j k : Index) → touches_in i ≤ touches_in j → j.tally.facts ≡ i.tally.facts → RisesWithFacts j k → RisesWithFacts i k
+part-rise i j k counted same b = both-rise i j k (stay-rise i j counted same) b

@@ -1,0 +1,14 @@
+-- How many touches edits of a book of one message add at most, worked out by hand: 64 for each that an edit reaches, and 64 more.
+use Rattle.std.specs.Prelude.{◌≡◌}
+use Rattle.smq_book.specs.declared.present.edit.Edit.TheVariants.{Advance, SetWindow, Withdraw}
+use Rattle.smq_book.specs.edits.Reach.{most_touches}
+use Rattle.smq_book.specs.known.Reach.{accepted_book, accepting, submitted_book, submitting}
+use Rattle.smq_book.specs.present.Present.{empty}
+
+pub record KnownTouches : Type 0 where
+  pub submits : most_touches empty submitting ≡ 128
+  pub accepts : most_touches submitted_book accepting ≡ 192
+  pub before_the_end : most_touches accepted_book (Advance 172800999) ≡ 64
+  pub at_the_end : most_touches accepted_book (Advance 172801000) ≡ 128
+  pub windows_of_its_link : most_touches accepted_book (SetWindow (record { 0 = 1 }) 1000) ≡ 128
+  pub withdraws : most_touches accepted_book (Withdraw (record { 0 = 10 })) ≡ 320
