@@ -167,7 +167,7 @@ module _ {V : Type 0} (key k : LinkKey) (place : Place) (least : (p : Place) →
   pub from-none : k ≡ key → IsStrictlySortedBy kept_member_cmp (keys_of es) → None ≡ at_or_above k → None ≡ option_map placed (find (of_key key) es)
   from-none s so h = sym (ap (option_map placed) (first s so ∙ ap (keep (of_key key)) (sym h)))
 
-zero_le : (n : ℕ) → is_le (nat_cmp 0 n) ≡ true
+pub zero_le : (n : ℕ) → is_le (nat_cmp 0 n) ≡ true
 zero_le zero = refl
 zero_le (suc n) = ap is_le (sym (nat_cmp_is 0 (suc n) Less (omega arith)))
 
@@ -175,7 +175,7 @@ client_le : (d : Dir) → is_le (dir_cmp FromClient d) ≡ true
 client_le FromClient = refl
 client_le FromCentre = refl
 
-then_le : (r s : Ordering) → is_le r ≡ true → is_le s ≡ true → is_le (ordering_then r s) ≡ true
+pub then_le : (r s : Ordering) → is_le r ≡ true → is_le s ≡ true → is_le (ordering_then r s) ≡ true
 then_le Less s h k = refl
 then_le Equal s h k = k
 then_le Greater s h k = absurd (false≢true h)

@@ -2,20 +2,22 @@
 use Rattle.std.proofs.Common.{◌≡◌, ℕ, Bool, true, false, cond, List, [], ◌∷◌, ◌++◌, Option, Some, None, refl, sym, ap, ◌∙◌, subst, map, filter}
 use Rattle.std.specs.Prelude.{T, ◌&&◌, ◌==◌, not, count_by, option_map}
 use Rattle.std.specs.Ordering.{eq_by_cmp}
-use Rattle.std.specs.List.{AllByRecursion, reduce}
+use Rattle.std.specs.List.{AllByRecursion, flat_map, reduce}
 use Rattle.std.specs.List.Sorted.{IsStrictlySortedBy}
-use Rattle.std.specs.FinMap.{entries, find, from_entries, get-from_entries, is_sorted}
+use Rattle.std.specs.FinMap.{entries, find, from_entries, get-from_entries, is_sorted, keys}
 use Rattle.smq_kit.specs.declared.place.Place.{Place}
 use Rattle.smq_kit.specs.declared.link_key.LinkKey.{LinkKey}
-use Rattle.smq_kit.specs.Maps.{same_option}
+use Rattle.smq_kit.specs.declared.names.LinkId.{LinkId}
+use Rattle.smq_kit.specs.Maps.{kept_of, same_option}
 use Rattle.smq_kit.specs.Orders.{place_cmp}
 use Rattle.smq_kit.specs.LinkKeys.{same_key}
 use Rattle.smq_kit.proofs.PlaceOrders.{places_total, places_exact}
-use Rattle.smq_kit.proofs.MapLemmas.{entries-from_entries}
+use Rattle.smq_kit.proofs.MapLemmas.{entries-chosen, entries-from_entries}
 use Rattle.smq_group.specs.declared.change.Change.{Change}
 use Rattle.smq_group.specs.declared.change.Standing.{Standing}
 use Rattle.smq_group.specs.Changes.{TellsChanges, changed, receipt_at, submit_at, told_at, told_of_receipt, told_of_submit}
 use Rattle.smq_group.specs.Known.{grouped}
+use Rattle.smq_group.specs.Links.{receipts_on, submits_on}
 use Rattle.smq_group.specs.Matching as m
 use Rattle.smq_group.specs.Matching.{GroupedReceipt, earlier}
 use Rattle.smq_group.proofs.Placing.{same_place}
@@ -51,6 +53,20 @@ module _ (es : List (Place × LinkKey)) (rs : List (Place × GroupedReceipt)) (s
       (cond (not (number (is_es i) r.key == 1)) m.KeyShared
       (cond (same_option (eq_by_cmp place_cmp) (decided (is_rs i) r.key) (Some q)) m.Deciding
       (cond r.decides m.Extra m.Noted))))) (get-from_entries places_total rs q i)
+
+  -- of a link
+
+  abbrev submit_on : LinkId → Place → LinkKey → Option LinkKey
+  submit_on link place key = cond (key.link.0 == link.0) (Some key) None
+
+  pub submits-linked : (link : LinkId) → keys (submits_on link (grouped es rs)) ≡ map (λ e. e.0) (flat_map (kept_of (submit_on link)) es)
+  submits-linked link = ap (map (λ e. e.0)) (entries-chosen places_total places_exact (submit_on link) (from_entries es) ∙ ap (flat_map (kept_of (submit_on link))) is_es)
+
+  abbrev receipt_on : LinkId → Place → GroupedReceipt → Option GroupedReceipt
+  receipt_on link place r = cond (r.key.link.0 == link.0) (Some r) None
+
+  pub receipts-linked : (link : LinkId) → keys (receipts_on link (grouped es rs)) ≡ map (λ e. e.0) (flat_map (kept_of (receipt_on link)) rs)
+  receipts-linked link = ap (map (λ e. e.0)) (entries-chosen places_total places_exact (receipt_on link) (from_entries rs) ∙ ap (flat_map (kept_of (receipt_on link))) is_rs)
 
 -- ---- what is told of them
 

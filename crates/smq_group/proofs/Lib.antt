@@ -17,3 +17,7 @@ pub mod Vacating
 pub mod Lawful
 pub mod KnownGroups
 pub mod Keeping
+pub mod SortedKeys
+pub mod LinkFinding
+pub mod LinkWalking
+pub mod Linked

@@ -29,15 +29,15 @@ same_place q p e = places_exact q p (is_equal (place_cmp q p) e)
 pub own_place : (q p : Place) → q ≡ p → eq_by_cmp place_cmp q p ≡ true
 own_place q p e = ap (λ (x : Place). eq_by_cmp place_cmp q x) (sym e) ∙ ap is_eq (tied_itself places_total q)
 
-none_head : {A : Type 0} (b : Bool) (x : A) (y : Option A) → b ≡ true → cond b (Some x) y ≡ None → ⊥
+pub none_head : {A : Type 0} (b : Bool) (x : A) (y : Option A) → b ≡ true → cond b (Some x) y ≡ None → ⊥
 none_head true x y e h = absurd cc
 none_head false x y e h = absurd (false≢true e)
 
-rest_none : {A : Type 0} (b : Bool) (x : A) (y : Option A) → cond b (Some x) y ≡ None → y ≡ None
+pub rest_none : {A : Type 0} (b : Bool) (x : A) (y : Option A) → cond b (Some x) y ≡ None → y ≡ None
 rest_none true x y h = absurd cc
 rest_none false x y h = h
 
-not_true : (b : Bool) → (b ≡ true → ⊥) → b ≡ false
+pub not_true : (b : Bool) → (b ≡ true → ⊥) → b ≡ false
 not_true true h = absurd (h refl)
 not_true false h = refl
 

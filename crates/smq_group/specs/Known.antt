@@ -3,6 +3,7 @@ use Rattle.std.specs.Prelude.{ℕ, true, false, List, [], ◌∷◌}
 use Rattle.std.specs.FinMap as fin
 use Rattle.smq_kit.specs.declared.form.Key.TheVariants as k
 use Rattle.smq_kit.specs.declared.link_key.LinkKey.{LinkKey}
+use Rattle.smq_kit.specs.declared.names.LinkId.{LinkId}
 use Rattle.smq_kit.specs.declared.place.Dir.TheVariants.{FromClient, FromCentre}
 use Rattle.smq_kit.specs.declared.place.Place.{Place}
 use Rattle.smq_group.specs.declared.change.Change.{Change}
@@ -64,6 +65,19 @@ undecided = (centre_at 18, interim 1000) ∷ []
 
 abbrev pub decided_late : List (Place × GroupedReceipt)
 decided_late = (centre_at 18, interim 1000) ∷ (centre_at 90, final 4000) ∷ []
+
+-- a link
+abbrev pub link_of : ℕ → LinkId
+link_of number = record { 0 = number }
+
+-- submits of keys 7 and 3 of link 1, and between them one of key 7 of link 2
+abbrev pub on_two_links : List (Place × LinkKey)
+on_two_links =
+    (client_at 0, key_of_link 1) ∷ (client_at 49, key_of_link 2) ∷ (client_at 98, record { link = link_of 1; key = k.Number 3 }) ∷ []
+
+-- a receipt of key 7 of link 2, and one of link 1
+abbrev pub received : List (Place × GroupedReceipt)
+received = (centre_at 18, record { key = key_of_link 2; moment = 4000; decides = true }) ∷ (centre_at 90, interim 5000) ∷ []
 
 -- a change
 abbrev pub told : Place → Standing → Change

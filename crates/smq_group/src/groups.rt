@@ -3,10 +3,12 @@ ghost use Rattle.std.specs.Prelude.{◌≡◌, ◌+◌, ◌*◌, ◌^◌, ◌-�
 ghost use Rattle.std.specs.FinMap as fin;
 ghost use Rattle.smq_kit.specs.LinkKeys.{same_key};
 ghost use Rattle.smq_group.specs.Changes.{TellsChanges};
+ghost use Rattle.smq_group.specs.Links.{receipts_on, submits_on};
 ghost use Rattle.smq_group.specs.Groups.{key_on, no_members, receipt_with, vacancies, with_receipt, with_submit, without_receipt, without_submit};
 
 use crate::Change;
 use crate::changes::{Added, tell};
+use crate::links::places_on;
 use crate::member::{Candidate, Member, Said};
 use crate::outlook::{Earliest, Outlook, outlook_of};
 use crate::receipts::{decider_without, out_receipt, put_receipt, said_at, take_back_receipt};
@@ -69,6 +71,36 @@ impl Groups {
             candidates: Kept::new(alloc),
             outlooks: Kept::new(alloc),
         }
+    }
+
+    /// The places of the submits of a link, by place. It walks those of the link's keys alone, and looks at one more.
+    pub fn submits_on(&mut self, link: LinkId) -> Result<Vec<Place>, AllocError>
+        ensures value { IfOk result (λ places. places.items
+            ≡ fin.keys (submits_on link self.old.members)) }
+        ensures members { self.new.members ≡ self.old.members }
+        ensures settled { self.new.settled ≡ self.old.settled }
+        ensures pending { self.new.pending ≡ self.old.pending }
+        ensures vacant { self.new.vacant ≡ self.old.vacant }
+        ensures touches { self.old.vacant ≡ [] → IfOk result (λ places.
+            self.new.touches ≤ self.old.touches + 1 + length places.items) }
+        ensures counted { self.old.touches ≤ self.new.touches }
+    {
+        places_on(self.alloc, &mut self.submits, link)
+    }
+
+    /// The places of the receipts of a link, by place. It walks those of the link's keys alone, and looks at one more.
+    pub fn receipts_on(&mut self, link: LinkId) -> Result<Vec<Place>, AllocError>
+        ensures value { IfOk result (λ places. places.items
+            ≡ fin.keys (receipts_on link self.old.members)) }
+        ensures members { self.new.members ≡ self.old.members }
+        ensures settled { self.new.settled ≡ self.old.settled }
+        ensures pending { self.new.pending ≡ self.old.pending }
+        ensures vacant { self.new.vacant ≡ self.old.vacant }
+        ensures touches { self.old.vacant ≡ [] → IfOk result (λ places.
+            self.new.touches ≤ self.old.touches + 1 + length places.items) }
+        ensures counted { self.old.touches ≤ self.new.touches }
+    {
+        places_on(self.alloc, &mut self.receipts, link)
     }
 
     /// Takes a submit that is accepted with a key. An error changes nothing.

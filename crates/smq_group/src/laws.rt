@@ -4,7 +4,8 @@ ghost use Rattle.std.specs.FinMap as fin;
 ghost use Rattle.smq_kit.specs.declared.link_key.LinkKey.{LinkKey};
 ghost use Rattle.smq_group.specs.Changes.{TellsChanges, receipt_at, submit_at};
 ghost use Rattle.smq_group.specs.declared.change.Standing.TheVariants.{Deciding, Extra, Noted, Shared, Single, Stray};
-ghost use Rattle.smq_group.specs.Known.{both_links, centre_at, client_at, decided_late, elsewhere, grouped, late, late_and_early, none, one, tied, told, two, undecided};
+ghost use Rattle.smq_group.specs.Known.{both_links, centre_at, client_at, decided_late, elsewhere, grouped, late, late_and_early, link_of, none, on_two_links, one, received, tied, told, two, undecided};
+ghost use Rattle.smq_group.specs.Links.{receipts_on, submits_on};
 ghost use Rattle.smq_group.specs.Matching.{CanDecide, Grouping, IsEarliest, IsSingle, decider, matches};
 ghost use Rattle.smq_group.specs.Laws.{IsToldOneWay, OrderOfReceiptsIsIdle, OrderOfSidesIsIdle, OrderOfSubmitsIsIdle, ReceiptsLeaveNoTrace, SubmitsLeaveNoTrace, SubmitsLeaveOtherKeys, TellsNothingOfTheSame};
 
@@ -111,4 +112,23 @@ pub fn known_changes()
     // A receipt that can't decide changes no other's standing.
     ensures noted { TellsChanges (grouped one []) (grouped one undecided)
         (told (centre_at 18) Noted ∷ []) }
+{}
+
+/// The members of links in groups that are written out.
+pub fn known_links()
+    // A link has the submits of all its keys, by place whatever their keys, and no other link's.
+    ensures submits { fin.keys (submits_on (link_of 1) (grouped on_two_links received))
+        ≡ client_at 0 ∷ client_at 98 ∷ [] }
+    ensures other_submits { fin.keys (submits_on (link_of 2) (grouped on_two_links received))
+        ≡ client_at 49 ∷ [] }
+
+    // And its receipts, those that can't decide too.
+    ensures receipts { fin.keys (receipts_on (link_of 1) (grouped on_two_links received))
+        ≡ centre_at 90 ∷ [] }
+    ensures other_receipts { fin.keys (receipts_on (link_of 2) (grouped on_two_links received))
+        ≡ centre_at 18 ∷ [] }
+
+    // A link may have none.
+    ensures no_submits { fin.keys (submits_on (link_of 3) (grouped on_two_links received)) ≡ [] }
+    ensures no_receipts { fin.keys (receipts_on (link_of 3) (grouped on_two_links received)) ≡ [] }
 {}

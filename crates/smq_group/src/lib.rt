@@ -6,6 +6,7 @@ mod change;
 mod changes;
 mod groups;
 mod laws;
+mod links;
 mod member;
 mod outlook;
 mod receipts;
@@ -16,6 +17,7 @@ pub use change::{Change, Standing};
 pub use groups::Groups;
 pub use laws::{
     changes_are_told_one_way, deciding_receipts_are_earliest, keys_are_apart, known_changes,
-    known_standings, moves_leave_no_trace, order_of_members_is_idle, single_keys_have_no_other,
+    known_links, known_standings, moves_leave_no_trace, order_of_members_is_idle,
+    single_keys_have_no_other,
 };
 pub use standings::Standings;

@@ -4,6 +4,7 @@ ghost use Rattle.std.specs.FinMap as fin;
 ghost use Rattle.smq_group.specs.Changes.{TellsChanges};
 ghost use Rattle.smq_kit.specs.LinkKeys.{same_key};
 ghost use Rattle.smq_kit.specs.declared.link_key.LinkKey.{LinkKey};
+ghost use Rattle.smq_group.specs.Links.{receipts_on, submits_on};
 ghost use Rattle.smq_group.specs.Groups.{key_on, no_members, receipt_with, vacancies, with_receipt, with_submit, without_receipt, without_submit};
 ghost use Rattle.smq_group.specs.Standings.{standing_at};
 ghost use Rattle.smq_group.specs.within.Standing.{standings_in, with_change, with_changes};
@@ -55,6 +56,36 @@ impl Standings {
         ensures { result ≡ standing_at self.now.members place }
     {
         self.standings.get(&place).copied()
+    }
+
+    /// The places of the accepted messages of a link, by place. It walks those of the link's keys alone, and looks at one more.
+    pub fn submits_on(&mut self, link: LinkId) -> Result<Vec<Place>, AllocError>
+        ensures value { IfOk result (λ places. places.items
+            ≡ fin.keys (submits_on link self.old.members)) }
+        ensures members { self.new.members ≡ self.old.members }
+        ensures settled { self.new.settled ≡ self.old.settled }
+        ensures pending { self.new.pending ≡ self.old.pending }
+        ensures vacant { self.new.vacant ≡ self.old.vacant }
+        ensures touches { self.old.vacant ≡ [] → IfOk result (λ places.
+            self.new.touches ≤ self.old.touches + 1 + length places.items) }
+        ensures counted { self.old.touches ≤ self.new.touches }
+    {
+        self.groups.submits_on(link)
+    }
+
+    /// The places of the delivery receipts of a link, by place. It walks those of the link's keys alone, and looks at one more.
+    pub fn receipts_on(&mut self, link: LinkId) -> Result<Vec<Place>, AllocError>
+        ensures value { IfOk result (λ places. places.items
+            ≡ fin.keys (receipts_on link self.old.members)) }
+        ensures members { self.new.members ≡ self.old.members }
+        ensures settled { self.new.settled ≡ self.old.settled }
+        ensures pending { self.new.pending ≡ self.old.pending }
+        ensures vacant { self.new.vacant ≡ self.old.vacant }
+        ensures touches { self.old.vacant ≡ [] → IfOk result (λ places.
+            self.new.touches ≤ self.old.touches + 1 + length places.items) }
+        ensures counted { self.old.touches ≤ self.new.touches }
+    {
+        self.groups.receipts_on(link)
     }
 
     /// Takes a message that is accepted with a key.

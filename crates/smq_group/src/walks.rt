@@ -14,7 +14,7 @@ use smq_shelf::{Kept, ShelfKey};
 use std::alloc::{AllocError, Global};
 
 // The least place.
-const LEAST: Place = Place {
+pub(crate) const LEAST: Place = Place {
     session: SessionId(0),
     dir: Dir::FromClient,
     offset: 0,
