@@ -113,7 +113,7 @@ check_app = with_rule (new_app (codes "check")) settings_rule
 
 -- the program's version
 abbrev pub version_text : Text
-version_text = codes "0.10.0"
+version_text = codes "0.11.0"
 
 -- the program without its subcommands: one is required, or `--version`
 abbrev pub bare_program : App

@@ -26,6 +26,7 @@ pub mod Appending
 pub mod Taken
 pub mod Refreshed
 pub mod Walks
+pub mod Accepted
 pub mod LinkOut
 pub mod FormsSet
 pub mod Lengths

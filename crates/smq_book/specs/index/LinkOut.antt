@@ -1,38 +1,24 @@
--- All of a link that is taken out of traffic, so that its forms can be set, and put in again.
-use Rattle.std.specs.Prelude.{◌≡◌, ◌≢◌, ◌==◌, ℕ, Bool, List, [], ◌++◌, map, is_some, if◌then◌else◌, Some, None}
+-- What has a key on a link is taken out of traffic, so that its forms can be set, and put in again.
+use Rattle.std.specs.Prelude.{◌≡◌, ◌≢◌, ◌==◌, ◌&&◌, Bool, List, ◌++◌, map, is_some, Some, None}
 use Rattle.std.specs.List.{AllByRecursion}
 use Rattle.std.specs.FinMap as fin
 use Rattle.smq_kit.specs.declared.names.LinkId.{LinkId}
 use Rattle.smq_kit.specs.declared.place.Dir.{Dir}
-use Rattle.smq_kit.specs.declared.place.Dir.TheVariants.{FromClient, FromCentre}
 use Rattle.smq_kit.specs.declared.place.Place.{Place}
 use Rattle.smq_kit.specs.Maps.{patched}
 use Rattle.smq_kit.specs.Orders.{place_cmp}
-use Rattle.smq_book.specs.declared.present.kept.Content.{Content}
-use Rattle.smq_book.specs.declared.present.session.Session.{Session}
-use Rattle.smq_book.specs.present.Kept.{kept_pdus, receipt_in, submit_in}
-use Rattle.smq_book.specs.pairing.Traffic.{Message, ReceivedReceipt, TrafficValue, origin_of, places_where}
+use Rattle.smq_book.specs.edits.Reached.{passing}
+use Rattle.smq_book.specs.join.Keyed.{accepted_id}
 use Rattle.smq_book.specs.join.Moves.{Move, PutMessage, PutReceipt}
+use Rattle.smq_book.specs.pairing.Traffic.{Message, ReceivedReceipt, TrafficValue}
 
--- whether a PDU is a decodable submit_sm or data_sm
-abbrev pub is_submit : Content → Bool
-is_submit content = is_some (submit_in content)
+-- whether a message is accepted, under whatever forms
+abbrev pub is_accepted : Message → Bool
+is_accepted m = is_some (accepted_id m.response)
 
--- whether a PDU is a delivery receipt
-abbrev pub is_receipt : Content → Bool
-is_receipt content = is_some (receipt_in content)
-
--- the places of the messages that a session says
-abbrev pub submit_places : ℕ × Session → List Place
-submit_places e = places_where is_submit (origin_of e) FromClient (kept_pdus e.1.client)
-
--- and those of its delivery receipts
-abbrev pub receipt_places : ℕ × Session → List Place
-receipt_places e = places_where is_receipt (origin_of e) FromCentre (kept_pdus e.1.centre)
-
--- places of a session, where it is of a link
-abbrev pub of_link : (ℕ × Session → List Place) → LinkId → ℕ × Session → List Place
-of_link places link e = if e.1.link.0 == link.0 then places e else []
+-- the accepted messages of a link: those that have keys
+abbrev pub accepted_on : LinkId → TrafficValue → fin.FinMap place_cmp Message
+accepted_on link t = passing (λ place m. m.link.0 == link.0 && is_accepted m) t.messages
 
 -- entries at places of a direction
 abbrev pub AllFrom : {X : Type 0} → Dir → List (Place × X) → Type 0
@@ -43,13 +29,13 @@ pub record TakesOut {X : Type 0} (m : fin.FinMap place_cmp X) (es : List (Place 
   pub were : AllByRecursion (λ e. fin.get m e.0 ≡ Some e.1) es
   pub left : n ≡ patched m (λ q. None) (map (λ e. e.0) es)
 
--- These messages and delivery receipts are taken out of traffic, in which nothing of a link is left.
+-- These messages and delivery receipts are taken out of traffic, in which nothing of a link has a key then.
 pub record IsOut (link : LinkId) (t : TrafficValue) (ms : List (Place × Message)) (rs : List (Place × ReceivedReceipt))
     (u : TrafficValue) : Type 0 where
   pub messages : TakesOut t.messages ms u.messages
   pub receipts : TakesOut t.receipts rs u.receipts
   pub notes : u.notes ≡ t.notes
-  pub no_message : (q : Place) (m : Message) → fin.get u.messages q ≡ Some m → m.link ≢ link
+  pub no_message : (q : Place) (m : Message) → fin.get u.messages q ≡ Some m → m.link ≡ link → accepted_id m.response ≡ None
   pub no_receipt : (q : Place) (r : ReceivedReceipt) → fin.get u.receipts q ≡ Some r → r.link ≢ link
 
 -- messages and delivery receipts are put in

@@ -17,6 +17,7 @@ use Rattle.smq_tally.specs.Tally.{TallyValue}
 use Rattle.smq_book.specs.declared.index.index.Index.{Index}
 use Rattle.smq_book.specs.declared.index.pairings.Pairings.{Pairings}
 use Rattle.smq_book.specs.edits.Reach.{members}
+use Rattle.smq_book.specs.index.Held.{held_now, held_settled}
 use Rattle.smq_book.specs.index.Pairs.{pairs_pending}
 use Rattle.smq_book.specs.declared.present.kept.KeptPdu.{KeptPdu}
 use Rattle.smq_book.specs.join.Keyed.{accepted_key, receipt_key}
@@ -178,3 +179,11 @@ AreTaken m (q ∷ qs) = (is_some (fin.get m q) ≡ true) × AreTaken (fin.remove
 pub record RisesWithFacts (old new : Index) : Type 0 where
   pub counted : touches_in old ≤ touches_in new
   pub facts : touches_in new ≡ touches_in old → touches_in old < 2 ^ 64 - 1 → new.tally.facts ≡ old.tally.facts
+
+-- Groups are walked over, and nothing else is touched.
+pub record IsRead (old new : Index) : Type 0 where
+  pub held : held_now new ≡ held_now old
+  pub settled : held_settled new ≡ held_settled old
+  pub vacant : new.standings.vacant ≡ old.standings.vacant
+  pub counted : touches_in old ≤ touches_in new
+  pub facts : new.tally.facts ≡ old.tally.facts

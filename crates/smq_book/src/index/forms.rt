@@ -1,31 +1,28 @@
-//! What the forms of a link's message ids change: the keys of its messages and delivery receipts. All of the link is taken
-//! out before its forms are set, and put in again after it. On an error what is held is of no use: the caller undoes it.
-ghost use Rattle.std.specs.Prelude.{◌≡◌, ◌≤◌, ◌+◌, ◌++◌, Some, None, [], ◌∷◌, map, option_map, option_to_list, IfOk, OnOk};
-ghost use Rattle.std.specs.List.{flat_map, sum_by};
+//! What the forms of a link's message ids change: the keys of its accepted messages and its delivery receipts. They are taken
+//! out before its forms are set, and put in again after it: the key groups tell where they stand, so that no session, no other
+//! PDU and no message without a key is looked at. On an error what is held is of no use: the caller undoes it.
+ghost use Rattle.std.specs.Prelude.{◌≡◌, ◌≤◌, ◌+◌, ◌++◌, Some, None, [], ◌∷◌, length, map, option_map, option_to_list, IfOk, OnOk};
+ghost use Rattle.std.specs.List.{sum_by};
 ghost use Rattle.std.specs.Option.{option_copied};
 ghost use Rattle.std.specs.FinMap as fin;
-ghost use Rattle.smq_kit.specs.declared.place.Dir.TheVariants.{FromClient, FromCentre};
-ghost use Rattle.smq_book.specs.index.Held.{IsHeld, held_now, held_settled, traffic_held};
-ghost use Rattle.smq_book.specs.index.LinkOut as out;
-ghost use Rattle.smq_book.specs.index.LinkOut.{AllFrom, IsOut, TakesOut, is_receipt, is_submit, of_link, puts_of};
-ghost use Rattle.smq_group.specs.Matching.{Grouping};
 ghost use Rattle.smq_kit.specs.declared.link_key.LinkKey.{LinkKey};
+ghost use Rattle.smq_kit.specs.declared.place.Dir.TheVariants.{FromClient, FromCentre};
+ghost use Rattle.smq_group.specs.Matching.{Grouping};
 ghost use Rattle.smq_book.specs.edits.Reach.{members};
-ghost use Rattle.smq_book.specs.edits.Reached.{link_messages, link_receipts};
+ghost use Rattle.smq_book.specs.edits.Reached.{link_receipts};
 ghost use Rattle.smq_book.specs.index.Coming.{AreNew};
-ghost use Rattle.smq_book.specs.index.Touches.{AreTaken, MembersCome, MembersGo, RisesWithFacts, forgotten_load, index_cost, load_of, put_load, received_load, taken_load};
+ghost use Rattle.smq_book.specs.index.Held.{IsHeld, held_now, held_settled, traffic_held};
+ghost use Rattle.smq_book.specs.index.LinkOut.{AllFrom, IsOut, TakesOut, accepted_on, puts_of};
 ghost use Rattle.smq_book.specs.index.Pushed.{IsHeldAfter};
-ghost use Rattle.smq_book.specs.join.Moves.{PutMessage, PutReceipt, TakeMessage, TakeReceipt};
+ghost use Rattle.smq_book.specs.index.Touches.{AreTaken, IsRead, MembersCome, MembersGo, RisesWithFacts, forgotten_load, index_cost, load_of, put_load, received_load, taken_load};
 ghost use Rattle.smq_book.specs.join.Keyed.{accepted_key, receipt_key};
-ghost use Rattle.smq_book.specs.pairing.Traffic.{places_where, traffic_of};
-ghost use Rattle.smq_book.specs.within.Pairs.{from_session};
+ghost use Rattle.smq_book.specs.join.Moves.{PutMessage, PutReceipt, TakeMessage, TakeReceipt};
+ghost use Rattle.smq_book.specs.present.Settings.{SettingsValue};
 
 use crate::index::index::Index;
 use crate::index::stored::{StoredMessage, StoredReceipt};
-use crate::pairing::pairs::place_of;
 use crate::present::settings::Settings;
-use crate::{KeptPdu, Present, Session};
-use smq_kit::{Dir, LinkId, Place, SessionId};
+use smq_kit::{LinkId, Place};
 use std::alloc::{AllocError, Global};
 
 /// The messages and the delivery receipts that are taken out, at their places.
@@ -35,33 +32,32 @@ pub(crate) struct Taken {
     pub receipts: Vec<(Place, StoredReceipt)>,
 }
 
-/// Takes all of a link out.
+/// Takes what has a key on a link out: its accepted messages, and its delivery receipts.
 pub(crate) fn take_link(
     alloc: Global,
     index: &mut Index,
-    present: &Present,
+    settings: &Settings,
     link: LinkId,
 ) -> Result<Taken, AllocError>
-    requires held { IsHeld present.now.settings (held_now index.old) }
-    requires traffic { traffic_held (held_now index.old) ≡ traffic_of present.now.sessions }
-    ensures held { OnOk result (IsHeld present.now.settings (held_now index.new)) }
-    ensures out { IfOk result (λ taken. IsOut link (traffic_of present.now.sessions)
+    requires { IsHeld settings.now (held_now index.old) }
+    ensures held { OnOk result (IsHeld settings.now (held_now index.new)) }
+    ensures out { IfOk result (λ taken. IsOut link (traffic_held (held_now index.old))
         taken.messages.items taken.receipts.items (traffic_held (held_now index.new))) }
     ensures settled { held_settled index.new ≡ held_settled index.old }
     ensures rises { OnOk result (RisesWithFacts index.old index.new) }
     ensures went { OnOk result (MembersGo index.old.standings index.new.standings) }
-    ensures touches { let t = traffic_of present.now.sessions in
-        OnOk result (index_cost index.new ≤ index_cost index.old
-        + sum_by (taken_load index.old.standings) (fin.keys (link_messages link t))
-        + sum_by (forgotten_load index.old.standings) (fin.keys (link_receipts link t))) }
+    ensures touches { let t = traffic_held (held_now index.old) in index.old.standings.vacant ≡ []
+        → OnOk result (index_cost index.new ≤ index_cost index.old
+        + (2 + length (fin.keys (accepted_on link t)) + length (fin.keys (link_receipts link t))
+        + sum_by (taken_load index.old.standings) (fin.keys (accepted_on link t))
+        + sum_by (forgotten_load index.old.standings) (fin.keys (link_receipts link t)))) }
     ensures all_messages { IfOk result (λ taken. taken.messages.items
-        ≡ fin.entries (link_messages link (traffic_of present.now.sessions))) }
+        ≡ fin.entries (accepted_on link (traffic_held (held_now index.old)))) }
     ensures all_receipts { IfOk result (λ taken. taken.receipts.items
-        ≡ fin.entries (link_receipts link (traffic_of present.now.sessions))) }
+        ≡ fin.entries (link_receipts link (traffic_held (held_now index.old)))) }
 {
-    let settings = present.settings();
-    let of_messages = message_places(alloc, present, link)?;
-    let of_receipts = receipt_places(alloc, present, link)?;
+    let of_messages = message_places(index, link)?;
+    let of_receipts = receipt_places(index, link)?;
     let messages = take_messages(alloc, index, settings, of_messages.as_slice())?;
     let receipts = take_receipts(alloc, index, settings, of_receipts.as_slice())?;
     Ok(Taken { messages, receipts })
@@ -95,108 +91,30 @@ pub(crate) fn put_link(
     Ok(())
 }
 
-/// The places of a link's messages.
-fn message_places(alloc: Global, present: &Present, link: LinkId) -> Result<Vec<Place>, AllocError>
-    ensures { IfOk result (λ places. places.items
-        ≡ flat_map (of_link out.submit_places link) (fin.entries present.now.sessions)) }
+/// The places of the accepted messages of a link.
+fn message_places(index: &mut Index, link: LinkId) -> Result<Vec<Place>, AllocError>
+    ensures value { (s : SettingsValue) → IsHeld s (held_now index.old)
+        → IfOk result (λ places. places.items
+        ≡ fin.keys (accepted_on link (traffic_held (held_now index.old)))) }
+    ensures read { IsRead index.old index.new }
+    ensures touches { index.old.standings.vacant ≡ [] → IfOk result (λ places.
+        index_cost index.new ≤ index_cost index.old + 1 + length places.items) }
 {
-    let mut places = Vec::new(alloc);
-    for (number, session) in present.sessions() {
-        push_link_messages(&mut places, link, SessionId(*number), session)?;
-    }
+    let places = index.standings.submits_on(link)?;
     Ok(places)
 }
 
-/// The places of a link's delivery receipts.
-fn receipt_places(alloc: Global, present: &Present, link: LinkId) -> Result<Vec<Place>, AllocError>
-    ensures { IfOk result (λ places. places.items
-        ≡ flat_map (of_link out.receipt_places link) (fin.entries present.now.sessions)) }
+/// The places of the delivery receipts of a link.
+fn receipt_places(index: &mut Index, link: LinkId) -> Result<Vec<Place>, AllocError>
+    ensures value { (s : SettingsValue) → IsHeld s (held_now index.old)
+        → IfOk result (λ places. places.items
+        ≡ fin.keys (link_receipts link (traffic_held (held_now index.old)))) }
+    ensures read { IsRead index.old index.new }
+    ensures touches { index.old.standings.vacant ≡ [] → IfOk result (λ places.
+        index_cost index.new ≤ index_cost index.old + 1 + length places.items) }
 {
-    let mut places = Vec::new(alloc);
-    for (number, session) in present.sessions() {
-        push_link_receipts(&mut places, link, SessionId(*number), session)?;
-    }
+    let places = index.standings.receipts_on(link)?;
     Ok(places)
-}
-
-/// Puts the places of a session's messages after what is there, where it is of a link.
-fn push_link_messages(
-    places: &mut Vec<Place>,
-    link: LinkId,
-    number: SessionId,
-    session: &Session,
-) -> Result<(), AllocError>
-    ensures { OnOk result (places.new.items
-        ≡ places.old.items ++ of_link out.submit_places link (number.0, session.now)) }
-{
-    if session.link.0 != link.0 {
-        return Ok(());
-    }
-    push_places_of_messages(places, number, session.client.pdus())
-}
-
-/// Puts the places of a session's delivery receipts after what is there, where it is of a link.
-fn push_link_receipts(
-    places: &mut Vec<Place>,
-    link: LinkId,
-    number: SessionId,
-    session: &Session,
-) -> Result<(), AllocError>
-    ensures { OnOk result (places.new.items
-        ≡ places.old.items ++ of_link out.receipt_places link (number.0, session.now)) }
-{
-    if session.link.0 != link.0 {
-        return Ok(());
-    }
-    push_places_of_receipts(places, number, session.centre.pdus())
-}
-
-/// Puts the places of the messages that PDUs of the client are after what is there.
-fn push_places_of_messages(
-    places: &mut Vec<Place>,
-    number: SessionId,
-    client: &[KeptPdu],
-) -> Result<(), AllocError>
-    ensures { OnOk result (places.new.items
-        ≡ places.old.items ++ places_where is_submit (from_session number) FromClient client.now) }
-{
-    for pdu in client {
-        if is_message(pdu) {
-            places.push(place_of(number, Dir::FromClient, pdu))?;
-        }
-    }
-    Ok(())
-}
-
-/// Puts the places of the delivery receipts that PDUs of the centre are after what is there.
-fn push_places_of_receipts(
-    places: &mut Vec<Place>,
-    number: SessionId,
-    centre: &[KeptPdu],
-) -> Result<(), AllocError>
-    ensures { OnOk result (places.new.items
-        ≡ places.old.items ++ places_where is_receipt (from_session number) FromCentre centre.now) }
-{
-    for pdu in centre {
-        if is_received(pdu) {
-            places.push(place_of(number, Dir::FromCentre, pdu))?;
-        }
-    }
-    Ok(())
-}
-
-/// Whether a PDU is a decodable submit_sm or data_sm.
-fn is_message(pdu: &KeptPdu) -> bool
-    ensures { result ≡ is_submit pdu.now.content }
-{
-    pdu.content.submit().is_some()
-}
-
-/// Whether a PDU is a delivery receipt.
-fn is_received(pdu: &KeptPdu) -> bool
-    ensures { result ≡ is_receipt pdu.now.content }
-{
-    pdu.content.receipt().is_some()
 }
 
 /// Takes the messages at places out, and gives them.

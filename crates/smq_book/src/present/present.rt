@@ -255,7 +255,7 @@ impl Present {
             + 64 * (1 + reach self.old (Edit.SetForm link forms.response forms.receipt))) }
         ensures rises { OnOk result (RisesWithFacts index.old index.new) }
     {
-        let Ok(taken) = take_link(alloc, index, self, link) else {
+        let Ok(taken) = take_link(alloc, index, &self.settings, link) else {
             return Err(Refusal::Memory);
         };
         let Ok(before) = self.settings.set_forms(link, forms) else {

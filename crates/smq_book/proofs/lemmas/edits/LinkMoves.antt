@@ -54,10 +54,10 @@ module _ (link : LinkId) (t : TrafficValue) where
   module _ (s z : SettingsValue) (windows : s.windows ≡ z.windows) (versions : s.versions ≡ z.versions) (clock : s.clock ≡ z.clock)
       (others : (l : LinkId) → l ≢ link → forms_of s l ≡ forms_of z l) where
     pub groups-idle : grouping_of s (without_link link t) ≡ grouping_of z (without_link link t)
-    groups-idle = grouping-ignores s z (without_link link t) link windows versions clock others no-message no-receipt
+    groups-idle = grouping-ignores s z (without_link link t) link windows versions clock others (λ q m e is. absurd (no-message q m e is)) no-receipt
 
     pub facts-idle : facts_of s (without_link link t) ≡ facts_of z (without_link link t)
-    facts-idle = facts-ignore s z (without_link link t) link windows versions clock others no-message no-receipt
+    facts-idle = facts-ignore s z (without_link link t) link windows versions clock others (λ q m e is. absurd (no-message q m e is)) no-receipt
 
     pub notes-idle : notes_of s (without_link link t) ≡ notes_of z (without_link link t)
     notes-idle = λ i. listed_set (keys t.notes ++ receipt_notes (groups-idle i))

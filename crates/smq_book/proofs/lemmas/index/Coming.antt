@@ -1,6 +1,6 @@
 -- An append puts messages and delivery receipts in where none stands yet, and so do forms that are set once their link is out.
 use Rattle.std.proofs.Common.{◌≡◌, ℕ, Bool, true, false, cond, List, [], ◌∷◌, ◌++◌, Option, Some, None, refl, sym, ap, ◌∙◌, subst}
-use Rattle.std.specs.Prelude.{T, map, not, ◌==◌, option_and_then, option_map, option_to_list}
+use Rattle.std.specs.Prelude.{T, map, not, option_and_then, option_map, option_to_list}
 use Rattle.std.specs.List.{AllByRecursion, flat_map}
 use Rattle.std.specs.Cmp.{nat_cmp_total, tied_itself}
 use Rattle.std.specs.declared.cmp.Ordering.TheVariants.{Less, Equal}
@@ -8,7 +8,6 @@ use Rattle.std.specs.Ordering.{eq_by_cmp, is_eq, nat_cmp}
 use Rattle.std.specs.FinMap.{FinMap, entries, entries_sorted, find, get, insert, remove, is_sorted, get-insert}
 use Rattle.std.specs.FinMap.Entries.{below_all}
 use Rattle.std.proofs.lemmas.List.{append_assoc}
-use Rattle.smq_kit.specs.declared.names.LinkId.{LinkId}
 use Rattle.smq_kit.specs.declared.place.Dir.{Dir}
 use Rattle.smq_kit.specs.declared.place.Dir.TheVariants.{FromClient, FromCentre}
 use Rattle.smq_kit.specs.declared.place.Place.{Place}
@@ -30,7 +29,7 @@ use Rattle.smq_book.specs.pairing.Traffic.{message_at, message_of, place_of, rec
 use Rattle.smq_book.specs.within.Pairs.{Rises}
 use Rattle.smq_book.specs.join.Moves.{Move, PutMessage, PutReceipt, moved, moved_by}
 use Rattle.smq_book.specs.edits.Appended.{anew, answered, append_moves, batch_origin, centre_moves, client_moves, push_moves, session_before}
-use Rattle.smq_book.specs.edits.Reached.{link_messages, link_puts, link_receipts, passing, without_link}
+use Rattle.smq_book.specs.edits.Reached.{passing}
 use Rattle.smq_book.specs.index.Coming.{AreNew}
 use Rattle.smq_book.proofs.lemmas.present.Growth.{kept_frames, pdus-grown}
 use Rattle.smq_book.proofs.lemmas.pairing.PlacesRise.{kept-rise, messages-rise, receipts-rise}
@@ -250,13 +249,15 @@ puts-leave : (t : TrafficValue) (es : List (Place × Message)) → (moved_by t (
 puts-leave t [] = refl
 puts-leave t (e ∷ es) = puts-leave (moved t (PutMessage e)) es
 
-pub link-puts-new : (link : LinkId) (t : TrafficValue) → AreNew (without_link link t) (link_puts link t)
-link-puts-new link t =
-    let messages = entries (link_messages link t) in
-    let receipts = entries (link_receipts link t) in
-    new-both (without_link link t) (map PutMessage messages) (map PutReceipt receipts)
-    (puts-new (without_link link t) messages (entries_sorted (link_messages link t))
-    (passed-out (λ place (m : Message). m.link.0 == link.0) t.messages))
-    (receives-new (moved_by (without_link link t) (map PutMessage messages)) receipts (entries_sorted (link_receipts link t))
-    (subst (λ (m : FinMap place_cmp ReceivedReceipt). AllAbsent m receipts) (sym (puts-leave (without_link link t) messages))
-    (passed-out (λ place (r : ReceivedReceipt). r.link.0 == link.0) t.receipts)))
+-- what passes is new in traffic that is without it
+pub puts-back-new : (f : Place → Message → Bool) (g : Place → ReceivedReceipt → Bool) (t u : TrafficValue)
+    → u.messages ≡ passing (λ q m. not (f q m)) t.messages → u.receipts ≡ passing (λ q r. not (g q r)) t.receipts
+    → AreNew u (map PutMessage (entries (passing f t.messages)) ++ map PutReceipt (entries (passing g t.receipts)))
+puts-back-new f g t u messages_left receipts_left =
+    let messages = entries (passing f t.messages) in
+    let receipts = entries (passing g t.receipts) in
+    new-both u (map PutMessage messages) (map PutReceipt receipts)
+    (puts-new u messages (entries_sorted (passing f t.messages))
+    (subst (λ (m : FinMap place_cmp Message). AllAbsent m messages) (sym messages_left) (passed-out f t.messages)))
+    (receives-new (moved_by u (map PutMessage messages)) receipts (entries_sorted (passing g t.receipts))
+    (subst (λ (m : FinMap place_cmp ReceivedReceipt). AllAbsent m receipts) (sym (puts-leave u messages ∙ receipts_left)) (passed-out g t.receipts)))

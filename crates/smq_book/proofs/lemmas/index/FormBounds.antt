@@ -1,10 +1,11 @@
 -- Forms that are set cost no more than 64 for each weight of the link's messages and delivery receipts, as they were and as they are left.
 use Rattle.std.proofs.Common.{◌≡◌, ℕ, ◌+◌, ◌*◌, ◌≤◌, Bool, true, false, cond, ◌||◌, List, [], ◌∷◌, ◌++◌, length, Option, Some, None, refl, sym, ap, subst, ◌∙◌, arith}
-use Rattle.std.specs.Prelude.{◌==◌, count_by, map, option_and_then, option_map, option_to_list, unwrap_or}
+use Rattle.std.specs.Prelude.{◌==◌, ◌&&◌, count_by, map, option_and_then, option_map, option_to_list, unwrap_or}
 use Rattle.std.specs.List.{AllByRecursion, flat_map, list_any, sum_by}
 use Rattle.std.specs.Option.{option_or}
 use Rattle.std.specs.FinMap.{FinMap, entries, get, keys}
 use Rattle.std.proofs.lemmas.Bool.{false≢true, eq-eqb, eqb-true}
+use Rattle.std.proofs.lemmas.List.{length-map}
 use Rattle.std.proofs.lemmas.List.Sums.{sum_by-append, sum_by-cons, sum_by-le-sum_by}
 use Rattle.smq_kit.specs.declared.link_key.LinkKey.{LinkKey}
 use Rattle.smq_kit.specs.declared.names.LinkId.{LinkId}
@@ -30,8 +31,10 @@ use Rattle.smq_book.specs.edits.Reach.{groups, link_places, members, pair_in, re
 use Rattle.smq_book.specs.edits.Reached.{link_messages, link_receipts, passing}
 use Rattle.smq_book.specs.index.Held.{IsTraffic}
 use Rattle.smq_book.specs.index.Kept.{IsKept}
+use Rattle.smq_book.specs.index.LinkOut.{accepted_on, is_accepted}
 use Rattle.smq_book.specs.index.Touches.{MembersGo, forgotten_load, taken_of, members_at, put_load, received_load, taken_load, walk_of}
 use Rattle.smq_book.proofs.lemmas.edits.Passing.{entries-passing}
+use Rattle.smq_book.proofs.lemmas.index.Accepted.{fewer, same-keys}
 use Rattle.smq_book.proofs.lemmas.index.Bounds.{load-kept, members-kept}
 use Rattle.smq_book.proofs.lemmas.index.Members.{no-message, receipt-there, submit-absent, submit-there}
 
@@ -471,19 +474,29 @@ module _ (p : PresentValue) (is : IsTraffic (traffic_of p.sessions)) where
 pub forms-bound : (p : PresentValue) (i : Index) (pairings : Pairings) → IsKept p i pairings → (link : LinkId) (response receipt : Form)
     → (z : SettingsValue) (h : GroupsValue) (n : Grouping) → MembersGo i.standings h
     → z ≡ (change p (SetForm link response receipt)).settings → n ≡ groups (change p (SetForm link response receipt))
-    → sum_by (taken_load i.standings) (keys (link_messages link (traffic_of p.sessions)))
+    → 2 + length (keys (accepted_on link (traffic_of p.sessions))) + length (keys (link_receipts link (traffic_of p.sessions)))
+    + sum_by (taken_load i.standings) (keys (accepted_on link (traffic_of p.sessions)))
     + sum_by (forgotten_load i.standings) (keys (link_receipts link (traffic_of p.sessions)))
-    + sum_by (put_load h n z) (entries (link_messages link (traffic_of p.sessions)))
+    + sum_by (put_load h n z) (entries (accepted_on link (traffic_of p.sessions)))
     + sum_by (received_load h n z) (entries (link_receipts link (traffic_of p.sessions)))
     ≤ 64 * (1 + reach p (SetForm link response receipt))
 forms-bound p i pairings kept link response receipt z h n went settings members_then =
     let q = change p (SetForm link response receipt) in
     let t = traffic_of p.sessions in
     let is : IsTraffic t = subst IsTraffic kept.traffic kept.held.traffic in
+    let accepted = entries (accepted_on link t) in
     let ms = entries (link_messages link t) in
     let rs = entries (link_receipts link t) in
-    let a = messages-cost p i pairings kept z h n went ms (entries-passing (λ place (m : Message). m.link.0 == link.0) t.messages) in
+    let a = messages-cost p i pairings kept z h n went accepted
+    (entries-passing (λ place (m : Message). m.link.0 == link.0 && is_accepted m) t.messages) in
     let b = receipts-cost p i pairings kept z h n went rs (entries-passing (λ place (r : ReceivedReceipt). r.link.0 == link.0) t.receipts) in
+    let some : length accepted ≤ length ms = fewer p.settings link t in
+    let looks : ◌≡◌ {A = ℕ} (length (keys (accepted_on link t))) (length accepted) = length-map accepted (λ (e : Place × Message). e.0) in
+    let receipt_looks : ◌≡◌ {A = ℕ} (length (keys (link_receipts link t))) (length rs) = length-map rs (λ (e : Place × ReceivedReceipt). e.0) in
+    let old_keys : message_sum (groups p) p.settings accepted ≡ message_sum (groups p) p.settings ms =
+    ap (sum_by (members (groups p))) (same-keys p.settings link t) in
+    let keys_then : message_sum (groups p) z accepted ≡ message_sum (groups p) z ms = ap (sum_by (members (groups p))) (same-keys z link t) in
+    let new_keys : message_sum n z accepted ≡ message_sum n z ms = ap (sum_by (members n)) (same-keys z link t) in
     let before = link-weighs p is link in
     let after = link-weighs q is link in
     let were = few-were p.settings z t link in
@@ -494,4 +507,4 @@ forms-bound p i pairings kept link response receipt z h n went settings members_
     let f = ap (λ (g : Grouping). sum_by (members g) (link_keys z t link)) new in
     let g : sum_by (members n) (link_keys z t link) ≡ sum_by (members (groups q)) (link_keys q.settings t link) =
     (λ j. sum_by (members (members_then j)) (link_keys (settings j) t link)) in
-    omega (arith, a, b, before, after, were, c, d, e, f, g)
+    omega (arith, a, b, some, looks, receipt_looks, old_keys, keys_then, new_keys, before, after, were, c, d, e, f, g)

@@ -1,41 +1,33 @@
 -- What it costs to set forms: all of a link is taken out, at the places where it stands, and put in again where nothing stands then.
-use Rattle.std.proofs.Common.{◌≡◌, ℕ, ◌+◌, ◌<◌, ◌≤◌, Bool, true, false, cond, List, [], ◌∷◌, ◌++◌, length, take, drop, get_or, Option, Some, None, refl, sym, ap, subst, ◌∙◌, arith}
-use Rattle.std.specs.Prelude.{T, ◌==◌, map, is_some, filter, option_map, option_to_list}
-use Rattle.std.specs.List.{AllByRecursion, flat_map}
+use Rattle.std.proofs.Common.{◌≡◌, ℕ, ◌+◌, ◌*◌, ◌<◌, ◌≤◌, Bool, true, false, cond, List, [], ◌∷◌, ◌++◌, length, take, drop, get_or, Option, Some, None, refl, sym, ap, subst, ◌∙◌, arith}
+use Rattle.std.specs.Prelude.{T, ◌==◌, ◌&&◌, map, is_some, count_by, option_map, option_to_list}
+use Rattle.std.specs.List.{AllByRecursion}
 use Rattle.std.specs.Cmp.{tied_itself}
 use Rattle.std.specs.declared.cmp.Ordering.TheVariants.{Equal, Less}
-use Rattle.std.specs.Ordering.{eq_by_cmp, nat_cmp}
+use Rattle.std.specs.Ordering.{eq_by_cmp}
 use Rattle.std.specs.FinMap.{FinMap, entries, entries_sorted, get, get-remove, is_sorted, keys, remove}
 use Rattle.std.specs.FinMap.Entries.{below_all}
 use Rattle.std.proofs.lemmas.List.{drop_more, map-append, take_more}
-use Rattle.std.proofs.lemmas.List.Concat.{flat_map-append}
 use Rattle.smq_kit.specs.declared.names.LinkId.{LinkId}
-use Rattle.smq_kit.specs.declared.place.Dir.TheVariants.{FromClient, FromCentre}
 use Rattle.smq_kit.specs.declared.place.Place.{Place}
-use Rattle.smq_kit.specs.Maps.{kept_of, patched}
+use Rattle.smq_kit.specs.LinkKeys.{same_key}
+use Rattle.smq_kit.specs.Maps.{patched}
 use Rattle.smq_kit.proofs.Comparisons.{first_test, is_less, second_test}
 use Rattle.smq_kit.proofs.MapLemmas as maps
 use Rattle.smq_kit.proofs.PlaceOrders.{places_total, places_exact}
-use Rattle.smq_pdu.specs.declared.body.Submit.{Submit}
-use Rattle.smq_receipt.specs.declared.reading.Receipt.{Receipt}
 use Rattle.smq_kit.specs.Orders.{place_cmp}
 use Rattle.smq_kit.specs.declared.link_key.LinkKey.{LinkKey}
 use Rattle.smq_group.specs.Groups.{GroupsValue}
 use Rattle.smq_group.specs.Matching.{Grouping}
-use Rattle.smq_book.specs.declared.present.kept.KeptPdu.{KeptPdu}
-use Rattle.smq_book.specs.declared.present.session.Session.{Session}
-use Rattle.smq_book.specs.present.Kept.{kept_pdus, receipt_in, submit_in}
-use Rattle.smq_book.specs.pairing.Traffic.{Message, Origin, ReceivedReceipt, TrafficValue, message_at, message_of, origin_of, place_of, places_where}
-use Rattle.smq_book.specs.pairing.Traffic.{received, receipts_among, response_to, session_messages, session_receipts, traffic_of, with_earlier}
+use Rattle.smq_book.specs.pairing.Traffic.{Message, ReceivedReceipt, TrafficValue}
 use Rattle.smq_book.specs.join.Moves.{Move, moved, moved_by}
 use Rattle.smq_book.specs.edits.Reach.{members}
-use Rattle.smq_book.specs.edits.Reached.{link_messages, link_receipts, passing, without_link}
+use Rattle.smq_book.specs.edits.Reached.{link_receipts, passing}
 use Rattle.smq_book.specs.index.Coming.{AreNew}
-use Rattle.smq_book.specs.index.LinkOut.{IsOut, is_receipt, is_submit, of_link, puts_of, receipt_places, submit_places}
-use Rattle.smq_book.specs.index.Touches.{AreTaken, MembersCome, load_of, walk_of}
-use Rattle.smq_book.proofs.lemmas.pairing.PlacesRise.{messages-sorted, receipts-sorted}
+use Rattle.smq_book.specs.index.LinkOut.{IsOut, accepted_on, is_accepted, puts_of}
+use Rattle.smq_book.specs.index.Touches.{AreTaken, MembersCome, MembersGo, forgotten_load, load_of, receipt_key_at, taken_load, taken_of, walk_of}
 use Rattle.smq_book.proofs.lemmas.edits.Passing.{entries-passing, without-passing}
-use Rattle.smq_book.proofs.lemmas.index.Coming.{link-puts-new}
+use Rattle.smq_book.proofs.lemmas.index.Coming.{puts-back-new}
 
 -- ---- what stands at places is taken out in turn
 
@@ -80,114 +72,32 @@ pub new-back : (t : TrafficValue) (xs ys : List Move) → AreNew t (xs ++ ys) �
 new-back t [] ys a = a
 new-back t (x ∷ xs) ys a = new-back (moved t x) xs ys a.1
 
--- ---- the places of a link's PDUs are those where its messages and delivery receipts stand
+-- ---- what a walk leaves of groups
 
-module _ {X : Type 0} (test : Place → X → Bool) where
-  abbrev those : Place → X → Option X
-  those place v = cond (test place v) (Some v) None
+module _ (g h : GroupsValue) (same_members : h.members ≡ g.members) (same_vacant : h.vacant ≡ g.vacant) where
+  pub go-read : (k : GroupsValue) → MembersGo h k → MembersGo g k
+  go-read k went = record {
+    submits = λ q key e. ap (λ (m : Grouping). get m.submits q) (sym same_members) ∙ went.submits q key e;
+    receipts = λ q r e. ap (λ (m : Grouping). get m.receipts q) (sym same_members) ∙ went.receipts q r e;
+    fewer = λ key. (let a = went.fewer key in let b = ap (λ (m : Grouping). members m key) same_members in omega (arith, a, b));
+    vacant = λ key. (
+        let a = went.vacant key in
+        let b = ap (λ (m : Grouping). members m key) same_members in
+        let c = ap (count_by (same_key key)) same_vacant in
+        omega (arith, a, b, c));
+  }
 
-  kept-both : (xs ys : List (Place × X)) → map (λ (e : Place × X). e.0) (flat_map (kept_of those) (xs ++ ys))
-      ≡ map (λ (e : Place × X). e.0) (flat_map (kept_of those) xs) ++ map (λ (e : Place × X). e.0) (flat_map (kept_of those) ys)
-  kept-both xs ys =
-      ap (map (λ (e : Place × X). e.0)) (flat_map-append (kept_of those) xs ys)
-      ∙ map-append (λ (e : Place × X). e.0) (flat_map (kept_of those) xs) (flat_map (kept_of those) ys)
+  taken-read : (key : Option LinkKey) → taken_of h key ≡ taken_of g key
+  taken-read None = refl
+  taken-read (Some key) = λ i. count_by (same_key key) (same_vacant i) + 33 * members (same_members i) key
 
-  keys-kept : (m : FinMap place_cmp X) → keys (passing test m) ≡ map (λ (e : Place × X). e.0) (flat_map (kept_of those) (entries m))
-  keys-kept m = ap (map (λ (e : Place × X). e.0)) (maps.entries-chosen places_total places_exact those m)
+  pub submit-read : (q : Place) → taken_load h q ≡ taken_load g q
+  submit-read q =
+      ap (λ (n : ℕ). 42 + n) (ap (λ (m : Grouping). taken_of h (get m.submits q)) same_members ∙ taken-read (get g.members.submits q))
 
-  module _ (of : ℕ × Session → List Place) (block : ℕ × Session → List (Place × X))
-      (each : (e : ℕ × Session) → of e ≡ map (λ (e : Place × X). e.0) (flat_map (kept_of those) (block e))) where
-    all-kept : (es : List (ℕ × Session)) → flat_map of es ≡ map (λ (e : Place × X). e.0) (flat_map (kept_of those) (flat_map block es))
-    all-kept [] = refl
-    all-kept (e ∷ es) = (λ i. each e i ++ all-kept es i) ∙ sym (kept-both (block e) (flat_map block es))
-
-module _ (link : LinkId) where
-  abbrev on_link : Place → Message → Bool
-  on_link place m = m.link.0 == link.0
-
-  abbrev receipt_on_link : Place → ReceivedReceipt → Bool
-  receipt_on_link place r = r.link.0 == link.0
-
-  module _ (origin : Origin) (centre : List KeptPdu) where
-    messages-kept : (b : Bool) → (origin.link.0 == link.0) ≡ b → (before ps : List KeptPdu)
-        → cond b (places_where is_submit origin FromClient ps) []
-        ≡ map (λ (e : Place × Message). e.0) (flat_map (kept_of (those on_link))
-        (flat_map (λ e. option_to_list (message_at origin centre e.0 e.1)) (with_earlier before ps)))
-    messages-kept true t before [] = refl
-    messages-kept false t before [] = refl
-    messages-kept b t before (p ∷ ps) = by b t (messages-kept b t (before ++ p ∷ []) ps) (submit_in p.content)
-      where
-        rest : List (Place × Message)
-        rest = flat_map (λ e. option_to_list (message_at origin centre e.0 e.1)) (with_earlier (before ++ p ∷ []) ps)
-
-        ks : List KeptPdu
-        ks = filter (λ p. is_submit p.content) ps
-
-        by : (b : Bool) → (origin.link.0 == link.0) ≡ b
-            → cond b (map (place_of origin FromClient) ks) [] ≡ map (λ (e : Place × Message). e.0) (flat_map (kept_of (those on_link)) rest)
-            → (x : Option Submit) → cond b (map (place_of origin FromClient) (cond (is_some x) (p ∷ ks) ks)) []
-            ≡ map (λ (e : Place × Message). e.0) (flat_map (kept_of (those on_link))
-            (option_to_list (option_map (λ s. (place_of origin FromClient p, message_of origin p s (response_to centre before p))) x) ++ rest))
-        by b t later None = later
-        by true t later (Some s) =
-            ap (λ (qs : List Place). place_of origin FromClient p ∷ qs) later
-            ∙ ap (λ c. map (λ (e : Place × Message). e.0) (map (λ y. (place_of origin FromClient p, y))
-            (option_to_list (cond c (Some (message_of origin p s (response_to centre before p))) None)) ++ flat_map (kept_of (those on_link)) rest)) (sym t)
-        by false t later (Some s) =
-            later
-            ∙ ap (λ c. map (λ (e : Place × Message). e.0) (map (λ y. (place_of origin FromClient p, y))
-            (option_to_list (cond c (Some (message_of origin p s (response_to centre before p))) None)) ++ flat_map (kept_of (those on_link)) rest)) (sym t)
-
-    receipts-kept : (b : Bool) → (origin.link.0 == link.0) ≡ b → (ps : List KeptPdu)
-        → cond b (places_where is_receipt origin FromCentre ps) []
-        ≡ map (λ (e : Place × ReceivedReceipt). e.0) (flat_map (kept_of (those receipt_on_link)) (receipts_among origin ps))
-    receipts-kept true t [] = refl
-    receipts-kept false t [] = refl
-    receipts-kept b t (p ∷ ps) = by b t (receipts-kept b t ps) (receipt_in p.content)
-      where
-        ks : List KeptPdu
-        ks = filter (λ p. is_receipt p.content) ps
-
-        by : (b : Bool) → (origin.link.0 == link.0) ≡ b
-            → cond b (map (place_of origin FromCentre) ks) []
-            ≡ map (λ (e : Place × ReceivedReceipt). e.0) (flat_map (kept_of (those receipt_on_link)) (receipts_among origin ps))
-            → (x : Option Receipt) → cond b (map (place_of origin FromCentre) (cond (is_some x) (p ∷ ks) ks)) []
-            ≡ map (λ (e : Place × ReceivedReceipt). e.0) (flat_map (kept_of (those receipt_on_link))
-            (option_to_list (option_map (λ r. (place_of origin FromCentre p, received origin p r)) x) ++ receipts_among origin ps))
-        by b t later None = later
-        by true t later (Some r) =
-            ap (λ (qs : List Place). place_of origin FromCentre p ∷ qs) later
-            ∙ ap (λ c. map (λ (e : Place × ReceivedReceipt). e.0) (map (λ y. (place_of origin FromCentre p, y))
-            (option_to_list (cond c (Some (received origin p r)) None)) ++ flat_map (kept_of (those receipt_on_link)) (receipts_among origin ps))) (sym t)
-        by false t later (Some r) =
-            later
-            ∙ ap (λ c. map (λ (e : Place × ReceivedReceipt). e.0) (map (λ y. (place_of origin FromCentre p, y))
-            (option_to_list (cond c (Some (received origin p r)) None)) ++ flat_map (kept_of (those receipt_on_link)) (receipts_among origin ps))) (sym t)
-
-  module _ (sessions : FinMap nat_cmp Session) where
-    message-entries : entries (traffic_of sessions).messages ≡ flat_map session_messages (entries sessions)
-    message-entries =
-        maps.entries-from_entries places_total places_exact (flat_map session_messages (entries sessions))
-        (messages-sorted (entries sessions) (entries_sorted sessions))
-
-    receipt-entries : entries (traffic_of sessions).receipts ≡ flat_map session_receipts (entries sessions)
-    receipt-entries =
-        maps.entries-from_entries places_total places_exact (flat_map session_receipts (entries sessions))
-        (receipts-sorted (entries sessions) (entries_sorted sessions))
-
-    pub message-keys : flat_map (of_link submit_places link) (entries sessions) ≡ keys (link_messages link (traffic_of sessions))
-    message-keys =
-        all-kept on_link (of_link submit_places link) session_messages
-        (λ e. messages-kept (origin_of e) (kept_pdus e.1.centre) (e.1.link.0 == link.0) refl [] (kept_pdus e.1.client)) (entries sessions)
-        ∙ ap (λ es. map (λ (e : Place × Message). e.0) (flat_map (kept_of (those on_link)) es)) (sym message-entries)
-        ∙ sym (keys-kept on_link (traffic_of sessions).messages)
-
-    pub receipt-keys : flat_map (of_link receipt_places link) (entries sessions) ≡ keys (link_receipts link (traffic_of sessions))
-    receipt-keys =
-        all-kept receipt_on_link (of_link receipt_places link) session_receipts
-        (λ e. receipts-kept (origin_of e) [] (e.1.link.0 == link.0) refl (kept_pdus e.1.centre)) (entries sessions)
-        ∙ ap (λ es. map (λ (e : Place × ReceivedReceipt). e.0) (flat_map (kept_of (those receipt_on_link)) es)) (sym receipt-entries)
-        ∙ sym (keys-kept receipt_on_link (traffic_of sessions).receipts)
+  pub receipt-read : (q : Place) → forgotten_load h q ≡ forgotten_load g q
+  receipt-read q =
+      ap (λ (n : ℕ). 49 + n) (ap (λ (m : Grouping). taken_of h (receipt_key_at m q)) same_members ∙ taken-read (receipt_key_at g.members q))
 
 -- ---- so all of them is taken out
 
@@ -239,18 +149,16 @@ module _ {X : Type 0} where
       → AllByRecursion (λ e. get m e.0 ≡ Some e.1) es → es ≡ entries (passing test m)
   same-entries test m es same a = same-list m es (entries (passing test m)) same a (entries-passing test m)
 
--- what is left is the traffic without the link, in which it is new
+-- what is put in again is new in what is left
 pub link-new : (link : LinkId) (t u : TrafficValue) (ms : List (Place × Message)) (rs : List (Place × ReceivedReceipt)) → IsOut link t ms rs u
-    → ms ≡ entries (link_messages link t) → rs ≡ entries (link_receipts link t) → AreNew u (puts_of ms rs)
+    → ms ≡ entries (accepted_on link t) → rs ≡ entries (link_receipts link t) → AreNew u (puts_of ms rs)
 link-new link t u ms rs out messages receipts =
-    subst (λ (w : TrafficValue). AreNew w (puts_of ms rs)) (sym left)
-    (subst (λ moves. AreNew (without_link link t) moves) (λ i. puts_of (sym messages i) (sym receipts i)) (link-puts-new link t))
+    subst (λ moves. AreNew u moves) (λ i. puts_of (sym messages i) (sym receipts i)) (puts-back-new accepted on_link t u
+    (out.messages.left ∙ ap (λ es. patched t.messages (λ q. None) (map (λ (e : Place × Message). e.0) es)) messages ∙ without-passing accepted t.messages)
+    (out.receipts.left ∙ ap (λ es. patched t.receipts (λ q. None) (map (λ (e : Place × ReceivedReceipt). e.0) es)) receipts ∙ without-passing on_link t.receipts))
   where
-    left : u ≡ without_link link t
-    left = λ i. record {
-      messages = (out.messages.left ∙ ap (λ es. patched t.messages (λ q. None) (map (λ (e : Place × Message). e.0) es)) messages
-          ∙ without-passing (λ place (m : Message). m.link.0 == link.0) t.messages) i;
-      receipts = (out.receipts.left ∙ ap (λ es. patched t.receipts (λ q. None) (map (λ (e : Place × ReceivedReceipt). e.0) es)) receipts
-          ∙ without-passing (λ place (r : ReceivedReceipt). r.link.0 == link.0) t.receipts) i;
-      notes = out.notes i;
-    }
+    accepted : Place → Message → Bool
+    accepted q m = m.link.0 == link.0 && is_accepted m
+
+    on_link : Place → ReceivedReceipt → Bool
+    on_link q r = r.link.0 == link.0

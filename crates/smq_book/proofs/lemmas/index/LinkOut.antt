@@ -1,88 +1,34 @@
--- All of a link is taken out of traffic by the places that its sessions say, and put in again.
-use Rattle.std.proofs.Common.{◌≡◌, ◌≢◌, ℕ, ◌+◌, ◌<◌, ◌≤◌, Bool, true, false, cond, ◌||◌, List, [], ◌∷◌, ◌++◌, length, drop, get_or}
-use Rattle.std.proofs.Common.{Option, Some, None, refl, sym, ap, ◌∙◌, subst}
-use Rattle.std.specs.Prelude.{◌==◌, map, filter, is_some, option_and_then, option_map, option_to_list}
-use Rattle.std.specs.List.{AllByRecursion, flat_map, list_any}
-use Rattle.std.specs.Cmp.{nat_cmp_total}
-use Rattle.std.specs.Ordering.{eq_by_cmp, nat_cmp}
-use Rattle.std.specs.FinMap.{FinMap, entries, find, get, get-entries, get-insert, get-remove, insert, keys, remove, same_map, nat_cmp-IsAntisymmetric}
+-- What has a key on a link is taken out of traffic, and put in again.
+use Rattle.std.proofs.Common.{◌≡◌, ◌≢◌, ℕ, Bool, true, false, cond, List, [], ◌∷◌, ◌++◌, Option, Some, None, refl, sym, ap, ◌∙◌, subst}
+use Rattle.std.specs.Prelude.{◌==◌, ◌&&◌, not, map, is_some, option_map, option_to_list}
+use Rattle.std.specs.List.{AllByRecursion, list_any}
+use Rattle.std.specs.Ordering.{eq_by_cmp}
+use Rattle.std.specs.FinMap.{FinMap, get, get-insert, get-remove, insert, keys, remove, same_map}
 use Rattle.std.proofs.lemmas.Bool.{eq-eqb, false≢true}
-use Rattle.std.proofs.lemmas.List.{append_assoc, append-nil, drop_all, drop_more, map-append}
+use Rattle.std.proofs.lemmas.List.{append-nil, map-append}
 use Rattle.smq_kit.specs.declared.names.LinkId.{LinkId}
-use Rattle.smq_kit.specs.declared.place.Dir.{Dir}
 use Rattle.smq_kit.specs.declared.place.Dir.TheVariants.{FromClient, FromCentre}
 use Rattle.smq_kit.specs.declared.place.Place.{Place}
 use Rattle.smq_kit.specs.Maps.{patched, set_at}
 use Rattle.smq_kit.specs.Orders.{place_cmp}
 use Rattle.smq_kit.proofs.MapLemmas as maps
 use Rattle.smq_kit.proofs.PlaceOrders.{places_total, places_exact}
-use Rattle.smq_pdu.specs.declared.body.Submit.{Submit}
-use Rattle.smq_receipt.specs.declared.reading.Receipt.{Receipt}
 use Rattle.smq_tally.specs.Lists.{listed_set}
-use Rattle.smq_book.specs.declared.present.kept.Content.{Content}
-use Rattle.smq_book.specs.declared.present.kept.KeptPdu.{KeptPdu}
-use Rattle.smq_book.specs.declared.present.session.Session.{Session}
-use Rattle.smq_book.specs.present.Kept.{kept_pdus, receipt_in, submit_in}
 use Rattle.smq_book.specs.present.Settings.{SettingsValue, forms_of}
-use Rattle.smq_book.specs.pairing.Traffic.{Message, Origin, ReceivedReceipt, TrafficValue, origin_of, places_where, traffic_of}
-use Rattle.smq_book.specs.pairing.Traffic.{message_at, message_of, place_of, received, receipts_among, response_to}
-use Rattle.smq_book.specs.pairing.Traffic.{session_messages, session_receipts, with_earlier}
+use Rattle.smq_book.specs.pairing.Traffic.{Message, ReceivedReceipt, TrafficValue}
+use Rattle.smq_book.specs.edits.Reached.{link_receipts, passing}
+use Rattle.smq_book.specs.join.Keyed.{accepted_id}
 use Rattle.smq_book.specs.join.Listings.{receipt_notes}
 use Rattle.smq_book.specs.join.Moves.{Move, PutMessage, PutReceipt, TakeMessage, TakeReceipt, moved, moved_by}
 use Rattle.smq_book.specs.index.Due.{due_in}
 use Rattle.smq_book.specs.index.Ends.{ends_by}
 use Rattle.smq_book.specs.index.Held.{Holding, IsHeld, IsTraffic, traffic_held}
-use Rattle.smq_book.specs.index.LinkOut.{AllFrom, IsOut, TakesOut, is_receipt, is_submit, of_link, puts_of, receipt_places, submit_places}
+use Rattle.smq_book.specs.index.LinkOut.{AllFrom, IsOut, TakesOut, accepted_on, is_accepted, puts_of}
 use Rattle.smq_book.specs.index.Numbered.{numbers_of}
 use Rattle.smq_book.specs.index.Pushed.{IsHeldAfter}
 use Rattle.smq_book.proofs.lemmas.edits.Moved.{moved-both, puts-messages, puts-receipts}
-use Rattle.smq_book.proofs.lemmas.edits.SessionTraffic.{messages-own, receipts-own, said-at, session_number}
+use Rattle.smq_book.proofs.lemmas.edits.Passing.{passing-does, without-passing}
 use Rattle.smq_book.proofs.lemmas.join.OtherForms.{facts-ignore, grouping-ignores}
-
--- ---- the places of the PDUs of a direction whose content passes a test
-
-module _ (test : Content → Bool) (o : Origin) (d : Dir) where
-  abbrev passing : List KeptPdu → List Place
-  passing ps = places_where test o d ps
-
-  pass-more : (p : KeptPdu) (ps : List KeptPdu) → passing (p ∷ ps) ≡ cond (test p.content) (place_of o d p ∷ passing ps) (passing ps)
-  pass-more p ps =
-      elim (test p.content) as (λ b. map (place_of o d) (cond b (p ∷ filter (λ p. test p.content) ps) (filter (λ p. test p.content) ps))
-      ≡ cond b (place_of o d p ∷ passing ps) (passing ps)) [ true ↦ refl | false ↦ refl ]
-
-  -- those from the i-th PDU on
-  abbrev pub places_left : List KeptPdu → ℕ → List Place
-  places_left ps i = passing (drop i ps)
-
-  pub left-none : (ps : List KeptPdu) (i : ℕ) → length ps ≤ i → places_left ps i ≡ []
-  left-none ps i h = ap passing (drop_all i ps h)
-
-  left-step : (ps : List KeptPdu) (i : ℕ) (x : KeptPdu) → i < length ps → x ≡ get_or ps i x
-      → places_left ps i ≡ cond (test x.content) (place_of o d x ∷ places_left ps (i + 1)) (places_left ps (i + 1))
-  left-step ps i x h is = ap passing (drop_more ps i x h ∙ ap (λ (y : KeptPdu). y ∷ drop (i + 1) ps) (sym is)) ∙ pass-more x (drop (i + 1) ps)
-
-  -- one PDU more is looked at
-  pub left-next : (ps : List KeptPdu) (i : ℕ) (x : KeptPdu) (before all : List Place) → i < length ps → x ≡ get_or ps i x → test x.content ≡ true
-      → before ++ places_left ps i ≡ all → (before ++ place_of o d x ∷ []) ++ places_left ps (i + 1) ≡ all
-  left-next ps i x before all h is passes so =
-      append_assoc before (place_of o d x ∷ []) (places_left ps (i + 1))
-      ∙ ap (λ ys. before ++ ys) (sym (left-step ps i x h is
-      ∙ ap (λ b. cond b (place_of o d x ∷ places_left ps (i + 1)) (places_left ps (i + 1))) passes))
-      ∙ so
-
-  pub left-same : (ps : List KeptPdu) (i : ℕ) (x : KeptPdu) (before all : List Place) → i < length ps → x ≡ get_or ps i x → test x.content ≡ false
-      → before ++ places_left ps i ≡ all → before ++ places_left ps (i + 1) ≡ all
-  left-same ps i x before all h is passes so =
-      ap (λ ys. before ++ ys) (sym (left-step ps i x h is
-      ∙ ap (λ b. cond b (place_of o d x ∷ places_left ps (i + 1)) (places_left ps (i + 1))) passes))
-      ∙ so
-
--- one session more is looked at, and the others are left
-pub session-more : {X : Type 0} (of : ℕ × Session → List X) (old new all : List X) (e : ℕ × Session) (left rest : List (ℕ × Session))
-    → new ≡ old ++ of e → left ≡ e ∷ rest → old ++ flat_map of left ≡ all → new ++ flat_map of rest ≡ all
-session-more of old new all e left rest put next so =
-    ap (λ ys. ys ++ flat_map of rest) put ∙ append_assoc old (of e) (flat_map of rest)
-    ∙ ap (λ es. old ++ flat_map of es) (sym next) ∙ so
 
 -- ---- entries that are taken out of a map
 
@@ -167,190 +113,58 @@ pub moves-more : (g h : TrafficValue) (move : Move) (left rest : List Move) (all
     → moved_by g left ≡ all → moved_by h rest ≡ all
 moves-more g h move left rest all is next so = ap (λ (t : TrafficValue). moved_by t rest) is ∙ sym (ap (moved_by g) next) ∙ so
 
--- ---- what the sessions of a link say stands at their places
+-- ---- what has a key on a link is out, and put in again
 
-any-both : (q : Place) (xs ys : List Place) → list_any (eq_by_cmp place_cmp q) (xs ++ ys)
-    ≡ (list_any (eq_by_cmp place_cmp q) xs || list_any (eq_by_cmp place_cmp q) ys)
-any-both q [] ys = refl
-any-both q (x ∷ xs) ys = elim (eq_by_cmp place_cmp q x) as (λ b. (b || list_any (eq_by_cmp place_cmp q) (xs ++ ys))
-    ≡ ((b || list_any (eq_by_cmp place_cmp q) xs) || list_any (eq_by_cmp place_cmp q) ys)) [
-      | true ↦ refl
-      | false ↦ any-both q xs ys
-    ]
+unaccepted : (link : LinkId) (m : Message) → not (m.link.0 == link.0 && is_accepted m) ≡ true → m.link ≡ link → accepted_id m.response ≡ None
+unaccepted link m passes is =
+    by (accepted_id m.response) (ap (λ b. not (b && is_accepted m)) (sym (ap (λ (l : LinkId). l.0 == link.0) is ∙ eq-eqb link.0 link.0 refl)) ∙ passes)
+  where
+    by : (id : Option (List ℕ)) → not (is_some id) ≡ true → id ≡ None
+    by None e = refl
+    by (Some x) e = absurd (false≢true e)
 
-either_last : (a b : Bool) → b ≡ true → (a || b) ≡ true
-either_last true b e = refl
-either_last false b e = e
+not_on : (link : LinkId) (r : ReceivedReceipt) → not (r.link.0 == link.0) ≡ true → r.link ≢ link
+not_on link r passes is =
+    false≢true (ap not (sym (ap (λ (l : LinkId). l.0 == link.0) is ∙ eq-eqb link.0 link.0 refl)) ∙ passes)
 
-either_front : (a b : Bool) → a ≡ true → (a || b) ≡ true
-either_front true b e = refl
-either_front false b e = absurd (false≢true e)
+module _ (s : SettingsValue) (link : LinkId) (g h k : Holding) where
+  abbrev t : TrafficValue
+  t = traffic_held g
 
-none_some : {A B : Type 0} (x : A) → None ≡ Some x → B
-none_some x e = absurd cc
+  abbrev accepted : Place → Message → Bool
+  accepted q m = m.link.0 == link.0 && is_accepted m
 
-some_same : {A : Type 0} (x y : A) → Some x ≡ Some y → x ≡ y
-some_same x y e = cc
+  abbrev on_link : Place → ReceivedReceipt → Bool
+  on_link q r = r.link.0 == link.0
 
-module _ {Y : Type 0} (block : ℕ × Session → List (Place × Y)) (link_of : Y → LinkId) (places : ℕ × Session → List Place)
-    (own : (e : ℕ × Session) (q : Place) → session_number q ≢ e.0 → find place_cmp q (block e) ≡ None)
-    (said : (e : ℕ × Session) (q : Place) (v : Y) → find place_cmp q (block e) ≡ Some v
-    → (link_of v ≡ e.1.link) × (list_any (eq_by_cmp place_cmp q) (places e) ≡ true)) (link : LinkId) where
-  -- a place of a session of a link is among those of all of the link's
-  among-all : (q : Place) (n : ℕ) (s : Session) (es : List (ℕ × Session)) → find nat_cmp n es ≡ Some s
-      → list_any (eq_by_cmp place_cmp q) (of_link places link (n, s)) ≡ true
-      → list_any (eq_by_cmp place_cmp q) (flat_map (of_link places link) es) ≡ true
-  among-all q n s [] there at = none_some s there
-  among-all q n s (e ∷ es) there at =
-      any-both q (of_link places link e) (flat_map (of_link places link) es)
-      ∙ by (λ found. among-all q n s es found at) (eq_by_cmp nat_cmp n e.0) refl there
-    where
-      by : (find nat_cmp n es ≡ Some s → list_any (eq_by_cmp place_cmp q) (flat_map (of_link places link) es) ≡ true)
-          → (b : Bool) → eq_by_cmp nat_cmp n e.0 ≡ b → cond b (Some e.1) (find nat_cmp n es) ≡ Some s
-          → (list_any (eq_by_cmp place_cmp q) (of_link places link e)
-          || list_any (eq_by_cmp place_cmp q) (flat_map (of_link places link) es)) ≡ true
-      by later true t found =
-          let number : n ≡ e.0 = maps.same_key nat_cmp_total nat_cmp-IsAntisymmetric n e.0 t in
-          let session : e.1 ≡ s = some_same e.1 s found in
-          either_front _ _ ((λ i. list_any (eq_by_cmp place_cmp q) (of_link places link (sym number i, session i))) ∙ at)
-      by later false t found = either_last _ _ (later found)
-
-  linked : (q : Place) (e : ℕ × Session) (v : Y) → find place_cmp q (block e) ≡ Some v → link_of v ≡ link
-      → list_any (eq_by_cmp place_cmp q) (of_link places link e) ≡ true
-  linked q e v found is =
-      let both = said e q v found in
-      let same : (e.1.link.0 == link.0) ≡ true = ap (λ (l : LinkId). l.0 == link.0) (sym both.0 ∙ is) ∙ eq-eqb link.0 link.0 refl in
-      ap (λ b. list_any (eq_by_cmp place_cmp q) (cond b (places e) [])) same ∙ both.1
-
-  at-places : (q : Place) (v : Y) (sessions : FinMap nat_cmp Session) (found : Option Session) → get sessions q.session.0 ≡ found
-      → option_and_then (λ s. find place_cmp q (block (q.session.0, s))) found ≡ Some v → link_of v ≡ link
-      → list_any (eq_by_cmp place_cmp q) (flat_map (of_link places link) (entries sessions)) ≡ true
-  at-places q v sessions None there is linking = none_some v is
-  at-places q v sessions (Some s) there is linking =
-      among-all q q.session.0 s (entries sessions) (sym (get-entries sessions q.session.0) ∙ there) (linked q (q.session.0, s) v is linking)
-
-  gone : (b : Bool) (x : Option Y) (v : Y) → (x ≡ Some v → b ≡ true) → cond b None x ≡ Some v → ⊥
-  gone true x v h e = none_some v e
-  gone false x v h e = false≢true (h e)
-
-  -- so without these places nothing of the link is left
-  pub none-left : (sessions : FinMap nat_cmp Session) (m : FinMap place_cmp Y)
-      → ((q : Place) → get m q ≡ option_and_then (λ s. find place_cmp q (block (q.session.0, s))) (get sessions q.session.0))
-      → (q : Place) (v : Y) → get (patched m (λ q. None) (flat_map (of_link places link) (entries sessions))) q ≡ Some v → link_of v ≢ link
-  none-left sessions m says q v there = λ linking.
-      gone (list_any (eq_by_cmp place_cmp q) (flat_map (of_link places link) (entries sessions))) (get m q) v
-      (λ was. at-places q v sessions (get sessions q.session.0) refl (sym (says q) ∙ was) linking)
-      (sym (maps.get-patched places_total places_exact m (λ q. None) (flat_map (of_link places link) (entries sessions)) q) ∙ there)
-
--- ---- what stands at a place of a session is of its link, and the place is that of a PDU
-
-module _ {Y : Type 0} (link_of : Y → LinkId) (link : LinkId) where
-  -- what is found first, or behind the first
-  said-by : (b : Bool) (x v : Y) (rest : Option Y) (among : Bool) → link_of x ≡ link
-      → (rest ≡ Some v → (link_of v ≡ link) × (among ≡ true)) → cond b (Some x) rest ≡ Some v → (link_of v ≡ link) × ((b || among) ≡ true)
-  said-by true x v rest among is later e = (ap link_of (sym (some_same x v e)) ∙ is, refl)
-  said-by false x v rest among is later e = later e
-
-abbrev message_link : Message → LinkId
-message_link m = m.link
-
-abbrev receipt_link : ReceivedReceipt → LinkId
-receipt_link r = r.link
-
-module _ (origin : Origin) (q : Place) where
-  message-said : (centre earlier client : List KeptPdu) (m : Message)
-      → find place_cmp q (flat_map (λ e. option_to_list (message_at origin centre e.0 e.1)) (with_earlier earlier client)) ≡ Some m
-      → (message_link m ≡ origin.link) × (list_any (eq_by_cmp place_cmp q) (places_where is_submit origin FromClient client) ≡ true)
-  message-said centre earlier [] m there = none_some m there
-  message-said centre earlier (p ∷ client) m there =
-      by (λ found. message-said centre (earlier ++ p ∷ []) client m found) (submit_in p.content) there
-    where
-      rest : List (Place × Message)
-      rest = flat_map (λ e. option_to_list (message_at origin centre e.0 e.1)) (with_earlier (earlier ++ p ∷ []) client)
-
-      said_of : Submit → Message
-      said_of s = message_of origin p s (response_to centre earlier p)
-
-      ks : List KeptPdu
-      ks = filter (λ p. is_submit p.content) client
-
-      by : (find place_cmp q rest ≡ Some m
-          → (message_link m ≡ origin.link) × (list_any (eq_by_cmp place_cmp q) (map (place_of origin FromClient) ks) ≡ true))
-          → (x : Option Submit) → find place_cmp q (option_to_list (option_map (λ s. (place_of origin FromClient p, said_of s)) x) ++ rest) ≡ Some m
-          → (message_link m ≡ origin.link)
-          × (list_any (eq_by_cmp place_cmp q) (map (place_of origin FromClient) (cond (is_some x) (p ∷ ks) ks)) ≡ true)
-      by later None e = later e
-      by later (Some s) e = said-by message_link origin.link (eq_by_cmp place_cmp q (place_of origin FromClient p)) (said_of s) m
-          (find place_cmp q rest) (list_any (eq_by_cmp place_cmp q) (map (place_of origin FromClient) ks)) refl later e
-
-  receipt-said : (centre : List KeptPdu) (r : ReceivedReceipt) → find place_cmp q (receipts_among origin centre) ≡ Some r
-      → (receipt_link r ≡ origin.link) × (list_any (eq_by_cmp place_cmp q) (places_where is_receipt origin FromCentre centre) ≡ true)
-  receipt-said [] r there = none_some r there
-  receipt-said (p ∷ centre) r there = by (λ found. receipt-said centre r found) (receipt_in p.content) there
-    where
-      ks : List KeptPdu
-      ks = filter (λ p. is_receipt p.content) centre
-
-      by : (find place_cmp q (receipts_among origin centre) ≡ Some r
-          → (receipt_link r ≡ origin.link) × (list_any (eq_by_cmp place_cmp q) (map (place_of origin FromCentre) ks) ≡ true))
-          → (x : Option Receipt) → find place_cmp q
-          (option_to_list (option_map (λ s. (place_of origin FromCentre p, received origin p s)) x) ++ receipts_among origin centre) ≡ Some r
-          → (receipt_link r ≡ origin.link)
-          × (list_any (eq_by_cmp place_cmp q) (map (place_of origin FromCentre) (cond (is_some x) (p ∷ ks) ks)) ≡ true)
-      by later None e = later e
-      by later (Some s) e = said-by receipt_link origin.link (eq_by_cmp place_cmp q (place_of origin FromCentre p)) (received origin p s) r
-          (find place_cmp q (receipts_among origin centre)) (list_any (eq_by_cmp place_cmp q) (map (place_of origin FromCentre) ks)) refl later e
-
-module _ (link : LinkId) (sessions : FinMap nat_cmp Session) where
-  abbrev pub all_submits : List Place
-  all_submits = flat_map (of_link submit_places link) (entries sessions)
-
-  abbrev pub all_receipts : List Place
-  all_receipts = flat_map (of_link receipt_places link) (entries sessions)
-
-  pub no-messages : (q : Place) (m : Message) → get (patched (traffic_of sessions).messages (λ q. None) all_submits) q ≡ Some m → m.link ≢ link
-  no-messages = none-left session_messages message_link submit_places messages-own
-      (λ e q m. message-said (origin_of e) q (kept_pdus e.1.centre) [] (kept_pdus e.1.client) m) link sessions (traffic_of sessions).messages
-      (said-at places_total places_exact session_number session_messages messages-own sessions)
-
-  pub no-receipts : (q : Place) (r : ReceivedReceipt) → get (patched (traffic_of sessions).receipts (λ q. None) all_receipts) q ≡ Some r
-      → r.link ≢ link
-  no-receipts = none-left session_receipts receipt_link receipt_places receipts-own
-      (λ e q r. receipt-said (origin_of e) q (kept_pdus e.1.centre) r) link sessions (traffic_of sessions).receipts
-      (said-at places_total places_exact session_number session_receipts receipts-own sessions)
-
--- ---- all of a link is out, and put in again
-
-module _ (s : SettingsValue) (link : LinkId) (sessions : FinMap nat_cmp Session) (g h k : Holding)
-    (was : traffic_held g ≡ traffic_of sessions) where
-  -- after what stands at its places is taken out, nothing of it is left
+  -- after it is taken out, nothing of the link has a key
   pub link-out : (ms : List (Place × Message)) (rs : List (Place × ReceivedReceipt))
-      → IsHeldAfter s g (map TakeMessage (all_submits link sessions)) h → IsHeldAfter s h (map TakeReceipt (all_receipts link sessions)) k
+      → IsHeldAfter s g (map TakeMessage (keys (accepted_on link t))) h → IsHeldAfter s h (map TakeReceipt (keys (link_receipts link t))) k
       → TakesOut g.messages ms h.messages → TakesOut h.receipts rs k.receipts
-      → IsOut link (traffic_of sessions) ms rs (traffic_held k)
+      → IsOut link t ms rs (traffic_held k)
   link-out ms rs first second taken received =
-      let t = traffic_of sessions in
-      let one : traffic_held h ≡ record t { messages = patched t.messages (λ q. None) (all_submits link sessions) } =
-      first.traffic ∙ ap (λ (u : TrafficValue). moved_by u (map TakeMessage (all_submits link sessions))) was
-      ∙ messages-gone t (all_submits link sessions) in
+      let one : traffic_held h ≡ record t { messages = passing (λ q m. not (accepted q m)) t.messages } =
+      first.traffic ∙ messages-gone t (keys (accepted_on link t))
+      ∙ ap (λ (m : FinMap place_cmp Message). record t { messages = m }) (without-passing accepted t.messages) in
       let two : traffic_held k ≡ record t {
-        messages = patched t.messages (λ q. None) (all_submits link sessions);
-        receipts = patched t.receipts (λ q. None) (all_receipts link sessions);
+        messages = passing (λ q m. not (accepted q m)) t.messages;
+        receipts = passing (λ q r. not (on_link q r)) t.receipts;
       } =
-      second.traffic ∙ ap (λ (u : TrafficValue). moved_by u (map TakeReceipt (all_receipts link sessions))) one
-      ∙ receipts-gone (record t { messages = patched t.messages (λ q. None) (all_submits link sessions) }) (all_receipts link sessions) in
+      second.traffic ∙ ap (λ (u : TrafficValue). moved_by u (map TakeReceipt (keys (link_receipts link t)))) one
+      ∙ receipts-gone (record t { messages = passing (λ q m. not (accepted q m)) t.messages }) (keys (link_receipts link t))
+      ∙ ap (λ (m : FinMap place_cmp ReceivedReceipt). record t { messages = passing (λ q m. not (accepted q m)) t.messages; receipts = m })
+      (without-passing on_link t.receipts) in
       let same_messages : h.messages ≡ k.messages =
       ap (λ (u : TrafficValue). u.messages) (one ∙ sym (ap (λ (u : TrafficValue). record u { receipts = t.receipts }) two)) in
       let same_receipts : h.receipts ≡ t.receipts = ap (λ (u : TrafficValue). u.receipts) one in
       record {
-        messages = subst (λ (m : FinMap place_cmp Message). TakesOut m ms k.messages) (ap (λ (u : TrafficValue). u.messages) was)
-            (subst (λ (n : FinMap place_cmp Message). TakesOut g.messages ms n) same_messages taken);
+        messages = subst (λ (n : FinMap place_cmp Message). TakesOut g.messages ms n) same_messages taken;
         receipts = subst (λ (m : FinMap place_cmp ReceivedReceipt). TakesOut m rs k.receipts) same_receipts received;
         notes = ap (λ (u : TrafficValue). u.notes) two;
-        no_message = λ q m there. no-messages link sessions q m
-            (ap (λ (u : TrafficValue). get u.messages q) (sym two) ∙ there);
-        no_receipt = λ q r there. no-receipts link sessions q r
-            (ap (λ (u : TrafficValue). get u.receipts q) (sym two) ∙ there);
+        no_message = λ q m there. unaccepted link m
+            (passing-does (λ q m. not (accepted q m)) t.messages q m (ap (λ (u : TrafficValue). get u.messages q) (sym two) ∙ there));
+        no_receipt = λ q r there. not_on link r
+            (passing-does (λ q r. not (on_link q r)) t.receipts q r (ap (λ (u : TrafficValue). get u.receipts q) (sym two) ∙ there));
       }
 
 messages-from : (t : TrafficValue) → IsTraffic t → (es : List (Place × Message)) → AllByRecursion (λ e. get t.messages e.0 ≡ Some e.1) es
@@ -388,7 +202,7 @@ module _ (link : LinkId) (t : TrafficValue) (ms : List (Place × Message)) (rs :
 module _ (s z : SettingsValue) (link : LinkId) (h : Holding)
     (windows : s.windows ≡ z.windows) (versions : s.versions ≡ z.versions) (clock : s.clock ≡ z.clock)
     (others : (l : LinkId) → l ≢ link → forms_of s l ≡ forms_of z l) (is : IsHeld s h)
-    (no_message : (q : Place) (m : Message) → get (traffic_held h).messages q ≡ Some m → m.link ≢ link)
+    (no_message : (q : Place) (m : Message) → get (traffic_held h).messages q ≡ Some m → m.link ≡ link → accepted_id m.response ≡ None)
     (no_receipt : (q : Place) (r : ReceivedReceipt) → get (traffic_held h).receipts q ≡ Some r → r.link ≢ link) where
   pub held-idle : IsHeld z h
   held-idle =

@@ -1,6 +1,7 @@
--- Forms of a link that nothing is of.
-use Rattle.std.proofs.Common.{◌≡◌, ◌≢◌, Some, ap}
-use Rattle.std.specs.Prelude.{option_map}
+-- Forms of a link on which nothing has a key.
+use Rattle.std.proofs.Common.{◌≡◌, ◌≢◌, Bool, true, false, Some, None, refl, sym, ap, ◌∙◌}
+use Rattle.std.specs.Prelude.{◌==◌, option_map}
+use Rattle.std.proofs.lemmas.Bool.{eqb-true, eqb-false}
 use Rattle.std.specs.FinMap.{get}
 use Rattle.smq_kit.specs.declared.names.LinkId.{LinkId}
 use Rattle.smq_kit.specs.declared.place.Place.{Place}
@@ -18,10 +19,18 @@ use Rattle.smq_book.specs.join.Facts.{fact_by, facts_of}
 module _ (s z : SettingsValue) (t : TrafficValue) (link : LinkId)
     (windows : s.windows ≡ z.windows) (versions : s.versions ≡ z.versions) (clock : s.clock ≡ z.clock)
     (others : (l : LinkId) → l ≢ link → forms_of s l ≡ forms_of z l)
-    (no_message : (q : Place) (m : Message) → get t.messages q ≡ Some m
-    → m.link ≢ link) (no_receipt : (q : Place) (r : ReceivedReceipt) → get t.receipts q ≡ Some r → r.link ≢ link) where
-  same-key : (m : Message) → m.link ≢ link → accepted_key s m ≡ accepted_key z m
-  same-key m h = ap (λ (forms : Forms). option_map (link_key m.link forms.response) (accepted_id m.response)) (others m.link h)
+    (no_message : (q : Place) (m : Message) → get t.messages q ≡ Some m → m.link ≡ link → accepted_id m.response ≡ None)
+    (no_receipt : (q : Place) (r : ReceivedReceipt) → get t.receipts q ≡ Some r → r.link ≢ link) where
+  same-key : (m : Message) → (m.link ≡ link → accepted_id m.response ≡ None) → accepted_key s m ≡ accepted_key z m
+  same-key m h = by (m.link.0 == link.0) refl
+    where
+      by : (b : Bool) → (m.link.0 == link.0) ≡ b → accepted_key s m ≡ accepted_key z m
+      by true e =
+          let none = h (λ i. record { 0 = eqb-true m.link.0 link.0 e i }) in
+          ap (option_map (link_key m.link (forms_of s m.link).response)) none
+          ∙ sym (ap (option_map (link_key m.link (forms_of z m.link).response)) none)
+      by false e = ap (λ (forms : Forms). option_map (link_key m.link forms.response) (accepted_id m.response))
+          (others m.link (λ same. eqb-false m.link.0 link.0 e (ap (λ (l : LinkId). l.0) same)))
 
   same-keyed : (r : ReceivedReceipt) → r.link ≢ link → keyed_receipt s r ≡ keyed_receipt z r
   same-keyed r h = λ i. record { key = link_key r.link ((others r.link h) i).receipt r.receipt.id; moment = r.moment; decides = can_decide r.receipt }

@@ -1,11 +1,14 @@
-use Rattle.std.proofs.Common.{◌≡◌, refl, sym, ap, subst, ◌∙◌, arith}
+use Rattle.std.proofs.Common.{◌≡◌, ◌≤◌, ◌+◌, length, refl, sym, ap, subst, ◌∙◌, arith}
+use Rattle.std.specs.FinMap.{entries, keys}
+use Rattle.smq_book.specs.edits.Reached.{link_receipts}
+use Rattle.smq_book.specs.index.LinkOut.{accepted_on}
 use Rattle.smq_book.specs.edits.Reach.{groups}
 use Rattle.smq_book.specs.declared.present.edit.Edit.TheVariants.{SetForm}
 use Rattle.std.specs.List.{sum_by}
-use Rattle.smq_book.specs.index.Touches.{put_load, received_load}
-use Rattle.smq_book.specs.index.Held.{Holding, IsHeld, IsTraffic, held_now, traffic_held}
+use Rattle.smq_book.specs.index.Touches.{forgotten_load, index_cost, put_load, received_load, taken_load}
+use Rattle.smq_book.specs.index.Held.{Holding, IsHeld, held_now, traffic_held}
 use Rattle.smq_book.specs.join.Keyed.{grouping_of}
-use Rattle.smq_book.specs.pairing.Traffic.{TrafficValue, traffic_of}
+use Rattle.smq_book.specs.pairing.Traffic.{TrafficValue}
 use Rattle.smq_book.specs.present.Present.{PresentValue}
 use Rattle.smq_book.specs.present.Settings.{SettingsValue}
 use Rattle.smq_book.specs.present.Steps.{change, with_forms}
@@ -16,24 +19,24 @@ use Rattle.smq_book.proofs.lemmas.index.FormsSet.{forms-back, forms-there, held-
 use Rattle.smq_book.proofs.lemmas.index.LinkOut.{in-again, taken-messages, taken-receipts}
 use Rattle.smq_book.proofs.present.present.Present.change_forms.Goals as goal
 
+pub take_link-requires : goal.take_link-requires
+take_link-requires c = subst (λ (p : PresentValue). IsHeld p.settings (held_now c.args.index.now)) (sym c.self.view_is) c.requires.held
+
 pub put_link-requires-clause-held : goal.put_link-requires-clause-held
 put_link-requires-clause-held c =
     let h = held_now c.take_link.new.index in
     held-set c.self.inside.settings c.args.link c.args.forms c.set_forms.new.self c.in-Ok-set_forms.ensures.reply
-    (traffic_of c.args.self.now.sessions) c.in-Ok.taken.messages.items c.in-Ok.taken.receipts.items h
-    (subst (λ (p : PresentValue). IsHeld p.settings h) (sym c.self.view_is) c.in-Ok.ensures.held) c.in-Ok.ensures.out
+    (traffic_held (held_now c.args.index.now)) c.in-Ok.taken.messages.items c.in-Ok.taken.receipts.items h c.in-Ok.ensures.held c.in-Ok.ensures.out
 
 pub put_link-requires-clause-messages : goal.put_link-requires-clause-messages
 put_link-requires-clause-messages c =
-    taken-messages c.args.link (traffic_of c.args.self.now.sessions) c.in-Ok.taken.messages.items c.in-Ok.taken.receipts.items
-    (traffic_held (held_now c.take_link.new.index)) c.in-Ok.ensures.out
-    (subst (λ (t : TrafficValue). IsTraffic t) c.requires.traffic c.requires.held.traffic)
+    taken-messages c.args.link (traffic_held (held_now c.args.index.now)) c.in-Ok.taken.messages.items c.in-Ok.taken.receipts.items
+    (traffic_held (held_now c.take_link.new.index)) c.in-Ok.ensures.out c.requires.held.traffic
 
 pub put_link-requires-clause-receipts : goal.put_link-requires-clause-receipts
 put_link-requires-clause-receipts c =
-    taken-receipts c.args.link (traffic_of c.args.self.now.sessions) c.in-Ok.taken.messages.items c.in-Ok.taken.receipts.items
-    (traffic_held (held_now c.take_link.new.index)) c.in-Ok.ensures.out
-    (subst (λ (t : TrafficValue). IsTraffic t) c.requires.traffic c.requires.held.traffic)
+    taken-receipts c.args.link (traffic_held (held_now c.args.index.now)) c.in-Ok.taken.messages.items c.in-Ok.taken.receipts.items
+    (traffic_held (held_now c.take_link.new.index)) c.in-Ok.ensures.out c.requires.held.traffic
 
 pub restore_forms-requires : goal.restore_forms-requires
 restore_forms-requires c =
@@ -59,16 +62,15 @@ returns-clause-held c = c.in-Ok-put_link.ensures.held.held
 pub returns-clause-traffic : goal.returns-clause-traffic
 returns-clause-traffic c =
     c.in-Ok-put_link.ensures.held.traffic
-    ∙ in-again c.args.link (traffic_of c.args.self.now.sessions) c.in-Ok.taken.messages.items c.in-Ok.taken.receipts.items
+    ∙ in-again c.args.link (traffic_held (held_now c.args.index.now)) c.in-Ok.taken.messages.items c.in-Ok.taken.receipts.items
     (traffic_held (held_now c.take_link.new.index)) c.in-Ok.ensures.out
-    ∙ sym c.requires.traffic
 
 pub returns-clause-touches : goal.returns-clause-touches
 returns-clause-touches c = λ pairings kept.
     let p = c.args.self.now in
     let link = c.args.link in
-    let t = traffic_of p.sessions in
     let g = c.args.index.now in
+    let t = traffic_held (held_now g) in
     let h = c.take_link.new.index in
     let z = c.set_forms.new.self in
     let n = c.put_link.new.index.standings.members in
@@ -79,11 +81,17 @@ returns-clause-touches c = λ pairings kept.
     let settings : z ≡ (change p (SetForm link c.args.forms.response c.args.forms.receipt)).settings =
     c.in-Ok-set_forms.ensures.reply ∙ ap (λ (x : PresentValue). with_forms x.settings link c.args.forms) c.self.view_is in
     let last = c.in-Ok-put_link.ensures.held.traffic
-    ∙ in-again link t ms rs (traffic_held (held_now h)) c.in-Ok.ensures.out in
+    ∙ in-again link t ms rs (traffic_held (held_now h)) c.in-Ok.ensures.out ∙ c.requires.traffic in
     let members : n ≡ groups (change p (SetForm link c.args.forms.response c.args.forms.receipt)) =
     ap (λ (x : Holding). x.members) c.in-Ok-put_link.ensures.held.held.held
     ∙ (λ i. grouping_of (settings i) (last i)) in
     let bound = forms-bound p g pairings kept link c.args.forms.response c.args.forms.receipt z h.standings n c.in-Ok.ensures.went settings members in
-    let messages = ap (λ es. sum_by (put_load h.standings n z) es) c.in-Ok.ensures.all_messages in
-    let receipts = ap (λ es. sum_by (received_load h.standings n z) es) c.in-Ok.ensures.all_receipts in
-    omega (arith, put, bound, messages, receipts, c.in-Ok.ensures.touches)
+    let messages = ap (sum_by (put_load h.standings n z)) (c.in-Ok.ensures.all_messages
+    ∙ ap (λ (u : TrafficValue). entries (accepted_on link u)) c.requires.traffic) in
+    let receipts = ap (sum_by (received_load h.standings n z)) (c.in-Ok.ensures.all_receipts
+    ∙ ap (λ (u : TrafficValue). entries (link_receipts link u)) c.requires.traffic) in
+    let taken = subst (λ (u : TrafficValue). index_cost h ≤ index_cost g
+    + (2 + length (keys (accepted_on link u)) + length (keys (link_receipts link u))
+    + sum_by (taken_load g.standings) (keys (accepted_on link u)) + sum_by (forgotten_load g.standings) (keys (link_receipts link u))))
+    c.requires.traffic (c.in-Ok.ensures.touches kept.pending.vacant) in
+    omega (arith, put, bound, messages, receipts, taken)
