@@ -35,6 +35,7 @@ pub mod Comes
 pub mod PushBounds
 pub mod Bounds
 pub mod FormCosts
+pub mod KeyMeets
 pub mod FormBounds
 pub mod Rises
 pub mod LowerBounds
