@@ -173,8 +173,8 @@ class Tables:
     def __init__(self, sessions, forms, windows, versions, clock):
         self.forms, self.windows, self.versions, self.clock = forms, windows, versions, clock
         self.counts, self.lists = collections.Counter(), collections.defaultdict(set)
-        # submit_sm and data_sm of the client with their response, and receipts
-        self.messages, self.receipts = [], []
+        # submit_sm and data_sm of the client with their response, and receipts; keys of accepted messages by place
+        self.messages, self.receipts, self.keys = [], [], {}
         for session, (link, both) in sessions.items():
             self.read(session, link, both)
         self.count()
@@ -211,7 +211,7 @@ class Tables:
                         self.receipts.append(receipt)
 
     def count(self):
-        keys = {}
+        keys = self.keys
         for link, pdu, _, response in self.messages:
             is_accepted = response and response.command == pdu.command | RESPONSE and response.status == 0
             identity = usable_id(response.octets[16:]) if is_accepted else None
