@@ -108,15 +108,38 @@ fn put_both<R: Wait>(
     }
 }
 
-/// Commits a submit_sm for session 30 that is prepared on the tail of no octets.
-fn put_at_start<R: Wait>(
+/// Commits a submit_sm of the client of session 30 that is prepared on a tail.
+fn put_at<R: Wait>(
     rt: &R,
     alloc: Global,
     desk: &Desk,
     seat: &mut Seat,
+    tail: &Tail,
 ) -> Result<u64, Refusal> {
     let row = (3, 30, Dir::FromClient, 1000, SUBMIT);
-    put_on(rt, alloc, desk, seat, &Tail::at(0), row)
+    put_on(rt, alloc, desk, seat, tail, row)
+}
+
+/// What two seats are answered that commit a submit_sm one after the other, where both took the tail of session 30 before.
+fn put_on_one_tail<R: Abort + Wait>(
+    rt: &R,
+    alloc: Global,
+    desk: &Desk,
+    three: &mut Seat,
+    four: &mut Seat,
+) -> (Result<u64, Refusal>, Result<u64, Refusal>) {
+    let first = tail_of_30(rt, desk);
+    let second = tail_of_30(rt, desk);
+    (
+        put_at(rt, alloc, desk, three, &first),
+        put_at(rt, alloc, desk, four, &second),
+    )
+}
+
+/// The tail of the client of session 30.
+fn tail_of_30<R: Abort + Wait>(rt: &R, desk: &Desk) -> Tail {
+    desk.tail(rt, SessionId(30), Dir::FromClient)
+        .expect(rt, "a tail")
 }
 
 /// Commits a clock of so many ms.
@@ -172,7 +195,7 @@ fn four_seats_commit_one_after_the_other(rt: HostRuntime) {
     assert!(rt; closes);
 }
 
-/// Asserts that of two pieces on the tail of no octets the first is the fifth entry, and the second is out of step.
+/// Asserts that of two pieces on the same tail the first is the fifth entry, and the second is out of step.
 fn assert_fifth<R: Abort + Wait>(
     rt: &R,
     alloc: Global,
@@ -180,9 +203,9 @@ fn assert_fifth<R: Abort + Wait>(
     three: &mut Seat,
     four: &mut Seat,
 ) {
-    assert!(rt; put_at_start(rt, alloc, desk, three) == Ok(5));
-    let refused = put_at_start(rt, alloc, desk, four);
-    assert!(rt; refused == Err(Refusal::OutOfStep { offset: 49 }));
+    let (first, second) = put_on_one_tail(rt, alloc, desk, three, four);
+    assert!(rt; first == Ok(5));
+    assert!(rt; second == Err(Refusal::OutOfStep { offset: 49 }));
 }
 
 /// Whether both commits of a thread were made, in their order.
@@ -193,17 +216,19 @@ fn is_ordered(numbers: Option<(u64, u64)>) -> bool {
     }
 }
 
-/// Sets its own flag, and looks for the other's at most so many times.
-fn meet(ours: &AtomicBool, theirs: &AtomicBool) {
+/// Sets its own flag, and tells whether one of at most so many looks finds the other's.
+fn meet(ours: &AtomicBool, theirs: &AtomicBool) -> bool {
     ours.store(true, Ordering::SeqCst);
     for _ in 0..10_000_000 {
         if theirs.load(Ordering::SeqCst) {
-            break;
+            return true;
         }
+        thread::yield_now();
     }
+    false
 }
 
-/// Whether each of two threads commits in its own order.
+/// Whether two threads met, and each commits in its own order.
 fn commit_in_order<R: Threads + Wait + Sync>(
     rt: &R,
     alloc: Global,
@@ -215,15 +240,15 @@ fn commit_in_order<R: Threads + Wait + Sync>(
     let (first, second) = thread::join_mut(
         rt,
         &mut || {
-            meet(&left, &right);
-            put_both(rt, alloc, desk, one, 1, 10)
+            let met = meet(&left, &right);
+            (met, put_both(rt, alloc, desk, one, 1, 10))
         },
         &mut || {
-            meet(&right, &left);
-            put_both(rt, alloc, desk, two, 2, 20)
+            let met = meet(&right, &left);
+            (met, put_both(rt, alloc, desk, two, 2, 20))
         },
     );
-    is_ordered(first) && is_ordered(second)
+    first.0 && second.0 && is_ordered(first.1) && is_ordered(second.1)
 }
 
 #[test]
@@ -249,7 +274,7 @@ fn a_full_history_takes_no_entry_and_a_missing_seat_keeps_the_desk_open(rt: Host
     let mut one = seat_of(&rt, &desk);
     let mut missing = Some(seat_of(&rt, &desk));
     assert!(rt; put_both(&rt, alloc, &desk, &mut one, 1, 10) == Some((1, 2)));
-    let full = put_at_start(&rt, alloc, &desk, &mut one);
+    let full = put_at(&rt, alloc, &desk, &mut one, &Tail::at(0));
     assert!(rt; full == Err(Refusal::HistoryFull));
     let seats = vec![in alloc; one].expect(&rt, "memory");
     let closed = close_late(&rt, alloc, desk, seats, &mut missing);

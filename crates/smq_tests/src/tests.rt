@@ -7,6 +7,8 @@ mod random;
 mod readers;
 mod refused;
 mod reports;
+mod rows;
+mod same;
 mod scripts;
 mod shown;
 mod sizes;

@@ -197,7 +197,7 @@ fn assert_played<R: Abort + Wait + AllocGlobal>(rt: &R, limit: u64, steps: &[Ste
 fn seat_elsewhere<R: Abort + Wait + AllocGlobal>(rt: &R) -> Seat {
     let desk = new_desk(rt, 100).expect(rt, "a desk");
     let mut seat = seat_of(rt, &desk);
-    put_at_start(rt, rt.alloc(), &desk, &mut seat).expect(rt, "a call");
+    put_at(rt, rt.alloc(), &desk, &mut seat, &Tail::at(0)).expect(rt, "a call");
     end_desk(rt, desk);
     seat
 }

@@ -62,7 +62,7 @@ fn put_fifty<R: Abort + Wait>(
     Some(missed)
 }
 
-/// How many answers were `OutOfStep` while two threads put 50 submits each, from these seats.
+/// How many answers were `OutOfStep` while two threads that met put 50 submits each, from these seats.
 fn put_from_two<R: Abort + Wait + Threads + Sync>(
     rt: &R,
     alloc: Global,
@@ -75,12 +75,18 @@ fn put_from_two<R: Abort + Wait + Threads + Sync>(
     let (lower, upper) = thread::join_mut(
         rt,
         &mut || {
-            meet(&left, &right);
-            put_fifty(rt, alloc, desk, one, first)
+            if meet(&left, &right) {
+                put_fifty(rt, alloc, desk, one, first)
+            } else {
+                None
+            }
         },
         &mut || {
-            meet(&right, &left);
-            put_fifty(rt, alloc, desk, two, first.saturating_add(50))
+            if meet(&right, &left) {
+                put_fifty(rt, alloc, desk, two, first.saturating_add(50))
+            } else {
+                None
+            }
         },
     );
     Some(lower?.saturating_add(upper?))

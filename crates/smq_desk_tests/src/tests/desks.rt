@@ -20,7 +20,7 @@ pub(crate) fn new_desk<R: Wait + AllocGlobal>(rt: &R, limit: u64) -> Result<Box<
     boxed_desk(rt, rt.alloc(), desk)
 }
 
-fn boxed_desk<R: Wait>(rt: &R, alloc: Global, desk: Desk) -> Result<Box<Desk>, Refusal> {
+pub(crate) fn boxed_desk<R: Wait>(rt: &R, alloc: Global, desk: Desk) -> Result<Box<Desk>, Refusal> {
     match Box::new(alloc, desk) {
         Ok(desk) => Ok(desk),
         Err(failed) => {

@@ -339,7 +339,7 @@ fn ends_with_its_number(edition: &Edition) -> bool {
     }
 }
 
-/// Whether what one thread reads rises while another publishes.
+/// Whether two threads met, and what one reads rises while the other publishes.
 fn rises_beside<R: Abort + Wait + Threads + Sync>(
     rt: &R,
     desk: &Desk,
@@ -348,18 +348,16 @@ fn rises_beside<R: Abort + Wait + Threads + Sync>(
     notes: &Mutex<Vec<Note>>,
 ) -> bool {
     let (left, right) = (AtomicBool::new(false), AtomicBool::new(false));
-    let (_, rose) = thread::join_mut(
+    let (met, rose) = thread::join_mut(
         rt,
         &mut || {
-            meet(&left, &right);
-            publish_clocks(rt, desk, seat, notes)
+            let met = meet(&left, &right);
+            publish_clocks(rt, desk, seat, notes);
+            met
         },
-        &mut || {
-            meet(&right, &left);
-            rises(rt, watcher, notes)
-        },
+        &mut || meet(&right, &left) && rises(rt, watcher, notes),
     );
-    rose
+    met && rose
 }
 
 /// The same, and the front once both are done.

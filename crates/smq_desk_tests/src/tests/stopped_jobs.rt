@@ -1,5 +1,5 @@
-//! Jobs that stop: at a desk whose history is full, and for want of memory or of a thread. The test comes to the same where any one
-//! allocation of its run is refused, or any one start of a thread (tools/refuse.c).
+//! Jobs that stop: at a desk whose history is full, and, with each allocation and each start of a thread in `load_links` refused in turn
+//! (tools/check-refused-calls), for want of memory or of a thread.
 ghost use Rattle.std.specs.Prelude.{◌≤◌, length, All, IfOk};
 ghost use Rattle.smq_desk.specs.Jobs.{IsFresh};
 ghost use Rattle.smq_desk.specs.declared.ledger.TheConstants.{LONGEST_HISTORY};
@@ -8,6 +8,7 @@ use crate::tests::jobs::{fresh, job, pair, take_seats};
 use crate::tests::*;
 use smq_book::PieceRow;
 use smq_desk::{LinkJob, NoGate, load_links};
+use smq_marks::Call;
 
 /// The rows of a job: a submit_sm, its response, and a submit_sm again.
 const ONE: &[Row] = &[
@@ -146,70 +147,71 @@ fn are_kept(jobs: &[LinkJob], before: (usize, usize), limit: u64) -> bool {
     kept && (is_full || !stops_for(jobs, Refusal::HistoryFull))
 }
 
+/// Loads jobs, for which memory or a thread may be refused.
+fn load_marked<R: Threads + Wait + Sync>(
+    rt: &R,
+    alloc: Global,
+    desk: &Desk,
+    jobs: Vec<LinkJob>,
+) -> Vec<LinkJob>
+    requires fresh { All IsFresh jobs.items }
+    requires few { length jobs.items ≤ 64 }
+{
+    smq_marks::begin(alloc, Call::LoadLinks);
+    let jobs = load_links(rt, desk, jobs, &NoGate);
+    smq_marks::end(alloc, was_wanting(jobs.as_slice()));
+    jobs
+}
+
 /// Whether two jobs that are loaded, once more where memory or a thread was wanting, come back as wanted. Their seats come into a
 /// list.
-fn load_whole<R: Threads + Wait + Sync>(
+fn load_whole<R: Abort + Threads + Wait + Sync>(
     rt: &R,
     alloc: Global,
     desk: &Desk,
     limit: u64,
     seats: &mut Vec<Seat>,
-) -> Result<bool, Refusal> {
-    let jobs = load_links(rt, desk, two_jobs(rt, alloc, desk)?, &NoGate);
+) -> bool {
+    let jobs = two_jobs(rt, alloc, desk).expect(rt, "two jobs");
+    let jobs = load_marked(rt, alloc, desk, jobs);
     let kept = are_kept(jobs.as_slice(), (0, 0), limit);
     if was_wanting(jobs.as_slice()) {
-        return Ok(load_rests(rt, alloc, desk, limit, jobs, seats)? && kept);
+        return load_rests(rt, alloc, desk, limit, jobs, seats) && kept;
     }
-    if !take_seats(jobs, seats) {
-        return Err(Refusal::Memory);
-    }
-    Ok(kept)
+    take_seats(jobs, seats) && kept
 }
 
 /// The same of the rows that are left. Nothing is wanting any more.
-fn load_rests<R: Threads + Wait + Sync>(
+fn load_rests<R: Abort + Threads + Wait + Sync>(
     rt: &R,
     alloc: Global,
     desk: &Desk,
     limit: u64,
     jobs: Vec<LinkJob>,
     seats: &mut Vec<Seat>,
-) -> Result<bool, Refusal> {
+) -> bool {
     let mut jobs = jobs;
     let before = calls_of(jobs.as_slice());
-    let jobs = load_links(rt, desk, rests_of(alloc, &mut jobs)?, &NoGate);
+    let rests = rests_of(alloc, &mut jobs).expect(rt, "the rows that are left");
+    let jobs = load_links(rt, desk, rests, &NoGate);
     let kept = are_kept(jobs.as_slice(), before, limit) && !was_wanting(jobs.as_slice());
-    if !take_seats(jobs, seats) {
-        return Err(Refusal::Memory);
-    }
-    Ok(kept)
+    take_seats(jobs, seats) && kept
 }
 
 /// Whether two jobs come back as wanted at a desk of so many entries, and with how many it closes for their seats, of which the last
 /// comes late.
-fn load_and_close<R: Threads + Wait + Sync + AllocGlobal>(
+fn load_and_close<R: Abort + Threads + Wait + Sync + AllocGlobal>(
     rt: &R,
     limit: u64,
-) -> Result<(bool, Option<usize>), Refusal>
+) -> (bool, Option<usize>)
     requires { (1 ≤ limit) × (limit ≤ LONGEST_HISTORY) }
 {
     let alloc = rt.alloc();
-    let desk = new_desk(rt, limit)?;
+    let desk = new_desk(rt, limit).expect(rt, "a desk");
     let mut seats = Vec::new(alloc);
-    match load_whole(rt, alloc, &desk, limit, &mut seats) {
-        Ok(kept) => with_late(kept, close_without_last(rt, alloc, desk, seats)),
-        Err(refusal) => {
-            end_desk(rt, desk);
-            Err(refusal)
-        }
-    }
-}
-
-fn with_late(
-    kept: bool,
-    closed: Result<Option<usize>, Refusal>,
-) -> Result<(bool, Option<usize>), Refusal> {
-    Ok((kept, closed?))
+    let kept = load_whole(rt, alloc, &desk, limit, &mut seats);
+    let closed = close_without_last(rt, alloc, desk, seats).expect(rt, "a desk that closes");
+    (kept, closed)
 }
 
 /// With how many entries a desk closes that stayed open for want of its last seat.
@@ -224,29 +226,10 @@ fn close_without_last<R: Wait>(
     close_late(rt, alloc, desk, seats, &mut missing)
 }
 
-/// The same, all of it once more where memory was wanting for a desk, a job or a list of seats.
-fn load_again<R: Threads + Wait + Sync + AllocGlobal>(
-    rt: &R,
-    limit: u64,
-) -> Result<(bool, Option<usize>), Refusal>
-    requires { (1 ≤ limit) × (limit ≤ LONGEST_HISTORY) }
-{
-    match load_and_close(rt, limit) {
-        Err(Refusal::Memory) => load_and_close(rt, limit),
-        told => told,
-    }
-}
-
 #[test]
 fn jobs_that_stop_keep_their_rows_and_their_desk_closes_for_all_seats(rt: HostRuntime) {
-    assert_loaded(&rt, 3, 3);
-    assert_loaded(&rt, 100, 6);
-}
-
-/// Asserts that two jobs come back as wanted at a desk of so many entries, which then closes with so many.
-fn assert_loaded<R: Abort + Threads + Wait + Sync + AllocGlobal>(rt: &R, limit: u64, entries: usize)
-    requires { (1 ≤ limit) × (limit ≤ LONGEST_HISTORY) }
-{
-    let told = load_again(rt, limit);
-    assert!(rt; told == Ok((true, Some(entries))), "limit {limit}");
+    let full = load_and_close(&rt, 3);
+    assert!(rt; full == (true, Some(3)));
+    let whole = load_and_close(&rt, 100);
+    assert!(rt; whole == (true, Some(6)));
 }

@@ -134,7 +134,7 @@ fn load_held<R: Abort + Threads + Wait + Sync>(
     take_seats(jobs, seats) && are_loaded
 }
 
-/// Commits two pieces on the tail of no octets, from two more seats: whether the first is made and the second refused.
+/// Commits two pieces on the same tail, from two more seats: whether the first is made and the second refused.
 fn commit_twice<R: Abort + Wait>(
     rt: &R,
     alloc: Global,
@@ -143,8 +143,7 @@ fn commit_twice<R: Abort + Wait>(
 ) -> bool {
     let mut three = seat_of(rt, desk);
     let mut four = seat_of(rt, desk);
-    let first = put_at_start(rt, alloc, desk, &mut three);
-    let second = put_at_start(rt, alloc, desk, &mut four);
+    let (first, second) = put_on_one_tail(rt, alloc, desk, &mut three, &mut four);
     put_seat(rt, seats, three);
     put_seat(rt, seats, four);
     first == Ok(5) && second == Err(Refusal::OutOfStep { offset: 49 })

@@ -8,12 +8,12 @@ use smq_words::Query;
 use std::io::Read;
 
 /// A submit_sm and its response: the script of examples/one-submit.
-const SCRIPT: &[u8] =
+pub(crate) const SCRIPT: &[u8] =
     b"piece,1,10,client,1000,00000031000000040000000000000001000000313030300001013434373730303930303132330000000000000100000000\npiece,1,10,centre,1200,000000128000000400000000000000013100\n";
 
 /// What is done with a script.
 #[derive(Clone, Copy)]
-enum Work {
+pub(crate) enum Work {
     Report(Query),
     Check,
 }
@@ -29,7 +29,7 @@ const TABLE: Work = Work::Report(Query {
 });
 
 /// Works, and what each writes of `SCRIPT`.
-const WORKS: &[(Work, &[u8])] = &[
+pub(crate) const WORKS: &[(Work, &[u8])] = &[
     (
         CSV,
         b"view,link,1,open,1\nview,route,none,open,1\nview,network,none,open,1\nlist,open,10,client,0\n",
@@ -116,7 +116,7 @@ impl Write for Taker {
 }
 
 /// How a work ends, if it isn't done.
-fn fault_of<RT: AllocGlobal + Threads + Wait + Sync, R: Read, W: Write>(
+pub(crate) fn fault_of<RT: AllocGlobal + Threads + Wait + Sync, R: Read, W: Write>(
     rt: &RT,
     work: Work,
     reader: &mut R,
@@ -129,7 +129,7 @@ fn fault_of<RT: AllocGlobal + Threads + Wait + Sync, R: Read, W: Write>(
 }
 
 /// Whether a work ends like this, and writes this text and no more.
-fn ends<RT: AllocGlobal + Threads + Wait + Sync, R: Read>(
+pub(crate) fn ends<RT: AllocGlobal + Threads + Wait + Sync, R: Read>(
     rt: &RT,
     work: Work,
     reader: &mut R,

@@ -207,7 +207,7 @@ fn give_all(rt: &impl Abort, alloc: Global, book: &mut Book, present: &Present) 
 }
 
 /// Whether the tables of a book are those of a new book that is given what is present in it.
-fn is_given_anew(rt: &impl Abort, alloc: Global, book: &Book) -> bool {
+pub(crate) fn is_given_anew(rt: &impl Abort, alloc: Global, book: &Book) -> bool {
     let mut anew = boxed_book(alloc).expect(rt, "a new book");
     give_all(rt, alloc, &mut anew, book.present());
     *anew.tables() == *book.tables()

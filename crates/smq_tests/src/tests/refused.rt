@@ -1,4 +1,5 @@
-//! Calls for which memory runs out: each says so, and the same call is answered then as ever.
+//! Calls with each allocation or start of a thread refused in turn (tools/check-refused-calls): each says so, and the same call is
+//! answered then as ever.
 use crate::tests::load::records::{EACH, is_read};
 use crate::tests::load::settings::{EXAMPLE, is_set};
 use crate::tests::readers::EVERYTHING;
@@ -6,10 +7,12 @@ use crate::tests::scripts::Sent::*;
 use crate::tests::scripts::Step::*;
 use crate::tests::scripts::*;
 use crate::tests::writers::Expecting;
+use bytes::Bytes;
 use smq_book::*;
 use smq_frame::Tail;
-use smq_kit::{Dir, Refusal, SessionId};
+use smq_kit::{Dir, LinkId, Moment, Refusal, SessionId};
 use smq_load::{LoadFault, Row, read_script, read_settings};
+use smq_marks::Call;
 use smq_receipt::MessageState;
 use smq_report::{Pick, ReportFault, write_csv, write_table};
 use smq_scratch::audit;
@@ -74,9 +77,6 @@ const CUT: &[u8] = b"\0\0\0\x12\x80\0\0\x04\0\0";
 const REST: &[u8] =
     b"\0\0\0\0\0\x011\0\0\0\0\x32\0\0\0\x05\0\0\0\0\0\0\0\x01\0\0\0\0\0\0\0\x04\0\0\0\0\0\0\0\0\x11id:1 stat:DELIVRD";
 
-/// Whose octets these are: the centre's of session 23.
-const ORIGIN: Origin = (2, 23, Dir::FromCentre, 2000);
-
 /// A script whose second record is bad.
 const BAD: &[u8] = b"clock,1\nclock,x\n";
 
@@ -93,10 +93,9 @@ enum Came {
     Wrong,
 }
 
-/// A call.
+/// What is asked of a call.
 #[derive(Clone, Copy)]
-enum Call {
-    Prepare,
+enum Asked {
     Script,
     BadScript,
     Settings,
@@ -106,15 +105,23 @@ enum Call {
     Audit,
 }
 
-const CALLS: &[(&str, Call)] = &[
-    ("prepare", Call::Prepare),
-    ("read_script", Call::Script),
-    ("read_script of a bad row", Call::BadScript),
-    ("read_settings", Call::Settings),
-    ("read_settings of bad settings", Call::BadSettings),
-    ("write_csv", Call::Csv),
-    ("write_table", Call::Table),
-    ("audit", Call::Audit),
+/// What is asked of which call.
+const ASKED: &[(&str, Asked, Call)] = &[
+    ("read_script", Asked::Script, Call::ReadScript),
+    (
+        "read_script of a bad row",
+        Asked::BadScript,
+        Call::ReadScript,
+    ),
+    ("read_settings", Asked::Settings, Call::ReadSettings),
+    (
+        "read_settings of bad settings",
+        Asked::BadSettings,
+        Call::ReadSettings,
+    ),
+    ("write_csv", Asked::Csv, Call::WriteCsv),
+    ("write_table", Asked::Table, Call::WriteTable),
+    ("audit", Asked::Audit, Call::Audit),
 ];
 
 fn right_if(holds: bool) -> Came {
@@ -122,9 +129,27 @@ fn right_if(holds: bool) -> Came {
 }
 
 /// The octets behind those that are cut, decoded on the tail of these.
-fn decode(alloc: Global, tail: &Tail) -> Came {
-    match batch_on(alloc, tail, ORIGIN, REST) {
-        Ok(batch) => right_if(is_decoded(tail, &batch)),
+fn decode(rt: &impl Abort, alloc: Global, tail: &Tail) -> Came {
+    let octets = Bytes::copy_from_slice(alloc, REST).expect(rt, "octets");
+    let moment = Moment::new(2000).expect(rt, "a moment");
+    smq_marks::begin(alloc, Call::Prepare);
+    let answer = prepare(
+        alloc,
+        LinkId(2),
+        SessionId(23),
+        Dir::FromCentre,
+        tail,
+        moment,
+        octets,
+    );
+    let came = decoded(tail, &answer);
+    smq_marks::end(alloc, came == Came::Memory);
+    came
+}
+
+fn decoded(tail: &Tail, answer: &Result<Batch, Refusal>) -> Came {
+    match answer {
+        Ok(batch) => right_if(is_decoded(tail, batch)),
         Err(Refusal::Memory) => Came::Memory,
         Err(_) => Came::Wrong,
     }
@@ -245,72 +270,94 @@ fn count_anew<R: Threads + Sync>(rt: &R, alloc: Global, book: &Book) -> Came {
     }
 }
 
-/// Makes a call: on the tail of the octets that are cut, for the report of one book, or to count what is present in the other.
-fn make<R: Threads + Sync>(rt: &R, alloc: Global, call: Call, first: &Book, other: &Book) -> Came {
-    match call {
-        Call::Prepare => decode(alloc, other.tail(SessionId(23), Dir::FromCentre)),
-        Call::Script => load_script(alloc),
-        Call::BadScript => load_bad_script(alloc),
-        Call::Settings => load_settings(alloc),
-        Call::BadSettings => load_bad_settings(alloc),
-        Call::Csv => report_csv(alloc, first.tables()),
-        Call::Table => report_table(alloc, first.tables()),
-        Call::Audit => count_anew(rt, alloc, other),
+/// Makes a call: for the report of one book, or to count what is present in the other.
+fn make<R: Threads + Sync>(
+    rt: &R,
+    alloc: Global,
+    asked: Asked,
+    first: &Book,
+    other: &Book,
+) -> Came {
+    match asked {
+        Asked::Script => load_script(alloc),
+        Asked::BadScript => load_bad_script(alloc),
+        Asked::Settings => load_settings(alloc),
+        Asked::BadSettings => load_bad_settings(alloc),
+        Asked::Csv => report_csv(alloc, first.tables()),
+        Asked::Table => report_table(alloc, first.tables()),
+        Asked::Audit => count_anew(rt, alloc, other),
     }
+}
+
+/// Makes a call for which memory may be refused.
+fn make_marked<R: Threads + Sync>(
+    rt: &R,
+    alloc: Global,
+    what: (Asked, Call),
+    first: &Book,
+    other: &Book,
+) -> Came {
+    let (asked, call) = what;
+    smq_marks::begin(alloc, call);
+    let came = make(rt, alloc, asked, first, other);
+    smq_marks::end(alloc, came == Came::Memory);
+    came
 }
 
 /// Whether a call is answered as ever, at once or, where memory ran out, when it is made again.
 fn is_answered<R: Threads + Sync>(
     rt: &R,
     alloc: Global,
-    call: Call,
+    what: (Asked, Call),
     first: &Book,
     other: &Book,
 ) -> bool {
-    match make(rt, alloc, call, first, other) {
+    match make_marked(rt, alloc, what, first, other) {
         Came::Right => true,
-        Came::Memory => make(rt, alloc, call, first, other) == Came::Right,
+        Came::Memory => make(rt, alloc, what.0, first, other) == Came::Right,
         Came::Wrong => false,
     }
 }
 
-/// Plays a step, once more where memory runs out.
-fn plays(alloc: Global, book: &mut Book, step: Step) -> bool {
-    play_step(alloc, book, step).is_ok() || play_step(alloc, book, step).is_ok()
-}
-
-fn plays_all(alloc: Global, book: &mut Book, script: &[Step]) -> bool {
-    for step in script {
-        if !plays(alloc, book, *step) {
-            return false;
-        }
+/// Whether `prepare` answers as ever, at once or, where memory ran out, when it is called again.
+fn is_prepared(rt: &impl Abort, alloc: Global, tail: &Tail) -> bool {
+    match decode(rt, alloc, tail) {
+        Came::Right => true,
+        Came::Memory => decode(rt, alloc, tail) == Came::Right,
+        Came::Wrong => false,
     }
-    true
-}
-
-/// A book, which is asked for once more where memory runs out.
-fn new_book(alloc: Global) -> Option<Box<Book>> {
-    boxed_book(alloc).or_else(|| boxed_book(alloc))
 }
 
 fn assert_answers<R: Threads + Sync + Abort>(rt: &R, alloc: Global, first: &Book, other: &Book) {
-    for (what, call) in CALLS {
-        assert!(rt; is_answered(rt, alloc, *call, first, other), "{what}");
+    for (what, asked, call) in ASKED {
+        assert!(rt;
+            is_answered(rt, alloc, (*asked, *call), first, other),
+            "{what}"
+        );
+    }
+    assert!(rt;
+        is_prepared(rt, alloc, other.tail(SessionId(23), Dir::FromCentre)),
+        "prepare"
+    );
+}
+
+fn play_all(rt: &impl Abort, alloc: Global, book: &mut Book, script: &[Step]) {
+    for step in script {
+        assert!(rt; play_step(alloc, book, *step).is_ok());
     }
 }
 
 /// Makes the calls on the first book and on another.
 fn make_calls<R: Threads + Sync + Abort>(rt: &R, alloc: Global, first: &Book) {
-    let mut other = new_book(alloc).expect(rt, "a book");
-    assert!(rt; plays_all(alloc, &mut other, EVERYTHING));
-    assert!(rt; plays(alloc, &mut other, Centre(23, 1900, Octets(CUT))));
+    let mut other = boxed_book(alloc).expect(rt, "a book");
+    play_all(rt, alloc, &mut other, EVERYTHING);
+    play_all(rt, alloc, &mut other, &[Centre(23, 1900, Octets(CUT))]);
     assert_answers(rt, alloc, first, &other);
 }
 
-/// With each allocation refused in turn (`rt try --test --fail-alloc`), a call says so, and is answered then as ever.
 #[test]
 fn a_call_that_wants_memory_is_answered_when_it_is_made_again(rt: HostRuntime) {
-    let mut first = new_book(rt.alloc()).expect(&rt, "a book");
-    assert!(rt; plays_all(rt.alloc(), &mut first, FIRST));
+    let mut first = boxed_book(rt.alloc()).expect(&rt, "a book");
+    play_all(&rt, rt.alloc(), &mut first, FIRST);
     make_calls(&rt, rt.alloc(), &first);
 }

@@ -10,7 +10,7 @@ use Rattle.smq_group.specs.Matching.{Grouping, GroupedReceipt}
 use Rattle.smq_base_tests.proofs.tests.group.receipt_comes_and_goes.Goals as goal
 
 receipt : Place
-receipt = record { session = record { 0 = 10 }; dir = FromCentre; offset = 0 }
+receipt = record { session = record { 0 = 1 }; dir = FromCentre; offset = 0 }
 
 grouped : ℕ → GroupedReceipt
 grouped moment = record { key = record { link = record { 0 = 1 }; key = Number 1 }; moment = moment; decides = true }

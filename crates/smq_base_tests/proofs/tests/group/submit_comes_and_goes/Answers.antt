@@ -10,7 +10,7 @@ use Rattle.smq_group.specs.Matching.{Grouping}
 use Rattle.smq_base_tests.proofs.tests.group.submit_comes_and_goes.Goals as goal
 
 submit : Place
-submit = record { session = record { 0 = 10 }; dir = FromClient; offset = 0 }
+submit = record { session = record { 0 = 1 }; dir = FromClient; offset = 0 }
 
 key : LinkKey
 key = record { link = record { 0 = 1 }; key = Number 1 }
