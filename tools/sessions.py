@@ -2,7 +2,8 @@
 
 A connection is a session. Where octets of it are missing, what follows can't be cut into PDUs, nor can requests behind the gap
 be paired by their rank: so the session ends there and the next one begins, in both directions, the direction with the gap at the
-first PDU header behind it, the other at its next PDU. Until a gap fills or is given up, the rows of its connection wait.
+first PDU header behind it, the other at its next PDU. Until a gap fills or is given up, the rows of its connection wait, and no
+others: what a script leaves doesn't turn on the order of rows of different sessions.
 """
 import collections
 
@@ -42,21 +43,16 @@ class Row:
 
 
 class Rows:
-    """The rows of a script in their order; those behind one whose session isn't known yet wait."""
+    """The rows of a script as they are written: those of a connection in their order, each once its session is known."""
 
     def __init__(self, write):
-        self.write, self.waiting, self.count, self.octets = write, collections.deque(), 0, 0
+        # waiting: how many rows wait, of all connections
+        self.write, self.waiting, self.count, self.octets = write, 0, 0, 0
 
-    def put(self, connection, row):
-        self.waiting.append((connection.link, row))
-
-    def flush(self):
-        while self.waiting and self.waiting[0][1].pieces is not None:
-            link, row = self.waiting.popleft()
-            for session, octets in row.pieces:
-                text = f"piece,{link},{session},{row.sender},{row.moment},{octets.hex()}\n"
-                self.count, self.octets = self.count + 1, self.octets + len(text)
-                self.write(text)
+    def put(self, text):
+        """Writes a row."""
+        self.count, self.octets = self.count + 1, self.octets + len(text)
+        self.write(text)
 
 
 class Connection:
@@ -68,8 +64,8 @@ class Connection:
         self.first = self.last = sessions.next_number()
         for stream in self.streams.values():
             stream.session = self.first
-        # whether the last session has rows, and the rows that wait for its number
-        self.has_rows, self.waiting = False, []
+        # whether the last session has rows; the rows that weren't written, and those of them whose session isn't known
+        self.has_rows, self.rows, self.waiting = False, collections.deque(), []
 
     def sides(self, segment):
         """Returns which end sent a segment, and which end it was sent to."""
@@ -105,15 +101,26 @@ class Connection:
                 for part in stream.release():
                     self.put(sender, part.octets, packet.number, packet.moment)
             stream.watch(packet.moment)
-        if not self.is_open():
-            self.settle(self.waiting)
-            self.waiting = []
+        self.write()
 
     def put(self, sender, octets, number, moment):
-        """Puts a row behind the others; its session is told at once where nothing is missing."""
+        """Puts a row behind the others of the connection."""
         row = Row(sender, octets, number, self.streams[sender].raise_moment(number, moment))
-        self.sessions.rows.put(self, row)
+        self.rows.append(row)
         self.waiting.append(row)
+        self.sessions.rows.waiting += 1
+
+    def write(self, is_end=False):
+        """Writes the rows whose sessions are known: all of them where none is begun behind what is missing, or nothing is."""
+        if is_end or self.sessions.is_strict or not self.is_open():
+            self.settle(self.waiting)
+            self.waiting = []
+        rows = self.sessions.rows
+        while self.rows and self.rows[0].pieces is not None:
+            row = self.rows.popleft()
+            rows.waiting -= 1
+            for session, octets in row.pieces:
+                rows.put(f"piece,{self.link},{session},{row.sender},{row.moment},{octets.hex()}\n")
 
     def settle(self, rows):
         """Tells rows their sessions, in order."""
@@ -139,9 +146,7 @@ class Connection:
                 self.go_on(sender)
                 stream.open_since = stream.acknowledged_since = None
                 stream.watch(moment)
-        if not self.is_open():
-            self.settle(self.waiting)
-            self.waiting = []
+        self.write()
 
     def go_on(self, sender):
         """Looks for a PDU in what waits of a stream, and begins with it."""
@@ -240,27 +245,28 @@ class Sessions:
         self.all.append(self.newest[ends])
         return self.newest[ends]
 
+    def give_up(self, moment):
+        """Goes on behind gaps that won't fill any more by that moment."""
+        if self.gaps:
+            is_full = self.rows.waiting > MOST_WAITING
+            for it in self.gaps:
+                it.give_up(moment, is_full)
+            self.gaps = [it for it in self.gaps if it.is_open()]
+
     def take(self, packet, segment):
         """Takes a segment, and writes the rows whose sessions are known by then."""
-        if self.gaps:
-            is_full = len(self.rows.waiting) > MOST_WAITING
-            for it in self.gaps:
-                it.give_up(packet.moment, is_full)
-            self.gaps = [it for it in self.gaps if it.is_open()]
+        self.give_up(packet.moment)
         connection = self.connection_of(segment)
         if connection:
             connection.take(packet, segment)
             if connection.is_open() and connection not in self.gaps:
                 self.gaps.append(connection)
-        self.rows.flush()
 
     def end(self):
         """Writes the rows that wait at the end of the capture."""
         for it in self.all:
             it.give_up(0, is_end=True)
-            it.settle(it.waiting)
-            it.waiting = []
-        self.rows.flush()
+            it.write(is_end=True)
 
     def tell(self, told):
         """Tells what is missing and what was changed, connection by connection, and how much that is."""
