@@ -1,7 +1,8 @@
-"""Reads packet captures: files, packets, IP datagrams and TCP segments."""
+"""Reads packet captures, as they come where it is from a pipe: files, packets, IP datagrams and TCP segments."""
 import collections
 import gzip
 import io
+import select
 import struct
 import sys
 import zlib
@@ -15,6 +16,8 @@ MAGICS = {
 }
 PCAPNG = b"\x0a\x0d\x0d\x0a"
 GZIP = b"\x1f\x8b"
+# Octets of a read of a file, and the most that gzip reads where it needs all of them.
+BUFFERED, SHORT_READ = 65_536, 256
 # No capture has more octets of a packet; a record that says so is broken (pcap's own limit).
 MOST_CAPTURED = 262_144
 LAST_MOMENT = 4_102_444_800_000
@@ -45,11 +48,61 @@ class NoCapture(Exception):
     """Why a file can't be read."""
 
 
-def open_capture(path):
-    """Opens a capture, or standard input where the path is `-`; what gzip packed is unpacked."""
-    file = sys.stdin.buffer if path == "-" else open(path, "rb")
-    file = file if hasattr(file, "peek") else io.BufferedReader(file)
-    return gzip.open(file, "rb") if file.peek(2)[:2] == GZIP else file
+class Live(io.RawIOBase):
+    """A file or a pipe. Before a read that would wait, `wait` is called: it says for how many seconds to wait at most before it is
+    called again, or None."""
+
+    def __init__(self, file, wait):
+        super().__init__()
+        self.file, self.wait, self.first = file, wait, b""
+
+    def readable(self):
+        return True
+
+    def has_octets(self, seconds):
+        """Whether a read wouldn't wait, by so many seconds from now."""
+        return bool(self.first or select.select([self.file], [], [], seconds)[0])
+
+    def readinto(self, room):
+        if not self.has_octets(0):
+            while not self.has_octets(self.wait()):
+                pass
+        if not self.first:
+            return self.file.readinto(room)
+        count = min(len(self.first), len(room))
+        room[:count], self.first = self.first[:count], self.first[count:]
+        return count
+
+    def begins_with(self, octets):
+        """Whether these are the first octets, which are read again then."""
+        first = b""
+        while len(first) < len(octets) and (more := self.read(len(octets) - len(first))):
+            first += more
+        self.first = first
+        return first == octets
+
+    def close(self):
+        self.file.close()
+        super().close()
+
+
+class Packed(io.BufferedReader):
+    """What gzip packed: a long read takes what has come, and doesn't wait for all that it asks for."""
+
+    def read(self, size=-1):
+        return super().read(size) if size <= SHORT_READ else self.read1(size)
+
+
+def open_live(path, wait=None):
+    """Opens a file, or standard input where the path is `-`; before a read that would wait, standard output is flushed, or what else
+    is to be done then, as Live tells."""
+    return Live(open(0 if path == "-" else path, "rb", buffering=0, closefd=path != "-"), wait or sys.stdout.flush)
+
+
+def open_capture(path, wait=None):
+    """Opens a capture as open_live does; what gzip packed is unpacked."""
+    file = open_live(path, wait)
+    return gzip.open(Packed(file, BUFFERED), "rb") if file.begins_with(GZIP) else io.BufferedReader(file, BUFFERED)
 
 
 def read_head(file):
