@@ -62,6 +62,41 @@ def pcap(frames, link_type=ETHERNET, order="<", magic=0xA1B2C3D4, snap=None):
     return capture
 
 
+def block(kind, body, order="<"):
+    """Returns a block of pcapng."""
+    body += bytes(-len(body) % 4)
+    length = struct.pack(order + "I", 12 + len(body))
+    return struct.pack(order + "I", kind) + length + body + length
+
+
+def section(order="<", version=1):
+    return block(0x0A0D0D0A, struct.pack(order + "I2Hq", 0x1A2B3C4D, version, 0, -1), order)
+
+
+def interface(link_type=ETHERNET, options=b"", order="<"):
+    """Returns the block of an interface; options as option() gives them."""
+    return block(1, struct.pack(order + "HHI", link_type, 0, 0) + (options + bytes(4) if options else b""), order)
+
+
+def option(code, value, order="<"):
+    return struct.pack(order + "HH", code, len(value)) + value + bytes(-len(value) % 4)
+
+
+def packet(frame, moment, number=0, order="<", kind=6, snap=None, options=b""):
+    """Returns the block of a packet of an interface: enhanced, or obsolete (2); its moment counts the interface's fractions."""
+    kept = frame[:snap]
+    head = struct.pack(order + ("5I" if kind == 6 else "2H4I"), *((number,) if kind == 6 else (number, 0)), moment >> 32,
+                       moment & 0xFFFFFFFF, len(kept), len(frame))
+    return block(kind, head + kept + (bytes(-len(kept) % 4) + options if options else b""), order)
+
+
+def pcapng(frames, fractions=1_000_000, options=b"", order="<", kind=6, link_type=ETHERNET, snap=None):
+    """Returns a section with an interface and frames, at the moments that pcap() gives them, in so many fractions of a second."""
+    pairs = [it if isinstance(it, tuple) else (1000 + 10 * at, it) for at, it in enumerate(frames)]
+    packets = [packet(frame, -(-moment * fractions // 1000), order=order, kind=kind, snap=snap) for moment, frame in pairs]
+    return b"".join([section(order), interface(link_type, options, order), *packets])
+
+
 def client(offset, octets=b"", flags=ACK, acknowledged=0, link=ethernet, ends=(CLIENT, CENTRE), first=CLIENT_FIRST):
     """Returns a frame of the client with octets from an offset of its stream on."""
     acknowledged = CENTRE_FIRST + acknowledged

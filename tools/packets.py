@@ -14,7 +14,15 @@ MAGICS = {
     b"\xa1\xb2\x3c\x4d": (">", 1_000_000_000),
     b"\x4d\x3c\xb2\xa1": ("<", 1_000_000_000),
 }
-PCAPNG = b"\x0a\x0d\x0d\x0a"
+# Blocks of pcapng (draft-ietf-opsawg-pcapng): the type of the first of each section, and how its second four octets after that tell
+# the byte order; those that describe interfaces, with options; and those of packets, by how they begin.
+PCAPNG, SECTION = b"\x0a\x0d\x0d\x0a", 0x0A0D0D0A
+ORDERS = {b"\x1a\x2b\x3c\x4d": ">", b"\x4d\x3c\x2b\x1a": "<"}
+INTERFACE, RESOLUTION, OFFSET = 1, 9, 14
+SIMPLE_PACKET = 3
+PACKETS = {6: "5I", 2: "H2x4I", SIMPLE_PACKET: "I"}
+# Octets of a block with its type and lengths: at least, and at most.
+SHORTEST, MOST_IN_BLOCK = {SECTION: 28, INTERFACE: 20, 6: 32, 2: 32, SIMPLE_PACKET: 16}, 16_777_216
 GZIP = b"\x1f\x8b"
 # Octets of a read of a file, and the most that gzip reads where it needs all of them.
 BUFFERED, SHORT_READ = 65_536, 256
@@ -26,6 +34,7 @@ LAST_MOMENT = 4_102_444_800_000
 BY_PROTOCOL = {1: (12, 14), 113: (14, 16), 276: (0, 20)}
 LOOPBACK = (0, 108)
 RAW_IP = (12, 14, 101, 228, 229)
+LINK_TYPES = frozenset((*BY_PROTOCOL, *LOOPBACK, *RAW_IP))
 VLAN_TAGS = (0x8100, 0x88A8, 0x9100)
 IP_PROTOCOLS = (0x0800, 0x86DD)
 # AF_INET, and AF_INET6 of Linux, NetBSD, FreeBSD and macOS
@@ -38,6 +47,8 @@ SYN, RST, ACK = 0x02, 0x04, 0x10
 
 # number: from 1; moment: in ms since 1970; is_whole: whether the capture has all octets of the frame
 Packet = collections.namedtuple("Packet", "number moment is_whole frame")
+# fractions: of a second, that moments count; offset: in ms, that is added to them
+Interface = collections.namedtuple("Interface", "link_type fractions offset")
 # octets: those that were captured of length; is_fragment: whether other packets have the rest
 Datagram = collections.namedtuple("Datagram", "source destination protocol is_fragment octets length")
 # source, destination: address and port; sequence: the number of the SYN or the first octet
@@ -46,6 +57,10 @@ Segment = collections.namedtuple("Segment", "source destination flags sequence a
 
 class NoCapture(Exception):
     """Why a file can't be read."""
+
+
+class Broken(Exception):
+    """Why a file can't be read any further."""
 
 
 class Live(io.RawIOBase):
@@ -105,42 +120,149 @@ def open_capture(path, wait=None):
     return gzip.open(Packed(file, BUFFERED), "rb") if file.begins_with(GZIP) else io.BufferedReader(file, BUFFERED)
 
 
-def read_head(file):
-    """Returns the byte order, the fractions of a second and the link type of a capture."""
-    head = file.read(24)
-    if head[:4] == PCAPNG:
-        raise NoCapture("it is a pcapng file: editcap -F pcap CAPTURE NEW makes a pcap of it")
+def read_head(head):
+    """Returns the byte order, the fractions of a second and the link type that the head of a pcap file says."""
     if head[:4] not in MAGICS or len(head) < 24:
-        raise NoCapture("it is no pcap file")
+        raise NoCapture("it is no pcap or pcapng file")
     order, fractions = MAGICS[head[:4]]
     # (the upper octets tell of a checksum behind each frame, which no IP length takes in)
     link_type = struct.unpack(order + "I", head[20:])[0] & 0xFFFF
-    if link_type not in (*BY_PROTOCOL, *LOOPBACK, *RAW_IP):
+    if link_type not in LINK_TYPES:
         raise NoCapture(f"packets of link type {link_type} aren't read")
     return order, fractions, link_type
 
 
-def read_packets(file, first, told):
-    """Yields the link type and the packets of a capture, numbered from first; tells where it ends within one or is broken."""
-    number, place = first, 24
-    try:
-        order, fractions, link_type = read_head(file)
-        while head := file.read(16):
+def read_interface(order, block):
+    """Returns the interface that a block of pcapng describes."""
+    (link_type,) = struct.unpack_from(order + "H6x", block)
+    fractions, offset, at = 1_000_000, 0, 8
+    while at + 4 <= len(block):
+        option, size = struct.unpack_from(order + "2H", block, at)
+        value = block[at + 4 : at + 4 + size]
+        if option == RESOLUTION and len(value) == 1:
+            fractions = 2 ** (value[0] & 0x7F) if value[0] & 0x80 else 10 ** value[0]
+        elif option == OFFSET and len(value) == 8:
+            (offset,) = struct.unpack(order + "q", value)
+        at += 4 + (size + 3) // 4 * 4
+    return Interface(link_type, fractions, offset * 1000)
+
+
+class Reader:
+    """Reads the packets of a capture. number: of the one that is read, or comes next."""
+
+    def __init__(self, file, number, told):
+        self.file, self.number, self.told = file, number, told
+        # of a section of pcapng: its byte order and interfaces
+        self.order, self.interfaces = "<", []
+        # packets that aren't read, by why: how many, and the first
+        self.passed_over = {}
+
+    def packets(self):
+        """Yields the link type and the packets; tells where the file ends within one or is broken, and what wasn't read."""
+        try:
+            head = self.file.read(4)
+            yield from self.blocks(head) if head == PCAPNG else self.records(head)
+        except Broken as fault:
+            self.told.lost(str(fault))
+        except (EOFError, zlib.error, gzip.BadGzipFile) as fault:
+            self.told.lost(f"what gzip packed is broken within packet {self.number}: {fault}")
+        for why, (count, first) in self.passed_over.items():
+            self.told.lost(f"{why}: {count}, the first is packet {first}")
+
+    def records(self, head):
+        """Yields the packets of a pcap file whose first octets these are."""
+        order, fractions, link_type = read_head(head + self.file.read(20))
+        place = 24
+        while head := self.file.read(16):
             seconds, fraction, captured, length = struct.unpack(order + "4I", head) if len(head) == 16 else (0, 0, 1, 1)
             if captured > MOST_CAPTURED:
-                told.lost(f"the record of packet {number} is broken, at octet {place} of the file: it says {captured} octets")
-                return
-            frame = file.read(captured)
+                raise Broken(f"the record of packet {self.number} is broken, at octet {place} of the file: it says {captured} octets")
+            frame = self.file.read(captured)
             if len(frame) < captured:
-                told.lost(f"the file ends within packet {number}")
-                return
+                raise Broken(f"the file ends within packet {self.number}")
             moment = seconds * 1000 + fraction * 1000 // fractions
             if moment > LAST_MOMENT:
-                raise NoCapture(f"the moment of packet {number} is past the year 2099")
-            yield link_type, Packet(number, moment, captured >= length, frame)
-            number, place = number + 1, place + 16 + captured
-    except (EOFError, zlib.error, gzip.BadGzipFile) as fault:
-        told.lost(f"what gzip packed is broken within packet {number}: {fault}")
+                self.refuse(moment)
+            yield link_type, Packet(self.number, moment, captured >= length, frame)
+            self.number, place = self.number + 1, place + 16 + captured
+
+    def blocks(self, head):
+        """Yields the packets of a pcapng file whose first octets these are."""
+        place = 0
+        while head:
+            kind, block = self.read_block(head, place)
+            if kind == SECTION:
+                self.interfaces = []
+            elif kind == INTERFACE:
+                self.interfaces.append(read_interface(self.order, block))
+            elif kind in PACKETS:
+                yield from self.packets_of(kind, block, place)
+                self.number += 1
+            head, place = self.file.read(4), place + 12 + len(block)
+
+    def read_block(self, head, place):
+        """Returns the type of a block, and what it has between its two lengths."""
+        # (the length of a section has its byte order, which stands behind it)
+        size = 8 if head == PCAPNG else 4
+        head += self.file.read(size)
+        if len(head) < 4 + size:
+            raise Broken(f"the file ends within packet {self.number}")
+        if size == 8:
+            if head[8:] not in ORDERS:
+                raise NoCapture("it is no pcap or pcapng file") if place == 0 else self.broken(SECTION, place, "another byte order")
+            self.order = ORDERS[head[8:]]
+        kind, length = struct.unpack(self.order + "2I", head[:8])
+        if length % 4 or not SHORTEST.get(kind, 12) <= length <= MOST_IN_BLOCK:
+            raise self.broken(kind, place, f"{length} octets")
+        block = head[8:] + self.file.read(length - len(head))
+        if len(block) < length - 8:
+            raise Broken(f"the file ends within {self.name(kind)}")
+        (again,) = struct.unpack(self.order + "I", block[-4:])
+        if again != length:
+            raise self.broken(kind, place, f"{length} octets, and {again} at its end")
+        if kind == SECTION and (version := struct.unpack_from(self.order + "4x2H", block))[0] != 1:
+            raise NoCapture("pcapng of version {}.{} isn't read".format(*version))
+        return kind, block[:-4]
+
+    def packets_of(self, kind, block, place):
+        """Yields the packet of a block, if it can be read."""
+        if kind == SIMPLE_PACKET:
+            self.pass_over("packets without a moment (simple packet blocks), not read")
+            return
+        number, high, low, captured, length = struct.unpack_from(self.order + PACKETS[kind], block)
+        if captured > min(MOST_CAPTURED, len(block) - 20):
+            raise self.broken(kind, place, f"{captured} octets")
+        if number >= len(self.interfaces):
+            raise self.broken(kind, place, f"interface {number}, and {len(self.interfaces)} are described")
+        interface = self.interfaces[number]
+        if interface.link_type not in LINK_TYPES:
+            if not any(it.link_type in LINK_TYPES for it in self.interfaces):
+                raise NoCapture(f"packets of link type {interface.link_type} aren't read")
+            self.pass_over(f"packets of link type {interface.link_type}, which isn't read")
+            return
+        moment = (high << 32 | low) * 1000 // interface.fractions + interface.offset
+        if not 0 <= moment <= LAST_MOMENT:
+            self.refuse(moment)
+        yield interface.link_type, Packet(self.number, moment, captured >= length, block[20 : 20 + captured])
+
+    def pass_over(self, why):
+        count, first = self.passed_over.get(why, (0, self.number))
+        self.passed_over[why] = count + 1, first
+
+    def name(self, kind):
+        return f"packet {self.number}" if kind in PACKETS else f"the block before packet {self.number}"
+
+    def broken(self, kind, place, says):
+        where = "of" if kind in PACKETS else "before"
+        return Broken(f"the block {where} packet {self.number} is broken, at octet {place} of the file: it says {says}")
+
+    def refuse(self, moment):
+        raise NoCapture(f"the moment of packet {self.number} is {'past the year 2099' if moment > 0 else 'before the year 1970'}")
+
+
+def read_packets(file, first, told):
+    """Yields the link type and the packets of a capture, numbered from first; tells where it ends within one or is broken."""
+    return Reader(file, first, told).packets()
 
 
 def datagram_octets(link_type, frame):
