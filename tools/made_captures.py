@@ -1,4 +1,4 @@
-"""Makes small captures of one connection or more, for the checks of tools/pcap-to-script."""
+"""Makes small captures of one connection or more, for the checks of tools/pcap-to-script, and rows and lines that it gives of them."""
 import socket
 import struct
 
@@ -117,3 +117,18 @@ def handshake(link=ethernet):
 def conversation(link=ethernet):
     """Returns a connection with octets of both ends, at 1020 and 1030 ms."""
     return [*handshake(link), client(0, b"ab", link=link), centre(0, b"cde", acknowledged=2, link=link)]
+
+
+def row(direction, moment, octets, session=1, number=7):
+    return f"piece,{number},{session},{direction},{moment},{octets.hex()}"
+
+
+def told(text, session=1, number=7):
+    return f"session {session} (link {number}): {text}"
+
+
+def missing(first, last, sender="client"):
+    return told(f"octets {first} to {last} from the {sender} are missing: nothing after them is written")
+
+
+CONVERSATION = [row("client", 1020, b"ab"), row("centre", 1030, b"cde")]

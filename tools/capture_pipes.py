@@ -1,0 +1,126 @@
+"""Captures that come through a pipe which stays open, and rows of the clock, for tools/check-pcap-to-script."""
+import os
+import select
+import struct
+import subprocess
+import sys
+import time
+import zlib
+
+from made_captures import ACK, CENTRE, CONVERSATION, SYN, centre, client, conversation, handshake, pcap, pcapng, row, told
+
+TOOLS = os.path.dirname(os.path.abspath(__file__))
+WORDS = "--link 2775=7"
+STRICT = "--link 2775=7 --strict"
+
+
+def tick_cases():
+    """Yields the cases of --every and --ask over a file."""
+    words = WORDS + " --every 10"
+    asks = ["ask,link", "ask,report"]
+    parts = [b"ab", b"c", b"d", b"e", b"f", b"g"]
+    moments = [9_999, 10_000, 45_000, 12_000, 20_000, 50_000]
+    octets = [(moment, client(sum(map(len, parts[:at])), it)) for at, (moment, it) in enumerate(zip(moments, parts))]
+    capture = pcap([*zip((9_980, 9_990), handshake()), *octets])
+    rows = [row("client", moment, it) for moment, it in zip((9_999, 10_000, 45_000, 45_000, 45_000, 50_000), parts)]
+    raised = [told("moments raised to the one before, as the clock was set back or packets stand out of order: "
+                   "2 from the client, the first is packet 6")]
+    yield "rows of the clock", capture, [
+        rows[0], "clock,10000", rows[1], "clock,40000", *rows[2:5], "clock,50000", rows[5]], raised, 0, words
+    yield "rows of the clock and questions", capture, [
+        rows[0], "clock,10000", *asks, rows[1], "clock,40000", *asks, rows[2], *asks, rows[3], *asks, rows[4], "clock,50000", *asks,
+        rows[5], *asks], raised, 0, words + " --ask link --ask report"
+    frames = [*zip((1_000, 1_500), handshake()), (1_999, client(0, b"ab")), (2_000, client(4, b"ef")), (2_001, client(2, b"cd"))]
+    yield "a clock each half of a second, before rows that wait", pcap(frames), [
+        "clock,1500", row("client", 1_999, b"ab"), "clock,2000", row("client", 2_001, b"cd"), row("client", 2_001, b"ef")], [], 0, \
+        WORDS + " --every 0.5"
+
+
+class Pipe:
+    """The converter, whose standard input is a pipe that stays open."""
+
+    def __init__(self, words):
+        # (which would write out each row at once)
+        known = {name: value for name, value in os.environ.items() if name != "PYTHONUNBUFFERED"}
+        self.process = subprocess.Popen([sys.executable, f"{TOOLS}/pcap-to-script", *words.split(), "-"], stdin=subprocess.PIPE,
+                                        stdout=subprocess.PIPE, stderr=subprocess.PIPE, bufsize=0, env=known)
+        self.script = b""
+
+    def give(self, octets):
+        self.process.stdin.write(octets)
+
+    def rows(self, count, seconds=10):
+        """Returns the rows so far, once there are so many, or by so many seconds."""
+        end = time.monotonic() + seconds
+        while self.script.count(b"\n") < count and select.select([self.process.stdout], [], [], max(0, end - time.monotonic()))[0]:
+            if not (octets := os.read(self.process.stdout.fileno(), 65_536)):
+                break
+            self.script += octets
+        return self.script.decode().splitlines()
+
+    def end(self):
+        """Ends the input; returns all rows, the lines told and the status."""
+        out, told_lines = self.process.communicate()
+        return (self.script + out).decode().splitlines(), told_lines.decode().splitlines(), self.process.returncode
+
+
+def see(name, wanted, given):
+    """Returns whether what is given differs, after it was printed."""
+    print(f"{name}: FAILED\n  wanted: {wanted}\n  given: {given}\n" if wanted != given else "", end="")
+    return wanted != given
+
+
+def pipes_differ():
+    """Yields whether rows of a capture that comes through a pipe come late, or others at the end."""
+    first, second = conversation(), [(1040, client(2, b"fg")), (1050, centre(3, b"h"))]
+    wanted = [*CONVERSATION, row("client", 1040, b"fg"), row("centre", 1050, b"h")]
+    packer = zlib.compressobj(wbits=31)
+
+    def packed(octets):
+        return packer.compress(octets) + packer.flush(zlib.Z_SYNC_FLUSH)
+
+    more = pcap(second)[24:], pcapng(second)[len(pcapng([])):]
+    for name, parts in (("pcap", (pcap(first), more[0], b"")), ("pcapng", (pcapng(first), more[1], b"")),
+                        ("pcap, packed by gzip", (packed(pcap(first)), packed(more[0]), packer.flush()))):
+        pipe = Pipe(WORDS)
+        pipe.give(parts[0])
+        yield see(f"{name}: rows at once", CONVERSATION, pipe.rows(2))
+        for it in range(len(parts[1])):
+            pipe.give(parts[1][it : it + 1])
+        yield see(f"{name}: rows of packets that come octet by octet", wanted, pipe.rows(4))
+        pipe.give(parts[2])
+        yield see(f"{name}: its end", (wanted, [], 0), pipe.end())
+    ends = {"ends": (("192.0.2.1", 40001), CENTRE)}, {"ends": (CENTRE, ("192.0.2.1", 40001))}
+    pipe = Pipe(WORDS)
+    pipe.give(pcap([*handshake(), client(2, b"cd"), client(-1, b"ab", SYN, **ends[0]), centre(-1, b"x", SYN | ACK, **ends[1])]))
+    wanted = [row("client", 1030, b"ab", 2), row("centre", 1040, b"x", 2)]
+    yield see("rows of another connection than that with a gap", wanted, pipe.rows(2))
+    pipe.end()
+    pipe = Pipe(STRICT)
+    pipe.give(pcap([*handshake(), client(2, b"cd"), centre(0, b"x")]))
+    yield see("rows of the other direction, where nothing goes on behind a gap", [row("centre", 1030, b"x")], pipe.rows(1))
+    pipe.end()
+
+
+def ticks_differ():
+    """Yields whether rows of the clock and questions differ while no packet comes."""
+    pipe = Pipe(WORDS + " --every 0.2 --ask link")
+    yield see("questions before the first packet", ["ask,link"] * 2, pipe.rows(2)[:2])
+    pipe.give(pcap(conversation()))
+    count = len(pipe.rows(1))
+    found = pipe.rows(count + 12)
+    pieces = [it for it in found if it.startswith("piece")]
+    yield see("rows beside the clock", CONVERSATION, pieces)
+    behind = found[found.index(pieces[-1]) + 1 :][:6] if pieces else []
+    wanted = [it for clock in (1200, 1400, 1600) for it in (f"clock,{clock}", "ask,link")]
+    yield see("the clock goes on from the newest packet", wanted, behind)
+    rows, lines, status = pipe.end()
+    yield see("a question at the end", (rows[-1:], [], 0), (["ask,link"], lines, status))
+    # (a gap that is acknowledged is given up after 2 s)
+    pdu = struct.pack(">4I", 16, 0x15, 0, 1)
+    pipe = Pipe(WORDS + " --every 0.5")
+    pipe.give(pcap([*handshake(), client(0, pdu), client(32, pdu), centre(0, b"", acknowledged=48)]))
+    wanted = [row("client", 1020, pdu), row("client", 1030, pdu, 2)]
+    # (with the six clocks that come by then)
+    yield see("a gap is given up while no packet comes", wanted, [it for it in pipe.rows(8) if it.startswith("piece")])
+    pipe.end()
