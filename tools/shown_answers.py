@@ -60,6 +60,23 @@ def tool(name, *words, **more):
     return started(sys.executable, f"{TOOLS}/{name}", *words, **more)
 
 
+def give(process, octets):
+    """Gives a process octets; where it has ended, that is seen by its status."""
+    try:
+        process.stdin.write(octets)
+    except BrokenPipeError:
+        pass
+
+
+def status_of(process):
+    """Returns the status with which a process ends soon."""
+    try:
+        return process.wait(SOON)
+    except subprocess.TimeoutExpired:
+        process.kill()
+        return "no end"
+
+
 def until(is_so):
     """Calls until what it returns is so, or some seconds have passed; returns the last."""
     end = time.monotonic() + SOON
@@ -143,17 +160,20 @@ class Served:
         self.url = told[0].partition("serve: ")[2] if told else ""
 
     def get(self, path, method="GET"):
-        """Returns the status, the content's type and the content of a page."""
+        """Returns the status, the content's type and the content of a page; where it has ended, nothing."""
         end = urllib.parse.urlsplit(self.url)
         connection = http.client.HTTPConnection(end.hostname, end.port, timeout=SOON)
-        connection.request(method, path)
-        answer = connection.getresponse()
-        found = answer.status, answer.getheader("Content-Type"), answer.read().decode()
-        connection.close()
-        return found
+        try:
+            connection.request(method, path)
+            answer = connection.getresponse()
+            return answer.status, answer.getheader("Content-Type"), answer.read().decode()
+        except OSError:
+            return 0, "", ""
+        finally:
+            connection.close()
 
     def give(self, text):
-        self.process.stdin.write(text.encode())
+        give(self.process, text.encode())
 
     def metrics(self):
         return parsed(self.get("/metrics")[2])
@@ -165,8 +185,7 @@ class Served:
     def end(self):
         """Ends the input; returns the status and what was told."""
         self.process.stdin.close()
-        status = self.process.wait(SOON)
-        return status, self.process.stderr.read().decode()
+        return status_of(self.process), self.process.stderr.read().decode()
 
 
 def see_pages(count):
@@ -283,6 +302,7 @@ def see_ends(count):
                 ("another list than was asked for", "list,open,3,client,1\ntold,1,lapsed,0,0\n", into, (2, [bad.format(2)])),
                 ("told of no name", "told,1,links,0,0\n", into, (2, [bad.format(1)])),
                 ("told of three fields", "told,1,link\n", into, (2, [bad.format(1)])),
+                ("a clock past the last", "told,1,link,4102444800001,0\n", into, (2, [bad.format(1)])),
                 ("no ASCII", "view,link,\u00e4,open,1\n", into, (2, [bad.format(1)])),
                 ("a folder that isn't there", FIRST, ("--into", f"{room}/none/smq.prom"), (
                     1, [f"serve: [Errno 2] No such file or directory: '{room}/none/smq.prom.PID'"])),
