@@ -197,9 +197,9 @@ def tell_stream(label, link, sender, stream, told):
         told.lost(f"{label}: octets from the {sender} before a PDU was seen to begin, not written: {stream.unused}")
     for name, what, is_loss in NOTES:
         packets = getattr(stream, name)
-        if packets:
+        if packets.count:
             tell = told.lost if is_loss else told.note
-            tell(f"{label}: {what}: {len(packets)} from the {sender}, the first is packet {packets[0]}")
+            tell(f"{label}: {what}: {packets.count} from the {sender}, the first is packet {packets.first}")
 
 
 class Sessions:

@@ -99,6 +99,16 @@ class Framer:
         return place if place < len(octets) else None
 
 
+class Noted:
+    """Packets that something is told of: how many, and the number of the first."""
+
+    def __init__(self):
+        self.count, self.first = 0, None
+
+    def add(self, number):
+        self.count, self.first = self.count + 1, number if self.first is None else self.first
+
+
 # A part of a stream. begins: whether it begins as its segment did; number, moment: of its packet
 Part = collections.namedtuple("Part", "octets begins number moment")
 
@@ -120,8 +130,8 @@ class Stream:
         self.framer, self.moment = Framer(), 0
         # the session of the rows, and the one from the next PDU on, if it is another
         self.session, self.following = None, None
-        # the numbers of packets, as NOTES says of them, and the gaps that were given up: from, to
-        self.early, self.fragments, self.cut, self.raised, self.gaps = [], [], [], [], []
+        # packets, as NOTES says of them, and the gaps that were given up
+        self.early, self.fragments, self.cut, self.raised, self.gaps = Noted(), Noted(), Noted(), Noted(), []
 
     def offset(self, sequence):
         """Returns the offset of a sequence number, the nearest to what was written."""
@@ -164,13 +174,13 @@ class Stream:
         offset = self.offset(segment.sequence + (segment.flags & SYN != 0))
         # (one octet before the next is a probe that keeps the connection alive)
         if offset + segment.length < 0:
-            self.early.append(packet.number)
+            self.early.add(packet.number)
         self.end = max(self.end, offset + segment.length)
         if segment.is_fragment:
-            self.fragments.append(packet.number)
+            self.fragments.add(packet.number)
             return
         if len(segment.octets) < segment.length:
-            self.cut.append(packet.number)
+            self.cut.add(packet.number)
         self.hold(offset, Part(segment.octets, True, packet.number, packet.moment))
 
     def hold(self, offset, part):
@@ -252,6 +262,6 @@ class Stream:
     def raise_moment(self, number, moment):
         """Returns the moment of a packet, or the last one where that is later."""
         if moment < self.moment:
-            self.raised.append(number)
+            self.raised.add(number)
         self.moment = max(self.moment, moment)
         return self.moment
