@@ -52,6 +52,7 @@ def made(moment, octets, sender="client", at=0, session=5, link=7):
 
 
 ONE, TWO, ANSWER = submit(1), submit(2), response(1)
+GREATEST = pdu(ENQUIRE_LINK, 1, bytes(131_072 - 16))
 LINK_TEST, TESTED = pdu(ENQUIRE_LINK, 1), pdu(ENQUIRE_LINK + RESPONSE, 1)
 NOTHING_READ = "by-hour: row {} can't be read (tools/check-script tells why)"
 # a name, what is kept, rows, the rows of periods of 10 s, what is told, the status
@@ -85,6 +86,7 @@ CASES = (
      [piece(1_000, ONE + bytes(3)), piece(2_000, b"\x0fabc"), piece(3_000, TWO), piece(11_000, TWO), piece(20_000, b"x"),
       piece(21_000, TWO)],
      [made(1_000, ONE), made(2_000, b"\0\0\0\x0f"), "withdraw,5000000000", made(20_000, b"\0\0\0\x0f", at=1)], [], 0),
+    ("the greatest length", 0, [piece(1_000, GREATEST + ONE[:2])], [made(1_000, GREATEST), made(1_000, ONE[:2])], [], 0),
     ("a length past the last", 0, [piece(1_000, struct.pack(">I", 131_073)), piece(2_000, ANSWER, "centre")],
      [made(1_000, struct.pack(">I", 131_073)), made(2_000, ANSWER, "centre")], [], 0),
     ("sessions are withdrawn before the row that brings the period", 1,
