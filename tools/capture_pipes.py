@@ -102,18 +102,30 @@ def pipes_differ():
     pipe.end()
 
 
+def goes_on(rows, moment, passed):
+    """Whether rows are three clocks or more, each with a question: they rise by 200 ms, or several at once, by no more than has
+    passed since a moment."""
+    clocks = [int(it[6:]) for it in rows if it.startswith("clock,")]
+    pairs = [it for clock in clocks for it in (f"clock,{clock}", "ask,link")]
+    return (len(clocks) > 2 and rows in (pairs, pairs[:-1]) and all(it % 200 == 0 for it in clocks)
+            and [moment, *clocks] == sorted({moment, *clocks}) and clocks[-1] <= moment + passed)
+
+
 def ticks_differ():
     """Yields whether rows of the clock and questions differ while no packet comes."""
     pipe = Pipe(WORDS + " --every 0.2 --ask link")
     yield see("questions before the first packet", ["ask,link"] * 2, pipe.rows(2)[:2])
-    pipe.give(pcap(conversation()))
-    count = len(pipe.rows(1))
-    found = pipe.rows(count + 12)
-    pieces = [it for it in found if it.startswith("piece")]
-    yield see("rows beside the clock", CONVERSATION, pieces)
-    behind = found[found.index(pieces[-1]) + 1 :][:6] if pieces else []
-    wanted = [it for clock in (1200, 1400, 1600) for it in (f"clock,{clock}", "ask,link")]
-    yield see("the clock goes on from the newest packet", wanted, behind)
+    pipe.give(pcap([]))
+    for name, records, rows, moment in (
+            ("the clock goes on from the newest packet", pcap(conversation())[24:], CONVERSATION, 1_030),
+            ("and anew from one that comes", pcap([(9_000, client(2, b"fg"))])[24:], [row("client", 9_000, b"fg")], 9_000)):
+        count, begun = len(pipe.rows(0)), time.monotonic()
+        pipe.give(records)
+        found = pipe.rows(count + 12)[count:]
+        passed = (time.monotonic() - begun) * 1000
+        last = found.index(rows[-1]) if rows[-1] in found else -1
+        yield see(f"{name}: rows", rows, [it for it in found if it.startswith("piece")])
+        yield see(f"{name}, with questions", True, goes_on(found[last + 1 :], moment, passed))
     rows, lines, status = pipe.end()
     yield see("a question at the end", (rows[-1:], [], 0), (["ask,link"], lines, status))
     # (a gap that is acknowledged is given up after 2 s)

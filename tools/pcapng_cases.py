@@ -15,7 +15,7 @@ def pcapng_cases():
         for fractions, told_by in ((10**9, 9), (10**3, 3), (2**10, 0x8A), (2**40, 0xA8)):
             options = option(9, bytes([told_by]), order)
             yield f"pcapng, {order_name}, fractions of {fractions}", pcapng(frames, fractions, options, order), CONVERSATION
-    offset = option(2, b"an interface") + option(14, struct.pack("<q", 86_400)) + option(9, b"\x03")
+    offset = option(2, b"interface 0") + option(14, struct.pack("<q", 86_400)) + option(9, b"\x03")
     later = [row("client", 86_401_020, b"ab"), row("centre", 86_401_030, b"cde")]
     yield "pcapng, an offset of a day", pcapng(frames, 1000, offset), later
     back = option(14, struct.pack(">q", -1), ">")
