@@ -10,7 +10,7 @@ ghost use Rattle.smq_engine.specs.IsRun.{IsRun, TellsRun, WasRead};
 ghost use Rattle.smq_engine.specs.Play.{present_of, refused_of};
 
 use crate::RunFault;
-use crate::play::play;
+use crate::play::play_rows;
 use smq_book::{PlainBook, Tables};
 use smq_kit::Refusal;
 use smq_load::{Row, read_script, read_settings};
@@ -93,8 +93,8 @@ fn play_both(
     ensures refused { IfOk result (λ refused.
         refused.items ≡ refused_of settings_rows.items rows.items) }
 {
-    play(alloc, book, settings_rows)?;
-    let refused = play(alloc, book, rows)?;
+    play_rows(alloc, book, settings_rows)?;
+    let refused = play_rows(alloc, book, rows)?;
     Ok(refused)
 }
 

@@ -7,21 +7,22 @@ ghost use Rattle.smq_book.specs.present.Steps.{step};
 ghost use Rattle.smq_engine.specs.Play.{after_row, after_rows, refusal_of, refused_rows, told};
 ghost use Rattle.smq_load.specs.declared.row.Row.TheVariants.{Piece};
 
-use smq_book::{Batch, Edit, PieceRow, PlainBook, prepare};
+use crate::played_book::PlayedBook;
+use smq_book::{Batch, Edit, PieceRow, prepare};
 use smq_kit::Refusal;
 use smq_load::Row;
 use std::alloc::{AllocError, Global};
 
 /// Plays rows in order on a book, and gives the refused ones, each with its number, from 1.
-pub fn play(
+pub fn play_rows<B: PlayedBook>(
     alloc: Global,
-    book: &mut PlainBook,
+    book: &mut B,
     rows: Vec<Row>,
 ) -> Result<Vec<(u64, Refusal)>, AllocError>
     ensures present { OnOk result
-        (book.new.present ≡ after_rows book.old.present rows.items) }
+        (B.present book.new ≡ after_rows (B.present book.old) rows.items) }
     ensures refused { IfOk result (λ refused.
-        refused.items ≡ refused_rows book.old.present rows.items) }
+        refused.items ≡ refused_rows (B.present book.old) rows.items) }
 {
     let mut refused = Vec::new(alloc);
     let mut number = 0u64;
@@ -33,35 +34,46 @@ pub fn play(
 }
 
 /// Plays a row, and notes its refusal.
-fn play_next(
+fn play_next<B: PlayedBook>(
     alloc: Global,
-    book: &mut PlainBook,
+    book: &mut B,
     refused: &mut Vec<(u64, Refusal)>,
     number: u64,
     row: Row,
 ) -> Result<(), AllocError>
-    ensures present { OnOk result (book.new.present ≡ after_row book.old.present row) }
+    ensures present { OnOk result (B.present book.new ≡ after_row (B.present book.old) row) }
     ensures noted { OnOk result
-        (refused.new.items ≡ refused.old.items ++ told number (refusal_of book.old.present row)) }
+        (refused.new.items ≡ refused.old.items ++ told number (refusal_of (B.present book.old) row)) }
 {
-    let refusal = match row {
-        Row::Piece(piece) => play_piece(alloc, book, piece)?,
-        Row::Plain(edit) => make(book, edit)?,
-    };
-    if let Some(refusal) = refusal {
+    if let Some(refusal) = play_row(alloc, book, row)? {
         refused.push((number, refusal))?;
     }
     Ok(())
 }
 
-/// Puts a piece's octets after their direction, unless it is refused.
-fn play_piece(
+/// Plays a row, and gives its refusal, if it is refused. Errors: memory ran out.
+pub fn play_row<B: PlayedBook>(
     alloc: Global,
-    book: &mut PlainBook,
+    book: &mut B,
+    row: Row,
+) -> Result<Option<Refusal>, AllocError>
+    ensures { IfOk result (λ refusal. (refusal ≡ refusal_of (B.present book.old) row)
+        × (B.present book.new ≡ after_row (B.present book.old) row)) }
+{
+    match row {
+        Row::Piece(piece) => play_piece(alloc, book, piece),
+        Row::Plain(edit) => make(book, edit),
+    }
+}
+
+/// Puts a piece's octets after their direction, unless it is refused.
+fn play_piece<B: PlayedBook>(
+    alloc: Global,
+    book: &mut B,
     row: PieceRow,
 ) -> Result<Option<Refusal>, AllocError>
-    ensures { IfOk result (λ refusal. (refusal ≡ refusal_of book.old.present (Piece row))
-        × (book.new.present ≡ after_row book.old.present (Piece row))) }
+    ensures { IfOk result (λ refusal. (refusal ≡ refusal_of (B.present book.old) (Piece row))
+        × (B.present book.new ≡ after_row (B.present book.old) (Piece row))) }
 {
     let tail = book.tail(row.session, row.dir);
     let PieceRow {
@@ -78,21 +90,21 @@ fn play_piece(
 }
 
 /// Puts a batch after the direction on whose tail it was prepared, unless it is refused.
-fn put(book: &mut PlainBook, batch: Batch) -> Result<Option<Refusal>, AllocError>
-    requires { batch.tail ≡ tail_in book.old.present batch.session.0 batch.dir }
-    ensures { IfOk result (λ refusal. (refusal ≡ reply book.old.present (Append batch))
-        × (book.new.present ≡ step book.old.present (Append batch))) }
+fn put<B: PlayedBook>(book: &mut B, batch: Batch) -> Result<Option<Refusal>, AllocError>
+    requires { batch.tail ≡ tail_in (B.present book.old) batch.session.0 batch.dir }
+    ensures { IfOk result (λ refusal. (refusal ≡ reply (B.present book.old) (Append batch))
+        × (B.present book.new ≡ step (B.present book.old) (Append batch))) }
 {
-    match book.append_in_step(batch) {
+    match book.append(batch) {
         Ok(()) => Ok(None),
         Err(refusal) => unless_memory(refusal),
     }
 }
 
 /// Makes an edit, unless it is refused.
-fn make(book: &mut PlainBook, edit: Edit) -> Result<Option<Refusal>, AllocError>
-    ensures { IfOk result (λ refusal. (refusal ≡ reply book.old.present edit)
-        × (book.new.present ≡ step book.old.present edit)) }
+fn make<B: PlayedBook>(book: &mut B, edit: Edit) -> Result<Option<Refusal>, AllocError>
+    ensures { IfOk result (λ refusal. (refusal ≡ reply (B.present book.old) edit)
+        × (B.present book.new ≡ step (B.present book.old) edit)) }
 {
     match book.apply(edit) {
         Ok(()) => Ok(None),

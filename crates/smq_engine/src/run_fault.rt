@@ -7,10 +7,10 @@ use smq_report::ReportFault;
 use std::alloc::AllocError;
 use std::fmt;
 
-/// Why a script wasn't run, or not checked.
+/// Why a script wasn't run or not checked, or why records are followed no more.
 #[derive(Clone, Copy, Debug, PartialEq, Eq)]
 pub enum RunFault {
-    /// A record says no row, or is the record after 1,000,000; the least number of such a record, from 1.
+    /// A record says no row, or is the record after 1,000,000 of a script; the least number of such a record, from 1.
     BadRow { row: u64 },
     /// The octets are no settings.
     BadSettings,

@@ -38,3 +38,10 @@ pub record HasRead {R : Type 0} (remaining : R → Option (List ℕ)) (reader : 
   pub records : List (List (List ℕ))
   pub given : HasGiven remaining reader text records
   pub say_rows : SayRows records rows
+
+-- a fault of reading, which tells of no row
+abbrev pub IsUnread : LoadFault → Type 0
+IsUnread (BadRow row) = ⊥
+IsUnread BadSettings = ⊥
+IsUnread Read = ⊤
+IsUnread Memory = ⊤

@@ -14,6 +14,7 @@ mod script;
 mod settings;
 mod table;
 
+pub use field::is_word;
 pub use input::MOST_OCTETS;
 pub use laws::{
     faults_are_told_apart, known_decimals, known_fields, known_instants, known_limits,
@@ -21,7 +22,8 @@ pub use laws::{
 };
 pub use link_settings::MOST_LINKS;
 pub use load_fault::LoadFault;
+pub use record::read_row;
 pub use row::Row;
-pub use script::{MOST_RECORDS, read_script};
+pub use script::{MOST_RECORDS, read_record, read_script, record_reader};
 pub use settings::{MOST_SETTINGS, read_settings};
 pub use smq_book::PieceRow;

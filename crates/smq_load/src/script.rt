@@ -6,7 +6,7 @@ ghost use Rattle.std.specs.Io.KnownBytes.{IsAtEnd};
 ghost use Rattle.csv.specs.Reading.{error_kind, is_flexible};
 ghost use Rattle.csv.specs.Records.{fields_of};
 ghost use Rattle.smq_load.specs.Script.{AreRecordsOf, IfJudged, IsScript, Tells, may_have};
-ghost use Rattle.smq_load.specs.NextRecord.{AddsRow, HasGiven, HasRead, TellsNext};
+ghost use Rattle.smq_load.specs.NextRecord.{AddsRow, HasGiven, HasRead, IsUnread, TellsNext};
 
 use crate::input::{InputFault, read_whole};
 use crate::load_fault::LoadFault;
@@ -48,15 +48,24 @@ fn rows_of(alloc: Global, text: &[u8]) -> Result<Vec<Row>, LoadFault>
     read_rows(alloc, &mut reader, &mut fields)
 }
 
-/// A reader of the records of a text, the first of which is no header. Records may have any number of fields.
+/// A reader of the records of a text.
 fn reader_of(alloc: Global, text: &[u8]) -> Reader<&[u8]>
-    ensures start { HasRead (λ (octets : Bor (List ℕ)). Some octets.now) result text.now [] }
+    ensures { HasRead (λ (octets : Bor (List ℕ)). Some octets.now) result text.now [] }
+{
+    record_reader(alloc, text)
+}
+
+/// A reader of the records of what a source gives, the first of which is no header. Records may have any number of fields.
+/// Each is given as soon as its last octet was read.
+pub fn record_reader<R: Read>(alloc: Global, source: R) -> Reader<R>
+    ensures start { (text : List ℕ) → R.remaining source ≡ Some text
+        → HasGiven R.remaining result text [] }
     ensures any_length { is_flexible result ≡ true }
 {
     ReaderBuilder::new()
         .has_headers(false)
         .flexible(true)
-        .from_reader(alloc, text)
+        .from_reader(alloc, source)
 }
 
 /// The rows of a reader's records, each of which is read into the same fields.
@@ -121,8 +130,11 @@ fn expect_end<R: Read>(reader: &mut Reader<R>, fields: &mut ByteRecord) -> Resul
     Ok(())
 }
 
-/// The next record of a text, and whether there is one.
-fn read_record<R: Read>(reader: &mut Reader<R>, fields: &mut ByteRecord) -> Result<bool, LoadFault>
+/// The next record of a text, and whether there is one. Errors: `Read` where the source fails; `Memory`.
+pub fn read_record<R: Read>(
+    reader: &mut Reader<R>,
+    fields: &mut ByteRecord,
+) -> Result<bool, LoadFault>
     ensures found { (text : List ℕ) → (records : List (List (List ℕ)))
         → HasGiven R.remaining reader.old text records → IfOk result (λ found. found ≡ true
         → HasGiven R.remaining reader.new text (records ++ fields_of fields.new ∷ [])) }
@@ -130,6 +142,7 @@ fn read_record<R: Read>(reader: &mut Reader<R>, fields: &mut ByteRecord) -> Resu
         → HasGiven R.remaining reader.old text records → IfOk result (λ found. found ≡ false
         → AreRecordsOf text records) }
     ensures err { IfErr result (λ fault. (text : List ℕ) → Tells fault text) }
+    ensures unread { IfErr result IsUnread }
 {
     match reader.read_byte_record(fields) {
         Ok(found) => Ok(found),
@@ -142,6 +155,7 @@ fn fault_of(error: &Error) -> LoadFault
     ensures memory { error_kind error.now ≡ ErrorKind.OutOfMemory → result ≡ LoadFault.Memory }
     ensures read { error_kind error.now ≢ ErrorKind.OutOfMemory → result ≡ LoadFault.Read }
     ensures err { (text : List ℕ) → Tells result text }
+    ensures unread { IsUnread result }
 {
     match error.kind() {
         ErrorKind::OutOfMemory => LoadFault::Memory,

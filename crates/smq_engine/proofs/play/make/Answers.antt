@@ -2,8 +2,12 @@ use Rattle.smq_engine.proofs.PlayLemmas.{made_edit, refused_edit}
 use Rattle.smq_engine.proofs.play.make.Goals as goal
 
 pub returns-in-Ok : goal.returns-in-Ok
-returns-in-Ok c = made_edit (Unit {0}) tt c.args.book.now.present c.apply.new.self.present c.args.edit c.in-Ok.ensures
+returns-in-Ok g c =
+    let present = g.B.PlayedBook.present in
+    made_edit (Unit {0}) tt (present c.args.book.now) (present c.apply.new.self) c.args.edit c.in-Ok.ensures
 
 pub returns-in-Err : goal.returns-in-Err
-returns-in-Err c = refused_edit (Unit {0}) c.in-Err.refusal c.args.book.now.present c.apply.new.self.present c.args.edit
+returns-in-Err g c =
+    let present = g.B.PlayedBook.present in
+    refused_edit (Unit {0}) c.in-Err.refusal (present c.args.book.now) (present c.apply.new.self) c.args.edit
     c.unless_memory.result c.in-Err.ensures c.unless_memory.ensures
