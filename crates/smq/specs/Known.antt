@@ -3,7 +3,7 @@ use Rattle.std.specs.Prelude.{◌≡◌, ℕ, true, false, [], ◌∷◌}
 use Rattle.smq_kit.specs.declared.refusal.Refusal.TheVariants as refusal
 use Rattle.smq_engine.specs.declared.run_fault.RunFault.TheVariants as run_fault
 use Rattle.smq.specs.declared.status.TheConstants.{DONE, REFUSED, BAD_INPUT, FAULT, NO_MEMORY}
-use Rattle.smq.specs.Statuses.{bad_words_status, check_status, fault_status, run_status}
+use Rattle.smq.specs.Statuses.{bad_words_status, check_status, fault_status, follow_status, run_status}
 
 -- the status of each end of the program, and of each fault
 pub record KnowsStatuses : Type 0 where
@@ -25,3 +25,5 @@ pub record KnowsStatuses : Type 0 where
   pub same : check_status (record { same = true; entries = 67; refused = 0 }) ≡ 0
   pub same_but_refused : check_status (record { same = true; entries = 67; refused = 1 }) ≡ 1
   pub different : check_status (record { same = false; entries = 67; refused = 0 }) ≡ 1
+  pub followed : follow_status (record { refused = 0 }) ≡ 0
+  pub followed_but_refused : follow_status (record { refused = 2 }) ≡ 1

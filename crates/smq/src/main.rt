@@ -1,4 +1,5 @@
-//! Plays a script of captured pieces, and reports what became of the messages, or checks the tables of it.
+//! Plays a script of captured pieces, and reports what became of the messages, checks the tables of it, or answers questions among
+//! its rows as they come.
 #![tactic(auto)]
 
 ghost use Rattle.std.specs.IoError.{error_kind};
@@ -7,16 +8,20 @@ ghost use Rattle.std.specs.declared.io.ErrorKind.TheVariants as io_kind;
 ghost use Rattle.clap.specs.Words.{kind_of};
 ghost use Rattle.smq.specs.Statuses.{bad_words_status, fault_status, run_status};
 
+mod error_lines;
 mod laws;
 mod status;
 
 use clap::error::ErrorKind;
+use error_lines::ErrorLines;
 use smq_desk::NoGate;
 use smq_engine::{Checked, Ran, RunFault, check, run};
+use smq_follow::{Followed, follow};
 use smq_kit::Refusal;
 use smq_load::MOST_SETTINGS;
+use smq_report::Format;
 use smq_words::{Order, Query, order, own_words};
-use status::{BAD_INPUT, DONE, FAULT, check_status, fault_status, ran_status};
+use status::{BAD_INPUT, DONE, FAULT, check_status, fault_status, followed_status, ran_status};
 use std::io::Read;
 use std::process::ExitCode;
 use std::rt::{Env, Files};
@@ -43,6 +48,10 @@ fn obey<R: Env + Files + Input + Print + Eprint + AllocGlobal + Threads + Wait +
         },
         Ok(Order::Check { settings }) => match read_settings_at(rt, settings) {
             Ok(settings) => tell_check(rt, settings.as_slice()),
+            Err(fault) => fail(rt, fault),
+        },
+        Ok(Order::Follow { format, settings }) => match read_settings_at(rt, settings) {
+            Ok(settings) => tell_follow(rt, format, settings.as_slice()),
             Err(fault) => fail(rt, fault),
         },
         Err(error) => refuse(rt, &error),
@@ -156,6 +165,35 @@ fn play_and_compare<R: Input + Print + AllocGlobal + Threads + Wait + Sync>(
     settings: &[u8],
 ) -> Result<Checked, RunFault> {
     check(rt, &mut rt.reader(), settings, &mut io::writer(rt), &NoGate)
+}
+
+/// Plays rows after the settings as they come, and answers what is asked among them.
+fn tell_follow<R: Input + Print + Eprint + AllocGlobal>(
+    rt: &R,
+    format: Format,
+    settings: &[u8],
+) -> u8 {
+    match play_and_answer(rt, format, settings) {
+        Ok(followed) => followed_status(followed),
+        Err(fault) => fail(rt, fault),
+    }
+}
+
+/// Plays rows after the settings as they come, and writes the answers to what is asked among them. A refused row is told at once. What
+/// `follow` promises of it ends here, too.
+fn play_and_answer<R: Input + Print + Eprint + AllocGlobal>(
+    rt: &R,
+    format: Format,
+    settings: &[u8],
+) -> Result<Followed, RunFault> {
+    follow(
+        rt,
+        &mut rt.reader(),
+        settings,
+        format,
+        &mut io::writer(rt),
+        &mut ErrorLines::new(rt),
+    )
 }
 
 /// Tells why the script wasn't run or checked, or that help couldn't be written, and gives the status.

@@ -1,8 +1,9 @@
 //! The statuses with which the program ends.
 ghost use Rattle.std.specs.Prelude.{◌≡◌};
-ghost use Rattle.smq.specs.Statuses.{check_status, fault_status, run_status};
+ghost use Rattle.smq.specs.Statuses.{check_status, fault_status, follow_status, run_status};
 
 use smq_engine::{Checked, RunFault};
+use smq_follow::Followed;
 use smq_kit::Refusal;
 
 /// No row was refused, or help or the version was told.
@@ -36,6 +37,13 @@ pub fn check_status(checked: Checked) -> u8
     } else {
         REFUSED
     }
+}
+
+/// The status of records that were followed to their end, by how many rows were refused.
+pub fn followed_status(followed: Followed) -> u8
+    ensures { result ≡ follow_status followed }
+{
+    if followed.refused == 0 { DONE } else { REFUSED }
 }
 
 /// The status of a fault, whether or not the fault can be told.

@@ -1,4 +1,4 @@
--- The order that `clap` takes: words in which it finds no fault enter `report`, `query` or `check`, with what each asks for.
+-- The order that `clap` takes: words in which it finds no fault enter `report`, `query`, `check` or `follow`, with what each asks for.
 use Rattle.std.proofs.Common.{◌≡◌, ◌∙◌, ◌||◌, ◌&&◌, ℕ, Bool, true, false, cond, List, [], ◌∷◌, ◌++◌, map, Option, Some, None, ◌⊎◌, inl, inr, refl, sym, ap, ap₂, subst, codes}
 use Rattle.std.specs.Prelude.{fold, is_some, not, option_map, string_bytes, unwrap_or}
 use Rattle.std.specs.Borrow.{Bor}
@@ -27,10 +27,10 @@ use Rattle.smq_report.specs.declared.pick.Format.{Format}
 use Rattle.smq_report.specs.declared.pick.Format.TheVariants as format
 use Rattle.smq_report.specs.declared.pick.Pick.{Pick}
 use Rattle.smq_report.specs.declared.pick.Pick.TheVariants as pick
-use Rattle.smq_words.specs.Words.{Asks, AsksFor, AsksToCheck, TakesNames, check_app, format_name, format_names, format_rule, name_rule, pick_name, pick_names, program, query_app, report_app, settings_rule, subcommand_name}
+use Rattle.smq_words.specs.Words.{Asks, AsksFor, AsksToCheck, AsksToFollow, TakesNames, check_app, follow_app, format_name, format_names, format_rule, name_rule, pick_name, pick_names, program, query_app, report_app, settings_rule, subcommand_name}
 use Rattle.smq_words.specs.declared.orders.Order.{Order}
-use Rattle.smq_words.specs.declared.orders.Order.TheVariants.{Check, Run}
-use Rattle.smq_words.specs.within.Orders.{IsCheckOf, IsRunOf}
+use Rattle.smq_words.specs.declared.orders.Order.TheVariants.{Check, Follow, Run}
+use Rattle.smq_words.specs.within.Orders.{IsCheckOf, IsFollowOf, IsRunOf}
 use Rattle.smq_words.proofs.LevelLemmas.{IfHas, Keeps, first_fit, given_fit, help_keeps, level_fit, neither, set_keeps, set_once, some_kind}
 
 -- ---- names
@@ -134,6 +134,9 @@ query_built names formats = built_leaf (record (query_app names formats).top { n
 abbrev check_built : Shape
 check_built = built_leaf (record check_app.top { no_binary_name = true })
 
+abbrev follow_built : ValueParser → Shape
+follow_built formats = built_leaf (record (follow_app formats).top { no_binary_name = true })
+
 of_known : (P Q : Text → Type 0) → ((v : Text) → P v → Q v) → (o : Option Text) → IfHas P o → IfHas Q o
 of_known P Q f None h = tt
 of_known P Q f (Some v) h = f v h
@@ -150,9 +153,13 @@ format_known (Some v) h = (h.0, sym h.1)
 abbrev AsksSome : Option (Text × List Row) → Type 0
 AsksSome entered = (query : Query) × (path : Option Text) × AsksFor entered query path
 
+-- words ask to follow
+abbrev AsksSomeFollow : Option (Text × List Row) → Type 0
+AsksSomeFollow entered = (format : Format) × (path : Option Text) × AsksToFollow entered format path
+
 -- what words ask for is known
 abbrev pub Asked : Option (Text × List Row) → Type 0
-Asked entered = AsksSome entered ⊎ ((path : Option Text) × AsksToCheck entered path)
+Asked entered = AsksSome entered ⊎ (((path : Option Text) × AsksToCheck entered path) ⊎ AsksSomeFollow entered)
 
 report_asked : (formats : ValueParser) → TakesNames format_names formats → (words : List Text)
     → level_fault (report_built formats) [] nothing_held words false [] ≡ [] → AsksSome (Some (rows_at (report_built formats) words))
@@ -216,7 +223,19 @@ query_asked names formats takes_names takes_formats words clean =
 check_asked : (words : List Text) → Asked (Some (rows_at check_built words))
 check_asked words =
     let rows = rows_after check_built.rules [] words in
-    inr (first_of (codes "settings") rows, record { rows = rows; enters = refl; has_path = refl })
+    inr (inl (first_of (codes "settings") rows, record { rows = rows; enters = refl; has_path = refl }))
+
+follow_asked : (formats : ValueParser) → TakesNames format_names formats → (words : List Text)
+    → level_fault (follow_built formats) [] nothing_held words false [] ≡ [] → Asked (Some (rows_at (follow_built formats) words))
+follow_asked formats takes words clean =
+    let rows = rows_after (follow_built formats).rules [] words in
+    let fit = (level_fit (Known (λ v. ⊥)) (follow_built formats)
+    (format_keeps _ formats takes, (settings_keeps _, (help_keeps _ (filled help_rule), tt))) (refl, (refl, (refl, tt))) words
+    clean).0 in
+    let shape = format_known (first_of (codes "format") rows)
+    (of_known (Known (λ v. ⊥) (codes "format")) IsFormatName (λ v h. h.1 refl) _
+    (first_fit (Known (λ v. ⊥)) (codes "format") rows fit)) in
+    inr (inr (shape.0, first_of (codes "settings") rows, record { rows = rows; enters = refl; has_format = shape.1; has_path = refl }))
 
 -- ---- the subcommand: it is no `help`, which is refused with help
 
@@ -317,11 +336,12 @@ walk_stops names formats ns (word ∷ words) w clean stops =
 -- ---- the words of the program
 
 -- the subcommand that a word names, by a test of each
-abbrev named_by : ValueParser → ValueParser → Bool → Bool → Bool → Bool → Option Shape
-named_by names formats report query check help =
+abbrev named_by : ValueParser → ValueParser → Bool → Bool → Bool → Bool → Bool → Option Shape
+named_by names formats report query check follow help =
     cond (report || false) (Some (report_built formats))
     (cond (query || false) (Some (query_built names formats))
-    (cond (check || false) (Some check_built) (cond (help || false) (Some (built_leaf help_shape)) None)))
+    (cond (check || false) (Some check_built)
+    (cond (follow || false) (Some (follow_built formats)) (cond (help || false) (Some (built_leaf help_shape)) None))))
 
 -- what a subcommand makes of the words after its name
 abbrev entered_at : List Text → Option Shape → Option (Text × List Row)
@@ -334,17 +354,19 @@ missing : (names formats : ValueParser) (rows : List Row) → check_fault (top_b
 missing names formats rows clean = some_kind {k = kind.MissingSubcommand} {ks = []} clean
 
 by_name : (names formats : ValueParser) → TakesNames pick_names names → TakesNames format_names formats
-    → (words : List Text) (rows : List Row) (report query check help : Bool)
-    → help ≡ false → below_fault words (named_by names formats report query check help) ≡ []
-    → check_fault (top_built names formats) rows (is_some (entered_at words (named_by names formats report query check help))) ≡ []
-    → Asked (entered_at words (named_by names formats report query check help))
-by_name names formats takes_names takes_formats words rows true query check help h clean checks =
+    → (words : List Text) (rows : List Row) (report query check follow help : Bool)
+    → help ≡ false → below_fault words (named_by names formats report query check follow help) ≡ []
+    → check_fault (top_built names formats) rows (is_some (entered_at words (named_by names formats report query check follow help))) ≡ []
+    → Asked (entered_at words (named_by names formats report query check follow help))
+by_name names formats takes_names takes_formats words rows true query check follow help h clean checks =
     inl (report_asked formats takes_formats words clean)
-by_name names formats takes_names takes_formats words rows false true check help h clean checks =
+by_name names formats takes_names takes_formats words rows false true check follow help h clean checks =
     inl (query_asked names formats takes_names takes_formats words clean)
-by_name names formats takes_names takes_formats words rows false false true help h clean checks = check_asked words
-by_name names formats takes_names takes_formats words rows false false false true h clean checks = cc
-by_name names formats takes_names takes_formats words rows false false false false h clean checks =
+by_name names formats takes_names takes_formats words rows false false true follow help h clean checks = check_asked words
+by_name names formats takes_names takes_formats words rows false false false true help h clean checks =
+    follow_asked formats takes_formats words clean
+by_name names formats takes_names takes_formats words rows false false false false true h clean checks = cc
+by_name names formats takes_names takes_formats words rows false false false false false h clean checks =
     absurd (missing names formats rows checks)
 
 by_stop : (names formats : ValueParser) → TakesNames pick_names names → TakesNames format_names formats
@@ -354,7 +376,7 @@ by_stop : (names formats : ValueParser) → TakesNames pick_names names → Take
 by_stop names formats takes_names takes_formats rows None no_help clean checks = absurd (missing names formats rows checks)
 by_stop names formats takes_names takes_formats rows (Some p) no_help clean checks =
     by_name names formats takes_names takes_formats p.1 rows (bytes_eq (codes "report") p.0) (bytes_eq (codes "query") p.0)
-    (bytes_eq (codes "check") p.0) (bytes_eq (codes "help") p.0)
+    (bytes_eq (codes "check") p.0) (bytes_eq (codes "follow") p.0) (bytes_eq (codes "help") p.0)
     (not_named (bytes_eq (codes "help") p.0) refl) clean checks
   where
     not_named : (b : Bool) → bytes_eq (codes "help") p.0 ≡ b → b ≡ false
@@ -389,6 +411,14 @@ pub check_rows : (name : Text) (rows : List Row) (path : Option Text) → AsksTo
     → first_of (codes "settings") rows ≡ path
 check_rows name rows path asks = ap (λ e. first_of (codes "settings") (rows_in e)) asks.enters ∙ asks.has_path
 
+-- where they ask to follow
+pub follow_rows : (name : Text) (rows : List Row) (format : Format) (path : Option Text) → AsksToFollow (Some (name, rows)) format path
+    → (unwrap_or (first_of (codes "format") rows) (codes "csv") ≡ format_name format) × (first_of (codes "settings") rows ≡ path)
+follow_rows name rows format path asks = (
+  ap (λ e. unwrap_or (first_of (codes "format") (rows_in e)) (codes "csv")) asks.enters ∙ asks.has_format,
+  ap (λ e. first_of (codes "settings") (rows_in e)) asks.enters ∙ asks.has_path,
+)
+
 -- and where they ask for a run
 pub run_rows : (name : Text) (rows : List Row) (query : Query) (path : Option Text) → AsksFor (Some (name, rows)) query path
     → (first_of (codes "NAME") rows ≡ pick_name query.pick)
@@ -413,17 +443,30 @@ run_asks : (entered : Option (Text × List Row)) (query : Query) (path : Option 
 run_asks entered query path (Run asked settings) asks is =
     subst (λ q. AsksFor entered q (option_map string_bytes settings)) (sym is.0) (subst (λ p. AsksFor entered query p) (sym is.1) asks)
 run_asks entered query path (Check settings) asks is = absurd is
+run_asks entered query path (Follow format settings) asks is = absurd is
 
 -- a check for which words ask
 check_asks : (entered : Option (Text × List Row)) (path : Option Text) (order : Order) → AsksToCheck entered path
     → IsCheckOf path order → Asks entered order
 check_asks entered path (Run query settings) asks is = absurd is
 check_asks entered path (Check settings) asks is = subst (λ p. AsksToCheck entered p) (sym is) asks
+check_asks entered path (Follow format settings) asks is = absurd is
+
+-- a follow for which words ask
+follow_asks : (entered : Option (Text × List Row)) (format : Format) (path : Option Text) (order : Order) → AsksToFollow entered format path
+    → IsFollowOf format path order → Asks entered order
+follow_asks entered format path (Run query settings) asks is = absurd is
+follow_asks entered format path (Check settings) asks is = absurd is
+follow_asks entered format path (Follow asked settings) asks is =
+    subst (λ f. AsksToFollow entered f (option_map string_bytes settings)) (sym is.0) (subst (λ p. AsksToFollow entered format p) (sym is.1) asks)
 
 -- an order of what words ask for
 pub order_asks : (entered : Option (Text × List Row)) (order : Order) → Asked entered
     → ((query : Query) → (path : Option Text) → AsksFor entered query path → IsRunOf query path order)
-    → ((path : Option Text) → AsksToCheck entered path → IsCheckOf path order) → Asks entered order
-order_asks entered order (inl asked) runs checks =
+    → ((path : Option Text) → AsksToCheck entered path → IsCheckOf path order)
+    → ((format : Format) → (path : Option Text) → AsksToFollow entered format path → IsFollowOf format path order) → Asks entered order
+order_asks entered order (inl asked) runs checks follows =
     run_asks entered asked.0 asked.1 order asked.2 (runs asked.0 asked.1 asked.2)
-order_asks entered order (inr asked) runs checks = check_asks entered asked.0 order asked.1 (checks asked.0 asked.1)
+order_asks entered order (inr (inl asked)) runs checks follows = check_asks entered asked.0 order asked.1 (checks asked.0 asked.1)
+order_asks entered order (inr (inr asked)) runs checks follows =
+    follow_asks entered asked.0 asked.1 order asked.2 (follows asked.0 asked.1 asked.2)

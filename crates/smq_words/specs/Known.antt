@@ -3,11 +3,12 @@ use Rattle.std.specs.Prelude.{◌≡◌, [], ◌∷◌, List, codes, Option, Som
 use Rattle.clap.specs.Words.{Kinds, Text, fault_of, subcommand_of}
 use Rattle.clap.specs.declared.builder.value_parser.ValueParser.{ValueParser}
 use Rattle.clap.specs.declared.error.kind.ErrorKind.TheVariants.{UnknownArgument}
+use Rattle.smq_report.specs.declared.pick.Format.{Format}
 use Rattle.smq_report.specs.declared.pick.Format.TheVariants as format
 use Rattle.smq_report.specs.declared.pick.Pick.TheVariants as pick
 use Rattle.smq_tally.specs.declared.list.List.TheVariants as list
 use Rattle.smq_tally.specs.declared.view.View.TheVariants as view
-use Rattle.smq_words.specs.Words.{AsksFor, AsksToCheck, format_names, format_rule, pick_names, program, settings_rule}
+use Rattle.smq_words.specs.Words.{AsksFor, AsksToCheck, AsksToFollow, format_names, format_rule, pick_names, program, settings_rule}
 use Rattle.smq_words.specs.Words.{subcommand_name, version_text}
 
 -- the names that `query` takes, the subcommands, the formats and the options, the version, and what `report` alone asks for
@@ -23,7 +24,7 @@ pub record KnowsWords : Type 0 where
   pub formats : format_names ≡ codes "csv" ∷ codes "table" ∷ []
   pub format_option : (formats : ValueParser) → (format_rule formats).long ≡ Some (codes "format")
   pub settings_option : settings_rule.long ≡ Some (codes "settings")
-  pub version : version_text ≡ codes "0.11.0"
+  pub version : version_text ≡ codes "0.12.0"
   pub plain : AsksFor (Some (codes "report", [])) (record { pick = pick.All; format = format.Csv }) None
 
 -- the fault that `clap` finds in words, whatever names and formats its parsers take
@@ -42,3 +43,14 @@ pub record KnowsCheck : Type 0 where
   pub settings_checks : Checks (codes "check" ∷ codes "--settings" ∷ codes "p" ∷ []) (Some (codes "p"))
   pub format : HasFault (codes "check" ∷ codes "--format" ∷ codes "csv" ∷ []) (UnknownArgument ∷ [])
   pub name : HasFault (codes "check" ∷ codes "link" ∷ []) (UnknownArgument ∷ [])
+
+-- the format and the path of settings for which words ask that enter `follow`
+abbrev pub Follows : List Text → Format → Option Text → Type 0
+Follows words format path = (names formats : ValueParser) → AsksToFollow (subcommand_of (program names formats) words) format path
+
+-- words of `follow`: it takes a format and a path of settings, and no name
+pub record KnowsFollow : Type 0 where
+  pub alone : HasFault (codes "follow" ∷ []) []
+  pub alone_follows : Follows (codes "follow" ∷ []) format.Csv None
+  pub settings_follows : Follows (codes "follow" ∷ codes "--settings" ∷ codes "p" ∷ []) format.Csv (Some (codes "p"))
+  pub name : HasFault (codes "follow" ∷ codes "link" ∷ []) (UnknownArgument ∷ [])

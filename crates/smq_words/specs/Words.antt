@@ -19,7 +19,7 @@ use Rattle.smq_report.specs.declared.pick.Format.TheVariants as format
 use Rattle.smq_report.specs.declared.pick.Pick.{Pick}
 use Rattle.smq_report.specs.declared.pick.Pick.TheVariants as pick
 use Rattle.smq_words.specs.declared.orders.Order.{Order}
-use Rattle.smq_words.specs.declared.orders.Order.TheVariants.{Check, Run}
+use Rattle.smq_words.specs.declared.orders.Order.TheVariants.{Check, Follow, Run}
 use Rattle.smq_words.specs.declared.orders.Query.{Query}
 
 -- ---- what can be asked for
@@ -111,9 +111,13 @@ query_app names formats =
 abbrev pub check_app : App
 check_app = with_rule (new_app (codes "check")) settings_rule
 
+-- the subcommand `follow`: it has the options of `report`
+abbrev pub follow_app : ValueParser → App
+follow_app formats = add_options formats (new_app (codes "follow"))
+
 -- the program's version
 abbrev pub version_text : Text
-version_text = codes "0.11.0"
+version_text = codes "0.12.0"
 
 -- the program without its subcommands: one is required, or `--version`
 abbrev pub bare_program : App
@@ -123,8 +127,9 @@ bare_program = on_top (λ shape. record shape { no_binary_name = true; subcomman
 -- the program's subcommands
 abbrev pub program : ValueParser → ValueParser → App
 program names formats =
-    with_subcommand (with_subcommand (with_subcommand bare_program (report_app formats).top) (query_app names formats).top)
-    check_app.top
+    with_subcommand
+    (with_subcommand (with_subcommand (with_subcommand bare_program (report_app formats).top) (query_app names formats).top)
+    check_app.top) (follow_app formats).top
 
 -- the program's words, where NAME is the name of a view or a list, and a format is `csv` or `table`
 pub record IsProgram (app : App) : Type 0 where
@@ -156,10 +161,18 @@ pub record AsksToCheck (entered : Option (Text × List Row)) (path : Option Text
   pub enters : entered ≡ Some (codes "check", rows)
   pub has_path : first_of (codes "settings") rows ≡ path
 
+-- The matches of the subcommand `follow`, which words enter, ask for a format and a path.
+pub record AsksToFollow (entered : Option (Text × List Row)) (format : Format) (path : Option Text) : Type 0 where
+  pub rows : List Row
+  pub enters : entered ≡ Some (codes "follow", rows)
+  pub has_format : unwrap_or (first_of (codes "format") rows) (codes "csv") ≡ format_name format
+  pub has_path : first_of (codes "settings") rows ≡ path
+
 -- the matches of words ask for an order
 abbrev pub Asks : Option (Text × List Row) → Order → Type 0
 Asks entered (Run query settings) = AsksFor entered query (option_map string_bytes settings)
 Asks entered (Check settings) = AsksToCheck entered (option_map string_bytes settings)
+Asks entered (Follow format settings) = AsksToFollow entered format (option_map string_bytes settings)
 
 -- an order is the one for which `clap`'s matches of the words ask
 abbrev pub HasOrder : List Text → Order → Type 0

@@ -1,5 +1,5 @@
 //! Known values of the definitions: each is the contract of a function with no body.
-ghost use Rattle.smq_words.specs.Known.{KnowsCheck, KnowsWords};
+ghost use Rattle.smq_words.specs.Known.{KnowsCheck, KnowsFollow, KnowsWords};
 
 /// The words of orders.
 pub fn known_words()
@@ -9,4 +9,9 @@ pub fn known_words()
 /// Which words `check` takes.
 pub fn known_words_of_check()
     ensures { KnowsCheck }
+{}
+
+/// Which words `follow` takes.
+pub fn known_words_of_follow()
+    ensures { KnowsFollow }
 {}

@@ -21,4 +21,9 @@ pub enum Order {
     Check {
         settings: Option<String>,
     },
+    /// To play rows as they come, after the settings at a path, if one is named, and to write what is asked among them.
+    Follow {
+        format: Format,
+        settings: Option<String>,
+    },
 }

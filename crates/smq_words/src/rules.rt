@@ -5,7 +5,7 @@ ghost use Rattle.clap.specs.Words.{app_of, new_app};
 ghost use Rattle.clap.specs.declared.builder.command.Command.TheViews.{out-Command as fields_of};
 ghost use Rattle.clap.specs.declared.builder.value_parser.ValueParser.TheVariants.{Names};
 ghost use Rattle.smq_tally.specs.Names.{list_name, view_name};
-ghost use Rattle.smq_words.specs.Words.{IsArgument, IsProgram, add_options, bare_program, check_app, format_rule, name_rule};
+ghost use Rattle.smq_words.specs.Words.{IsArgument, IsProgram, add_options, bare_program, check_app, follow_app, format_rule, name_rule};
 ghost use Rattle.smq_words.specs.Words.{pick_names, query_app, report_app, settings_rule, texts_of, version_text};
 
 use clap::{Arg, ArgAction, Command};
@@ -18,15 +18,16 @@ const ABOUT: &str =
     "Tells what became of SMPP 3.4 messages, from captured sessions in a script on standard input";
 
 const USAGE: &str =
-    "smq report [OPTIONS] < SCRIPT\n       smq query [OPTIONS] <NAME> < SCRIPT\n       smq check [OPTIONS] < SCRIPT";
+    "smq report [OPTIONS] < SCRIPT\n       smq query [OPTIONS] <NAME> < SCRIPT\n       smq check [OPTIONS] < SCRIPT\n       smq follow [OPTIONS] < ROWS";
 
 /// The version that `--version` prints.
-const VERSION: &str = "0.11.0";
+const VERSION: &str = "0.12.0";
 
 /// The first part of what stands below each help, before the names of views and lists.
 const SCRIPT: &str = "\
 SCRIPT is CSV records, one a line, as `piece,LINK,SESSION,DIR,MOMENT,HEX`, where DIR is client or centre and
-MOMENT is in ms since 1970 or YYYY-MM-DDTHH:MM:SSZ. docs/FORMATS.md tells all records, the settings and the report.
+MOMENT is in ms since 1970 or YYYY-MM-DDTHH:MM:SSZ. ROWS are the same, and `ask,NAME` or `ask,report` among them.
+docs/FORMATS.md tells all records, the settings and the report.
 ";
 
 /// The last part.
@@ -34,9 +35,9 @@ const STATUS: &str = "
 
 Status:
   0  each row was taken
-  1  a row was refused and skipped, which report and query tell on standard error
+  1  a row was refused and skipped, which all but check tell on standard error
      (check: or the tables differ)
-  2  bad words, settings or rows: nothing was written
+  2  bad words, settings or rows: nothing was written (follow: no more than was asked before)
   3  a read or a write failed
   4  out of memory (check: or no thread, or desk refused)";
 
@@ -114,10 +115,12 @@ pub fn command<'a>(
     let report = report_command(alloc, formats, more)?;
     let query = query_command(alloc, names, formats, more)?;
     let check = check_command(alloc, more)?;
+    let follow = follow_command(alloc, formats, more)?;
     bare_command(alloc, more)?
         .subcommand(report)?
         .subcommand(query)?
-        .subcommand(check)
+        .subcommand(check)?
+        .subcommand(follow)
 }
 
 /// The program without its subcommands.
@@ -149,6 +152,21 @@ fn report_command<'a>(
     let usage = "smq report [OPTIONS] < SCRIPT";
     let report = subcommand(alloc, "report", about, usage, more);
     add_options(alloc, formats, report)
+}
+
+fn follow_command<'a>(
+    alloc: Global,
+    formats: &'a [&'a str],
+    more: &'a str,
+) -> Result<Command<'a>, AllocError>
+    ensures rules { IfOk result (λ command. app_of command ≡ follow_app (Names formats.entry)) }
+    ensures local { IfOk result (λ command. (fields_of command).has_globals ≡ false) }
+{
+    let about =
+        "Plays rows as they come, and writes what is asked among them of the report at that moment";
+    let usage = "smq follow [OPTIONS] < ROWS";
+    let follow = subcommand(alloc, "follow", about, usage, more);
+    add_options(alloc, formats, follow)
 }
 
 fn query_command<'a>(

@@ -5,8 +5,8 @@ ghost use Rattle.clap.specs.Words.{Text, first_of, found_of, rows_of, subcommand
 ghost use Rattle.smq_tally.specs.Lists.{lists};
 ghost use Rattle.smq_tally.specs.Names.{list_name, view_name};
 ghost use Rattle.smq_tally.specs.Rows.{views};
-ghost use Rattle.smq_words.specs.Words.{AsksFor, AsksToCheck, HasOrder, TakesWords, format_name, is_named, pick_name, picks};
-ghost use Rattle.smq_words.specs.within.Orders.{IsCheckOf, IsRunOf};
+ghost use Rattle.smq_words.specs.Words.{AsksFor, AsksToCheck, AsksToFollow, HasOrder, TakesWords, format_name, is_named, pick_name, picks};
+ghost use Rattle.smq_words.specs.within.Orders.{IsCheckOf, IsFollowOf, IsRunOf};
 
 use crate::orders::{Order, Query};
 use crate::rules::{command, more_help, pick_names};
@@ -38,6 +38,9 @@ fn order_in(alloc: Global, matches: &ArgMatches) -> Result<Order, AllocError>
         → IfOk result (IsRunOf query path) }
     ensures check { (path : Option Text) → AsksToCheck (subcommand_rows_of matches.now) path
         → IfOk result (IsCheckOf path) }
+    ensures follow { (format : Format) → (path : Option Text)
+        → AsksToFollow (subcommand_rows_of matches.now) format path
+        → IfOk result (IsFollowOf format path) }
 {
     match matches.subcommand() {
         Some((name, entered)) => order_of(alloc, name, entered),
@@ -59,10 +62,17 @@ fn order_of(alloc: Global, name: &str, entered: &ArgMatches) -> Result<Order, Al
     ensures check { (path : Option Text)
         → AsksToCheck (Some (name.now, rows_of (found_of entered.now))) path
         → IfOk result (IsCheckOf path) }
+    ensures follow { (format : Format) → (path : Option Text)
+        → AsksToFollow (Some (name.now, rows_of (found_of entered.now))) format path
+        → IfOk result (IsFollowOf format path) }
 {
     let settings = named_path(alloc, entered.get_str("settings"))?;
     if name == "check" {
         return Ok(Order::Check { settings });
+    }
+    if name == "follow" {
+        let format = named_format(entered.get_str("format"));
+        return Ok(Order::Follow { format, settings });
     }
     let query = query_in(entered);
     Ok(Order::Run { query, settings })

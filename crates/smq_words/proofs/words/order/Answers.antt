@@ -53,5 +53,6 @@ returns-clause-order g c =
       app,
       is,
       subst (λ e. Asks e order) entered
-          (order_asks (subcommand_rows_of c.in_ok-matches.matches) order asks c.in_ok-order_in.ensures.run c.in_ok-order_in.ensures.check),
+          (order_asks (subcommand_rows_of c.in_ok-matches.matches) order asks c.in_ok-order_in.ensures.run c.in_ok-order_in.ensures.check
+          c.in_ok-order_in.ensures.follow),
     )

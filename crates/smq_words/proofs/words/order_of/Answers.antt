@@ -1,7 +1,8 @@
-use Rattle.std.proofs.Common.{◌∙◌, codes}
+use Rattle.std.proofs.Common.{◌∙◌, ap, codes}
+use Rattle.std.specs.Prelude.{unwrap_or}
 use Rattle.clap.specs.Words.{found_of, rows_of}
 use Rattle.clap.proofs.WalkLemmas.{first_value-rows}
-use Rattle.smq_words.proofs.OrderLemmas.{check_rows, run_rows, same_query}
+use Rattle.smq_words.proofs.OrderLemmas.{check_rows, follow_rows, run_rows, same_query}
 use Rattle.smq_words.proofs.words.order_of.Goals as goal
 
 pub returns-then-eq-clause-check : goal.returns-then-eq-clause-check
@@ -15,4 +16,12 @@ returns-clause-run c query path asks =
       same_query c.query_in-query.result query (c.query_in-query.ensures.pick query.pick pick)
           (c.query_in-query.ensures.format query.format more.0),
       c.in_ok-settings.ensures ∙ c.get_str.ensures ∙ first_value-rows (found_of c.args.entered.now) (codes "settings") ∙ more.1,
+    )
+
+pub returns-then-eq-2-clause-follow : goal.returns-then-eq-2-clause-follow
+returns-then-eq-2-clause-follow c format path asks =
+    let (named, settings) = follow_rows c.args.name.now (rows_of (found_of c.args.entered.now)) format path asks in (
+      c.named_format-format.ensures format (ap (λ o. unwrap_or o (codes "csv"))
+          (c.get_str-then-eq-2.ensures ∙ first_value-rows (found_of c.args.entered.now) (codes "format")) ∙ named),
+      c.in_ok-settings.ensures ∙ c.get_str.ensures ∙ first_value-rows (found_of c.args.entered.now) (codes "settings") ∙ settings,
     )

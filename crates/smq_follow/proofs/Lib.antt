@@ -1,0 +1,5 @@
+pub mod RecordLemmas
+pub mod AnswerLemmas
+pub mod ReadingLemmas
+pub mod FollowLemmas
+pub mod LawLemmas

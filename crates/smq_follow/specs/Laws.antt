@@ -1,0 +1,30 @@
+-- Laws of the answers.
+use Rattle.std.specs.Prelude.{◌≡◌, ℕ, ◌+◌, List, [], ◌∷◌, ◌++◌, length, Some}
+use Rattle.smq_book.specs.whole.Scratch.{scratch}
+use Rattle.smq_load.specs.declared.row.Row as rows
+use Rattle.smq_report.specs.declared.pick.Format.{Format}
+use Rattle.smq_report.specs.declared.pick.Pick.{Pick}
+use Rattle.smq_report.specs.Report.{report_text}
+use Rattle.smq_engine.specs.Play.{present_of}
+use Rattle.smq_follow.specs.declared.record.Record.{Record}
+use Rattle.smq_follow.specs.declared.record.Record.TheVariants.{Ask}
+use Rattle.smq_follow.specs.Record.{ask_name, pick_of}
+use Rattle.smq_follow.specs.Answers.{answer_to, answers, present_after, refusal_to, refusals, refused_after, rows_of, said_of, told_line}
+
+-- What is said of some records stands whatever records come after them, and is followed by what is said of those: so a beginning of the
+-- answers that ends with an answer is true of the records up to its question. The answer to a last question is the report text of what
+-- the rows before it leave present, the questions among them left out, and its line.
+pub record AnswersStand : Type 0 where
+  pub answered : (format : Format) (settings_rows : List rows.Row) (first more : List Record)
+      → answers format settings_rows (first ++ more) ≡ answers format settings_rows first ++ said_of (answer_to format settings_rows) first more
+  pub told : (settings_rows : List rows.Row) (first more : List Record)
+      → refusals settings_rows (first ++ more) ≡ refusals settings_rows first ++ said_of (refusal_to settings_rows) first more
+  pub last : (format : Format) (settings_rows : List rows.Row) (first : List Record) (pick : Pick)
+      → answers format settings_rows (first ++ Ask pick ∷ [])
+      ≡ answers format settings_rows first
+      ++ (report_text pick format (scratch (present_of settings_rows (rows_of first)))
+      ++ told_line (length first + 1) pick (present_after settings_rows first).settings.clock (refused_after settings_rows first))
+
+-- each pick is asked by its name
+abbrev pub EachIsAsked : Type 0
+EachIsAsked = (pick : Pick) → pick_of (ask_name pick) ≡ Some pick

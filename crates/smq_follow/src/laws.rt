@@ -1,0 +1,23 @@
+//! Laws of the answers, and known values of the definitions: each is the contract of a function with no body.
+ghost use Rattle.smq_follow.specs.Known.{KnowsAnswers, KnowsRecords};
+ghost use Rattle.smq_follow.specs.Laws.{AnswersStand, EachIsAsked};
+
+/// What is said of records stands whatever comes after them, and a last answer is the report of the rows before its question.
+pub fn answers_stand()
+    ensures { AnswersStand }
+{}
+
+/// Each view and list, and the whole report, is asked by its name.
+pub fn each_is_asked()
+    ensures { EachIsAsked }
+{}
+
+/// What known records say.
+pub fn known_records()
+    ensures { KnowsRecords }
+{}
+
+/// How answers go by the records before each, and their lines.
+pub fn known_answers()
+    ensures { KnowsAnswers }
+{}

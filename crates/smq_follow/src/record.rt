@@ -1,0 +1,104 @@
+//! A record that is followed: a row of a script, or a question about what the rows before it leave.
+ghost use Rattle.std.specs.Prelude.{◌≡◌, IfOk, find};
+ghost use Rattle.std.specs.Str.{bytes_eq};
+ghost use Rattle.csv.specs.Records.{fields_of};
+ghost use Rattle.smq_tally.specs.Lists.{lists};
+ghost use Rattle.smq_tally.specs.Names.{list_name, view_name};
+ghost use Rattle.smq_tally.specs.Rows.{views};
+ghost use Rattle.smq_follow.specs.Record.{ask_name, pick_of, record_of};
+ghost use Rattle.smq_follow.specs.within.Asks.{asked_in, is_ask};
+
+use csv::ByteRecord;
+use smq_load::{Row, is_word, read_row};
+use smq_report::Pick;
+use smq_tally::{List, View};
+use std::alloc::{AllocError, Global};
+
+/// What a record says.
+#[derive(Drop)]
+pub enum Record {
+    /// A row, to be played.
+    Row(Row),
+    /// A question: what is picked of the report of what is present.
+    Ask(Pick),
+}
+
+/// The record that fields say, where they say one.
+pub(crate) fn read_said(alloc: Global, fields: &ByteRecord) -> Result<Option<Record>, AllocError>
+    ensures { IfOk result (λ said. said ≡ record_of (fields_of fields.now)) }
+{
+    if is_ask(fields) {
+        return Ok(read_ask(fields));
+    }
+    match read_row(alloc, fields)? {
+        Some(row) => Ok(Some(Record::Row(row))),
+        None => Ok(None),
+    }
+}
+
+/// Whether a record's first field is `ask`.
+fn is_ask(fields: &ByteRecord) -> bool
+    ensures { result ≡ is_ask (fields_of fields.now) }
+{
+    match fields.get(0) {
+        Some(first) => is_word(first, "ask"),
+        None => false,
+    }
+}
+
+/// The question of a record whose first field is `ask`: a second names what is asked, and there is no third.
+fn read_ask(fields: &ByteRecord) -> Option<Record>
+    ensures { result ≡ asked_in (fields_of fields.now) }
+{
+    if fields.len() != 2 {
+        return None;
+    }
+    Some(Record::Ask(pick_named(fields.get(1)?)?))
+}
+
+/// What is asked by a name.
+fn pick_named(name: &[u8]) -> Option<Pick>
+    ensures { result ≡ pick_of name.now }
+{
+    if is_word(name, "report") {
+        return Some(Pick::All);
+    }
+    match view_named(name) {
+        Some(view) => Some(Pick::View(view)),
+        None => match list_named(name) {
+            Some(list) => Some(Pick::List(list)),
+            None => None,
+        },
+    }
+}
+
+/// The view of a name.
+fn view_named(name: &[u8]) -> Option<View>
+    ensures { result ≡ find (λ view. bytes_eq (view_name view) name.now) views }
+{
+    View::all()
+        .iter()
+        .copied()
+        .find(|view| view.name().as_bytes() == name)
+}
+
+/// The list of a name.
+fn list_named(name: &[u8]) -> Option<List>
+    ensures { result ≡ find (λ list. bytes_eq (list_name list) name.now) lists }
+{
+    List::all()
+        .iter()
+        .copied()
+        .find(|list| list.name().as_bytes() == name)
+}
+
+/// The name by which a pick is asked.
+pub(crate) fn name_of(pick: Pick) -> &'static str
+    ensures { result.now ≡ ask_name pick }
+{
+    match pick {
+        Pick::All => "report",
+        Pick::View(view) => view.name(),
+        Pick::List(list) => list.name(),
+    }
+}
