@@ -1,6 +1,7 @@
 //! What no clause says of a check: that it succeeds with ample memory and threads, what it answers then, that each piece passes the
-//! gate, and that other rows are made where they stand between the pieces.
+//! gate, and that other rows are made where they stand between the pieces; and of records that are followed, when they are answered.
 mod faults;
+mod follow;
 mod memory;
 
 use smq_desk::{Gate, NoGate};

@@ -43,10 +43,10 @@ pub(crate) const WORKS: &[(Work, &[u8])] = &[
 
 /// Gives a text octet by octet, and fails once, after so many reads.
 #[derive(Drop)]
-struct Dripping {
-    text: &'static [u8],
-    reads: usize,
-    kind: io::ErrorKind,
+pub(crate) struct Dripping {
+    pub(crate) text: &'static [u8],
+    pub(crate) reads: usize,
+    pub(crate) kind: io::ErrorKind,
 }
 
 impl Read for Dripping {
@@ -85,9 +85,9 @@ impl Read for LineFeeds {
 
 /// Takes octets one by one, and fails once, after so many calls.
 #[derive(Drop)]
-struct Taker {
-    taken: Vec<u8>,
-    calls: usize,
+pub(crate) struct Taker {
+    pub(crate) taken: Vec<u8>,
+    pub(crate) calls: usize,
 }
 
 impl Taker {
