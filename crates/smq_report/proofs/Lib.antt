@@ -1,3 +1,4 @@
+pub mod BeginningLemmas
 pub mod PaddingLemmas
 pub mod PageLemmas
 pub mod PlainLemmas

@@ -1,63 +1,92 @@
 -- What is written, and then what waits on a page, grows by the texts of items, one after the other.
-use Rattle.std.proofs.Common.{◌≡◌, ◌∙◌, ℕ, ◌+◌, ◌<◌, add-one, drop, get_or, length, List, [], ◌∷◌, ◌++◌, refl, sym, ap, subst, append-nil, append_assoc}
+use Rattle.std.proofs.Common.{◌≡◌, ◌∙◌, ℕ, ◌+◌, ◌<◌, add-one, drop, get_or, length, take, List, [], ◌∷◌, ◌++◌, refl, sym, ap, append-nil, append_assoc, take-append-drop}
 use Rattle.std.proofs.Math.Seq.{drop-cons}
-use Rattle.std.proofs.KnownBytes.{Appends-kept, Appends-nil, Appends-trans, append_known-grown, append_known-moved, Keeps-refl}
+use Rattle.std.proofs.KnownBytes.{Appends-nil, Appends-trans}
 use Rattle.std.specs.Prelude.{Option}
 use Rattle.std.specs.List.{flat_map}
-use Rattle.std.specs.Io.KnownBytes.{Appends, Keeps, append_known}
+use Rattle.std.specs.Io.KnownBytes.{Appends}
+use Rattle.smq_report.specs.Beginnings.{AppendsBeginning}
+use Rattle.smq_report.specs.within.Pages.{AppendsAllBut}
+use Rattle.smq_report.proofs.BeginningLemmas.{begins-all_but}
 
--- Of all items some are left, and what was held grew by the texts of the others.
-abbrev pub Gathers : {X : Type 0} → (X → List ℕ) → List X → List X → Option (List ℕ) → Option (List ℕ) → Type 0
-Gathers text all left old new =
-    (done : List ℕ) × (done ++ flat_map text left ≡ flat_map text all) × Appends old new done
+-- Of all items some are left. The texts of the others, behind what waited before, are written but for what waits now.
+abbrev pub Gathers : {X : Type 0} → (X → List ℕ) → List X → List X → Option (List ℕ) → List ℕ → Option (List ℕ) → List ℕ → Type 0
+Gathers text all left old before new waits =
+    (done : List ℕ) × (done ++ flat_map text left ≡ flat_map text all) × AppendsAllBut old new waits (before ++ done)
 
 -- all are left
-pub gathers-none : {X : Type 0} (text : X → List ℕ) (all : List X) (held : Option (List ℕ)) → Gathers text all all held held
-gathers-none text all held = ([], refl, Appends-nil held)
+pub gathers-none : {X : Type 0} (text : X → List ℕ) (all : List X) (old : Option (List ℕ)) (before : List ℕ)
+    → Gathers text all all old before old before
+gathers-none text all old before = ([], refl, ([], Appends-nil old, sym (append-nil before)))
 
--- a page grew, and nothing was written
-pub page-grown : (written : Option (List ℕ)) (old new text : List ℕ) → new ≡ old ++ text
-    → Appends (append_known written old) (append_known written new) text
-page-grown written old new text h = append_known-grown (append_known written old) written old new text (Keeps-refl (append_known written old)) h
-
--- what is held grew by the text of the first that is left
-pub gathers-next : {X : Type 0} (text : X → List ℕ) (all list left : List X) (item : X) (start held new : Option (List ℕ))
-    → list ≡ item ∷ left → Appends held new (text item)
-    → Gathers text all list start held → Gathers text all left start new
-gathers-next text all list left item start held new first grown (done, parts, grew) = (
+-- the text of the first that is left is written, or waits
+pub gathers-next : {X : Type 0} (text : X → List ℕ) (all list left : List X) (item : X) (old mid new : Option (List ℕ)) (before waits rest : List ℕ)
+    → list ≡ item ∷ left → AppendsAllBut mid new rest (waits ++ text item)
+    → Gathers text all list old before mid waits → Gathers text all left old before new rest
+gathers-next text all list left item old mid new before waits rest first (more, grown, sum) (done, parts, (written, grew, are)) = (
   done ++ text item,
   append_assoc done (text item) (flat_map text left) ∙ ap (λ items. done ++ flat_map text items) (sym first) ∙ parts,
-  Appends-trans start held new done (text item) grew grown,
+  (
+    written ++ more,
+    Appends-trans old mid new written more grew grown,
+    append_assoc written more rest ∙ ap (λ l. written ++ l) sum ∙ sym (append_assoc written waits (text item))
+        ∙ ap (λ l. l ++ text item) are ∙ append_assoc before done (text item),
+  ),
 )
 
 -- the text of the first that is left was put on the page
-pub gathers-more : {X : Type 0} (text : X → List ℕ) (all list left : List X) (item : X) (start written : Option (List ℕ)) (old new : List ℕ)
-    → list ≡ item ∷ left → new ≡ old ++ text item
-    → Gathers text all list start (append_known written old) → Gathers text all left start (append_known written new)
-gathers-more text all list left item start written old new first grown gathered =
-    gathers-next text all list left item start (append_known written old) (append_known written new) first
-    (page-grown written old new (text item) grown) gathered
-
--- what is held grew by the text of the one at an index
-pub gathers-at : {X : Type 0} (text : X → List ℕ) (all : List X) (index : ℕ) (default : X) (start held new : Option (List ℕ))
-    → index < length all → Appends held new (text (get_or all index default))
-    → Gathers text all (drop index all) start held → Gathers text all (drop (index + 1) all) start new
-gathers-at text all index default start held new inside grown gathered =
-    gathers-next text all (drop index all) (drop (index + 1) all) (get_or all index default) start held new
-    (rw add-one (drop-cons all index default inside)) grown gathered
-
--- what is held is written in part
-pub gathers-kept : {X : Type 0} (text : X → List ℕ) (all left : List X) (start held new : Option (List ℕ))
-    → Gathers text all left start held → Keeps held new → Gathers text all left start new
-gathers-kept text all left start held new (done, parts, grew) kept = (done, parts, Appends-kept start held new done grew kept)
-
--- none is left
-pub gathers-all : {X : Type 0} (text : X → List ℕ) (all list : List X) (start new : Option (List ℕ))
-    → list ≡ [] → Gathers text all list start new → Appends start new (flat_map text all)
-gathers-all text all list start new none (done, parts, grew) =
-    subst (Appends start new) (sym (append-nil done) ∙ ap (λ items. done ++ flat_map text items) (sym none) ∙ parts) grew
+pub gathers-put : {X : Type 0} (text : X → List ℕ) (all list left : List X) (item : X) (old held : Option (List ℕ)) (before waits page : List ℕ)
+    → list ≡ item ∷ left → page ≡ waits ++ text item
+    → Gathers text all list old before held waits → Gathers text all left old before held page
+gathers-put text all list left item old held before waits page first put gathered =
+    gathers-next text all list left item old held held before waits page first ([], Appends-nil held, put) gathered
 
 -- a page was written, and is empty
-pub page-sent : (old new : Option (List ℕ)) (text rest : List ℕ) → Appends old new text → rest ≡ []
-    → Keeps (append_known old text) (append_known new rest)
-page-sent old new text rest h e = append_known-moved old new text rest text h (sym (append-nil text) ∙ ap (λ l. text ++ l) (sym e))
+pub page-sent : (old new : Option (List ℕ)) (page text rest : List ℕ) → page ≡ text → Appends old new page → rest ≡ []
+    → AppendsAllBut old new rest text
+page-sent old new page text rest is sent empty = (page, sent, ap (λ l. page ++ l) empty ∙ append-nil page ∙ is)
+
+-- the text of the one at an index is written, or waits
+pub gathers-at : {X : Type 0} (text : X → List ℕ) (all : List X) (index : ℕ) (default : X) (old mid new : Option (List ℕ)) (before waits rest : List ℕ)
+    → index < length all → AppendsAllBut mid new rest (waits ++ text (get_or all index default))
+    → Gathers text all (drop index all) old before mid waits → Gathers text all (drop (index + 1) all) old before new rest
+gathers-at text all index default old mid new before waits rest inside grown gathered =
+    gathers-next text all (drop index all) (drop (index + 1) all) (get_or all index default) old mid new before waits rest
+    (rw add-one (drop-cons all index default inside)) grown gathered
+
+-- none is left
+pub gathers-all : {X : Type 0} (text : X → List ℕ) (all list : List X) (old new : Option (List ℕ)) (before waits : List ℕ)
+    → list ≡ [] → Gathers text all list old before new waits → AppendsAllBut old new waits (before ++ flat_map text all)
+gathers-all text all list old new before waits none (done, parts, (written, grew, are)) =
+    (written, grew, are ∙ ap (λ l. before ++ l) (sym (append-nil done) ∙ ap (λ items. done ++ flat_map text items) (sym none) ∙ parts))
+
+-- nothing more goes out
+pub gathers-stop : {X : Type 0} (text : X → List ℕ) (all left : List X) (old new : Option (List ℕ)) (before waits : List ℕ)
+    → Gathers text all left old before new waits → AppendsBeginning old new (before ++ flat_map text all)
+gathers-stop text all left old new before waits (done, parts, (written, grew, are)) =
+    begins-all_but old new (waits ++ flat_map text left) (before ++ flat_map text all) (
+      written,
+      grew,
+      sym (append_assoc written waits (flat_map text left)) ∙ ap (λ l. l ++ flat_map text left) are
+          ∙ append_assoc before done (flat_map text left) ∙ ap (λ l. before ++ l) parts,
+    )
+
+-- a beginning of what waits, and of the text of the first that is left, goes out
+pub gathers-cut : {X : Type 0} (text : X → List ℕ) (all list left : List X) (item : X) (old mid new : Option (List ℕ)) (before waits page : List ℕ)
+    → list ≡ item ∷ left → page ≡ waits ++ text item → AppendsBeginning mid new page
+    → Gathers text all list old before mid waits → AppendsBeginning old new (before ++ flat_map text all)
+gathers-cut text all list left item old mid new before waits page first is (count, more) gathered =
+    gathers-stop text all left old new before (drop count page) (gathers-next text all list left item old mid new before waits (drop count page)
+    first (take count page, more, take-append-drop count page ∙ is) gathered)
+
+-- the same of the one at an index
+pub gathers-cut_at : {X : Type 0} (text : X → List ℕ) (all : List X) (index : ℕ) (default : X) (old mid new : Option (List ℕ)) (before waits : List ℕ)
+    → index < length all → AppendsBeginning mid new (waits ++ text (get_or all index default))
+    → Gathers text all (drop index all) old before mid waits → AppendsBeginning old new (before ++ flat_map text all)
+gathers-cut_at text all index default old mid new before waits inside begun gathered =
+    gathers-cut text all (drop index all) (drop (index + 1) all) (get_or all index default) old mid new before waits _
+    (rw add-one (drop-cons all index default inside)) refl begun gathered
+
+-- the lines of a section stand under its own line
+pub under-line : (page started line all lines : List ℕ) → started ≡ page ++ line → all ≡ lines → started ++ all ≡ page ++ (line ++ lines)
+under-line page started line all lines begun are = rw (begun, are) (append_assoc page line lines)

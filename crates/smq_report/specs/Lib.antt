@@ -4,5 +4,6 @@ pub mod Values
 pub mod Csv
 pub mod Table
 pub mod Report
+pub mod Beginnings
 pub mod Known
 pub mod within

@@ -1,9 +1,11 @@
 //! A page of CSV: records that wait to be written, gathered by `csv` in memory that is used again.
 ghost use Rattle.std.specs.Prelude.{◌≡◌, ◌++◌, [], OnOk, IfErr, IfOk, length, nat_le};
 ghost use Rattle.std.specs.Io.KnownBytes.{Appends};
+ghost use Rattle.smq_report.specs.Beginnings.{AppendsBeginning};
 ghost use Rattle.smq_report.specs.Csv.{csv_place, csv_row};
 ghost use Rattle.smq_report.specs.within.Pages.{IsAtStart, IsPlain, gathered, record_of, waiting};
 
+use crate::octets::write_octets;
 use crate::pick::ReportFault;
 use crate::value::{dir_name, push_value};
 use csv::Writer;
@@ -49,6 +51,8 @@ impl Page {
         ensures empty { IfOk result (λ page. waiting page.records ≡ []) }
         ensures written { OnOk result
             (Appends (W.contents writer.old) (W.contents writer.new) (waiting self.records)) }
+        ensures begun { IfErr result (λ fault.
+            AppendsBeginning (W.contents writer.old) (W.contents writer.new) (waiting self.records)) }
     {
         let Page {
             records,
@@ -58,7 +62,7 @@ impl Page {
         let Ok(mut octets) = records.into_inner() else {
             return Err(ReportFault::Memory);
         };
-        writer.write_all(octets.as_slice())?;
+        write_octets(writer, octets.as_slice())?;
         octets.clear();
         Ok(Page {
             records: Writer::from_writer(octets),

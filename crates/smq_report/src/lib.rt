@@ -4,6 +4,7 @@
 mod csv_page;
 mod csv_report;
 mod laws;
+mod octets;
 mod pick;
 mod report;
 mod table_report;
@@ -14,6 +15,7 @@ pub use laws::{
     known_columns, known_reports, known_sections, known_texts, what_is_asked_for_is_told_apart,
     whole_reports_are_those_of_views_and_lists,
 };
+pub use octets::write_octets;
 pub use pick::{Format, Pick, ReportFault, Section};
 pub use report::write_report;
 pub use table_report::write_table;

@@ -1,6 +1,7 @@
 //! A report in either format.
-ghost use Rattle.std.specs.Prelude.{OnOk};
+ghost use Rattle.std.specs.Prelude.{IfErr, OnOk};
 ghost use Rattle.std.specs.Io.KnownBytes.{Appends};
+ghost use Rattle.smq_report.specs.Beginnings.{AppendsBeginning};
 ghost use Rattle.smq_report.specs.Report.{report_text};
 
 use crate::csv_report::write_csv;
@@ -10,8 +11,8 @@ use smq_tally::Tables;
 use std::alloc::Global;
 use std::io::Write;
 
-/// Writes what is picked of the tables in a format. `Write` comes only where the writer failed in this call; some of the
-/// text may have gone out.
+/// Writes what is picked of the tables in a format. `Write` comes only where the writer failed in this call. On
+/// an error a beginning of the text has gone out, or nothing.
 pub fn write_report<W: Write>(
     alloc: Global,
     tables: &Tables,
@@ -20,6 +21,8 @@ pub fn write_report<W: Write>(
     writer: &mut W,
 ) -> Result<(), ReportFault>
     ensures ok { OnOk result (Appends (W.contents writer.old) (W.contents writer.new)
+        (report_text pick format tables.now.shown)) }
+    ensures begun { IfErr result (λ fault. AppendsBeginning (W.contents writer.old) (W.contents writer.new)
         (report_text pick format tables.now.shown)) }
 {
     match format {

@@ -1,9 +1,12 @@
 //! A report as tables: lines are gathered on a page, and a full page is written.
-ghost use Rattle.std.specs.Prelude.{◌≡◌, ◌++◌, ◌≤◌, ◌-◌, [], OnOk, length, replicate, string_bytes, string_len};
+ghost use Rattle.std.specs.Prelude.{◌≡◌, ◌++◌, ◌≤◌, ◌-◌, [], IfErr, OnOk, length, replicate, string_bytes, string_len};
 ghost use Rattle.std.specs.List.{flat_map};
-ghost use Rattle.std.specs.Io.KnownBytes.{Appends, Keeps, append_known};
+ghost use Rattle.std.specs.Io.KnownBytes.{Appends};
+ghost use Rattle.smq_report.specs.Beginnings.{AppendsBeginning};
 ghost use Rattle.smq_report.specs.Table.{section_line, table_place, table_row, table_section, table_text};
+ghost use Rattle.smq_report.specs.within.Pages.{AppendsAllBut};
 
+use crate::octets::write_octets;
 use crate::pick::{Pick, ReportFault, Section, sections_of};
 use crate::value::{dir_name, push_value};
 use smq_kit::Place;
@@ -15,8 +18,8 @@ use std::io::Write;
 const FULL: usize = 65_536;
 
 /// Writes what is picked of the tables, as tables to read: a line for each view and list, also where it has no rows, and
-/// under it a line of columns for each row or place. `Write` comes only where the writer failed in this call; some of the
-/// text may have gone out.
+/// under it a line of columns for each row or place. `Write` comes only where the writer failed in this call. On an error a
+/// beginning of the text has gone out, or nothing.
 pub fn write_table<W: Write>(
     alloc: Global,
     tables: &Tables,
@@ -25,6 +28,8 @@ pub fn write_table<W: Write>(
 ) -> Result<(), ReportFault>
     ensures ok { OnOk result
         (Appends (W.contents writer.old) (W.contents writer.new) (table_text tables.now.shown pick)) }
+    ensures begun { IfErr result (λ fault.
+        AppendsBeginning (W.contents writer.old) (W.contents writer.new) (table_text tables.now.shown pick)) }
 {
     let sections = sections_of(alloc, pick)?;
     let mut page = String::new(alloc);
@@ -41,10 +46,11 @@ fn put_sections<W: Write>(
     page: &mut String,
     writer: &mut W,
 ) -> Result<(), ReportFault>
-    ensures { OnOk result (Appends
-        (append_known (W.contents writer.old) (string_bytes page.old))
-        (append_known (W.contents writer.new) (string_bytes page.new))
-        (flat_map (table_section tables.now.shown) sections.now)) }
+    ensures ok { OnOk result
+        (AppendsAllBut (W.contents writer.old) (W.contents writer.new) (string_bytes page.new)
+        (string_bytes page.old ++ flat_map (table_section tables.now.shown) sections.now)) }
+    ensures begun { IfErr result (λ fault. AppendsBeginning (W.contents writer.old) (W.contents writer.new)
+        (string_bytes page.old ++ flat_map (table_section tables.now.shown) sections.now)) }
 {
     for section in sections {
         put_section(tables, *section, page, writer)?;
@@ -59,10 +65,11 @@ fn put_section<W: Write>(
     page: &mut String,
     writer: &mut W,
 ) -> Result<(), ReportFault>
-    ensures { OnOk result (Appends
-        (append_known (W.contents writer.old) (string_bytes page.old))
-        (append_known (W.contents writer.new) (string_bytes page.new))
-        (table_section tables.now.shown section)) }
+    ensures ok { OnOk result
+        (AppendsAllBut (W.contents writer.old) (W.contents writer.new) (string_bytes page.new)
+        (string_bytes page.old ++ table_section tables.now.shown section)) }
+    ensures begun { IfErr result (λ fault. AppendsBeginning (W.contents writer.old) (W.contents writer.new)
+        (string_bytes page.old ++ table_section tables.now.shown section)) }
 {
     push_section_line(page, section)?;
     match section {
@@ -84,9 +91,10 @@ fn put_section<W: Write>(
 
 /// Writes the page if it is full.
 fn send_full<W: Write>(page: &mut String, writer: &mut W) -> Result<(), ReportFault>
-    ensures { OnOk result (Keeps
-        (append_known (W.contents writer.old) (string_bytes page.old))
-        (append_known (W.contents writer.new) (string_bytes page.new))) }
+    ensures ok { OnOk result
+        (AppendsAllBut (W.contents writer.old) (W.contents writer.new) (string_bytes page.new) (string_bytes page.old)) }
+    ensures begun { IfErr result (λ fault.
+        AppendsBeginning (W.contents writer.old) (W.contents writer.new) (string_bytes page.old)) }
 {
     if page.len() < FULL {
         return Ok(());
@@ -99,8 +107,10 @@ fn send<W: Write>(page: &mut String, writer: &mut W) -> Result<(), ReportFault>
     ensures written { OnOk result
         (Appends (W.contents writer.old) (W.contents writer.new) (string_bytes page.old)) }
     ensures empty { OnOk result (string_bytes page.new ≡ []) }
+    ensures begun { IfErr result (λ fault.
+        AppendsBeginning (W.contents writer.old) (W.contents writer.new) (string_bytes page.old)) }
 {
-    writer.write_all(page.as_bytes())?;
+    write_octets(writer, page.as_bytes())?;
     page.clear();
     Ok(())
 }

@@ -1,5 +1,4 @@
--- A page is at the start of a record, and what is held grew by the lines of the rows or places that are gone.
-use Rattle.std.specs.Io.KnownBytes.{append_known}
+-- A page is at the start of a record, and the lines of the rows or places that are gone are written, or wait on it.
 use Rattle.smq_report.specs.Csv.{csv_place, csv_row}
 use Rattle.smq_report.specs.within.Pages.{IsAtStart, waiting}
 use Rattle.smq_report.proofs.PageLemmas.{Gathers}
@@ -10,8 +9,8 @@ invariant-loop-value g l = record {
   start : IsAtStart l.page.records;
   gathers :
       Gathers (csv_row l.view) l.initial.value-iterator l.value-iterator
-      (append_known (g.W.Write.contents l.initial.writer) (waiting l.initial.page.records))
-      (append_known (g.W.Write.contents l.writer) (waiting l.page.records));
+      (g.W.Write.contents l.initial.writer) (waiting l.initial.page.records)
+      (g.W.Write.contents l.writer) (waiting l.page.records);
 }
 
 abbrev pub invariant-loop-place : goal.invariant-loop-place
@@ -19,6 +18,6 @@ invariant-loop-place g l = record {
   start : IsAtStart l.page.records;
   gathers :
       Gathers (csv_place l.list) l.initial.place-iterator l.place-iterator
-      (append_known (g.W.Write.contents l.initial.writer) (waiting l.initial.page.records))
-      (append_known (g.W.Write.contents l.writer) (waiting l.page.records));
+      (g.W.Write.contents l.initial.writer) (waiting l.initial.page.records)
+      (g.W.Write.contents l.writer) (waiting l.page.records);
 }

@@ -1,6 +1,5 @@
--- A page is at the start of a record, and what is held grew by the sections that are gone.
+-- A page is at the start of a record, and the sections that are gone are written, or wait on it.
 use Rattle.std.proofs.Common.{drop}
-use Rattle.std.specs.Io.KnownBytes.{append_known}
 use Rattle.smq_report.specs.Csv.{csv_section}
 use Rattle.smq_report.specs.within.Pages.{IsAtStart, waiting}
 use Rattle.smq_report.proofs.PageLemmas.{Gathers}
@@ -11,6 +10,6 @@ invariant-loop-section g l = record {
   start : IsAtStart l.page.records;
   gathers :
       Gathers (csv_section l.tables.shown) l.sections (drop l.section-index l.sections)
-      (append_known (g.W.Write.contents l.initial.writer) (waiting l.initial.page.records))
-      (append_known (g.W.Write.contents l.writer) (waiting l.page.records));
+      (g.W.Write.contents l.initial.writer) (waiting l.initial.page.records)
+      (g.W.Write.contents l.writer) (waiting l.page.records);
 }

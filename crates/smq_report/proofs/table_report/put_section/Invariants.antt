@@ -1,6 +1,5 @@
--- What is held grew by the lines of the rows or places that are gone.
+-- The lines of the rows or places that are gone are written, or wait on the page.
 use Rattle.std.specs.Prelude.{string_bytes}
-use Rattle.std.specs.Io.KnownBytes.{append_known}
 use Rattle.smq_report.specs.Table.{table_place, table_row}
 use Rattle.smq_report.proofs.PageLemmas.{Gathers}
 use Rattle.smq_report.proofs.table_report.put_section.Given as goal
@@ -8,11 +7,11 @@ use Rattle.smq_report.proofs.table_report.put_section.Given as goal
 abbrev pub invariant-loop-value : goal.invariant-loop-value
 invariant-loop-value g l =
     Gathers table_row l.initial.value-iterator l.value-iterator
-    (append_known (g.W.Write.contents l.initial.writer) (string_bytes l.initial.page))
-    (append_known (g.W.Write.contents l.writer) (string_bytes l.page))
+    (g.W.Write.contents l.initial.writer) (string_bytes l.initial.page)
+    (g.W.Write.contents l.writer) (string_bytes l.page)
 
 abbrev pub invariant-loop-place : goal.invariant-loop-place
 invariant-loop-place g l =
     Gathers table_place l.initial.place-iterator l.place-iterator
-    (append_known (g.W.Write.contents l.initial.writer) (string_bytes l.initial.page))
-    (append_known (g.W.Write.contents l.writer) (string_bytes l.page))
+    (g.W.Write.contents l.initial.writer) (string_bytes l.initial.page)
+    (g.W.Write.contents l.writer) (string_bytes l.page)

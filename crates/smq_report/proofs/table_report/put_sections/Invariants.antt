@@ -1,7 +1,6 @@
--- What is held grew by the sections that are gone.
+-- The sections that are gone are written, or wait on the page.
 use Rattle.std.proofs.Common.{drop}
 use Rattle.std.specs.Prelude.{string_bytes}
-use Rattle.std.specs.Io.KnownBytes.{append_known}
 use Rattle.smq_report.specs.Table.{table_section}
 use Rattle.smq_report.proofs.PageLemmas.{Gathers}
 use Rattle.smq_report.proofs.table_report.put_sections.Given as goal
@@ -9,5 +8,5 @@ use Rattle.smq_report.proofs.table_report.put_sections.Given as goal
 abbrev pub invariant-loop-section : goal.invariant-loop-section
 invariant-loop-section g l =
     Gathers (table_section l.tables.shown) l.sections (drop l.section-index l.sections)
-    (append_known (g.W.Write.contents l.initial.writer) (string_bytes l.initial.page))
-    (append_known (g.W.Write.contents l.writer) (string_bytes l.page))
+    (g.W.Write.contents l.initial.writer) (string_bytes l.initial.page)
+    (g.W.Write.contents l.writer) (string_bytes l.page)
