@@ -1,4 +1,5 @@
 pub mod PlayLemmas
+pub mod RunLemmas
 pub mod WorkerLemmas
 pub mod DeskLemmas
 pub mod KnownChecks

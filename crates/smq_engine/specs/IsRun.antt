@@ -1,6 +1,6 @@
 -- What the program makes of settings and a script.
-use Rattle.std.specs.Prelude.{◌≡◌, ⊤, ℕ, List, Option, Some}
-use Rattle.std.specs.Io.KnownBytes.{Appends}
+use Rattle.std.specs.Prelude.{◌≡◌, ◌⊎◌, ⊤, ℕ, List, Option, Some}
+use Rattle.std.specs.Io.KnownBytes.{Appends, Keeps}
 use Rattle.smq_kit.specs.declared.refusal.Refusal.{Refusal}
 use Rattle.smq_book.specs.whole.Scratch.{scratch}
 use Rattle.smq_load.specs.declared.load_fault.LoadFault.{LoadFault}
@@ -8,6 +8,7 @@ use Rattle.smq_load.specs.declared.load_fault.LoadFault.TheVariants as load
 use Rattle.smq_load.specs.declared.row.Row.{Row}
 use Rattle.smq_load.specs.Script.{IsScript, IsFirstBad}
 use Rattle.smq_load.specs.Settings.{settings_of}
+use Rattle.smq_report.specs.Beginnings.{AppendsBeginning}
 use Rattle.smq_report.specs.declared.pick.ReportFault.{ReportFault}
 use Rattle.smq_report.specs.declared.pick.ReportFault.TheVariants as report
 use Rattle.smq_report.specs.Report.{report_text}
@@ -44,6 +45,19 @@ pub record WasRead (settings text : List ℕ) : Type 0 where
   pub rows : List Row
   pub are_settings : settings_of settings ≡ Some settings_rows
   pub is_script : IsScript text rows
+
+-- A run writes its report: the settings and the text say rows, and a beginning of the report text was written that `IsRun` tells.
+pub record HasBegun (query : Query) (settings : List ℕ) (old new : Option (List ℕ)) (text : List ℕ) : Type 0 where
+  pub settings_rows : List Row
+  pub rows : List Row
+  pub are_settings : settings_of settings ≡ Some settings_rows
+  pub is_script : IsScript text rows
+  pub written : AppendsBeginning old new
+      (report_text query.pick query.format (scratch (present_of settings_rows rows)))
+
+-- what a run that fails wrote: nothing, or a beginning of its report
+abbrev pub StopsRun : Query → List ℕ → Option (List ℕ) → Option (List ℕ) → List ℕ → Type 0
+StopsRun query settings old new text = Keeps old new ⊎ HasBegun query settings old new text
 
 -- the fault of a run whose settings or script aren't loaded
 abbrev pub run_fault : LoadFault → RunFault

@@ -77,7 +77,7 @@ pub(crate) fn close_desk<RT: Wait>(
     tables: &Tables,
 ) -> Result<(bool, u64), RunFault>
     ensures ok { IfOk result (λ found. IsClosedFor seats.items tables.now.shown found.0 found.1) }
-    ensures err { IfErr result IsDeskFault }
+    ensures err { IfErr result (λ fault. fault ≡ RunFault.Desk) }
 {
     match Box::into_inner(desk).close(seats) {
         Ok(closed) => Ok(end_closed(rt, closed, tables)),

@@ -5,8 +5,9 @@ ghost use Rattle.std.specs.Io.KnownBytes.{Appends, Keeps};
 ghost use Rattle.smq_book.specs.present.Present.{empty};
 ghost use Rattle.smq_book.specs.whole.Scratch.{scratch};
 ghost use Rattle.smq_load.specs.Settings.{settings_of};
+ghost use Rattle.smq_report.specs.Beginnings.{AppendsBeginning};
 ghost use Rattle.smq_report.specs.Report.{report_text};
-ghost use Rattle.smq_engine.specs.IsRun.{IsRun, TellsRun, WasRead};
+ghost use Rattle.smq_engine.specs.IsRun.{HasBegun, IsRun, StopsRun, TellsRun};
 ghost use Rattle.smq_engine.specs.Play.{present_of, refused_of};
 
 use crate::RunFault;
@@ -29,8 +30,8 @@ pub struct Ran {
 }
 
 /// Checks settings, then reads a script and checks all its rows, plays both in order on a new book, and writes what the
-/// query asks of the report. A refused row is skipped. Nothing is written before all rows were read and played; some of the
-/// report may have gone out where the writer failed, or memory ran out, while it was written. After a run that is done the
+/// query asks of the report. A refused row is skipped. Nothing is written before all rows were read and played; a beginning of
+/// the report may have gone out where the writer failed, or memory ran out, while it was written. After a run that is done the
 /// process ends, which gives the memory of its book and tables back at once: they are not taken apart piece by piece.
 pub fn run<RT: AllocGlobal, R: Read, W: Write>(
     rt: &RT,
@@ -51,9 +52,10 @@ pub fn run<RT: AllocGlobal, R: Read, W: Write>(
     ensures unwritten { IfErr result (λ fault. fault ≢ RunFault.Write → fault ≢ RunFault.Memory
         → Keeps (W.contents writer.old) (W.contents writer.new)) }
     ensures write { IfErr result (λ fault. fault ≡ RunFault.Write
-        → IfSome (R.remaining reader.old) (WasRead settings.now)) }
-    ensures read_first { IfErr result (λ fault. IfSome (R.remaining reader.old) (λ text.
-        Keeps (W.contents writer.old) (W.contents writer.new) ⊎ WasRead settings.now text)) }
+        → IfSome (R.remaining reader.old)
+        (HasBegun query settings.now (W.contents writer.old) (W.contents writer.new))) }
+    ensures begun { IfErr result (λ fault. IfSome (R.remaining reader.old)
+        (StopsRun query settings.now (W.contents writer.old) (W.contents writer.new))) }
 {
     let settings_rows = read_settings(rt.alloc(), settings)?;
     let rows = read_script(rt.alloc(), reader)?;
@@ -114,6 +116,8 @@ fn write_tables<W: Write>(
 ) -> Result<(), RunFault>
     ensures ok { OnOk result (Appends (W.contents writer.old) (W.contents writer.new)
         (report_text query.pick query.format (scratch book.value.present))) }
+    ensures begun { IfErr result (λ fault. AppendsBeginning (W.contents writer.old) (W.contents writer.new)
+        (report_text query.pick query.format (scratch book.value.present))) }
     ensures fault { IfErr result (λ fault. (fault ≡ RunFault.Write) ⊎ (fault ≡ RunFault.Memory)) }
 {
     let written = write_query(alloc, &book, query, writer);
@@ -129,6 +133,8 @@ fn write_query<W: Write>(
     writer: &mut W,
 ) -> Result<(), RunFault>
     ensures ok { OnOk result (Appends (W.contents writer.old) (W.contents writer.new)
+        (report_text query.pick query.format (scratch book.now.present))) }
+    ensures begun { IfErr result (λ fault. AppendsBeginning (W.contents writer.old) (W.contents writer.new)
         (report_text query.pick query.format (scratch book.now.present))) }
     ensures fault { IfErr result (λ fault. (fault ≡ RunFault.Write) ⊎ (fault ≡ RunFault.Memory)) }
 {

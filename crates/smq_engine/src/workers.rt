@@ -1,5 +1,5 @@
 //! The workers of a desk: each has the pieces of its sessions, which wait in its job until they are made.
-ghost use Rattle.std.specs.Prelude.{◌≡◌, ◌∷◌, ◌++◌, [], List, All, IfErr, IfOk, IsTrue};
+ghost use Rattle.std.specs.Prelude.{◌≡◌, ◌∷◌, ◌++◌, [], List, All, IfErr, IfOk, IfSome, IsTrue};
 ghost use Rattle.std.specs.List.{AllZip};
 ghost use Rattle.smq_desk.specs.Jobs.{IsFresh};
 ghost use Rattle.smq_load.specs.declared.row.Row.{Row as RowOf};
@@ -144,6 +144,7 @@ fn renewed(alloc: Global, jobs: Vec<LinkJob>) -> Result<Vec<LinkJob>, RunFault>
 /// A fresh job from the seat of one that was done.
 fn renew(alloc: Global, job: LinkJob) -> Result<LinkJob, RunFault>
     ensures ok { IfOk result (λ fresh. IsRenewed job fresh) }
+    ensures stop { IfErr result (λ fault. IfSome job.stop (λ refusal. fault ≡ desk_fault refusal)) }
     ensures err { IfErr result IsDeskFault }
 {
     let LinkJob {
