@@ -21,13 +21,15 @@ const USAGE: &str =
     "smq report [OPTIONS] < SCRIPT\n       smq query [OPTIONS] <NAME> < SCRIPT\n       smq check [OPTIONS] < SCRIPT\n       smq follow [OPTIONS] < ROWS";
 
 /// The version that `--version` prints.
-const VERSION: &str = "0.12.0";
+const VERSION: &str = "0.13.0";
 
 /// The first part of what stands below each help, before the names of views and lists.
 const SCRIPT: &str = "\
 SCRIPT is CSV records, one a line, as `piece,LINK,SESSION,DIR,MOMENT,HEX`, where DIR is client or centre and
-MOMENT is in ms since 1970 or YYYY-MM-DDTHH:MM:SSZ. ROWS are the same, and `ask,NAME` or `ask,report` among them.
-docs/FORMATS.md tells all records, the settings and the report.
+MOMENT is in ms since 1970 or YYYY-MM-DDTHH:MM:SSZ. It has at most 1,000,000 records and 268,435,456 octets.
+ROWS are the same, with `ask,NAME` or `ask,report` among them, and without a limit. A message takes some 2 KB
+of memory (follow: 5). docs/FORMATS.md tells all records, the settings and the report; tools/check-script says
+what is wrong with a script.
 ";
 
 /// The last part.
