@@ -1,6 +1,6 @@
 -- What one record more adds to what is present, refused and said.
 use Rattle.std.proofs.Common.{◌≡◌, ◌+◌, ◌≤◌, ℕ, suc, List, [], ◌∷◌, ◌++◌, length, take, drop, Option, Some, None, Result, Ok, Err, refl, sym, ap, ◌∙◌, subst, arith, append-nil, append_assoc, take-append-drop}
-use Rattle.std.proofs.lemmas.List.{drop-take, length-append, take-take, take_all}
+use Rattle.std.proofs.lemmas.List.{length-append}
 use Rattle.std.proofs.lemmas.List.Sums.{fold-append}
 use Rattle.std.proofs.lemmas.Grind.{flat_map-append}
 use Rattle.std.proofs.KnownBytes.{Appends-nil, Appends-trans, Keeps-refl}
@@ -23,23 +23,6 @@ use Rattle.smq_follow.specs.Record.{ask_name}
 use Rattle.smq_follow.specs.Answers.{present_after, refusal_line, refusal_to, row_in, rows_of, said_of, told_line}
 use Rattle.smq_follow.specs.Followed.{held}
 use Rattle.smq_follow.specs.within.Steps.{ArePlayed, EndsSaying, EndsStep, count_of}
-
--- a longer beginning of a list
-pub take-more : (count more : ℕ) (text : List ℕ) → take (count + more) text ≡ take count text ++ take more (drop count text)
-take-more count more text =
-    sym (take-append-drop count (take (count + more) text))
-    ∙ ap (λ (l : List ℕ). l ++ drop count (take (count + more) text)) (take-take count (count + more) text (omega arith))
-    ∙ ap (λ (l : List ℕ). take count text ++ l) (drop-take count more text)
-
--- more of a text is written
-pub Appends-more : (old mid new : Option (List ℕ)) (count more : ℕ) (text : List ℕ) → Appends old mid (take count text)
-    → Appends mid new (take more (drop count text)) → Appends old new (take (count + more) text)
-Appends-more old mid new count more text first then =
-    subst (Appends old new) (sym (take-more count more text)) (Appends-trans old mid new _ _ first then)
-
--- all of a text is a beginning of it
-pub Appends-whole : (old new : Option (List ℕ)) (text : List ℕ) → Appends old new text → Appends old new (take (length text) text)
-Appends-whole old new text h = subst (Appends old new) (sym (take_all (length text) text (omega arith))) h
 
 -- two faults are two
 pub memory-is-another : fault.Memory ≡ fault.BadSettings → ⊥

@@ -8,9 +8,9 @@ use crate::record::name_of;
 use smq_book::Book;
 use smq_engine::RunFault;
 use smq_kit::{Moment, Refusal};
-use smq_report::{Format, Pick, write_report};
+use smq_report::{Format, Pick, write_octets, write_report};
 use std::alloc::{AllocError, Global};
-use std::io::{ErrorKind, Write};
+use std::io::Write;
 
 /// The answer to the question of a number, where so many rows were refused.
 pub fn answer(
@@ -62,30 +62,9 @@ pub fn send<W: Write>(writer: &mut W, text: &[u8]) -> Result<(), RunFault>
     ensures fault { IfErr result (λ fault.
         EndsSaying fault (W.contents writer.old) (W.contents writer.new) text.now) }
 {
-    put(writer, text)?;
+    write_octets(writer, text)?;
     if writer.flush().is_err() {
         return Err(RunFault::Write);
     }
     Ok(())
-}
-
-/// Writes a text. A write that was interrupted is tried again.
-fn put<W: Write>(writer: &mut W, text: &[u8]) -> Result<(), RunFault>
-    ensures ok { OnOk result (Appends (W.contents writer.old) (W.contents writer.new) text.now) }
-    ensures fault { IfErr result (λ fault.
-        EndsSaying fault (W.contents writer.old) (W.contents writer.new) text.now) }
-{
-    let mut count = 0;
-    for _ in 0..u64::MAX {
-        if count >= text.len() {
-            return Ok(());
-        }
-        match writer.write(&text[count..]) {
-            Ok(0) => return Err(RunFault::Write),
-            Ok(more) => count += more,
-            Err(error) if error.kind() == ErrorKind::Interrupted => {}
-            Err(_) => return Err(RunFault::Write),
-        }
-    }
-    Err(RunFault::Write)
 }

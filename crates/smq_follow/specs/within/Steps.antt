@@ -6,6 +6,7 @@ use Rattle.smq_kit.specs.declared.refusal.Refusal.{Refusal}
 use Rattle.smq_book.specs.present.Present.{PresentValue}
 use Rattle.smq_load.specs.declared.row.Row as rows
 use Rattle.smq_load.specs.NextRecord.{HasGiven}
+use Rattle.smq_report.specs.Beginnings.{AppendsBeginning}
 use Rattle.smq_report.specs.declared.pick.Format.{Format}
 use Rattle.smq_engine.specs.declared.run_fault.RunFault.{RunFault}
 use Rattle.smq_engine.specs.declared.run_fault.RunFault.TheVariants.{BadRow, BadSettings, Read, Write, Memory, NoThread, Desk}
@@ -28,7 +29,7 @@ abbrev pub EndsSaying : RunFault → Option (List ℕ) → Option (List ℕ) →
 EndsSaying (BadRow row) old new text = ⊥
 EndsSaying BadSettings old new text = ⊥
 EndsSaying Read old new text = ⊥
-EndsSaying Write old new text = (count : ℕ) × Appends old new (take count text)
+EndsSaying Write old new text = AppendsBeginning old new text
 EndsSaying Memory old new text = Keeps old new
 EndsSaying NoThread old new text = ⊥
 EndsSaying Desk old new text = ⊥
