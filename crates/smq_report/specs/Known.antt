@@ -1,5 +1,5 @@
 -- Reports, columns and values at known tables.
-use Rattle.std.specs.Prelude.{◌≡◌, ℕ, List, [], ◌∷◌, ◌++◌, codes, map}
+use Rattle.std.specs.Prelude.{◌≡◌, ℕ, List, [], ◌∷◌, ◌++◌, Some, codes, map}
 use Rattle.std.specs.List.{flat_map}
 use Rattle.std.specs.FinMap as fin
 use Rattle.smq_kit.specs.declared.error_code.ErrorCode.TheVariants as c
@@ -20,6 +20,7 @@ use Rattle.smq_tally.specs.Tables.{TablesValue}
 use Rattle.smq_report.specs.declared.pick.Format.TheVariants as format
 use Rattle.smq_report.specs.declared.pick.Pick.TheVariants as pick
 use Rattle.smq_report.specs.declared.pick.Section.TheVariants as section
+use Rattle.smq_report.specs.Beginnings.{AppendsBeginning}
 use Rattle.smq_report.specs.Csv.{csv_text}
 use Rattle.smq_report.specs.Report.{report_text}
 use Rattle.smq_report.specs.Sections.{sections_of}
@@ -188,3 +189,14 @@ pub record KnowsTexts : Type 0 where
   pub band : value_text (w.Band b.Early) ≡ codes "early"
   pub client : dir_text FromClient ≡ codes "client"
   pub centre : dir_text FromCentre ≡ codes "centre"
+
+-- ---- beginnings of a text of two octets, behind an octet that stood there
+
+-- nothing, one octet and both begin it; another octet, one octet more, and one in the place of what stood there don't
+pub record KnowsBeginnings : Type 0 where
+  pub nothing : AppendsBeginning (Some (7 ∷ [])) (Some (7 ∷ [])) (1 ∷ 2 ∷ [])
+  pub first : AppendsBeginning (Some (7 ∷ [])) (Some (7 ∷ 1 ∷ [])) (1 ∷ 2 ∷ [])
+  pub all : AppendsBeginning (Some (7 ∷ [])) (Some (7 ∷ 1 ∷ 2 ∷ [])) (1 ∷ 2 ∷ [])
+  pub another : AppendsBeginning (Some (7 ∷ [])) (Some (7 ∷ 2 ∷ [])) (1 ∷ 2 ∷ []) → ⊥
+  pub more : AppendsBeginning (Some (7 ∷ [])) (Some (7 ∷ 1 ∷ 2 ∷ 3 ∷ [])) (1 ∷ 2 ∷ []) → ⊥
+  pub lost : AppendsBeginning (Some (7 ∷ [])) (Some (1 ∷ [])) (1 ∷ 2 ∷ []) → ⊥

@@ -6,7 +6,7 @@ ghost use Rattle.smq_tally.specs.Rows.{views};
 ghost use Rattle.smq_tally.specs.Tables.{TablesValue};
 ghost use Rattle.smq_report.specs.Csv.{csv_text};
 ghost use Rattle.smq_report.specs.Equal.{faults_eq, formats_eq, picks_eq, sections_eq};
-ghost use Rattle.smq_report.specs.Known.{KnowsColumns, KnowsReports, KnowsSections, KnowsTexts};
+ghost use Rattle.smq_report.specs.Known.{KnowsBeginnings, KnowsColumns, KnowsReports, KnowsSections, KnowsTexts};
 ghost use Rattle.smq_report.specs.Table.{table_text};
 
 use crate::pick::{Format, Pick, ReportFault, Section};
@@ -42,6 +42,11 @@ pub fn known_texts()
 /// Columns with texts that are shorter, as long and longer.
 pub fn known_columns()
     ensures { KnowsColumns }
+{}
+
+/// What begins a text of two octets, and what doesn't.
+pub fn known_beginnings()
+    ensures { KnowsBeginnings }
 {}
 
 /// The reports of known tables.

@@ -12,8 +12,8 @@ mod value;
 
 pub use csv_report::write_csv;
 pub use laws::{
-    known_columns, known_reports, known_sections, known_texts, what_is_asked_for_is_told_apart,
-    whole_reports_are_those_of_views_and_lists,
+    known_beginnings, known_columns, known_reports, known_sections, known_texts,
+    what_is_asked_for_is_told_apart, whole_reports_are_those_of_views_and_lists,
 };
 pub use octets::write_octets;
 pub use pick::{Format, Pick, ReportFault, Section};
