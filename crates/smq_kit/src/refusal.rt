@@ -36,21 +36,21 @@ pub enum Refusal {
     BadEnd,
     /// The new clock is below the present one.
     ClockBack { clock: Moment },
-    /// The history has as many entries as its limit. The desk will make it.
+    /// The history has as many entries as its limit. A desk tells it.
     HistoryFull,
     /// A growth was refused.
     Memory,
     /// The direction would pass its limit of octets.
     StreamFull,
-    /// The system refused to start a thread. What starts threads will make it.
+    /// The system refused to start a thread.
     NoThread,
-    /// All seats were given out. The desk will make it.
+    /// All seats were given out. A desk tells it.
     NoSeat,
-    /// The board gave no place for a reader. The desk will make it.
+    /// The board gave no place for a reader. A desk tells it.
     NoWatcher,
     /// A window is 0 ms or above `LAST_MOMENT`.
     BadWindow,
-    /// A call of a seat isn't the history's entry of that number; the least such. The desk will make it.
+    /// A call of a seat isn't the history's entry of that number; the least such. A desk tells it.
     TornSeat { number: u64 },
     /// A prefix is empty, over 15 octets, or not all digits.
     BadPrefix,
