@@ -1,4 +1,5 @@
 pub mod Finds
+pub mod Altered
 pub mod Changes
 pub mod Replacing
 pub mod Walks

@@ -1,15 +1,15 @@
 -- The first and the last of the entries in a range, in order.
 use Rattle.std.proofs.Common.{◌≡◌, Bool, true, false, cond, List, [], ◌∷◌, ◌++◌, Option, Some, None, refl, sym, ap, ◌∙◌, subst, filter, length, ◌<◌, arith}
-use Rattle.std.specs.Prelude.{IsSome, is_some, map}
+use Rattle.std.specs.Prelude.{IsSome}
 use Rattle.std.specs.declared.cmp.Ordering.{Ordering}
-use Rattle.std.specs.declared.cmp.Ordering.TheVariants.{Less, Equal, Greater}
+use Rattle.std.specs.declared.cmp.Ordering.TheVariants.{Less, Greater}
 use Rattle.std.specs.declared.ops.Bound.{Bound}
-use Rattle.std.specs.declared.ops.Bound.TheVariants.{Included, Excluded, Unbounded}
+use Rattle.std.specs.declared.ops.Bound.TheVariants.{Included, Unbounded}
 use Rattle.std.specs.Ordering.{is_eq, is_gt, is_lt, ordering_reverse}
 use Rattle.std.specs.Cmp.{IsTotalOrder}
 use Rattle.std.specs.List.Sorted.{IsStrictlySortedBy}
 use Rattle.std.specs.Map.{keys_of, lookup}
-use Rattle.std.specs.Map.Iter.{TakesFirst, TakesLast, deref_pair}
+use Rattle.std.specs.Map.Iter.{TakesFirst, TakesLast}
 use Rattle.std.specs.BTreeMap.{is_at}
 use Rattle.std.specs.BTreeMap.Range.{range_contains, entries_between, IsInRange}
 use Rattle.std.proofs.lemmas.Cmp.{tied_itself, tied_back}
@@ -21,7 +21,7 @@ use Rattle.std.proofs.lemmas.Map.Keys.{sorted_head, sorted_tail}
 use Rattle.std.proofs.lemmas.Map.Lookups.{CmpEqualImpliesEq}
 use Rattle.std.proofs.lemmas.Map.Views.{IsInRange-from_range_contains, range_contains-from_IsInRange}
 use Rattle.smq_shelf.specs.Places.{content_of, with_place}
-use Rattle.smq_shelf.specs.Nearest.{IsLeastFrom, IsGreatestUpTo, FindsFrom, FindsUpTo}
+use Rattle.smq_shelf.specs.Nearest.{FindsFrom, FindsUpTo}
 use Rattle.smq_shelf.proofs.Changes.{AllAbove, equal_from_is_eq}
 
 -- the content of places of which the last is vacant, or not

@@ -1,5 +1,5 @@
 -- Whether a place may be vacant, as changes are made and taken back.
-use Rattle.std.proofs.Common.{◌≡◌, Bool, true, false, List, [], ◌∷◌, ◌++◌, Option, Some, refl, sym, subst, ◌∙◌, Ordering, reverse}
+use Rattle.std.proofs.Common.{◌≡◌, Bool, true, false, List, [], ◌∷◌, ◌++◌, Option, Some, refl, sym, subst, ◌∙◌, Ordering}
 use Rattle.std.specs.declared.cmp.Ordering.TheVariants.{Less, Equal, Greater}
 use Rattle.std.specs.Ordering.{match_ordering}
 use Rattle.std.specs.Cmp.{IsTotalOrder}
@@ -8,7 +8,7 @@ use Rattle.std.specs.List.Sorted.{IsStrictlySortedBy}
 use Rattle.std.specs.Map.{keys_of}
 use Rattle.std.specs.BTreeMap.{insert_entry}
 use Rattle.std.proofs.lemmas.Bool.{false≢true}
-use Rattle.smq_shelf.specs.within.Undoing.{AreOccupied, IsKept, IsKeptBy, Logged, pasts, reverted}
+use Rattle.smq_shelf.specs.within.Undoing.{AreOccupied, IsKept, IsKeptBy, Logged, reverted}
 use Rattle.smq_shelf.proofs.Changes.{Puts, IsKept-put, IsKept-pop, pasts-put, pasts-pop}
 
 module _ {K : Type 0} {R : K → K → Ordering} (o : IsTotalOrder R) where

@@ -1,6 +1,7 @@
 pub mod Shown
 pub mod Lending
 pub mod Places
+pub mod Values
 pub mod Counts
 pub mod Nearest
 pub mod Keeping

@@ -1,5 +1,5 @@
 -- The entries next to a key.
-use Rattle.std.specs.Prelude.{◌≡◌, true, false, List, Option, Some, None, IsSome, MatchOption}
+use Rattle.std.specs.Prelude.{◌≡◌, false, List, Option, Some, None, IsSome, MatchOption}
 use Rattle.std.specs.declared.cmp.Ordering.{Ordering}
 use Rattle.std.specs.Ordering.{is_gt, is_lt}
 use Rattle.std.specs.Map.{lookup}

@@ -1,5 +1,5 @@
 //! A shelf whose changes since it was last settled can be undone.
-ghost use Rattle.std.specs.Prelude.{◌≡◌, false, [], ◌∷◌, List, Option, ◌++◌, ◌+◌, ◌-◌, ◌*◌, ◌≤◌, ◌<◌, ◌^◌, IfOk, OnOk, OnErr, None, Some, IsSome, is_some, find, length, unwrap_or, if◌then◌else◌};
+ghost use Rattle.std.specs.Prelude.{◌≡◌, false, [], ◌∷◌, List, Option, ◌++◌, ◌+◌, ◌-◌, ◌*◌, ◌≤◌, ◌<◌, ◌^◌, ◌||◌, IfOk, OnOk, OnErr, None, Some, IsSome, is_some, find, length, unwrap_or, if◌then◌else◌};
 ghost use Rattle.std.specs.Option.{option_copied, option_map};
 ghost use Rattle.std.specs.Map.Iter.{deref_pair};
 ghost use Rattle.std.specs.Ordering.{is_le, is_lt};
@@ -11,9 +11,11 @@ ghost use Rattle.smq_shelf.specs.Counts.{count_at, with_count};
 ghost use Rattle.smq_shelf.specs.Keeping.{with_touches};
 ghost use Rattle.smq_shelf.specs.Shown.{touched};
 ghost use Rattle.smq_shelf.specs.Places.{content_of, places_of};
+ghost use Rattle.smq_shelf.specs.Values.{with_value};
 ghost use Rattle.smq_shelf.specs.within.Undoing.{flatten, has_value, reverted, cleared_after};
 
-use crate::{Shelf, ShelfKey};
+use crate::logged::{alter, clear_vacant, give_back_room, lower, put, raise, revert, vacate};
+use crate::{Change, Shelf, ShelfKey};
 use std::alloc::{AllocError, Global};
 use std::cmp::Ord;
 use std::collections::BTreeMap;
@@ -93,9 +95,11 @@ impl<K: ShelfKey, V: Drop> Kept<K, V> {
         Ok(())
     }
 
-    /// Takes a key out: one touch. Its place then stays, vacant, until the map is settled or undone. An error changes
-    /// nothing but the touches.
-    pub fn remove(&mut self, key: &K) -> Result<(), AllocError>
+    /// Takes a key out: one touch. It tells whether it was there. Its place then stays, vacant, until the map is settled or
+    /// undone. An error changes nothing but the touches.
+    pub fn remove(&mut self, key: &K) -> Result<bool, AllocError>
+        ensures had { IfOk result (λ had. had
+            ≡ is_some (lookup (is_at (K.cmp key.now)) self.old.content)) }
         ensures content { OnOk result (self.new.content
             ≡ remove_entry (is_at (K.cmp key.now)) self.old.content) }
         ensures places { OnOk result (IsSome (lookup (is_at (K.cmp key.now)) self.old.content)
@@ -119,8 +123,81 @@ impl<K: ShelfKey, V: Drop> Kept<K, V> {
     {
         if vacate(&mut self.shelf, &mut self.log, key)? {
             self.has_vacant = true;
+            return Ok(true);
         }
-        Ok(())
+        Ok(false)
+    }
+
+    /// Takes a key out, as `remove` does, and gives the value that was there.
+    pub fn take(&mut self, key: &K) -> Result<Option<V>, AllocError>
+    where
+        V: Copy,
+        ensures value { IfOk result (λ taken. taken
+            ≡ lookup (is_at (K.cmp key.now)) self.old.content) }
+        ensures content { OnOk result (self.new.content
+            ≡ remove_entry (is_at (K.cmp key.now)) self.old.content) }
+        ensures places { IfOk result (λ taken. self.new.places ≡ if is_some taken
+            then insert_entry K.cmp self.old.places key.now None else self.old.places) }
+        ensures past { IfOk result (λ taken. self.new.past
+            ≡ if is_some taken then self.old.places ∷ self.old.past else self.old.past) }
+        ensures pending { IfOk result (λ taken. self.new.pending
+            ≡ if is_some taken then self.old.pending + 1 else self.old.pending) }
+        ensures absent { IfOk result (λ taken. taken ≡ None
+            → self.new ≡ with_touches self.new.touches self.old) }
+        ensures touched { OnOk result (self.new.touches ≡ touched self.old.touches) }
+        ensures unchanged { OnErr result (self.new ≡ with_touches self.new.touches self.old) }
+        ensures err { OnErr result (self.new.content ≡ self.old.content) }
+        ensures err_places { OnErr result (self.new.places ≡ self.old.places) }
+        ensures err_past { OnErr result (self.new.past ≡ self.old.past) }
+        ensures err_pending { OnErr result (self.new.pending ≡ self.old.pending) }
+        ensures settled { self.new.settled ≡ self.old.settled }
+        ensures shown { self.old.content ≡ content_of self.old.places }
+        ensures ordered { IsStrictlySortedBy K.cmp (keys_of self.old.content) }
+        ensures touches { self.new.touches ≤ self.old.touches + 1 }
+        ensures counted { self.old.touches ≤ self.new.touches }
+    {
+        if vacate(&mut self.shelf, &mut self.log, key)? {
+            self.has_vacant = true;
+            return Ok(last_value(&self.log));
+        }
+        Ok(None)
+    }
+
+    /// Makes of the value at a key what a change makes of it: one touch where the key has a place, and two where it has
+    /// none and gets one. It tells whether it left something to take back: not so where there was no value and is none.
+    /// The place of a key that is taken out stays, vacant, until the map is settled or undone. An error changes nothing
+    /// but the touches.
+    pub fn change<C: Change<V>>(&mut self, key: K, change: &C) -> Result<bool, AllocError>
+        ensures logged { IfOk result (λ logged. logged
+            ≡ (is_some (lookup (is_at (K.cmp key)) self.old.content)
+            || is_some (C.after change.now (lookup (is_at (K.cmp key)) self.old.content)))) }
+        ensures content { OnOk result (self.new.content ≡ with_value K.cmp key
+            (C.after change.now (lookup (is_at (K.cmp key)) self.old.content)) self.old.content) }
+        ensures places { IfOk result (λ logged. self.new.places ≡ if logged
+            then insert_entry K.cmp self.old.places key
+            (C.after change.now (lookup (is_at (K.cmp key)) self.old.content))
+            else self.old.places) }
+        ensures past { IfOk result (λ logged. self.new.past
+            ≡ if logged then self.old.places ∷ self.old.past else self.old.past) }
+        ensures pending { IfOk result (λ logged. self.new.pending
+            ≡ if logged then self.old.pending + 1 else self.old.pending) }
+        ensures absent { IfOk result (λ logged. logged ≡ false
+            → self.new ≡ with_touches self.new.touches self.old) }
+        ensures touched { OnOk result (touched self.old.touches ≤ self.new.touches) }
+        ensures unchanged { OnErr result (self.new ≡ with_touches self.new.touches self.old) }
+        ensures err { OnErr result (self.new.content ≡ self.old.content) }
+        ensures err_places { OnErr result (self.new.places ≡ self.old.places) }
+        ensures err_past { OnErr result (self.new.past ≡ self.old.past) }
+        ensures err_pending { OnErr result (self.new.pending ≡ self.old.pending) }
+        ensures settled { self.new.settled ≡ self.old.settled }
+        ensures shown { self.old.content ≡ content_of self.old.places }
+        ensures ordered { IsStrictlySortedBy K.cmp (keys_of self.old.content) }
+        ensures touches { self.new.touches ≤ self.old.touches + 2 }
+        ensures counted { self.old.touches ≤ self.new.touches }
+    {
+        let (had, has) = alter(&mut self.shelf, &mut self.log, key, change)?;
+        self.has_vacant |= had & !has;
+        Ok(had | has)
     }
 
     /// Takes the last change back, where one is pending: one touch then. It takes no memory.
@@ -158,6 +235,7 @@ impl<K: ShelfKey, V: Drop> Kept<K, V> {
             revert(&mut self.shelf, change);
         }
         self.has_vacant = false;
+        give_back_room(&mut self.log);
     }
 
     /// Makes the content the one that `undo` brings back, by at most two touches for each pending change. It takes no
@@ -173,12 +251,14 @@ impl<K: ShelfKey, V: Drop> Kept<K, V> {
     {
         if !self.has_vacant {
             self.log.clear();
+            give_back_room(&mut self.log);
             return;
         }
         while let Some(change) = self.log.pop() {
             clear_vacant(&mut self.shelf, change);
         }
         self.has_vacant = false;
+        give_back_room(&mut self.log);
     }
 }
 
@@ -340,167 +420,13 @@ pub(crate) fn place_of<'a, K, V>(
     }
 }
 
-// Puts a place into the shelf, and what was there into the log.
-fn put<K: ShelfKey, V: Drop>(
-    shelf: &mut Shelf<K, Option<V>>,
-    log: &mut Vec<(K, Option<Option<V>>)>,
-    key: K,
-    place: Option<V>,
-) -> Result<(), AllocError>
-    ensures entries { OnOk result
-        (shelf.new.entries ≡ insert_entry K.cmp shelf.old.entries key place) }
-    ensures ordered { OnOk result (IsStrictlySortedBy K.cmp (keys_of shelf.new.entries)) }
-    ensures log { OnOk result (log.new.items
-        ≡ log.old.items ++ (key, lookup (is_at (K.cmp key)) shelf.old.entries) ∷ []) }
-    ensures touched { OnOk result (shelf.new.touches ≡ touched shelf.old.touches) }
-    ensures err { OnErr result (shelf.new.entries ≡ shelf.old.entries) }
-    ensures err_log { OnErr result (log.new.items ≡ log.old.items) }
-    ensures touches { shelf.new.touches ≤ shelf.old.touches + 1 }
-    ensures counted { shelf.old.touches ≤ shelf.new.touches }
+// The value that the last change of a log took out.
+fn last_value<K, V: Copy>(log: &Vec<(K, Option<Option<V>>)>) -> Option<V>
+    ensures { (cs : List (K × Option (Option V))) (k : K) (before : Option (Option V))
+        → log.now.items ≡ cs ++ (k, before) ∷ [] → result ≡ flatten before }
 {
-    let logged = key.copy();
-    log.reserve(1)?;
-    match shelf.insert(key, place) {
-        Ok(before) => {
-            log.push((logged, before))?;
-            Ok(())
-        }
-        Err(_) => Err(AllocError),
-    }
-}
-
-// Makes the place of a key vacant, and puts the value that was there into the log. It tells whether there was one.
-fn vacate<K: ShelfKey, V: Drop>(
-    shelf: &mut Shelf<K, Option<V>>,
-    log: &mut Vec<(K, Option<Option<V>>)>,
-    key: &K,
-) -> Result<bool, AllocError>
-    ensures had { IfOk result (λ had. had
-        ≡ has_value (lookup (is_at (K.cmp key.now)) shelf.old.entries)) }
-    ensures entries { IfOk result (λ had. shelf.new.entries
-        ≡ if had then insert_entry K.cmp shelf.old.entries key.now None else shelf.old.entries) }
-    ensures log { IfOk result (λ had. log.new.items ≡ (if had
-        then log.old.items ++ (key.now, lookup (is_at (K.cmp key.now)) shelf.old.entries) ∷ []
-        else log.old.items)) }
-    ensures ordered { OnOk result (IsStrictlySortedBy K.cmp (keys_of shelf.new.entries)) }
-    ensures touched { OnOk result (shelf.new.touches ≡ touched shelf.old.touches) }
-    ensures err { OnErr result (shelf.new.entries ≡ shelf.old.entries) }
-    ensures err_log { OnErr result (log.new.items ≡ log.old.items) }
-    ensures touches { shelf.new.touches ≤ shelf.old.touches + 1 }
-    ensures counted { shelf.old.touches ≤ shelf.new.touches }
-{
-    log.reserve(1)?;
-    match shelf.replace(key, None) {
-        Some(Some(value)) => {
-            log.push((key.copy(), Some(Some(value))))?;
-            Ok(true)
-        }
-        Some(None) => Ok(false),
-        None => Ok(false),
-    }
-}
-
-// Adds one to the count of the place of a key, and puts what was there into the log. A key that has a place is looked
-// up once.
-fn raise<K: ShelfKey>(
-    shelf: &mut Shelf<K, Option<u64>>,
-    log: &mut Vec<(K, Option<Option<u64>>)>,
-    key: K,
-) -> Result<(), AllocError>
-    requires { unwrap_or (flatten (lookup (is_at (K.cmp key)) shelf.old.entries)) 0 + 1 < 2 ^ 64 }
-    ensures entries { OnOk result (shelf.new.entries ≡ insert_entry K.cmp shelf.old.entries key
-        (Some (unwrap_or (flatten (lookup (is_at (K.cmp key)) shelf.old.entries)) 0 + 1))) }
-    ensures ordered { OnOk result (IsStrictlySortedBy K.cmp (keys_of shelf.new.entries)) }
-    ensures log { OnOk result (log.new.items
-        ≡ log.old.items ++ (key, lookup (is_at (K.cmp key)) shelf.old.entries) ∷ []) }
-    ensures touched { OnOk result (touched shelf.old.touches ≤ shelf.new.touches) }
-    ensures once { OnOk result (IsSome (lookup (is_at (K.cmp key)) shelf.old.entries)
-        → shelf.new.touches ≡ touched shelf.old.touches) }
-    ensures err { OnErr result (shelf.new.entries ≡ shelf.old.entries) }
-    ensures err_log { OnErr result (log.new.items ≡ log.old.items) }
-    ensures touches { shelf.new.touches ≤ shelf.old.touches + 2 }
-    ensures counted { shelf.old.touches ≤ shelf.new.touches }
-{
-    log.reserve(1)?;
-    match shelf.raise(&key) {
-        Some(before) => {
-            log.push((key, Some(before)))?;
-            Ok(())
-        }
-        None => put(shelf, log, key, Some(1)),
-    }
-}
-
-// Takes one from the count of the place of a key, which is vacant where that leaves none, and puts the count that was
-// there into the log. It gives that count.
-fn lower<K: ShelfKey>(
-    shelf: &mut Shelf<K, Option<u64>>,
-    log: &mut Vec<(K, Option<Option<u64>>)>,
-    key: K,
-) -> Result<Option<u64>, AllocError>
-    ensures count { IfOk result (λ count. count
-        ≡ flatten (lookup (is_at (K.cmp key)) shelf.old.entries)) }
-    ensures entries { IfOk result (λ count. shelf.new.entries ≡ if is_some count
-        then insert_entry K.cmp shelf.old.entries key (positive (unwrap_or count 0 - 1))
-        else shelf.old.entries) }
-    ensures log { IfOk result (λ count. log.new.items ≡ (if is_some count
-        then log.old.items ++ (key, lookup (is_at (K.cmp key)) shelf.old.entries) ∷ []
-        else log.old.items)) }
-    ensures ordered { OnOk result (IsStrictlySortedBy K.cmp (keys_of shelf.new.entries)) }
-    ensures touched { OnOk result (shelf.new.touches ≡ touched shelf.old.touches) }
-    ensures err { OnErr result (shelf.new.entries ≡ shelf.old.entries) }
-    ensures err_log { OnErr result (log.new.items ≡ log.old.items) }
-    ensures touches { shelf.new.touches ≤ shelf.old.touches + 1 }
-    ensures counted { shelf.old.touches ≤ shelf.new.touches }
-{
-    log.reserve(1)?;
-    match shelf.lower(&key) {
-        Some(Some(count)) => {
-            log.push((key, Some(Some(count))))?;
-            Ok(Some(count))
-        }
-        Some(None) => Ok(None),
-        None => Ok(None),
-    }
-}
-
-// Takes one change back. The key has a place, so this takes no memory.
-fn revert<K: ShelfKey, V: Drop>(shelf: &mut Shelf<K, Option<V>>, change: (K, Option<Option<V>>))
-    requires { IsSome (lookup (is_at (K.cmp change.0)) shelf.old.entries) }
-    ensures entries { shelf.new.entries ≡ reverted K.cmp change.0 change.1 shelf.old.entries }
-    ensures ordered { IsStrictlySortedBy K.cmp (keys_of shelf.new.entries) }
-    ensures touched { shelf.new.touches ≡ touched shelf.old.touches }
-    ensures touches { shelf.new.touches ≤ shelf.old.touches + 1 }
-    ensures counted { shelf.old.touches ≤ shelf.new.touches }
-{
-    let (key, before) = change;
-    match before {
-        None => {
-            shelf.remove(&key);
-        }
-        Some(place) => {
-            let _ = shelf.insert(key, place);
-        }
-    }
-}
-
-// Takes out the place of a change's key where it is vacant. Only a key that had a value can have been taken out by the
-// change, so that no other is looked up.
-fn clear_vacant<K: ShelfKey, V: Drop>(
-    shelf: &mut Shelf<K, Option<V>>,
-    change: (K, Option<Option<V>>),
-)
-    ensures entries { shelf.new.entries ≡ cleared_after K.cmp change shelf.old.entries }
-    ensures ordered { IsStrictlySortedBy K.cmp (keys_of shelf.old.entries)
-        → IsStrictlySortedBy K.cmp (keys_of shelf.new.entries) }
-    ensures touches { shelf.new.touches ≤ shelf.old.touches + 2 }
-    ensures counted { shelf.old.touches ≤ shelf.new.touches }
-{
-    let (key, Some(Some(_))) = change else {
-        return;
-    };
-    let is_vacant = matches!(shelf.get(&key), Some(None));
-    if is_vacant {
-        shelf.remove(&key);
+    match log.last() {
+        Some((_, Some(Some(value)))) => Some(*value),
+        _ => None,
     }
 }

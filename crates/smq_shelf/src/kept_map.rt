@@ -1,5 +1,5 @@
 //! A map that can be undone, and is read through `&self`.
-ghost use Rattle.std.specs.Prelude.{◌≡◌, ◌<◌, ◌+◌, ◌-◌, ◌^◌, [], ◌∷◌, false, List, Option, IfOk, OnOk, OnErr, None, IsSome, Some, is_some, length, filter, find, if◌then◌else◌};
+ghost use Rattle.std.specs.Prelude.{◌≡◌, ◌||◌, ◌<◌, ◌+◌, ◌-◌, ◌^◌, [], ◌∷◌, false, List, Option, IfOk, OnOk, OnErr, None, IsSome, Some, is_some, length, filter, find, if◌then◌else◌};
 ghost use Rattle.std.specs.Option.{option_copied, option_map};
 ghost use Rattle.std.specs.Ordering.{is_gt, is_le};
 ghost use Rattle.std.specs.BTreeMap.Range.{entries_between};
@@ -13,10 +13,11 @@ ghost use Rattle.smq_kit.specs.Maps.{positive};
 ghost use Rattle.smq_shelf.specs.Counts.{count_at, with_count};
 ghost use Rattle.smq_shelf.specs.Nearest.{FindsFrom, FindsUpTo};
 ghost use Rattle.smq_shelf.specs.Places.{content_of, places_of};
+ghost use Rattle.smq_shelf.specs.Values.{with_value};
 
 use crate::kept::place_of;
 use crate::shelf::least_from;
-use crate::{Kept, ShelfKey};
+use crate::{Change, Kept, ShelfKey};
 use std::alloc::{AllocError, Global};
 use std::cmp::Ord;
 use std::collections::btree_map::Range;
@@ -72,8 +73,11 @@ impl<K: ShelfKey, V: Drop> KeptMap<K, V> {
         self.kept.set(key, value)
     }
 
-    /// Takes a key out. Its place stays, vacant, until the map is settled or undone. An error changes nothing.
-    pub fn remove(&mut self, key: &K) -> Result<(), AllocError>
+    /// Takes a key out. It tells whether it was there. Its place stays, vacant, until the map is settled or undone. An error
+    /// changes nothing.
+    pub fn remove(&mut self, key: &K) -> Result<bool, AllocError>
+        ensures had { IfOk result (λ had. had
+            ≡ is_some (lookup (is_at (K.cmp key.now)) self.old.content)) }
         ensures content { OnOk result (self.new.content
             ≡ remove_entry (is_at (K.cmp key.now)) self.old.content) }
         ensures places { OnOk result (IsSome (lookup (is_at (K.cmp key.now)) self.old.content)
@@ -92,6 +96,33 @@ impl<K: ShelfKey, V: Drop> KeptMap<K, V> {
             (IsStrictlySortedBy K.cmp (keys_of self.old.content)) }
     {
         self.kept.remove(key)
+    }
+
+    /// Makes of the value at a key what a change makes of it. It tells whether it left something to take back: not so where
+    /// there was no value and is none. A key that has a place is looked up once. The place of a key that is taken out
+    /// stays, vacant, until the map is settled or undone. An error changes nothing.
+    pub fn change<C: Change<V>>(&mut self, key: K, change: &C) -> Result<bool, AllocError>
+        ensures logged { IfOk result (λ logged. logged
+            ≡ (is_some (lookup (is_at (K.cmp key)) self.old.content)
+            || is_some (C.after change.now (lookup (is_at (K.cmp key)) self.old.content)))) }
+        ensures content { OnOk result (self.new.content ≡ with_value K.cmp key
+            (C.after change.now (lookup (is_at (K.cmp key)) self.old.content)) self.old.content) }
+        ensures places { IfOk result (λ logged. self.new.places ≡ if logged
+            then insert_entry K.cmp self.old.places key
+            (C.after change.now (lookup (is_at (K.cmp key)) self.old.content))
+            else self.old.places) }
+        ensures past { IfOk result (λ logged. self.new.past
+            ≡ if logged then self.old.places ∷ self.old.past else self.old.past) }
+        ensures absent { IfOk result (λ logged. logged ≡ false → self.new ≡ self.old) }
+        ensures unchanged { OnErr result (self.new ≡ self.old) }
+        ensures err { OnErr result (self.new.content ≡ self.old.content) }
+        ensures err_places { OnErr result (self.new.places ≡ self.old.places) }
+        ensures err_past { OnErr result (self.new.past ≡ self.old.past) }
+        ensures settled { self.new.settled ≡ self.old.settled }
+        ensures shown { self.old.content ≡ content_of self.old.places }
+        ensures ordered { IsStrictlySortedBy K.cmp (keys_of self.old.content) }
+    {
+        self.kept.change(key, change)
     }
 
     /// Takes the last change back, where one is pending. It takes no memory.

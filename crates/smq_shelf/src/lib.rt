@@ -2,12 +2,15 @@
 //! where it was last settled.
 #![tactic(auto)]
 
+mod change;
 mod kept;
 mod kept_map;
 mod laws;
+mod logged;
 mod shelf;
 mod shelf_key;
 
+pub use change::Change;
 pub use kept::Kept;
 pub use kept_map::{Entries, KeptMap};
 pub use laws::{known_changes, known_clearings, known_contents, known_entries, known_touches};

@@ -1,5 +1,5 @@
 //! An ordered map that counts its calls.
-ghost use Rattle.std.specs.Prelude.{◌≡◌, ◌≤◌, ◌<◌, ◌+◌, ◌-◌, ◌^◌, [], IfOk, OnOk, IfErr, OnErr, None, Some, find, unwrap_or};
+ghost use Rattle.std.specs.Prelude.{◌≡◌, ◌≤◌, ◌<◌, ◌+◌, ◌-◌, ◌^◌, [], IfOk, OnOk, IfErr, OnErr, None, Some, IfSome, is_some, find, unwrap_or};
 ghost use Rattle.std.specs.Ordering.{is_le, is_lt};
 ghost use Rattle.std.specs.Option.{option_copied, option_map};
 ghost use Rattle.std.specs.Map.Iter.{deref_pair};
@@ -10,6 +10,7 @@ ghost use Rattle.smq_kit.specs.Maps.{positive};
 ghost use Rattle.smq_shelf.specs.Shown.{touched};
 ghost use Rattle.smq_shelf.specs.within.Undoing.{flatten};
 
+use crate::Change;
 use std::alloc::Global;
 use std::collections::BTreeMap;
 use std::marker::Model;
@@ -117,6 +118,27 @@ impl<K: Ord, V> Shelf<K, V> {
     }
 }
 
+impl<K: Ord, V: Drop> Shelf<K, Option<V>> {
+    // Makes of the place of a key what a change makes of its value, and gives what was there, and whether there is a value
+    // now. Where the key has no place, nothing changes. It takes no memory. One touch.
+    pub(crate) fn change<C: Change<V>>(&mut self, key: &K, change: &C) -> Option<(Option<V>, bool)>
+        ensures touches { self.new.touches ≡ touched self.old.touches }
+        ensures counted { self.old.touches ≤ self.new.touches }
+        ensures old { option_map (λ r. r.0) result ≡ lookup (is_at (K.cmp key.now)) self.old.entries }
+        ensures has { IfSome result (λ r. r.1 ≡ is_some (C.after change.now r.0)) }
+        ensures entries { self.new.entries ≡ set_value (is_at (K.cmp key.now)) self.old.entries
+            (C.after change.now (flatten (lookup (is_at (K.cmp key.now)) self.old.entries))) }
+        ensures ordered { IsStrictlySortedBy K.cmp (keys_of self.new.entries) }
+        ensures was_ordered { IsStrictlySortedBy K.cmp (keys_of self.old.entries) }
+    {
+        self.count = self.count.saturating_add(1);
+        let Some(place) = self.map.get_mut(key) else {
+            return None;
+        };
+        Some(change_at(place, change))
+    }
+}
+
 impl<K: Ord> Shelf<K, Option<u64>> {
     // Adds one to the count at a key, which is 1 where its place is vacant, and gives what was there. Where the key has
     // no place, nothing changes. It takes no memory. One touch.
@@ -192,6 +214,17 @@ impl<K: Ord, V> Shelf<K, V> {
         self.count = self.count.saturating_add(1);
         least_after(&self.map, key)
     }
+}
+
+// Makes of a place what a change makes of its value, and gives what was there, and whether there is a value now.
+fn change_at<V: Drop, C: Change<V>>(place: &mut Option<V>, change: &C) -> (Option<V>, bool)
+    ensures old { result.0 ≡ place.old }
+    ensures has { result.1 ≡ is_some (C.after change.now place.old) }
+    ensures new { place.new ≡ C.after change.now place.old }
+{
+    let after = change.after(place.as_ref());
+    let has = after.is_some();
+    (replace(place, after), has)
 }
 
 // Adds one to the count of a place, and gives what was there.

@@ -17,22 +17,22 @@ loop-change-preserved g c = record {
 
 pub invariant_of-self : goal.invariant_of-self
 invariant_of-self g c =
-    let left : c.clear.new.self.items ≡ [] = grind (arith, common_steps) in
+    let left : c.give_back_room.new.log.items ≡ [] = grind (arith, common_steps) in
     let free : c.self.inside.has_vacant ≡ false = grind (arith, common_steps) in
     IsKeptBy-none _ _ _ left (IsKept-cleared _ _ _ _ left free c.self.invariant)
 
 pub returns-then-not-self-clause-places : goal.returns-then-not-self-clause-places
 returns-then-not-self-clause-places g c =
-    let left : c.clear.new.self.items ≡ [] = grind (arith, common_steps) in
+    let left : c.give_back_room.new.log.items ≡ [] = grind (arith, common_steps) in
     places-settled _ _ left (invariant_of-self g c).kept
 
 pub invariant_of-self-2 : goal.invariant_of-self-2
 invariant_of-self-2 g c =
     let all : c.loop-change.self-inside.log.items ≡ [] = grind (arith, common_steps) in
-    let left : c.pop.new.self.items ≡ [] = grind (arith, common_steps) in
+    let left : c.give_back_room-2.new.log.items ≡ [] = grind (arith, common_steps) in
     IsKeptBy-none _ _ _ left (IsKept-settled g.met.K.Ord.total _ _ _ _ all left c.loop-change.invariant.steps)
 
 pub returns-clause-places : goal.returns-clause-places
 returns-clause-places g c =
-    let left : c.pop.new.self.items ≡ [] = grind (arith, common_steps) in
+    let left : c.give_back_room-2.new.log.items ≡ [] = grind (arith, common_steps) in
     places-settled _ _ left (invariant_of-self-2 g c).kept

@@ -12,5 +12,5 @@ returns-clause-places g c =
 pub invariant_of-self : goal.invariant_of-self
 invariant_of-self g c =
     let all : c.loop-change.self-inside.log.items ≡ [] = grind (arith, common_steps) in
-    let left : c.pop.new.self.items ≡ [] = grind (arith, common_steps) in
+    let left : c.give_back_room.new.log.items ≡ [] = grind (arith, common_steps) in
     IsKeptBy-none _ _ _ left (IsKept-empty _ _ _ all left c.loop-change.invariant.steps.kept)

@@ -1,6 +1,6 @@
-use Rattle.std.proofs.Common.{rules, ◌≡◌, ◌<◌, [], ◌∷◌, ◌++◌, Some, None, length, refl, sym, ap, ◌∙◌, arith}
+use Rattle.std.proofs.Common.{◌≡◌, ◌<◌, [], ◌∷◌, ◌++◌, length, sym, ◌∙◌}
 use Rattle.smq_shelf.specs.Places.{content_of}
-use Rattle.smq_shelf.proofs.Nearest.{content_of-last, last-value, last-vacant, one-less}
+use Rattle.smq_shelf.proofs.Nearest.{last-value, last-vacant, one-less}
 use Rattle.smq_shelf.proofs.kept_map.EntriesDoubleEndedIterator.next_back.Goals as goal
 
 steps : (g : _) (c : goal.In-Some-place g) → c.args.self.now ≡ content_of c.next_back.new.self ++ (c.in-Some.key.now, c.in-Some-place.value) ∷ []

@@ -1,6 +1,6 @@
 use Rattle.std.proofs.Common.{◌≡◌, ◌∙◌, sym, refl}
 use Rattle.smq_shelf.proofs.Replacing.{set_value-none, set_value-insert_entry}
-use Rattle.smq_shelf.proofs.kept.raise.Goals as goal
+use Rattle.smq_shelf.proofs.logged.raise.Goals as goal
 
 pub returns-in_ok-push-in-Some-clause-entries : goal.returns-in_ok-push-in-Some-clause-entries
 returns-in_ok-push-in-Some-clause-entries g c =

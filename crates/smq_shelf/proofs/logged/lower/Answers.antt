@@ -1,7 +1,7 @@
 use Rattle.std.proofs.Common.{◌∙◌, sym, refl}
 use Rattle.std.proofs.lemmas.Map.Steps.{set_value_same}
 use Rattle.smq_shelf.proofs.Replacing.{set_value-none, set_value-insert_entry}
-use Rattle.smq_shelf.proofs.kept.lower.Goals as goal
+use Rattle.smq_shelf.proofs.logged.lower.Goals as goal
 
 pub returns-in_ok-push-in-Some-Some-clause-entries : goal.returns-in_ok-push-in-Some-Some-clause-entries
 returns-in_ok-push-in-Some-Some-clause-entries g c =

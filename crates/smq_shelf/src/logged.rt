@@ -1,0 +1,261 @@
+//! Changes of a shelf's places, each with what was there before it in a log.
+ghost use Rattle.std.specs.Prelude.{◌≡◌, ◌||◌, ◌∷◌, ◌++◌, ◌+◌, ◌-◌, ◌≤◌, ◌<◌, ◌^◌, [], IfOk, OnOk, OnErr, None, Some, IsSome, is_some, unwrap_or, if◌then◌else◌};
+ghost use Rattle.std.specs.List.Sorted.{IsStrictlySortedBy};
+ghost use Rattle.std.specs.Map.{keys_of, lookup};
+ghost use Rattle.std.specs.BTreeMap.{is_at, insert_entry};
+ghost use Rattle.smq_kit.specs.Maps.{positive};
+ghost use Rattle.smq_shelf.specs.Shown.{touched};
+ghost use Rattle.smq_shelf.specs.within.Undoing.{flatten, has_value, reverted, cleared_after};
+
+use crate::{Change, Shelf, ShelfKey};
+use std::alloc::AllocError;
+
+/// The most changes for which an emptied log keeps its room.
+const MOST_KEPT_CHANGES: usize = 1_024;
+
+// Puts a place into the shelf, and what was there into the log.
+pub(crate) fn put<K: ShelfKey, V: Drop>(
+    shelf: &mut Shelf<K, Option<V>>,
+    log: &mut Vec<(K, Option<Option<V>>)>,
+    key: K,
+    place: Option<V>,
+) -> Result<(), AllocError>
+    ensures entries { OnOk result
+        (shelf.new.entries ≡ insert_entry K.cmp shelf.old.entries key place) }
+    ensures ordered { OnOk result (IsStrictlySortedBy K.cmp (keys_of shelf.new.entries)) }
+    ensures log { OnOk result (log.new.items
+        ≡ log.old.items ++ (key, lookup (is_at (K.cmp key)) shelf.old.entries) ∷ []) }
+    ensures touched { OnOk result (shelf.new.touches ≡ touched shelf.old.touches) }
+    ensures err { OnErr result (shelf.new.entries ≡ shelf.old.entries) }
+    ensures err_log { OnErr result (log.new.items ≡ log.old.items) }
+    ensures touches { shelf.new.touches ≤ shelf.old.touches + 1 }
+    ensures counted { shelf.old.touches ≤ shelf.new.touches }
+{
+    let logged = key.copy();
+    log.reserve(1)?;
+    match shelf.insert(key, place) {
+        Ok(before) => {
+            log.push((logged, before))?;
+            Ok(())
+        }
+        Err(_) => Err(AllocError),
+    }
+}
+
+// Makes the place of a key vacant, and puts the value that was there into the log. It tells whether there was one.
+pub(crate) fn vacate<K: ShelfKey, V: Drop>(
+    shelf: &mut Shelf<K, Option<V>>,
+    log: &mut Vec<(K, Option<Option<V>>)>,
+    key: &K,
+) -> Result<bool, AllocError>
+    ensures had { IfOk result (λ had. had
+        ≡ has_value (lookup (is_at (K.cmp key.now)) shelf.old.entries)) }
+    ensures entries { IfOk result (λ had. shelf.new.entries
+        ≡ if had then insert_entry K.cmp shelf.old.entries key.now None else shelf.old.entries) }
+    ensures log { IfOk result (λ had. log.new.items ≡ (if had
+        then log.old.items ++ (key.now, lookup (is_at (K.cmp key.now)) shelf.old.entries) ∷ []
+        else log.old.items)) }
+    ensures ordered { OnOk result (IsStrictlySortedBy K.cmp (keys_of shelf.new.entries)) }
+    ensures touched { OnOk result (shelf.new.touches ≡ touched shelf.old.touches) }
+    ensures err { OnErr result (shelf.new.entries ≡ shelf.old.entries) }
+    ensures err_log { OnErr result (log.new.items ≡ log.old.items) }
+    ensures touches { shelf.new.touches ≤ shelf.old.touches + 1 }
+    ensures counted { shelf.old.touches ≤ shelf.new.touches }
+{
+    log.reserve(1)?;
+    match shelf.replace(key, None) {
+        Some(Some(value)) => {
+            log.push((key.copy(), Some(Some(value))))?;
+            Ok(true)
+        }
+        Some(None) => Ok(false),
+        None => Ok(false),
+    }
+}
+
+// Makes of the place of a key what a change makes of its value, and puts what was there into the log, unless there was no
+// value and is none. It tells whether there was one, and whether there is one. A key that has a place is looked up once.
+pub(crate) fn alter<K: ShelfKey, V: Drop, C: Change<V>>(
+    shelf: &mut Shelf<K, Option<V>>,
+    log: &mut Vec<(K, Option<Option<V>>)>,
+    key: K,
+    change: &C,
+) -> Result<(bool, bool), AllocError>
+    ensures had { IfOk result (λ r. r.0
+        ≡ has_value (lookup (is_at (K.cmp key)) shelf.old.entries)) }
+    ensures has { IfOk result (λ r. r.1
+        ≡ is_some (C.after change.now (flatten (lookup (is_at (K.cmp key)) shelf.old.entries)))) }
+    ensures entries { IfOk result (λ r. shelf.new.entries ≡ if r.0 || r.1
+        then insert_entry K.cmp shelf.old.entries key
+        (C.after change.now (flatten (lookup (is_at (K.cmp key)) shelf.old.entries)))
+        else shelf.old.entries) }
+    ensures log { IfOk result (λ r. log.new.items ≡ (if r.0 || r.1
+        then log.old.items ++ (key, lookup (is_at (K.cmp key)) shelf.old.entries) ∷ []
+        else log.old.items)) }
+    ensures ordered { OnOk result (IsStrictlySortedBy K.cmp (keys_of shelf.new.entries)) }
+    ensures touched { OnOk result (touched shelf.old.touches ≤ shelf.new.touches) }
+    ensures err { OnErr result (shelf.new.entries ≡ shelf.old.entries) }
+    ensures err_log { OnErr result (log.new.items ≡ log.old.items) }
+    ensures touches { shelf.new.touches ≤ shelf.old.touches + 2 }
+    ensures counted { shelf.old.touches ≤ shelf.new.touches }
+{
+    log.reserve(1)?;
+    let Some((before, has)) = shelf.change(&key, change) else {
+        let has = begin(shelf, log, key, change)?;
+        return Ok((false, has));
+    };
+    let had = before.is_some();
+    if had || has {
+        log.push((key, Some(before)))?;
+    }
+    Ok((had, has))
+}
+
+// Puts in what a change makes of no value at a key that has no place, and the key into the log, if that is a value. It tells
+// whether it is.
+fn begin<K: ShelfKey, V: Drop, C: Change<V>>(
+    shelf: &mut Shelf<K, Option<V>>,
+    log: &mut Vec<(K, Option<Option<V>>)>,
+    key: K,
+    change: &C,
+) -> Result<bool, AllocError>
+    requires { lookup (is_at (K.cmp key)) shelf.old.entries ≡ None }
+    ensures has { IfOk result (λ has. has ≡ is_some (C.after change.now None)) }
+    ensures entries { IfOk result (λ has. shelf.new.entries ≡ if has
+        then insert_entry K.cmp shelf.old.entries key (C.after change.now None)
+        else shelf.old.entries) }
+    ensures log { IfOk result (λ has. log.new.items
+        ≡ (if has then log.old.items ++ (key, None) ∷ [] else log.old.items)) }
+    ensures ordered { IsStrictlySortedBy K.cmp (keys_of shelf.old.entries)
+        → OnOk result (IsStrictlySortedBy K.cmp (keys_of shelf.new.entries)) }
+    ensures err { OnErr result (shelf.new.entries ≡ shelf.old.entries) }
+    ensures err_log { OnErr result (log.new.items ≡ log.old.items) }
+    ensures touches { shelf.new.touches ≤ shelf.old.touches + 1 }
+    ensures counted { shelf.old.touches ≤ shelf.new.touches }
+{
+    let nothing: Option<V> = None;
+    match change.after(nothing.as_ref()) {
+        Some(value) => {
+            put(shelf, log, key, Some(value))?;
+            Ok(true)
+        }
+        None => Ok(false),
+    }
+}
+
+// Adds one to the count of the place of a key, and puts what was there into the log. A key that has a place is looked
+// up once.
+pub(crate) fn raise<K: ShelfKey>(
+    shelf: &mut Shelf<K, Option<u64>>,
+    log: &mut Vec<(K, Option<Option<u64>>)>,
+    key: K,
+) -> Result<(), AllocError>
+    requires { unwrap_or (flatten (lookup (is_at (K.cmp key)) shelf.old.entries)) 0 + 1 < 2 ^ 64 }
+    ensures entries { OnOk result (shelf.new.entries ≡ insert_entry K.cmp shelf.old.entries key
+        (Some (unwrap_or (flatten (lookup (is_at (K.cmp key)) shelf.old.entries)) 0 + 1))) }
+    ensures ordered { OnOk result (IsStrictlySortedBy K.cmp (keys_of shelf.new.entries)) }
+    ensures log { OnOk result (log.new.items
+        ≡ log.old.items ++ (key, lookup (is_at (K.cmp key)) shelf.old.entries) ∷ []) }
+    ensures touched { OnOk result (touched shelf.old.touches ≤ shelf.new.touches) }
+    ensures once { OnOk result (IsSome (lookup (is_at (K.cmp key)) shelf.old.entries)
+        → shelf.new.touches ≡ touched shelf.old.touches) }
+    ensures err { OnErr result (shelf.new.entries ≡ shelf.old.entries) }
+    ensures err_log { OnErr result (log.new.items ≡ log.old.items) }
+    ensures touches { shelf.new.touches ≤ shelf.old.touches + 2 }
+    ensures counted { shelf.old.touches ≤ shelf.new.touches }
+{
+    log.reserve(1)?;
+    match shelf.raise(&key) {
+        Some(before) => {
+            log.push((key, Some(before)))?;
+            Ok(())
+        }
+        None => put(shelf, log, key, Some(1)),
+    }
+}
+
+// Takes one from the count of the place of a key, which is vacant where that leaves none, and puts the count that was
+// there into the log. It gives that count.
+pub(crate) fn lower<K: ShelfKey>(
+    shelf: &mut Shelf<K, Option<u64>>,
+    log: &mut Vec<(K, Option<Option<u64>>)>,
+    key: K,
+) -> Result<Option<u64>, AllocError>
+    ensures count { IfOk result (λ count. count
+        ≡ flatten (lookup (is_at (K.cmp key)) shelf.old.entries)) }
+    ensures entries { IfOk result (λ count. shelf.new.entries ≡ if is_some count
+        then insert_entry K.cmp shelf.old.entries key (positive (unwrap_or count 0 - 1))
+        else shelf.old.entries) }
+    ensures log { IfOk result (λ count. log.new.items ≡ (if is_some count
+        then log.old.items ++ (key, lookup (is_at (K.cmp key)) shelf.old.entries) ∷ []
+        else log.old.items)) }
+    ensures ordered { OnOk result (IsStrictlySortedBy K.cmp (keys_of shelf.new.entries)) }
+    ensures touched { OnOk result (shelf.new.touches ≡ touched shelf.old.touches) }
+    ensures err { OnErr result (shelf.new.entries ≡ shelf.old.entries) }
+    ensures err_log { OnErr result (log.new.items ≡ log.old.items) }
+    ensures touches { shelf.new.touches ≤ shelf.old.touches + 1 }
+    ensures counted { shelf.old.touches ≤ shelf.new.touches }
+{
+    log.reserve(1)?;
+    match shelf.lower(&key) {
+        Some(Some(count)) => {
+            log.push((key, Some(Some(count))))?;
+            Ok(Some(count))
+        }
+        Some(None) => Ok(None),
+        None => Ok(None),
+    }
+}
+
+// Takes one change back. The key has a place, so this takes no memory.
+pub(crate) fn revert<K: ShelfKey, V: Drop>(
+    shelf: &mut Shelf<K, Option<V>>,
+    change: (K, Option<Option<V>>),
+)
+    requires { IsSome (lookup (is_at (K.cmp change.0)) shelf.old.entries) }
+    ensures entries { shelf.new.entries ≡ reverted K.cmp change.0 change.1 shelf.old.entries }
+    ensures ordered { IsStrictlySortedBy K.cmp (keys_of shelf.new.entries) }
+    ensures touched { shelf.new.touches ≡ touched shelf.old.touches }
+    ensures touches { shelf.new.touches ≤ shelf.old.touches + 1 }
+    ensures counted { shelf.old.touches ≤ shelf.new.touches }
+{
+    let (key, before) = change;
+    match before {
+        None => {
+            shelf.remove(&key);
+        }
+        Some(place) => {
+            let _ = shelf.insert(key, place);
+        }
+    }
+}
+
+// Takes out the place of a change's key where it is vacant. Only a key that had a value can have been taken out by the
+// change, so that no other is looked up.
+pub(crate) fn clear_vacant<K: ShelfKey, V: Drop>(
+    shelf: &mut Shelf<K, Option<V>>,
+    change: (K, Option<Option<V>>),
+)
+    ensures entries { shelf.new.entries ≡ cleared_after K.cmp change shelf.old.entries }
+    ensures ordered { IsStrictlySortedBy K.cmp (keys_of shelf.old.entries)
+        → IsStrictlySortedBy K.cmp (keys_of shelf.new.entries) }
+    ensures touches { shelf.new.touches ≤ shelf.old.touches + 2 }
+    ensures counted { shelf.old.touches ≤ shelf.new.touches }
+{
+    let (key, Some(Some(_))) = change else {
+        return;
+    };
+    let is_vacant = matches!(shelf.get(&key), Some(None));
+    if is_vacant {
+        shelf.remove(&key);
+    }
+}
+
+// Gives back the room of an emptied log that had many changes.
+pub(crate) fn give_back_room<K, V>(log: &mut Vec<(K, Option<Option<V>>)>)
+    ensures { log.new.items ≡ log.old.items }
+{
+    if log.capacity() > MOST_KEPT_CHANGES {
+        log.shrink_to_fit();
+    }
+}
