@@ -95,11 +95,9 @@ impl<K: ShelfKey, V: Drop> Kept<K, V> {
         Ok(())
     }
 
-    /// Takes a key out: one touch. It tells whether it was there. Its place then stays, vacant, until the map is settled or
-    /// undone. An error changes nothing but the touches.
-    pub fn remove(&mut self, key: &K) -> Result<bool, AllocError>
-        ensures had { IfOk result (λ had. had
-            ≡ is_some (lookup (is_at (K.cmp key.now)) self.old.content)) }
+    /// Takes a key out: one touch. Its place then stays, vacant, until the map is settled or undone. An error changes
+    /// nothing but the touches.
+    pub fn remove(&mut self, key: &K) -> Result<(), AllocError>
         ensures content { OnOk result (self.new.content
             ≡ remove_entry (is_at (K.cmp key.now)) self.old.content) }
         ensures places { OnOk result (IsSome (lookup (is_at (K.cmp key.now)) self.old.content)
@@ -123,9 +121,8 @@ impl<K: ShelfKey, V: Drop> Kept<K, V> {
     {
         if vacate(&mut self.shelf, &mut self.log, key)? {
             self.has_vacant = true;
-            return Ok(true);
         }
-        Ok(false)
+        Ok(())
     }
 
     /// Takes a key out, as `remove` does, and gives the value that was there.

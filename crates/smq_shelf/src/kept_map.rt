@@ -73,11 +73,8 @@ impl<K: ShelfKey, V: Drop> KeptMap<K, V> {
         self.kept.set(key, value)
     }
 
-    /// Takes a key out. It tells whether it was there. Its place stays, vacant, until the map is settled or undone. An error
-    /// changes nothing.
-    pub fn remove(&mut self, key: &K) -> Result<bool, AllocError>
-        ensures had { IfOk result (λ had. had
-            ≡ is_some (lookup (is_at (K.cmp key.now)) self.old.content)) }
+    /// Takes a key out. Its place stays, vacant, until the map is settled or undone. An error changes nothing.
+    pub fn remove(&mut self, key: &K) -> Result<(), AllocError>
         ensures content { OnOk result (self.new.content
             ≡ remove_entry (is_at (K.cmp key.now)) self.old.content) }
         ensures places { OnOk result (IsSome (lookup (is_at (K.cmp key.now)) self.old.content)
@@ -96,6 +93,30 @@ impl<K: ShelfKey, V: Drop> KeptMap<K, V> {
             (IsStrictlySortedBy K.cmp (keys_of self.old.content)) }
     {
         self.kept.remove(key)
+    }
+
+    /// Takes a key out, as `remove` does, and gives the value that was there.
+    pub fn take(&mut self, key: &K) -> Result<Option<V>, AllocError>
+    where
+        V: Copy,
+        ensures value { IfOk result (λ taken. taken
+            ≡ lookup (is_at (K.cmp key.now)) self.old.content) }
+        ensures content { OnOk result (self.new.content
+            ≡ remove_entry (is_at (K.cmp key.now)) self.old.content) }
+        ensures places { IfOk result (λ taken. self.new.places ≡ if is_some taken
+            then insert_entry K.cmp self.old.places key.now None else self.old.places) }
+        ensures past { IfOk result (λ taken. self.new.past
+            ≡ if is_some taken then self.old.places ∷ self.old.past else self.old.past) }
+        ensures absent { IfOk result (λ taken. taken ≡ None → self.new ≡ self.old) }
+        ensures unchanged { OnErr result (self.new ≡ self.old) }
+        ensures err { OnErr result (self.new.content ≡ self.old.content) }
+        ensures err_places { OnErr result (self.new.places ≡ self.old.places) }
+        ensures err_past { OnErr result (self.new.past ≡ self.old.past) }
+        ensures settled { self.new.settled ≡ self.old.settled }
+        ensures shown { self.old.content ≡ content_of self.old.places }
+        ensures ordered { IsStrictlySortedBy K.cmp (keys_of self.old.content) }
+    {
+        self.kept.take(key)
     }
 
     /// Makes of the value at a key what a change makes of it. It tells whether it left something to take back: not so where

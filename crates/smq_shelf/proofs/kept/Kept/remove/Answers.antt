@@ -37,30 +37,20 @@ returns-then-branch-clause-settled g c = rw (← c.self.view_is) (ap content_of 
 pub returns-then-branch-clause-ordered : goal.returns-then-branch-clause-ordered
 returns-then-branch-clause-ordered g c = rw (← c.self.view_is) (content_ordered g.met.K.Ord.total _ c.self.invariant.kept.ordered)
 
-pub returns-clause-content : goal.returns-clause-content
-returns-clause-content g c =
+pub returns-else-branch-clause-content : goal.returns-else-branch-clause-content
+returns-else-branch-clause-content g c =
     rw (← c.self.view_is)
     (content_of-absent g.met.K.Ord.total c.args.key.now _ _ (rw c.if-branch.false at c.in_ok-vacate.ensures.entries) c.self.invariant.kept.ordered (sym c.in_ok-vacate.ensures.had ∙ c.if-branch.false))
 
-pub returns-clause-places : goal.returns-clause-places
-returns-clause-places g c =
+pub returns-else-branch-clause-places : goal.returns-else-branch-clause-places
+returns-else-branch-clause-places g c =
     rw (← c.self.view_is)
     (λ there. absurd (false≢true (sym c.if-branch.false ∙ c.in_ok-vacate.ensures.had ∙ ap is_some (sym (lookup-content_of g.met.K.Ord.total c.args.key.now _ c.self.invariant.kept.ordered)) ∙ there)))
 
-pub returns-clause-past : goal.returns-clause-past
-returns-clause-past g c =
+pub returns-else-branch-clause-past : goal.returns-else-branch-clause-past
+returns-else-branch-clause-past g c =
     rw (← c.self.view_is)
     (λ there. absurd (false≢true (sym c.if-branch.false ∙ c.in_ok-vacate.ensures.had ∙ ap is_some (sym (lookup-content_of g.met.K.Ord.total c.args.key.now _ c.self.invariant.kept.ordered)) ∙ there)))
 
-pub returns-clause-ordered : goal.returns-clause-ordered
-returns-clause-ordered g c = rw (← c.self.view_is) (content_ordered g.met.K.Ord.total _ c.self.invariant.kept.ordered)
-
-pub returns-then-branch-clause-had : goal.returns-then-branch-clause-had
-returns-then-branch-clause-had g c =
-    rw (← c.self.view_is)
-    (sym c.if-branch.true ∙ c.in_ok-vacate.ensures.had ∙ ap is_some (sym (lookup-content_of g.met.K.Ord.total c.args.key.now _ c.self.invariant.kept.ordered)))
-
-pub returns-clause-had : goal.returns-clause-had
-returns-clause-had g c =
-    rw (← c.self.view_is)
-    (sym c.if-branch.false ∙ c.in_ok-vacate.ensures.had ∙ ap is_some (sym (lookup-content_of g.met.K.Ord.total c.args.key.now _ c.self.invariant.kept.ordered)))
+pub returns-else-branch-clause-ordered : goal.returns-else-branch-clause-ordered
+returns-else-branch-clause-ordered g c = rw (← c.self.view_is) (content_ordered g.met.K.Ord.total _ c.self.invariant.kept.ordered)
