@@ -1,33 +1,34 @@
 -- Entries and what they say, with one more, and with one that is given its partner.
 use Rattle.std.proofs.Common.{◌≡◌, ◌≢◌, ℕ, zero, suc, Bool, true, false, cond, List, [], ◌∷◌, ◌++◌, length, Option, Some, None, refl, sym, ap, ◌∙◌, subst, arith}
-use Rattle.std.specs.Prelude.{map, option_map, slice_get, slice_set}
+use Rattle.std.specs.Prelude.{◌==◌, map, option_map, slice_get, slice_set}
 use Rattle.std.proofs.lemmas.List.{map-append, length-map}
+use Rattle.std.proofs.lemmas.List.Folds.{list_all-append}
 use Rattle.std.proofs.lemmas.Option.{slice_get-map}
-use Rattle.std.proofs.lemmas.Cmp.{tied_itself}
+use Rattle.std.proofs.lemmas.Cmp.{tied_itself, nat_cmp_total}
 use Rattle.std.proofs.lemmas.Bool.{false≢true}
 use Rattle.std.proofs.lemmas.Map.Entries.{place_from_lookup}
 use Rattle.std.proofs.lemmas.Map.Keys.{sorted_head, sorted_tail}
-use Rattle.std.specs.declared.cmp.Ordering.{Ordering}
-use Rattle.std.specs.declared.cmp.Ordering.TheVariants.{Less, Greater}
-use Rattle.std.specs.Ordering.{is_eq, match_ordering, ordering_reverse}
+use Rattle.std.specs.declared.cmp.Ordering.TheVariants.{Less, Equal, Greater}
+use Rattle.std.specs.Ordering.{is_eq, match_ordering, nat_cmp, ordering_reverse, ordering_then}
+use Rattle.std.specs.Cmp.{nat_cmp_is}
+use Rattle.std.specs.List.{AllByRecursion, list_all}
 use Rattle.std.specs.List.Sorted.{IsStrictlySortedBy}
+use Rattle.std.specs.Map.{keys_of}
 use Rattle.std.specs.BTreeMap.{insert_entry, is_at}
+use Rattle.smq_kit.specs.declared.names.SessionId.{SessionId}
 use Rattle.smq_kit.specs.declared.place.Dir.{Dir}
 use Rattle.smq_kit.specs.declared.place.Dir.TheVariants.{FromClient, FromCentre}
-use Rattle.smq_pdu.specs.Header.{Header}
 use Rattle.smq_kit.specs.declared.place.Place.{Place}
 use Rattle.smq_kit.specs.Orders.{place_cmp}
-use Rattle.smq_kit.proofs.PlaceOrders.{places_total}
-use Rattle.smq_shelf.specs.within.KeyLaws.{place_order}
 use Rattle.smq_pair.specs.declared.entry.Entry.{Entry}
-use Rattle.smq_pair.specs.Pairing.{PlacedHeader, pdus_from, opposite, headers}
+use Rattle.smq_pair.specs.Pairing.{PlacedHeader, pdus_from, opposite}
 use Rattle.smq_pair.specs.Growth.{AreInOrder, pushed_in}
 use Rattle.smq_pair.specs.within.Turns.{headers_from}
-use Rattle.smq_pair.specs.within.Orders.{kept_place_cmp}
-use Rattle.smq_pair.specs.within.Kept.{Entries, Held, entries_from, header_of, held_at, joined, linked, partnered, placed, pdus_in, with_partner}
-use Rattle.smq_pair.proofs.Keys.{kept_places_total, place-at, place-itself}
+use Rattle.smq_pair.specs.within.Kept.{Entries, Held, are_of_session, at_offset, entries_from, header_of, held_at, joined, linked, partnered, placed, pdus_in}
+use Rattle.smq_pair.specs.within.Maps.{Holds, HoldsOf, Matching}
+use Rattle.smq_pair.proofs.Keys.{dir_itself, offset-same, offset-itself}
 use Rattle.smq_pair.proofs.Lists.{some-is, get-either}
-use Rattle.smq_pair.proofs.Turned.{by_dir, opposite-apart}
+use Rattle.smq_pair.proofs.Turned.{and_first, and_second, equal_is}
 use Rattle.smq_pair.proofs.Standing.{all-at, dir-ascends}
 
 -- one more in a direction, the last
@@ -35,240 +36,263 @@ abbrev pub appended : Dir → Held → Entries → Entries
 appended FromClient e es = record es { client = es.client ++ e ∷ [] }
 appended FromCentre e es = record es { centre = es.centre ++ e ∷ [] }
 
--- an entry with its partner's place
-abbrev pub linked_to : Place → Held → Held
-linked_to q e = (e.0, with_partner q e.1)
+-- an entry with its partner's offset
+abbrev pub linked_to : ℕ → Held → Held
+linked_to q e = (e.0, record e.1 { partner = Some q })
 
--- The entry at an index of a direction has a partner now, and all else stays.
-pub record IsLinked (dir : Dir) (j : ℕ) (q : Place) (old new : Entries) : Type 0 where
-  pub entry : Held
-  pub at : slice_get (entries_from dir old) j ≡ Some entry
-  pub set : entries_from dir new ≡ slice_set (entries_from dir old) j (linked_to q entry)
-  pub other : entries_from (opposite dir) new ≡ entries_from (opposite dir) old
+-- entries of which the one at an index of a direction is this
+abbrev pub set_in : Dir → ℕ → Held → Entries → Entries
+set_in FromClient j e es = record es { client = slice_set es.client j e }
+set_in FromCentre j e es = record es { centre = slice_set es.centre j e }
+
+-- entries that are said to be of a session
+abbrev pub of_session : SessionId → Entries → Entries
+of_session session es = record es { session = session }
 
 -- ---- entries and what they say
 
-pub pdus-kept : (d : Dir) (es : Entries) → pdus_from d (pdus_in es) ≡ map placed (entries_from d es)
+pub pdus-kept : (d : Dir) (es : Entries) → pdus_from d (pdus_in es) ≡ map (placed es.session d) (entries_from d es)
 pdus-kept FromClient es = refl
 pdus-kept FromCentre es = refl
+
+pub pdu-kept : (d : Dir) (es : Entries) (i : ℕ) (e : Held) → slice_get (entries_from d es) i ≡ Some e
+    → slice_get (pdus_from d (pdus_in es)) i ≡ Some (placed es.session d e)
+pdu-kept d es i e at =
+    ap (λ ps. slice_get ps i) (pdus-kept d es) ∙ slice_get-map (placed es.session d) (entries_from d es) i ∙ ap (option_map (placed es.session d)) at
 
 -- the header of an entry stands at its index
 pub header-kept : (d : Dir) (es : Entries) (i : ℕ) (e : Held) → slice_get (entries_from d es) i ≡ Some e
     → slice_get (headers_from d (pdus_in es)) i ≡ Some (header_of e.1)
 header-kept d es i e at =
-    ap (λ ps. slice_get (headers ps) i) (pdus-kept d es)
-    ∙ slice_get-map (λ (p : PlacedHeader). p.header) (map placed (entries_from d es)) i
-    ∙ ap (option_map (λ (p : PlacedHeader). p.header)) (slice_get-map placed (entries_from d es) i ∙ ap (option_map placed) at)
-
-pub pdu-kept : (d : Dir) (es : Entries) (i : ℕ) (e : Held) → slice_get (entries_from d es) i ≡ Some e
-    → slice_get (pdus_from d (pdus_in es)) i ≡ Some (placed e)
-pdu-kept d es i e at = ap (λ ps. slice_get ps i) (pdus-kept d es) ∙ slice_get-map placed (entries_from d es) i ∙ ap (option_map placed) at
-
--- what has a header has an entry
-pub entry-of : (xs : List Held) (i : ℕ) (h : Header) → slice_get (headers (map placed xs)) i ≡ Some h → (e : Held) × (slice_get xs i ≡ Some e)
-entry-of [] i h at = absurd cc
-entry-of (x ∷ xs) zero h at = (x, refl)
-entry-of (x ∷ xs) (suc i) h at = entry-of xs i h at
-
-pub entry-kept : (d : Dir) (es : Entries) (i : ℕ) (h : Header) → slice_get (headers_from d (pdus_in es)) i ≡ Some h
-    → (e : Held) × (slice_get (entries_from d es) i ≡ Some e)
-entry-kept d es i h at = entry-of (entries_from d es) i h (ap (λ ps. slice_get (headers ps) i) (sym (pdus-kept d es)) ∙ at)
-
-pub appended-in : (d : Dir) (e : Held) (es : Entries) → pdus_in (appended d e es) ≡ pushed_in d (pdus_in es) (placed e)
-appended-in FromClient e es = λ i. record { client = map-append placed es.client (e ∷ []) i; centre = map placed es.centre }
-appended-in FromCentre e es = λ i. record { client = map placed es.client; centre = map-append placed es.centre (e ∷ []) i }
-
-pub appended-same : (d : Dir) (e : Held) (es : Entries) → entries_from d (appended d e es) ≡ entries_from d es ++ e ∷ []
-appended-same FromClient e es = refl
-appended-same FromCentre e es = refl
-
-pub appended-apart : (d f : Dir) (e : Held) (es : Entries) → d ≢ f → entries_from d (appended f e es) ≡ entries_from d es
-appended-apart FromClient FromClient e es h = absurd (h refl)
-appended-apart FromClient FromCentre e es h = refl
-appended-apart FromCentre FromClient e es h = refl
-appended-apart FromCentre FromCentre e es h = absurd (h refl)
-
-pub length-kept : (d : Dir) (es : Entries) → length (pdus_from d (pdus_in es)) ≡ length (entries_from d es)
-length-kept d es = ap length (pdus-kept d es) ∙ length-map (entries_from d es) placed
-
--- an entry of a direction with one more is an old one or the new one
-pub appended-get : {A : Type 0} (d f : Dir) (e : Held) (es : Entries) (i : ℕ) (x : Held) → slice_get (entries_from d (appended f e es)) i ≡ Some x
-    → (slice_get (entries_from d es) i ≡ Some x → A) → (d ≡ f → i ≡ length (entries_from f es) → x ≡ e → A) → A
-appended-get d f e es i x at old new = by_dir d f
-    (λ same.
-    get-either (entries_from f es) e i x (ap (λ xs. slice_get xs i) (sym (appended-same f e es))
-    ∙ subst (λ (d' : Dir). slice_get (entries_from d' (appended f e es)) i ≡ Some x) same at)
-    (λ at'. old (subst (λ (d' : Dir). slice_get (entries_from d' es) i ≡ Some x) (sym same) at'))
-    (new same))
-    (λ apart. old (ap (λ xs. slice_get xs i) (sym (appended-apart d f e es apart)) ∙ at))
-
--- ---- an entry that is given its partner
-
-pub placed-set : (xs : List Held) (j : ℕ) (k : Place) (e : Held) → slice_get xs j ≡ Some e → map placed (slice_set xs j (linked_to k e)) ≡ map placed xs
-placed-set [] j k e at = refl
-placed-set (x ∷ xs) zero k e at = let same : x ≡ e = some-is x e at in ap (λ (y : Held). placed y ∷ map placed xs) (sym same)
-placed-set (x ∷ xs) (suc j) k e at = ap (λ ps. placed x ∷ ps) (placed-set xs j k e at)
-
-pub set-get : {A : Type 0} (xs : List Held) (j : ℕ) (k : Place) (e : Held) (i : ℕ) (x : Held) → slice_get xs j ≡ Some e
-    → slice_get (slice_set xs j (linked_to k e)) i ≡ Some x
-    → (i ≢ j → slice_get xs i ≡ Some x → A) → (i ≡ j → x ≡ linked_to k e → A) → A
-set-get [] j k e i x at h old new = absurd cc
-set-get (y ∷ ys) zero k e zero x at h old new = new refl (sym (some-is _ x h))
-set-get (y ∷ ys) zero k e (suc i) x at h old new = old (λ same. absurd (omega (arith, same))) h
-set-get (y ∷ ys) (suc j) k e zero x at h old new = old (λ same. absurd (omega (arith, same))) h
-set-get (y ∷ ys) (suc j) k e (suc i) x at h old new =
-    set-get ys j k e i x at h (λ apart. old (λ same. apart (let one : i ≡ j = omega (arith, same) in one)))
-    (λ same. new (ap suc same))
-
-pub by_opposite : {A : Type 0} (d f : Dir) → (f ≡ d → A) → (f ≡ opposite d → A) → A
-by_opposite FromClient FromClient f g = f refl
-by_opposite FromClient FromCentre f g = g refl
-by_opposite FromCentre FromClient f g = g refl
-by_opposite FromCentre FromCentre f g = f refl
-
-pub same_pdus : (es fs : Entries) → map placed fs.client ≡ map placed es.client → map placed fs.centre ≡ map placed es.centre
-    → pdus_in fs ≡ pdus_in es
-same_pdus es fs h k = λ i. record { client = h i; centre = k i }
-
-pub linked-pdus : (d : Dir) (j : ℕ) (k : Place) (es fs : Entries) → IsLinked d j k es fs → pdus_in fs ≡ pdus_in es
-linked-pdus FromClient j k es fs l = same_pdus es fs (ap (map placed) l.set ∙ placed-set es.client j k l.entry l.at) (ap (map placed) l.other)
-linked-pdus FromCentre j k es fs l = same_pdus es fs (ap (map placed) l.other) (ap (map placed) l.set ∙ placed-set es.centre j k l.entry l.at)
-
--- an entry after the link is as before, or is the linked one
-pub linked-get : {A : Type 0} (d : Dir) (j : ℕ) (k : Place) (es fs : Entries) → IsLinked d j k es fs → (f : Dir) (i : ℕ) (x : Held)
-    → slice_get (entries_from f fs) i ≡ Some x
-    → ((f ≡ d → i ≢ j) → slice_get (entries_from f es) i ≡ Some x → A)
-    → ((e : Held) → slice_get (entries_from f es) i ≡ Some e → f ≡ d → i ≡ j → x ≡ linked_to k e → A) → A
-linked-get d j k es fs l f i x at old new = by_opposite d f
-    (λ same.
-    set-get (entries_from d es) j k l.entry i x l.at (ap (λ xs. slice_get xs i) (sym l.set)
-    ∙ subst (λ (f' : Dir). slice_get (entries_from f' fs) i ≡ Some x) same at)
-    (λ apart at'. old (λ _. apart) (subst (λ (f' : Dir). slice_get (entries_from f' es) i ≡ Some x) (sym same) at'))
-    (λ here is. new l.entry (subst (λ (f' : Dir). slice_get (entries_from f' es) i ≡ Some l.entry) (sym same)
-    (ap (slice_get (entries_from d es)) here ∙ l.at)) same here is))
-    (λ same.
-    old (λ back. absurd (opposite-apart d (sym same ∙ back)))
-    (ap (λ (f' : Dir). slice_get (entries_from f' es) i) same ∙ ap (λ xs. slice_get xs i) (sym l.other)
-    ∙ subst (λ (f' : Dir). slice_get (entries_from f' fs) i ≡ Some x) same at))
-
--- ---- entries that stand in order
-
-abbrev pub AscendByPlace : List Held → Type 0
-AscendByPlace es = IsStrictlySortedBy place_cmp (map (λ (e : Held). e.0) es)
-
--- a direction's entries stand in order
-pub entries-ascend : (es : Entries) (d : Dir) → AreInOrder (pdus_in es) → AscendByPlace (entries_from d es)
-entries-ascend es d o =
-    subst (λ (ps : List Place). IsStrictlySortedBy place_cmp ps) (ap (map (λ (p : PlacedHeader). p.place)) (pdus-kept d es)
-    ∙ twice (entries_from d es)) (dir-ascends (pdus_in es) d o)
-  where
-    twice : (xs : List Held) → map (λ (p : PlacedHeader). p.place) (map placed xs) ≡ map (λ (e : Held). e.0) xs
-    twice [] = refl
-    twice (x ∷ xs) = ap (λ ps. x.0 ∷ ps) (twice xs)
+    slice_get-map (λ (p : PlacedHeader). p.header) (pdus_from d (pdus_in es)) i
+    ∙ ap (option_map (λ (p : PlacedHeader). p.header)) (pdu-kept d es i e at)
 
 -- where a PDU stands, an entry does
 pub entry-at : (d : Dir) (es : Entries) (i : ℕ) (p : PlacedHeader) → slice_get (pdus_from d (pdus_in es)) i ≡ Some p
     → (e : Held) × (slice_get (entries_from d es) i ≡ Some e)
 entry-at d es i p at = by_list (entries_from d es) i (ap (λ ps. slice_get ps i) (sym (pdus-kept d es)) ∙ at)
   where
-    by_list : (xs : List Held) (i : ℕ) → slice_get (map placed xs) i ≡ Some p → (e : Held) × (slice_get xs i ≡ Some e)
+    by_list : (xs : List Held) (i : ℕ) → slice_get (map (placed es.session d) xs) i ≡ Some p
+        → (e : Held) × (slice_get xs i ≡ Some e)
     by_list [] i h = absurd cc
     by_list (x ∷ xs) zero h = (x, refl)
     by_list (x ∷ xs) (suc i) h = by_list xs i h
 
-greater : (p q : Place) → place_cmp p q ≡ Less → kept_place_cmp q p ≡ Greater
-greater p q h = place_order q p ∙ places_total.antisymm q p ∙ ap ordering_reverse h
+pub appended-in : (d : Dir) (e : Held) (es : Entries) → pdus_in (appended d e es) ≡ pushed_in d (pdus_in es) (placed es.session d e)
+appended-in FromClient e es = λ i. record {
+  client = map-append (placed es.session FromClient) es.client (e ∷ []) i;
+  centre = map (placed es.session FromCentre) es.centre;
+}
+appended-in FromCentre e es = λ i. record {
+  client = map (placed es.session FromClient) es.client;
+  centre = map-append (placed es.session FromCentre) es.centre (e ∷ []) i;
+}
 
-not_at : (r : Ordering) → r ≡ Greater → is_eq r ≡ false
-not_at r h = ap is_eq h
+pub length-kept : (d : Dir) (es : Entries) → length (pdus_from d (pdus_in es)) ≡ length (entries_from d es)
+length-kept d es = ap length (pdus-kept d es) ∙ length-map (entries_from d es) (placed es.session d)
+
+-- an entry of a direction with one more is an old one or the new one
+pub appended-get : {A : Type 0} (d f : Dir) (e : Held) (es : Entries) (i : ℕ) (x : Held) → slice_get (entries_from d (appended f e es)) i ≡ Some x
+    → (slice_get (entries_from d es) i ≡ Some x → A) → (d ≡ f → i ≡ length (entries_from f es) → x ≡ e → A) → A
+appended-get FromClient FromClient e es i x at old new = get-either es.client e i x at old (new refl)
+appended-get FromClient FromCentre e es i x at old new = old at
+appended-get FromCentre FromClient e es i x at old new = old at
+appended-get FromCentre FromCentre e es i x at old new = get-either es.centre e i x at old (new refl)
+
+-- ---- the session of entries
+
+pub of_session-from : (session : SessionId) (d : Dir) (es : Entries) → entries_from d (of_session session es) ≡ entries_from d es
+of_session-from session FromClient es = refl
+of_session-from session FromCentre es = refl
+
+pub one-session : (s t : SessionId) → s.0 ≡ t.0 → s ≡ t
+one-session s t same = ap (λ n. let session : SessionId = record { 0 = n } in session) same
+
+-- PDUs that are all of a session say so by its number
+said : (s t : SessionId) (d : Dir) (xs : List Held) → list_all (λ (p : PlacedHeader). p.place.session.0 == t.0) (map (placed s d) xs) ≡ true
+    → map (placed t d) xs ≡ map (placed s d) xs
+said s t d [] h = refl
+said s t d (x ∷ xs) h = ap (λ (r : SessionId). map (placed r d) (x ∷ xs)) (sym (one-session s t (equal_is s.0 t.0 (and_first _ _ h))))
+
+pub of_session-pdus : (session : SessionId) (es : Entries) → are_of_session session (pdus_in es) ≡ true → pdus_in (of_session session es) ≡ pdus_in es
+of_session-pdus session es all =
+    let is_its : PlacedHeader → Bool = λ p. p.place.session.0 == session.0 in
+    let client : List PlacedHeader = (pdus_in es).client in
+    let both = sym (list_all-append is_its client (pdus_in es).centre) ∙ all in
+    λ i. record {
+      client = said es.session session FromClient es.client (and_first _ _ both) i;
+      centre = said es.session session FromCentre es.centre (and_second (list_all is_its client) _ both) i;
+    }
+
+pub of_session-holds : (m : Matching) (session : SessionId) (es : Entries) → are_of_session session (pdus_in es) ≡ true → Holds m es
+    → Holds m (of_session session es)
+of_session-holds m session es all h =
+    subst (λ v. HoldsOf v m (of_session session es)) (sym (of_session-pdus session es all)) (record {
+      in_order = h.in_order;
+      counts = h.counts;
+      unpaired = h.unpaired;
+      partners = λ d i e at. h.partners d i e (ap (λ xs. slice_get xs i) (sym (of_session-from session d es)) ∙ at);
+    })
+
+pub of_session-joined : (d : Dir) (q : Place) (x : Entry) (es : Entries) → joined d q x es ≡ joined d q x (of_session q.session es)
+of_session-joined FromClient q x es = refl
+of_session-joined FromCentre q x es = refl
+
+-- ---- an entry that is given its partner
+
+placed-set : (s : SessionId) (d : Dir) (xs : List Held) (j k : ℕ) (e : Held) → slice_get xs j ≡ Some e
+    → map (placed s d) (slice_set xs j (linked_to k e)) ≡ map (placed s d) xs
+placed-set s d [] j k e at = refl
+placed-set s d (x ∷ xs) zero k e at = ap (λ (y : Held). placed s d y ∷ map (placed s d) xs) (sym (some-is x e at))
+placed-set s d (x ∷ xs) (suc j) k e at = ap (λ ps. placed s d x ∷ ps) (placed-set s d xs j k e at)
+
+set-get : {A : Type 0} (xs : List Held) (j : ℕ) (y : Held) (i : ℕ) (x : Held)
+    → slice_get (slice_set xs j y) i ≡ Some x → (i ≢ j → slice_get xs i ≡ Some x → A) → (i ≡ j → x ≡ y → A) → A
+set-get [] j y i x h old new = absurd cc
+set-get (z ∷ zs) zero y zero x h old new = new refl (sym (some-is _ x h))
+set-get (z ∷ zs) zero y (suc i) x h old new = old (λ same. absurd (omega (arith, same))) h
+set-get (z ∷ zs) (suc j) y zero x h old new = old (λ same. absurd (omega (arith, same))) h
+set-get (z ∷ zs) (suc j) y (suc i) x h old new =
+    set-get zs j y i x h (λ apart. old (λ same. apart (let one : i ≡ j = omega (arith, same) in one))) (λ same. new (ap suc same))
+
+pub set_in-session : (d : Dir) (j : ℕ) (e : Held) (es : Entries) → (set_in d j e es).session ≡ es.session
+set_in-session FromClient j e es = refl
+set_in-session FromCentre j e es = refl
+
+pub linked-pdus : (d : Dir) (j k : ℕ) (e : Held) (es : Entries) → slice_get (entries_from d es) j ≡ Some e
+    → pdus_in (set_in d j (linked_to k e) es) ≡ pdus_in es
+linked-pdus FromClient j k e es at = λ i. record {
+  client = placed-set es.session FromClient es.client j k e at i;
+  centre = map (placed es.session FromCentre) es.centre;
+}
+linked-pdus FromCentre j k e es at = λ i. record {
+  client = map (placed es.session FromClient) es.client;
+  centre = placed-set es.session FromCentre es.centre j k e at i;
+}
+
+-- an entry after that is as before, or is the one that is set
+pub linked-get : {A : Type 0} (d : Dir) (j : ℕ) (y : Held) (es : Entries) (f : Dir) (i : ℕ) (x : Held)
+    → slice_get (entries_from f (set_in d j y es)) i ≡ Some x
+    → ((f ≡ d → i ≢ j) → slice_get (entries_from f es) i ≡ Some x → A) → (f ≡ d → i ≡ j → x ≡ y → A) → A
+linked-get FromClient j y es FromClient i x h old new = set-get es.client j y i x h (λ apart. old (λ _. apart)) (new refl)
+linked-get FromClient j y es FromCentre i x h old new = old (λ same. absurd cc) h
+linked-get FromCentre j y es FromClient i x h old new = old (λ same. absurd cc) h
+linked-get FromCentre j y es FromCentre i x h old new = set-get es.centre j y i x h (λ apart. old (λ _. apart)) (new refl)
+
+-- ---- entries that stand in order
+
+abbrev pub Ascend : List Held → Type 0
+Ascend es = IsStrictlySortedBy nat_cmp (keys_of es)
+
+place-order : (s : SessionId) (d : Dir) (a b : ℕ) → place_cmp (at_offset s d a) (at_offset s d b) ≡ nat_cmp a b
+place-order s d a b = λ i. ordering_then (sym (nat_cmp_is s.0 s.0 Equal refl) i) (ordering_then (dir_itself d i) (nat_cmp a b))
+
+-- a direction's entries stand in order
+pub entries-ascend : (es : Entries) (d : Dir) → AreInOrder (pdus_in es) → Ascend (entries_from d es)
+unfolding IsStrictlySortedBy
+entries-ascend es d o =
+    by_list (entries_from d es) (subst (λ ps. IsStrictlySortedBy place_cmp (map (λ (p : PlacedHeader). p.place) ps)) (pdus-kept d es)
+    (dir-ascends (pdus_in es) d o))
+  where
+    above : (a : ℕ) (xs : List Held) → AllByRecursion (λ q. place_cmp (at_offset es.session d a) q ≡ Less)
+        (map (λ (p : PlacedHeader). p.place) (map (placed es.session d) xs)) → AllByRecursion (λ b. nat_cmp a b ≡ Less) (keys_of xs)
+    above a [] h = tt
+    above a (x ∷ xs) h = (sym (place-order es.session d a x.0) ∙ h.0, above a xs h.1)
+
+    by_list : (xs : List Held) → IsStrictlySortedBy place_cmp (map (λ (p : PlacedHeader). p.place) (map (placed es.session d) xs)) → Ascend xs
+    by_list [] h = tt
+    by_list (x ∷ xs) h = (above x.0 xs h.0, by_list xs h.1)
+
+greater : (p q : ℕ) → nat_cmp p q ≡ Less → nat_cmp q p ≡ Greater
+greater p q h = nat_cmp_total.antisymm q p ∙ ap ordering_reverse h
 
 -- what is above all is the last
-pub insert-last : (es : List Held) (q : Place) (x : Entry) → ((i : ℕ) (e : Held) → slice_get es i ≡ Some e → place_cmp e.0 q ≡ Less)
-    → insert_entry kept_place_cmp es q x ≡ es ++ (q, x) ∷ []
+pub insert-last : (es : List Held) (q : ℕ) (x : Entry) → ((i : ℕ) (e : Held) → slice_get es i ≡ Some e → nat_cmp e.0 q ≡ Less)
+    → insert_entry nat_cmp es q x ≡ es ++ (q, x) ∷ []
 insert-last [] q x below = refl
 insert-last (e ∷ es) q x below =
-    ap (λ r. match_ordering r ((q, x) ∷ e ∷ es) ((e.0, x) ∷ es) (e ∷ insert_entry kept_place_cmp es q x)) (greater e.0 q (below 0 e refl))
+    ap (λ r. match_ordering r ((q, x) ∷ e ∷ es) ((e.0, x) ∷ es) (e ∷ insert_entry nat_cmp es q x)) (greater e.0 q (below 0 e refl))
     ∙ ap (λ (ys : List Held). e ∷ ys) (insert-last es q x (λ i. below (suc i)))
 
--- the one at an index is found by its place, and is set there
-pub found-kept : (es : List Held) (j : ℕ) (e : Held) → AscendByPlace es → slice_get es j ≡ Some e → held_at e.0 es ≡ Some e.1
+-- the one at an index is found by its offset, and is set there
+later : (x : Held) (xs : List Held) (j : ℕ) (e : Held) → Ascend (x ∷ xs) → slice_get xs j ≡ Some e → nat_cmp e.0 x.0 ≡ Greater
+later x xs j e s at = greater x.0 e.0 (all-at (λ y. nat_cmp x.0 y ≡ Less) (λ (y : Held). y.0) xs j e (sorted_head nat_cmp x.0 (keys_of xs) s) at)
+
+pub found-kept : (es : List Held) (j : ℕ) (e : Held) → Ascend es → slice_get es j ≡ Some e → held_at e.0 es ≡ Some e.1
 found-kept [] j e s at = absurd cc
 found-kept (x ∷ xs) zero e s at =
     let same : x ≡ e = some-is x e at in
-    ap (λ (y : Held). cond (is_at (kept_place_cmp y.0) x.0) (Some x.1) (held_at y.0 xs)) (sym same)
-    ∙ ap (λ b. cond b (Some x.1) (held_at x.0 xs)) (place-itself x.0)
+    ap (λ (y : Held). cond (is_at (nat_cmp y.0) x.0) (Some x.1) (held_at y.0 xs)) (sym same)
+    ∙ ap (λ b. cond b (Some x.1) (held_at x.0 xs)) (offset-itself x.0)
     ∙ ap (λ (y : Held). Some y.1) same
 found-kept (x ∷ xs) (suc j) e s at =
-    let less : place_cmp x.0 e.0 ≡ Less = all-at (λ y. place_cmp x.0 y ≡ Less) (λ (y : Held). y.0) xs j e
-    (sorted_head place_cmp x.0 (map (λ (y : Held). y.0) xs) s) at in
-    ap (λ b. cond b (Some x.1) (held_at e.0 xs)) (not_at (kept_place_cmp e.0 x.0) (greater x.0 e.0 less))
-    ∙ found-kept xs j e (sorted_tail place_cmp x.0 (map (λ (y : Held). y.0) xs) s) at
+    ap (λ r. cond (is_eq r) (Some x.1) (held_at e.0 xs)) (later x xs j e s at)
+    ∙ found-kept xs j e (sorted_tail nat_cmp x.0 (keys_of xs) s) at
 
-set-kept : (es : List Held) (j : ℕ) (e : Held) (w : Entry) → AscendByPlace es → slice_get es j ≡ Some e
-    → insert_entry kept_place_cmp es e.0 w ≡ slice_set es j (e.0, w)
+set-kept : (es : List Held) (j : ℕ) (e : Held) (w : Entry) → Ascend es → slice_get es j ≡ Some e
+    → insert_entry nat_cmp es e.0 w ≡ slice_set es j (e.0, w)
 set-kept [] j e w s at = absurd cc
 set-kept (x ∷ xs) zero e w s at =
     let same : x ≡ e = some-is x e at in
-    ap (λ r. match_ordering r ((e.0, w) ∷ x ∷ xs) ((x.0, w) ∷ xs) (x ∷ insert_entry kept_place_cmp xs e.0 w))
-    (ap (λ (y : Held). kept_place_cmp e.0 y.0) same ∙ tied_itself kept_places_total e.0)
+    ap (λ r. match_ordering r ((e.0, w) ∷ x ∷ xs) ((x.0, w) ∷ xs) (x ∷ insert_entry nat_cmp xs e.0 w))
+    (ap (λ (y : Held). nat_cmp e.0 y.0) same ∙ tied_itself nat_cmp_total e.0)
     ∙ ap (λ (y : Held). (y.0, w) ∷ xs) same
 set-kept (x ∷ xs) (suc j) e w s at =
-    let less : place_cmp x.0 e.0 ≡ Less = all-at (λ y. place_cmp x.0 y ≡ Less) (λ (y : Held). y.0) xs j e
-    (sorted_head place_cmp x.0 (map (λ (y : Held). y.0) xs) s) at in
-    ap (λ r. match_ordering r ((e.0, w) ∷ x ∷ xs) ((x.0, w) ∷ xs) (x ∷ insert_entry kept_place_cmp xs e.0 w)) (greater x.0 e.0 less)
-    ∙ ap (λ (ys : List Held). x ∷ ys) (set-kept xs j e w (sorted_tail place_cmp x.0 (map (λ (y : Held). y.0) xs) s) at)
+    ap (λ r. match_ordering r ((e.0, w) ∷ x ∷ xs) ((x.0, w) ∷ xs) (x ∷ insert_entry nat_cmp xs e.0 w)) (later x xs j e s at)
+    ∙ ap (λ (ys : List Held). x ∷ ys) (set-kept xs j e w (sorted_tail nat_cmp x.0 (keys_of xs) s) at)
 
 -- what is found stands at an index, and where nothing is found nothing stands
-pub stands-kept : (es : List Held) (q : Place) (x : Entry) → held_at q es ≡ Some x → (i : ℕ) × (slice_get es i ≡ Some (q, x))
+pub stands-kept : (es : List Held) (q : ℕ) (x : Entry) → held_at q es ≡ Some x → (i : ℕ) × (slice_get es i ≡ Some (q, x))
 stands-kept es q x h =
-    let there = place_from_lookup (is_at (kept_place_cmp q)) es x h in
-    (there.0, there.2 ∙ ap (λ (p : Place). Some (p, x)) (sym (place-at q there.1 there.3)))
+    let there = place_from_lookup (is_at (nat_cmp q)) es x h in
+    (there.0, there.2 ∙ ap (λ (p : ℕ). Some (p, x)) (sym (offset-same q there.1 there.3)))
 
-pub none-kept : (es : List Held) (q : Place) → held_at q es ≡ None → (i : ℕ) (e : Held) → slice_get es i ≡ Some e → e.0 ≢ q
+pub none-kept : (es : List Held) (q : ℕ) → held_at q es ≡ None → (i : ℕ) (e : Held) → slice_get es i ≡ Some e → e.0 ≢ q
 none-kept [] q h i e at same = absurd cc
-none-kept (x ∷ xs) q h i e at same = by_test (is_at (kept_place_cmp q) x.0) refl h i at (λ none. none-kept xs q none)
+none-kept (x ∷ xs) q h i e at same = by_test (is_at (nat_cmp q) x.0) refl h i at (λ none. none-kept xs q none)
   where
-    by_test : (b : Bool) → is_at (kept_place_cmp q) x.0 ≡ b → cond b (Some x.1) (held_at q xs) ≡ None → (i : ℕ) → slice_get (x ∷ xs) i ≡ Some e
+    by_test : (b : Bool) → is_at (nat_cmp q) x.0 ≡ b → cond b (Some x.1) (held_at q xs) ≡ None → (i : ℕ) → slice_get (x ∷ xs) i ≡ Some e
         → (held_at q xs ≡ None → (j : ℕ) (f : Held) → slice_get xs j ≡ Some f → f.0 ≢ q) → ⊥
     by_test true is h i at rest = absurd cc
     by_test false is h zero at rest =
         let here : x.0 ≡ q = ap (λ (y : Held). y.0) (some-is x e at) ∙ same in
-        absurd (false≢true (sym is ∙ ap (λ (p : Place). is_at (kept_place_cmp q) p) here ∙ place-itself q))
+        absurd (false≢true (sym is ∙ ap (λ (p : ℕ). is_at (nat_cmp q) p) here ∙ offset-itself q))
     by_test false is h (suc i) at rest = rest h i e at same
 
 -- one more in a direction, above those that are there, without a partner
-pub joined-alone : (d : Dir) (q : Place) (x : Entry) (es : Entries)
-    → ((i : ℕ) (e : Held) → slice_get (entries_from d es) i ≡ Some e → place_cmp e.0 q ≡ Less) → x.partner ≡ None
-    → joined d q x es ≡ appended d (q, x) es
-joined-alone FromClient q x es below none = λ i. record {
-  client = insert-last es.client q x below i;
-  centre = ap (λ (o : Option Place). linked o q es.centre) none i;
+pub joined-alone : (d : Dir) (e : Held) (es : Entries)
+    → ((i : ℕ) (x : Held) → slice_get (entries_from d es) i ≡ Some x → nat_cmp x.0 e.0 ≡ Less) → e.1.partner ≡ None
+    → joined d (at_offset es.session d e.0) e.1 es ≡ appended d e es
+joined-alone FromClient e es below none = λ i. record {
+  session = es.session;
+  client = insert-last es.client e.0 e.1 below i;
+  centre = ap (λ (o : Option ℕ). linked o e.0 es.centre) none i;
 }
-joined-alone FromCentre q x es below none = λ i. record {
-  client = ap (λ (o : Option Place). linked o q es.client) none i;
-  centre = insert-last es.centre q x below i;
+joined-alone FromCentre e es below none = λ i. record {
+  session = es.session;
+  client = ap (λ (o : Option ℕ). linked o e.0 es.client) none i;
+  centre = insert-last es.centre e.0 e.1 below i;
 }
 
-linked-kept : (o : Option Place) (q p : Place) (es : List Held) (j : ℕ) (y : Entry) → o ≡ Some p → AscendByPlace es → slice_get es j ≡ Some (p, y)
-    → linked o q es ≡ slice_set es j (p, with_partner q y)
-linked-kept o q p es j y some s at =
-    ap (λ (o : Option Place). linked o q es) some
-    ∙ ap (λ (x : Option Entry). partnered x p q es) (found-kept es j (p, y) s at)
-    ∙ set-kept es j (p, y) (with_partner q y) s at
+linked-kept : (o : Option ℕ) (q : ℕ) (es : List Held) (j : ℕ) (y : Held) → o ≡ Some y.0 → Ascend es → slice_get es j ≡ Some y
+    → linked o q es ≡ slice_set es j (linked_to q y)
+linked-kept o q es j y some s at =
+    ap (λ (o : Option ℕ). linked o q es) some
+    ∙ ap (λ (x : Option Entry). partnered x y.0 q es) (found-kept es j y s at)
+    ∙ set-kept es j y (record y.1 { partner = Some q }) s at
 
 -- and with one
-pub joined-linked : (d : Dir) (q : Place) (x : Entry) (es : Entries)
-    → ((i : ℕ) (e : Held) → slice_get (entries_from d es) i ≡ Some e → place_cmp e.0 q ≡ Less)
-    → (p : Place) → x.partner ≡ Some p → (j : ℕ) (y : Entry) → AscendByPlace (entries_from (opposite d) es)
-    → slice_get (entries_from (opposite d) es) j ≡ Some (p, y)
-    → (gs : Entries) × IsLinked (opposite d) j q es gs × (joined d q x es ≡ appended d (q, x) gs)
-joined-linked FromClient q x es below p some j y s at = (
-  record { client = es.client; centre = slice_set es.centre j (p, with_partner q y) },
-  record { entry = (p, y); at = at; set = refl; other = refl },
-  (λ i. record { client = insert-last es.client q x below i; centre = linked-kept x.partner q p es.centre j y some s at i }),
-)
-joined-linked FromCentre q x es below p some j y s at = (
-  record { client = slice_set es.client j (p, with_partner q y); centre = es.centre },
-  record { entry = (p, y); at = at; set = refl; other = refl },
-  (λ i. record { client = linked-kept x.partner q p es.client j y some s at i; centre = insert-last es.centre q x below i }),
-)
+pub joined-linked : (d : Dir) (e : Held) (es : Entries)
+    → ((i : ℕ) (x : Held) → slice_get (entries_from d es) i ≡ Some x → nat_cmp x.0 e.0 ≡ Less)
+    → (j : ℕ) (y : Held) → e.1.partner ≡ Some y.0 → Ascend (entries_from (opposite d) es) → slice_get (entries_from (opposite d) es) j ≡ Some y
+    → joined d (at_offset es.session d e.0) e.1 es ≡ appended d e (set_in (opposite d) j (linked_to e.0 y) es)
+joined-linked FromClient e es below j y some s at = λ i. record {
+  session = es.session;
+  client = insert-last es.client e.0 e.1 below i;
+  centre = linked-kept e.1.partner e.0 es.centre j y some s at i;
+}
+joined-linked FromCentre e es below j y some s at = λ i. record {
+  session = es.session;
+  client = linked-kept e.1.partner e.0 es.client j y some s at i;
+  centre = insert-last es.centre e.0 e.1 below i;
+}

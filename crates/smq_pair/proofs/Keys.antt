@@ -1,22 +1,20 @@
 -- The orders of keys are total, and keys that compare equal are one.
-use Rattle.std.proofs.Common.{◌≡◌, ◌≢◌, true, false, refl, sym, ap, ◌∙◌, subst}
+use Rattle.std.proofs.Common.{◌≡◌, ◌≢◌, ℕ, true, false, refl, sym, ap, ◌∙◌, subst}
 use Rattle.std.proofs.lemmas.Bool.{false≢true}
 use Rattle.std.specs.declared.cmp.Ordering.{Ordering}
 use Rattle.std.specs.declared.cmp.Ordering.TheVariants.{Equal}
-use Rattle.std.specs.Ordering.{is_eq}
+use Rattle.std.specs.Ordering.{is_eq, nat_cmp}
 use Rattle.std.specs.Cmp.{IsTotalOrder}
 use Rattle.std.proofs.lemmas.Cmp.{tied_itself, nat_cmp_total, on_total, then_total}
 use Rattle.std.specs.BTreeMap.{is_at}
+use Rattle.std.specs.FinMap.{nat_cmp-IsAntisymmetric}
 use Rattle.smq_kit.specs.declared.place.Dir.{Dir}
 use Rattle.smq_kit.specs.declared.place.Dir.TheVariants.{FromClient, FromCentre}
-use Rattle.smq_kit.specs.declared.place.Place.{Place}
 use Rattle.smq_kit.specs.Orders.{dir_cmp}
 use Rattle.smq_kit.proofs.Comparisons.{is_equal}
-use Rattle.smq_kit.proofs.PlaceOrders.{places_total}
-use Rattle.smq_shelf.specs.within.KeyLaws.{place_order, one_place}
 use Rattle.smq_pair.specs.declared.entry.Series.{Series}
 use Rattle.smq_pair.specs.declared.entry.Turn.{Turn}
-use Rattle.smq_pair.specs.within.Orders.{kept_place_cmp, series_cmp, turn_cmp}
+use Rattle.smq_pair.specs.within.Orders.{series_cmp, turn_cmp}
 use Rattle.smq_pair.specs.within.KeyLaws.{dir_number, side_number, series_order, one_series, one_turn}
 
 pub same_dir : (a b : Dir) → dir_cmp a b ≡ Equal → a ≡ b
@@ -30,9 +28,6 @@ dir_itself FromClient = refl
 dir_itself FromCentre = refl
 
 -- ---- the orders of maps
-
-pub kept_places_total : IsTotalOrder kept_place_cmp
-kept_places_total = subst IsTotalOrder (sym (λ i a b. place_order a b i)) places_total
 
 pub series_total : IsTotalOrder series_cmp
 series_total = subst IsTotalOrder (sym (λ i a b. series_order a b i))
@@ -78,8 +73,8 @@ series-other = at_other series_cmp one_series series_total
 pub series-apart : (k q : Series) → k ≢ q → is_at (series_cmp k) q ≡ false
 series-apart = at_apart series_cmp one_series series_total
 
-pub place-at : (k q : Place) → is_at (kept_place_cmp k) q ≡ true → k ≡ q
-place-at = at_same kept_place_cmp one_place kept_places_total
+pub offset-same : (k q : ℕ) → is_at (nat_cmp k) q ≡ true → k ≡ q
+offset-same = at_same nat_cmp nat_cmp-IsAntisymmetric nat_cmp_total
 
-pub place-itself : (k : Place) → is_at (kept_place_cmp k) k ≡ true
-place-itself = at_itself kept_place_cmp one_place kept_places_total
+pub offset-itself : (k : ℕ) → is_at (nat_cmp k) k ≡ true
+offset-itself = at_itself nat_cmp nat_cmp-IsAntisymmetric nat_cmp_total

@@ -101,8 +101,8 @@ module _ (v : PairingValue) (p : PlacedHeader) (o : AreInOrder v) (n : IsNext v 
       all-test (λ (x : PlacedHeader). x.place.session.0 == p.place.session.0) (pdus_from d v) i x (sessions_of d) at in
       grind (arith, nat_tests, e)
 
-  offset_of : (i : ℕ) (x : PlacedHeader) → slice_get (pdus_from p.place.dir v) i ≡ Some x → x.place.offset < p.place.offset
-  offset_of i x at =
+  pub below-next : (i : ℕ) (x : PlacedHeader) → slice_get (pdus_from p.place.dir v) i ≡ Some x → x.place.offset < p.place.offset
+  below-next i x at =
       let e : nat_lt x.place.offset p.place.offset ≡ true = all-test (λ (x : PlacedHeader). nat_lt x.place.offset p.place.offset)
       (pdus_from p.place.dir v) i x n.offset at in
       grind (arith, nat_tests, e)
@@ -110,7 +110,7 @@ module _ (v : PairingValue) (p : PlacedHeader) (o : AreInOrder v) (n : IsNext v 
   below_in : (d : Dir) → p.place.dir ≡ d → (i : ℕ) (x : PlacedHeader) → slice_get (pdus_from d v) i ≡ Some x → place_cmp x.place p.place ≡ Less
   below_in d e i x at =
       less_offset x.place p.place (session_of d i x at) (dir-of v d i x o at ∙ sym e)
-      (offset_of i x (subst (λ (d' : Dir). slice_get (pdus_from d' v) i ≡ Some x) (sym e) at))
+      (below-next i x (subst (λ (d' : Dir). slice_get (pdus_from d' v) i ≡ Some x) (sym e) at))
 
   is_its : (d : Dir) → p.place.dir ≡ d → is_from d p ≡ true
   is_its d e = ap (λ (d' : Dir). eq_by_cmp dir_cmp d' d) e ∙ ap is_eq (dir_itself d)
@@ -140,9 +140,6 @@ module _ (v : PairingValue) (p : PlacedHeader) (o : AreInOrder v) (n : IsNext v 
   pub in-order-next : AreInOrder (pushed v p)
   in-order-next = in_order_in p.place.dir refl
 
-  pub below-next : (i : ℕ) (x : PlacedHeader) → slice_get (pdus_from p.place.dir v) i ≡ Some x → place_cmp x.place p.place ≡ Less
-  below-next = below_in p.place.dir refl
-
   -- no more PDUs of its direction came than its offset says
   pub few-before : length (pdus_from p.place.dir v) ≤ p.place.offset
   few-before =
@@ -151,13 +148,13 @@ module _ (v : PairingValue) (p : PlacedHeader) (o : AreInOrder v) (n : IsNext v 
         session = session_of p.place.dir i x at;
         dir = dir-of v p.place.dir i x o at;
         from = omega arith;
-        below = offset_of i x at;
+        below = below-next i x at;
       }) in
       omega (arith, bound)
 
   -- its place is that of no other
   pub next-is-free : IsNowhere (pdus_from p.place.dir v) p.place
   next-is-free i x at same =
-      let less = offset_of i x at in
+      let less = below-next i x at in
       let one : x.place.offset ≡ p.place.offset = ap (λ (q : Place). q.offset) same in
       absurd (omega (arith, less, one))

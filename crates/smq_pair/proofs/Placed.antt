@@ -1,9 +1,8 @@
--- The places of PDUs by their indexes.
+-- The offsets of PDUs by their indexes.
 use Rattle.std.proofs.Common.{◌≡◌, ℕ, zero, suc, Bool, true, false, cond, List, [], ◌∷◌, length, take, Option, Some, None, refl, sym, ap, ◌∙◌, subst}
 use Rattle.std.specs.Prelude.{option_map, option_and_then, slice_get, is_none}
 use Rattle.std.specs.BTreeMap.{is_at}
 use Rattle.smq_kit.specs.declared.place.Dir.{Dir}
-use Rattle.smq_kit.specs.declared.place.Place.{Place}
 use Rattle.smq_pdu.specs.Header.{Header}
 use Rattle.smq_pair.specs.declared.entry.Series.{Series}
 use Rattle.smq_pair.specs.declared.entry.Turn.{Turn}
@@ -11,7 +10,7 @@ use Rattle.smq_pair.specs.Pairing.{PlacedHeader, PairingValue, pdus_from, opposi
 use Rattle.smq_pair.specs.Growth.{pushed}
 use Rattle.smq_pair.specs.within.Turns.{headers_from, index_at, unpaired_at, partner, partner_of, series_of, turn_after}
 use Rattle.smq_pair.specs.within.Orders.{turn_cmp}
-use Rattle.smq_pair.specs.within.Maps.{place_at, unpaired_after}
+use Rattle.smq_pair.specs.within.Maps.{offset_at, unpaired_after}
 use Rattle.smq_pair.proofs.Keys.{turn-same}
 use Rattle.smq_pair.proofs.Lists.{some-is, get-last, get-front}
 use Rattle.smq_pair.proofs.Turned.{by_dir, pushed-apart, pushed-by, series-has, turn-stands, next_turn, next-dir}
@@ -60,10 +59,10 @@ unpaired-pdu v t j e = index-pdu v t j (is (is_none (index_at v (partner t))) (i
     is true o e = e
     is false o e = absurd cc
 
--- ---- places
+-- ---- offsets
 
-pub place-there : (v : PairingValue) (d : Dir) (i : ℕ) (p : PlacedHeader) → slice_get (pdus_from d v) i ≡ Some p → place_at v d (Some i) ≡ Some p.place
-place-there v d i p at = ap (option_map (λ (x : PlacedHeader). x.place)) at
+pub offset-there : (v : PairingValue) (d : Dir) (i : ℕ) (p : PlacedHeader) → slice_get (pdus_from d v) i ≡ Some p → offset_at v d (Some i) ≡ Some p.place.offset
+offset-there v d i p at = ap (option_map (λ (x : PlacedHeader). x.place.offset)) at
 
 module _ (v : PairingValue) (p : PlacedHeader) where
   get_after : (d : Dir) (i : ℕ) (x : PlacedHeader) → slice_get (pdus_from d v) i ≡ Some x → slice_get (pdus_from d (pushed v p)) i ≡ Some x
@@ -71,48 +70,48 @@ module _ (v : PairingValue) (p : PlacedHeader) where
       (λ same. ap (λ ps. slice_get ps i) (pushed-by d v p same) ∙ get-front (pdus_from d v) (p ∷ []) i x at)
       (λ apart. ap (λ ps. slice_get ps i) (pushed-apart d p.place.dir v p apart) ∙ at)
 
-  -- what stood before one PDU more keeps its place
-  pub place-stays : (d : Dir) (o : Option ℕ) → StandsBy v d o → place_at (pushed v p) d o ≡ place_at v d o
-  place-stays d None stands = refl
-  place-stays d (Some i) stands =
+  -- what stood before one PDU more keeps its offset
+  pub offset-stays : (d : Dir) (o : Option ℕ) → StandsBy v d o → offset_at (pushed v p) d o ≡ offset_at v d o
+  offset-stays d None stands = refl
+  offset-stays d (Some i) stands =
       let x = stands i refl in
-      place-there (pushed v p) d i x.0 (get_after d i x.0 x.1) ∙ sym (place-there v d i x.0 x.1)
+      offset-there (pushed v p) d i x.0 (get_after d i x.0 x.1) ∙ sym (offset-there v d i x.0 x.1)
 
   -- and it has its own, the last of its direction
-  pub place-last : place_at (pushed v p) p.place.dir (Some (length (pdus_from p.place.dir v))) ≡ Some p.place
-  place-last = place-there (pushed v p) p.place.dir (length (pdus_from p.place.dir v)) p
+  pub offset-last : offset_at (pushed v p) p.place.dir (Some (length (pdus_from p.place.dir v))) ≡ Some p.place.offset
+  offset-last = offset-there (pushed v p) p.place.dir (length (pdus_from p.place.dir v)) p
       (ap (λ ps. slice_get ps (length (pdus_from p.place.dir v))) (pushed-by p.place.dir v p refl) ∙ get-last (pdus_from p.place.dir v) p)
 
-  module _ (t : Turn) (next : next_turn v p ≡ Some t) (k : Turn → Option Place)
-      (kept : (u : Turn) → k u ≡ place_at v u.series.dir (unpaired_at v u)) where
+  module _ (t : Turn) (next : next_turn v p ≡ Some t) (k : Turn → Option ℕ)
+      (kept : (u : Turn) → k u ≡ offset_at v u.series.dir (unpaired_at v u)) where
     abbrev own : ℕ
     own = length (pdus_from p.place.dir v)
 
-    stays : (u : Turn) → k u ≡ place_at (pushed v p) u.series.dir (unpaired_at v u)
-    stays u = kept u ∙ sym (place-stays u.series.dir (unpaired_at v u) (unpaired-pdu v u))
+    stays : (u : Turn) → k u ≡ offset_at (pushed v p) u.series.dir (unpaired_at v u)
+    stays u = kept u ∙ sym (offset-stays u.series.dir (unpaired_at v u) (unpaired-pdu v u))
 
-    -- the places of turns without a partner, after it
-    after_places : (o : Option ℕ) (u : Turn) → StandsBy v (opposite p.place.dir) o
-        → unpaired_after (place_at v (opposite p.place.dir) o) k t p.place u
-        ≡ place_at (pushed v p) u.series.dir (unpaired_after o (unpaired_at v) t own u)
-    after_places None u stands = elim (is_at (turn_cmp t) u) as (λ b. is_at (turn_cmp t) u ≡ b
-        → cond b (Some p.place) (k u) ≡ place_at (pushed v p) u.series.dir (cond b (Some own) (unpaired_at v u))) [
+    -- the offsets of turns without a partner, after it
+    after_offsets : (o : Option ℕ) (u : Turn) → StandsBy v (opposite p.place.dir) o
+        → unpaired_after (offset_at v (opposite p.place.dir) o) k t p.place.offset u
+        ≡ offset_at (pushed v p) u.series.dir (unpaired_after o (unpaired_at v) t own u)
+    after_offsets None u stands = elim (is_at (turn_cmp t) u) as (λ b. is_at (turn_cmp t) u ≡ b
+        → cond b (Some p.place.offset) (k u) ≡ offset_at (pushed v p) u.series.dir (cond b (Some own) (unpaired_at v u))) [
           | true ↦ λ here.
-              sym (ap (λ (d : Dir). place_at (pushed v p) d (Some own)) (ap (λ (x : Turn). x.series.dir) (sym (turn-same t u here)) ∙ next-dir v p t next)
-              ∙ place-last)
+              sym (ap (λ (d : Dir). offset_at (pushed v p) d (Some own)) (ap (λ (x : Turn). x.series.dir) (sym (turn-same t u here)) ∙ next-dir v p t next)
+              ∙ offset-last)
           | false ↦ λ other. stays u
         ] refl
-    after_places (Some j) u stands =
+    after_offsets (Some j) u stands =
         let x = stands j refl in
-        ap (λ (o : Option Place). unpaired_after o k t p.place u) (place-there v (opposite p.place.dir) j x.0 x.1)
+        ap (λ (o : Option ℕ). unpaired_after o k t p.place.offset u) (offset-there v (opposite p.place.dir) j x.0 x.1)
         ∙ elim (is_at (turn_cmp (partner t)) u) as (λ b. cond b None (k u)
-        ≡ place_at (pushed v p) u.series.dir (cond b None (unpaired_at v u))) [ true ↦ refl | false ↦ stays u ]
+        ≡ offset_at (pushed v p) u.series.dir (cond b None (unpaired_at v u))) [ true ↦ refl | false ↦ stays u ]
 
-    pub places-next : (other : Option Place) → other ≡ place_at v (opposite p.place.dir) (index_at v (partner t))
-        → (u : Turn) → unpaired_after other k t p.place u ≡ place_at (pushed v p) u.series.dir (unpaired_at (pushed v p) u)
-    places-next other is u =
+    pub offsets-next : (other : Option ℕ) → other ≡ offset_at v (opposite p.place.dir) (index_at v (partner t))
+        → (u : Turn) → unpaired_after other k t p.place.offset u ≡ offset_at (pushed v p) u.series.dir (unpaired_at (pushed v p) u)
+    offsets-next other is u =
         let dir : t.series.dir ≡ p.place.dir = next-dir v p t next in
-        ap (λ (o : Option Place). unpaired_after o k t p.place u) is
-        ∙ after_places (index_at v (partner t)) u
+        ap (λ (o : Option ℕ). unpaired_after o k t p.place.offset u) is
+        ∙ after_offsets (index_at v (partner t)) u
         (subst (λ (d : Dir). StandsBy v (opposite d) (index_at v (partner t))) dir (index-pdu v (partner t)))
-        ∙ ap (place_at (pushed v p) u.series.dir) (unpaired_next v p t next (index_at v (partner t)) refl u)
+        ∙ ap (offset_at (pushed v p) u.series.dir) (unpaired_next v p t next (index_at v (partner t)) refl u)

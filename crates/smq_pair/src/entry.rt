@@ -3,17 +3,17 @@ ghost use Rattle.std.specs.Prelude.{◌≡◌};
 ghost use Rattle.smq_pair.specs.within.Turns as defined;
 ghost use Rattle.smq_pair.specs.within.Kept.{series_of_entry, is_alone};
 
-use smq_kit::{Dir, Place};
+use smq_kit::Dir;
 use smq_pdu::{is_request, is_response};
 use smq_shelf::ShelfKey;
 
-/// What is kept of the PDU at a place: what its header says, and the place of its partner, if it has one.
+/// What is kept of a PDU: what its header says, and the offset of its partner in the other direction, if it has one.
 #[derive(Clone, Copy)]
 pub(crate) struct Entry {
     pub seq: u32,
     pub command: u32,
     pub status: u32,
-    pub partner: Option<Place>,
+    pub partner: Option<u64>,
 }
 
 /// What a PDU is in a pair.

@@ -101,8 +101,6 @@ impl Pairing {
         ensures counted { self.old.touches ≤ self.new.touches }
         ensures pending { self.new.pending ≤ self.old.pending + 2 }
     {
-        // No more PDUs of its direction came than its offset says, which is a u64.
-        let _offset = offset_of(place);
         let alone = Entry {
             seq,
             command,
@@ -110,11 +108,9 @@ impl Pairing {
             partner: None,
         };
         let series = alone.series(place.dir);
-        let partner = self.turns.enter(series, place)?;
-        let entry = Entry { partner, ..alone };
-        let made = self.streams.pair_in(place, entry);
-        match self.streams.add(place, entry) {
-            Ok(()) => Ok(made),
+        let partner = self.turns.enter(series, place.offset)?;
+        match self.streams.add(place, Entry { partner, ..alone }) {
+            Ok(made) => Ok(made),
             Err(error) => {
                 self.turns.leave(series);
                 Err(error)
@@ -177,11 +173,4 @@ impl Pairing {
     {
         self.turns.touches()
     }
-}
-
-/// The offset of a place.
-fn offset_of(place: Place) -> u64
-    ensures { result ≡ place.offset }
-{
-    place.offset
 }

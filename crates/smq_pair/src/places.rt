@@ -1,8 +1,10 @@
 //! The places of the PDUs that stand in no pair, in order: by session, then direction, the client's first, then offset.
+ghost use Rattle.std.specs.Prelude.{◌≡◌};
 ghost use Rattle.std.specs.Iterator.{YieldsFirstBy, item_count};
+ghost use Rattle.smq_pair.specs.within.Kept.{at_offset};
 
 use crate::entry::{Entry, Side};
-use smq_kit::Place;
+use smq_kit::{Dir, Place, SessionId};
 use smq_shelf::Entries;
 use std::marker::Model;
 
@@ -10,8 +12,9 @@ use std::marker::Model;
 #[derive(Drop)]
 pub struct Places<'a> {
     pub(crate) side: Side,
-    pub(crate) client: Entries<'a, Place, Entry>,
-    pub(crate) centre: Entries<'a, Place, Entry>,
+    pub(crate) session: SessionId,
+    pub(crate) client: Entries<'a, u64, Entry>,
+    pub(crate) centre: Entries<'a, u64, Entry>,
 }
 
 impl<'a> Model for Places<'a> {
@@ -20,10 +23,10 @@ impl<'a> Model for Places<'a> {
 
     ghost Value = { List Place };
 
-    ghost use Rattle.std.specs.Prelude.{◌++◌};
     ghost use Rattle.smq_pair.specs.within.Kept.{places_alone};
 
-    ghost view = { λ p. places_alone p.side (p.client ++ p.centre) };
+    ghost view = { λ p. places_alone p.side
+        (record { session = p.session; client = p.client; centre = p.centre }) };
 }
 
 impl<'a> Iterator for Places<'a> {
@@ -35,16 +38,28 @@ impl<'a> Iterator for Places<'a> {
 
     fn next(&mut self) -> Option<Place> {
         let side = self.side;
-        while let Some((place, entry)) = self.client.next() {
+        let session = self.session;
+        while let Some((offset, entry)) = self.client.next() {
             if entry.is_alone(side) {
-                return Some(*place);
+                return Some(at(session, Dir::FromClient, *offset));
             }
         }
-        while let Some((place, entry)) = self.centre.next() {
+        while let Some((offset, entry)) = self.centre.next() {
             if entry.is_alone(side) {
-                return Some(*place);
+                return Some(at(session, Dir::FromCentre, *offset));
             }
         }
         None
+    }
+}
+
+/// The place at an offset.
+pub(crate) fn at(session: SessionId, dir: Dir, offset: u64) -> Place
+    ensures { result ≡ at_offset session dir offset }
+{
+    Place {
+        session,
+        dir,
+        offset,
     }
 }

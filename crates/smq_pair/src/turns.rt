@@ -11,15 +11,14 @@ ghost use Rattle.smq_pair.specs.within.Turns as defined;
 ghost use Rattle.smq_pair.specs.within.Maps.{CanLeave, Enters, Matching, count_kept, matching_in, next_rank, pending_in, settled_matching, touches_in, with_turn};
 
 use crate::entry::{Series, Turn};
-use smq_kit::Place;
 use smq_shelf::Kept;
 use std::alloc::{AllocError, Global};
 
-/// The rank of the last PDU of each series, and the place of the PDU of each turn that has no partner.
+/// The rank of the last PDU of each series, and the offset of the PDU of each turn that has no partner.
 #[derive(Drop)]
 pub(crate) struct Turns {
     pub lasts: Kept<Series, u64>,
-    pub unpaired: Kept<Turn, Place>,
+    pub unpaired: Kept<Turn, u64>,
 }
 
 impl Turns {
@@ -36,16 +35,16 @@ impl Turns {
         }
     }
 
-    /// Takes the next PDU of a series, if it is of one, by its place, and gives the place of its partner, if that came.
-    /// An error changes nothing.
+    /// Takes the next PDU of a series, if it is of one, by its offset, and gives the offset of its partner, if that came.
+    /// No more PDUs came than its offset says. An error changes nothing.
     pub(crate) fn enter(
         &mut self,
         series: Option<Series>,
-        place: Place,
-    ) -> Result<Option<Place>, AllocError>
-        requires { IfSome series (λ s. count_kept (matching_in self.old) s < 2 ^ 64) }
+        offset: u64,
+    ) -> Result<Option<u64>, AllocError>
+        requires { IfSome series (λ s. count_kept (matching_in self.old) s ≤ offset) }
         ensures ok { IfOk result (λ found.
-            Enters (matching_in self.old) (matching_in self.new) series place found) }
+            Enters (matching_in self.old) (matching_in self.new) series offset found) }
         ensures back { OnOk result (CanLeave series (matching_in self.old) self.new) }
         ensures err { OnErr result (matching_in self.new ≡ matching_in self.old) }
         ensures settled { settled_matching self.new ≡ settled_matching self.old }
@@ -60,7 +59,7 @@ impl Turns {
             return Ok(None);
         };
         let rank = count(&mut self.lasts, series)?;
-        match meet(&mut self.unpaired, Turn { series, rank }, place) {
+        match meet(&mut self.unpaired, Turn { series, rank }, offset) {
             Ok(found) => Ok(found),
             Err(error) => {
                 self.lasts.take_back();
@@ -150,16 +149,12 @@ fn rank_in(lasts: &mut Kept<Series, u64>, series: Series) -> u64
     }
 }
 
-/// Takes the place of a turn's partner out, if it waits, or else keeps this place of the turn. An error changes nothing.
-fn meet(
-    unpaired: &mut Kept<Turn, Place>,
-    turn: Turn,
-    place: Place,
-) -> Result<Option<Place>, AllocError>
+/// Takes the offset of a turn's partner out, if it waits, or else keeps this offset of the turn. An error changes nothing.
+fn meet(unpaired: &mut Kept<Turn, u64>, turn: Turn, offset: u64) -> Result<Option<u64>, AllocError>
     ensures found { IfOk result (λ found. found
         ≡ lookup (is_at (turn_cmp (defined.partner turn))) unpaired.old.content) }
     ensures content { IfOk result (λ found. unpaired.new.content
-        ≡ with_turn found turn place unpaired.old.content) }
+        ≡ with_turn found turn offset unpaired.old.content) }
     ensures ordered { IfOk result (λ found. IsSome found
         → IsStrictlySortedBy turn_cmp (keys_of unpaired.old.content)) }
     ensures past { OnOk result (unpaired.new.past ≡ unpaired.old.places ∷ unpaired.old.past) }
@@ -171,17 +166,17 @@ fn meet(
     ensures counted { unpaired.old.touches ≤ unpaired.new.touches }
 {
     let partner = turn.partner();
-    let found = place_in(unpaired, partner);
+    let found = offset_in(unpaired, partner);
     if found.is_some() {
         unpaired.remove(&partner)?;
     } else {
-        unpaired.set(turn, place)?;
+        unpaired.set(turn, offset)?;
     }
     Ok(found)
 }
 
-/// The place of the PDU of a turn that has no partner.
-fn place_in(unpaired: &mut Kept<Turn, Place>, turn: Turn) -> Option<Place>
+/// The offset of the PDU of a turn that has no partner.
+fn offset_in(unpaired: &mut Kept<Turn, u64>, turn: Turn) -> Option<u64>
     ensures value { result ≡ lookup (is_at (turn_cmp turn)) unpaired.old.content }
     ensures read { IsRead unpaired.old unpaired.new }
 {

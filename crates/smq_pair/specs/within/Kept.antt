@@ -1,14 +1,13 @@
--- The PDUs of both directions, as maps keep them by place.
-use Rattle.std.specs.Prelude.{◌==◌, ◌&&◌, Bool, if◌then◌else◌, List, ◌++◌, map, filter, Option, Some, None, option_map, option_and_then, is_none}
+-- The PDUs of both directions, as maps keep them by offset.
+use Rattle.std.specs.Prelude.{◌==◌, ◌&&◌, ℕ, Bool, if◌then◌else◌, List, ◌++◌, map, filter, Option, Some, None, option_map, option_and_then, is_none, nat_lt}
 use Rattle.std.specs.List.{list_all}
-use Rattle.std.specs.Ordering.{is_lt}
+use Rattle.std.specs.Ordering.{nat_cmp}
 use Rattle.std.specs.Map.{lookup}
 use Rattle.std.specs.BTreeMap.{insert_entry, is_at}
 use Rattle.smq_kit.specs.declared.names.SessionId.{SessionId}
 use Rattle.smq_kit.specs.declared.place.Dir.{Dir}
 use Rattle.smq_kit.specs.declared.place.Dir.TheVariants.{FromClient, FromCentre}
 use Rattle.smq_kit.specs.declared.place.Place.{Place}
-use Rattle.smq_kit.specs.Orders.{place_cmp}
 use Rattle.smq_pdu.specs.Header.{Header}
 use Rattle.smq_pdu.specs.Pairing.{is_request}
 use Rattle.smq_pair.specs.declared.entry.Entry.{Entry}
@@ -16,46 +15,53 @@ use Rattle.smq_pair.specs.declared.entry.Side.{Side}
 use Rattle.smq_pair.specs.declared.entry.Series.{Series}
 use Rattle.smq_pair.specs.declared.streams.Streams.{Streams}
 use Rattle.smq_pair.specs.declared.pairing.Pair.{Pair}
-use Rattle.smq_pair.specs.Pairing.{PlacedHeader, PairingValue, pair_of}
+use Rattle.smq_pair.specs.Pairing.{PlacedHeader, PairingValue, pdus_from, opposite, pair_of}
 use Rattle.smq_pair.specs.within.Turns.{is_on, series_of}
-use Rattle.smq_pair.specs.within.Orders.{kept_place_cmp}
 
--- an entry at its place
+-- an entry at its offset
 abbrev pub Held : Type 0
-Held = Place × Entry
+Held = ℕ × Entry
 
--- the entries of each direction, by place
+-- the entries of each direction of a session, by offset
 pub record Entries : Type 0 where
+  pub session : SessionId
   pub client : List Held
   pub centre : List Held
 
 abbrev pub entries_in : Streams → Entries
-entries_in s = record { client = s.client.content; centre = s.centre.content }
+entries_in s = record { session = s.session; client = s.client.content; centre = s.centre.content }
 
 -- those that can be brought back
 abbrev pub settled_entries : Streams → Entries
-settled_entries s = record { client = s.client.settled; centre = s.centre.settled }
+settled_entries s = record { session = s.settled_session; client = s.client.settled; centre = s.centre.settled }
 
 -- those of one direction
 abbrev pub entries_from : Dir → Entries → List Held
 entries_from FromClient es = es.client
 entries_from FromCentre es = es.centre
 
--- those of both, the client's first
-abbrev pub all_entries : Entries → List Held
-all_entries es = es.client ++ es.centre
-
 -- what an entry says
 abbrev pub header_of : Entry → Header
 header_of e = record { command = e.command; status = e.status; seq = e.seq }
 
--- what an entry at its place says
-abbrev pub placed : Held → PlacedHeader
-placed e = record { place = e.0; header = header_of e.1 }
+-- the place at an offset
+abbrev pub at_offset : SessionId → Dir → ℕ → Place
+at_offset session dir offset = record { session = session; dir = dir; offset = offset }
+
+-- what an entry says, at its place
+abbrev pub placed_at : Place → Entry → PlacedHeader
+placed_at place e = record { place = place; header = header_of e }
+
+-- the same of an entry at its offset
+abbrev pub placed : SessionId → Dir → Held → PlacedHeader
+placed session dir e = placed_at (at_offset session dir e.0) e.1
 
 -- what entries say
 abbrev pub pdus_in : Entries → PairingValue
-pdus_in es = record { client = map placed es.client; centre = map placed es.centre }
+pdus_in es = record {
+  client = map (placed es.session FromClient) es.client;
+  centre = map (placed es.session FromCentre) es.centre;
+}
 
 -- the series of an entry of a direction
 abbrev pub series_of_entry : Dir → Entry → Option Series
@@ -65,56 +71,64 @@ series_of_entry dir e = series_of dir (header_of e)
 abbrev pub is_alone : Side → Entry → Bool
 is_alone side e = is_on side (header_of e) && is_none e.partner
 
--- the places of those
-abbrev pub places_alone : Side → List Held → List Place
-places_alone side es = map (λ e. e.0) (filter (λ e. is_alone side e.1) es)
+-- the places of those in a direction
+abbrev pub alone_from : Side → SessionId → Dir → List Held → List Place
+alone_from side session dir es = map (λ e. at_offset session dir e.0) (filter (λ e. is_alone side e.1) es)
 
--- whether entries are all of a session
-abbrev pub are_of_session : SessionId → List Held → Bool
-are_of_session session es = list_all (λ e. e.0.session.0 == session.0) es
+-- and in both, the client's first
+abbrev pub places_alone : Side → Entries → List Place
+places_alone side es =
+    alone_from side es.session FromClient es.client ++ alone_from side es.session FromCentre es.centre
 
-abbrev pub are_all_of_session : SessionId → Entries → Bool
-are_all_of_session session es = are_of_session session es.client && are_of_session session es.centre
+-- whether PDUs are all of a session
+abbrev pub are_of_session : SessionId → PairingValue → Bool
+are_of_session session v = list_all (λ p. p.place.session.0 == session.0) (v.client ++ v.centre)
 
--- whether entries are all below a place
-abbrev pub are_below : Place → List Held → Bool
-are_below place es = list_all (λ e. is_lt (place_cmp e.0 place)) es
+-- whether the PDUs of a place's direction are all below it
+abbrev pub are_below : Place → PairingValue → Bool
+are_below place v = list_all (λ p. nat_lt p.place.offset place.offset) (pdus_from place.dir v)
+
+-- what is kept at an offset of a direction
+abbrev pub held_at : ℕ → List Held → Option Entry
+held_at offset es = lookup (is_at (nat_cmp offset)) es
 
 -- what is kept at a place
-abbrev pub held_at : Place → List Held → Option Entry
-held_at place es = lookup (is_at (kept_place_cmp place)) es
+abbrev pub kept_at : Place → Entries → Option Entry
+kept_at place es =
+    if place.session.0 == es.session.0 then held_at place.offset (entries_from place.dir es) else None
 
--- an entry with its partner's place
-abbrev pub with_partner : Place → Entry → Entry
-with_partner q e = record e { partner = Some q }
-
--- entries of which the one at a place, if it is there, has this partner
-abbrev pub partnered : Option Entry → Place → Place → List Held → List Held
+-- entries of which the one at an offset, if it is there, has this partner
+abbrev pub partnered : Option Entry → ℕ → ℕ → List Held → List Held
 partnered None at q es = es
-partnered (Some e) at q es = insert_entry kept_place_cmp es at (with_partner q e)
+partnered (Some e) at q es = insert_entry nat_cmp es at (record e { partner = Some q })
 
--- the same, if a place is given
-abbrev pub linked : Option Place → Place → List Held → List Held
+-- the same, if an offset is given
+abbrev pub linked : Option ℕ → ℕ → List Held → List Held
 linked None q es = es
 linked (Some at) q es = partnered (held_at at es) at q es
 
--- one more in a direction, which is the partner of its own
+-- one more in a direction at a place of it, which is the partner of its own
 abbrev pub joined : Dir → Place → Entry → Entries → Entries
 joined FromClient place e es = record {
-  client = insert_entry kept_place_cmp es.client place e;
-  centre = linked e.partner place es.centre;
+  session = place.session;
+  client = insert_entry nat_cmp es.client place.offset e;
+  centre = linked e.partner place.offset es.centre;
 }
 joined FromCentre place e es = record {
-  client = linked e.partner place es.client;
-  centre = insert_entry kept_place_cmp es.centre place e;
+  session = place.session;
+  client = linked e.partner place.offset es.client;
+  centre = insert_entry nat_cmp es.centre place.offset e;
 }
 
--- the pair of an entry and another
-abbrev pub pair_by : Held → Held → Pair
-pair_by e other =
-    if is_request (header_of e.1) then pair_of (placed e) (placed other) else pair_of (placed other) (placed e)
+-- the pair of two PDUs, whichever of them is the request
+abbrev pub pair_by : PlacedHeader → PlacedHeader → Pair
+pair_by p other = if is_request p.header then pair_of p other else pair_of other p
 
--- the pair of an entry and its partner
-abbrev pub pair_kept : Entries → Held → Option Pair
-pair_kept es e =
-    option_and_then (λ q. option_map (λ x. pair_by e (q, x)) (held_at q (entries_from q.dir es))) e.1.partner
+-- the partner of an entry of a direction
+abbrev pub partner_kept : Dir → Entry → Entries → Option Entry
+partner_kept dir e es = option_and_then (λ q. held_at q (entries_from (opposite dir) es)) e.partner
+
+-- the pair of an entry at a place with its partner, where that is found
+abbrev pub pair_found : Place → Entry → Option Entry → Option Pair
+pair_found place e found = option_and_then (λ q. option_map
+    (λ x. pair_by (placed_at place e) (placed place.session (opposite place.dir) (q, x))) found) e.partner

@@ -3,7 +3,6 @@ use Rattle.std.specs.Prelude.{◌≡◌, ◌+◌, ℕ, cond, List, ◌∷◌, Op
 use Rattle.std.specs.Map.{lookup, remove_entry}
 use Rattle.std.specs.BTreeMap.{insert_entry, is_at}
 use Rattle.smq_kit.specs.declared.place.Dir.{Dir}
-use Rattle.smq_kit.specs.declared.place.Place.{Place}
 use Rattle.smq_shelf.specs.Places.{content_of}
 use Rattle.smq_pair.specs.declared.entry.Series.{Series}
 use Rattle.smq_pair.specs.declared.entry.Turn.{Turn}
@@ -14,10 +13,10 @@ use Rattle.smq_pair.specs.within.Turns.{count_in, unpaired_at, partner, partner_
 use Rattle.smq_pair.specs.within.Orders.{series_cmp, turn_cmp}
 use Rattle.smq_pair.specs.within.Kept.{Entries, Held, entries_from, header_of, pdus_in}
 
--- the rank of the last PDU of each series, and the place of the PDU of each turn that has no partner
+-- the rank of the last PDU of each series, and the offset of the PDU of each turn that has no partner
 pub record Matching : Type 0 where
   pub lasts : List (Series × ℕ)
-  pub unpaired : List (Turn × Place)
+  pub unpaired : List (Turn × ℕ)
 
 abbrev pub matching_in : Turns → Matching
 matching_in t = record { lasts = t.lasts.content; unpaired = t.unpaired.content }
@@ -41,38 +40,38 @@ next_rank (Some last) = last + 1
 abbrev pub count_kept : Matching → Series → ℕ
 count_kept m s = next_rank (lookup (is_at (series_cmp s)) m.lasts)
 
--- the place that is kept of a turn
-abbrev pub unpaired_kept : Matching → Turn → Option Place
+-- the offset that is kept of a turn
+abbrev pub unpaired_kept : Matching → Turn → Option ℕ
 unpaired_kept m t = lookup (is_at (turn_cmp t)) m.unpaired
 
--- the turns without a partner, after one more at this place: its partner has one now, or it waits for its own
-abbrev pub with_turn : Option Place → Turn → Place → List (Turn × Place) → List (Turn × Place)
-with_turn None t place us = insert_entry turn_cmp us t place
-with_turn (Some _) t place us = remove_entry (is_at (turn_cmp (partner t))) us
+-- the turns without a partner, after one more at this offset: its partner has one now, or it waits for its own
+abbrev pub with_turn : Option ℕ → Turn → ℕ → List (Turn × ℕ) → List (Turn × ℕ)
+with_turn None t offset us = insert_entry turn_cmp us t offset
+with_turn (Some _) t offset us = remove_entry (is_at (turn_cmp (partner t))) us
 
--- the same at each turn, by places or by indexes
+-- the same at each turn, by offsets or by indexes
 abbrev pub unpaired_after : {A : Type 0} → Option A → (Turn → Option A) → Turn → A → Turn → Option A
 unpaired_after None kept t own u = cond (is_at (turn_cmp t) u) (Some own) (kept u)
 unpaired_after (Some _) kept t own u = cond (is_at (turn_cmp (partner t)) u) None (kept u)
 
--- The PDU of a turn, which is at this place, met the one of its partner's turn, where that waited.
-pub record IsMet (m n : Matching) (t : Turn) (place : Place) (other : Option Place) : Type 0 where
+-- The PDU of a turn, which is at this offset, met the one of its partner's turn, where that waited.
+pub record IsMet (m n : Matching) (t : Turn) (offset : ℕ) (other : Option ℕ) : Type 0 where
   pub found : other ≡ unpaired_kept m (partner t)
-  pub unpaired : (u : Turn) → unpaired_kept n u ≡ unpaired_after other (unpaired_kept m) t place u
+  pub unpaired : (u : Turn) → unpaired_kept n u ≡ unpaired_after other (unpaired_kept m) t offset u
 
 -- the turn of the next PDU of a series
 abbrev pub next_kept : Matching → Series → Turn
 next_kept m s = record { series = s; rank = count_kept m s }
 
 -- The next PDU of a series is in.
-pub record IsEntered (m n : Matching) (s : Series) (place : Place) (other : Option Place) : Type 0 where
-  pub met : IsMet m n (next_kept m s) place other
+pub record IsEntered (m n : Matching) (s : Series) (offset : ℕ) (other : Option ℕ) : Type 0 where
+  pub met : IsMet m n (next_kept m s) offset other
   pub counts : (q : Series) → count_kept n q ≡ cond (is_at (series_cmp s) q) (count_kept m s + 1) (count_kept m q)
 
 -- A PDU is in: the next of its series, or one of no series, which changes nothing.
-abbrev pub Enters : Matching → Matching → Option Series → Place → Option Place → Type 0
-Enters m n None place other = (n ≡ m) × (other ≡ None)
-Enters m n (Some s) place other = IsEntered m n s place other
+abbrev pub Enters : Matching → Matching → Option Series → ℕ → Option ℕ → Type 0
+Enters m n None offset other = (n ≡ m) × (other ≡ None)
+Enters m n (Some s) offset other = IsEntered m n s offset other
 
 -- The last change of each map, taken back, leaves m.
 pub record IsBack (m : Matching) (t : Turns) : Type 0 where
@@ -80,8 +79,8 @@ pub record IsBack (m : Matching) (t : Turns) : Type 0 where
   pub lasts : List (List (Series × Option ℕ))
   pub last_past : t.lasts.past ≡ last ∷ lasts
   pub last_is : content_of last ≡ m.lasts
-  pub turn : List (Turn × Option Place)
-  pub turns : List (List (Turn × Option Place))
+  pub turn : List (Turn × Option ℕ)
+  pub turns : List (List (Turn × Option ℕ))
   pub turn_past : t.unpaired.past ≡ turn ∷ turns
   pub turn_is : content_of turn ≡ m.unpaired
 
@@ -90,14 +89,18 @@ abbrev pub CanLeave : Option Series → Matching → Turns → Type 0
 CanLeave None m t = matching_in t ≡ m
 CanLeave (Some _) m t = IsBack m t
 
--- the place of the PDU at an index of a direction
-abbrev pub place_at : PairingValue → Dir → Option ℕ → Option Place
-place_at v dir o = option_and_then (λ i. option_map (λ p. p.place) (slice_get (pdus_from dir v) i)) o
+-- the offset of the PDU at an index of a direction
+abbrev pub offset_at : PairingValue → Dir → Option ℕ → Option ℕ
+offset_at v dir o = option_and_then (λ i. option_map (λ p. p.place.offset) (slice_get (pdus_from dir v) i)) o
 
--- The entries stand in order, the maps hold what they say, and each has its partner.
-pub record Holds (m : Matching) (es : Entries) : Type 0 where
-  pub in_order : AreInOrder (pdus_in es)
-  pub counts : (s : Series) → count_kept m s ≡ count_in (pdus_in es) s
-  pub unpaired : (t : Turn) → unpaired_kept m t ≡ place_at (pdus_in es) t.series.dir (unpaired_at (pdus_in es) t)
+-- The PDUs stand in order, the maps hold what they say, and each entry has its partner.
+pub record HoldsOf (v : PairingValue) (m : Matching) (es : Entries) : Type 0 where
+  pub in_order : AreInOrder v
+  pub counts : (s : Series) → count_kept m s ≡ count_in v s
+  pub unpaired : (t : Turn) → unpaired_kept m t ≡ offset_at v t.series.dir (unpaired_at v t)
   pub partners : (dir : Dir) (i : ℕ) (e : Held) → slice_get (entries_from dir es) i ≡ Some e
-      → e.1.partner ≡ place_at (pdus_in es) (opposite dir) (partner_of (pdus_in es) dir i (header_of e.1))
+      → e.1.partner ≡ offset_at v (opposite dir) (partner_of v dir i (header_of e.1))
+
+-- The maps hold what the entries say.
+abbrev pub Holds : Matching → Entries → Type 0
+Holds m es = HoldsOf (pdus_in es) m es

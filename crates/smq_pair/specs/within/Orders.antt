@@ -1,14 +1,9 @@
 -- The orders by which maps compare their keys.
 use Rattle.std.specs.declared.cmp.Ordering.{Ordering}
-use Rattle.smq_kit.specs.declared.place.Place.{Place}
-use Rattle.smq_kit.specs.contracts.place.PlaceOrd.TheImpl as place_ord
 use Rattle.smq_pair.specs.declared.entry.Series.{Series}
 use Rattle.smq_pair.specs.declared.entry.Turn.{Turn}
 use Rattle.smq_pair.specs.contracts.entry.SeriesOrd.TheImpl as series_ord
 use Rattle.smq_pair.specs.contracts.entry.TurnOrd.TheImpl as turn_ord
-
-abbrev pub kept_place_cmp : Place → Place → Ordering
-kept_place_cmp = (place_ord.ghosts).cmp
 
 abbrev pub series_cmp : Series → Series → Ordering
 series_cmp = (series_ord.ghosts).cmp

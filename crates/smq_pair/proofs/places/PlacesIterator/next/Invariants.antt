@@ -1,22 +1,25 @@
-use Rattle.std.proofs.Common.{◌≡◌, [], ◌++◌, length}
-use Rattle.smq_pair.specs.within.Kept.{places_alone}
+use Rattle.std.proofs.Common.{◌≡◌, [], length}
+use Rattle.smq_kit.specs.declared.place.Dir.TheVariants.{FromCentre}
+use Rattle.smq_pair.specs.within.Kept.{alone_from, places_alone}
 use Rattle.smq_pair.proofs.places.PlacesIterator.next.Given as goal
 
-abbrev pub invariant-loop-place : goal.invariant-loop-place
-invariant-loop-place l = record {
+abbrev pub invariant-loop-offset : goal.invariant-loop-offset
+invariant-loop-offset l = record {
   side : l.self-inside.side ≡ l.side;
-  left : places_alone l.side (l.self-inside.client ++ l.self-inside.centre) ≡ l.fn.self;
+  session : l.self-inside.session ≡ l.session;
+  left : places_alone l.side (record { session = l.session; client = l.self-inside.client; centre = l.self-inside.centre }) ≡ l.fn.self;
 }
 
-abbrev pub decreases-loop-place : goal.decreases-loop-place
-decreases-loop-place l = length l.self-inside.client
+abbrev pub decreases-loop-offset : goal.decreases-loop-offset
+decreases-loop-offset l = length l.self-inside.client
 
-abbrev pub invariant-loop-place-2 : goal.invariant-loop-place-2
-invariant-loop-place-2 l = record {
+abbrev pub invariant-loop-offset-2 : goal.invariant-loop-offset-2
+invariant-loop-offset-2 l = record {
   side : l.self-inside.side ≡ l.side;
+  session : l.self-inside.session ≡ l.session;
   client : l.self-inside.client ≡ [];
-  left : places_alone l.side l.self-inside.centre ≡ l.fn.self;
+  left : alone_from l.side l.session FromCentre l.self-inside.centre ≡ l.fn.self;
 }
 
-abbrev pub decreases-loop-place-2 : goal.decreases-loop-place-2
-decreases-loop-place-2 l = length l.self-inside.centre
+abbrev pub decreases-loop-offset-2 : goal.decreases-loop-offset-2
+decreases-loop-offset-2 l = length l.self-inside.centre

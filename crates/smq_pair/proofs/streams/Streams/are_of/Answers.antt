@@ -1,8 +1,6 @@
-use Rattle.smq_kit.specs.declared.place.Dir.TheVariants.{FromClient, FromCentre}
+use Rattle.smq_pair.specs.within.Kept.{entries_in}
+use Rattle.smq_pair.proofs.Nexts.{of-session}
 use Rattle.smq_pair.proofs.streams.Streams.are_of.Goals as goal
 
-pub ends_are_of-requires : goal.ends_are_of-requires
-ends_are_of-requires c = c.requires FromClient
-
-pub ends_are_of-requires-then-ends_are_of : goal.ends_are_of-requires-then-ends_are_of
-ends_are_of-requires-then-ends_are_of c = c.requires FromCentre
+pub returns-then-self-session : goal.returns-then-self-session
+returns-then-self-session c = of-session (entries_in c.args.self.now) c.args.session c.if-self-session.true

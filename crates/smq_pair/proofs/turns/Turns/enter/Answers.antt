@@ -10,6 +10,6 @@ returns-in-Ok-clause-ok c =
     let entered : Turns = record { lasts = c.count.new.lasts; unpaired = c.meet.new.unpaired } in
     let m = matching_in c.args.self.now in
     let n = matching_in entered in
-    subst (λ (o : Option Series). Enters m n o c.args.place c.in-Ok.found) (sym c.in-Some.is)
-    (entered-by m n c.in-Some.series c.args.place c.in_ok-rank.rank c.in-Ok.found c.in_ok-rank.ensures.rank
+    subst (λ (o : Option Series). Enters m n o c.args.offset c.in-Ok.found) (sym c.in-Some.is)
+    (entered-by m n c.in-Some.series c.args.offset c.in_ok-rank.rank c.in-Ok.found c.in_ok-rank.ensures.rank
     c.in_ok-rank.ensures.content c.in-Ok.ensures.found c.in-Ok.ensures.content c.in-Ok.ensures.ordered)
