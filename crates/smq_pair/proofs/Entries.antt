@@ -1,5 +1,5 @@
 -- Entries and what they say, with one more, and with one that is given its partner.
-use Rattle.std.proofs.Common.{◌≡◌, ◌≢◌, ℕ, zero, suc, Bool, true, false, cond, List, [], ◌∷◌, ◌++◌, length, Option, Some, None, refl, sym, ap, ◌∙◌, subst, arith}
+use Rattle.std.proofs.Common.{◌≡◌, ◌≢◌, ℕ, zero, suc, ◌+◌, ◌<◌, ◌≤◌, Bool, true, false, cond, List, [], ◌∷◌, ◌++◌, length, Option, Some, None, refl, sym, ap, ◌∙◌, subst, arith}
 use Rattle.std.specs.Prelude.{◌==◌, map, option_map, slice_get, slice_set}
 use Rattle.std.proofs.lemmas.List.{map-append, length-map}
 use Rattle.std.proofs.lemmas.List.Folds.{list_all-append}
@@ -10,7 +10,7 @@ use Rattle.std.proofs.lemmas.Map.Entries.{place_from_lookup}
 use Rattle.std.proofs.lemmas.Map.Keys.{sorted_head, sorted_tail}
 use Rattle.std.specs.declared.cmp.Ordering.TheVariants.{Less, Equal, Greater}
 use Rattle.std.specs.Ordering.{is_eq, match_ordering, nat_cmp, ordering_reverse, ordering_then}
-use Rattle.std.specs.Cmp.{nat_cmp_is}
+use Rattle.std.specs.Cmp.{nat_cmp_is, ranked}
 use Rattle.std.specs.List.{AllByRecursion, list_all}
 use Rattle.std.specs.List.Sorted.{IsStrictlySortedBy}
 use Rattle.std.specs.Map.{keys_of}
@@ -203,6 +203,9 @@ entries-ascend es d o =
     by_list [] h = tt
     by_list (x ∷ xs) h = (above x.0 xs h.0, by_list xs h.1)
 
+pub above-head : (x : Held) (xs : List Held) (j : ℕ) (e : Held) → Ascend (x ∷ xs) → slice_get xs j ≡ Some e → nat_cmp x.0 e.0 ≡ Less
+above-head x xs j e s at = all-at (λ y. nat_cmp x.0 y ≡ Less) (λ (y : Held). y.0) xs j e (sorted_head nat_cmp x.0 (keys_of xs) s) at
+
 greater : (p q : ℕ) → nat_cmp p q ≡ Less → nat_cmp q p ≡ Greater
 greater p q h = nat_cmp_total.antisymm q p ∙ ap ordering_reverse h
 
@@ -214,10 +217,20 @@ insert-last (e ∷ es) q x below =
     ap (λ r. match_ordering r ((q, x) ∷ e ∷ es) ((e.0, x) ∷ es) (e ∷ insert_entry nat_cmp es q x)) (greater e.0 q (below 0 e refl))
     ∙ ap (λ (ys : List Held). e ∷ ys) (insert-last es q x (λ i. below (suc i)))
 
--- the one at an index is found by its offset, and is set there
-later : (x : Held) (xs : List Held) (j : ℕ) (e : Held) → Ascend (x ∷ xs) → slice_get xs j ≡ Some e → nat_cmp e.0 x.0 ≡ Greater
-later x xs j e s at = greater x.0 e.0 (all-at (λ y. nat_cmp x.0 y ≡ Less) (λ (y : Held). y.0) xs j e (sorted_head nat_cmp x.0 (keys_of xs) s) at)
+-- entries are no more than offsets for them
+pub few : (xs : List Held) (low high : ℕ) → low ≤ high → Ascend xs → ((i : ℕ) (x : Held) → slice_get xs i ≡ Some x → (low ≤ x.0) × (x.0 < high))
+    → low + length xs ≤ high
+few [] low high le s h = omega (arith, le)
+few (x ∷ xs) low high le s h =
+    let own = h 0 x refl in
+    let from = own.0 in
+    let below = own.1 in
+    let rest = few xs (x.0 + 1) high (omega (arith, below)) (sorted_tail nat_cmp x.0 (keys_of xs) s) (λ i y at.
+    let more = ranked x.0 y.0 Less (sym (above-head x xs i y s at)) in
+    (omega (arith, more), (h (suc i) y at).1)) in
+    omega (arith, from, rest)
 
+-- the one at an index is found by its offset, and is set there
 pub found-kept : (es : List Held) (j : ℕ) (e : Held) → Ascend es → slice_get es j ≡ Some e → held_at e.0 es ≡ Some e.1
 found-kept [] j e s at = absurd cc
 found-kept (x ∷ xs) zero e s at =
@@ -226,7 +239,7 @@ found-kept (x ∷ xs) zero e s at =
     ∙ ap (λ b. cond b (Some x.1) (held_at x.0 xs)) (offset-itself x.0)
     ∙ ap (λ (y : Held). Some y.1) same
 found-kept (x ∷ xs) (suc j) e s at =
-    ap (λ r. cond (is_eq r) (Some x.1) (held_at e.0 xs)) (later x xs j e s at)
+    ap (λ r. cond (is_eq r) (Some x.1) (held_at e.0 xs)) (greater x.0 e.0 (above-head x xs j e s at))
     ∙ found-kept xs j e (sorted_tail nat_cmp x.0 (keys_of xs) s) at
 
 set-kept : (es : List Held) (j : ℕ) (e : Held) (w : Entry) → Ascend es → slice_get es j ≡ Some e
@@ -238,7 +251,7 @@ set-kept (x ∷ xs) zero e w s at =
     (ap (λ (y : Held). nat_cmp e.0 y.0) same ∙ tied_itself nat_cmp_total e.0)
     ∙ ap (λ (y : Held). (y.0, w) ∷ xs) same
 set-kept (x ∷ xs) (suc j) e w s at =
-    ap (λ r. match_ordering r ((e.0, w) ∷ x ∷ xs) ((x.0, w) ∷ xs) (x ∷ insert_entry nat_cmp xs e.0 w)) (later x xs j e s at)
+    ap (λ r. match_ordering r ((e.0, w) ∷ x ∷ xs) ((x.0, w) ∷ xs) (x ∷ insert_entry nat_cmp xs e.0 w)) (greater x.0 e.0 (above-head x xs j e s at))
     ∙ ap (λ (ys : List Held). x ∷ ys) (set-kept xs j e w (sorted_tail nat_cmp x.0 (keys_of xs) s) at)
 
 -- what is found stands at an index, and where nothing is found nothing stands

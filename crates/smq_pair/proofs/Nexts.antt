@@ -8,7 +8,7 @@ use Rattle.std.specs.Cmp.{ranked}
 use Rattle.std.specs.Map.{keys_of}
 use Rattle.std.proofs.lemmas.Bool.Decides.{nat_tests}
 use Rattle.std.proofs.lemmas.List.Folds.{list_all-append, list_all-map}
-use Rattle.std.proofs.lemmas.Map.Keys.{sorted_head, sorted_tail}
+use Rattle.std.proofs.lemmas.Map.Keys.{sorted_tail}
 use Rattle.smq_kit.specs.declared.names.SessionId.{SessionId}
 use Rattle.smq_kit.specs.declared.place.Dir.{Dir}
 use Rattle.smq_kit.specs.declared.place.Dir.TheVariants.{FromClient, FromCentre}
@@ -17,8 +17,7 @@ use Rattle.smq_pair.specs.Pairing.{PlacedHeader}
 use Rattle.smq_pair.specs.within.Kept.{Entries, Held, are_below, are_of_session, entries_from, pdus_in, placed}
 use Rattle.smq_pair.proofs.Lists.{get-last}
 use Rattle.smq_pair.proofs.Turned.{and_both}
-use Rattle.smq_pair.proofs.Standing.{all-at}
-use Rattle.smq_pair.proofs.Entries.{Ascend, pdus-kept}
+use Rattle.smq_pair.proofs.Entries.{Ascend, above-head, pdus-kept}
 
 -- what is below the last is below what the last is below
 below-both : (x b o : ℕ) → x < b → nat_lt b o ≡ (nat_lt x o && nat_lt b o)
@@ -27,8 +26,7 @@ below-both x b o less = grind (arith, nat_tests, less)
 below-all : (o : ℕ) (front : List Held) (b : Held) → Ascend (front ++ b ∷ []) → nat_lt b.0 o ≡ list_all (λ (e : Held). nat_lt e.0 o) (front ++ b ∷ [])
 below-all o [] b s = grind (arith, nat_tests)
 below-all o (x ∷ xs) b s =
-    let less : nat_cmp x.0 b.0 ≡ Less = all-at (λ y. nat_cmp x.0 y ≡ Less) (λ (y : Held). y.0) (xs ++ b ∷ []) (length xs) b
-    (sorted_head nat_cmp x.0 (keys_of (xs ++ b ∷ [])) s) (get-last xs b) in
+    let less = above-head x (xs ++ b ∷ []) (length xs) b s (get-last xs b) in
     below-both x.0 b.0 o (ranked x.0 b.0 Less (sym less))
     ∙ ap (λ t. nat_lt x.0 o && t) (below-all o xs b (sorted_tail nat_cmp x.0 (keys_of (xs ++ b ∷ [])) s))
 

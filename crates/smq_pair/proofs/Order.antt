@@ -1,16 +1,14 @@
 -- One PDU more, which is next, stands in order too.
-use Rattle.std.proofs.Common.{◌≡◌, ℕ, zero, suc, ◌+◌, ◌<◌, ◌≤◌, ◌⊎◌, inl, inr, Bool, true, false, List, [], ◌∷◌, ◌++◌, length, Some, refl, sym, ap, ◌∙◌, subst, arith}
-use Rattle.std.specs.Prelude.{◌==◌, ◌&&◌, nat_lt, map, slice_get}
+use Rattle.std.proofs.Common.{◌≡◌, ℕ, zero, suc, ◌<◌, ◌⊎◌, inl, inr, Bool, true, List, [], ◌∷◌, ◌++◌, Some, refl, sym, ap, ◌∙◌, subst, arith}
+use Rattle.std.specs.Prelude.{◌==◌, nat_lt, map, slice_get}
 use Rattle.std.specs.List.{list_all}
 use Rattle.std.specs.List.Sorted.{IsStrictlySortedBy}
 use Rattle.std.specs.declared.cmp.Ordering.TheVariants.{Less, Equal}
 use Rattle.std.specs.Ordering.{nat_cmp, ordering_then, is_eq, eq_by_cmp}
-use Rattle.std.specs.Cmp.{nat_cmp_is, ranked}
-use Rattle.std.proofs.lemmas.Bool.{false≢true}
+use Rattle.std.specs.Cmp.{nat_cmp_is}
 use Rattle.std.proofs.lemmas.Bool.Decides.{nat_tests}
 use Rattle.std.proofs.lemmas.List.{append-nil, append_assoc}
 use Rattle.std.proofs.lemmas.List.Folds.{list_all-append}
-use Rattle.std.proofs.lemmas.Map.Keys.{sorted_head, sorted_tail}
 use Rattle.smq_kit.specs.declared.place.Dir.{Dir}
 use Rattle.smq_kit.specs.declared.place.Dir.TheVariants.{FromClient, FromCentre}
 use Rattle.smq_kit.specs.declared.place.Place.{Place}
@@ -18,7 +16,8 @@ use Rattle.smq_kit.specs.Orders.{dir_cmp, place_cmp}
 use Rattle.smq_pair.specs.Pairing.{PlacedHeader, PairingValue, pdus_from}
 use Rattle.smq_pair.specs.Growth.{AreInOrder, IsNext, pushed, pushed_in, is_from}
 use Rattle.smq_pair.proofs.Keys.{dir_itself}
-use Rattle.smq_pair.proofs.Standing.{IsNowhere, all-at, all-test, ascend-between, dir-ascends, dir-of}
+use Rattle.smq_pair.proofs.Turned.{and_both, and_first, and_second}
+use Rattle.smq_pair.proofs.Standing.{IsNowhere, all-test, ascend-between, dir-of}
 
 pub less_offset : (a b : Place) → a.session.0 ≡ b.session.0 → a.dir ≡ b.dir → a.offset < b.offset → place_cmp a b ≡ Less
 less_offset a b s d o =
@@ -31,19 +30,8 @@ less_dir a b s d e =
     (λ i. ordering_then (nat_cmp (s i) b.session.0) (ordering_then (dir_cmp (d i) (e i)) (nat_cmp a.offset b.offset)))
     ∙ (λ i. ordering_then (sym (nat_cmp_is b.session.0 b.session.0 Equal refl) i) Less)
 
-both : (a b : Bool) → a ≡ true → b ≡ true → (a && b) ≡ true
-both a b e f = rw (e, f) refl
-
-first : (a b : Bool) → (a && b) ≡ true → a ≡ true
-first true b e = refl
-first false b e = absurd (false≢true e)
-
-second : (a b : Bool) → (a && b) ≡ true → b ≡ true
-second true b e = e
-second false b e = absurd (false≢true e)
-
 one_all : {X : Type 0} (test : X → Bool) (xs : List X) (x : X) → list_all test xs ≡ true → test x ≡ true → list_all test (xs ++ x ∷ []) ≡ true
-one_all test xs x h k = list_all-append test xs (x ∷ []) ∙ both (list_all test xs) (list_all test (x ∷ [])) h (both (test x) true k refl)
+one_all test xs x h k = list_all-append test xs (x ∷ []) ∙ and_both (list_all test xs) (list_all test (x ∷ [])) h (and_both (test x) true k refl)
 
 -- what stands in two lists stands in one of them
 pub get-append : {X : Type 0} (xs ys : List X) (i : ℕ) (x : X) → slice_get (xs ++ ys) i ≡ Some x
@@ -55,44 +43,12 @@ get-append (z ∷ xs) ys (suc i) x at = get-append xs ys i x at
 abbrev Ascends : List PlacedHeader → Type 0
 Ascends xs = IsStrictlySortedBy place_cmp (map (λ (x : PlacedHeader). x.place) xs)
 
--- A PDU of a session and direction has an offset from `low` on and below `high`.
-record IsWithin (s : ℕ) (d : Dir) (low high : ℕ) (x : PlacedHeader) : Type 0 where
-  session : x.place.session.0 ≡ s
-  dir : x.place.dir ≡ d
-  from : low ≤ x.place.offset
-  below : x.place.offset < high
-
-offset_less : (a b : Place) → a.session.0 ≡ b.session.0 → a.dir ≡ b.dir → place_cmp a b ≡ Less → a.offset < b.offset
-offset_less a b s d h =
-    let offsets : nat_cmp a.offset b.offset ≡ Less =
-    (λ i. ordering_then (nat_cmp_is b.session.0 b.session.0 Equal refl i) (ordering_then (sym (dir_itself b.dir) i) (nat_cmp a.offset b.offset)))
-    ∙ (λ i. ordering_then (nat_cmp (sym s i) b.session.0) (ordering_then (dir_cmp (sym d i) b.dir) (nat_cmp a.offset b.offset)))
-    ∙ h in
-    ranked a.offset b.offset Less (sym offsets)
-
--- PDUs of a session and direction that ascend are no more than offsets for them
-few : (xs : List PlacedHeader) (session : ℕ) (dir : Dir) (low high : ℕ) → low ≤ high → Ascends xs
-    → ((i : ℕ) (x : PlacedHeader) → slice_get xs i ≡ Some x → IsWithin session dir low high x) → low + length xs ≤ high
-few [] session dir low high le s h = omega (arith, le)
-few (x ∷ xs) session dir low high le s h =
-    let own = h 0 x refl in
-    let from = own.from in
-    let below = own.below in
-    let rest = few xs session dir (x.place.offset + 1) high (omega (arith, below))
-    (sorted_tail place_cmp x.place (map (λ (y : PlacedHeader). y.place) xs) s) (λ i y at.
-    let later = h (suc i) y at in
-    let less : place_cmp x.place y.place ≡ Less = all-at (λ z. place_cmp x.place z ≡ Less) (λ (z : PlacedHeader). z.place) xs i y
-    (sorted_head place_cmp x.place (map (λ (z : PlacedHeader). z.place) xs) s) at in
-    let more = offset_less x.place y.place (own.session ∙ sym later.session) (own.dir ∙ sym later.dir) less in
-    record { session = later.session; dir = later.dir; from = omega (arith, more); below = later.below }) in
-    omega (arith, from, rest)
-
 module _ (v : PairingValue) (p : PlacedHeader) (o : AreInOrder v) (n : IsNext v p.place) where
   sessions_of : (d : Dir) → list_all (λ (x : PlacedHeader). x.place.session.0 == p.place.session.0) (pdus_from d v) ≡ true
-  sessions_of FromClient = first _ _ (sym (list_all-append (λ (x : PlacedHeader). x.place.session.0 == p.place.session.0) v.client
+  sessions_of FromClient = and_first _ _ (sym (list_all-append (λ (x : PlacedHeader). x.place.session.0 == p.place.session.0) v.client
       v.centre) ∙ n.session)
   sessions_of FromCentre =
-      second (list_all (λ (x : PlacedHeader). x.place.session.0 == p.place.session.0) v.client) _
+      and_second (list_all (λ (x : PlacedHeader). x.place.session.0 == p.place.session.0) v.client) _
       (sym (list_all-append (λ (x : PlacedHeader). x.place.session.0 == p.place.session.0) v.client v.centre) ∙ n.session)
 
   session_of : (d : Dir) (i : ℕ) (x : PlacedHeader) → slice_get (pdus_from d v) i ≡ Some x → x.place.session.0 ≡ p.place.session.0
@@ -139,18 +95,6 @@ module _ (v : PairingValue) (p : PlacedHeader) (o : AreInOrder v) (n : IsNext v 
 
   pub in-order-next : AreInOrder (pushed v p)
   in-order-next = in_order_in p.place.dir refl
-
-  -- no more PDUs of its direction came than its offset says
-  pub few-before : length (pdus_from p.place.dir v) ≤ p.place.offset
-  few-before =
-      let bound = few (pdus_from p.place.dir v) p.place.session.0 p.place.dir 0 p.place.offset (omega arith) (dir-ascends v p.place.dir o)
-      (λ i x at. record {
-        session = session_of p.place.dir i x at;
-        dir = dir-of v p.place.dir i x o at;
-        from = omega arith;
-        below = below-next i x at;
-      }) in
-      omega (arith, bound)
 
   -- its place is that of no other
   pub next-is-free : IsNowhere (pdus_from p.place.dir v) p.place

@@ -25,8 +25,8 @@ use Rattle.smq_pair.proofs.Lists.{some-is, get-last, never}
 use Rattle.smq_pair.proofs.Turned
 use Rattle.smq_pair.proofs.Turned.{opposite-apart, opposite-back, partner-back, pushed-apart, pushed-by, turn-found, next_turn, next-dir, index-others}
 use Rattle.smq_pair.proofs.Standing.{pair_either, pair_with, pair-here}
-use Rattle.smq_pair.proofs.Order.{in-order-next, below-next, few-before}
-use Rattle.smq_pair.proofs.Entries.{appended, set_in, set_in-session, linked_to, of_session, of_session-from, of_session-pdus, of_session-holds, of_session-joined, pdus-kept, header-kept, pdu-kept, entry-at, entries-ascend, appended-in, length-kept, appended-get, linked-pdus, linked-get, found-kept, joined-alone, joined-linked}
+use Rattle.smq_pair.proofs.Order.{in-order-next, below-next}
+use Rattle.smq_pair.proofs.Entries.{appended, set_in, set_in-session, linked_to, of_session, of_session-from, of_session-pdus, of_session-holds, of_session-joined, pdus-kept, header-kept, pdu-kept, entry-at, entries-ascend, few, appended-in, length-kept, appended-get, linked-pdus, linked-get, found-kept, joined-alone, joined-linked}
 use Rattle.smq_pair.proofs.Entered.{count-next, count-others, partner-stays, partner-next, partner-none, partner-linked, unpaired_by, unpaired-partner}
 use Rattle.smq_pair.proofs.Placed.{StandsBy, partner-pdu, index-pdu, unpaired-pdu, offset-there, offset-stays, offset-last, offsets-next}
 
@@ -262,13 +262,17 @@ pub room : (m : Matching) (es : Entries) (v : PairingValue) (q : Place) (x : Ent
     → o ≡ series_of q.dir (header_of x) → IfSome o (λ s. count_kept m s ≤ q.offset)
 room m es v q x None h view next is = tt
 room m es v q x (Some s) h view next is =
-    let before = pdus_in es in
-    let bound = count_by-le-length (is_of s.side s.seq) (headers_from s.dir before) in
-    let long : length (headers_from s.dir before) ≡ length (pdus_from q.dir before) =
-    ap (λ (d : Dir). length (headers_from d before)) (Turned.series-has q.dir (header_of x) s (sym is)).dir
-    ∙ length-map (pdus_from q.dir before) (λ (p : PlacedHeader). p.header) in
-    let few = few-before before (placed_at q x) h.in_order (subst (λ (v : PairingValue). IsNext v q) (sym view) next) in
-    rw (h.counts s) (omega (arith, bound, long, few))
+    let v' = pdus_in es in
+    let bound = count_by-le-length (is_of s.side s.seq) (headers_from s.dir v') in
+    let long : length (headers_from s.dir v') ≡ length (entries_from q.dir es) =
+    ap (λ (d : Dir). length (headers_from d v')) (Turned.series-has q.dir (header_of x) s (sym is)).dir
+    ∙ length-map (pdus_from q.dir v') (λ (p : PlacedHeader). p.header) ∙ length-kept q.dir es in
+    let bound' = few (entries_from q.dir es) 0 q.offset (omega arith) (entries-ascend es q.dir h.in_order) (λ i y at. (
+      omega arith,
+      below-next v' (placed_at q x) h.in_order (subst (λ (v : PairingValue). IsNext v q) (sym view) next) i
+          (placed es.session q.dir y) (pdu-kept q.dir es i y at),
+    )) in
+    rw (h.counts s) (omega (arith, bound, long, bound'))
 
 -- ---- a call of add, by what its steps say
 
