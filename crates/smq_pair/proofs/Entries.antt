@@ -20,11 +20,12 @@ use Rattle.smq_kit.specs.declared.place.Dir.{Dir}
 use Rattle.smq_kit.specs.declared.place.Dir.TheVariants.{FromClient, FromCentre}
 use Rattle.smq_kit.specs.declared.place.Place.{Place}
 use Rattle.smq_kit.specs.Orders.{place_cmp}
+use Rattle.smq_shelf.specs.Values.{with_value}
 use Rattle.smq_pair.specs.declared.entry.Entry.{Entry}
 use Rattle.smq_pair.specs.Pairing.{PlacedHeader, pdus_from, opposite}
 use Rattle.smq_pair.specs.Growth.{AreInOrder, pushed_in}
 use Rattle.smq_pair.specs.within.Turns.{headers_from}
-use Rattle.smq_pair.specs.within.Kept.{Entries, Held, are_of_session, at_offset, entries_from, header_of, held_at, joined, linked, partnered, placed, pdus_in}
+use Rattle.smq_pair.specs.within.Kept.{Entries, Held, are_of_session, at_offset, entries_from, header_of, held_at, joined, linked, placed, pdus_in, with_partner}
 use Rattle.smq_pair.specs.within.Maps.{Holds, HoldsOf, Matching}
 use Rattle.smq_pair.proofs.Keys.{dir_itself, offset-same, offset-itself}
 use Rattle.smq_pair.proofs.Lists.{some-is, get-either}
@@ -291,7 +292,7 @@ linked-kept : (o : Option ℕ) (q : ℕ) (es : List Held) (j : ℕ) (y : Held) �
     → linked o q es ≡ slice_set es j (linked_to q y)
 linked-kept o q es j y some s at =
     ap (λ (o : Option ℕ). linked o q es) some
-    ∙ ap (λ (x : Option Entry). partnered x y.0 q es) (found-kept es j y s at)
+    ∙ ap (λ (x : Option Entry). with_value nat_cmp y.0 (with_partner q x) es) (found-kept es j y s at)
     ∙ set-kept es j y (record y.1 { partner = Some q }) s at
 
 -- and with one

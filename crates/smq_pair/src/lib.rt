@@ -1,6 +1,7 @@
 //! Which response belongs to which request, as the PDUs of a session come in, whichever of its directions is read first.
 #![tactic(auto)]
 
+mod changes;
 mod entry;
 mod laws;
 mod pairing;

@@ -5,6 +5,7 @@ ghost use Rattle.std.specs.BTreeMap.{insert_entry};
 ghost use Rattle.smq_pair.specs.Pairing.{pair_of};
 ghost use Rattle.smq_pair.specs.within.Kept.{are_below, are_of_session, entries_from, entries_in, held_at, joined, kept_at, linked, pair_found, partner_kept, pdus_in, placed_at, places_alone, settled_entries};
 
+use crate::changes::Partner;
 use crate::entry::{Entry, Side, opposite};
 use crate::pairing::Pair;
 use crate::places::{Places, at};
@@ -181,16 +182,7 @@ fn link(
     let Some(at) = at else {
         return Ok(None);
     };
-    let found = map.get(&at).copied();
-    let Some(entry) = found else {
-        return Ok(None);
-    };
-    let linked = Entry {
-        partner: Some(partner),
-        ..entry
-    };
-    map.set(at, linked)?;
-    Ok(found)
+    map.exchange(at, &Partner(partner))
 }
 
 /// The pair of a PDU at a place with its partner, of which this is kept.

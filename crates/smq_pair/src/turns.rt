@@ -3,13 +3,13 @@ ghost use Rattle.std.specs.Prelude.{◌≡◌, ◌<◌, ◌≤◌, ◌+◌, ◌*
 ghost use Rattle.std.specs.List.Sorted.{IsStrictlySortedBy};
 ghost use Rattle.std.specs.Map.{keys_of, lookup};
 ghost use Rattle.std.specs.BTreeMap.{insert_entry, is_at};
-ghost use Rattle.smq_shelf.specs.KeptLending.{IsRead};
 ghost use Rattle.smq_shelf.specs.Places.{content_of};
 ghost use Rattle.smq_shelf.specs.Shown.{touched};
 ghost use Rattle.smq_pair.specs.within.Orders.{series_cmp, turn_cmp};
 ghost use Rattle.smq_pair.specs.within.Turns as defined;
 ghost use Rattle.smq_pair.specs.within.Maps.{CanLeave, Enters, Matching, count_kept, matching_in, next_rank, pending_in, settled_matching, touches_in, with_turn};
 
+use crate::changes::NextRank;
 use crate::entry::{Series, Turn};
 use smq_shelf::Kept;
 use std::alloc::{AllocError, Global};
@@ -48,8 +48,8 @@ impl Turns {
         ensures back { OnOk result (CanLeave series (matching_in self.old) self.new) }
         ensures err { OnErr result (matching_in self.new ≡ matching_in self.old) }
         ensures settled { settled_matching self.new ≡ settled_matching self.old }
-        ensures touches { OnOk result (touches_in self.new ≤ touches_in self.old + 5) }
-        ensures err_touches { OnErr result (touches_in self.new ≤ touches_in self.old + 6) }
+        ensures touches { OnOk result (touches_in self.new ≤ touches_in self.old + 4) }
+        ensures err_touches { OnErr result (touches_in self.new ≤ touches_in self.old + 5) }
         ensures touched { OnOk result (IsSome series
             → touched (touches_in self.old) ≤ touches_in self.new) }
         ensures counted { touches_in self.old ≤ touches_in self.new }
@@ -132,20 +132,9 @@ fn count(lasts: &mut Kept<Series, u64>, series: Series) -> Result<u64, AllocErro
     ensures touches { lasts.new.touches ≤ lasts.old.touches + 2 }
     ensures counted { lasts.old.touches ≤ lasts.new.touches }
 {
-    let rank = rank_in(lasts, series);
-    lasts.set(series, rank)?;
-    Ok(rank)
-}
-
-/// How many PDUs of a series came.
-fn rank_in(lasts: &mut Kept<Series, u64>, series: Series) -> u64
-    requires { next_rank (lookup (is_at (series_cmp series)) lasts.old.content) < 2 ^ 64 }
-    ensures value { result ≡ next_rank (lookup (is_at (series_cmp series)) lasts.old.content) }
-    ensures read { IsRead lasts.old lasts.new }
-{
-    match lasts.get(&series) {
-        Some(last) => *last + 1,
-        None => 0,
+    match lasts.exchange(series, &NextRank)? {
+        Some(last) => Ok(last + 1),
+        None => Ok(0),
     }
 }
 
@@ -162,23 +151,12 @@ fn meet(unpaired: &mut Kept<Turn, u64>, turn: Turn, offset: u64) -> Result<Optio
     ensures err { OnErr result (unpaired.new.content ≡ unpaired.old.content) }
     ensures settled { unpaired.new.settled ≡ unpaired.old.settled }
     ensures pending { unpaired.new.pending ≤ unpaired.old.pending + 1 }
-    ensures touches { unpaired.new.touches ≤ unpaired.old.touches + 3 }
+    ensures touches { unpaired.new.touches ≤ unpaired.old.touches + 2 }
     ensures counted { unpaired.old.touches ≤ unpaired.new.touches }
 {
-    let partner = turn.partner();
-    let found = offset_in(unpaired, partner);
-    if found.is_some() {
-        unpaired.remove(&partner)?;
-    } else {
+    let found = unpaired.take(&turn.partner())?;
+    if found.is_none() {
         unpaired.set(turn, offset)?;
     }
     Ok(found)
-}
-
-/// The offset of the PDU of a turn that has no partner.
-fn offset_in(unpaired: &mut Kept<Turn, u64>, turn: Turn) -> Option<u64>
-    ensures value { result ≡ lookup (is_at (turn_cmp turn)) unpaired.old.content }
-    ensures read { IsRead unpaired.old unpaired.new }
-{
-    unpaired.get(&turn).copied()
 }

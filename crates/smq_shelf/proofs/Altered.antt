@@ -52,6 +52,16 @@ module _ {K : Type 0} {R : K → K → Ordering} (o : IsTotalOrder R) where
       kept = a.kept;
     }
 
+    -- the value before it, as the log tells it
+    pub before-altered : (x : Option V)
+        → (had ≡ true → (cs : List (Logged K V)) (q : K) (before : Option (Option V)) → after ≡ cs ++ (q, before) ∷ [] → x ≡ flatten before)
+        → (had ≡ false → x ≡ None) → x ≡ flatten (lookup (is_at (R k)) es)
+    before-altered x some none = at had refl
+      where
+        at : (b : Bool) → had ≡ b → x ≡ flatten (lookup (is_at (R k)) es)
+        at true h = some h log k (lookup (is_at (R k)) es) (puts (rw h refl)).logged
+        at false h = none h ∙ sym (none_there (flatten (lookup (is_at (R k)) es)) (sym a.was ∙ h))
+
     pub undone-altered : undone R (reverse after) next ≡ undone R (reverse log) es
     undone-altered = at (had || has) refl
       where

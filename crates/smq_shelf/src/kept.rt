@@ -1,5 +1,5 @@
 //! A shelf whose changes since it was last settled can be undone.
-ghost use Rattle.std.specs.Prelude.{◌≡◌, false, [], ◌∷◌, List, Option, ◌++◌, ◌+◌, ◌-◌, ◌*◌, ◌≤◌, ◌<◌, ◌^◌, ◌||◌, IfOk, OnOk, OnErr, None, Some, IsSome, is_some, find, length, unwrap_or, if◌then◌else◌};
+ghost use Rattle.std.specs.Prelude.{◌≡◌, false, true, [], ◌∷◌, List, Option, ◌++◌, ◌+◌, ◌-◌, ◌*◌, ◌≤◌, ◌<◌, ◌^◌, ◌||◌, IfOk, OnOk, OnErr, None, Some, IsSome, is_some, find, length, unwrap_or, if◌then◌else◌};
 ghost use Rattle.std.specs.Option.{option_copied, option_map};
 ghost use Rattle.std.specs.Map.Iter.{deref_pair};
 ghost use Rattle.std.specs.Ordering.{is_le, is_lt};
@@ -195,6 +195,39 @@ impl<K: ShelfKey, V: Drop> Kept<K, V> {
         let (had, has) = alter(&mut self.shelf, &mut self.log, key, change)?;
         self.has_vacant |= had & !has;
         Ok(had | has)
+    }
+
+    /// Makes of the value at a key what a change makes of it, as `change` does, and gives the value that was there.
+    pub fn exchange<C: Change<V>>(&mut self, key: K, change: &C) -> Result<Option<V>, AllocError>
+    where
+        V: Copy,
+        ensures before { IfOk result (λ before. before
+            ≡ lookup (is_at (K.cmp key)) self.old.content) }
+        ensures content { IfOk result (λ before. self.new.content
+            ≡ with_value K.cmp key (C.after change.now before) self.old.content) }
+        ensures places { IfOk result (λ before. self.new.places
+            ≡ if is_some before || is_some (C.after change.now before)
+            then insert_entry K.cmp self.old.places key (C.after change.now before)
+            else self.old.places) }
+        ensures past { IfOk result (λ before. self.new.past
+            ≡ if is_some before || is_some (C.after change.now before)
+            then self.old.places ∷ self.old.past else self.old.past) }
+        ensures pending { IfOk result (λ before. self.new.pending
+            ≡ if is_some before || is_some (C.after change.now before)
+            then self.old.pending + 1 else self.old.pending) }
+        ensures touched { OnOk result (touched self.old.touches ≤ self.new.touches) }
+        ensures unchanged { OnErr result (self.new ≡ with_touches self.new.touches self.old) }
+        ensures err { OnErr result (self.new.content ≡ self.old.content) }
+        ensures err_past { OnErr result (self.new.past ≡ self.old.past) }
+        ensures err_pending { OnErr result (self.new.pending ≡ self.old.pending) }
+        ensures settled { self.new.settled ≡ self.old.settled }
+        ensures shown { self.old.content ≡ content_of self.old.places }
+        ensures touches { self.new.touches ≤ self.old.touches + 2 }
+        ensures counted { self.old.touches ≤ self.new.touches }
+    {
+        let (had, has) = alter(&mut self.shelf, &mut self.log, key, change)?;
+        self.has_vacant |= had & !has;
+        Ok(value_before(&self.log, had))
     }
 
     /// Takes the last change back, where one is pending: one touch then. It takes no memory.
@@ -415,6 +448,19 @@ pub(crate) fn place_of<'a, K, V>(
         Some((key, place)) => Some((key, place.as_ref())),
         None => None,
     }
+}
+
+// The value that the last change of a log took out, if it had one.
+fn value_before<K, V: Copy>(log: &Vec<(K, Option<Option<V>>)>, had: bool) -> Option<V>
+    ensures had { had ≡ true → (cs : List (K × Option (Option V))) (k : K)
+        (before : Option (Option V)) → log.now.items ≡ cs ++ (k, before) ∷ []
+        → result ≡ flatten before }
+    ensures none { had ≡ false → result ≡ None }
+{
+    if had {
+        return last_value(log);
+    }
+    None
 }
 
 // The value that the last change of a log took out.

@@ -146,6 +146,30 @@ impl<K: ShelfKey, V: Drop> KeptMap<K, V> {
         self.kept.change(key, change)
     }
 
+    /// Makes of the value at a key what a change makes of it, as `change` does, and gives the value that was there.
+    pub fn exchange<C: Change<V>>(&mut self, key: K, change: &C) -> Result<Option<V>, AllocError>
+    where
+        V: Copy,
+        ensures before { IfOk result (λ before. before
+            ≡ lookup (is_at (K.cmp key)) self.old.content) }
+        ensures content { IfOk result (λ before. self.new.content
+            ≡ with_value K.cmp key (C.after change.now before) self.old.content) }
+        ensures places { IfOk result (λ before. self.new.places
+            ≡ if is_some before || is_some (C.after change.now before)
+            then insert_entry K.cmp self.old.places key (C.after change.now before)
+            else self.old.places) }
+        ensures past { IfOk result (λ before. self.new.past
+            ≡ if is_some before || is_some (C.after change.now before)
+            then self.old.places ∷ self.old.past else self.old.past) }
+        ensures unchanged { OnErr result (self.new ≡ self.old) }
+        ensures err { OnErr result (self.new.content ≡ self.old.content) }
+        ensures err_past { OnErr result (self.new.past ≡ self.old.past) }
+        ensures settled { self.new.settled ≡ self.old.settled }
+        ensures shown { self.old.content ≡ content_of self.old.places }
+    {
+        self.kept.exchange(key, change)
+    }
+
     /// Takes the last change back, where one is pending. It takes no memory.
     pub fn take_back(&mut self)
         ensures places { (p : List (K × Option V)) (ps : List (List (K × Option V)))

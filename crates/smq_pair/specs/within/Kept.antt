@@ -8,6 +8,7 @@ use Rattle.smq_kit.specs.declared.names.SessionId.{SessionId}
 use Rattle.smq_kit.specs.declared.place.Dir.{Dir}
 use Rattle.smq_kit.specs.declared.place.Dir.TheVariants.{FromClient, FromCentre}
 use Rattle.smq_kit.specs.declared.place.Place.{Place}
+use Rattle.smq_shelf.specs.Values.{with_value}
 use Rattle.smq_pdu.specs.Header.{Header}
 use Rattle.smq_pdu.specs.Pairing.{is_request}
 use Rattle.smq_pair.specs.declared.entry.Entry.{Entry}
@@ -97,15 +98,15 @@ abbrev pub kept_at : Place → Entries → Option Entry
 kept_at place es =
     if place.session.0 == es.session.0 then held_at place.offset (entries_from place.dir es) else None
 
--- entries of which the one at an offset, if it is there, has this partner
-abbrev pub partnered : Option Entry → ℕ → ℕ → List Held → List Held
-partnered None at q es = es
-partnered (Some e) at q es = insert_entry nat_cmp es at (record e { partner = Some q })
+-- an entry with its partner's offset
+abbrev pub with_partner : ℕ → Option Entry → Option Entry
+with_partner q None = None
+with_partner q (Some e) = Some (record e { partner = Some q })
 
--- the same, if an offset is given
+-- entries of which the one at an offset, if that is given and it is there, has this partner
 abbrev pub linked : Option ℕ → ℕ → List Held → List Held
 linked None q es = es
-linked (Some at) q es = partnered (held_at at es) at q es
+linked (Some at) q es = with_value nat_cmp at (with_partner q (held_at at es)) es
 
 -- one more in a direction at a place of it, which is the partner of its own
 abbrev pub joined : Dir → Place → Entry → Entries → Entries
