@@ -142,6 +142,14 @@ pub fn known_data_sms()
     ensures each_field { pdu_of full_data_sm_octets ≡ full_data_sm_pdu }
     ensures as_submit { submit_of_data_sm full_data_sm ≡ full_submit }
     ensures as_deliver { deliver_of_data_sm full_data_sm ≡ full_deliver }
+
+    // Whatever its other fields are, esm_class and registered_delivery say what they said.
+    ensures no_receipt { (message : DataSmValue) → message.esm_class ≡ 0
+        → (deliver_of_data_sm message).esm_class ≡ 0 }
+    ensures asks { (message : DataSmValue) → message.registered_delivery ≡ 1
+        → (submit_of_data_sm message).registered_delivery ≡ 1 }
+    ensures asks_not { (message : DataSmValue) → message.registered_delivery ≡ 0
+        → (submit_of_data_sm message).registered_delivery ≡ 0 }
 {}
 
 /// The message ids of some bodies of submit_sm_resp and data_sm_resp, at their limits and just past them (SMPP 3.4, 5.2.23).
