@@ -37,10 +37,10 @@ pub use laws::present::{
     absent_sessions_have_no_octets, appends_of_sessions_commute, batches_that_fit_are_not_refused,
     cutting_changes_nothing, edits_are_told_apart, edits_of_a_known_clock,
     edits_of_a_known_session, edits_of_known_routes, forms_are_told_apart,
-    forms_are_verbatim_until_set, known_edits_fold, octets_are_put_after_their_direction,
-    pieces_are_refused_in_order, replies_are_of_edits, replies_stand_in_order,
-    steps_are_plain_changes, windows_of_known_links, withdrawals_leave_no_trace,
-    withdrawals_of_a_known_book,
+    forms_are_verbatim_until_set, known_edits_fold, known_pdus_are_kept,
+    octets_are_put_after_their_direction, pieces_are_refused_in_order, replies_are_of_edits,
+    replies_stand_in_order, steps_are_plain_changes, windows_of_known_links,
+    withdrawals_leave_no_trace, withdrawals_of_a_known_book,
 };
 pub use laws::whole::{
     counts_split_by_link, figures_of_a_known_book, known_receipts_are_listed, lists_say_the_same,

@@ -11,6 +11,7 @@ ghost use Rattle.smq_book.specs.declared.present.edit.Edit.TheVariants.{Append, 
 ghost use Rattle.smq_book.specs.present.Batch.{BatchValue, with_octets, continued};
 ghost use Rattle.smq_book.specs.known.Present.{KnownClocks, KnownForms, KnownOctets, KnownPieces, KnownReplies, KnownRouteReplies, KnownRoutes, KnownWindows, KnownWithdrawals, waiting};
 ghost use Rattle.smq_book.specs.known.Edits.{KnownEditsWithout, KnownFolds};
+ghost use Rattle.smq_book.specs.known.Pairing.{KnownKept};
 ghost use Rattle.smq_book.specs.present.Present.{PresentValue, session_of, tail_in};
 ghost use Rattle.smq_book.specs.present.Replies.{GoesAfter, IsOfEdits, reply};
 ghost use Rattle.smq_book.specs.present.Steps.{Appends, AppendsCommute, AreAppendedAgain, IsAsNeverThere, LeavesNoTrace, SetsForm, SetsWindow, AddsRoute, EndsRoute, CorrectsRoute, Advances, Withdraws, change, step};
@@ -133,6 +134,11 @@ pub fn known_edits_fold()
 pub fn appends_of_sessions_commute()
     ensures { (p : PresentValue) (one two : BatchValue) →
         one.session ≢ two.session → AppendsCommute p one two }
+{}
+
+/// What is kept of known PDUs: their command_id, command_status and sequence_number whole, and a data_sm as what it is.
+pub fn known_pdus_are_kept()
+    ensures { KnownKept }
 {}
 
 /// Replies on a book of one octet: another link comes before a stale tail, and that before an earlier moment.
