@@ -4,7 +4,7 @@ ghost use Rattle.smq_desk.specs.declared.entry.Entry.{Entry};
 ghost use Rattle.smq_desk.specs.Closing.{AgreeAt, AgreeUpTo, FailsFirstAt};
 ghost use Rattle.smq_desk.specs.History.{StartsWith};
 ghost use Rattle.smq_desk.specs.Seats.{SeatValue};
-ghost use Rattle.smq_desk.specs.Known.{KnownHistory};
+ghost use Rattle.smq_desk.specs.Known.{KnownCalls, KnownCloses, KnownHistory, KnownLedgers};
 ghost use Rattle.smq_desk.specs.Interleaving.{InterleavingsAgree};
 ghost use Rattle.smq_desk.specs.KnownLoads.{KnownInterleavings, KnownLoads, KnownSchedules, KnownSeatLoads};
 ghost use Rattle.smq_desk.specs.Loads.{LoadsAreAsOfOneThread, SeatsLoadAsOneThread};
@@ -36,6 +36,13 @@ pub fn beginnings_are_passed_on()
 #[tactic(auto, unfolding(crate::specs::Seats::holders))]
 pub fn known_history()
     ensures { KnownHistory }
+{}
+
+/// Ledgers of that history: how entries are numbered, which calls of a seat are among them, and which seats don't close a desk.
+pub fn known_ledgers()
+    ensures ledgers { KnownLedgers }
+    ensures calls { KnownCalls }
+    ensures closes { KnownCloses }
 {}
 
 /// A job of two rows that is written out: which edits put a row's octets, what the rows made, and what a worker makes of the job.

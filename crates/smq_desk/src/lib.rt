@@ -32,7 +32,7 @@ pub use history::{CHUNK_LENGTH, History};
 pub use job::LinkJob;
 pub use laws::{
     beginnings_are_passed_on, interleavings_agree, known_history, known_interleavings, known_job,
-    known_limits, known_loads, known_schedules, loads_are_as_of_one_thread,
+    known_ledgers, known_limits, known_loads, known_schedules, loads_are_as_of_one_thread,
     schedules_end_as_one_thread, seats_agree_up_to_where_they_agree_at_each,
     seats_load_as_one_thread,
 };

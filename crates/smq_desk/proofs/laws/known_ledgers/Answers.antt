@@ -1,0 +1,67 @@
+use Rattle.std.proofs.Common.{◌≡◌, ◌<◌, [], Some, inl, inr, refl, sym, ap, subst, arith}
+use Rattle.std.specs.Prelude.{slice_get}
+use Rattle.std.proofs.lemmas.List.Elements.{All-nil, All-from_recursion}
+use Rattle.std.proofs.lemmas.Option.{same_Some}
+use Rattle.smq_kit.specs.declared.refusal.Refusal.TheVariants.{ClockBack}
+use Rattle.smq_book.specs.declared.present.edit.Edit.TheVariants.{Advance}
+use Rattle.smq_desk.specs.declared.entry.Call.{Call}
+use Rattle.smq_desk.specs.declared.entry.Entry.{Entry}
+use Rattle.smq_desk.specs.declared.entry.Reply.{Reply}
+use Rattle.smq_desk.specs.declared.entry.Reply.TheVariants.{Done, Refused}
+use Rattle.smq_desk.specs.Closing.{AgreesUpTo, AgreeUpTo}
+use Rattle.smq_desk.specs.Known.{first_calls, history, second_calls, seat_of, torn_seats}
+use Rattle.smq_desk.specs.History.{entry_of}
+use Rattle.smq_desk.specs.Publishing.{HasCall}
+use Rattle.smq_desk.specs.Seats.{HasOneSeat, call_of}
+use Rattle.smq_desk.proofs.laws.known_ledgers.Goals as goal
+
+-- nothing was committed up to number 0
+at_first : AgreeUpTo torn_seats history 0
+at_first = record {
+  each_seat = All-from_recursion (AgreesUpTo history 0) torn_seats (
+    record { later = []; agreed = refl; greater = All-nil _ },
+    (
+      record { later = second_calls; agreed = refl; greater = All-from_recursion (λ (c : Call). 0 < c.number) second_calls (omega arith, tt) },
+      (record { later = []; agreed = refl; greater = All-nil _ }, tt),
+    ),
+  );
+  each_entry = All-nil (HasOneSeat torn_seats);
+}
+
+pub returns-clause-ledgers : goal.returns-clause-ledgers
+returns-clause-ledgers c = record {
+  opens = refl;
+  first = record { added = refl; numbered = refl; replied = refl };
+  second = record { added = refl; numbered = refl; replied = refl };
+}
+
+first_entry : (e : Entry) → slice_get history 0 ≡ Some e → entry_of 1 (Advance 5) Done ≡ e
+first_entry e at = same_Some (entry_of 1 (Advance 5) Done) e at
+
+pub returns-clause-calls : goal.returns-clause-calls
+returns-clause-calls c = record {
+  each = All-from_recursion (HasCall history 1) first_calls ((omega arith, refl), ((omega arith, refl), tt));
+  another = λ h.
+      let reply : ◌≡◌ {A = Reply} Done (Refused (ClockBack 6)) = ap (λ (e : Entry). e.reply)
+      (first_entry (entry_of 1 (Advance 5) (Refused (ClockBack 6))) (h 0 (call_of 1 (Advance 5) (Refused (ClockBack 6))) (omega arith)).1) in
+      absurd cc;
+  below = λ h. let positive = (h 0 (call_of 0 (Advance 5) Done) (omega arith)).0 in omega (arith, positive);
+  of_another = λ h.
+      let seat : 1 ≡ 2 = ap (λ (e : Entry). e.seat)
+      (first_entry (entry_of 2 (Advance 5) Done) (h 0 (call_of 1 (Advance 5) Done) (omega arith)).1) in
+      omega (arith, seat);
+}
+
+pub returns-clause-closes : goal.returns-clause-closes
+returns-clause-closes c = record {
+  seats_out = omega arith;
+  all_seats = λ h. omega (arith, h);
+  torn = (
+    omega arith,
+    record {
+      below = λ n less. let none : n ≡ 0 = omega (arith, less) in subst (AgreeUpTo torn_seats history) (sym none) at_first;
+      here = λ h. let lost = (h.each_seat 0 (seat_of 1 []) (omega arith)).agreed in absurd cc;
+    },
+    record { entry = λ e positive in_range at. cc; call = λ h. let none : ⊥ = elim h [ inl e ↦ omega (arith, e) | inr e ↦ omega (arith, e) ] in absurd none },
+  );
+}
