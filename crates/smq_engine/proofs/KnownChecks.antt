@@ -1,16 +1,20 @@
 -- A history that is made of known rows, and seats that haven't made them.
-use Rattle.std.proofs.Common.{◌≡◌, ◌+◌, ℕ, zero, suc, List, [], ◌∷◌, ◌++◌, Option, Some, None, refl, ap, subst, sym, ◌∙◌, drop, flat_map, option_to_list, add-zero, arith}
+use Rattle.std.proofs.Common.{◌≡◌, ◌+◌, ℕ, zero, suc, true, List, [], ◌∷◌, ◌++◌, Option, Some, None, refl, ap, subst, sym, ◌∙◌, drop, flat_map, option_to_list, add-zero, arith}
 use Rattle.std.specs.Prelude.{⊤, slice_get}
 use Rattle.std.specs.List.{AllZip}
 use Rattle.std.proofs.lemmas.List.Elements.{All-from_recursion}
 use Rattle.std.proofs.lemmas.Option.{same_Some}
-use Rattle.smq_kit.specs.declared.refusal.Refusal.TheVariants.{EmptyPiece}
+use Rattle.smq_kit.specs.declared.refusal.Refusal.TheVariants.{ClockBack, EmptyPiece}
+use Rattle.smq_book.specs.declared.present.edit.Edit.TheVariants.{Advance}
 use Rattle.smq_desk.specs.declared.entry.Call.{Call}
-use Rattle.smq_desk.specs.declared.entry.Reply.TheVariants.{Done}
+use Rattle.smq_desk.specs.declared.entry.Entry.{Entry}
+use Rattle.smq_desk.specs.declared.entry.Reply.TheVariants.{Done, Refused}
+use Rattle.smq_desk.specs.History.{entry_of}
 use Rattle.smq_desk.specs.Jobs.{IsFate, Made, Puts}
-use Rattle.smq_desk.specs.Seats.{SeatValue, AreCallsOf, HasItsCalls, HasOneSeat, call_of, holders}
+use Rattle.smq_desk.specs.Seats.{SeatValue, AreCallsOf, HasItsCalls, HasOneSeat, call_of, calls_in, holders}
 use Rattle.smq_load.specs.declared.row.Row.{Row}
-use Rattle.smq_engine.specs.Known.{checked_history, checked_rows, checked_seats, checked_settings, first_calls, no_octets, one, put_after, seat_of, three, turned_seats, two}
+use Rattle.smq_engine.specs.IsCheck.{Compares}
+use Rattle.smq_engine.specs.Known.{checked_history, checked_rows, checked_seats, checked_settings, clock_rows, first_calls, no_octets, one, put_after, seat_of, some_rows, three, turned_seats, two}
 use Rattle.smq_engine.specs.Workers.{HasMade, HaveMadeRows, edits_of_calls, pieces_of_worker, plain_edits}
 
 pub calls : AreCallsOf checked_seats checked_history
@@ -34,6 +38,12 @@ in_turn worker rows (s ∷ seats) each zero seat e =
 in_turn worker rows (s ∷ seats) each (suc k) seat e =
     let same : suc worker + k ≡ worker + suc k = omega arith in
     subst (λ n. HasMade (pieces_of_worker n rows) seat) same (in_turn (suc worker) rows seats each.1 k seat e)
+
+by_worker : (rows : List Row) (seats : List SeatValue) → EachMade 0 rows seats → (worker : ℕ) (seat : SeatValue)
+    → slice_get seats worker ≡ Some seat → HasMade (pieces_of_worker worker rows) seat
+by_worker rows seats each worker seat e =
+    let same : 0 + worker ≡ worker = omega arith in
+    subst (λ n. HasMade (pieces_of_worker n rows) seat) same (in_turn 0 rows seats each worker seat e)
 
 nothing : Made [] [] [] 0
 nothing = record { fates = []; each = tt; calls = refl; count = refl }
@@ -64,12 +74,8 @@ made = record {
   all = refl;
   number = refl;
   plain = refl;
-  pieces = λ worker seat e.
-      let turn = in_turn 0 (checked_settings ++ checked_rows) worker_seats
-      ((0, nothing), ((0, nothing), ((0, calls_of_2), ((1, calls_of_3), ((0, nothing), ((0, nothing), ((0, nothing), ((0, nothing), tt))))))))
-      worker seat e in
-      let same : 0 + worker ≡ worker = omega arith in
-      subst (λ n. HasMade (pieces_of_worker n (checked_settings ++ checked_rows)) seat) same turn;
+  pieces = by_worker (checked_settings ++ checked_rows) worker_seats
+      ((0, nothing), ((0, nothing), ((0, calls_of_2), ((1, calls_of_3), ((0, nothing), ((0, nothing), ((0, nothing), ((0, nothing), tt))))))));
 }
 
 -- ---- what the seats haven't made
@@ -109,3 +115,52 @@ not_turned h =
     ap (λ (seats : List SeatValue). slice_get seats 2) (sym workers.1) in
     let made = h.pieces 2 (seat_of 4 turned_calls) there in
     not_in_turn made.1.fates made.1.each made.1.calls
+
+-- ---- a check of clocks, and of a piece of no octets
+
+abbrev clock_entries : List Entry
+clock_entries =
+    entry_of 1 (Advance 3) Done ∷ entry_of 1 (Advance 2) (Refused (ClockBack 3)) ∷ entry_of 1 (Advance 4) Done
+    ∷ entry_of 1 (Advance 5) Done ∷ entry_of 1 (Advance 4) (Refused (ClockBack 5)) ∷ entry_of 1 (Advance 6) Done ∷ []
+
+abbrev idle_seats : List SeatValue
+idle_seats =
+    seat_of 2 [] ∷ seat_of 3 [] ∷ seat_of 4 [] ∷ seat_of 5 [] ∷ seat_of 6 [] ∷ seat_of 7 [] ∷ seat_of 8 [] ∷ seat_of 9 [] ∷ []
+
+abbrev clock_seats : List SeatValue
+clock_seats = seat_of 1 (calls_in clock_entries 1) ∷ idle_seats
+
+not_prepared : Made (pieces_of_worker 2 some_rows) [] [] 1
+not_prepared = record {
+  fates = None ∷ [];
+  each = ((record { offset = 0; rest = []; broken = None }, EmptyPiece, refl), tt);
+  calls = refl;
+  count = refl;
+}
+
+pub compares : Compares clock_rows some_rows (record { same = true; entries = 6; refused = 2 })
+unfolding holders
+compares = record {
+  entries = clock_entries;
+  legal = (refl, (refl, (refl, (refl, (refl, (refl, tt))))));
+  made = record {
+    seats = clock_seats;
+    calls = record {
+      each_seat = All-from_recursion (HasItsCalls clock_entries) clock_seats
+          (refl, (refl, (refl, (refl, (refl, (refl, (refl, (refl, (refl, tt)))))))));
+      each_entry = All-from_recursion (HasOneSeat clock_seats) clock_entries (refl, (refl, (refl, (refl, (refl, (refl, tt))))));
+    };
+    made = record {
+      first = seat_of 1 (calls_in clock_entries 1);
+      workers = idle_seats;
+      all = refl;
+      number = refl;
+      plain = refl;
+      pieces = by_worker (clock_rows ++ some_rows) idle_seats
+          ((0, nothing), ((0, nothing), ((1, not_prepared), ((0, nothing), ((0, nothing), ((0, nothing), ((0, nothing), ((0, nothing), tt))))))));
+    };
+  };
+  counted = refl;
+  same = (λ h. refl, λ h. refl);
+  refused = refl;
+}

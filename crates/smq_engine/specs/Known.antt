@@ -20,7 +20,7 @@ use Rattle.smq_load.specs.declared.row.Row.TheVariants.{Piece, Plain}
 use Rattle.smq_engine.specs.declared.run_fault.RunFault.TheVariants as run_fault
 use Rattle.smq_engine.specs.declared.workers.TheConstants.{WORKERS}
 use Rattle.smq_engine.specs.Faults.{fault_text}
-use Rattle.smq_engine.specs.IsCheck.{check_text}
+use Rattle.smq_engine.specs.IsCheck.{Compares, check_text}
 use Rattle.smq_engine.specs.Play.{after_rows, edit_of, edits_from, edits_of, present_of, refusal_of, refused_of, refused_rows, unprepared}
 use Rattle.smq_engine.specs.Workers.{HaveMadeRows, pieces_of_worker, plain_edits, worker_of}
 use Rattle.smq_engine.specs.within.Jobs.{desk_fault}
@@ -170,9 +170,13 @@ checked_seats = seats_with (call_of 2 (put_after 0 one) Done ∷ call_of 4 (put_
 abbrev pub turned_seats : List SeatValue
 turned_seats = seats_with (call_of 2 (put_after 0 three) Done ∷ call_of 4 (put_after 0 one) Done ∷ [])
 
+-- three clocks of settings, of which the second is refused
+abbrev pub clock_rows : List Row
+clock_rows = Plain (Advance 3) ∷ Plain (Advance 2) ∷ Plain (Advance 4) ∷ []
+
 -- What is written of checks, and the faults of a desk; how many workers there are, and which pieces they have; the plain edits; that
 -- the history is the calls of its seats, and these have made the rows, not those of the script alone, and not in another order of
--- one worker's pieces.
+-- one worker's pieces. A check of clocks tells the entries of settings and script, and the refused rows of the script alone.
 pub record KnowsChecks : Type 0 where
   pub same : check_text (record { same = true; entries = 67; refused = 0 }) ≡ codes "same entries 67 refused 0" ++ 10 ∷ []
   pub different : check_text (record { same = false; entries = 0; refused = 1 }) ≡ codes "different entries 0 refused 1" ++ 10 ∷ []
@@ -190,3 +194,4 @@ pub record KnowsChecks : Type 0 where
   pub made : HaveMadeRows (checked_settings ++ checked_rows) checked_seats
   pub all : HaveMadeRows checked_rows checked_seats → ⊥
   pub turned : HaveMadeRows (checked_settings ++ checked_rows) turned_seats → ⊥
+  pub compares : Compares clock_rows some_rows (record { same = true; entries = 6; refused = 2 })

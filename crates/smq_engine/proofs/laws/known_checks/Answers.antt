@@ -1,6 +1,6 @@
 use Rattle.std.proofs.Common.{refl}
 use Rattle.std.specs.Fmt.{digits}
-use Rattle.smq_engine.proofs.KnownChecks.{calls, made, not_of_the_script, not_turned}
+use Rattle.smq_engine.proofs.KnownChecks.{calls, compares, made, not_of_the_script, not_turned}
 use Rattle.smq_engine.proofs.laws.known_checks.Goals as goal
 
 pub returns : goal.returns
@@ -22,4 +22,5 @@ returns c = record {
   made = made;
   all = not_of_the_script;
   turned = not_turned;
+  compares = compares;
 }
