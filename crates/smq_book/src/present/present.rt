@@ -199,8 +199,8 @@ impl Present {
         Ok(())
     }
 
-    /// Sets the forms of a link's message ids, and the keys of its messages and delivery receipts anew. A refusal changes
-    /// nothing.
+    /// Sets the forms of a link's message ids, and the keys of its messages and delivery receipts anew, unless these forms are
+    /// set. A refusal changes nothing.
     pub(crate) fn set_forms(
         &mut self,
         alloc: Global,
@@ -224,6 +224,9 @@ impl Present {
             + 64 * (1 + reach self.old (Edit.SetForm link forms.response forms.receipt))) }
         ensures rises { OnOk result (RisesWithFacts index.old index.new) }
     {
+        if self.settings.has_forms(link, forms) {
+            return Ok(());
+        }
         let Ok(()) = self.change_forms(alloc, index, link, forms) else {
             index.undo();
             return Err(Refusal::Memory);

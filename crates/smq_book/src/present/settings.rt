@@ -1,5 +1,5 @@
 //! What is set: for the sessions of links, for the numbers that prefixes begin, and the clock.
-ghost use Rattle.std.specs.Prelude.{◌≡◌, ◌≢◌, ◌≤◌, ◌+◌, ◌*◌, ℕ, [], length, Err, IfErr, IfOk, IsSome, MatchResult, OnOk};
+ghost use Rattle.std.specs.Prelude.{◌≡◌, ◌≢◌, ◌≤◌, ◌+◌, ◌*◌, ℕ, [], length, Err, IfErr, IfOk, IsSome, IsTrue, MatchResult, OnOk};
 ghost use Rattle.std.specs.FinMap as map;
 ghost use Rattle.std.specs.Map.Iter.{ShowsInOrder, deref_pair};
 ghost use Rattle.smq_kit.specs.Maps.{SameOutside, set_at};
@@ -137,6 +137,16 @@ impl Settings {
         ensures { result ≡ self.now.clock }
     {
         self.clock
+    }
+
+    /// Whether these are the forms that are set of a link's message ids.
+    pub(crate) fn has_forms(&self, link: LinkId, forms: Forms) -> bool
+        ensures { IsTrue result → set_forms_of self.now link.0 ≡ Some forms }
+    {
+        match self.forms.get(&link.0) {
+            Some(set) => *set == forms,
+            None => false,
+        }
     }
 
     /// Sets the forms of a link's message ids, and gives those that were set of it before. An error changes nothing.

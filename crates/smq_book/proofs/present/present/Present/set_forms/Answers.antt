@@ -1,7 +1,10 @@
-use Rattle.std.proofs.Common.{◌≡◌, sym, ap, subst, ◌∙◌, arith}
+use Rattle.std.proofs.Common.{◌≡◌, Some, sym, ap, subst, ◌∙◌, arith}
+use Rattle.std.specs.FinMap.{get}
 use Rattle.smq_book.specs.index.Held.{Holding, IsHeld, held_now, traffic_held}
 use Rattle.smq_book.specs.pairing.Traffic.{traffic_of}
 use Rattle.smq_book.specs.present.Present.{PresentValue}
+use Rattle.smq_book.specs.present.Settings.{set_forms_of}
+use Rattle.smq_book.proofs.lemmas.present.NumberMaps.{insert-same}
 use Rattle.smq_book.proofs.lemmas.index.KeptPairs.{kept-settings}
 use Rattle.smq_book.proofs.present.present.Present.set_forms.Goals as goal
 
@@ -48,3 +51,11 @@ pub returns-clause-touches : goal.returns-clause-touches
 returns-clause-touches c = λ pairings kept.
     let made = c.in-Ok.ensures.touches pairings kept in
     omega (arith, made, c.settle.ensures.touches)
+
+-- forms that are set, set again, change nothing
+pub returns-then-has_forms-clause-reply : goal.returns-then-has_forms-clause-reply
+returns-then-has_forms-clause-reply c =
+    let p = c.args.self.now in
+    let there : get p.settings.forms c.args.link.0 ≡ Some c.args.forms =
+    ap (λ (q : PresentValue). set_forms_of q.settings c.args.link.0) (sym c.self.view_is) ∙ c.has_forms.ensures c.if-has_forms.true in
+    sym (ap (λ m. record p { settings = record p.settings { forms = m } }) (insert-same p.settings.forms c.args.link.0 c.args.forms there))
