@@ -1,4 +1,4 @@
-//! What the octets that are present say: messages with their responses, receipts, and the places that want looking at.
+//! What the octets that are present say: messages with their responses, receipts, and the places that need a look.
 pub mod notes;
 pub mod pairs;
 pub mod source;

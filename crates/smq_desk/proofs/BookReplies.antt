@@ -38,7 +38,7 @@ left_by : (T : Type 0) (e : Refusal) (o : Option Refusal) (p new : PresentValue)
 left_by T e None p new edit a = a.1
 left_by T e (Some r) p new edit a = a.1
 
--- an edit that is refused otherwise than for want of memory is replied to so, and want of memory changes nothing
+-- an edit that is refused otherwise than for lack of memory is replied to so, and lack of memory changes nothing
 pub refused : (T : Type 0) (e : Refusal) (p new : PresentValue) (edit : Edit)
     → IsReply {T = T} (reply p edit) (Err e) (new ≡ step p edit) (new ≡ p)
     → (told : Option Reply) → IfSome told (λ t. (t ≡ Refused e) × (e ≢ Memory))

@@ -20,7 +20,7 @@ abbrev pub reply_by : Option Refusal → Reply
 reply_by None = Done
 reply_by (Some refusal) = Refused refusal
 
--- what a book replies to an edit, want of memory aside
+-- what a book replies to an edit, lack of memory aside
 abbrev pub reply_to : PresentValue → Edit → Reply
 reply_to p edit = reply_by (reply p edit)
 

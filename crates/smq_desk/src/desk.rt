@@ -103,7 +103,7 @@ impl Desk {
     }
 
     /// Publishes the whole history for watchers, where it has each call of the seat as its entry of that number; else the least
-    /// number at which it hasn't is told (`TornSeat`). Where that or want of memory (`Memory`) is answered, what was published
+    /// number at which it hasn't is told (`TornSeat`). Where that or lack of memory (`Memory`) is answered, what was published
     /// stays.
     pub fn publish<R: Wait>(&self, rt: &R, seat: &mut Seat) -> Result<Note, Refusal>
         ensures ok { IfOk result (λ note. HasCalls note.entries seat.old) }

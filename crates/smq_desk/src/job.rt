@@ -12,7 +12,7 @@ pub struct LinkJob {
     pub next: u64,
     /// How many of the rows that are done were refused: they couldn't be prepared, or the book refused them.
     pub refused: u64,
-    /// Why the next row isn't done: want of memory (`Memory`), a history at its limit (`HistoryFull`) or a thread that the system
+    /// Why the next row isn't done: lack of memory (`Memory`), a history at its limit (`HistoryFull`) or a thread that the system
     /// refused to start (`NoThread`). None where all rows are done.
     pub stop: Option<Refusal>,
 }

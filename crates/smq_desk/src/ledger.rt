@@ -135,7 +135,7 @@ impl Ledger {
 
     /// Brings an edit to the book and adds its entry, also where the book refuses it. The entry's number and reply are
     /// told. Refused are, in order, with no entry and nothing changed: an edit that comes to a history at its limit
-    /// (`HistoryFull`); and want of memory (`Memory`).
+    /// (`HistoryFull`); and lack of memory (`Memory`).
     pub fn commit(&mut self, seat: u32, edit: Edit) -> Result<(u64, Reply), Refusal>
         ensures ok { IfOk result (λ told. Adds self.old self.new seat edit told.0 told.1) }
         ensures err { OnErr result (self.new ≡ self.old) }
@@ -168,7 +168,7 @@ impl Ledger {
     }
 
     /// Puts an edition of the whole history on the board, and answers the number of its entries. History and book stay, whatever
-    /// it answers. Refused is want of memory alone; the board then stays, too.
+    /// it answers. Refused is lack of memory alone; the board then stays, too.
     pub fn publish<R: Wait>(&mut self, rt: &R) -> Result<u64, Refusal>
         ensures ok { IfOk result (λ front. (front ≡ length self.old.entries)
             × (self.new ≡ record self.old { board = self.old.entries })) }
@@ -244,7 +244,7 @@ impl Ledger {
     }
 }
 
-/// The book's reply to an edit, and none for want of memory, where nothing changes.
+/// The book's reply to an edit, and none for lack of memory, where nothing changes.
 fn reply_of(book: &mut Book, edit: Edit) -> Option<Reply>
     ensures some { IfSome result (λ told. (told ≡ reply_to book.old.present edit)
         × (book.new.present ≡ step book.old.present edit)) }

@@ -18,7 +18,7 @@ use std::thread::{Promise, Threads};
 
 /// Does jobs at a desk, each in a thread of its own; the caller's is one of them. A worker prepares a row on the tail that its
 /// direction has at that time, and commits it from the job's seat, one row after another. All jobs come back in their order. A
-/// refusal of a row is counted, and the worker goes on. A job stops at a row for want of memory, where the history is full, or
+/// refusal of a row is counted, and the worker goes on. A job stops at a row for lack of memory, where the history is full, or
 /// before its first row where the system refuses its thread.
 ///
 /// Where two jobs have rows of one session, other rows may come between the tail that a worker reads and its commit: then its row

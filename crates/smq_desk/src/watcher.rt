@@ -79,7 +79,7 @@ impl Watcher {
     }
 
     /// From now on this watcher's editions begin with the entries of the note, which is of this watcher's desk. A note of another
-    /// desk, whose entries don't begin what is published, is answered as want of memory.
+    /// desk, whose entries don't begin what is published, is answered as lack of memory.
     pub fn learn(&mut self, note: &Note) -> Result<(), Refusal>
         ensures ok { OnOk result (StartsWith self.new.entries note.now.entries) }
         ensures later { StartsWith self.new.entries self.old.entries }

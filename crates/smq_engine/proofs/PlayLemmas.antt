@@ -18,7 +18,7 @@ refused_by : (T : Type 0) (o : Option Refusal) (e : Refusal) (p new : PresentVal
 refused_by T None e p new edit a refusal is other = absurd (other a.0)
 refused_by T (Some r) e p new edit a refusal is other = (is ∙ ap Some a.0, a.1)
 
--- an edit that answers something else than want of memory answers its refusal
+-- an edit that answers something else than lack of memory answers its refusal
 pub refused_edit : (T : Type 0) {E : Type 0} (e : Refusal) (p new : PresentValue) (edit : Edit) (r : Result (Option Refusal) E)
     → IsReply {T = T} (reply p edit) (Err e) (new ≡ step p edit) (new ≡ p)
     → IfOk r (λ noted. (noted ≡ Some e) × (e ≢ Memory)) → IfOk r (λ refusal. (refusal ≡ reply p edit) × (new ≡ step p edit))

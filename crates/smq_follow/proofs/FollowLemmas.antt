@@ -192,7 +192,7 @@ fault-followed o (Ok followed) format settings settings_rows w are h = tt
 fault-followed None (Err why) format settings settings_rows w are h = tt
 fault-followed (Some text) (Err why) format settings settings_rows w are h = ends-by why format settings settings_rows w text are (h text refl)
 
--- want of memory ends it in the settings
+-- lack of memory ends it in the settings
 pub memory-first : (o : Option (List ℕ)) (format : Format) (settings : List ℕ) (w e : Option (List ℕ))
     → IfSome o (EndsBy fault.Memory format settings (held w w e e))
 memory-first None format settings w e = tt

@@ -13,7 +13,7 @@ first_of [] = None
 first_of (Some refusal ∷ later) = Some refusal
 first_of (None ∷ later) = first_of later
 
--- What has a refusal is refused so. Anything else is made, or refused for want of memory. A refusal changes nothing.
+-- What has a refusal is refused so. Anything else is made, or refused for lack of memory. A refusal changes nothing.
 abbrev pub IsReply : {T : Type 0} → Option Refusal → Result T Refusal → Type 0 → Type 0 → Type 0
 IsReply None (Ok x) Made Unchanged = Made
 IsReply None (Err e) Made Unchanged = (e ≡ Memory) × Unchanged

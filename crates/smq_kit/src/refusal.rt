@@ -1,6 +1,6 @@
 //! Why an edit, a row or a value was refused.
 //!
-//! Who adds a refusal writes, each time in the order of the numbers: a variant of `Refusal`, with the next number that
+//! Whoever adds a refusal writes, each time in the order of the numbers: a variant of `Refusal`, with the next number that
 //! was never given; its row in `row` here and in `row_of` of specs/Refusals.antt; an example of it and its text in
 //! `every_refusal` and `printed_refusals` of specs/Known.antt. The printing, the laws and the proofs stay as they are.
 ghost use Rattle.std.specs.Prelude.{◌≡◌, ◌↔◌, IsTrue};

@@ -142,7 +142,7 @@ settings_of octets =
     if nat_le (length octets) 1048576 && is_utf8 octets then option_and_then rows_in (parse_document octets) else None
 
 -- what a fault tells of settings that say these rows, where they say any: bad settings say none, and the only other
--- fault is want of memory
+-- fault is lack of memory
 abbrev pub TellsOfSettings : Option (List Row) → LoadFault → Type 0
 TellsOfSettings rows BadSettings = rows ≡ None
 TellsOfSettings rows Memory = ⊤

@@ -1,5 +1,5 @@
 //! A record of a script, and the row that it says: its first field names its kind, and each of the others is read
-//! whole, or the record says none. Who adds a kind writes it here and in specs/Row.antt, at the same place.
+//! whole, or the record says none. Whoever adds a kind writes it here and in specs/Row.antt, at the same place.
 ghost use Rattle.std.specs.Prelude.{◌≡◌, ◌<◌, ◌∷◌, [], drop, length, option_and_then, IfOk, Some};
 ghost use Rattle.csv.specs.Records.{field_at, fields_of};
 ghost use Rattle.smq_load.specs.Row.{field_count_of, kind_of, piece_from, row_of, row_of_kind};

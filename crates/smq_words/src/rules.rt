@@ -1,4 +1,4 @@
-//! The rules by which `clap` takes the program's words, and its help. Who adds a subcommand adds its rules here and in
+//! The rules by which `clap` takes the program's words, and its help. Whoever adds a subcommand adds its rules here and in
 //! specs/Words.antt.
 ghost use Rattle.std.specs.Prelude.{◌≡◌, ◌++◌, IfOk, Some, false, map, option_map};
 ghost use Rattle.clap.specs.Words.{app_of, new_app};

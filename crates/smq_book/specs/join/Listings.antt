@@ -1,4 +1,4 @@
--- Which delivery receipts want looking at.
+-- Which delivery receipts need a look.
 use Rattle.std.specs.Prelude.{List, ◌++◌, map, Option, Some, None, option_map, option_to_list}
 use Rattle.std.specs.List.{flat_map}
 use Rattle.std.specs.FinMap as map
@@ -24,11 +24,11 @@ list_of_standing _ = None
 abbrev pub receipt_listing : Grouping → Place × GroupedReceipt → Option Listed
 receipt_listing g e = option_map (λ list. listed list e.0) (list_of_standing (receipt_standing g e.0 e.1))
 
--- the delivery receipts that want looking at, in their lists
+-- the delivery receipts that need a look, in their lists
 abbrev pub receipt_notes : Grouping → List Listed
 receipt_notes g = flat_map (λ e. option_to_list (receipt_listing g e)) (map.entries g.receipts)
 
--- the places that want looking at, in their lists: those of the traffic, and its delivery receipts, under what is set
+-- the places that need a look, in their lists: those of the traffic, and its delivery receipts, under what is set
 abbrev pub notes_of : SettingsValue → TrafficValue → FinSet listed_cmp
 notes_of s t = listed_set (map.keys t.notes ++ receipt_notes (grouping_of s t))
 

@@ -53,7 +53,7 @@ pub record KnownEditsWithout : Type 0 where
 abbrev pub three : List Edit
 three = Advance 1000 ∷ Advance 500 ∷ forms_set ∷ []
 
--- What three edits come to on a new book, of which the second is refused, and the first may be for want of memory.
+-- What three edits come to on a new book, of which the second is refused, and the first may be for lack of memory.
 pub record KnownFolds : Type 0 where
   pub answers : AreAnswers empty three (None ∷ Some (ClockBack 1000) ∷ None ∷ [])
   pub clock : (steps empty (judged three (None ∷ Some (ClockBack 1000) ∷ None ∷ []))).settings.clock ≡ 1000
@@ -65,7 +65,7 @@ pub record KnownFolds : Type 0 where
   pub answers_then : AreAnswers empty three (Some Memory ∷ None ∷ None ∷ [])
   pub judged_then : judged three (Some Memory ∷ None ∷ None ∷ []) ≡ Advance 500 ∷ forms_set ∷ []
   pub clock_then : (steps empty (judged three (Some Memory ∷ None ∷ None ∷ []))).settings.clock ≡ 500
-  -- An edit that has a reply doesn't answer want of memory, none is made against its reply, and none is left out.
+  -- An edit that has a reply doesn't answer lack of memory, none is made against its reply, and none is left out.
   pub no_memory : AreAnswers empty three (None ∷ Some Memory ∷ None ∷ []) → ⊥
   pub not_made : AreAnswers empty three (None ∷ None ∷ None ∷ []) → ⊥
   pub no_other : AreAnswers empty three (None ∷ Some NoSession ∷ None ∷ []) → ⊥

@@ -1,5 +1,5 @@
 -- What the PDUs that are present say, whatever is set: messages with their responses, and delivery receipts, by place;
--- and the places that want looking at.
+-- and the places that need a look.
 use Rattle.std.specs.Prelude.{◌==◌, not, ℕ, ◌%◌, Bool, false, List, [], ◌∷◌, ◌++◌, map, count_by, filter, slice_get, Option, Some, None, option_map, option_to_list}
 use Rattle.std.specs.List.{flat_map}
 use Rattle.std.specs.FinMap as map
@@ -49,7 +49,7 @@ pub record ReceivedReceipt : Type 0 where
   pub moment : ℕ
   pub receipt : Receipt
 
--- what the PDUs of sessions say, at their places, and the places that want looking at
+-- what the PDUs of sessions say, at their places, and the places that need a look
 pub record TrafficValue : Type 0 where
   pub messages : map.FinMap place_cmp Message
   pub receipts : map.FinMap place_cmp ReceivedReceipt
@@ -127,7 +127,7 @@ receipt_at origin p = option_map (λ receipt. (place_of origin FromCentre p, rec
 abbrev pub receipts_among : Origin → List KeptPdu → List (Place × ReceivedReceipt)
 receipts_among origin centre = flat_map (λ p. option_to_list (receipt_at origin p)) centre
 
--- ---- notes of a session: the places that want looking at, in their lists
+-- ---- notes of a session: the places that need a look, in their lists
 
 -- a PDU at its place, as its header says
 abbrev pub placed : Origin → Dir → KeptPdu → PlacedHeader

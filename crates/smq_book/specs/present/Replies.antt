@@ -50,7 +50,7 @@ no_session session = refused_if (is_none session) NoSession
 abbrev pub clock_back : ℕ → ℕ → Option Refusal
 clock_back present clock = refused_if (nat_lt clock present) (ClockBack present)
 
--- the first refusal of an edit that holds, want of memory aside
+-- the first refusal of an edit that holds, lack of memory aside
 abbrev pub reply : PresentValue → Edit → Option Refusal
 reply p (Append batch) = first_of (append_refusals (session_of p batch.session.0) batch)
 reply p (Withdraw session) = no_session (session_of p session.0)

@@ -64,7 +64,7 @@ abbrev pub step_unless : Option Refusal → PresentValue → Edit → PresentVal
 step_unless None p edit = change p edit
 step_unless (Some refusal) p edit = p
 
--- what is present after an edit that wasn't refused for want of memory
+-- what is present after an edit that wasn't refused for lack of memory
 abbrev pub step : PresentValue → Edit → PresentValue
 step p edit = step_unless (reply p edit) p edit
 

@@ -5,6 +5,6 @@ use Rattle.smq_book.specs.join.Facts.{facts_of}
 use Rattle.smq_book.specs.join.Listings.{notes_of}
 use Rattle.smq_tally.specs.Tables.{TablesValue, tables_of}
 
--- decode and pair what is present, join it under what is set, and count; the places that want looking at are listed
+-- decode and pair what is present, join it under what is set, and count; the places that need a look are listed
 abbrev pub scratch : PresentValue → TablesValue
 scratch p = tables_of (facts_of p.settings (traffic_of p.sessions)) (notes_of p.settings (traffic_of p.sessions))

@@ -48,7 +48,7 @@ notes_of p = flat_map session_notes (map.entries p.sessions)
 abbrev pub facts_listed : PresentValue → List Fact
 facts_listed p = facts_among p.settings (submits_of p) (receipts_of p)
 
--- the delivery receipts that are present and want looking at, in their lists
+-- the delivery receipts that are present and need a look, in their lists
 abbrev pub receipt_notes_listed : PresentValue → List Listed
 receipt_notes_listed p = flat_map (note_of (submits_of p) (receipts_of p)) (receipts_of p)
 

@@ -22,7 +22,7 @@ use smq_shelf::{Kept, ShelfKey};
 use std::alloc::{AllocError, Global};
 
 /// Sets the facts of the open messages whose windows have ended by a clock anew, where the clock was another before: they have
-/// lapsed. Where there are none, it takes no memory. On an error what is held is of no use: the caller undoes it.
+/// lapsed. Where there are none, it takes no memory. On an error the caller undoes what is held.
 pub(crate) fn advance(
     alloc: Global,
     index: &mut Index,

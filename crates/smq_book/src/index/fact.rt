@@ -1,4 +1,4 @@
-//! What is known of a stored message. Outcomes are tested in the order of their table; who adds one tests it in the turn
+//! What is known of a stored message. Outcomes are tested in the order of their table; whoever adds one tests it in the turn
 //! that it has there, in specs/join/Outcomes.antt.
 ghost use Rattle.std.specs.Prelude.{◌≡◌, ℕ, List, Option};
 ghost use Rattle.std.specs.Option.{option_copied};

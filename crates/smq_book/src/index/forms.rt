@@ -1,6 +1,6 @@
 //! What the forms of a link's message ids change: the keys of its accepted messages and its delivery receipts. They are taken
 //! out before its forms are set, and put in again after it: the key groups tell where they stand, so that no session, no other
-//! PDU and no message without a key is looked at. On an error what is held is of no use: the caller undoes it.
+//! PDU and no message without a key is looked at. On an error the caller undoes what is held.
 ghost use Rattle.std.specs.Prelude.{◌≡◌, ◌≤◌, ◌+◌, ◌++◌, Some, None, [], ◌∷◌, length, map, option_map, option_to_list, IfOk, OnOk};
 ghost use Rattle.std.specs.List.{sum_by};
 ghost use Rattle.std.specs.Option.{option_copied};

@@ -1,5 +1,5 @@
-//! Messages, delivery receipts and notes that are put in what is stored, or taken out. On an error what is held is of no
-//! use: the caller undoes it.
+//! Messages, delivery receipts and notes that are put in what is stored, or taken out. On an error the caller undoes what is
+//! held.
 ghost use Rattle.std.specs.Prelude.{◌≡◌, ◌≤◌, ◌+◌, true, if◌then◌else◌, None, Some, OnOk};
 ghost use Rattle.std.specs.FinMap as fin;
 ghost use Rattle.smq_kit.specs.declared.link_key.LinkKey.{LinkKey};

@@ -20,7 +20,7 @@ use smq_route::Routes;
 use std::alloc::AllocError;
 
 /// Sets the facts of the messages whose numbers a prefix begins anew, by routes that differ in versions of that prefix alone.
-/// On an error what is held is of no use: the caller undoes it.
+/// On an error the caller undoes what is held.
 pub(crate) fn set_routes(
     index: &mut Index,
     routes: &Routes,

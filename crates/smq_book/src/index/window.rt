@@ -28,7 +28,7 @@ use smq_shelf::{Kept, ShelfKey};
 use std::alloc::{AllocError, Global};
 
 /// Sets the ends and the facts of the messages of a link whose receipts are due anew, by windows that differ in that link alone, in
-/// which its window was another before. On an error what is held is of no use: the caller undoes it.
+/// which its window was another before. On an error the caller undoes what is held.
 pub(crate) fn set_window(
     alloc: Global,
     index: &mut Index,

@@ -20,7 +20,7 @@ use crate::{KeptPdu, Listed, Present, Session};
 use smq_kit::{Dir, SessionId};
 use std::alloc::AllocError;
 
-/// Takes what a session says out, whose pairs these are. On an error what is held is of no use: the caller undoes it.
+/// Takes what a session says out, whose pairs these are. On an error the caller undoes what is held.
 pub(crate) fn withdraw(
     index: &mut Index,
     pairings: &mut Pairings,

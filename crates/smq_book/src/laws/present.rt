@@ -66,7 +66,7 @@ pub fn steps_are_plain_changes()
         reply p edit ≡ Some refusal → step p edit ≡ p }
 {}
 
-/// The refusals that edits have are those of the numbers 3 to 11: the reply to an edit is never want of memory, nor what
+/// The refusals that edits have are those of the numbers 3 to 11: the reply to an edit is never lack of memory, nor what
 /// refuses a piece while it is prepared, a value while it is made, or a call of a history.
 pub fn replies_are_of_edits()
     ensures numbers { (p : PresentValue) (edit : Edit) (refusal : Refusal) →

@@ -1,4 +1,4 @@
-//! The places of a session that want looking at.
+//! The places of a session that need a look.
 ghost use Rattle.std.specs.Prelude.{◌≡◌, ◌++◌, ◌&&◌, map, option_to_list, OnOk};
 ghost use Rattle.smq_pdu.specs.Header.{header_with};
 ghost use Rattle.smq_pdu.specs.Pairing as pdu;

@@ -198,7 +198,7 @@ fn decoded(
 }
 
 /// Decodes octets on a tail, for one direction of a session. Refused are, in order: no octets (`EmptyPiece`); octets
-/// with which the direction would pass 2 to the power 48 (`StreamFull`); and want of memory (`Memory`).
+/// with which the direction would pass 2 to the power 48 (`StreamFull`); and lack of memory (`Memory`).
 pub fn prepare(
     alloc: Global,
     link: LinkId,

@@ -1,4 +1,4 @@
-//! The edits of a book. Who adds one gives it a reply and a step in specs/present, and makes it in `Book::apply`.
+//! The edits of a book. Whoever adds one gives it a reply and a step in specs/present, and makes it in `Book::apply`.
 ghost use Rattle.std.specs.Prelude.{◌≡◌, IfOk};
 
 use crate::Batch;

@@ -119,7 +119,7 @@ impl Present {
         self.settings.clock()
     }
 
-    /// What refuses a batch, if anything: want of memory aside.
+    /// What refuses a batch, if anything: lack of memory aside.
     fn append_refusal(&self, alloc: Global, batch: &Batch) -> Option<Refusal>
         ensures { result ≡ reply self.now (Edit.Append batch.now) }
     {

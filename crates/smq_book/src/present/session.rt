@@ -41,7 +41,7 @@ impl Session {
         })
     }
 
-    /// What refuses a batch, if anything: want of memory aside.
+    /// What refuses a batch, if anything: lack of memory aside.
     pub(crate) fn refusal(&self, batch: &Batch) -> Option<Refusal>
         ensures { result ≡ first_of (append_refusals (Some self.now) batch.now) }
     {

@@ -164,7 +164,7 @@ impl Direction {
         Ok(())
     }
 
-    /// What refuses a batch, if anything: want of memory aside.
+    /// What refuses a batch, if anything: lack of memory aside.
     #[tactic(auto, using(crate::proofs::lemmas::present::Growth::offset_facts))]
     pub(crate) fn refusal(&self, batch: &Batch) -> Option<Refusal>
         ensures value { result ≡ first_of (stream_refusals self.now batch.now) }

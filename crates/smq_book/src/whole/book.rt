@@ -66,7 +66,7 @@ impl Book {
     /// refused, in order: where no version has its prefix and beginning (`NoRoute`); where that one has an end (`Ended`);
     /// and where its end isn't after the beginning (`BadEnd`). A `CorrectRoute` is refused where no version has its prefix
     /// and beginning (`NoRoute`), and an `Advance` where its clock is below the present one (`ClockBack`). Each of them, a
-    /// `SetForm` and a `SetWindow` are refused last for want of memory (`Memory`): an `Advance` that lapses no message never is.
+    /// `SetForm` and a `SetWindow` are refused last for lack of memory (`Memory`): an `Advance` that lapses no message never is.
     /// An edit that is made adds at most 64 touches for each that it reaches, and 64 more; one at least where a count of a view
     /// differs after it, unless they stand at the greatest u64.
     pub fn apply(&mut self, edit: Edit) -> Result<(), Refusal>
@@ -83,7 +83,7 @@ impl Book {
     }
 
     /// Applies edits one after the other, and gives their answers: a refusal, or none where the edit was made. What is
-    /// present then is what those edits leave that weren't refused for want of memory. An error applies none of them: memory
+    /// present then is what those edits leave that weren't refused for lack of memory. An error applies none of them: memory
     /// for the answers is taken first.
     pub fn apply_all(&mut self, edits: Vec<Edit>) -> Result<Vec<Option<Refusal>>, AllocError>
         ensures answers { IfOk result (λ answers. AreAnswers self.old.present edits.items answers.items) }

@@ -29,7 +29,7 @@ fn is_wanting(fault: Option<RunFault>) -> bool {
     fault == Some(RunFault::Memory) || fault == Some(RunFault::NoThread)
 }
 
-/// Whether a work is done and writes this text, or ends for want of memory or of a thread and writes a beginning of it.
+/// Whether a work is done and writes this text, or ends for lack of memory or of a thread and writes a beginning of it.
 fn is_answered<RT: AllocGlobal + Threads + Wait + Sync>(
     rt: &RT,
     work: Work,

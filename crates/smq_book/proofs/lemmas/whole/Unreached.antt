@@ -1,4 +1,4 @@
--- A clock that lapses no message is never refused for want of memory.
+-- A clock that lapses no message is never refused for lack of memory.
 use Rattle.std.proofs.Common.{◌≡◌, ◌≤◌, ℕ, List, [], ◌∷◌, length, Option, Some, None, Result, Err, refl, sym, ap, subst, ◌∙◌, arith}
 use Rattle.std.specs.FinMap.{keys}
 use Rattle.smq_kit.specs.declared.refusal.Refusal.{Refusal}
