@@ -48,8 +48,8 @@ impl Turns {
         ensures back { OnOk result (CanLeave series (matching_in self.old) self.new) }
         ensures err { OnErr result (matching_in self.new ≡ matching_in self.old) }
         ensures settled { settled_matching self.new ≡ settled_matching self.old }
-        ensures touches { OnOk result (touches_in self.new ≤ touches_in self.old + 4) }
-        ensures err_touches { OnErr result (touches_in self.new ≤ touches_in self.old + 5) }
+        ensures touches { OnOk result (touches_in self.new ≤ touches_in self.old + 3) }
+        ensures err_touches { OnErr result (touches_in self.new ≤ touches_in self.old + 4) }
         ensures touched { OnOk result (IsSome series
             → touched (touches_in self.old) ≤ touches_in self.new) }
         ensures counted { touches_in self.old ≤ touches_in self.new }
@@ -129,7 +129,7 @@ fn count(lasts: &mut Kept<Series, u64>, series: Series) -> Result<u64, AllocErro
     ensures err { OnErr result (lasts.new.content ≡ lasts.old.content) }
     ensures err_pending { OnErr result (lasts.new.pending ≡ lasts.old.pending) }
     ensures settled { lasts.new.settled ≡ lasts.old.settled }
-    ensures touches { lasts.new.touches ≤ lasts.old.touches + 2 }
+    ensures touches { lasts.new.touches ≤ lasts.old.touches + 1 }
     ensures counted { lasts.old.touches ≤ lasts.new.touches }
 {
     match lasts.exchange(series, &NextRank)? {

@@ -3,7 +3,7 @@ use Rattle.std.proofs.Common.{◌≡◌, Bool, true, false, List, [], ◌∷◌,
 use Rattle.std.specs.Prelude.{is_some, if◌then◌else◌}
 use Rattle.std.specs.Cmp.{IsTotalOrder}
 use Rattle.std.specs.List.Sorted.{IsStrictlySortedBy}
-use Rattle.std.specs.Map.{keys_of, lookup, set_value}
+use Rattle.std.specs.Map.{keys_of, lookup}
 use Rattle.std.specs.BTreeMap.{is_at, insert_entry}
 use Rattle.std.proofs.lemmas.Bool.{false≢true}
 use Rattle.std.proofs.lemmas.Map.Lookups.{CmpEqualImpliesEq}
@@ -21,13 +21,15 @@ none_there None e = refl
 none_there (Some v) e = absurd (false≢true (sym e))
 
 module _ {K : Type 0} {R : K → K → Ordering} (o : IsTotalOrder R) where
-  -- the place of a key holds what is made of it
-  pub set_value-altered : {V : Type 0} (k : K) (es : List (K × Option V)) (before w : Option V) (has : Bool) → IsStrictlySortedBy R (keys_of es)
-      → lookup (is_at (R k)) es ≡ Some before → has ≡ is_some w
-      → set_value (is_at (R k)) es w ≡ (if is_some before || has then insert_entry R es k w else es)
-  set_value-altered k es None None has s there h = rw h (set_value_same _ _ _ there)
-  set_value-altered k es None (Some v) has s there h = rw h (set_value-insert_entry o k (Some v) es s (rw there refl))
-  set_value-altered k es (Some u) w has s there h = set_value-insert_entry o k w es s (rw there refl)
+  -- a place that was vacant and stays so is as it was
+  pub vacant-stays : {V : Type 0} (k : K) (es : List (K × Option V)) (w : Option V) (before : Option (Option V)) (has : Bool) → IsStrictlySortedBy R (keys_of es)
+      → before ≡ lookup (is_at (R k)) es → has ≡ is_some w
+      → (if is_some before || has then insert_entry R es k w else es) ≡ (if has_value before || has then insert_entry R es k w else es)
+  vacant-stays k es w None has s there h = refl
+  vacant-stays k es w (Some (Some u)) has s there h = refl
+  vacant-stays k es (Some v) (Some None) has s there h = rw h refl
+  vacant-stays k es None (Some None) has s there h =
+      rw h (sym (set_value-insert_entry o k None es s (rw (← there) refl)) ∙ set_value_same _ _ _ (sym there))
 
   -- `next` and `after` are the entries and the log once w was made of the value at k
   pub record Alters {V : Type 0} (k : K) (had has : Bool) (w : Option V) (log : List (Logged K V)) (es : List (K × Option V)) (after : List (Logged K V)) (next : List (K × Option V)) : Type 0 where

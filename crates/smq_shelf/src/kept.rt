@@ -160,10 +160,9 @@ impl<K: ShelfKey, V: Drop> Kept<K, V> {
         Ok(None)
     }
 
-    /// Makes of the value at a key what a change makes of it: one touch where the key has a place, and two where it has
-    /// none and gets one. It tells whether it left something to take back: not so where there was no value and is none.
-    /// The place of a key that is taken out stays, vacant, until the map is settled or undone. An error changes nothing
-    /// but the touches.
+    /// Makes of the value at a key what a change makes of it: one touch. It tells whether it left something to take back:
+    /// not so where there was no value and is none. The place of a key that is taken out stays, vacant, until the map is
+    /// settled or undone. An error changes nothing but the touches.
     pub fn change<C: Change<V>>(&mut self, key: K, change: &C) -> Result<bool, AllocError>
         ensures logged { IfOk result (λ logged. logged
             ≡ (is_some (lookup (is_at (K.cmp key)) self.old.content)
@@ -222,7 +221,7 @@ impl<K: ShelfKey, V: Drop> Kept<K, V> {
         ensures err_pending { OnErr result (self.new.pending ≡ self.old.pending) }
         ensures settled { self.new.settled ≡ self.old.settled }
         ensures shown { self.old.content ≡ content_of self.old.places }
-        ensures touches { self.new.touches ≤ self.old.touches + 2 }
+        ensures touches { self.new.touches ≤ self.old.touches + 1 }
         ensures counted { self.old.touches ≤ self.new.touches }
     {
         let (had, has) = alter(&mut self.shelf, &mut self.log, key, change)?;

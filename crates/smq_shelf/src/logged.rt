@@ -74,7 +74,7 @@ pub(crate) fn vacate<K: ShelfKey, V: Drop>(
 }
 
 // Makes of the place of a key what a change makes of its value, and puts what was there into the log, unless there was no
-// value and is none. It tells whether there was one, and whether there is one. A key that has a place is looked up once.
+// value and is none. It tells whether there was one, and whether there is one. The key is looked up once.
 pub(crate) fn alter<K: ShelfKey, V: Drop, C: Change<V>>(
     shelf: &mut Shelf<K, Option<V>>,
     log: &mut Vec<(K, Option<Option<V>>)>,
@@ -96,51 +96,24 @@ pub(crate) fn alter<K: ShelfKey, V: Drop, C: Change<V>>(
     ensures touched { OnOk result (touched shelf.old.touches ≤ shelf.new.touches) }
     ensures err { OnErr result (shelf.new.entries ≡ shelf.old.entries) }
     ensures err_log { OnErr result (log.new.items ≡ log.old.items) }
-    ensures touches { shelf.new.touches ≤ shelf.old.touches + 2 }
+    ensures touches { shelf.new.touches ≤ shelf.old.touches + 1 }
     ensures counted { shelf.old.touches ≤ shelf.new.touches }
 {
+    let logged = key.copy();
     log.reserve(1)?;
-    let Some((before, has)) = shelf.change(&key, change) else {
-        let has = begin(shelf, log, key, change)?;
-        return Ok((false, has));
-    };
-    let had = before.is_some();
+    let (before, has) = shelf.change(key, change)?;
+    let had = holds(&before);
     if had || has {
-        log.push((key, Some(before)))?;
+        log.push((logged, before))?;
     }
     Ok((had, has))
 }
 
-// Puts in what a change makes of no value at a key that has no place, and the key into the log, if that is a value. It tells
-// whether it is.
-fn begin<K: ShelfKey, V: Drop, C: Change<V>>(
-    shelf: &mut Shelf<K, Option<V>>,
-    log: &mut Vec<(K, Option<Option<V>>)>,
-    key: K,
-    change: &C,
-) -> Result<bool, AllocError>
-    requires { lookup (is_at (K.cmp key)) shelf.old.entries ≡ None }
-    ensures has { IfOk result (λ has. has ≡ is_some (C.after change.now None)) }
-    ensures entries { IfOk result (λ has. shelf.new.entries ≡ if has
-        then insert_entry K.cmp shelf.old.entries key (C.after change.now None)
-        else shelf.old.entries) }
-    ensures log { IfOk result (λ has. log.new.items
-        ≡ (if has then log.old.items ++ (key, None) ∷ [] else log.old.items)) }
-    ensures ordered { IsStrictlySortedBy K.cmp (keys_of shelf.old.entries)
-        → OnOk result (IsStrictlySortedBy K.cmp (keys_of shelf.new.entries)) }
-    ensures err { OnErr result (shelf.new.entries ≡ shelf.old.entries) }
-    ensures err_log { OnErr result (log.new.items ≡ log.old.items) }
-    ensures touches { shelf.new.touches ≤ shelf.old.touches + 1 }
-    ensures counted { shelf.old.touches ≤ shelf.new.touches }
+// Whether a place is there and not vacant.
+fn holds<V>(place: &Option<Option<V>>) -> bool
+    ensures { result ≡ has_value place.now }
 {
-    let nothing: Option<V> = None;
-    match change.after(nothing.as_ref()) {
-        Some(value) => {
-            put(shelf, log, key, Some(value))?;
-            Ok(true)
-        }
-        None => Ok(false),
-    }
+    matches!(place, Some(Some(_)))
 }
 
 // Adds one to the count of the place of a key, and puts what was there into the log. A key that has a place is looked

@@ -1,5 +1,5 @@
 //! An ordered map that counts its calls.
-ghost use Rattle.std.specs.Prelude.{◌≡◌, ◌≤◌, ◌<◌, ◌+◌, ◌-◌, ◌^◌, [], IfOk, OnOk, IfErr, OnErr, None, Some, IfSome, is_some, find, unwrap_or};
+ghost use Rattle.std.specs.Prelude.{◌≡◌, ◌&&◌, ◌||◌, ◌≤◌, ◌<◌, ◌+◌, ◌-◌, ◌^◌, [], IfOk, OnOk, IfErr, OnErr, None, Some, IfSome, is_some, find, unwrap_or, if◌then◌else◌};
 ghost use Rattle.std.specs.Ordering.{is_le, is_lt};
 ghost use Rattle.std.specs.Option.{option_copied, option_map};
 ghost use Rattle.std.specs.Map.Iter.{deref_pair};
@@ -11,8 +11,9 @@ ghost use Rattle.smq_shelf.specs.Shown.{touched};
 ghost use Rattle.smq_shelf.specs.within.Undoing.{flatten};
 
 use crate::Change;
-use std::alloc::Global;
+use std::alloc::{AllocError, Global};
 use std::collections::BTreeMap;
+use std::collections::btree_map::Entry;
 use std::marker::Model;
 use std::mem::replace;
 use std::ops::Bound;
@@ -120,22 +121,31 @@ impl<K: Ord, V> Shelf<K, V> {
 
 impl<K: Ord, V: Drop> Shelf<K, Option<V>> {
     // Makes of the place of a key what a change makes of its value, and gives what was there, and whether there is a value
-    // now. Where the key has no place, nothing changes. It takes no memory. One touch.
-    pub(crate) fn change<C: Change<V>>(&mut self, key: &K, change: &C) -> Option<(Option<V>, bool)>
+    // now. A key that has no place gets one for a value alone. One touch.
+    pub(crate) fn change<C: Change<V>>(
+        &mut self,
+        key: K,
+        change: &C,
+    ) -> Result<(Option<Option<V>>, bool), AllocError>
+    where
+        K: Drop,
         ensures touches { self.new.touches ≡ touched self.old.touches }
         ensures counted { self.old.touches ≤ self.new.touches }
-        ensures old { option_map (λ r. r.0) result ≡ lookup (is_at (K.cmp key.now)) self.old.entries }
-        ensures has { IfSome result (λ r. r.1 ≡ is_some (C.after change.now r.0)) }
-        ensures entries { self.new.entries ≡ set_value (is_at (K.cmp key.now)) self.old.entries
-            (C.after change.now (flatten (lookup (is_at (K.cmp key.now)) self.old.entries))) }
+        ensures old { IfOk result (λ r. r.0 ≡ lookup (is_at (K.cmp key)) self.old.entries) }
+        ensures has { IfOk result (λ r. r.1 ≡ is_some (C.after change.now (flatten r.0))) }
+        ensures entries { IfOk result (λ r. self.new.entries ≡ if is_some r.0 || r.1
+            then insert_entry K.cmp self.old.entries key (C.after change.now (flatten r.0))
+            else self.old.entries) }
+        ensures err { OnErr result (self.new.entries ≡ self.old.entries) }
         ensures ordered { IsStrictlySortedBy K.cmp (keys_of self.new.entries) }
         ensures was_ordered { IsStrictlySortedBy K.cmp (keys_of self.old.entries) }
     {
         self.count = self.count.saturating_add(1);
-        let Some(place) = self.map.get_mut(key) else {
-            return None;
-        };
-        Some(change_at(place, change))
+        let nothing: Option<V> = None;
+        match change.after(nothing.as_ref()) {
+            Some(value) => begin_or_change(&mut self.map, key, value, change),
+            None => Ok(change_there(&mut self.map, &key, change)),
+        }
     }
 }
 
@@ -214,6 +224,55 @@ impl<K: Ord, V> Shelf<K, V> {
         self.count = self.count.saturating_add(1);
         least_after(&self.map, key)
     }
+}
+
+// Makes of the place of a key what a change makes of its value. A key that has no place gets one for this value.
+fn begin_or_change<K: Ord + Drop, V: Drop, C: Change<V>>(
+    map: &mut BTreeMap<K, Option<V>>,
+    key: K,
+    value: V,
+    change: &C,
+) -> Result<(Option<Option<V>>, bool), AllocError>
+    requires { C.after change.now None ≡ Some value }
+    ensures old { IfOk result (λ r. r.0 ≡ lookup (is_at (K.cmp key)) map.old.entries) }
+    ensures has { IfOk result (λ r. r.1 ≡ is_some (C.after change.now (flatten r.0))) }
+    ensures entries { IfOk result (λ r. map.new.entries
+        ≡ insert_entry K.cmp map.old.entries key (C.after change.now (flatten r.0))) }
+    ensures err { OnErr result (map.new.entries ≡ map.old.entries) }
+    ensures ordered { IsStrictlySortedBy K.cmp (keys_of map.new.entries) }
+    ensures was_ordered { IsStrictlySortedBy K.cmp (keys_of map.old.entries) }
+{
+    match map.entry(key) {
+        Ok(Entry::Occupied(place)) => {
+            let (before, has) = change_at(place.into_mut(), change);
+            Ok((Some(before), has))
+        }
+        Ok(Entry::Vacant(place)) => {
+            place.insert(Some(value));
+            Ok((None, true))
+        }
+        Err(_) => Err(AllocError),
+    }
+}
+
+// Makes of the place of a key, if it has one, what a change makes of its value.
+fn change_there<K: Ord, V: Drop, C: Change<V>>(
+    map: &mut BTreeMap<K, Option<V>>,
+    key: &K,
+    change: &C,
+) -> (Option<Option<V>>, bool)
+    ensures old { result.0 ≡ lookup (is_at (K.cmp key.now)) map.old.entries }
+    ensures has { result.1 ≡ (is_some result.0 && is_some (C.after change.now (flatten result.0))) }
+    ensures entries { map.new.entries ≡ set_value (is_at (K.cmp key.now)) map.old.entries
+        (C.after change.now (flatten result.0)) }
+    ensures ordered { IsStrictlySortedBy K.cmp (keys_of map.new.entries) }
+    ensures was_ordered { IsStrictlySortedBy K.cmp (keys_of map.old.entries) }
+{
+    let Some(place) = map.get_mut(key) else {
+        return (None, false);
+    };
+    let (before, has) = change_at(place, change);
+    (Some(before), has)
 }
 
 // Makes of a place what a change makes of its value, and gives what was there, and whether there is a value now.

@@ -1,10 +1,9 @@
-use Rattle.std.proofs.Common.{◌∙◌, sym, ap, Option}
-use Rattle.std.specs.BTreeMap.{BTreeMap}
-use Rattle.smq_shelf.proofs.Replacing.{set_value-none}
+use Rattle.std.proofs.Common.{◌∙◌}
+use Rattle.smq_shelf.proofs.Replacing.{set_value-either}
 use Rattle.smq_shelf.proofs.shelf.Shelf+K+Option+V.change.Goals as goal
 
-pub returns-in_default-clause-entries : goal.returns-in_default-clause-entries
-returns-in_default-clause-entries g c =
+pub returns-in-None-clause-entries : goal.returns-in-None-clause-entries
+returns-in-None-clause-entries g c =
     rw (← c.self.view_is)
-    (ap (λ (m : BTreeMap g.row.K.Denot (Option g.row.V.Denot)). m.entries) c.get_mut.follows.holds-at-none
-    ∙ sym (set_value-none _ _ _ (sym (rw c.in_default.is at c.get_mut.ensures.value))))
+    (c.change_there.ensures.entries
+    ∙ set_value-either g.met.K.Ord.total c.args.key _ _ c.change_there.result.0 _ c.change_there.ensures.was_ordered c.change_there.ensures.old c.change_there.ensures.has)
