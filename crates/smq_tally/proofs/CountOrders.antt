@@ -11,7 +11,7 @@ use Rattle.std.specs.Cmp.Lexicographic.{slice_cmp}
 use Rattle.std.specs.Map.{keys_of}
 use Rattle.std.specs.FinMap.Entries.{below_all}
 use Rattle.std.proofs.lemmas.Bool.{eqb-true}
-use Rattle.std.specs.FinMap.{from_entries, IsAntisymmetric, nat_cmp-IsAntisymmetric, slice_cmp-IsAntisymmetric, entries, entries_sorted, is_sorted}
+use Rattle.std.specs.FinMap.{IsAntisymmetric, nat_cmp-IsAntisymmetric, slice_cmp-IsAntisymmetric, entries, entries_sorted, is_sorted}
 use Rattle.smq_kit.specs.declared.error_code.ErrorCode.{ErrorCode}
 use Rattle.smq_kit.specs.declared.error_code.ErrorCode.TheVariants as c
 use Rattle.smq_kit.specs.Orders.{error_numbers}
@@ -21,6 +21,8 @@ use Rattle.smq_tally.specs.declared.band.Band.TheVariants as b
 use Rattle.smq_tally.specs.declared.outcome.Outcome.{Outcome}
 use Rattle.smq_tally.specs.declared.outcome.Outcome.TheVariants as o
 use Rattle.smq_tally.specs.declared.fact.CountKey.{CountKey}
+use Rattle.smq_tally.specs.declared.fact.RowKey.{RowKey}
+use Rattle.smq_tally.specs.declared.outcome_counts.OutcomeCounts.{OutcomeCounts}
 use Rattle.smq_tally.specs.declared.view.View.{View}
 use Rattle.smq_tally.specs.declared.view.View.TheVariants as v
 use Rattle.smq_tally.specs.declared.value.SubmitError.{SubmitError}
@@ -36,7 +38,8 @@ use Rattle.smq_tally.specs.Rows.{count_cmp, value_cmp, submit_error_numbers, val
 use Rattle.smq_tally.specs.Tables.{TablesValue, in_view, shown_row, shown_cmp, rows_of}
 use Rattle.smq_kit.proofs.Ordered as ordered
 use Rattle.smq_kit.proofs.Comparisons.{then_first, then_second, then_equal}
-use Rattle.smq_tally.specs.within.CountOrder.{kept_cmp, kept_value_cmp, count_keys_total}
+use Rattle.smq_tally.specs.within.CountOrder.{kept_cmp, kept_row_cmp, kept_value_cmp, rows_total}
+use Rattle.smq_tally.specs.within.RowCounts.{row_cmp, rows_in}
 
 -- ---- the derived orders are those of the definitions
 
@@ -89,7 +92,7 @@ outcome_at n = get_or (o.Waiting ∷ o.Mismatched ∷ o.Refused ∷ o.NoId ∷ o
 outcome_again : (a : Outcome) → outcome_at (outcome_rank a) ≡ a
 outcome_again a = search rules
 
-same_outcome : (a b : Outcome) → nat_cmp (outcome_rank a) (outcome_rank b) ≡ Equal → a ≡ b
+pub same_outcome : (a b : Outcome) → nat_cmp (outcome_rank a) (outcome_rank b) ≡ Equal → a ≡ b
 same_outcome a b e = sym (outcome_again a) ∙ ap outcome_at (nat_cmp-IsAntisymmetric _ _ e) ∙ outcome_again b
 
 -- the view of a place
@@ -173,10 +176,21 @@ count_keys_exact a b e =
           same_outcome a.outcome b.outcome (then_second values outcomes later) i;
     }
 
--- ---- entries that stand in order are those of the finite map that they make
+-- ---- rows
 
-pub entries-seen : (es : List (CountKey × ℕ)) → IsStrictlySortedBy kept_cmp (keys_of es) → entries (from_entries {R = count_cmp} es) ≡ es
-entries-seen es s = ordered.entries-kept count_keys_total count_keys_exact count_key-order es s
+pub row_key-order : kept_row_cmp ≡ row_cmp
+row_key-order = λ i a b. ordering_then (view-order a.view b.view i) (value-order a.value b.value i)
+
+-- two keys of rows that compare equal are one
+pub rows_exact : IsAntisymmetric row_cmp
+rows_exact a b e =
+    let views : Ordering = nat_cmp (view_rank a.view) (view_rank b.view) in
+    let values : Ordering = value_cmp a.value b.value in
+    λ i. record { view = same_view a.view b.view (then_first views values e) i; value = same_value a.value b.value (then_second views values e) i }
+
+-- rows that stand in order are those of the finite map that they make
+pub rows-kept : (es : List (RowKey × OutcomeCounts)) → IsStrictlySortedBy kept_row_cmp (keys_of es) → entries (rows_in es) ≡ es
+rows-kept es s = ordered.entries-kept rows_total rows_exact row_key-order es s
 
 -- ---- the rows of a view stand in order
 

@@ -1,40 +1,41 @@
 -- `==` of tables.
-use Rattle.std.proofs.Common.{◌≡◌, ℕ, Bool, true, false, List, [], ◌∷◌, refl, sym, ap, ◌∙◌}
-use Rattle.std.specs.Prelude.{◌&&◌, map, nat_eq, Decides, IsTrue, ◌↔◌}
+use Rattle.std.proofs.Common.{◌≡◌, ℕ, ◌+◌, ◌<◌, Bool, true, false, List, [], ◌∷◌, Option, Some, None, subst, get_or, refl, sym, ap, ◌∙◌, arith, rules}
+use Rattle.std.specs.Prelude.{◌&&◌, ◌==◌, Contains, map, filter, nat_eq, Decides, IsTrue, ◌↔◌}
 use Rattle.std.specs.Ordering.{is_eq}
 use Rattle.std.specs.Cmp.{unsigned_Decides}
 use Rattle.std.specs.Cmp.Lexicographic.{pointwise}
-use Rattle.std.specs.FinMap.{entries, keys, same_entries_map}
+use Rattle.std.specs.FinMap.{FinMap, entries, get, keys, same_entries_map, same_map}
 use Rattle.std.specs.FinSet.{FinSet}
 use Rattle.std.specs.List.Sorted.{IsStrictlySortedBy}
 use Rattle.std.specs.Map.{keys_of}
 use Rattle.std.proofs.lemmas.Cmp.{eq_by_cmp_equiv}
+use Rattle.std.proofs.lemmas.Bool.{eqb-true}
+use Rattle.std.proofs.lemmas.Bool.Decides.{Decides-and, Decides-like, nat_tests}
 use Rattle.std.proofs.lemmas.Map.Views.{tells_apart}
 use Rattle.std.proofs.lemmas.Slice.Eq.{slice_eq-Decides}
 use Rattle.smq_tally.specs.declared.fact.CountKey.{CountKey}
 use Rattle.smq_tally.specs.declared.value.Value.{Value}
+use Rattle.smq_tally.specs.declared.view.View.{View}
 use Rattle.smq_tally.specs.declared.list.Listed.{Listed}
 use Rattle.smq_tally.specs.contracts.value.ValueOrd.TheImpl.Laws as value_laws
-use Rattle.smq_tally.specs.contracts.fact.CountKeyOrd.TheImpl.Laws as key_laws
-use Rattle.smq_tally.specs.contracts.fact.CountKeyPartialEq.TheImpl as key_eq
 use Rattle.smq_tally.specs.contracts.list.ListedOrd.TheImpl.Laws as listed_laws
 use Rattle.smq_tally.specs.contracts.list.ListedPartialEq.TheImpl as listed_eq
 use Rattle.smq_tally.specs.Lists.{listed_cmp}
-use Rattle.smq_tally.specs.Rows.{same_count_key, value_cmp}
-use Rattle.smq_tally.specs.Tables.{TablesValue}
-use Rattle.smq_tally.specs.within.Equal.{tables_eq, same_entry, both_eq}
-use Rattle.smq_tally.specs.within.Kept.{counts_in, places_in}
-use Rattle.smq_tally.specs.within.CountOrder.{kept_cmp, kept_value_eq, count_keys_total, values_total}
-use Rattle.smq_tally.proofs.CountOrders.{count_key-order, count_keys_exact, value-order, same_value, entries-seen}
+use Rattle.smq_tally.specs.Rows.{count_cmp, same_count_key, value_cmp, view_rank, views}
+use Rattle.smq_tally.specs.Tables.{TablesValue, ShownRow, in_view, shown_row, rows_of}
+use Rattle.smq_tally.specs.within.Equal.{tables_eq, same_entry, same_shown, both_eq}
+use Rattle.smq_tally.specs.within.Keys.{values}
+use Rattle.smq_tally.specs.within.Kept.{places_in}
+use Rattle.smq_tally.specs.within.CountOrder.{kept_value_eq, count_keys_total, values_total}
+use Rattle.smq_tally.proofs.CountOrders.{count_keys_exact, value-order, same_value}
 use Rattle.smq_tally.specs.within.ListOrder.{kept_listed_cmp, listed_total, same_listed}
 use Rattle.smq_tally.proofs.ListOrders.{listed-order, listed_exact, places-seen}
+use Rattle.smq_tally.proofs.RowMoves.{one-outcome}
+use Rattle.smq_tally.proofs.Shown.{shown-iff}
 
 -- a set's entries: a listed place with nothing
 abbrev Entries : Type 0
 Entries = List (Listed × Unit {0})
-
-key-equal : (x y : CountKey) → (key_eq.ghosts).eq x y ≡ same_count_key x y
-key-equal x y = key_laws.matches_eq-law x y ∙ (λ i. is_eq (count_key-order i x y))
 
 listed-equal : (x y : Listed) → (listed_eq.ghosts).eq x y ≡ same_listed x y
 listed-equal x y = listed_laws.matches_eq-law x y ∙ (λ i. is_eq (listed-order i x y))
@@ -63,22 +64,7 @@ pointwise-keys same nothing always (e ∷ es) (f ∷ fs) =
     and-true true = refl
     and-true false = refl
 
--- entries of counts that are compared one by one
-counts-equal : (es fs : List (CountKey × ℕ)) → IsStrictlySortedBy kept_cmp (keys_of es) → IsStrictlySortedBy kept_cmp (keys_of fs)
-    → pointwise (both_eq (key_eq.ghosts).eq nat_eq) es fs ≡ pointwise same_entry (entries (counts_in es)) (entries (counts_in fs))
-counts-equal es fs s t =
-    (λ i. pointwise (λ (p q : CountKey × ℕ). key-equal p.0 q.0 i && nat_eq p.1 q.1) es fs)
-    ∙ (λ i. pointwise same_entry (sym (entries-seen es s) i) (sym (entries-seen fs t) i))
-
--- the same of what an iteration gives
-pub counts-told : (r : Bool) (left right es fs : List (CountKey × ℕ)) → r ≡ pointwise (both_eq (key_eq.ghosts).eq nat_eq) left right
-    → left ≡ es → right ≡ fs → IsStrictlySortedBy kept_cmp (keys_of left) → IsStrictlySortedBy kept_cmp (keys_of right)
-    → r ≡ pointwise same_entry (entries (counts_in es)) (entries (counts_in fs))
-counts-told r left right es fs told is is_other s t =
-    told ∙ counts-equal left right s t
-    ∙ (λ i. pointwise same_entry (entries (counts_in (is i))) (entries (counts_in (is_other i))))
-
--- the same of listed places
+-- entries of listed places that are compared one by one
 places-equal : (nothing : Unit {0} → Unit {0} → Bool) → ((u v : Unit {0}) → nothing u v ≡ true) → (ps rs : Entries)
     → IsStrictlySortedBy kept_listed_cmp (keys_of ps) → IsStrictlySortedBy kept_listed_cmp (keys_of rs)
     → pointwise (both_eq (listed_eq.ghosts).eq nothing) ps rs ≡ pointwise same_listed (keys (places_in ps)) (keys (places_in rs))
@@ -115,6 +101,66 @@ one_entry p q = (
       λ i. (tells_apart count_keys_exact p.0 q.0 h.0 i, (unsigned_Decides p.1 q.1).0 h.1 i),
   λ e. ap (same_entry p) (sym e) ∙ (λ i. (eq_by_cmp_equiv count_keys_total).refl p.0 i && (unsigned_Decides p.1 p.1).1 refl i),
 )
+
+-- rows that compare equal one by one are the same
+one_shown : (p q : ShownRow) → Decides (same_shown p q) (p ≡ q)
+one_shown p q = Decides-like (same_shown p q) (λ e. λ i. (e.0.0 i, e.0.1 i, e.1 i)) (λ e. ((ap (λ r. r.0) e, ap (λ r. r.1) e), ap (λ r. r.2) e))
+    (Decides-and _ _ (Decides-and _ _ (values p.0 q.0) (one-outcome p.1 q.1)) (unsigned_Decides p.2 q.2))
+
+pub same-rows : (xs ys : List ShownRow) → IsTrue (pointwise same_shown xs ys) ↔ (xs ≡ ys)
+same-rows xs ys = slice_eq-Decides one_shown xs ys (pointwise same_shown xs ys) refl
+
+-- where rows of one view differ, tables don't show the same in each
+pub shown-apart : (r : Bool) (t u : TablesValue) (view : View) (left right : List ShownRow) → r ≡ pointwise same_shown left right → r ≡ false
+    → left ≡ rows_of t view → right ≡ rows_of u view → ((view : View) → rows_of t view ≡ rows_of u view) → false ≡ true
+shown-apart r t u view left right told fails is is_other alike =
+    sym fails ∙ told ∙ (same-rows left right).1 (is ∙ alike view ∙ sym is_other)
+
+-- where they are the same in the views before one, and in that one, they are so in those before the next
+pub shown-alike : (t u : TablesValue) (vs : List View) (n : ℕ) (d : View) (left right : List ShownRow) → vs ≡ views
+    → ((view : View) → view_rank view < n → rows_of t view ≡ rows_of u view) → true ≡ pointwise same_shown left right
+    → left ≡ rows_of t (get_or vs n d) → right ≡ rows_of u (get_or vs n d) → (view : View) → view_rank view < n + 1 → rows_of t view ≡ rows_of u view
+shown-alike t u vs n d left right all before told is is_other view below =
+    elim (view_rank view == n) as (λ b. (view_rank view == n) ≡ b → rows_of t view ≡ rows_of u view) [
+      | true ↦ λ e.
+          let here : get_or vs n d ≡ view = (λ i. get_or (all i) (sym (eqb-true (view_rank view) n e) i) d) ∙ again view in
+          subst (λ (w : View). rows_of t w ≡ rows_of u w) here (sym is ∙ (same-rows left right).0 (sym told) ∙ is_other)
+      | false ↦ λ e. before view (earlier (view_rank view) e below)
+    ] refl
+  where
+    again : (w : View) → get_or views (view_rank w) d ≡ w
+    again w = search rules
+
+    earlier : (m : ℕ) → (m == n) ≡ false → m < n + 1 → m < n
+    earlier m e below = grind (arith, nat_tests)
+
+same_options : (a b : Option ℕ) → ((n : ℕ) → a ≡ Some n → b ≡ Some n) → ((n : ℕ) → b ≡ Some n → a ≡ Some n) → a ≡ b
+same_options None None f g = refl
+same_options None (Some n) f g = g n refl
+same_options (Some n) b f g = sym (f n refl)
+
+-- counts that show the same rows in each view are the same
+same_counts : (t u : TablesValue) → ((view : View) → rows_of t view ≡ rows_of u view) → t.counts ≡ u.counts
+same_counts t u alike = same_map count_keys_total count_keys_exact t.counts u.counts (λ q. same_options (get t.counts q) (get u.counts q)
+    (λ n has. over t u q n (alike q.view) has) (λ n has. over u t q n (sym (alike q.view)) has))
+  where
+    over : (t u : TablesValue) (q : CountKey) (n : ℕ) → rows_of t q.view ≡ rows_of u q.view → get t.counts q ≡ Some n → get u.counts q ≡ Some n
+    over t u q n e has = (shown-iff u q.view q.value q.outcome n).0
+        (subst (λ (rows : List ShownRow). Contains rows (q.value, q.outcome, n)) e ((shown-iff t q.view q.value q.outcome n).1 has))
+
+one_test : (r b : Bool) → (r ≡ true → b ≡ true) → (b ≡ true → r ≡ true) → r ≡ b
+one_test true b f g = sym (f refl)
+one_test false true f g = g refl
+one_test false false f g = refl
+
+-- whether tables show the same rows says whether they have the same counts
+pub counts-told : (r : Bool) (t u : TablesValue) → (IsTrue r ↔ ((view : View) → rows_of t view ≡ rows_of u view))
+    → r ≡ pointwise same_entry (entries t.counts) (entries u.counts)
+counts-told r t u told =
+    let counts = slice_eq-Decides one_entry (entries t.counts) (entries u.counts) (pointwise same_entry (entries t.counts) (entries u.counts)) refl in
+    one_test r (pointwise same_entry (entries t.counts) (entries u.counts))
+    (λ e. counts.1 (ap (λ (m : FinMap count_cmp ℕ). entries m) (same_counts t u (told.0 e))))
+    (λ e. told.1 (λ view. ap (λ es. map shown_row (filter (in_view view) es)) (counts.0 e)))
 
 one_listed : (a b : Listed) → Decides (same_listed a b) (a ≡ b)
 one_listed a b = (tells_apart listed_exact a b, λ e. ap (same_listed a) (sym e) ∙ (eq_by_cmp_equiv listed_total).refl a)

@@ -17,13 +17,14 @@ use Rattle.smq_tally.specs.declared.fact.CountKey.{CountKey}
 use Rattle.smq_tally.specs.declared.fact.Fact.{Fact}
 use Rattle.smq_tally.specs.declared.list.Listed.{Listed}
 use Rattle.smq_tally.specs.Lists.{listed_cmp, listings_of_fact}
+use Rattle.smq_tally.specs.Rows.{keys_of_fact}
 use Rattle.smq_tally.specs.Tables.{TablesValue, tables_of}
-use Rattle.smq_tally.specs.within.Counting.{count_of, one_more, one_less}
+use Rattle.smq_tally.specs.within.Counting.{AreCounted, count_of, one_more, one_less}
 use Rattle.smq_tally.specs.within.Kept.{kept_place_cmp, facts_in, StandAtTheirPlaces, Tallies}
 use Rattle.smq_tally.specs.within.ListOrder.{lists}
 use Rattle.smq_tally.proofs.ListOrders.{place-order}
 use Rattle.smq_tally.proofs.ListedFacts.{stand-with, stand-without, stand-none, note-listed, note-stays, note-unlisted}
-use Rattle.smq_tally.proofs.Tallies.{number-bound, added-tables, removed-tables, replaced-tables}
+use Rattle.smq_tally.proofs.Tallies.{number-bound, stands-counted, added-tables, removed-tables, replaced-tables}
 
 abbrev Facts : Type 0
 Facts = FinMap place_cmp Fact
@@ -100,6 +101,12 @@ holds-nothing es settled ns settled_notes shown before none none_settled clear c
   places = subst (λ (xs : Entries). StandAtTheirPlaces (facts_in xs)) (sym none) stand-none;
   places_before = subst (λ (xs : Entries). StandAtTheirPlaces (facts_in xs)) (sym none_settled) stand-none;
 }
+
+-- a fact that is there is counted
+pub is-counted : (facts : Facts) (notes : Notes) {shown : TablesValue} (is : shown ≡ tables_of facts notes) (place : Place) (f : Fact)
+    → get facts place ≡ Some f → AreCounted (keys_of_fact f) shown.counts
+is-counted facts notes is place f has =
+    subst (λ (t : TablesValue). AreCounted (keys_of_fact f) t.counts) (sym is) (stands-counted facts notes place f has)
 
 -- tables that are those of facts and notes, and the tables and facts after a change
 module _ (facts : Facts) (notes : Notes) {now : Facts} {shown new : TablesValue} (is : shown ≡ tables_of facts notes) where

@@ -16,3 +16,7 @@ pub mod Standing
 pub mod Written
 pub mod NotesAmong
 pub mod Copied
+pub mod RowCounts
+pub mod RowMoves
+pub mod ShownRows
+pub mod Recounts

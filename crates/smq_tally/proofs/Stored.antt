@@ -1,71 +1,30 @@
--- Counts and listed places in maps that can be undone, seen as finite ones.
-use Rattle.std.proofs.Common.{◌≡◌, Bor, ℕ, ◌+◌, ◌-◌, List, [], ◌++◌, Option, Some, None, refl, sym, ap, ◌∙◌}
-use Rattle.std.specs.Prelude.{map, is_some, unwrap_or}
+-- Listed places in a map that can be undone, seen as a finite set.
+use Rattle.std.proofs.Common.{◌≡◌, Bor, List, [], ◌++◌, Option, Some, None, refl, sym, ap, ◌∙◌}
+use Rattle.std.specs.Prelude.{map, is_some}
 use Rattle.std.specs.List.{flat_map}
 use Rattle.std.specs.Option.{option_copied}
 use Rattle.std.specs.List.Sorted.{IsStrictlySortedBy}
 use Rattle.std.specs.Map.{keys_of, lookup, remove_entry}
 use Rattle.std.specs.BTreeMap.{is_at, insert_entry}
 use Rattle.std.specs.FinMap.{get, insert, remove, contains_key, empty, from_entries}
-use Rattle.smq_kit.specs.Maps.{positive, set_at}
-use Rattle.smq_shelf.specs.Counts.{count_at, with_count}
 use Rattle.smq_shelf.proofs.Seen as seen
-use Rattle.smq_tally.specs.declared.counts.Step.TheVariants as s
-use Rattle.smq_tally.specs.declared.fact.CountKey.{CountKey}
 use Rattle.smq_tally.specs.declared.fact.Fact.{Fact}
+use Rattle.smq_tally.specs.declared.fact.RowKey.{RowKey}
 use Rattle.smq_tally.specs.declared.list.Listed.{Listed}
+use Rattle.smq_tally.specs.declared.outcome_counts.OutcomeCounts.{OutcomeCounts}
 use Rattle.smq_kit.specs.Orders.{place_cmp}
 use Rattle.smq_tally.specs.Lists.{listed_cmp, listed_set, listings_of_fact}
 use Rattle.smq_tally.specs.Rows.{keys_of_fact}
 use Rattle.smq_tally.specs.Tables.{tables_of, number_at}
-use Rattle.smq_tally.specs.within.Counting.{count_in, one_step}
-use Rattle.smq_tally.specs.within.CountOrder.{kept_cmp, count_keys_total}
-use Rattle.smq_tally.specs.within.Kept.{counts_in, places_in, tables_in}
+use Rattle.smq_tally.specs.within.Kept.{places_in, tables_in}
 use Rattle.smq_tally.specs.within.ListOrder.{kept_listed_cmp, listed_total}
-use Rattle.smq_tally.proofs.CountOrders.{count_key-order, count_keys_exact}
+use Rattle.smq_tally.specs.within.RowCounts.{row_cmp, counts_among}
 use Rattle.smq_tally.proofs.ListOrders.{listed-order, listed_exact}
 use Rattle.smq_tally.proofs.Undone.{remove-none, no-entries}
 
--- entries of counts, and of listed places
-abbrev pub Entries : Type 0
-Entries = List (CountKey × ℕ)
-
+-- entries of listed places
 abbrev pub Places : Type 0
 Places = List (Listed × Unit {0})
-
-get-count : (es : Entries) (q : CountKey) → get (counts_in es) q ≡ lookup (is_at (kept_cmp q)) es
-get-count es q = seen.looked_up count_keys_total count_keys_exact count_key-order es q
-
--- the count that a look-up gives
-pub count-found : (es : Entries) (q : CountKey) (n : ℕ) → Some n ≡ lookup (is_at (kept_cmp q)) es → n ≡ count_in (counts_in es) q
-count-found es q n found = ap (λ c. unwrap_or c 0) (found ∙ sym (get-count es q))
-
-pub count-missed : (es : Entries) (q : CountKey) → None ≡ lookup (is_at (kept_cmp q)) es → 0 ≡ count_in (counts_in es) q
-count-missed es q found = ap (λ (c : Option ℕ). unwrap_or c 0) (found ∙ sym (get-count es q))
-
--- the count that a map of counts tells
-pub count-seen : (es : Entries) (q : CountKey) → count_at kept_cmp q es ≡ count_in (counts_in es) q
-count-seen es q = ap (λ (c : Option ℕ). unwrap_or c 0) (sym (get-count es q))
-
--- a count goes up by one
-pub more-seen : (es fs : Entries) (k : CountKey) → fs ≡ insert_entry kept_cmp es k (count_at kept_cmp k es + 1)
-    → counts_in fs ≡ one_step s.More (counts_in es) k
-more-seen es fs k put =
-    ap counts_in put ∙ seen.inserted count_keys_total count_keys_exact count_key-order es k (count_at kept_cmp k es + 1)
-    ∙ ap (λ m. insert (counts_in es) k (m + 1)) (count-seen es k)
-
--- a count goes back by one, and is taken out where that leaves none
-pub less-seen : (es fs : Entries) (k : CountKey) → IsStrictlySortedBy kept_cmp (keys_of es)
-    → fs ≡ with_count kept_cmp k (positive (count_at kept_cmp k es - 1)) es
-    → counts_in fs ≡ one_step s.Less (counts_in es) k
-less-seen es fs k sorted put =
-    ap counts_in put ∙ stored (positive (count_at kept_cmp k es - 1)) ∙ ap (λ m. set_at (counts_in es) k (positive (m - 1))) (count-seen es k)
-  where
-    stored : (n : Option ℕ) → counts_in (with_count kept_cmp k n es) ≡ set_at (counts_in es) k n
-    stored None = seen.removed count_keys_total count_keys_exact count_key-order es k sorted
-    stored (Some n) = seen.inserted count_keys_total count_keys_exact count_key-order es k n
-
--- ---- listed places
 
 -- whether a place is listed
 pub has-seen : (ps : Places) (q : Listed) → is_some (lookup (is_at (kept_listed_cmp q)) ps) ≡ contains_key (places_in ps) q
@@ -90,9 +49,10 @@ copied-some None = refl
 copied-some (Some b) = refl
 
 -- nothing counted and nothing listed are the tables of nothing
-pub nothing-seen : (es : Entries) (ps : Places) → es ≡ [] → ps ≡ [] → tables_in es ps ≡ tables_of empty empty
+pub nothing-seen : (es : List (RowKey × OutcomeCounts)) (ps : Places) → es ≡ [] → ps ≡ [] → tables_in es ps ≡ tables_of empty empty
 nothing-seen es ps none clear =
     (λ i. tables_in (none i) (clear i))
+    ∙ (λ i. record { counts = from_entries (counts_among (no-entries row_cmp OutcomeCounts i)); places = from_entries [] })
     ∙ (λ i. record {
       counts = from_entries (map (λ key. (key, number_at key empty)) (flat_map keys_of_fact (map (λ e. e.1) (sym (no-entries place_cmp Fact) i))));
       places =

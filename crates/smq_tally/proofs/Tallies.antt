@@ -1,6 +1,6 @@
 -- Tables after one fact more or less.
-use Rattle.std.proofs.Common.{◌≡◌, ℕ, ◌+◌, ◌-◌, ◌<◌, ◌≤◌, Bool, ◌||◌, true, false, cond, List, [], ◌∷◌, ◌++◌, length, ◌^◌, subst, refl, sym, ap, ◌∙◌, arith, rules, zero, suc}
-use Rattle.std.specs.Prelude.{◌==◌, count_by, unwrap_or, Option, Some, None, option_map, option_to_list, slice_get, drop}
+use Rattle.std.proofs.Common.{◌≡◌, ℕ, ◌+◌, ◌-◌, ◌≤◌, Bool, ◌||◌, true, false, cond, List, [], ◌∷◌, ◌++◌, length, refl, sym, ap, ◌∙◌, arith, rules, zero, suc}
+use Rattle.std.specs.Prelude.{◌==◌, count_by, unwrap_or, Option, Some, None, option_map, option_to_list}
 use Rattle.std.specs.List.{AllByRecursion, flat_map, list_any}
 use Rattle.std.specs.declared.cmp.Ordering.{Ordering}
 use Rattle.std.specs.declared.cmp.Ordering.TheVariants.{Less, Equal, Greater}
@@ -24,14 +24,12 @@ use Rattle.smq_tally.specs.declared.view.View.{View}
 use Rattle.smq_tally.specs.Lists.{listed_cmp, listings_of_fact}
 use Rattle.smq_tally.specs.Rows.{views, view_rank, value_in, count_key, same_count_key, key_in, keys_of_fact, stands_in}
 use Rattle.smq_tally.specs.Tables.{TablesValue, tables_of, number_at}
-use Rattle.smq_tally.specs.declared.counts.Step.{Step}
 use Rattle.smq_tally.specs.declared.counts.Step.TheVariants as s
-use Rattle.smq_tally.specs.within.Counting.{Counts, keys_from, count_in, count_of, stepped, one_step, steps, one_more, one_less}
+use Rattle.smq_tally.specs.within.Counting.{AreCounted, Counts, count_in, count_of, one_step, steps, one_more, one_less}
 use Rattle.smq_tally.specs.within.Kept.{StandAtTheirPlaces}
 use Rattle.smq_tally.specs.within.CountOrder.{count_keys_total}
 use Rattle.smq_tally.proofs.CountOrders.{count_keys_exact}
 use Rattle.smq_tally.proofs.ListedFacts.{fact-listed, fact-unlisted}
-use Rattle.smq_tally.proofs.ViewRanges.{view_next}
 use Rattle.smq_tally.proofs.Undone.{put-instead}
 
 -- counts have the number of each key, where it isn't 0
@@ -41,10 +39,10 @@ Has m n = counted.Has count_keys_total count_keys_exact keys_of_fact m n
 pub has-tables : (facts : FinMap place_cmp Fact) (notes : FinSet listed_cmp) → Has (tables_of facts notes).counts (λ q. number_at q facts)
 has-tables facts notes = counted.has-counted count_keys_total count_keys_exact keys_of_fact (values facts)
 
-has-one : (m u : Counts) (n : CountKey → ℕ) → Has m n → Has u n → m ≡ u
+pub has-one : (m u : Counts) (n : CountKey → ℕ) → Has m n → Has u n → m ≡ u
 has-one m u n h k = counted.has-one count_keys_total count_keys_exact keys_of_fact m u n h k
 
-has-same : (m : Counts) (n p : CountKey → ℕ) → Has m n → ((q : CountKey) → n q ≡ p q) → Has m p
+pub has-same : (m : Counts) (n p : CountKey → ℕ) → Has m n → ((q : CountKey) → n q ≡ p q) → Has m p
 has-same m n p h e = counted.has-same count_keys_total count_keys_exact keys_of_fact m n p h e
 
 has-count : (m : Counts) (n : CountKey → ℕ) → Has m n → (q : CountKey) → count_in m q ≡ n q
@@ -73,7 +71,7 @@ apart : (q : CountKey) (view : View) (value : Value) (outcome : Outcome) → (vi
 apart q view value outcome e = unequal_then (nat_cmp (view_rank q.view) (view_rank view)) _ (unequal_places _ _ e)
 
 module _ (p : CountKey → Bool) where
-  count-one : (k : CountKey) → count_by p (k ∷ []) ≡ cond (p k) 1 0
+  pub count-one : (k : CountKey) → count_by p (k ∷ []) ≡ cond (p k) 1 0
   count-one k = sum_by-cons (λ y. cond (p y) 1 0) k [] ∙ elim (p k) as (λ b. cond b 1 0 + 0 ≡ cond b 1 0) [ true ↦ refl | false ↦ refl ]
 
   pub any-one : (k : CountKey) → list_any p (k ∷ []) ≡ p k
@@ -88,7 +86,7 @@ module _ (p : CountKey → Bool) where
   any-append (x ∷ xs) ys =
       elim (p x) as (λ b. (b || list_any p (xs ++ ys)) ≡ ((b || list_any p xs) || list_any p ys)) [ true ↦ refl | false ↦ any-append xs ys ]
 
-  count-append : (xs ys : List CountKey) → count_by p (xs ++ ys) ≡ count_by p xs + count_by p ys
+  pub count-append : (xs ys : List CountKey) → count_by p (xs ++ ys) ≡ count_by p xs + count_by p ys
   count-append xs ys = sum_by-append (λ y. cond (p y) 1 0) xs ys
 
 -- the keys of a fact in these views
@@ -155,12 +153,12 @@ once_in f q (v ∷ vs) h =
     ] refl
     ∙ ap (λ b. cond b 1 0) (sym (any-append (same_count_key q) here (keys_in f vs)))
 
-once : (f : Fact) (q : CountKey) → count_by (same_count_key q) (keys_of_fact f) ≡ cond (stands_in q f) 1 0
+pub once : (f : Fact) (q : CountKey) → count_by (same_count_key q) (keys_of_fact f) ≡ cond (stands_in q f) 1 0
 once f q = once_in f q views (search rules)
 
 -- ---- one fact more, or less
 
-has-more : (m : Counts) (n : CountKey → ℕ) (keys : List CountKey) → Has m n → Has (steps s.More m keys) (λ q. n q + count_by (same_count_key q) keys)
+pub has-more : (m : Counts) (n : CountKey → ℕ) (keys : List CountKey) → Has m n → Has (steps s.More m keys) (λ q. n q + count_by (same_count_key q) keys)
 has-more m n [] h = has-same m n (λ q. n q + count_by (same_count_key q) []) h (λ q. omega arith)
 has-more m n (key ∷ keys) h =
     has-same (steps s.More (one_step s.More m key) keys) (λ q. (n q + cond (same_count_key q key) 1 0) + count_by (same_count_key q) keys)
@@ -181,7 +179,7 @@ has-one-less m n key h =
     there q true e = ap (λ c. positive (c - 1)) (has-count m n h key ∙ ap n (sym (maps.same_key count_keys_total count_keys_exact q key e)))
     there q false e = h.at q ∙ ap positive (omega arith)
 
-has-less : (m : Counts) (n : CountKey → ℕ) (keys : List CountKey) → Has m n → Has (steps s.Less m keys) (λ q. n q - count_by (same_count_key q) keys)
+pub has-less : (m : Counts) (n : CountKey → ℕ) (keys : List CountKey) → Has m n → Has (steps s.Less m keys) (λ q. n q - count_by (same_count_key q) keys)
 has-less m n [] h = has-same m n (λ q. n q - count_by (same_count_key q) []) h (λ q. omega arith)
 has-less m n (key ∷ keys) h =
     has-same (steps s.Less (one_step s.Less m key) keys) (λ q. (n q - cond (same_count_key q key) 1 0) - count_by (same_count_key q) keys)
@@ -205,6 +203,14 @@ number-less facts place f q has =
     let moved = maps.count-set places_total places_exact (stands_in q) facts place None in
     let one : share (stands_in q) (get facts place) ≡ cond (stands_in q f) 1 0 = ap (share (stands_in q)) has ∙ share-one f q in
     omega (arith, moved, one)
+
+-- a fact that is there is counted at its keys
+pub stands-counted : (facts : FinMap place_cmp Fact) (notes : FinSet listed_cmp) (place : Place) (f : Fact) → get facts place ≡ Some f
+    → AreCounted (keys_of_fact f) (tables_of facts notes).counts
+stands-counted facts notes place f has q =
+    let moved = maps.count-set places_total places_exact (stands_in q) facts place None in
+    let one : share (stands_in q) (get facts place) ≡ cond (stands_in q f) 1 0 = ap (share (stands_in q)) has ∙ share-one f q in
+    omega (arith, moved, one, once f q, count-tables facts notes q)
 
 -- one fact more is counted
 counted-more : (facts : FinMap place_cmp Fact) (notes : FinSet listed_cmp) (f : Fact) → get facts f.place ≡ None
@@ -248,78 +254,6 @@ replaced-tables facts notes before f own has =
     ∙ added-tables (remove facts f.place) notes f (maps.get-removed places_total places_exact facts f.place)
     ∙ ap (λ (m : FinMap place_cmp Fact). tables_of m notes) (put-instead places_total places_exact facts f.place f)
 
-left-of : (n : ℕ) → unwrap_or (positive n) 0 ≡ n
+pub left-of : (n : ℕ) → unwrap_or (positive n) 0 ≡ n
 left-of zero = refl
 left-of (suc n) = refl
-
-one-bound : (m : Counts) (key q : CountKey) (b : Bool) → same_count_key q key ≡ b → count_in (one_step s.Less m key) q ≤ count_in m q
-one-bound m key q true e =
-    let now : count_in (one_step s.Less m key) q ≡ count_in m key - 1 =
-    ap (λ (o : Option ℕ). unwrap_or o 0) (maps.get-set_at count_keys_total count_keys_exact m key (positive (count_in m key - 1)) q
-    ∙ ap (λ b. cond b (positive (count_in m key - 1)) (get m q)) e)
-    ∙ left-of (count_in m key - 1) in
-    let same : count_in m q ≡ count_in m key = ap (count_in m) (maps.same_key count_keys_total count_keys_exact q key e) in
-    omega (arith, now, same)
-one-bound m key q false e =
-    let now : count_in (one_step s.Less m key) q ≡ count_in m q =
-    ap (λ (o : Option ℕ). unwrap_or o 0) (maps.get-set_at count_keys_total count_keys_exact m key (positive (count_in m key - 1)) q
-    ∙ ap (λ b. cond b (positive (count_in m key - 1)) (get m q)) e) in
-    omega (arith, now)
-
--- where keys are counted less, no count is more than before
-pub less-bound : (m : Counts) (keys : List CountKey) (q : CountKey) → count_in (steps s.Less m keys) q ≤ count_in m q
-less-bound m [] q = omega arith
-less-bound m (key ∷ keys) q =
-    let rest = less-bound (one_step s.Less m key) keys q in let one = one-bound m key q (same_count_key q key) refl in omega (arith, rest, one)
-
--- ---- views in turn
-
-steps-append : (step : Step) (m : Counts) (keys others : List CountKey) → steps step m (keys ++ others) ≡ steps step (steps step m keys) others
-steps-append step m [] others = refl
-steps-append step m (key ∷ keys) others = steps-append step (one_step step m key) keys others
-
-here : (view : View) → Some view ≡ slice_get views (view_rank view)
-here view = search rules
-
-drop-at : (vs : List View) (m : ℕ) (view : View) → Some view ≡ slice_get vs m → drop m vs ≡ view ∷ drop (suc m) vs
-drop-at [] m view e = absurd cc
-drop-at (v ∷ vs) zero view e = let same : v ≡ view = cc in ap (λ (w : View). w ∷ vs) same
-drop-at (v ∷ vs) (suc m) view e = drop-at vs m view e
-
-from-here : (view : View) (f : Fact) (next : View) → Some next ≡ slice_get views (view_rank view + 1)
-    → keys_from view f ≡ option_to_list (key_in view f) ++ keys_from next f
-from-here view f next e =
-    let after : suc (view_rank view) ≡ view_rank next = let n = view_next view next e in omega (arith, n) in
-    ap (λ (vs : List View). keys_in f vs) (drop-at views (view_rank view) view (here view))
-    ∙ ap (λ (m : ℕ). option_to_list (key_in view f) ++ keys_in f (drop m views)) after
-
--- counted in a view, then in those after it
-pub steps-next : (step : Step) (m mid new : Counts) (view : View) (f : Fact) (next : View) → Some next ≡ slice_get views (view_rank view + 1)
-    → mid ≡ steps step m (option_to_list (key_in view f)) → new ≡ steps step mid (keys_from next f) → new ≡ steps step m (keys_from view f)
-steps-next step m mid new view f next e first rest =
-    rest ∙ ap (λ (u : Counts). steps step u (keys_from next f)) first ∙ sym (steps-append step m (option_to_list (key_in view f)) (keys_from next f))
-    ∙ ap (steps step m) (sym (from-here view f next e))
-
--- ---- a key of one view counts at no key of another
-
-stays_by : (step : Step) (m : Counts) (view : View) (f : Fact) (value : Option Value) (q : CountKey) → (view_rank q.view == view_rank view) ≡ false
-    → count_in (steps step m (option_to_list (option_map (λ x. count_key view x f.outcome) value))) q ≡ count_in m q
-stays_by step m view f None q e = refl
-stays_by step m view f (Some x) q e =
-    ap (λ (o : Option ℕ). unwrap_or o 0)
-    (maps.get-set_at count_keys_total count_keys_exact m (count_key view x f.outcome) (stepped step (count_in m (count_key view x f.outcome))) q
-    ∙ ap (λ b. cond b (stepped step (count_in m (count_key view x f.outcome))) (get m q)) (apart q view x f.outcome e))
-
-not-same : (a b : ℕ) → a < b → (b == a) ≡ false
-not-same a b h = grind (arith, nat_tests)
-
--- what is counted in a view leaves room for what is counted in those after it
-pub later-room : (step : Step) (m mid : Counts) (view next : View) (f : Fact) → view_rank next ≡ view_rank view + 1
-    → mid ≡ steps step m (option_to_list (key_in view f))
-    → ((key : CountKey) → view_rank view ≤ view_rank key.view → count_in m key + 1 < 2 ^ 64) → (key : CountKey) → view_rank next ≤ view_rank key.view
-    → count_in mid key + 1 < 2 ^ 64
-later-room step m mid view next f e first few key above =
-    let after : view_rank view < view_rank key.view = omega (arith, e, above) in
-    let same : count_in mid key ≡ count_in m key =
-    ap (λ (u : Counts). count_in u key) first ∙ stays_by step m view f (value_in view f) key (not-same (view_rank view) (view_rank key.view) after) in
-    subst (λ (n : ℕ). n + 1 < 2 ^ 64) (sym same) (few key (omega (arith, after)))

@@ -1,4 +1,4 @@
--- Where the counts of a view begin and end in the code's map, in which they stand beside each other.
+-- Where the rows of a view begin and end in the code's map, in which they stand beside each other.
 use Rattle.std.proofs.Common.{◌≡◌, ℕ, ◌+◌, ◌-◌, ◌<◌, ◌≤◌, Bool, true, false, List, [], ◌∷◌, zero, suc, length, Some, None, refl, sym, ap, ◌∙◌, arith, rules}
 use Rattle.std.specs.Prelude.{◌==◌, ◌&&◌, not, map, filter, slice_get}
 use Rattle.std.specs.List.Sorted.{IsStrictlySortedBy}
@@ -9,15 +9,19 @@ use Rattle.std.specs.Ordering.{nat_cmp, ordering_then, is_le, is_gt}
 use Rattle.std.specs.Cmp.{nat_cmp_is}
 use Rattle.std.specs.BTreeMap.Range.{range_contains}
 use Rattle.std.specs.Map.{keys_of}
-use Rattle.std.specs.FinMap.{FinMap, entries, from_entries}
-use Rattle.smq_tally.specs.declared.fact.CountKey.{CountKey}
+use Rattle.std.specs.FinMap.{FinMap, entries}
+use Rattle.smq_tally.specs.declared.fact.RowKey.{RowKey}
 use Rattle.smq_tally.specs.declared.value.Value.{Value}
 use Rattle.smq_tally.specs.declared.value.Value.TheVariants as w
 use Rattle.smq_tally.specs.declared.view.View.{View}
-use Rattle.smq_tally.specs.Rows.{views, view_rank, value_cmp, outcome_rank, count_cmp}
+use Rattle.smq_tally.specs.Rows.{views, view_rank, value_cmp, count_cmp}
 use Rattle.smq_tally.specs.Tables.{TablesValue, in_view, shown_row, rows_of}
-use Rattle.smq_tally.specs.within.CountOrder.{kept_cmp, first_value, first_key}
-use Rattle.smq_tally.proofs.CountOrders.{count_key-order, entries-seen}
+use Rattle.smq_tally.specs.within.CountOrder.{kept_row_cmp, first_value, first_row}
+use Rattle.smq_tally.specs.within.Kept.{counts_in}
+use Rattle.smq_tally.specs.within.RowCounts.{row_cmp, rows_in, shown_among}
+use Rattle.smq_tally.proofs.CountOrders.{row_key-order, rows-kept}
+use Rattle.smq_tally.proofs.RowCounts.{Row}
+use Rattle.smq_tally.proofs.ShownRows.{rows-shown}
 use Rattle.smq_tally.proofs.ListOrders.{le_zero, then_le, then_least, one_number, last_number}
 
 -- ---- views in turn
@@ -68,35 +72,31 @@ first_le (w.Error error) = refl
 first_le (w.Band band) = refl
 
 -- what a view begins with is at or before what is of no earlier view
-begins : (view : View) (q : CountKey) → is_le (count_cmp (first_key view) q) ≡ is_le (nat_cmp (view_rank view) (view_rank q.view))
-begins view q =
-    let within : is_le (ordering_then (value_cmp first_value q.value) (nat_cmp 0 (outcome_rank q.outcome))) ≡ true =
-    then_le (value_cmp first_value q.value) (nat_cmp 0 (outcome_rank q.outcome)) (first_le q.value) (le_zero (outcome_rank q.outcome)) in
-    then_least (nat_cmp (view_rank view) (view_rank q.view))
-    (ordering_then (value_cmp first_value q.value) (nat_cmp 0 (outcome_rank q.outcome))) within
+begins : (view : View) (q : RowKey) → is_le (row_cmp (first_row view) q) ≡ is_le (nat_cmp (view_rank view) (view_rank q.view))
+begins view q = then_least (nat_cmp (view_rank view) (view_rank q.view)) (value_cmp first_value q.value) (first_le q.value)
 
--- of a view are the keys from its first possible one up to the next view's
-up_to_next : (view next : View) → view_rank next ≡ view_rank view + 1 → (q : CountKey)
-    → range_contains kept_cmp (Included (first_key view)) (Excluded (first_key next)) q ≡ (view_rank q.view == view_rank view)
+-- of a view are the rows from its first possible one up to the next view's
+up_to_next : (view next : View) → view_rank next ≡ view_rank view + 1 → (q : RowKey)
+    → range_contains kept_row_cmp (Included (first_row view)) (Excluded (first_row next)) q ≡ (view_rank q.view == view_rank view)
 up_to_next view next e q =
-    ap (λ (R : CountKey → CountKey → Ordering). range_contains R (Included (first_key view)) (Excluded (first_key next)) q) count_key-order
+    ap (λ (R : RowKey → RowKey → Ordering). range_contains R (Included (first_row view)) (Excluded (first_row next)) q) row_key-order
     ∙ (λ i. begins view q i && not (begins next q i))
     ∙ ap (λ n. is_le (nat_cmp (view_rank view) (view_rank q.view)) && not (is_le (nat_cmp n (view_rank q.view)))) e
     ∙ one_number (view_rank view) (view_rank q.view)
 
 -- of the last view are all from its first possible one
-up_to_end : (view : View) → ((other : View) → view_rank other ≤ view_rank view) → (q : CountKey)
-    → range_contains kept_cmp (Included (first_key view)) Unbounded q ≡ (view_rank q.view == view_rank view)
+up_to_end : (view : View) → ((other : View) → view_rank other ≤ view_rank view) → (q : RowKey)
+    → range_contains kept_row_cmp (Included (first_row view)) Unbounded q ≡ (view_rank q.view == view_rank view)
 up_to_end view most q =
-    ap (λ (R : CountKey → CountKey → Ordering). range_contains R (Included (first_key view)) Unbounded q) count_key-order
+    ap (λ (R : RowKey → RowKey → Ordering). range_contains R (Included (first_row view)) Unbounded q) row_key-order
     ∙ (λ i. begins view q i && not false)
     ∙ last_number (view_rank view) (view_rank q.view) (most q.view)
 
 -- a view begins before the next one does
-pub view-forward : (view next : View) (first limit : CountKey) → first ≡ first_key view → limit ≡ first_key next
-    → Some next ≡ slice_get views (view_rank view + 1) → is_gt (kept_cmp first limit) ≡ false
+pub view-forward : (view next : View) (first limit : RowKey) → first ≡ first_row view → limit ≡ first_row next
+    → Some next ≡ slice_get views (view_rank view + 1) → is_gt (kept_row_cmp first limit) ≡ false
 view-forward view next first limit one other e =
-    (λ i. is_gt (count_key-order i (one i) (other i)))
+    (λ i. is_gt (row_key-order i (one i) (other i)))
     ∙ ap (λ n. is_gt (ordering_then (nat_cmp (view_rank view) n) Equal)) (view_next view next e) ∙ before (view_rank view)
   where
     before : (n : ℕ) → is_gt (ordering_then (nat_cmp n (n + 1)) Equal) ≡ false
@@ -104,26 +104,27 @@ view-forward view next first limit one other e =
 
 -- ---- the code's part of the map, which is a run of it, has the rows of the view
 
-ranged : (t : TablesValue) (view : View) (es left : List (CountKey × ℕ)) (inside : CountKey → Bool) → from_entries es ≡ t.counts
-    → IsStrictlySortedBy kept_cmp (keys_of es)
-    → ((q : CountKey) → inside q ≡ (view_rank q.view == view_rank view)) → left ≡ filter (λ e. inside e.0) es → map shown_row left ≡ rows_of t view
+ranged : (t : TablesValue) (view : View) (es left : List Row) (inside : RowKey → Bool) → counts_in es ≡ t.counts
+    → IsStrictlySortedBy kept_row_cmp (keys_of es)
+    → ((q : RowKey) → inside q ≡ (view_rank q.view == view_rank view)) → left ≡ filter (λ e. inside e.0) es → shown_among left ≡ rows_of t view
 ranged t view es left inside is sorted same taken =
-    ap (λ (xs : List (CountKey × ℕ)). map shown_row xs) (taken ∙ (λ i. filter (λ e. same e.0 i) (sym (entries-seen es sorted) i)))
+    ap shown_among (taken ∙ (λ i. filter (λ e. same e.0 i) (sym (rows-kept es sorted) i)))
+    ∙ rows-shown (rows_in es) view
     ∙ ap (λ (m : FinMap count_cmp ℕ). map shown_row (filter (in_view view) (entries m))) is
 
-pub rows-next : (t : TablesValue) (view next : View) (first limit : CountKey) (es left : List (CountKey × ℕ))
-    → first ≡ first_key view → limit ≡ first_key next → from_entries es ≡ t.counts
-    → IsStrictlySortedBy kept_cmp (keys_of es) → Some next ≡ slice_get views (view_rank view + 1)
-    → left ≡ filter (λ e. range_contains kept_cmp (Included first) (Excluded limit) e.0) es → map shown_row left ≡ rows_of t view
+pub rows-next : (t : TablesValue) (view next : View) (first limit : RowKey) (es left : List Row)
+    → first ≡ first_row view → limit ≡ first_row next → counts_in es ≡ t.counts
+    → IsStrictlySortedBy kept_row_cmp (keys_of es) → Some next ≡ slice_get views (view_rank view + 1)
+    → left ≡ filter (λ e. range_contains kept_row_cmp (Included first) (Excluded limit) e.0) es → shown_among left ≡ rows_of t view
 rows-next t view next first limit es left one other is sorted e taken =
-    ranged t view es left (range_contains kept_cmp (Included (first_key view)) (Excluded (first_key next))) is sorted
+    ranged t view es left (range_contains kept_row_cmp (Included (first_row view)) (Excluded (first_row next))) is sorted
     (up_to_next view next (view_next view next e))
-    (taken ∙ (λ i. filter (λ x. range_contains kept_cmp (Included (one i)) (Excluded (other i)) x.0) es))
+    (taken ∙ (λ i. filter (λ x. range_contains kept_row_cmp (Included (one i)) (Excluded (other i)) x.0) es))
 
-pub rows-end : (t : TablesValue) (view : View) (first : CountKey) (es left : List (CountKey × ℕ)) → first ≡ first_key view
-    → from_entries es ≡ t.counts
-    → IsStrictlySortedBy kept_cmp (keys_of es) → None ≡ slice_get views (view_rank view + 1)
-    → left ≡ filter (λ e. range_contains kept_cmp (Included first) Unbounded e.0) es → map shown_row left ≡ rows_of t view
+pub rows-end : (t : TablesValue) (view : View) (first : RowKey) (es left : List Row) → first ≡ first_row view
+    → counts_in es ≡ t.counts
+    → IsStrictlySortedBy kept_row_cmp (keys_of es) → None ≡ slice_get views (view_rank view + 1)
+    → left ≡ filter (λ e. range_contains kept_row_cmp (Included first) Unbounded e.0) es → shown_among left ≡ rows_of t view
 rows-end t view first es left one is sorted e taken =
-    ranged t view es left (range_contains kept_cmp (Included (first_key view)) Unbounded) is sorted (up_to_end view (view_last view e))
-    (taken ∙ (λ i. filter (λ x. range_contains kept_cmp (Included (one i)) Unbounded x.0) es))
+    ranged t view es left (range_contains kept_row_cmp (Included (first_row view)) Unbounded) is sorted (up_to_end view (view_last view e))
+    (taken ∙ (λ i. filter (λ x. range_contains kept_row_cmp (Included (one i)) Unbounded x.0) es))

@@ -5,4 +5,5 @@ pub mod CountOrder
 pub mod Equal
 pub mod Kept
 pub mod Keys
+pub mod RowCounts
 pub mod Noted

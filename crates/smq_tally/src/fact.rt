@@ -5,6 +5,7 @@ ghost use Rattle.smq_tally.specs.Rows.{key_in, value_in};
 
 use crate::{Band, List, Listed, Outcome, SubmitError, Value, View};
 use smq_kit::{LinkId, Network, Place, RouteId};
+use smq_shelf::ShelfKey;
 
 /// What is known of one message.
 #[derive(Debug, PartialEq, Eq, Drop)]
@@ -71,16 +72,49 @@ pub struct CountKey {
 }
 
 impl CountKey {
-    ghost use Rattle.smq_tally.specs.within.CountOrder.{first_key};
+    ghost use Rattle.smq_tally.specs.within.RowCounts.{row_of};
+
+    /// The row in which it stands.
+    pub(crate) fn into_row(self) -> RowKey
+        ensures { result ≡ row_of self }
+    {
+        RowKey {
+            view: self.view,
+            value: self.value,
+        }
+    }
+}
+
+/// Where a row of counts stands: by view, then by value.
+#[derive(Debug, PartialEq, Eq, PartialOrd, Ord, Drop)]
+pub struct RowKey {
+    pub(crate) view: View,
+    pub(crate) value: Value,
+}
+
+impl RowKey {
+    ghost use Rattle.smq_tally.specs.within.CountOrder.{first_row};
 
     /// What comes before all others that a view can have.
-    pub(crate) fn first_in(view: View) -> CountKey
-        ensures { result ≡ first_key view }
+    pub(crate) fn first_in(view: View) -> RowKey
+        ensures { result ≡ first_row view }
     {
-        CountKey {
+        RowKey {
             view,
             value: Value::Link(LinkId(0)),
-            outcome: Outcome::Waiting,
+        }
+    }
+}
+
+impl ShelfKey for RowKey {
+    ghost use Rattle.smq_tally.specs.within.Keys.{row_key_exact};
+
+    ghost exact = { row_key_exact };
+
+    fn copy(&self) -> RowKey {
+        RowKey {
+            view: self.view,
+            value: self.value.copy(),
         }
     }
 }

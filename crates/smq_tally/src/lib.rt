@@ -10,6 +10,7 @@ mod list;
 mod listing;
 mod noted;
 mod outcome;
+mod outcome_counts;
 mod places;
 mod rows;
 mod same;

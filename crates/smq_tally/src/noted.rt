@@ -4,8 +4,9 @@ ghost use Rattle.std.specs.Prelude.{◌≡◌, ◌<◌, ◌+◌, ◌^◌, IsTrue
 ghost use Rattle.std.specs.List.{list_any};
 ghost use Rattle.std.specs.FinMap as fin;
 ghost use Rattle.smq_tally.specs.Lists.{listings_of_fact};
+ghost use Rattle.smq_tally.specs.Rows.{keys_of_fact};
 ghost use Rattle.smq_tally.specs.Tables.{tables_of};
-ghost use Rattle.smq_tally.specs.within.Counting.{count_of, one_more, one_less, with_listed};
+ghost use Rattle.smq_tally.specs.within.Counting.{AreCounted, count_of, one_more, one_less, with_listed};
 ghost use Rattle.smq_tally.specs.within.ListOrder.{takes_facts};
 
 use crate::listing::has_listing;
@@ -130,7 +131,7 @@ impl NotedTables {
 
     /// Counts a fact no more, and lists its place no more unless it is noted. An error changes nothing.
     pub(crate) fn remove_fact(&mut self, fact: &Fact) -> Result<(), AllocError>
-        requires room { (key : CountKey) → count_of self.old.shown key + 1 < 2 ^ 64 }
+        requires counted { AreCounted (keys_of_fact fact.now) self.old.shown.counts }
         ensures ok { OnOk result (self.new.shown ≡ one_less self.old.shown fact.now
             (list_any (fin.contains_key self.old.notes) (listings_of_fact fact.now))) }
         ensures notes { OnOk result (self.new.notes ≡ self.old.notes) }
@@ -147,6 +148,7 @@ impl NotedTables {
     /// first is listed no more unless it is noted. An error leaves what was settled.
     pub(crate) fn replace_fact(&mut self, before: &Fact, after: &Fact) -> Result<(), AllocError>
         requires room { (key : CountKey) → count_of self.old.shown key + 1 < 2 ^ 64 }
+        requires counted { AreCounted (keys_of_fact before.now) self.old.shown.counts }
         requires listed { with_listed self.old.shown.places (listings_of_fact before.now)
             ≡ self.old.shown.places }
         ensures ok { OnOk result (self.new.shown ≡ one_more (one_less self.old.shown before.now

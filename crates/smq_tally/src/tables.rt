@@ -5,13 +5,16 @@ ghost use Rattle.std.specs.FinMap as fin;
 ghost use Rattle.std.specs.List.Sorted.{IsStrictlySortedBy};
 ghost use Rattle.smq_kit.specs.Orders.{place_cmp};
 ghost use Rattle.smq_tally.specs.Lists.{listed_set, listings_of_fact};
+ghost use Rattle.smq_tally.specs.Rows.{keys_of_fact};
 ghost use Rattle.smq_tally.specs.Tables.{AreOfDifferentPlaces, facts_at, tables_of, count_at, rows_of, listed_in};
-ghost use Rattle.smq_tally.specs.within.Counting.{count_of, one_more, one_less, with_listed};
+ghost use Rattle.smq_tally.specs.within.Counting.{AreCounted, count_of, one_more, one_less, with_listed};
 
 use crate::copies::copy_entries;
-use crate::counts::{Step, count_from, count_of};
+use crate::counts::{count_of, recount};
+use crate::fact::RowKey;
 use crate::listing::{list_fact, relist, unlist, unlist_fact};
-use crate::same::have_same_entries;
+use crate::outcome_counts::OutcomeCounts;
+use crate::same::{have_same_entries, have_same_rows};
 use crate::taking_back::take_back;
 use crate::{CountKey, Fact, List, Listed, Outcome, Places, Rows, Value, View};
 use smq_shelf::KeptMap;
@@ -21,7 +24,7 @@ use std::marker::Model;
 /// How many messages have each value and outcome, and the places in each list.
 #[derive(Drop)]
 pub struct Tables {
-    counts: KeptMap<CountKey, u64>,
+    counts: KeptMap<RowKey, OutcomeCounts>,
     places: KeptMap<Listed, ()>,
 }
 
@@ -49,8 +52,7 @@ impl PartialEq for Tables {
     ghost laws = { partial_equiv_from_equiv shown_eq_laws };
 
     fn eq(&self, other: &Tables) -> bool {
-        have_same_entries(self.counts.iter(), other.counts.iter())
-            && have_same_entries(self.places.iter(), other.places.iter())
+        have_same_rows(self, other) && have_same_entries(self.places.iter(), other.places.iter())
     }
 }
 
@@ -131,21 +133,17 @@ impl Tables {
             value: value.copy(),
             outcome,
         };
-        count_of(&self.counts, &key)
+        count_of(&self.counts, key)
     }
 
     /// The rows of a view, in order. It looks at no other view's counts.
     pub fn rows(&self, view: View) -> Rows<'_>
         ensures { result ≡ rows_of self.now.shown view }
     {
-        let first = CountKey::first_in(view);
+        let first = RowKey::first_in(view);
         match view.next() {
-            Some(next) => Rows {
-                left: self.counts.range(first, CountKey::first_in(next)),
-            },
-            None => Rows {
-                left: self.counts.range_from(first),
-            },
+            Some(next) => Rows::of(self.counts.range(first, RowKey::first_in(next))),
+            None => Rows::of(self.counts.range_from(first)),
         }
     }
 
@@ -180,7 +178,7 @@ impl Tables {
         ensures err { OnErr result (self.new ≡ self.old) }
     {
         let is_logged = list_fact(&mut self.places, fact)?;
-        if let Err(error) = count_from(&mut self.counts, Step::More, View::Link, fact) {
+        if let Err(error) = recount(&mut self.counts, None, Some(fact)) {
             take_back(&mut self.places, is_logged);
             return Err(error);
         }
@@ -189,13 +187,13 @@ impl Tables {
 
     /// Counts a fact no more, and lists its place no more unless that stays for a note. An error changes nothing.
     pub(crate) fn remove_fact(&mut self, fact: &Fact, stays: bool) -> Result<(), AllocError>
-        requires room { (key : CountKey) → count_of self.old.shown key + 1 < 2 ^ 64 }
+        requires counted { AreCounted (keys_of_fact fact.now) self.old.shown.counts }
         ensures ok { OnOk result (self.new.shown ≡ one_less self.old.shown fact.now stays) }
         ensures settled { self.new.settled ≡ self.old.settled }
         ensures err { OnErr result (self.new ≡ self.old) }
     {
         let is_logged = unlist_fact(&mut self.places, fact, stays)?;
-        if let Err(error) = count_from(&mut self.counts, Step::Less, View::Link, fact) {
+        if let Err(error) = recount(&mut self.counts, Some(fact), None) {
             take_back(&mut self.places, is_logged);
             return Err(error);
         }
@@ -211,6 +209,7 @@ impl Tables {
         stays: bool,
     ) -> Result<(), AllocError>
         requires room { (key : CountKey) → count_of self.old.shown key + 1 < 2 ^ 64 }
+        requires counted { AreCounted (keys_of_fact before.now) self.old.shown.counts }
         requires listed { with_listed self.old.shown.places (listings_of_fact before.now)
             ≡ self.old.shown.places }
         ensures ok { OnOk result (self.new.shown
@@ -218,9 +217,7 @@ impl Tables {
         ensures settled { self.new.settled ≡ self.old.settled }
     {
         relist(&mut self.places, before, after, stays)?;
-        count_from(&mut self.counts, Step::Less, View::Link, before)?;
-        count_from(&mut self.counts, Step::More, View::Link, after)?;
-        Ok(())
+        recount(&mut self.counts, Some(before), Some(after))
     }
 
     /// Lists one place more. An error changes nothing.

@@ -110,8 +110,6 @@ impl Tally {
         let Some(fact) = fact_at(&mut self.facts, &place) else {
             return Ok(());
         };
-        // There are fewer places than addresses.
-        let _ = self.facts.place_count();
         self.facts.remove(&place)?;
         if let Err(error) = self.tables.remove_fact(&fact) {
             self.facts.take_back();

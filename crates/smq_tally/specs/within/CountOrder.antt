@@ -5,19 +5,25 @@ use Rattle.std.specs.declared.cmp.Ordering.{Ordering}
 use Rattle.std.proofs.lemmas.Cmp.{on_total, then_total, lists_total, nat_cmp_total}
 use Rattle.smq_tally.specs.declared.band.Band.{Band}
 use Rattle.smq_tally.specs.declared.fact.CountKey.{CountKey}
-use Rattle.smq_tally.specs.declared.outcome.Outcome.TheVariants as o
+use Rattle.smq_tally.specs.declared.fact.RowKey.{RowKey}
 use Rattle.smq_tally.specs.declared.value.Value.{Value}
 use Rattle.smq_tally.specs.declared.value.Value.TheVariants as w
 use Rattle.smq_tally.specs.declared.view.View.{View}
 use Rattle.smq_tally.specs.contracts.band.BandOrd.TheImpl as band_ord
 use Rattle.smq_tally.specs.contracts.fact.CountKeyOrd.TheImpl as key_ord
+use Rattle.smq_tally.specs.contracts.fact.RowKeyOrd.TheImpl as row_ord
 use Rattle.smq_tally.specs.contracts.value.ValueOrd.TheImpl as value_ord
 use Rattle.smq_tally.specs.contracts.value.ValuePartialEq.TheImpl as value_eq
-use Rattle.smq_tally.specs.Rows.{count_key, count_cmp, value_cmp, value_numbers, outcome_rank, view_rank}
+use Rattle.smq_tally.specs.Rows.{count_cmp, value_cmp, value_numbers, outcome_rank, view_rank}
+use Rattle.smq_tally.specs.within.RowCounts.{row_cmp}
 
--- the order by which the map of counts compares keys
+-- `cmp` of keys of counts
 abbrev pub kept_cmp : CountKey → CountKey → Ordering
 kept_cmp = (key_ord.ghosts).cmp
+
+-- the order by which the map of rows compares their keys
+abbrev pub kept_row_cmp : RowKey → RowKey → Ordering
+kept_row_cmp = (row_ord.ghosts).cmp
 
 -- `cmp` of bands
 abbrev pub kept_band_cmp : Band → Band → Ordering
@@ -41,10 +47,14 @@ count_keys_total =
     then_total (on_total (λ k. view_rank k.view) nat_cmp_total)
     (then_total (on_total (λ k. k.value) values_total) (on_total (λ k. outcome_rank k.outcome) nat_cmp_total))
 
+-- the order of rows is total
+pub rows_total : IsTotalOrder row_cmp
+rows_total = then_total (on_total (λ k. view_rank k.view) nat_cmp_total) (on_total (λ k. k.value) values_total)
+
 -- the value before which there is none
 abbrev pub first_value : Value
 first_value = w.Link (record { 0 = 0 })
 
--- what comes before all other keys that a view can have
-abbrev pub first_key : View → CountKey
-first_key view = count_key view first_value o.Waiting
+-- what comes before all other rows that a view can have
+abbrev pub first_row : View → RowKey
+first_row view = record { view = view; value = first_value }

@@ -1,5 +1,5 @@
 -- Counts and listed places after one fact or one listed place more, or less.
-use Rattle.std.specs.Prelude.{ℕ, ◌+◌, ◌-◌, Bool, cond, List, [], ◌∷◌, drop, Option, Some, option_to_list, unwrap_or}
+use Rattle.std.specs.Prelude.{◌≡◌, ℕ, ◌+◌, ◌-◌, ◌<◌, ◌≤◌, ◌^◌, Bool, cond, List, [], ◌∷◌, count_by, drop, Option, Some, None, option_and_then, option_to_list, unwrap_or}
 use Rattle.std.specs.List.{flat_map}
 use Rattle.std.specs.FinMap as fin
 use Rattle.std.specs.FinSet.{FinSet}
@@ -11,7 +11,7 @@ use Rattle.smq_tally.specs.declared.fact.Fact.{Fact}
 use Rattle.smq_tally.specs.declared.list.Listed.{Listed}
 use Rattle.smq_tally.specs.declared.view.View.{View}
 use Rattle.smq_tally.specs.Lists.{listed_cmp, listings_of_fact}
-use Rattle.smq_tally.specs.Rows.{views, view_rank, count_cmp, key_in, keys_of_fact}
+use Rattle.smq_tally.specs.Rows.{views, view_rank, count_cmp, same_count_key, key_in, keys_of_fact}
 use Rattle.smq_tally.specs.Tables.{TablesValue}
 
 -- counts by their keys
@@ -43,6 +43,35 @@ one_step step counts key = set_at counts key (stepped step (count_in counts key)
 abbrev pub steps : Step → Counts → List CountKey → Counts
 steps step counts [] = counts
 steps step counts (key ∷ keys) = steps step (one_step step counts key) keys
+
+-- ---- counts that move
+
+-- where a fact is counted in a view, if there is one and it has a value there
+abbrev pub key_in_if : View → Option Fact → Option CountKey
+key_in_if view fact = option_and_then (key_in view) fact
+
+-- where it is counted in a view and those after it
+abbrev pub keys_left : View → Option Fact → List CountKey
+keys_left view None = []
+keys_left view (Some f) = keys_from view f
+
+-- how many of these keys are one
+abbrev pub times : CountKey → List CountKey → ℕ
+times q keys = count_by (same_count_key q) keys
+
+-- At each key counts have as many as these keys are.
+abbrev pub AreCounted : List CountKey → Counts → Type 0
+AreCounted keys counts = (q : CountKey) → times q keys ≤ count_in counts q
+
+-- As many as these keys are can be counted more.
+abbrev pub HaveRoom : List CountKey → Counts → Type 0
+HaveRoom keys counts = (q : CountKey) → 0 < times q keys → count_in counts q + times q keys < 2 ^ 64
+
+-- Counts at some keys have moved to others: at each key, what is counted now with what left it is what was with what came.
+abbrev pub IsMoved : List CountKey → List CountKey → Counts → Counts → Type 0
+IsMoved from to old new = (q : CountKey) → count_in new q + times q from ≡ count_in old q + times q to
+
+-- ---- facts and places
 
 -- the places with these too
 abbrev pub with_listed : FinSet listed_cmp → List Listed → FinSet listed_cmp

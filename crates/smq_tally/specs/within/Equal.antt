@@ -7,9 +7,10 @@ use Rattle.std.specs.FinMap as fin
 use Rattle.smq_tally.specs.declared.fact.CountKey.{CountKey}
 use Rattle.smq_tally.specs.declared.fact.Fact.{Fact}
 use Rattle.smq_tally.specs.contracts.fact.FactPartialEq.TheImpl as fact_block
+use Rattle.smq_tally.specs.contracts.outcome.OutcomePartialEq.TheImpl as outcome_eq
 use Rattle.smq_tally.specs.Rows.{same_count_key}
-use Rattle.smq_tally.specs.Tables.{TablesKept, TablesValue}
-use Rattle.smq_tally.specs.within.CountOrder.{count_keys_total}
+use Rattle.smq_tally.specs.Tables.{ShownRow, TablesKept, TablesValue}
+use Rattle.smq_tally.specs.within.CountOrder.{count_keys_total, kept_value_eq}
 use Rattle.smq_tally.specs.within.ListOrder.{same_listed, listed_total}
 
 -- whether two entries are the same key with the same count
@@ -37,6 +38,10 @@ shown_eq t u = tables_eq t.shown u.shown
 -- that is an equivalence
 pub shown_eq_laws : IsEquivalence shown_eq
 shown_eq_laws = on_equiv (λ t. t.shown) tables_eq_laws
+
+-- whether two rows as they are shown are equal
+abbrev pub same_shown : ShownRow → ShownRow → Bool
+same_shown p q = (kept_value_eq p.0 q.0 && (outcome_eq.ghosts).eq p.1 q.1) && nat_eq p.2 q.2
 
 -- whether two entries have equal keys and equal values
 abbrev pub both_eq : {K V : Type 0} → (K → K → Bool) → (V → V → Bool) → K × V → K × V → Bool

@@ -1,5 +1,5 @@
 -- Maps that can be undone, seen as finite ones, and what a change leaves in them to be taken back.
-use Rattle.std.specs.Prelude.{◌≡◌, Bool, true, false, ℕ, List, ◌∷◌, Some}
+use Rattle.std.specs.Prelude.{◌≡◌, Bool, true, false, List, ◌∷◌, Some}
 use Rattle.std.specs.declared.cmp.Ordering.{Ordering}
 use Rattle.std.specs.FinMap as fin
 use Rattle.std.specs.FinSet.{FinSet}
@@ -8,12 +8,14 @@ use Rattle.smq_kit.specs.contracts.place.PlaceOrd.TheImpl as place_ord
 use Rattle.smq_kit.specs.Orders.{place_cmp}
 use Rattle.smq_shelf.specs.Keeping.{KeepingMap}
 use Rattle.smq_shelf.specs.Places.{content_of}
-use Rattle.smq_tally.specs.declared.fact.CountKey.{CountKey}
 use Rattle.smq_tally.specs.declared.fact.Fact.{Fact}
+use Rattle.smq_tally.specs.declared.fact.RowKey.{RowKey}
 use Rattle.smq_tally.specs.declared.list.Listed.{Listed}
+use Rattle.smq_tally.specs.declared.outcome_counts.OutcomeCounts.{OutcomeCounts}
 use Rattle.smq_tally.specs.Lists.{listed_cmp}
 use Rattle.smq_tally.specs.Tables.{TablesValue, tables_of}
 use Rattle.smq_tally.specs.within.Counting.{Counts}
+use Rattle.smq_tally.specs.within.RowCounts.{counts_of, rows_in}
 
 -- the order by which a map of std compares places
 abbrev pub kept_place_cmp : Place → Place → Ordering
@@ -23,22 +25,27 @@ kept_place_cmp = (place_ord.ghosts).cmp
 abbrev pub facts_in : List (Place × Fact) → fin.FinMap place_cmp Fact
 facts_in es = fin.from_entries es
 
--- entries of counts as a finite map
-abbrev pub counts_in : List (CountKey × ℕ) → Counts
-counts_in es = fin.from_entries es
+-- entries of rows as counts
+abbrev pub counts_in : List (RowKey × OutcomeCounts) → Counts
+counts_in es = counts_of (rows_in es)
 
 -- entries of listed places as a finite set
 abbrev pub places_in : List (Listed × Unit {0}) → FinSet listed_cmp
 places_in es = fin.from_entries es
 
--- entries of counts and of listed places as tables
-abbrev pub tables_in : List (CountKey × ℕ) → List (Listed × Unit {0}) → TablesValue
+-- entries of rows and of listed places as tables
+abbrev pub tables_in : List (RowKey × OutcomeCounts) → List (Listed × Unit {0}) → TablesValue
 tables_in counts places = record { counts = counts_in counts; places = places_in places }
 
 -- What a call left to be taken back: one change, or none where it changed nothing.
 abbrev pub IsLogged : {K V : Type 0} → Bool → KeepingMap K V → KeepingMap K V → Type 0
 IsLogged true old new = (old.content ≡ content_of old.places) × (new.past ≡ old.places ∷ old.past)
 IsLogged false old new = new ≡ old
+
+-- What a call left in two steps, of which each is one change or none.
+abbrev pub AreLogged : {K V : Type 0} → Bool × Bool → KeepingMap K V → KeepingMap K V → Type 0
+AreLogged {K} {V} steps old new =
+    (mid : KeepingMap K V) × IsLogged steps.0 old mid × IsLogged steps.1 mid new × (mid.settled ≡ old.settled)
 
 -- Each fact stands at its own place.
 pub record StandAtTheirPlaces (facts : fin.FinMap place_cmp Fact) : Type 0 where

@@ -1,4 +1,4 @@
--- Keys of counts that compare equal are one, and so are listed places.
+-- Keys of rows that compare equal are one, and so are listed places.
 use Rattle.std.specs.Prelude.{◌≡◌}
 use Rattle.std.specs.Bool.{Decides}
 use Rattle.std.proofs.Common.{rules, ap, ◌∙◌}
@@ -6,36 +6,31 @@ use Rattle.std.specs.declared.cmp.Ordering.TheVariants.{Equal}
 use Rattle.std.specs.Ordering.{is_eq}
 use Rattle.smq_kit.specs.declared.place.Place.{Place}
 use Rattle.smq_kit.specs.contracts.place.PlacePartialEq.TheImpl as place_eq
-use Rattle.smq_tally.specs.declared.fact.CountKey.{CountKey}
+use Rattle.smq_tally.specs.declared.fact.RowKey.{RowKey}
 use Rattle.smq_tally.specs.declared.list.List as l
 use Rattle.smq_tally.specs.declared.list.Listed.{Listed}
-use Rattle.smq_tally.specs.declared.outcome.Outcome.{Outcome}
 use Rattle.smq_tally.specs.declared.value.SubmitError.{SubmitError}
 use Rattle.smq_tally.specs.declared.value.Value.{Value}
 use Rattle.smq_tally.specs.declared.view.View.{View}
-use Rattle.smq_tally.specs.contracts.fact.CountKeyPartialEq.TheImpl as key_eq
-use Rattle.smq_tally.specs.contracts.fact.CountKeyOrd.TheImpl.Laws as key_laws
+use Rattle.smq_tally.specs.contracts.fact.RowKeyPartialEq.TheImpl as row_eq
+use Rattle.smq_tally.specs.contracts.fact.RowKeyOrd.TheImpl.Laws as row_laws
 use Rattle.smq_tally.specs.contracts.list.ListPartialEq.TheImpl as list_eq
 use Rattle.smq_tally.specs.contracts.list.ListedPartialEq.TheImpl as listed_eq
 use Rattle.smq_tally.specs.contracts.list.ListedOrd.TheImpl.Laws as listed_laws
-use Rattle.smq_tally.specs.contracts.outcome.OutcomePartialEq.TheImpl as outcome_eq
 use Rattle.smq_tally.specs.contracts.value.SubmitErrorPartialEq.TheImpl as error_eq
 use Rattle.smq_tally.specs.contracts.value.ValuePartialEq.TheImpl as value_eq
 use Rattle.smq_tally.specs.contracts.view.ViewPartialEq.TheImpl as view_eq
-use Rattle.smq_tally.specs.within.CountOrder.{kept_cmp}
+use Rattle.smq_tally.specs.within.CountOrder.{kept_row_cmp}
 use Rattle.smq_tally.specs.within.ListOrder.{kept_listed_cmp}
 use Rattle.std.proofs.lemmas.Bool.Decides.{Decides-and, Decides-like}
 
 views : (a b : View) → Decides (view_eq.ghosts.eq a b) (a ≡ b)
 views a b = search rules
 
-outcomes : (a b : Outcome) → Decides (outcome_eq.ghosts.eq a b) (a ≡ b)
-outcomes a b = search rules
-
 errors : (a b : SubmitError) → Decides (error_eq.ghosts.eq a b) (a ≡ b)
 errors a b = search rules
 
-values : (a b : Value) → Decides (value_eq.ghosts.eq a b) (a ≡ b)
+pub values : (a b : Value) → Decides (value_eq.ghosts.eq a b) (a ≡ b)
 values a b = search (rules, errors)
 
 in_lists : (a b : l.List) → Decides (list_eq.ghosts.eq a b) (a ≡ b)
@@ -44,13 +39,13 @@ in_lists a b = search rules
 at_places : (a b : Place) → Decides (place_eq.ghosts.eq a b) (a ≡ b)
 at_places a b = search rules
 
-keys : (x y : CountKey) → Decides (key_eq.ghosts.eq x y) ((x.view ≡ y.view) × ((x.value ≡ y.value) × (x.outcome ≡ y.outcome)))
-keys x y = Decides-and _ _ (views x.view y.view) (Decides-and _ _ (values x.value y.value) (outcomes x.outcome y.outcome))
+rows : (x y : RowKey) → Decides (row_eq.ghosts.eq x y) ((x.view ≡ y.view) × (x.value ≡ y.value))
+rows x y = Decides-and _ _ (views x.view y.view) (values x.value y.value)
 
-pub count_key_exact : (x y : CountKey) → kept_cmp x y ≡ Equal → x ≡ y
-count_key_exact x y e =
-    let parts = (keys x y).0 (key_laws.matches_eq-law x y ∙ ap is_eq e) in
-    λ i. record { view = parts.0 i; value = parts.1.0 i; outcome = parts.1.1 i }
+pub row_key_exact : (x y : RowKey) → kept_row_cmp x y ≡ Equal → x ≡ y
+row_key_exact x y e =
+    let parts = (rows x y).0 (row_laws.matches_eq-law x y ∙ ap is_eq e) in
+    λ i. record { view = parts.0 i; value = parts.1 i }
 
 listings : (x y : Listed) → Decides (listed_eq.ghosts.eq x y) ((x.list ≡ y.list) × (x.place ≡ y.place))
 listings x y = Decides-and _ _ (in_lists x.list y.list) (at_places x.place y.place)

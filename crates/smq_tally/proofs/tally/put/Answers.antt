@@ -5,7 +5,7 @@ use Rattle.smq_tally.specs.Lists.{listings_of_fact}
 use Rattle.smq_tally.specs.Tables.{TablesValue, tables_of}
 use Rattle.smq_tally.specs.within.Counting.{with_listed, one_more, one_less}
 use Rattle.smq_tally.specs.within.Kept.{facts_in}
-use Rattle.smq_tally.proofs.Held.{copy-put, has-room, shown-added, shown-replaced}
+use Rattle.smq_tally.proofs.Held.{copy-put, has-room, is-counted, shown-added, shown-replaced}
 use Rattle.smq_tally.proofs.ListedFacts.{fact-covered}
 use Rattle.smq_tally.proofs.tally.put.Goals as goal
 
@@ -13,6 +13,11 @@ pub replace_fact-requires-clause-room : goal.replace_fact-requires-clause-room
 replace_fact-requires-clause-room c =
     has-room c.args.facts.now.content c.args.facts.now.places c.place_count.result c.args.tables.now.notes c.args.tables.now.shown
     c.requires.shown c.place_count.ensures.ordered c.place_count.ensures.content c.place_count.ensures.count c.place_count.ensures.small
+
+pub replace_fact-requires-clause-counted : goal.replace_fact-requires-clause-counted
+replace_fact-requires-clause-counted c =
+    is-counted (facts_in c.args.facts.now.content) c.args.tables.now.notes c.requires.shown c.args.fact.place c.in-Some.before
+    (sym c.requires.there ∙ c.in-Some.is)
 
 pub replace_fact-requires-clause-listed : goal.replace_fact-requires-clause-listed
 replace_fact-requires-clause-listed c =

@@ -7,17 +7,13 @@ use Rattle.smq_tally.specs.Lists.{listings_of_fact}
 use Rattle.smq_tally.specs.Tally.{TallyValue}
 use Rattle.smq_tally.specs.within.Noted.{NotedValue}
 use Rattle.smq_tally.specs.within.Kept.{facts_in, StandAtTheirPlaces}
-use Rattle.smq_tally.proofs.Held.{Entries, fact-taken, has-entry, has-room, still, fact-removed, stand-removed}
+use Rattle.smq_tally.proofs.Held.{Entries, fact-taken, has-entry, is-counted, still, fact-removed, stand-removed}
 use Rattle.smq_tally.proofs.tally.Tally.remove.Goals as goal
 
 pub remove_fact-requires : goal.remove_fact-requires
 remove_fact-requires c = record {
-  room =
-      has-room c.fact_at.new.facts.content c.fact_at.new.facts.places c.place_count.result c.self.inside.tables.notes
-      c.self.inside.tables.shown
-      (c.self.invariant.now
-      ∙ (λ i. tables_of (facts_in (sym c.fact_at.ensures.content i)) c.self.inside.tables.notes)) c.place_count.ensures.ordered
-      c.place_count.ensures.content c.place_count.ensures.count c.place_count.ensures.small;
+  counted = is-counted (facts_in c.self.inside.facts.content) c.self.inside.tables.notes c.self.invariant.now c.args.place c.in-Some.fact
+      (sym c.in-Some.ensures.value);
 }
 
 -- the facts of before

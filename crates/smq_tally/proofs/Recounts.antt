@@ -1,0 +1,123 @@
+-- Counts that move from the keys of one fact to those of another, view by view.
+use Rattle.std.proofs.Common.{◌≡◌, ℕ, ◌+◌, ◌-◌, ◌<◌, ◌≤◌, ◌^◌, true, false, cond, List, [], ◌∷◌, Option, Some, None, zero, suc, refl, ap, ◌∙◌, arith, rules}
+use Rattle.std.specs.Prelude.{drop, option_map, option_to_list, slice_get, unwrap_or}
+use Rattle.smq_tally.specs.declared.counts.Step.TheVariants as s
+use Rattle.smq_tally.specs.declared.fact.CountKey.{CountKey}
+use Rattle.smq_tally.specs.declared.fact.Fact.{Fact}
+use Rattle.smq_tally.specs.declared.value.Value.{Value}
+use Rattle.smq_tally.specs.declared.view.View.{View}
+use Rattle.smq_tally.specs.declared.view.View.TheVariants as v
+use Rattle.smq_tally.specs.Rows.{views, view_rank, value_in, count_key, key_in, same_count_key, stands_in}
+use Rattle.smq_tally.specs.within.Counting.{Counts, count_in, steps, keys_left, key_in_if, times, AreCounted, HaveRoom, IsMoved}
+use Rattle.smq_tally.proofs.Tallies.{Has, has-one, has-same, has-more, has-less, once, keys_in, count-append}
+use Rattle.smq_tally.proofs.ViewRanges.{view_next}
+
+-- ---- counts that moved are those after steps
+
+pub moved-steps : (m u : Counts) (from to : List CountKey) → Has m (count_in m) → Has u (count_in u) → AreCounted from m → IsMoved from to m u
+    → u ≡ steps s.More (steps s.Less m from) to
+moved-steps m u from to h k few moved =
+    has-one u (steps s.More (steps s.Less m from) to) (count_in u) k
+    (has-same (steps s.More (steps s.Less m from) to) (λ q. (count_in m q - times q from) + times q to) (count_in u)
+    (has-more (steps s.Less m from) (λ q. count_in m q - times q from) to (has-less m (count_in m) from h))
+    (λ q. let one = few q in let both = moved q in omega (arith, one, both)))
+
+-- a fact stands at a key once at most
+once_at_most : (f : Option Fact) (q : CountKey) → times q (keys_left v.Link f) ≤ 1
+once_at_most None q = omega arith
+once_at_most (Some f) q =
+    let one = once f q in
+    elim (stands_in q f) as (λ b. times q (keys_left v.Link (Some f)) ≡ cond b 1 0 → times q (keys_left v.Link (Some f)) ≤ 1) [
+      | true ↦ λ e. omega (arith, e)
+      | false ↦ λ e. omega (arith, e)
+    ] one
+
+pub room-for : (m : Counts) (f : Option Fact) → ((key : CountKey) → count_in m key + 1 < 2 ^ 64) → HaveRoom (keys_left v.Link f) m
+room-for m f room q some = let one = once_at_most f q in let few = room q in omega (arith, one, few)
+
+-- ---- views in turn
+
+here : (view : View) → Some view ≡ slice_get views (view_rank view)
+here view = search rules
+
+drop-at : (vs : List View) (m : ℕ) (view : View) → Some view ≡ slice_get vs m → drop m vs ≡ view ∷ drop (suc m) vs
+drop-at [] m view e = absurd cc
+drop-at (v ∷ vs) zero view e = let same : v ≡ view = cc in ap (λ (w : View). w ∷ vs) same
+drop-at (v ∷ vs) (suc m) view e = drop-at vs m view e
+
+drop-past : (vs : List View) (m : ℕ) → None ≡ slice_get vs m → drop m vs ≡ []
+drop-past [] zero e = refl
+drop-past [] (suc m) e = refl
+drop-past (v ∷ vs) zero e = absurd cc
+drop-past (v ∷ vs) (suc m) e = drop-past vs m e
+
+-- where a fact is counted in the views after one
+abbrev pub keys_after : View → Option Fact → List CountKey
+keys_after view None = []
+keys_after view (Some f) = keys_in f (drop (suc (view_rank view)) views)
+
+pub times-split : (view : View) (f : Option Fact) (q : CountKey) → times q (keys_left view f) ≡ times q (option_to_list (key_in_if view f)) + times q (keys_after view f)
+times-split view None q = refl
+times-split view (Some f) q =
+    ap (λ (vs : List View). times q (keys_in f vs)) (drop-at views (view_rank view) view (here view))
+    ∙ count-append (same_count_key q) (option_to_list (key_in view f)) (keys_after view (Some f))
+
+pub after-next : (view next : View) (f : Option Fact) → Some next ≡ slice_get views (view_rank view + 1) → keys_after view f ≡ keys_left next f
+after-next view next None e = refl
+after-next view next (Some f) e =
+    let after : suc (view_rank view) ≡ view_rank next = let n = view_next view next e in omega (arith, n) in
+    ap (λ (m : ℕ). keys_in f (drop m views)) after
+
+pub after-last : (view : View) (f : Option Fact) → None ≡ slice_get views (view_rank view + 1) → keys_after view f ≡ []
+after-last view None e = refl
+after-last view (Some f) e =
+    let after : view_rank view + 1 ≡ suc (view_rank view) = omega arith in
+    ap (λ (vs : List View). keys_in f vs) (drop-past views (suc (view_rank view)) (e ∙ ap (slice_get views) after))
+
+-- what is counted in a view is among what is counted in it and those after it, and so is what is to be
+module _ (view : View) (m : Counts) (f : Option Fact) where
+  pub counted-here : AreCounted (keys_left view f) m → AreCounted (option_to_list (key_in_if view f)) m
+  counted-here few q = let split = times-split view f q in let all = few q in omega (arith, split, all)
+
+  pub room-here : HaveRoom (keys_left view f) m → HaveRoom (option_to_list (key_in_if view f)) m
+  room-here room q some = let split = times-split view f q in let all = room q (omega (arith, split, some)) in omega (arith, split, all)
+
+-- what moved in a view leaves room for what is to move in those after it, and together they moved in all
+module _ (view next : View) (m mid : Counts) (before after : Option Fact) (few : AreCounted (keys_left view before) m)
+    (room : HaveRoom (keys_left view after) m)
+    (first : IsMoved (option_to_list (key_in_if view before)) (option_to_list (key_in_if view after)) m mid)
+    (e : Some next ≡ slice_get views (view_rank view + 1)) where
+  split : (f : Option Fact) (q : CountKey) → times q (keys_left view f) ≡ times q (option_to_list (key_in_if view f)) + times q (keys_left next f)
+  split f q = times-split view f q ∙ ap (λ (ks : List CountKey). times q (option_to_list (key_in_if view f)) + times q ks) (after-next view next f e)
+
+  pub counted-later : AreCounted (keys_left next before) mid
+  counted-later q = let b = split before q in let all = few q in let moved = first q in omega (arith, b, all, moved)
+
+  pub room-later : HaveRoom (keys_left next after) mid
+  room-later q some =
+      let a = split after q in
+      let all = room q (omega (arith, a, some)) in
+      let moved = first q in
+      omega (arith, a, all, moved)
+
+  pub moved-on : (u : Counts) → IsMoved (keys_left next before) (keys_left next after) mid u → IsMoved (keys_left view before) (keys_left view after) m u
+  moved-on u rest q =
+      let b = split before q in let a = split after q in let one = first q in let two = rest q in omega (arith, a, b, one, two)
+
+pub moved-last : (view : View) (m u : Counts) (before after : Option Fact) → None ≡ slice_get views (view_rank view + 1)
+    → IsMoved (option_to_list (key_in_if view before)) (option_to_list (key_in_if view after)) m u → IsMoved (keys_left view before) (keys_left view after) m u
+moved-last view m u before after e first q =
+    let b = split before in let a = split after in let one = first q in omega (arith, a, b, one)
+  where
+    split : (f : Option Fact) → times q (keys_left view f) ≡ times q (option_to_list (key_in_if view f))
+    split f = let all = times-split view f q in
+        let none : times q (keys_after view f) ≡ 0 = ap (times q) (after-last view f e) in omega (arith, all, none)
+
+-- where a fact is counted in a view is of the view
+pub key-view : (view : View) (f : Option Fact) (k : CountKey) → Some k ≡ key_in_if view f → k.view ≡ view
+key-view view None k e = absurd cc
+key-view view (Some f) k e = of_value (value_in view f) e
+  where
+    of_value : (x : Option Value) → Some k ≡ option_map (λ value. count_key view value f.outcome) x → k.view ≡ view
+    of_value None e = absurd cc
+    of_value (Some x) e = ap (λ (o : Option CountKey). unwrap_or (option_map (λ z. z.view) o) view) e
