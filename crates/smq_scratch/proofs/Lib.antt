@@ -5,3 +5,5 @@ pub mod ReceiptNotes
 pub mod PushedMessages
 pub mod Collected
 pub mod Joined
+pub mod TurnLemmas
+pub mod SideLemmas

@@ -1,17 +1,18 @@
 -- The submitted messages of a session, one PDU at a time.
-use Rattle.std.proofs.Common.{◌≡◌, ℕ, ◌+◌, ◌<◌, ◌≤◌, List, [], ◌∷◌, ◌++◌, length, drop, get_or, append_assoc, Option, Some, None, refl, sym, ap, ◌∙◌}
+use Rattle.std.proofs.Common.{◌≡◌, ℕ, ◌+◌, ◌<◌, ◌≤◌, List, [], ◌∷◌, ◌++◌, length, take, drop, take-append-drop, get_or, append_assoc, Option, Some, None, refl, sym, ap, ◌∙◌, arith}
+use Rattle.std.specs.Prelude.{slice_get}
 use Rattle.std.specs.List.{enumerate_from, flat_map}
-use Rattle.std.proofs.lemmas.List.{drop_more, drop_all}
-use Rattle.smq_kit.specs.declared.place.Dir.TheVariants.{FromClient}
+use Rattle.std.proofs.lemmas.List.{drop_more, drop_all, length-take}
+use Rattle.std.proofs.lemmas.Option.{slice_get-get_or}
 use Rattle.smq_pdu.specs.declared.body.Submit.{Submit}
-use Rattle.smq_pair.specs.Pairing.{PairingValue}
 use Rattle.smq_book.specs.declared.present.kept.KeptPdu.{KeptPdu}
 use Rattle.smq_book.specs.declared.pairing.source.Source.{Source}
 use Rattle.smq_book.specs.present.Kept.{submit_in}
-use Rattle.smq_book.specs.pairing.Traffic.{place_of, pairing_among}
 use Rattle.smq_book.specs.within.Messages.{SubmittedMessage, message_of, response_of, submit_by, submit_with}
-use Rattle.smq_book.specs.within.Pairs.{Rises, SubmitsAreRequests, from_session, response_at}
-use Rattle.smq_book.proofs.lemmas.pairing.Paired.{response-at}
+use Rattle.smq_book.specs.within.Pairs.{SubmitsAreRequests}
+use Rattle.smq_book.proofs.lemmas.join.AgreeLists.{response-same}
+use Rattle.smq_scratch.specs.declared.turns.Kind.TheVariants.{Request}
+use Rattle.smq_scratch.specs.within.Turns.{HasPartners, partner_at}
 
 -- the submitted messages from the i-th PDU on
 abbrev pub submits_left : Source → List KeptPdu → List KeptPdu → ℕ → List SubmittedMessage
@@ -37,19 +38,18 @@ submits-next source client centre i x before after all h is more so =
     ∙ append_assoc before (submit_by (submit_in x.content) source client centre i x) (submits_left source client centre (i + 1))
     ∙ ap (λ (ys : List SubmittedMessage). before ++ ys) (sym (submits-step source client centre i x h is)) ∙ so
 
--- the response in the pair of the i-th PDU is its own
-pub submit-is : (source : Source) (client centre : List KeptPdu) (i : ℕ) (x : KeptPdu) (v : PairingValue)
-    → v ≡ pairing_among (from_session source.session) client centre
-    → i < length client → x ≡ get_or client i x → Rises 0 client → Rises 0 centre → SubmitsAreRequests client
-    → submit_with (submit_in x.content) source x (response_at v centre (place_of (from_session source.session) FromClient x))
-    ≡ submit_by (submit_in x.content) source client centre i x
-submit-is source client centre i x v pairs h is rises centre_rises ask = by_content (submit_in x.content) refl
+-- the response that is kept for the i-th PDU is its own
+pub submit-is : (source : Source) (client centre : List KeptPdu) (i : ℕ) (x : KeptPdu) (responses : List (Option ℕ))
+    → HasPartners Request client centre responses → i < length client → x ≡ get_or client i x → SubmitsAreRequests client
+    → submit_with (submit_in x.content) source x (partner_at responses centre i) ≡ submit_by (submit_in x.content) source client centre i x
+submit-is source client centre i x responses has h is ask = by_content (submit_in x.content) refl
   where
+    at : slice_get client i ≡ Some x
+    at = slice_get-get_or client i x h ∙ ap Some (sym is)
+
     by_content : (submit : Option Submit) → submit_in x.content ≡ submit
-        → submit_with submit source x (response_at v centre (place_of (from_session source.session) FromClient x))
-        ≡ submit_with submit source x (response_of client centre i x)
+        → submit_with submit source x (partner_at responses centre i) ≡ submit_with submit source x (response_of client centre i x)
     by_content None said = refl
     by_content (Some submit) said =
-        ap (λ (r : Option KeptPdu). message_of source x submit r ∷ [])
-        (ap (λ w. response_at w centre (place_of (from_session source.session) FromClient x)) pairs
-        ∙ response-at (from_session source.session) client centre i x submit h is rises centre_rises ask said)
+        ap (λ (r : Option KeptPdu). message_of source x submit r ∷ []) (has i x h at (ask.each i x submit at said)
+        ∙ response-same client centre (take i client) (drop i client) i x (sym (take-append-drop i client)) (let l = length-take i client in omega (arith, l, h)))

@@ -1,2 +1,3 @@
 pub mod Sourced
 pub mod Said
+pub mod within

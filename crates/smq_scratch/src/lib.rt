@@ -9,11 +9,14 @@ mod circumstances;
 mod deciders;
 mod facts;
 mod listings;
+mod notes;
 mod parallel;
 mod receipts;
 mod sessions;
+mod sides;
 mod submits;
 mod traffic;
+mod turns;
 
 pub use anew::tables_anew;
 pub use parallel::audit;

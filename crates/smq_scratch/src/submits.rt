@@ -1,16 +1,15 @@
 //! The submitted messages, each with its response.
 ghost use Rattle.std.specs.Prelude.{◌≡◌, ◌++◌, OnOk};
-ghost use Rattle.std.specs.Option.{option_to_list, option_copied};
-ghost use Rattle.smq_kit.specs.declared.place.Dir.TheVariants.{FromClient};
+ghost use Rattle.std.specs.Option.{option_to_list};
 ghost use Rattle.smq_book.specs.present.Kept.{submit_in};
-ghost use Rattle.smq_book.specs.pairing.Traffic as traffic;
-ghost use Rattle.smq_book.specs.pairing.Traffic.{pairing_among};
 ghost use Rattle.smq_book.specs.within.Messages.{submit_with, submits_among};
-ghost use Rattle.smq_book.specs.within.Pairs.{Rises, SubmitsAreRequests, from_session, response_at};
+ghost use Rattle.smq_book.specs.within.Pairs.{SubmitsAreRequests};
+ghost use Rattle.smq_scratch.specs.within.Sides.{IsPaired};
+ghost use Rattle.smq_scratch.specs.within.Turns.{partner_at};
 
-use smq_book::{KeptPdu, Source, asks_receipt, pdu_at, place_of};
+use crate::sides::Side;
+use smq_book::{KeptPdu, Source, asks_receipt};
 use smq_kit::{Dir, Place};
-use smq_pair::Pairing;
 use smq_pdu::Submit;
 use std::alloc::AllocError;
 use std::marker::Model;
@@ -54,68 +53,43 @@ impl<'a> SubmittedMessage<'a> {
     }
 }
 
-/// Puts the submitted messages of a session, in their order, after what is there.
+/// Puts the submitted messages of a session, whose client's side this is, in their order, after what is there.
 pub(crate) fn push_submits<'a>(
     submits: &mut Vec<SubmittedMessage<'a>>,
     source: Source,
-    pairing: &mut Pairing,
-    client: &'a [KeptPdu],
-    centre: &'a [KeptPdu],
+    side: &Side<'a>,
 ) -> Result<(), AllocError>
-    requires pairs { pairing.old.pdus ≡ pairing_among (from_session source.session) client.now centre.now }
-    requires client { Rises 0 client.now }
-    requires centre { Rises 0 centre.now }
-    requires requests { SubmitsAreRequests client.now }
-    ensures submits { OnOk result
-        (submits.new.items ≡ submits.old.items ++ submits_among source client.now centre.now) }
-    ensures stays { pairing.new ≡ pairing.old }
+    requires side { IsPaired side.now }
+    requires requests { SubmitsAreRequests side.now.pdus.now }
+    ensures { OnOk result (submits.new.items
+        ≡ submits.old.items ++ submits_among source side.now.pdus.now side.now.other.now) }
 {
-    for pdu in client {
-        if let Some(submit) = submit_at(source, pairing, centre, pdu) {
+    let pdus = side.pdus;
+    for index in 0..pdus.len() {
+        if let Some(submit) = submit_at(source, side, index, &pdus[index]) {
             submits.push(submit)?;
         }
     }
     Ok(())
 }
 
-/// The message that a PDU of the client is, where it is a decodable submit_sm or data_sm.
+/// The message that the PDU at an index is, where it is a decodable submit_sm or data_sm.
 fn submit_at<'a>(
     source: Source,
-    pairing: &mut Pairing,
-    centre: &'a [KeptPdu],
+    side: &Side<'a>,
+    index: usize,
     pdu: &'a KeptPdu,
 ) -> Option<SubmittedMessage<'a>>
-    requires { Rises 0 centre.now }
-    ensures submit { let place = traffic.place_of (from_session source.session) FromClient pdu.now in
-        option_to_list result
-        ≡ submit_with (submit_in pdu.now.content) source pdu.now (response_at pairing.old.pdus centre.now place) }
-    ensures stays { pairing.new ≡ pairing.old }
+    ensures { option_to_list result ≡ submit_with (submit_in pdu.now.content) source pdu.now
+        (partner_at side.now.responses.items side.now.other.now index) }
 {
     match pdu.content.submit() {
         Some(submit) => Some(SubmittedMessage {
             source,
             request: pdu,
             submit,
-            response: response_of(
-                pairing,
-                place_of(source.session, Dir::FromClient, pdu),
-                centre,
-            ),
+            response: side.response(index),
         }),
         None => None,
     }
-}
-
-/// The response in the pair at a place, which is one of these PDUs of the centre.
-fn response_of<'a>(
-    pairing: &mut Pairing,
-    place: Place,
-    centre: &'a [KeptPdu],
-) -> Option<&'a KeptPdu>
-    requires { Rises 0 centre.now }
-    ensures response { option_copied result ≡ response_at pairing.old.pdus centre.now place }
-    ensures stays { pairing.new ≡ pairing.old }
-{
-    let pair = pairing.pair_of(place)?;
-    pdu_at(centre, pair.response.offset)
 }

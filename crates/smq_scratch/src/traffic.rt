@@ -5,9 +5,12 @@ ghost use Rattle.std.specs.List.{AllZip, flat_map};
 ghost use Rattle.smq_scratch.specs.Sourced.{notes_in, submits_in};
 ghost use Rattle.smq_scratch.specs.Said.{Says};
 
+use crate::notes::push_notes;
 use crate::sessions::SourcedSession;
+use crate::sides::Side;
 use crate::submits::{SubmittedMessage, push_submits};
-use smq_book::{Listed, pairing_of, push_notes};
+use smq_book::Listed;
+use smq_kit::Dir;
 use std::alloc::{AllocError, Global};
 
 /// The submitted messages, and the places that want looking at.
@@ -28,11 +31,18 @@ pub(crate) fn read_session<'a>(
     let session = sourced.session;
     let client = session.client.pdus();
     let centre = session.centre.pdus();
-    let mut pairing = pairing_of(alloc, source.session, client, centre)?;
+    let from_client = Side::of(alloc, source.session, Dir::FromClient, client, centre)?;
+    let from_centre = Side::of(alloc, source.session, Dir::FromCentre, centre, client)?;
     let mut submits = Vec::new(alloc);
-    push_submits(&mut submits, source, &mut pairing, client, centre)?;
+    push_submits(&mut submits, source, &from_client)?;
     let mut notes = Vec::new(alloc);
-    push_notes(&mut notes, &mut pairing, source.session, session)?;
+    push_notes(
+        &mut notes,
+        source.session,
+        session,
+        &from_client,
+        &from_centre,
+    )?;
     Ok(Traffic { submits, notes })
 }
 

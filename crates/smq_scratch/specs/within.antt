@@ -1,0 +1,3 @@
+-- What the code keeps, which no public contract names.
+pub mod Turns
+pub mod Sides
