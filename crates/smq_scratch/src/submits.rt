@@ -1,11 +1,10 @@
 //! The submitted messages, each with its response.
-ghost use Rattle.std.specs.Prelude.{◌≡◌, ◌++◌, OnOk};
+ghost use Rattle.std.specs.Prelude.{◌≡◌, ◌++◌, OnOk, Some, slice_get};
 ghost use Rattle.std.specs.Option.{option_to_list};
 ghost use Rattle.smq_book.specs.present.Kept.{submit_in};
-ghost use Rattle.smq_book.specs.within.Messages.{submit_with, submits_among};
+ghost use Rattle.smq_book.specs.within.Messages.{submit_by, submits_among};
 ghost use Rattle.smq_book.specs.within.Pairs.{SubmitsAreRequests};
 ghost use Rattle.smq_scratch.specs.within.Sides.{IsPaired};
-ghost use Rattle.smq_scratch.specs.within.Turns.{partner_at};
 
 use crate::sides::Side;
 use smq_book::{KeptPdu, Source, asks_receipt};
@@ -80,8 +79,11 @@ fn submit_at<'a>(
     index: usize,
     pdu: &'a KeptPdu,
 ) -> Option<SubmittedMessage<'a>>
-    ensures { option_to_list result ≡ submit_with (submit_in pdu.now.content) source pdu.now
-        (partner_at side.now.responses.items side.now.other.now index) }
+    requires side { IsPaired side.now }
+    requires requests { SubmitsAreRequests side.now.pdus.now }
+    requires pdu { slice_get side.now.pdus.now index ≡ Some pdu.now }
+    ensures { option_to_list result ≡ submit_by (submit_in pdu.now.content) source
+        side.now.pdus.now side.now.other.now index pdu.now }
 {
     match pdu.content.submit() {
         Some(submit) => Some(SubmittedMessage {
