@@ -47,6 +47,14 @@ ledger_of entries = record { limit = 9; seats = 3; entries = entries; board = []
 abbrev pub torn_seats : List SeatValue
 torn_seats = seat_of 1 [] ∷ seat_of 2 second_calls ∷ seat_of 3 [] ∷ []
 
+-- a call for entry 1 with another reply
+abbrev pub other_call : Call
+other_call = call_of 1 (Advance 5) (Refused (ClockBack 6))
+
+-- the call for entry 1 with the number 0
+abbrev pub early_call : Call
+early_call = call_of 0 (Advance 5) Done
+
 -- a new ledger has neither seats nor entries; entries are numbered from 1
 pub record KnownLedgers : Type 0 where
   pub opens : opened 9 ≡ record { limit = 9; seats = 0; entries = []; board = [] }
@@ -56,8 +64,8 @@ pub record KnownLedgers : Type 0 where
 -- the history has a seat's calls where each is its entry of that number and seat, that of entry 1 too
 pub record KnownCalls : Type 0 where
   pub each : HasCalls history (seat_of 1 first_calls)
-  pub another : HasCalls history (seat_of 1 (call_of 1 (Advance 5) (Refused (ClockBack 6)) ∷ [])) → ⊥
-  pub below : HasCalls history (seat_of 1 (call_of 0 (Advance 5) Done ∷ [])) → ⊥
+  pub another : HasCalls history (seat_of 1 (other_call ∷ [])) → ⊥
+  pub below : HasCalls history (seat_of 1 (early_call ∷ [])) → ⊥
   pub of_another : HasCalls history (seat_of 2 first_calls) → ⊥
 
 -- fewer seats than were given out are told as such, and as many aren't; where one has lost its calls, the first of them is told

@@ -4,17 +4,14 @@ use Rattle.std.specs.Prelude.{⊤, slice_get}
 use Rattle.std.specs.List.{AllZip}
 use Rattle.std.proofs.lemmas.List.Elements.{All-from_recursion}
 use Rattle.std.proofs.lemmas.Option.{same_Some}
-use Rattle.smq_kit.specs.declared.refusal.Refusal.TheVariants.{ClockBack, EmptyPiece}
-use Rattle.smq_book.specs.declared.present.edit.Edit.TheVariants.{Advance}
+use Rattle.smq_kit.specs.declared.refusal.Refusal.TheVariants.{EmptyPiece}
 use Rattle.smq_desk.specs.declared.entry.Call.{Call}
-use Rattle.smq_desk.specs.declared.entry.Entry.{Entry}
-use Rattle.smq_desk.specs.declared.entry.Reply.TheVariants.{Done, Refused}
-use Rattle.smq_desk.specs.History.{entry_of}
+use Rattle.smq_desk.specs.declared.entry.Reply.TheVariants.{Done}
 use Rattle.smq_desk.specs.Jobs.{IsFate, Made, Puts}
 use Rattle.smq_desk.specs.Seats.{SeatValue, AreCallsOf, HasItsCalls, HasOneSeat, call_of, calls_in, holders}
 use Rattle.smq_load.specs.declared.row.Row.{Row}
 use Rattle.smq_engine.specs.IsCheck.{Compares}
-use Rattle.smq_engine.specs.Known.{checked_history, checked_rows, checked_seats, checked_settings, clock_rows, first_calls, no_octets, one, put_after, seat_of, some_rows, three, turned_seats, two}
+use Rattle.smq_engine.specs.Known.{checked_history, checked_rows, checked_seats, checked_settings, clock_entries, clock_rows, first_calls, no_octets, one, put_after, seat_of, some_rows, three, turned_seats, two}
 use Rattle.smq_engine.specs.Workers.{HasMade, HaveMadeRows, edits_of_calls, pieces_of_worker, plain_edits}
 
 pub calls : AreCallsOf checked_seats checked_history
@@ -117,11 +114,6 @@ not_turned h =
     not_in_turn made.1.fates made.1.each made.1.calls
 
 -- ---- a check of clocks, and of a piece of no octets
-
-abbrev clock_entries : List Entry
-clock_entries =
-    entry_of 1 (Advance 3) Done ∷ entry_of 1 (Advance 2) (Refused (ClockBack 3)) ∷ entry_of 1 (Advance 4) Done
-    ∷ entry_of 1 (Advance 5) Done ∷ entry_of 1 (Advance 4) (Refused (ClockBack 5)) ∷ entry_of 1 (Advance 6) Done ∷ []
 
 abbrev idle_seats : List SeatValue
 idle_seats =

@@ -12,7 +12,7 @@ use Rattle.smq_book.specs.present.Present.{PresentValue, empty, tail_in}
 use Rattle.smq_book.specs.declared.present.piece_row.PieceRow.{PieceRow}
 use Rattle.smq_desk.specs.declared.entry.Call.{Call}
 use Rattle.smq_desk.specs.declared.entry.Entry.{Entry}
-use Rattle.smq_desk.specs.declared.entry.Reply.TheVariants.{Done}
+use Rattle.smq_desk.specs.declared.entry.Reply.TheVariants.{Done, Refused}
 use Rattle.smq_desk.specs.History.{entry_of}
 use Rattle.smq_desk.specs.Seats.{SeatValue, call_of, AreCallsOf}
 use Rattle.smq_load.specs.declared.row.Row.{Row}
@@ -173,6 +173,12 @@ turned_seats = seats_with (call_of 2 (put_after 0 three) Done ∷ call_of 4 (put
 -- three clocks of settings, of which the second is refused
 abbrev pub clock_rows : List Row
 clock_rows = Plain (Advance 3) ∷ Plain (Advance 2) ∷ Plain (Advance 4) ∷ []
+
+-- the history of these and of the rows above, of which the piece of no octets has no entry
+abbrev pub clock_entries : List Entry
+clock_entries =
+    entry_of 1 (Advance 3) Done ∷ entry_of 1 (Advance 2) (Refused (refusal.ClockBack 3)) ∷ entry_of 1 (Advance 4) Done
+    ∷ entry_of 1 (Advance 5) Done ∷ entry_of 1 (Advance 4) (Refused (refusal.ClockBack 5)) ∷ entry_of 1 (Advance 6) Done ∷ []
 
 -- What is written of checks, and the faults of a desk; how many workers there are, and which pieces they have; the plain edits; that
 -- the history is the calls of its seats, and these have made the rows, not those of the script alone, and not in another order of

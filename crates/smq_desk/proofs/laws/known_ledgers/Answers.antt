@@ -1,18 +1,15 @@
-use Rattle.std.proofs.Common.{◌≡◌, ◌<◌, [], Some, inl, inr, refl, sym, ap, subst, arith}
+use Rattle.std.proofs.Common.{◌≡◌, ◌<◌, [], Some, inl, inr, refl, sym, subst, get_or, arith}
 use Rattle.std.specs.Prelude.{slice_get}
 use Rattle.std.proofs.lemmas.List.Elements.{All-nil, All-from_recursion}
-use Rattle.std.proofs.lemmas.Option.{same_Some}
-use Rattle.smq_kit.specs.declared.refusal.Refusal.TheVariants.{ClockBack}
-use Rattle.smq_book.specs.declared.present.edit.Edit.TheVariants.{Advance}
 use Rattle.smq_desk.specs.declared.entry.Call.{Call}
 use Rattle.smq_desk.specs.declared.entry.Entry.{Entry}
 use Rattle.smq_desk.specs.declared.entry.Reply.{Reply}
-use Rattle.smq_desk.specs.declared.entry.Reply.TheVariants.{Done, Refused}
+use Rattle.smq_desk.specs.declared.entry.Reply.TheVariants.{Done}
 use Rattle.smq_desk.specs.Closing.{AgreesUpTo, AgreeUpTo}
-use Rattle.smq_desk.specs.Known.{first_calls, history, second_calls, seat_of, torn_seats}
+use Rattle.smq_desk.specs.Known.{early_call, first_calls, history, other_call, second_calls, seat_of, torn_seats}
 use Rattle.smq_desk.specs.History.{entry_of}
 use Rattle.smq_desk.specs.Publishing.{HasCall}
-use Rattle.smq_desk.specs.Seats.{HasOneSeat, call_of}
+use Rattle.smq_desk.specs.Seats.{HasOneSeat}
 use Rattle.smq_desk.proofs.laws.known_ledgers.Goals as goal
 
 -- nothing was committed up to number 0
@@ -35,21 +32,21 @@ returns-clause-ledgers c = record {
   second = record { added = refl; numbered = refl; replied = refl };
 }
 
-first_entry : (e : Entry) → slice_get history 0 ≡ Some e → entry_of 1 (Advance 5) Done ≡ e
-first_entry e at = same_Some (entry_of 1 (Advance 5) Done) e at
+first_entry : (e : Entry) → slice_get history 0 ≡ Some e → (1 ≡ e.seat) × (Done ≡ e.reply)
+first_entry e at = (cc, cc)
 
 pub returns-clause-calls : goal.returns-clause-calls
 returns-clause-calls c = record {
   each = All-from_recursion (HasCall history 1) first_calls ((omega arith, refl), ((omega arith, refl), tt));
   another = λ h.
-      let reply : ◌≡◌ {A = Reply} Done (Refused (ClockBack 6)) = ap (λ (e : Entry). e.reply)
-      (first_entry (entry_of 1 (Advance 5) (Refused (ClockBack 6))) (h 0 (call_of 1 (Advance 5) (Refused (ClockBack 6))) (omega arith)).1) in
+      let same : ◌≡◌ {A = Reply} Done other_call.reply =
+      (first_entry (entry_of 1 other_call.edit other_call.reply) (h 0 other_call (omega arith)).1).1 in
       absurd cc;
-  below = λ h. let positive = (h 0 (call_of 0 (Advance 5) Done) (omega arith)).0 in omega (arith, positive);
+  below = λ h. let positive = (h 0 early_call (omega arith)).0 in omega (arith, positive);
   of_another = λ h.
-      let seat : 1 ≡ 2 = ap (λ (e : Entry). e.seat)
-      (first_entry (entry_of 2 (Advance 5) Done) (h 0 (call_of 1 (Advance 5) Done) (omega arith)).1) in
-      omega (arith, seat);
+      let first = get_or first_calls 0 other_call in
+      let same : 1 ≡ 2 = (first_entry (entry_of 2 first.edit first.reply) (h 0 first (omega arith)).1).0 in
+      omega (arith, same);
 }
 
 pub returns-clause-closes : goal.returns-clause-closes
