@@ -1,4 +1,4 @@
-//! What is known of the submitted messages. Outcomes are tested in the order of their table; who adds one tests it in
+//! What is known of the submitted messages. Outcomes are tested in the order of their table; whoever adds one tests it in
 //! the turn that it has there, in specs/join/Outcomes.antt.
 ghost use Rattle.std.specs.Prelude.{◌≡◌, ℕ, List, Option, option_map, IfOk};
 ghost use Rattle.std.specs.Option.{option_copied};

@@ -1,4 +1,4 @@
-//! The delivery receipts that want looking at, in their lists.
+//! The delivery receipts that need a look, in their lists.
 ghost use Rattle.std.specs.Prelude.{◌≡◌, ◌++◌, IfOk, OnOk, option_to_list, option_copied};
 ghost use Rattle.std.specs.List.{flat_map};
 ghost use Rattle.smq_book.specs.present.Kept.{receipt_in};

@@ -1,4 +1,4 @@
-//! The places of a session that want looking at.
+//! The places of a session that need a look.
 ghost use Rattle.std.specs.Prelude.{◌≡◌, ◌++◌, ◌∷◌, [], slice_get, option_to_list, map, OnOk};
 ghost use Rattle.std.specs.Option.{option_copied};
 ghost use Rattle.smq_kit.specs.declared.place.Dir.TheVariants.{FromClient, FromCentre};

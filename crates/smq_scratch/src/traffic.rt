@@ -13,7 +13,7 @@ use smq_book::Listed;
 use smq_kit::Dir;
 use std::alloc::{AllocError, Global};
 
-/// The submitted messages, and the places that want looking at.
+/// The submitted messages, and the places that need a look.
 #[derive(Drop)]
 pub(crate) struct Traffic<'a> {
     pub submits: Vec<SubmittedMessage<'a>>,

@@ -1,4 +1,4 @@
-//! Bands of delays, declared in the order in which reports print them. Who adds one gives it its limit and its rank in
+//! Bands of delays, declared in the order in which reports print them. Whoever adds one gives it its limit and its rank in
 //! specs/Bands.antt and its name in Names.antt; the laws of order say whether they agree.
 ghost use Rattle.std.specs.Prelude.{◌≡◌};
 

@@ -1,4 +1,4 @@
-//! Counts of messages by views and outcomes, and lists of places that want looking at.
+//! Counts of messages by views and outcomes, and lists of places that need a look.
 #![tactic(auto)]
 
 mod band;

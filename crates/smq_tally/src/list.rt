@@ -1,4 +1,4 @@
-//! What wants looking at: places, in lists. Lists are declared in the order in which reports print them. Who adds one
+//! What needs a look: places, in lists. Lists are declared in the order in which reports print them. Whoever adds one
 //! gives it its rank here and in specs/Lists.antt, and its name in Names.antt; the law of their order says whether
 //! they agree.
 ghost use Rattle.std.specs.Prelude.{◌≡◌};

@@ -1,4 +1,4 @@
-//! What views count messages by. Who adds one gives it its numbers in specs/Rows.antt; the laws of order say whether they
+//! What views count messages by. Whoever adds one gives it its numbers in specs/Rows.antt; the laws of order say whether they
 //! agree.
 ghost use Rattle.std.specs.Prelude.{◌≡◌};
 

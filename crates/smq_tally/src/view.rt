@@ -1,4 +1,4 @@
-//! The views, declared in the order in which reports print them. Who adds one gives it its rank here and in
+//! The views, declared in the order in which reports print them. Whoever adds one gives it its rank here and in
 //! specs/Rows.antt, and its name in Names.antt; the laws of order say whether they agree.
 ghost use Rattle.std.specs.Prelude.{◌≡◌};
 
