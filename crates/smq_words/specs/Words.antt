@@ -117,7 +117,7 @@ follow_app formats = add_options formats (new_app (codes "follow"))
 
 -- the program's version
 abbrev pub version_text : Text
-version_text = codes "0.13.0"
+version_text = codes "0.14.0"
 
 -- the program without its subcommands: one is required, or `--version`
 abbrev pub bare_program : App

@@ -21,7 +21,7 @@ const USAGE: &str =
     "smq report [OPTIONS] < SCRIPT\n       smq query [OPTIONS] <NAME> < SCRIPT\n       smq check [OPTIONS] < SCRIPT\n       smq follow [OPTIONS] < ROWS";
 
 /// The version that `--version` prints.
-const VERSION: &str = "0.13.0";
+const VERSION: &str = "0.14.0";
 
 /// The first part of what stands below each help, before the names of views and lists.
 const SCRIPT: &str = "\
