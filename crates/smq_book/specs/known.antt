@@ -2,6 +2,7 @@
 pub mod Present
 pub mod Edits
 pub mod Pairing
+pub mod Kept
 pub mod Join
 pub mod Whole
 pub mod Reach

@@ -6,6 +6,7 @@ pub mod Closing
 pub mod Publishing
 pub mod Jobs
 pub mod Known
+pub mod KnownLedgers
 pub mod Pieces
 pub mod Schedules
 pub mod Interleaving

@@ -1,14 +1,10 @@
--- Known PDUs, as values and as octets, what is kept of them, and the notes of sessions that are made of them.
+-- Known PDUs, as values and as octets, and the notes of sessions that are made of them.
 use Rattle.std.specs.Prelude.{◌≡◌, ◌+◌, ℕ, Bool, true, false, List, [], ◌∷◌, ◌++◌, length, codes, Some, None, ℤ}
 use Rattle.smq_kit.specs.declared.place.Dir.{Dir}
 use Rattle.smq_kit.specs.declared.place.Dir.TheVariants.{FromClient, FromCentre}
 use Rattle.smq_kit.specs.declared.place.Place.{Place}
 use Rattle.smq_frame.specs.Stream.{handed_in}
-use Rattle.smq_pdu.specs.Bodies.{SubmitAnswerBody}
-use Rattle.smq_pdu.specs.KnownDataSms.{data_sm_pdu, data_sm_receipt_pdu}
 use Rattle.smq_pdu.specs.Pairing.{is_request, is_response}
-use Rattle.smq_pdu.specs.Pdu.{PduValue}
-use Rattle.smq_pdu.specs.Placed.{PlacedPdu}
 use Rattle.smq_kit.specs.declared.error_code.ErrorCode.{ErrorCode}
 use Rattle.smq_kit.specs.declared.error_code.ErrorCode.TheVariants as e
 use Rattle.smq_receipt.specs.declared.message_state.MessageState.{MessageState}
@@ -21,7 +17,7 @@ use Rattle.smq_book.specs.declared.present.kept.Content.{Content}
 use Rattle.smq_book.specs.declared.present.kept.Content.TheVariants as c
 use Rattle.smq_book.specs.declared.present.kept.KeptPdu.{KeptPdu}
 use Rattle.smq_book.specs.declared.present.session.Session.{Session}
-use Rattle.smq_book.specs.present.Kept.{header_of, kept_pdu, submit_in}
+use Rattle.smq_book.specs.present.Kept.{header_of}
 use Rattle.smq_book.specs.pairing.Traffic.{Origin, notes_among, content_notes, session_notes}
 use Rattle.smq_tally.specs.Lists.{listed}
 
@@ -97,31 +93,6 @@ delivered_after offset moment delay =
 -- session 10 of link 1
 abbrev pub known_origin : Origin
 known_origin = record { session = record { 0 = 10 }; link = record { 0 = 1 } }
-
--- a PDU at an offset
-abbrev pub at_offset : ℕ → PduValue → PlacedPdu
-at_offset offset pdu = record { offset = offset; moment = 1000; pdu = pdu }
-
--- a submit_sm_resp of which each word has both high and low bits
-abbrev pub high_words : PduValue
-high_words = record {
-  header = record { command = 0x8000_0004; status = 0x0002_0001; seq = 0x0003_0001 };
-  body = SubmitAnswerBody (Some (49 ∷ []));
-}
-
--- What is kept of PDUs that are written out: each word whole; a data_sm that asks for a receipt and is none; and of one that is a
--- receipt, that it asks for none.
-pub record KnownKept : Type 0 where
-  pub words :
-      kept_pdu (at_offset 0x0001_0000_0001 high_words)
-      ≡ pdu 0x0001_0000_0001 0x8000_0004 0x0002_0001 0x0003_0001 (c.SubmitAnswer (Some (49 ∷ [])))
-  pub message :
-      kept_pdu (at_offset 0 data_sm_pdu)
-      ≡ pdu 0 0x0000_0103 0 1
-      (c.DataSm (record { registered_delivery = 1; number = Some (codes "447700900123") }) v.NotReceipt)
-  pub unasked :
-      submit_in (kept_pdu (at_offset 0 data_sm_receipt_pdu)).content
-      ≡ Some (record { registered_delivery = 0; number = None })
 
 -- a request and a later PDU of one sequence number, and two responses of it
 pub record InTurn (one two response later : KeptPdu) : Type 0 where

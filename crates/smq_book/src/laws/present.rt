@@ -11,7 +11,7 @@ ghost use Rattle.smq_book.specs.declared.present.edit.Edit.TheVariants.{Append, 
 ghost use Rattle.smq_book.specs.present.Batch.{BatchValue, with_octets, continued};
 ghost use Rattle.smq_book.specs.known.Present.{KnownClocks, KnownForms, KnownOctets, KnownPieces, KnownReplies, KnownRouteReplies, KnownRoutes, KnownWindows, KnownWithdrawals, waiting};
 ghost use Rattle.smq_book.specs.known.Edits.{KnownEditsWithout, KnownFolds};
-ghost use Rattle.smq_book.specs.known.Pairing.{KnownKept};
+ghost use Rattle.smq_book.specs.known.Kept.{KnownKept};
 ghost use Rattle.smq_book.specs.present.Present.{PresentValue, session_of, tail_in};
 ghost use Rattle.smq_book.specs.present.Replies.{GoesAfter, IsOfEdits, reply};
 ghost use Rattle.smq_book.specs.present.Steps.{Appends, AppendsCommute, AreAppendedAgain, IsAsNeverThere, LeavesNoTrace, SetsForm, SetsWindow, AddsRoute, EndsRoute, CorrectsRoute, Advances, Withdraws, change, step};

@@ -6,7 +6,8 @@ use Rattle.smq_desk.specs.declared.entry.Entry.{Entry}
 use Rattle.smq_desk.specs.declared.entry.Reply.{Reply}
 use Rattle.smq_desk.specs.declared.entry.Reply.TheVariants.{Done}
 use Rattle.smq_desk.specs.Closing.{AgreesUpTo, AgreeUpTo}
-use Rattle.smq_desk.specs.Known.{early_call, first_calls, history, other_call, second_calls, seat_of, torn_seats}
+use Rattle.smq_desk.specs.Known.{history}
+use Rattle.smq_desk.specs.KnownLedgers.{calls_of_first, calls_of_second, numbered_0, replied_otherwise, seat_with, torn_seats}
 use Rattle.smq_desk.specs.History.{entry_of}
 use Rattle.smq_desk.specs.Publishing.{HasCall}
 use Rattle.smq_desk.specs.Seats.{HasOneSeat}
@@ -18,7 +19,7 @@ at_first = record {
   each_seat = All-from_recursion (AgreesUpTo history 0) torn_seats (
     record { later = []; agreed = refl; greater = All-nil _ },
     (
-      record { later = second_calls; agreed = refl; greater = All-from_recursion (λ (c : Call). 0 < c.number) second_calls (omega arith, tt) },
+      record { later = calls_of_second; agreed = refl; greater = All-from_recursion (λ (c : Call). 0 < c.number) calls_of_second (omega arith, tt) },
       (record { later = []; agreed = refl; greater = All-nil _ }, tt),
     ),
   );
@@ -28,8 +29,8 @@ at_first = record {
 pub returns-clause-ledgers : goal.returns-clause-ledgers
 returns-clause-ledgers c = record {
   opens = refl;
-  first = record { added = refl; numbered = refl; replied = refl };
-  second = record { added = refl; numbered = refl; replied = refl };
+  adds_first = record { added = refl; numbered = refl; replied = refl };
+  adds_second = record { added = refl; numbered = refl; replied = refl };
 }
 
 first_entry : (e : Entry) → slice_get history 0 ≡ Some e → (1 ≡ e.seat) × (Done ≡ e.reply)
@@ -37,14 +38,14 @@ first_entry e at = (cc, cc)
 
 pub returns-clause-calls : goal.returns-clause-calls
 returns-clause-calls c = record {
-  each = All-from_recursion (HasCall history 1) first_calls ((omega arith, refl), ((omega arith, refl), tt));
-  another = λ h.
-      let same : ◌≡◌ {A = Reply} Done other_call.reply =
-      (first_entry (entry_of 1 other_call.edit other_call.reply) (h 0 other_call (omega arith)).1).1 in
+  own = All-from_recursion (HasCall history 1) calls_of_first ((omega arith, refl), ((omega arith, refl), tt));
+  with_another_reply = λ h.
+      let same : ◌≡◌ {A = Reply} Done replied_otherwise.reply =
+      (first_entry (entry_of 1 replied_otherwise.edit replied_otherwise.reply) (h 0 replied_otherwise (omega arith)).1).1 in
       absurd cc;
-  below = λ h. let positive = (h 0 early_call (omega arith)).0 in omega (arith, positive);
-  of_another = λ h.
-      let first = get_or first_calls 0 other_call in
+  below_1 = λ h. let positive = (h 0 numbered_0 (omega arith)).0 in omega (arith, positive);
+  of_another_seat = λ h.
+      let first = get_or calls_of_first 0 replied_otherwise in
       let same : 1 ≡ 2 = (first_entry (entry_of 2 first.edit first.reply) (h 0 first (omega arith)).1).0 in
       omega (arith, same);
 }
@@ -57,7 +58,7 @@ returns-clause-closes c = record {
     omega arith,
     record {
       below = λ n less. let none : n ≡ 0 = omega (arith, less) in subst (AgreeUpTo torn_seats history) (sym none) at_first;
-      here = λ h. let lost = (h.each_seat 0 (seat_of 1 []) (omega arith)).agreed in absurd cc;
+      here = λ h. let lost = (h.each_seat 0 (seat_with 1 []) (omega arith)).agreed in absurd cc;
     },
     record { entry = λ e positive in_range at. cc; call = λ h. let none : ⊥ = elim h [ inl e ↦ omega (arith, e) | inr e ↦ omega (arith, e) ] in absurd none },
   );

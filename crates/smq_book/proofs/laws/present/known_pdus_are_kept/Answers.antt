@@ -4,4 +4,4 @@ use Rattle.smq_book.proofs.laws.present.known_pdus_are_kept.Goals as goal
 
 pub returns : goal.returns
 unfolding reading_of
-returns c = record { words = refl; message = refl; unasked = refl }
+returns c = record { high = refl; asking = refl; not_asking = refl }
