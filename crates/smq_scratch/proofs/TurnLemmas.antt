@@ -45,12 +45,12 @@ pub updated : (m n : BTreeMap ℕ (Option ℕ)) (k q : ℕ) (w : Option ℕ) →
 updated m n k q w h = grind (arith, common_steps, h.0 q, h.1, h.2 q)
 
 -- where a number has no first, none is put
-pub none-put : (next : List (Option ℕ)) (m : BTreeMap ℕ (Option ℕ)) (k q : ℕ) → first_in m k ≡ None
-    → first_in m q ≡ cond (k == q) (advanced next (first_in m k)) (first_in m q)
-none-put next m k q none = by_number (k == q) refl
+pub none-put : (next : List (Option ℕ)) (m : BTreeMap ℕ (Option ℕ)) (k q : ℕ) (first : Option ℕ) → first ≡ None → first_in m k ≡ None
+    → first_in m q ≡ cond (k == q) (advanced next first) (first_in m q)
+none-put next m k q first is none = by_number (k == q) refl
   where
-    by_number : (b : Bool) → (k == q) ≡ b → first_in m q ≡ cond b (advanced next (first_in m k)) (first_in m q)
-    by_number true e = ap (first_in m) (sym (eqb-true k q e)) ∙ none ∙ sym (ap (advanced next) none)
+    by_number : (b : Bool) → (k == q) ≡ b → first_in m q ≡ cond b (advanced next first) (first_in m q)
+    by_number true e = ap (first_in m) (sym (eqb-true k q e)) ∙ none ∙ sym (ap (advanced next) is)
     by_number false e = refl
 
 -- what is kept of one index is put

@@ -1,8 +1,8 @@
 //! Where the requests, or the responses, of each sequence number stand in a direction.
-ghost use Rattle.std.specs.Prelude.{◌≡◌, ◌+◌, ◌==◌, ℕ, IfOk, slice_get, option_and_then};
+ghost use Rattle.std.specs.Prelude.{◌≡◌, ◌==◌, if◌then◌else◌, ℕ, IfOk};
 ghost use Rattle.smq_pdu.specs.Header.{header_with};
 ghost use Rattle.smq_scratch.specs.within.Turns as t;
-ghost use Rattle.smq_scratch.specs.within.Turns.{HasTurns, advanced, first_in, next_at, taken_more, turns_of};
+ghost use Rattle.smq_scratch.specs.within.Turns.{HasTurns, advanced, first_in};
 
 use smq_book::KeptPdu;
 use smq_pdu::{is_request, is_response};
@@ -11,14 +11,14 @@ use std::collections::BTreeMap;
 
 /// The two kinds of PDU that are in pairs.
 #[derive(Clone, Copy)]
-pub enum Kind {
+pub(crate) enum Kind {
     Request,
     Response,
 }
 
 impl Kind {
     /// Whether a PDU with this command_id is of the kind.
-    pub fn has(self, command: u32) -> bool
+    pub(crate) fn has(self, command: u32) -> bool
         ensures { result ≡ t.is_kind self (header_with command) }
     {
         match self {
@@ -28,7 +28,7 @@ impl Kind {
     }
 
     /// The kind of those with which it is in pairs.
-    pub fn opposite(self) -> Kind
+    pub(crate) fn opposite(self) -> Kind
         ensures { result ≡ t.opposite self }
     {
         match self {
@@ -40,14 +40,14 @@ impl Kind {
 
 /// The PDUs of a kind by their sequence numbers, in order: the first of each number that isn't taken, and the next after each.
 #[derive(Drop)]
-pub struct Turns {
+pub(crate) struct Turns {
     pub first: BTreeMap<u32, Option<usize>>,
     pub next: Vec<Option<usize>>,
 }
 
 impl Turns {
     /// Those of a direction, of which none is taken.
-    pub fn of(alloc: Global, kind: Kind, pdus: &[KeptPdu]) -> Result<Turns, AllocError>
+    pub(crate) fn of(alloc: Global, kind: Kind, pdus: &[KeptPdu]) -> Result<Turns, AllocError>
         ensures { IfOk result (λ turns. HasTurns kind pdus.now (λ seq. 0) turns) }
     {
         let mut first = BTreeMap::new(alloc);
@@ -63,12 +63,12 @@ impl Turns {
         Ok(Turns { first, next })
     }
 
-    /// The index of the first of a number that isn't taken. It is taken then.
-    pub fn take(&mut self, seq: u32) -> Option<usize>
-        ensures taken { (kind : t.Kind) (pdus : t.List t.KeptPdu) (taken : ℕ → ℕ) → HasTurns kind pdus taken self.old
-            → HasTurns kind pdus (taken_more seq taken) self.new }
-        ensures at { (kind : t.Kind) (pdus : t.List t.KeptPdu) (taken : ℕ → ℕ) → HasTurns kind pdus taken self.old
-            → option_and_then (slice_get pdus) result ≡ slice_get (turns_of kind seq pdus) (taken seq) }
+    /// Takes the first of a number that isn't taken, and gives its index.
+    pub(crate) fn take(&mut self, seq: u32) -> Option<usize>
+        ensures taken { result ≡ first_in self.old.first seq }
+        ensures first { (q : ℕ) → first_in self.new.first q ≡ (if seq == q
+            then advanced self.old.next.items result else first_in self.old.first q) }
+        ensures next { self.new.next ≡ self.old.next }
     {
         let first = self.first.get_mut(&seq)?;
         advance(first, self.next.as_slice())

@@ -1,14 +1,13 @@
 -- Which PDU of the other direction is the partner of one: that of its sequence number and rank; and where these are found.
-use Rattle.std.specs.Prelude.{◌≡◌, ◌≤◌, ◌<◌, ◌+◌, ◌==◌, ◌&&◌, if◌then◌else◌, ℕ, Bool, true, [], ◌∷◌, take, drop, length, filter, count_by, slice_get, Option, Some, None, option_and_then, unwrap_or}
-pub use Rattle.std.specs.Prelude.{List}
+use Rattle.std.specs.Prelude.{◌≡◌, ◌≤◌, ◌<◌, ◌+◌, ◌==◌, ◌&&◌, if◌then◌else◌, ℕ, Bool, true, List, [], ◌∷◌, take, drop, length, filter, count_by, slice_get, Option, Some, None, option_and_then, unwrap_or}
 use Rattle.std.specs.Ordering.{nat_cmp}
 use Rattle.std.specs.BTreeMap.{BTreeMap}
 use Rattle.std.specs.BTreeMap as tree
 use Rattle.smq_pdu.specs.Header.{Header}
 use Rattle.smq_pdu.specs.Pairing.{is_request, is_response}
-pub use Rattle.smq_book.specs.declared.present.kept.KeptPdu.{KeptPdu}
+use Rattle.smq_book.specs.declared.present.kept.KeptPdu.{KeptPdu}
 use Rattle.smq_book.specs.present.Kept.{header_of, headers_of}
-pub use Rattle.smq_scratch.specs.declared.turns.Kind.{Kind}
+use Rattle.smq_scratch.specs.declared.turns.Kind.{Kind}
 use Rattle.smq_scratch.specs.declared.turns.Kind.TheVariants.{Request, Response}
 use Rattle.smq_scratch.specs.declared.turns.Turns.{Turns}
 
