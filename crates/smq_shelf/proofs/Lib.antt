@@ -7,5 +7,4 @@ pub mod Seen
 pub mod Steps
 pub mod Vacancies
 pub mod Occupied
-pub mod Counted
 pub mod Nearest

@@ -2,7 +2,6 @@ pub mod Shown
 pub mod Lending
 pub mod Places
 pub mod Values
-pub mod Counts
 pub mod Nearest
 pub mod Keeping
 pub mod KeptLending

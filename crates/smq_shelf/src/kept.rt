@@ -1,20 +1,18 @@
 //! A shelf whose changes since it was last settled can be undone.
-ghost use Rattle.std.specs.Prelude.{◌≡◌, false, true, [], ◌∷◌, List, Option, ◌++◌, ◌+◌, ◌-◌, ◌*◌, ◌≤◌, ◌<◌, ◌^◌, ◌||◌, IfOk, OnOk, OnErr, None, Some, IsSome, is_some, find, length, unwrap_or, if◌then◌else◌};
+ghost use Rattle.std.specs.Prelude.{◌≡◌, false, true, [], ◌∷◌, List, Option, ◌++◌, ◌+◌, ◌-◌, ◌*◌, ◌≤◌, ◌<◌, ◌^◌, ◌||◌, IfOk, OnOk, OnErr, None, Some, IsSome, is_some, find, length, if◌then◌else◌};
 ghost use Rattle.std.specs.Option.{option_copied, option_map};
 ghost use Rattle.std.specs.Map.Iter.{deref_pair};
 ghost use Rattle.std.specs.Ordering.{is_le, is_lt};
 ghost use Rattle.std.specs.List.Sorted.{IsStrictlySortedBy};
 ghost use Rattle.std.specs.Map.{keys_of, lookup, remove_entry};
 ghost use Rattle.std.specs.BTreeMap.{is_at, insert_entry};
-ghost use Rattle.smq_kit.specs.Maps.{positive};
-ghost use Rattle.smq_shelf.specs.Counts.{count_at, with_count};
 ghost use Rattle.smq_shelf.specs.Keeping.{with_touches};
 ghost use Rattle.smq_shelf.specs.Shown.{touched};
 ghost use Rattle.smq_shelf.specs.Places.{content_of, places_of};
 ghost use Rattle.smq_shelf.specs.Values.{with_value};
-ghost use Rattle.smq_shelf.specs.within.Undoing.{flatten, has_value, reverted, cleared_after};
+ghost use Rattle.smq_shelf.specs.within.Undoing.{flatten};
 
-use crate::logged::{alter, clear_vacant, give_back_room, lower, put, raise, revert, vacate};
+use crate::logged::{alter, clear_vacant, give_back_room, put, revert, vacate};
 use crate::{Change, Shelf, ShelfKey};
 use std::alloc::{AllocError, Global};
 use std::cmp::Ord;
@@ -188,7 +186,7 @@ impl<K: ShelfKey, V: Drop> Kept<K, V> {
         ensures settled { self.new.settled ≡ self.old.settled }
         ensures shown { self.old.content ≡ content_of self.old.places }
         ensures ordered { IsStrictlySortedBy K.cmp (keys_of self.old.content) }
-        ensures touches { self.new.touches ≤ self.old.touches + 2 }
+        ensures touches { self.new.touches ≤ self.old.touches + 1 }
         ensures counted { self.old.touches ≤ self.new.touches }
     {
         let (had, has) = alter(&mut self.shelf, &mut self.log, key, change)?;
@@ -288,72 +286,6 @@ impl<K: ShelfKey, V: Drop> Kept<K, V> {
         }
         self.has_vacant = false;
         give_back_room(&mut self.log);
-    }
-}
-
-impl<K: ShelfKey> Kept<K, u64> {
-    /// Adds one to the count at a key, which is 1 where there was none: one touch where the key has a place, and two
-    /// where it has none. An error changes nothing but the touches.
-    pub fn add_one(&mut self, key: K) -> Result<(), AllocError>
-        requires room { count_at K.cmp key self.old.content + 1 < 2 ^ 64 }
-        ensures content { OnOk result (self.new.content ≡ insert_entry K.cmp self.old.content key
-            (count_at K.cmp key self.old.content + 1)) }
-        ensures places { OnOk result (self.new.places ≡ insert_entry K.cmp self.old.places key
-            (Some (count_at K.cmp key self.old.content + 1))) }
-        ensures past { OnOk result (self.new.past ≡ self.old.places ∷ self.old.past) }
-        ensures pending { OnOk result (self.new.pending ≡ self.old.pending + 1) }
-        ensures touched { OnOk result (touched self.old.touches ≤ self.new.touches) }
-        ensures once { OnOk result (IsSome (lookup (is_at (K.cmp key)) self.old.places)
-            → self.new.touches ≡ touched self.old.touches) }
-        ensures unchanged { OnErr result (self.new ≡ with_touches self.new.touches self.old) }
-        ensures err { OnErr result (self.new.content ≡ self.old.content) }
-        ensures err_places { OnErr result (self.new.places ≡ self.old.places) }
-        ensures err_past { OnErr result (self.new.past ≡ self.old.past) }
-        ensures err_pending { OnErr result (self.new.pending ≡ self.old.pending) }
-        ensures settled { self.new.settled ≡ self.old.settled }
-        ensures shown { self.old.content ≡ content_of self.old.places }
-        ensures touches { self.new.touches ≤ self.old.touches + 2 }
-        ensures counted { self.old.touches ≤ self.new.touches }
-    {
-        raise(&mut self.shelf, &mut self.log, key)?;
-        Ok(())
-    }
-
-    /// Takes one from the count at a key, and takes the key out where that leaves none: one touch. It tells whether
-    /// there was one. The place of a key that is taken out stays, vacant, until the map is settled or undone. An error
-    /// changes nothing but the touches.
-    pub fn take_one(&mut self, key: K) -> Result<bool, AllocError>
-        ensures had { IfOk result (λ had. had
-            ≡ is_some (lookup (is_at (K.cmp key)) self.old.content)) }
-        ensures content { OnOk result (self.new.content ≡ with_count K.cmp key
-            (positive (count_at K.cmp key self.old.content - 1)) self.old.content) }
-        ensures places { IfOk result (λ had. self.new.places ≡ if had
-            then insert_entry K.cmp self.old.places key
-            (positive (count_at K.cmp key self.old.content - 1))
-            else self.old.places) }
-        ensures past { IfOk result (λ had. self.new.past
-            ≡ if had then self.old.places ∷ self.old.past else self.old.past) }
-        ensures pending { IfOk result (λ had. self.new.pending
-            ≡ if had then self.old.pending + 1 else self.old.pending) }
-        ensures absent { IfOk result (λ had. had ≡ false
-            → self.new ≡ with_touches self.new.touches self.old) }
-        ensures touched { OnOk result (self.new.touches ≡ touched self.old.touches) }
-        ensures unchanged { OnErr result (self.new ≡ with_touches self.new.touches self.old) }
-        ensures err { OnErr result (self.new.content ≡ self.old.content) }
-        ensures err_places { OnErr result (self.new.places ≡ self.old.places) }
-        ensures err_past { OnErr result (self.new.past ≡ self.old.past) }
-        ensures err_pending { OnErr result (self.new.pending ≡ self.old.pending) }
-        ensures settled { self.new.settled ≡ self.old.settled }
-        ensures shown { self.old.content ≡ content_of self.old.places }
-        ensures ordered { IsStrictlySortedBy K.cmp (keys_of self.old.content) }
-        ensures touches { self.new.touches ≤ self.old.touches + 1 }
-        ensures counted { self.old.touches ≤ self.new.touches }
-    {
-        let Some(count) = lower(&mut self.shelf, &mut self.log, key)? else {
-            return Ok(false);
-        };
-        self.has_vacant |= count < 2;
-        Ok(true)
     }
 }
 

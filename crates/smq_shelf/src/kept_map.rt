@@ -1,5 +1,5 @@
 //! A map that can be undone, and is read through `&self`.
-ghost use Rattle.std.specs.Prelude.{◌≡◌, ◌||◌, ◌<◌, ◌+◌, ◌-◌, ◌^◌, [], ◌∷◌, false, List, Option, IfOk, OnOk, OnErr, None, IsSome, Some, is_some, length, filter, find, if◌then◌else◌};
+ghost use Rattle.std.specs.Prelude.{◌≡◌, ◌||◌, ◌<◌, ◌-◌, [], ◌∷◌, false, List, Option, IfOk, OnOk, OnErr, None, IsSome, Some, is_some, length, filter, find, if◌then◌else◌};
 ghost use Rattle.std.specs.Option.{option_copied, option_map};
 ghost use Rattle.std.specs.Ordering.{is_gt, is_le};
 ghost use Rattle.std.specs.BTreeMap.Range.{entries_between};
@@ -9,8 +9,6 @@ ghost use Rattle.std.specs.List.Sorted.{IsStrictlySortedBy};
 ghost use Rattle.std.specs.Map.{keys_of, lookup, remove_entry};
 ghost use Rattle.std.specs.Map.Iter.{TakesFirst, TakesLast, deref_pair};
 ghost use Rattle.std.specs.BTreeMap.{is_at, insert_entry};
-ghost use Rattle.smq_kit.specs.Maps.{positive};
-ghost use Rattle.smq_shelf.specs.Counts.{count_at, with_count};
 ghost use Rattle.smq_shelf.specs.Nearest.{FindsFrom, FindsUpTo};
 ghost use Rattle.smq_shelf.specs.Places.{content_of, places_of};
 ghost use Rattle.smq_shelf.specs.Values.{with_value};
@@ -286,53 +284,6 @@ impl<K: ShelfKey, V: Drop> KeptMap<K, V> {
         ensures { FindsUpTo K.cmp key self.now.content (option_map deref_pair result) }
     {
         self.range_to(key).next_back()
-    }
-}
-
-impl<K: ShelfKey> KeptMap<K, u64> {
-    /// Adds one to the count at a key, which is 1 where there was none. A key that has a place is looked up once. An
-    /// error changes nothing.
-    pub fn add_one(&mut self, key: K) -> Result<(), AllocError>
-        requires room { count_at K.cmp key self.old.content + 1 < 2 ^ 64 }
-        ensures content { OnOk result (self.new.content ≡ insert_entry K.cmp self.old.content key
-            (count_at K.cmp key self.old.content + 1)) }
-        ensures places { OnOk result (self.new.places ≡ insert_entry K.cmp self.old.places key
-            (Some (count_at K.cmp key self.old.content + 1))) }
-        ensures past { OnOk result (self.new.past ≡ self.old.places ∷ self.old.past) }
-        ensures unchanged { OnErr result (self.new ≡ self.old) }
-        ensures err { OnErr result (self.new.content ≡ self.old.content) }
-        ensures err_places { OnErr result (self.new.places ≡ self.old.places) }
-        ensures err_past { OnErr result (self.new.past ≡ self.old.past) }
-        ensures settled { self.new.settled ≡ self.old.settled }
-        ensures shown { self.old.content ≡ content_of self.old.places }
-    {
-        self.kept.add_one(key)
-    }
-
-    /// Takes one from the count at a key, and takes the key out where that leaves none. It tells whether there was one.
-    /// The key is looked up once. The place of a key that is taken out stays, vacant, until the map is settled or
-    /// undone. An error changes nothing.
-    pub fn take_one(&mut self, key: K) -> Result<bool, AllocError>
-        ensures had { IfOk result (λ had. had
-            ≡ is_some (lookup (is_at (K.cmp key)) self.old.content)) }
-        ensures content { OnOk result (self.new.content ≡ with_count K.cmp key
-            (positive (count_at K.cmp key self.old.content - 1)) self.old.content) }
-        ensures places { IfOk result (λ had. self.new.places ≡ if had
-            then insert_entry K.cmp self.old.places key
-            (positive (count_at K.cmp key self.old.content - 1))
-            else self.old.places) }
-        ensures past { IfOk result (λ had. self.new.past
-            ≡ if had then self.old.places ∷ self.old.past else self.old.past) }
-        ensures absent { IfOk result (λ had. had ≡ false → self.new ≡ self.old) }
-        ensures unchanged { OnErr result (self.new ≡ self.old) }
-        ensures err { OnErr result (self.new.content ≡ self.old.content) }
-        ensures err_places { OnErr result (self.new.places ≡ self.old.places) }
-        ensures err_past { OnErr result (self.new.past ≡ self.old.past) }
-        ensures settled { self.new.settled ≡ self.old.settled }
-        ensures shown { self.old.content ≡ content_of self.old.places }
-        ensures ordered { IsStrictlySortedBy K.cmp (keys_of self.old.content) }
-    {
-        self.kept.take_one(key)
     }
 }
 

@@ -3,7 +3,6 @@ ghost use Rattle.std.specs.Prelude.{◌≡◌, ◌∷◌, [], Some, None, find};
 ghost use Rattle.std.specs.BTreeMap.{is_at, insert_entry};
 ghost use Rattle.std.specs.Map.{lookup, remove_entry};
 ghost use Rattle.std.specs.Ordering.{is_le, is_lt, nat_cmp};
-ghost use Rattle.smq_shelf.specs.Counts.{count_at, with_count};
 ghost use Rattle.smq_shelf.specs.Known.{three_places, vacant_places, two_entries, changed_places, three_changes};
 ghost use Rattle.smq_shelf.specs.Places.{content_of, places_of};
 ghost use Rattle.smq_shelf.specs.Shown.{touched};
@@ -45,13 +44,6 @@ pub fn known_entries()
     // The value at a key is its own, and a key between two has none.
     ensures found { lookup (is_at (nat_cmp 4)) two_entries ≡ Some 40 }
     ensures none { lookup (is_at (nat_cmp 3)) two_entries ≡ None }
-
-    // The count at a key is its own, and 0 where it has none. A count takes the place of another, and none takes the
-    // key out.
-    ensures counted { count_at nat_cmp 4 two_entries ≡ 40 }
-    ensures not_counted { count_at nat_cmp 3 two_entries ≡ 0 }
-    ensures counted_anew { with_count nat_cmp 4 (Some 39) two_entries ≡ (1, 10) ∷ (4, 39) ∷ [] }
-    ensures counted_no_more { with_count nat_cmp 4 None two_entries ≡ (1, 10) ∷ [] }
 
     // At or above a key is the key itself, and above it the next.
     ensures at_or_above { find (λ e. is_le (nat_cmp 1 e.0)) two_entries ≡ Some (1, 10) }

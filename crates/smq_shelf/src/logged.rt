@@ -1,9 +1,8 @@
 //! Changes of a shelf's places, each with what was there before it in a log.
-ghost use Rattle.std.specs.Prelude.{◌≡◌, ◌||◌, ◌∷◌, ◌++◌, ◌+◌, ◌-◌, ◌≤◌, ◌<◌, ◌^◌, [], IfOk, OnOk, OnErr, None, Some, IsSome, is_some, unwrap_or, if◌then◌else◌};
+ghost use Rattle.std.specs.Prelude.{◌≡◌, ◌||◌, ◌∷◌, ◌++◌, ◌+◌, ◌-◌, ◌≤◌, ◌<◌, [], IfOk, OnOk, OnErr, None, Some, IsSome, is_some, if◌then◌else◌};
 ghost use Rattle.std.specs.List.Sorted.{IsStrictlySortedBy};
 ghost use Rattle.std.specs.Map.{keys_of, lookup};
 ghost use Rattle.std.specs.BTreeMap.{is_at, insert_entry};
-ghost use Rattle.smq_kit.specs.Maps.{positive};
 ghost use Rattle.smq_shelf.specs.Shown.{touched};
 ghost use Rattle.smq_shelf.specs.within.Undoing.{flatten, has_value, reverted, cleared_after};
 
@@ -114,70 +113,6 @@ fn holds<V>(place: &Option<Option<V>>) -> bool
     ensures { result ≡ has_value place.now }
 {
     matches!(place, Some(Some(_)))
-}
-
-// Adds one to the count of the place of a key, and puts what was there into the log. A key that has a place is looked
-// up once.
-pub(crate) fn raise<K: ShelfKey>(
-    shelf: &mut Shelf<K, Option<u64>>,
-    log: &mut Vec<(K, Option<Option<u64>>)>,
-    key: K,
-) -> Result<(), AllocError>
-    requires { unwrap_or (flatten (lookup (is_at (K.cmp key)) shelf.old.entries)) 0 + 1 < 2 ^ 64 }
-    ensures entries { OnOk result (shelf.new.entries ≡ insert_entry K.cmp shelf.old.entries key
-        (Some (unwrap_or (flatten (lookup (is_at (K.cmp key)) shelf.old.entries)) 0 + 1))) }
-    ensures ordered { OnOk result (IsStrictlySortedBy K.cmp (keys_of shelf.new.entries)) }
-    ensures log { OnOk result (log.new.items
-        ≡ log.old.items ++ (key, lookup (is_at (K.cmp key)) shelf.old.entries) ∷ []) }
-    ensures touched { OnOk result (touched shelf.old.touches ≤ shelf.new.touches) }
-    ensures once { OnOk result (IsSome (lookup (is_at (K.cmp key)) shelf.old.entries)
-        → shelf.new.touches ≡ touched shelf.old.touches) }
-    ensures err { OnErr result (shelf.new.entries ≡ shelf.old.entries) }
-    ensures err_log { OnErr result (log.new.items ≡ log.old.items) }
-    ensures touches { shelf.new.touches ≤ shelf.old.touches + 2 }
-    ensures counted { shelf.old.touches ≤ shelf.new.touches }
-{
-    log.reserve(1)?;
-    match shelf.raise(&key) {
-        Some(before) => {
-            log.push((key, Some(before)))?;
-            Ok(())
-        }
-        None => put(shelf, log, key, Some(1)),
-    }
-}
-
-// Takes one from the count of the place of a key, which is vacant where that leaves none, and puts the count that was
-// there into the log. It gives that count.
-pub(crate) fn lower<K: ShelfKey>(
-    shelf: &mut Shelf<K, Option<u64>>,
-    log: &mut Vec<(K, Option<Option<u64>>)>,
-    key: K,
-) -> Result<Option<u64>, AllocError>
-    ensures count { IfOk result (λ count. count
-        ≡ flatten (lookup (is_at (K.cmp key)) shelf.old.entries)) }
-    ensures entries { IfOk result (λ count. shelf.new.entries ≡ if is_some count
-        then insert_entry K.cmp shelf.old.entries key (positive (unwrap_or count 0 - 1))
-        else shelf.old.entries) }
-    ensures log { IfOk result (λ count. log.new.items ≡ (if is_some count
-        then log.old.items ++ (key, lookup (is_at (K.cmp key)) shelf.old.entries) ∷ []
-        else log.old.items)) }
-    ensures ordered { OnOk result (IsStrictlySortedBy K.cmp (keys_of shelf.new.entries)) }
-    ensures touched { OnOk result (shelf.new.touches ≡ touched shelf.old.touches) }
-    ensures err { OnErr result (shelf.new.entries ≡ shelf.old.entries) }
-    ensures err_log { OnErr result (log.new.items ≡ log.old.items) }
-    ensures touches { shelf.new.touches ≤ shelf.old.touches + 1 }
-    ensures counted { shelf.old.touches ≤ shelf.new.touches }
-{
-    log.reserve(1)?;
-    match shelf.lower(&key) {
-        Some(Some(count)) => {
-            log.push((key, Some(Some(count))))?;
-            Ok(Some(count))
-        }
-        Some(None) => Ok(None),
-        None => Ok(None),
-    }
 }
 
 // Takes one change back. The key has a place, so this takes no memory.

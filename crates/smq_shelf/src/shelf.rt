@@ -1,12 +1,11 @@
 //! An ordered map that counts its calls.
-ghost use Rattle.std.specs.Prelude.{◌≡◌, ◌&&◌, ◌||◌, ◌≤◌, ◌<◌, ◌+◌, ◌-◌, ◌^◌, [], IfOk, OnOk, IfErr, OnErr, None, Some, IfSome, is_some, find, unwrap_or, if◌then◌else◌};
+ghost use Rattle.std.specs.Prelude.{◌≡◌, ◌&&◌, ◌||◌, ◌≤◌, ◌<◌, ◌+◌, ◌-◌, [], IfOk, OnOk, IfErr, OnErr, None, Some, is_some, find, if◌then◌else◌};
 ghost use Rattle.std.specs.Ordering.{is_le, is_lt};
 ghost use Rattle.std.specs.Option.{option_copied, option_map};
 ghost use Rattle.std.specs.Map.Iter.{deref_pair};
 ghost use Rattle.std.specs.Map.{keys_of, lookup, remove_entry, set_value};
 ghost use Rattle.std.specs.BTreeMap.{is_at, insert_entry};
 ghost use Rattle.std.specs.List.Sorted.{IsStrictlySortedBy};
-ghost use Rattle.smq_kit.specs.Maps.{positive};
 ghost use Rattle.smq_shelf.specs.Shown.{touched};
 ghost use Rattle.smq_shelf.specs.within.Undoing.{flatten};
 
@@ -149,48 +148,6 @@ impl<K: Ord, V: Drop> Shelf<K, Option<V>> {
     }
 }
 
-impl<K: Ord> Shelf<K, Option<u64>> {
-    // Adds one to the count at a key, which is 1 where its place is vacant, and gives what was there. Where the key has
-    // no place, nothing changes. It takes no memory. One touch.
-    pub(crate) fn raise(&mut self, key: &K) -> Option<Option<u64>>
-        requires room { unwrap_or (flatten (lookup (is_at (K.cmp key.now)) self.old.entries)) 0 + 1
-            < 2 ^ 64 }
-        ensures touches { self.new.touches ≡ touched self.old.touches }
-        ensures counted { self.old.touches ≤ self.new.touches }
-        ensures old { result ≡ lookup (is_at (K.cmp key.now)) self.old.entries }
-        ensures entries { self.new.entries
-            ≡ set_value (is_at (K.cmp key.now)) self.old.entries
-            (Some (unwrap_or (flatten result) 0 + 1)) }
-        ensures ordered { IsStrictlySortedBy K.cmp (keys_of self.new.entries) }
-        ensures was_ordered { IsStrictlySortedBy K.cmp (keys_of self.old.entries) }
-    {
-        self.count = self.count.saturating_add(1);
-        let Some(place) = self.map.get_mut(key) else {
-            return None;
-        };
-        Some(add_one(place))
-    }
-
-    // Takes one from the count at a key, whose place is vacant where that leaves none, and gives what was there. Where
-    // the key has no place, nothing changes. It takes no memory. One touch.
-    pub(crate) fn lower(&mut self, key: &K) -> Option<Option<u64>>
-        ensures touches { self.new.touches ≡ touched self.old.touches }
-        ensures counted { self.old.touches ≤ self.new.touches }
-        ensures old { result ≡ lookup (is_at (K.cmp key.now)) self.old.entries }
-        ensures entries { self.new.entries
-            ≡ set_value (is_at (K.cmp key.now)) self.old.entries
-            (positive (unwrap_or (flatten result) 0 - 1)) }
-        ensures ordered { IsStrictlySortedBy K.cmp (keys_of self.new.entries) }
-        ensures was_ordered { IsStrictlySortedBy K.cmp (keys_of self.old.entries) }
-    {
-        self.count = self.count.saturating_add(1);
-        let Some(place) = self.map.get_mut(key) else {
-            return None;
-        };
-        Some(take_one(place))
-    }
-}
-
 impl<K: Ord, V> Shelf<K, V> {
     ghost use Rattle.std.specs.Borrow.{sem, follows_so};
     ghost use Rattle.smq_shelf.specs.Lending.{LeavesShelf};
@@ -284,33 +241,6 @@ fn change_at<V: Drop, C: Change<V>>(place: &mut Option<V>, change: &C) -> (Optio
     let after = change.after(place.as_ref());
     let has = after.is_some();
     (replace(place, after), has)
-}
-
-// Adds one to the count of a place, and gives what was there.
-fn add_one(place: &mut Option<u64>) -> Option<u64>
-    requires { unwrap_or place.old 0 + 1 < 2 ^ 64 }
-    ensures old { result ≡ place.old }
-    ensures new { place.new ≡ Some (unwrap_or place.old 0 + 1) }
-{
-    let before = *place;
-    *place = match before {
-        Some(count) => Some(count + 1),
-        None => Some(1),
-    };
-    before
-}
-
-// Takes one from the count of a place, and gives what was there. No place has a count of 0 then.
-fn take_one(place: &mut Option<u64>) -> Option<u64>
-    ensures old { result ≡ place.old }
-    ensures new { place.new ≡ positive (unwrap_or place.old 0 - 1) }
-{
-    let before = *place;
-    *place = match before {
-        Some(count) if count > 1 => Some(count - 1),
-        _ => None,
-    };
-    before
 }
 
 // The least key at or above `key`, with its value.

@@ -1,6 +1,5 @@
 //! A shelf's calls, changes of kept maps that are taken back, undone and settled, and refused memory.
-use smq_shelf::{Kept, KeptMap, Shelf};
-use std::alloc::AllocError;
+use smq_shelf::{Change, Kept, KeptMap, Shelf};
 use std::process::Abort;
 
 fn assert_first_touches(rt: &impl Abort, shelf: &mut Shelf<u32, u8>) {
@@ -196,89 +195,137 @@ fn a_refused_change_changes_nothing(rt: HostRuntime) {
     assert_last_comes_back(&rt, &mut kept);
 }
 
-/// Adds one to a count below ten.
-fn add_one(kept: &mut Kept<u32, u64>, key: u32) -> Result<(), AllocError> {
-    match kept.get(&key).copied() {
-        Some(count) if count > 9 => Err(AllocError),
-        _ => kept.add_one(key),
+/// Puts this value in where none is, and takes out what is there.
+struct Toggle(u64);
+
+impl Change<u64> for Toggle {
+    ghost use Rattle.std.specs.Prelude.{None, Some, is_some, if◌then◌else◌};
+
+    ghost after = { λ toggle before. if is_some before then None else Some toggle.0 };
+
+    fn after(&self, before: Option<&u64>) -> Option<u64> {
+        match before {
+            Some(_) => None,
+            None => Some(self.0),
+        }
     }
 }
 
-fn assert_added(rt: &impl Abort, kept: &mut Kept<u32, u64>) {
-    add_one(kept, 1).expect(rt, "memory");
-    add_one(kept, 1).expect(rt, "memory");
-    add_one(kept, 2).expect(rt, "memory");
-    assert!(rt; kept.get(&1).copied() == Some(2));
+/// Puts this value in the place of one that is there.
+struct Overwrite(u64);
+
+impl Change<u64> for Overwrite {
+    ghost use Rattle.std.specs.Prelude.{option_map};
+
+    ghost after = { λ overwrite before. option_map (λ _. overwrite.0) before };
+
+    fn after(&self, before: Option<&u64>) -> Option<u64> {
+        match before {
+            Some(_) => Some(self.0),
+            None => None,
+        }
+    }
+}
+
+fn assert_changed_in_place(rt: &impl Abort, kept: &mut Kept<u32, u64>) {
+    assert!(rt; kept.change(1, &Toggle(5)) == Ok(true), "it is put in");
+    assert!(rt; kept.exchange(1, &Overwrite(6)) == Ok(Some(5)));
+    assert!(rt;
+        kept.change(2, &Overwrite(6)) == Ok(false),
+        "none was there"
+    );
+    assert!(rt; kept.exchange(2, &Toggle(9)) == Ok(None));
+    assert!(rt; kept.get(&1).copied() == Some(6));
 }
 
 fn assert_taken(rt: &impl Abort, kept: &mut Kept<u32, u64>) {
-    assert!(rt; kept.take_one(2) == Ok(true), "the last one");
+    assert!(rt; kept.take(&2) == Ok(Some(9)));
     assert!(rt; kept.first_from(&2) == Some((&2, None)));
-    assert!(rt; kept.take_one(2) == Ok(false), "none is left");
-    assert!(rt; kept.take_one(3) == Ok(false), "none was there");
-    assert!(rt; kept.take_one(1) == Ok(true), "one of two");
-    assert!(rt; kept.get(&1).copied() == Some(1));
+    assert!(rt; kept.take(&2) == Ok(None), "none is left");
+    assert!(rt; kept.take(&3) == Ok(None), "none was there");
+    assert!(rt; kept.change(1, &Toggle(0)) == Ok(true), "it is taken out");
+    assert!(rt; kept.get(&1).is_none());
 }
 
-fn assert_counts_undone(rt: &impl Abort, kept: &mut Kept<u32, u64>) {
-    add_one(kept, 2).expect(rt, "memory");
-    assert!(rt; kept.get(&2).copied() == Some(1));
+fn assert_changes_undone(rt: &impl Abort, kept: &mut Kept<u32, u64>) {
+    assert!(rt; kept.exchange(2, &Toggle(3)) == Ok(None));
     kept.take_back();
     assert!(rt; kept.first_from(&2) == Some((&2, None)));
     kept.undo();
-    assert!(rt; kept.get(&1).copied() == Some(2));
-    assert!(rt; kept.get(&2).copied() == Some(1));
+    assert!(rt; kept.get(&1).copied() == Some(6));
+    assert!(rt; kept.get(&2).copied() == Some(9));
 }
 
 #[test]
-fn counts_are_changed_in_place(rt: HostRuntime) {
+fn values_are_changed_in_place(rt: HostRuntime) {
     let mut kept = Kept::new(rt.alloc());
-    assert_added(&rt, &mut kept);
+    assert_changed_in_place(&rt, &mut kept);
     kept.settle();
     assert_taken(&rt, &mut kept);
-    assert_counts_undone(&rt, &mut kept);
-    kept.take_one(2).expect(&rt, "memory");
+    assert_changes_undone(&rt, &mut kept);
+    assert!(rt; kept.take(&2) == Ok(Some(9)));
     kept.settle();
     assert_eq!(rt; kept.place_count(), 1);
 }
 
-/// Adds one, again where memory was refused: the count was as before.
-fn add(rt: &impl Abort, kept: &mut Kept<u32, u64>, key: u32) {
+/// Puts a value in or takes it out, again where memory was refused: the map was as before.
+fn toggle_value(rt: &impl Abort, kept: &mut Kept<u32, u64>, key: u32) {
     let before = state_at(kept, key);
-    if add_one(kept, key).is_ok() {
+    if kept.change(key, &Toggle(7)).is_ok() {
         return;
     }
     assert!(rt; state_at(kept, key) == before, "the map is as before");
-    assert!(rt; add_one(kept, key).is_ok(), "there is memory again");
+    assert!(rt;
+        kept.change(key, &Toggle(7)) == Ok(true),
+        "there is memory again"
+    );
 }
 
-/// Takes one of two, again where memory was refused: the count was as before.
-fn take(rt: &impl Abort, kept: &mut Kept<u32, u64>, key: u32) {
-    let before = kept.get(&key).copied();
-    if kept.take_one(key).is_ok() {
+/// Overwrites a value, again where memory was refused: the value was as before.
+fn overwrite_value(rt: &impl Abort, kept: &mut Kept<u32, u64>, key: u32) {
+    if kept.exchange(key, &Overwrite(8)).is_ok() {
         return;
     }
-    assert!(rt; kept.get(&key).copied() == before, "the count is as before");
-    assert!(rt; kept.take_one(key) == Ok(true), "there is memory again");
+    assert!(rt;
+        kept.get(&key).copied() == Some(7),
+        "the value is as before"
+    );
+    assert!(rt;
+        kept.exchange(key, &Overwrite(8)) == Ok(Some(7)),
+        "there is memory again"
+    );
 }
 
-/// Adds one and takes one to each of 30 counts, twice.
-fn add_and_take_30(rt: &impl Abort, kept: &mut Kept<u32, u64>) {
+/// Takes a value out, again where memory was refused: the value was as before.
+fn take_value(rt: &impl Abort, kept: &mut Kept<u32, u64>, key: u32) {
+    if kept.take(&key).is_ok() {
+        return;
+    }
+    assert!(rt;
+        kept.get(&key).copied() == Some(8),
+        "the value is as before"
+    );
+    assert!(rt; kept.take(&key) == Ok(Some(8)), "there is memory again");
+}
+
+/// Puts each of 30 keys in, overwrites it, takes it out, and does so again.
+fn change_30_in_place(rt: &impl Abort, kept: &mut Kept<u32, u64>) {
     for key in 0..30u32 {
-        add(rt, kept, key);
-        take(rt, kept, key);
+        toggle_value(rt, kept, key);
+        overwrite_value(rt, kept, key);
+        take_value(rt, kept, key);
         assert!(rt; kept.first_from(&key) == Some((&key, None)), "none is left");
-        add(rt, kept, key);
-        take(rt, kept, key);
+        toggle_value(rt, kept, key);
+        toggle_value(rt, kept, key);
     }
 }
 
-/// Whichever allocation is refused (tools/check-refused-calls), a refused count stays, and is changed when it is tried
-/// again.
+/// Whichever allocation is refused (tools/check-refused-calls), a value that can't be changed stays, and is changed
+/// when it is tried again.
 #[test]
-fn a_refused_count_stays(rt: HostRuntime) {
+fn a_value_that_is_not_changed_stays(rt: HostRuntime) {
     let mut kept = Kept::new(rt.alloc());
-    add_and_take_30(&rt, &mut kept);
+    change_30_in_place(&rt, &mut kept);
     kept.settle();
     assert_eq!(rt; kept.place_count(), 0);
 }
