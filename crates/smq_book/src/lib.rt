@@ -49,8 +49,7 @@ pub use laws::whole::{
 };
 
 // values and calls
-pub use pairing::notes::push_notes;
-pub use pairing::pairs::{pairing_of, pdu_at, place_of};
+pub use pairing::pairs::place_of;
 pub use pairing::source::Source;
 pub use pairing::submits::asks_receipt;
 pub use present::batch::{Batch, prepare};

@@ -1,5 +1,5 @@
 //! A tally: facts and notes as they come and go, with their tables at each step.
-ghost use Rattle.std.specs.Prelude.{◌≡◌, ◌≤◌, ◌+◌, ◌*◌, None, Some, IsSome, IsTrue, OnOk, OnErr};
+ghost use Rattle.std.specs.Prelude.{◌≡◌, ◌≤◌, ◌+◌, ◌*◌, None, Some, IsSome, IsTrue, IfOk, OnOk, OnErr, option_map};
 ghost use Rattle.std.specs.List.{list_any};
 ghost use Rattle.std.specs.Option.{option_to_list};
 ghost use Rattle.std.specs.Map.{lookup};
@@ -13,7 +13,7 @@ ghost use Rattle.smq_tally.specs.within.Kept.{facts_in, StandAtTheirPlaces};
 ghost use Rattle.smq_tally.specs.within.ListOrder.{lists, takes_facts};
 
 use crate::noted::NotedTables;
-use crate::{Fact, List, Listed, Tables};
+use crate::{Fact, List, Listed, Outcome, Tables};
 use smq_kit::Place;
 use smq_shelf::Kept;
 use std::alloc::{AllocError, Global};
@@ -118,10 +118,12 @@ impl Tally {
         Ok(())
     }
 
-    /// Sets the fact of its place, in the place of one that is there: a look-up, and one change of the facts. It costs
-    /// the look-up alone where that one is equal, and no change of a list where both are in the same. An error brings
-    /// back what it held when it was last settled, or made.
-    pub fn set(&mut self, fact: Fact) -> Result<(), AllocError>
+    /// Sets the fact of its place, in the place of one that is there, and gives that one's outcome: a look-up, and one
+    /// change of the facts. It costs the look-up alone where that one is equal, and no change of a list where both are in
+    /// the same. An error brings back what it held when it was last settled, or made.
+    pub fn set(&mut self, fact: Fact) -> Result<Option<Outcome>, AllocError>
+        ensures before { IfOk result (λ before.
+            before ≡ option_map (λ f. f.outcome) (fin.get self.old.facts fact.place)) }
         ensures ok { OnOk result (self.new.facts ≡ fin.insert self.old.facts fact.place fact) }
         ensures notes { OnOk result (self.new.notes ≡ self.old.notes) }
         ensures err { OnErr result (held_in self.new ≡ self.old.settled) }
@@ -134,14 +136,15 @@ impl Tally {
         ensures counted { self.old.touches ≤ self.new.touches }
     {
         let before = fact_at(&mut self.facts, &fact.place);
+        let outcome = outcome_of(&before);
         if is_same(&before, &fact) {
-            return Ok(());
+            return Ok(outcome);
         }
         if let Err(error) = put(&mut self.facts, &mut self.tables, &before, fact) {
             undo_all(&mut self.facts, &mut self.tables);
             return Err(error);
         }
-        Ok(())
+        Ok(outcome)
     }
 
     /// Notes a place in a list. A place that is noted there already stays. An error changes nothing.
@@ -243,6 +246,16 @@ fn fact_at(facts: &mut Kept<Place, Fact>, place: &Place) -> Option<Fact>
 {
     match facts.get(place) {
         Some(fact) => Some(fact.copy()),
+        None => None,
+    }
+}
+
+// What became of the message of a fact, if there is one.
+fn outcome_of(fact: &Option<Fact>) -> Option<Outcome>
+    ensures { result ≡ option_map (λ f. f.outcome) fact.now }
+{
+    match fact {
+        Some(fact) => Some(fact.outcome),
         None => None,
     }
 }

@@ -1,5 +1,5 @@
--- The pairs of a session, as its code makes them of its PDUs, and a response, as it is found by its offset.
-use Rattle.std.specs.Prelude.{◌≡◌, ◌≤◌, ◌+◌, ℕ, ◌==◌, true, List, [], ◌∷◌, map, filter, slice_get, Option, Some, option_and_then}
+-- The PDUs of a session as its code finds them: by their offsets, and where a response doesn't agree.
+use Rattle.std.specs.Prelude.{◌≡◌, ◌≤◌, ◌+◌, ℕ, ◌==◌, true, List, [], ◌∷◌, map, filter, slice_get, Option, Some}
 use Rattle.smq_kit.specs.declared.names.SessionId.{SessionId}
 use Rattle.smq_kit.specs.declared.place.Dir.{Dir}
 use Rattle.smq_kit.specs.declared.place.Place.{Place}
@@ -27,10 +27,6 @@ pub record SubmitsAreRequests (pdus : List KeptPdu) : Type 0 where
 -- the PDU at an offset
 abbrev pub pdu_at : List KeptPdu → ℕ → Option KeptPdu
 pdu_at pdus offset = slice_get (filter (λ p. p.offset == offset) pdus) 0
-
--- the response in the pair at a place, which is one of these PDUs of the centre
-abbrev pub response_at : PairingValue → List KeptPdu → Place → Option KeptPdu
-response_at v centre place = option_and_then (λ pair. pdu_at centre pair.response.offset) (pair_at v place)
 
 -- the places of the requests among these PDUs of a direction whose response doesn't agree
 abbrev pub mismatched_in : PairingValue → Origin → Dir → List KeptPdu → List Place

@@ -2,7 +2,7 @@
 //!
 //! Each call that puts a message or a receipt in, or takes one out, sets the facts and the listings of the places alone
 //! whose standings it changes.
-ghost use Rattle.std.specs.Prelude.{◌≡◌, ◌<◌, ◌≤◌, ◌+◌, ◌-◌, ◌*◌, ◌^◌, true, if◌then◌else◌, Some, is_some, length, IfOk, OnOk};
+ghost use Rattle.std.specs.Prelude.{◌≡◌, ◌<◌, ◌≤◌, ◌+◌, ◌-◌, ◌*◌, ◌^◌, true, if◌then◌else◌, Option, Some, is_some, length, option_map, IfOk, OnOk};
 ghost use Rattle.std.specs.Option.{option_copied};
 ghost use Rattle.std.specs.FinMap as fin;
 ghost use Rattle.smq_kit.specs.Maps.{set_at};
@@ -267,12 +267,8 @@ impl Index {
             take_fact(&mut self.tally, place)?;
             return Ok(false);
         };
-        let due = DueAt {
-            link: message.link,
-            moment: message.moment,
-            place,
-        };
-        let end = EndAt::of(message.moment, windows.of(message.link), place);
+        let link = message.link;
+        let moment = message.moment;
         let fact = fact_at(
             &self.receipts,
             &self.standings,
@@ -282,10 +278,21 @@ impl Index {
             place,
             message,
         );
-        let is_due = is_due(&fact);
-        self.tally.set(fact)?;
-        set_due(&mut self.due, due, is_due)?;
-        set_end(&mut self.ends, end, is_due)?;
+        let is_now = is_due(Some(fact.outcome));
+        let before = self.tally.set(fact)?;
+        if is_now != is_due(before) {
+            let due = DueAt {
+                link,
+                moment,
+                place,
+            };
+            set_due(&mut self.due, due, is_now)?;
+            set_end(
+                &mut self.ends,
+                EndAt::of(moment, windows.of(link), place),
+                is_now,
+            )?;
+        }
         Ok(true)
     }
 }
@@ -318,11 +325,11 @@ fn fact_at(
     )
 }
 
-/// Whether a fact is that of a message whose receipt is due.
-fn is_due(fact: &Fact) -> bool
-    ensures { result ≡ is_due_fact (Some fact.now) }
+/// Whether there is an outcome and it is that of a message whose receipt is due.
+fn is_due(outcome: Option<Outcome>) -> bool
+    ensures { (fact : Option FactOf) → outcome ≡ option_map (λ f. f.outcome) fact → result ≡ is_due_fact fact }
 {
-    matches!(fact.outcome, Outcome::Open | Outcome::Lapsed)
+    matches!(outcome, Some(Outcome::Open | Outcome::Lapsed))
 }
 
 /// The list of the receipt at a place, if one stands there and it has one.

@@ -18,7 +18,7 @@ use smq_pdu::is_request;
 use std::alloc::AllocError;
 
 /// Puts the notes of a session, whose pairs these are, after what is there.
-pub fn push_notes(
+pub(crate) fn push_notes(
     notes: &mut Vec<Listed>,
     pairing: &mut Pairing,
     number: SessionId,

@@ -1,5 +1,5 @@
 //! What is set: for the sessions of links, for the numbers that prefixes begin, and the clock.
-ghost use Rattle.std.specs.Prelude.{◌≡◌, ◌≢◌, ◌≤◌, ◌+◌, ◌*◌, ℕ, [], length, Err, IfErr, IfOk, IsSome, IsTrue, MatchResult, OnOk};
+ghost use Rattle.std.specs.Prelude.{◌≡◌, ◌≢◌, ◌↔◌, ◌≤◌, ◌+◌, ◌*◌, ℕ, [], length, Err, IfErr, IfOk, IsSome, IsTrue, MatchResult, OnOk};
 ghost use Rattle.std.specs.FinMap as map;
 ghost use Rattle.std.specs.Map.Iter.{ShowsInOrder, deref_pair};
 ghost use Rattle.smq_kit.specs.Maps.{SameOutside, set_at};
@@ -141,7 +141,7 @@ impl Settings {
 
     /// Whether these are the forms that are set of a link's message ids.
     pub(crate) fn has_forms(&self, link: LinkId, forms: Forms) -> bool
-        ensures { IsTrue result → set_forms_of self.now link.0 ≡ Some forms }
+        ensures { IsTrue result ↔ (set_forms_of self.now link.0 ≡ Some forms) }
     {
         match self.forms.get(&link.0) {
             Some(set) => *set == forms,

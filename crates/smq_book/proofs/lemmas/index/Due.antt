@@ -207,6 +207,15 @@ module _ (messages : FinMap place_cmp Message) (facts : FinMap place_cmp Fact) (
           maps.get-set_at places_total places_exact facts q fact q
           ∙ ap (λ r. cond (is_eq r) fact (get facts q)) (tied_itself places_total q)
 
+  -- a fact that says of the receipt what the one before said leaves what is there
+  pub due-still : (fact : Option Fact) (m : Message) → get messages q ≡ Some m → is_due_fact fact ≡ is_due_fact (get facts q)
+      → due_in messages (set_at facts q fact) ≡ due_in messages facts
+  due-still fact m is same =
+      due-fact fact m is
+      ∙ ap (λ b. set_at (due_in messages facts) (due_at m.link m.moment q) (marked b)) same
+      ∙ sym (due-fact (get facts q) m is)
+      ∙ ap (due_in messages) (maps.set-same places_total places_exact facts q)
+
   -- where none stands, the fact is idle
   pub due-fact-absent : (fact : Option Fact) → get messages q ≡ None → due_in messages (set_at facts q fact) ≡ due_in messages facts
   due-fact-absent fact none =

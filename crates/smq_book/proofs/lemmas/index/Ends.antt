@@ -133,6 +133,15 @@ module _ (windows : Windows) (messages : FinMap place_cmp Message) (facts : FinM
           maps.get-set_at places_total places_exact facts q fact q
           ∙ ap (λ r. cond (is_eq r) fact (get facts q)) (tied_itself places_total q)
 
+  -- a fact that says of the receipt what the one before said leaves what is there
+  pub end-still : (fact : Option Fact) (m : Message) → get messages q ≡ Some m → is_due_fact fact ≡ is_due_fact (get facts q)
+      → ends_by windows messages (set_at facts q fact) ≡ ends_by windows messages facts
+  end-still fact m is same =
+      end-fact fact m is
+      ∙ ap (λ b. set_at (ends_by windows messages facts) (end_at (m.moment + window_in windows m.link) q) (marked b)) same
+      ∙ sym (end-fact (get facts q) m is)
+      ∙ ap (ends_by windows messages) (maps.set-same places_total places_exact facts q)
+
   -- where none stands, the fact is idle
   pub end-fact-absent : (fact : Option Fact) → get messages q ≡ None → ends_by windows messages (set_at facts q fact) ≡ ends_by windows messages facts
   end-fact-absent fact none =

@@ -1,13 +1,12 @@
 -- The pairs of a session by the places of its PDUs: a request's has the response of its sequence number and rank.
-use Rattle.std.proofs.Common.{◌≡◌, ℕ, zero, suc, ◌+◌, ◌<◌, ◌≤◌, Bool, true, false, cond, List, [], ◌∷◌, ◌++◌, length, take, drop, get_or, Option, Some, None, refl, sym, ap, ◌∙◌, subst, arith, append_assoc, append-nil, take-append-drop}
-use Rattle.std.specs.Prelude.{◌==◌, ◌&&◌, map, filter, slice_get, count_by, nat_lt, option_map, option_and_then}
+use Rattle.std.proofs.Common.{◌≡◌, ℕ, ◌+◌, ◌<◌, ◌≤◌, Bool, true, false, cond, List, [], ◌∷◌, ◌++◌, Option, Some, None, refl, sym, ap, ◌∙◌, arith, append_assoc, append-nil}
+use Rattle.std.specs.Prelude.{◌==◌, ◌&&◌, map, filter, slice_get, count_by, option_map, option_and_then}
 use Rattle.std.specs.List.{list_all}
 use Rattle.std.specs.Cmp.{tied_itself}
 use Rattle.std.specs.Ordering.{eq_by_cmp, is_eq}
 use Rattle.std.proofs.lemmas.Bool.Decides.{nat_tests}
-use Rattle.std.proofs.lemmas.List.{take_more, drop_more, length-take, map-append}
 use Rattle.std.proofs.lemmas.List.Folds.{list_all-append}
-use Rattle.std.proofs.lemmas.Option.{slice_get-map, slice_get-get_or}
+use Rattle.std.proofs.lemmas.Option.{slice_get-map}
 use Rattle.smq_kit.specs.declared.place.Dir.{Dir}
 use Rattle.smq_kit.specs.declared.place.Dir.TheVariants.{FromClient, FromCentre}
 use Rattle.smq_kit.specs.declared.place.Place.{Place}
@@ -15,19 +14,14 @@ use Rattle.smq_kit.specs.Orders.{place_cmp}
 use Rattle.smq_kit.proofs.MapLemmas.{same_key}
 use Rattle.smq_kit.proofs.PlaceOrders.{places_total, places_exact}
 use Rattle.smq_pdu.specs.Header.{Header}
-use Rattle.smq_pdu.specs.Pairing.{is_request, is_response, is_request_of, is_response_of, request_rank, response_index}
-use Rattle.smq_pdu.specs.declared.body.Submit.{Submit}
+use Rattle.smq_pdu.specs.Pairing.{is_request, is_response, is_request_of, is_response_of}
 use Rattle.smq_pair.specs.declared.pairing.Pair.{Pair}
 use Rattle.smq_pair.specs.Pairing as pairs
-use Rattle.smq_pair.specs.Pairing.{PlacedHeader, PairingValue, headers, pair_of, pair_after, pair_at}
-use Rattle.smq_pair.specs.Growth.{IsNext, pushed}
+use Rattle.smq_pair.specs.Pairing.{PlacedHeader, headers, pair_of, pair_after, pair_at}
 use Rattle.smq_book.specs.declared.present.kept.KeptPdu.{KeptPdu}
-use Rattle.smq_book.specs.present.Kept.{header_of, headers_of, submit_in}
+use Rattle.smq_book.specs.present.Kept.{header_of, headers_of}
 use Rattle.smq_book.specs.pairing.Traffic.{Origin, place_of, placed, pairing_among, response_to, responses_of, rank_after}
-use Rattle.smq_book.specs.within.Messages.{response_of}
-use Rattle.smq_book.specs.within.Pairs.{Rises, SubmitsAreRequests, pdu_at, response_at}
-use Rattle.smq_book.proofs.lemmas.join.AgreeLists.{response-same}
-use Rattle.smq_book.proofs.lemmas.pairing.Searched.{at-offset}
+use Rattle.smq_book.specs.within.Pairs.{Rises}
 
 -- ---- PDUs at their places
 
@@ -119,44 +113,7 @@ module _ (o : Origin) where
       ∙ ap (option_map (λ r. pair_of here r)) (responses-placed centre before p)
       ∙ with_response p (response_to centre before p)
 
-  -- the response is found again by its offset
-  found-again : (centre : List KeptPdu) (p : KeptPdu) (at : Option ℕ) → Rises 0 centre
-      → option_and_then (λ (pair : Pair). pdu_at centre pair.response.offset)
-      (option_map (pair_with p) (option_and_then (λ j. slice_get centre j) at)) ≡ option_and_then (λ j. slice_get centre j) at
-  found-again centre p None rises = refl
-  found-again centre p (Some j) rises = again (slice_get centre j) refl
-    where
-      again : (r : Option KeptPdu) → slice_get centre j ≡ r
-          → option_and_then (λ (pair : Pair). pdu_at centre pair.response.offset) (option_map (pair_with p) r) ≡ r
-      again None e = refl
-      again (Some r) e = (at-offset 0 centre j r rises e).1
-
-  response-found : (client centre before after : List KeptPdu) (i : ℕ) (p : KeptPdu) → client ≡ before ++ p ∷ after
-      → i ≡ length before → Rises 0 (before ++ p ∷ after) → Rises 0 centre
-      → is_request (header_of p) ≡ true → response_at (pairing_among o client centre) centre (place_of o FromClient p) ≡ response_of client centre i p
-  response-found client centre before after i p all many rises centre_rises request =
-      ap (λ ps. response_at (pairing_among o ps centre) centre (place_of o FromClient p)) all
-      ∙ ap (option_and_then (λ (pair : Pair). pdu_at centre pair.response.offset))
-      (request-pair before after centre p rises request ∙ ap (option_map (pair_with p)) (response-same client centre before (p ∷ after) i p all many))
-      ∙ found-again centre p (response_index (headers_of centre) p.seq (request_rank (headers_of client) i p.seq)) centre_rises
-
-  -- the same of the i-th PDU of the client
-  pub response-at : (client centre : List KeptPdu) (i : ℕ) (p : KeptPdu) (submit : Submit) → i < length client
-      → p ≡ get_or client i p → Rises 0 client → Rises 0 centre → SubmitsAreRequests client
-      → submit_in p.content ≡ Some submit → response_at (pairing_among o client centre) centre (place_of o FromClient p)
-      ≡ response_of client centre i p
-  response-at client centre i p submit h is rises centre_rises ask said =
-      let all : client ≡ take i client ++ p ∷ drop (i + 1) client =
-      sym (take-append-drop i client) ∙ ap (λ ps. take i client ++ ps) (drop_more client i p h
-      ∙ ap (λ (q : KeptPdu). q ∷ drop (i + 1) client) (sym is)) in
-      let many : i ≡ length (take i client) = (let l = length-take i client in omega (arith, l, h)) in
-      response-found client centre (take i client) (drop (i + 1) client) i p all many (subst_rises all) centre_rises
-      (ask.each i p submit (slice_get-get_or client i p h ∙ ap Some (sym is)) said)
-    where
-      subst_rises : {ps : List KeptPdu} → client ≡ ps → Rises 0 ps
-      subst_rises e = subst (λ ps. Rises 0 ps) e rises
-
--- ---- the next PDU
+-- ---- the PDUs of a session
 
 module _ (o : Origin) where
   of_session : (d : Dir) (ps : List KeptPdu) → list_all (λ (p : PlacedHeader). p.place.session.0 == o.session.0) (map (placed o d) ps) ≡ true
@@ -169,35 +126,3 @@ module _ (o : Origin) where
   of_both client centre =
       list_all-append (λ (p : PlacedHeader). p.place.session.0 == o.session.0) (map (placed o FromClient) client) (map (placed o FromCentre) centre)
       ∙ (λ i. of_session FromClient client i && of_session FromCentre centre i)
-
-  below : (d : Dir) (low : ℕ) (ps : List KeptPdu) (i : ℕ) (x : KeptPdu) → Rises low ps → i < length ps → x ≡ get_or ps i x
-      → (low ≤ x.offset) × (list_all (λ (p : PlacedHeader). nat_lt p.place.offset x.offset) (map (placed o d) (take i ps)) ≡ true)
-  below d low [] i x r h is = absurd (omega (arith, h))
-  below d low (p ∷ ps) zero x r h is = let off : x.offset ≡ p.offset = ap (λ (y : KeptPdu). y.offset) is in (omega (arith, r.0, off), refl)
-  below d low (p ∷ ps) (suc i) x r h is =
-      let rest = below d (p.offset + 1) ps i x r.1 (omega (arith, h)) is in
-      let more : p.offset + 1 ≤ x.offset = rest.0 in
-      let less : nat_lt p.offset x.offset ≡ true = grind (arith, nat_tests, more) in
-      (omega (arith, r.0, more), (λ j. less j && rest.1 j))
-
-  pub next-client : (client : List KeptPdu) (i : ℕ) (x : KeptPdu) → Rises 0 client → i < length client → x ≡ get_or client i x
-      → IsNext (pairing_among o (take i client) []) (place_of o FromClient x)
-  next-client client i x r h is = record { session = of_both (take i client) []; offset = (below FromClient 0 client i x r h is).1 }
-
-  pub next-centre : (client centre : List KeptPdu) (j : ℕ) (x : KeptPdu) → Rises 0 centre → j < length centre
-      → x ≡ get_or centre j x → IsNext (pairing_among o client (take j centre)) (place_of o FromCentre x)
-  next-centre client centre j x r h is = record { session = of_both client (take j centre); offset = (below FromCentre 0 centre j x r h is).1 }
-
-  more-placed : (d : Dir) (ps : List KeptPdu) (i : ℕ) (x : KeptPdu) → i < length ps → x ≡ get_or ps i x
-      → map (placed o d) (take i ps) ++ placed o d x ∷ [] ≡ map (placed o d) (take (i + 1) ps)
-  more-placed d ps i x h is =
-      sym (ap (map (placed o d)) (take_more ps i x h) ∙ map-append (placed o d) (take i ps) (get_or ps i x ∷ [])
-      ∙ ap (λ (y : KeptPdu). map (placed o d) (take i ps) ++ placed o d y ∷ []) (sym is))
-
-  pub client-more : (client : List KeptPdu) (i : ℕ) (x : KeptPdu) → i < length client → x ≡ get_or client i x
-      → pushed (pairing_among o (take i client) []) (placed o FromClient x) ≡ pairing_among o (take (i + 1) client) []
-  client-more client i x h is = λ k. record { client = more-placed FromClient client i x h is k; centre = [] }
-
-  pub centre-more : (client centre : List KeptPdu) (j : ℕ) (x : KeptPdu) → j < length centre → x ≡ get_or centre j x
-      → pushed (pairing_among o client (take j centre)) (placed o FromCentre x) ≡ pairing_among o client (take (j + 1) centre)
-  centre-more client centre j x h is = λ k. record { client = map (placed o FromClient) client; centre = more-placed FromCentre centre j x h is k }

@@ -1,7 +1,7 @@
 use Rattle.std.proofs.Common.{◌≡◌, ◌+◌, Option, Some, None, refl, ap, sym, ◌∙◌, rules}
 use Rattle.std.specs.FinMap.{get, insert}
 use Rattle.std.specs.Option.{option_copied}
-use Rattle.std.specs.Prelude.{is_some}
+use Rattle.std.specs.Prelude.{is_some, option_map}
 use Rattle.smq_kit.specs.Maps.{set_at}
 use Rattle.smq_kit.specs.declared.place.Place.{Place}
 use Rattle.smq_tally.specs.declared.fact.Fact.{Fact}
@@ -10,8 +10,8 @@ use Rattle.smq_book.specs.index.Ends.{end_at, ends_by}
 use Rattle.smq_book.specs.present.Settings.{window_in}
 use Rattle.smq_book.specs.index.Held.{messages_in, noted, stored_traffic}
 use Rattle.smq_book.specs.pairing.Traffic.{Message}
-use Rattle.smq_book.proofs.lemmas.index.Due.{due-fact, due-fact-absent, noted-marked}
-use Rattle.smq_book.proofs.lemmas.index.Ends.{end-fact, end-fact-absent}
+use Rattle.smq_book.proofs.lemmas.index.Due.{due-fact, due-fact-absent, due-still, noted-marked}
+use Rattle.smq_book.proofs.lemmas.index.Ends.{end-fact, end-fact-absent, end-still}
 use Rattle.smq_book.proofs.lemmas.index.Stored.{fact-absent, stored-at}
 use Rattle.smq_book.proofs.index.index.Index.set_fact_by.Goals as goal
 
@@ -43,43 +43,6 @@ returns-in_default-clause-due c = λ same.
     ∙ sym (due-fact-absent (messages_in i.messages.content) i.tally.facts q None none)
     ∙ ap (due_in (messages_in i.messages.content)) (sym c.in_ok-take_fact.ensures.facts)
 
-pub returns-clause-is_message : goal.returns-clause-is_message
-returns-clause-is_message c =
-    let i = c.args.self.now in
-    let q = c.args.place in
-    let m = c.in-Some.message.now in
-    let some : ◌≡◌ {A = Option Message} (Some m) (option_copied c.get.result) = search rules in
-    let there : get (messages_in i.messages.content) q ≡ Some m = sym (some ∙ c.get.ensures ∙ stored-at i.messages.content q) in
-    ap is_some (sym there)
-
-pub returns-clause-facts : goal.returns-clause-facts
-returns-clause-facts c = λ z versions windows clock are.
-    let i = c.args.self.now in
-    let q = c.args.place in
-    let m = c.in-Some.message.now in
-    let some : ◌≡◌ {A = Option Message} (Some m) (option_copied c.get.result) = search rules in
-    let there : get (messages_in i.messages.content) q ≡ Some m = sym (some ∙ c.get.ensures ∙ stored-at i.messages.content q) in
-    c.in_ok-set.ensures.ok
-    ∙ ap (λ (p : Place). insert i.tally.facts p c.fact_at-fact.result) c.fact_at-fact.ensures.place
-    ∙ ap (set_at i.tally.facts q)
-    (c.fact_at-fact.ensures.value z (stored_traffic i.messages.content i.receipts.content) versions windows clock are refl there)
-
-pub returns-clause-due : goal.returns-clause-due
-returns-clause-due c = λ same.
-    let i = c.args.self.now in
-    let q = c.args.place in
-    let m = c.in-Some.message.now in
-    let ms = messages_in i.messages.content in
-    let fact : Fact = c.fact_at-fact.result in
-    let some : ◌≡◌ {A = Option Message} (Some m) (option_copied c.get.result) = search rules in
-    let there : get ms q ≡ Some m = sym (some ∙ c.get.ensures ∙ stored-at i.messages.content q) in
-    let sets = c.in_ok-set.ensures.ok ∙ ap (λ (p : Place). insert i.tally.facts p fact) c.fact_at-fact.ensures.place in
-    c.in_ok-set_due.ensures.value
-    ∙ (λ j. set_at (same j) (due_at (c.message.view_is j).link (c.message.view_is j).moment q) (noted (c.is_due-is_due.ensures j)))
-    ∙ ap (set_at (due_in ms i.tally.facts) (due_at m.link m.moment q)) (noted-marked (is_due_fact (Some fact)))
-    ∙ sym (due-fact ms i.tally.facts q (Some fact) m there)
-    ∙ ap (due_in ms) (sym sets)
-
 pub returns-in_default-clause-ends : goal.returns-in_default-clause-ends
 returns-in_default-clause-ends c = λ same.
     let i = c.args.self.now in
@@ -91,20 +54,119 @@ returns-in_default-clause-ends c = λ same.
     ∙ sym (end-fact-absent w (messages_in i.messages.content) i.tally.facts q None none)
     ∙ ap (ends_by w (messages_in i.messages.content)) (sym c.in_ok-take_fact.ensures.facts)
 
-pub returns-clause-ends : goal.returns-clause-ends
-returns-clause-ends c = λ same.
+pub returns-in_ok-set_end-clause-is_message : goal.returns-in_ok-set_end-clause-is_message
+returns-in_ok-set_end-clause-is_message c =
     let i = c.args.self.now in
     let q = c.args.place in
-    let w = c.args.windows.now in
     let m = c.in-Some.message.now in
     let ms = messages_in i.messages.content in
-    let fact : Fact = c.fact_at-fact.result in
     let some : ◌≡◌ {A = Option Message} (Some m) (option_copied c.get.result) = search rules in
     let there : get ms q ≡ Some m = sym (some ∙ c.get.ensures ∙ stored-at i.messages.content q) in
-    let sets = c.in_ok-set.ensures.ok ∙ ap (λ (p : Place). insert i.tally.facts p fact) c.fact_at-fact.ensures.place in
+    ap is_some (sym there)
+
+pub returns-in_ok-set_end-clause-facts : goal.returns-in_ok-set_end-clause-facts
+returns-in_ok-set_end-clause-facts c = λ z versions windows clock are.
+    let i = c.args.self.now in
+    let q = c.args.place in
+    let m = c.in-Some.message.now in
+    let ms = messages_in i.messages.content in
+    let some : ◌≡◌ {A = Option Message} (Some m) (option_copied c.get.result) = search rules in
+    let there : get ms q ≡ Some m = sym (some ∙ c.get.ensures ∙ stored-at i.messages.content q) in
+    let fact : Fact = c.fact_at-fact.result in
+    let sets = c.in_ok-before.ensures.ok ∙ ap (λ (p : Place). insert i.tally.facts p fact) c.fact_at-fact.ensures.place in
+    sets
+    ∙ ap (set_at i.tally.facts q)
+    (c.fact_at-fact.ensures.value z (stored_traffic i.messages.content i.receipts.content) versions windows clock are refl there)
+
+pub returns-else-is_now-is_due-clause-is_message : goal.returns-else-is_now-is_due-clause-is_message
+returns-else-is_now-is_due-clause-is_message c =
+    let i = c.args.self.now in
+    let q = c.args.place in
+    let m = c.in-Some.message.now in
+    let ms = messages_in i.messages.content in
+    let some : ◌≡◌ {A = Option Message} (Some m) (option_copied c.get.result) = search rules in
+    let there : get ms q ≡ Some m = sym (some ∙ c.get.ensures ∙ stored-at i.messages.content q) in
+    ap is_some (sym there)
+
+pub returns-else-is_now-is_due-clause-facts : goal.returns-else-is_now-is_due-clause-facts
+returns-else-is_now-is_due-clause-facts c = λ z versions windows clock are.
+    let i = c.args.self.now in
+    let q = c.args.place in
+    let m = c.in-Some.message.now in
+    let ms = messages_in i.messages.content in
+    let some : ◌≡◌ {A = Option Message} (Some m) (option_copied c.get.result) = search rules in
+    let there : get ms q ≡ Some m = sym (some ∙ c.get.ensures ∙ stored-at i.messages.content q) in
+    let fact : Fact = c.fact_at-fact.result in
+    let sets = c.in_ok-before.ensures.ok ∙ ap (λ (p : Place). insert i.tally.facts p fact) c.fact_at-fact.ensures.place in
+    sets
+    ∙ ap (set_at i.tally.facts q)
+    (c.fact_at-fact.ensures.value z (stored_traffic i.messages.content i.receipts.content) versions windows clock are refl there)
+
+pub returns-in_ok-set_end-clause-due : goal.returns-in_ok-set_end-clause-due
+returns-in_ok-set_end-clause-due c = λ same.
+    let i = c.args.self.now in
+    let q = c.args.place in
+    let m = c.in-Some.message.now in
+    let ms = messages_in i.messages.content in
+    let some : ◌≡◌ {A = Option Message} (Some m) (option_copied c.get.result) = search rules in
+    let there : get ms q ≡ Some m = sym (some ∙ c.get.ensures ∙ stored-at i.messages.content q) in
+    let fact : Fact = c.fact_at-fact.result in
+    let sets = c.in_ok-before.ensures.ok ∙ ap (λ (p : Place). insert i.tally.facts p fact) c.fact_at-fact.ensures.place in
+    let is_now = c.is_due-is_now.ensures (Some fact) refl in
+    c.in_ok-set_due.ensures.value
+    ∙ (λ j. set_at (same j) (due_at (c.message.view_is j).link (c.message.view_is j).moment q) (noted (is_now j)))
+    ∙ ap (set_at (due_in ms i.tally.facts) (due_at m.link m.moment q)) (noted-marked (is_due_fact (Some fact)))
+    ∙ sym (due-fact ms i.tally.facts q (Some fact) m there)
+    ∙ ap (due_in ms) (sym sets)
+
+pub returns-in_ok-set_end-clause-ends : goal.returns-in_ok-set_end-clause-ends
+returns-in_ok-set_end-clause-ends c = λ same.
+    let i = c.args.self.now in
+    let q = c.args.place in
+    let m = c.in-Some.message.now in
+    let ms = messages_in i.messages.content in
+    let some : ◌≡◌ {A = Option Message} (Some m) (option_copied c.get.result) = search rules in
+    let there : get ms q ≡ Some m = sym (some ∙ c.get.ensures ∙ stored-at i.messages.content q) in
+    let fact : Fact = c.fact_at-fact.result in
+    let sets = c.in_ok-before.ensures.ok ∙ ap (λ (p : Place). insert i.tally.facts p fact) c.fact_at-fact.ensures.place in
+    let w = c.args.windows.now in
+    let is_now = c.is_due-is_now.ensures (Some fact) refl in
     c.in_ok-set_end.ensures.value
-    ∙ (λ j. set_at (same j) (c.of-end.ensures j) (noted (c.is_due-is_due.ensures j)))
+    ∙ (λ j. set_at (same j) (c.of-then-is_now-is_due.ensures j) (noted (is_now j)))
     ∙ (λ j. set_at (ends_by w ms i.tally.facts) (end_at ((c.message.view_is j).moment + (c.of.ensures ∙ (λ k. window_in w (c.message.view_is k).link)) j) q) (noted (is_due_fact (Some fact))))
     ∙ ap (set_at (ends_by w ms i.tally.facts) (end_at (m.moment + window_in w m.link) q)) (noted-marked (is_due_fact (Some fact)))
     ∙ sym (end-fact w ms i.tally.facts q (Some fact) m there)
     ∙ ap (ends_by w ms) (sym sets)
+
+pub returns-else-is_now-is_due-clause-due : goal.returns-else-is_now-is_due-clause-due
+returns-else-is_now-is_due-clause-due c = λ same.
+    let i = c.args.self.now in
+    let q = c.args.place in
+    let m = c.in-Some.message.now in
+    let ms = messages_in i.messages.content in
+    let some : ◌≡◌ {A = Option Message} (Some m) (option_copied c.get.result) = search rules in
+    let there : get ms q ≡ Some m = sym (some ∙ c.get.ensures ∙ stored-at i.messages.content q) in
+    let fact : Fact = c.fact_at-fact.result in
+    let sets = c.in_ok-before.ensures.ok ∙ ap (λ (p : Place). insert i.tally.facts p fact) c.fact_at-fact.ensures.place in
+    let equal : c.is_due-is_now.result ≡ c.is_due.result = search rules in
+    let before = c.in_ok-before.ensures.before ∙ ap (λ (p : Place). option_map (λ (f : Fact). f.outcome) (get i.tally.facts p)) c.fact_at-fact.ensures.place in
+    let still : is_due_fact (Some fact) ≡ is_due_fact (get i.tally.facts q) =
+    sym (c.is_due-is_now.ensures (Some fact) refl) ∙ equal ∙ c.is_due.ensures (get i.tally.facts q) before in
+    same ∙ sym (due-still ms i.tally.facts q (Some fact) m there still) ∙ ap (due_in ms) (sym sets)
+
+pub returns-else-is_now-is_due-clause-ends : goal.returns-else-is_now-is_due-clause-ends
+returns-else-is_now-is_due-clause-ends c = λ same.
+    let i = c.args.self.now in
+    let q = c.args.place in
+    let m = c.in-Some.message.now in
+    let ms = messages_in i.messages.content in
+    let some : ◌≡◌ {A = Option Message} (Some m) (option_copied c.get.result) = search rules in
+    let there : get ms q ≡ Some m = sym (some ∙ c.get.ensures ∙ stored-at i.messages.content q) in
+    let fact : Fact = c.fact_at-fact.result in
+    let sets = c.in_ok-before.ensures.ok ∙ ap (λ (p : Place). insert i.tally.facts p fact) c.fact_at-fact.ensures.place in
+    let equal : c.is_due-is_now.result ≡ c.is_due.result = search rules in
+    let before = c.in_ok-before.ensures.before ∙ ap (λ (p : Place). option_map (λ (f : Fact). f.outcome) (get i.tally.facts p)) c.fact_at-fact.ensures.place in
+    let still : is_due_fact (Some fact) ≡ is_due_fact (get i.tally.facts q) =
+    sym (c.is_due-is_now.ensures (Some fact) refl) ∙ equal ∙ c.is_due.ensures (get i.tally.facts q) before in
+    let w = c.args.windows.now in
+    same ∙ sym (end-still w ms i.tally.facts q (Some fact) m there still) ∙ ap (ends_by w ms) (sym sets)

@@ -57,5 +57,5 @@ pub returns-then-has_forms-clause-reply : goal.returns-then-has_forms-clause-rep
 returns-then-has_forms-clause-reply c =
     let p = c.args.self.now in
     let there : get p.settings.forms c.args.link.0 ≡ Some c.args.forms =
-    ap (λ (q : PresentValue). set_forms_of q.settings c.args.link.0) (sym c.self.view_is) ∙ c.has_forms.ensures c.if-has_forms.true in
+    ap (λ (q : PresentValue). set_forms_of q.settings c.args.link.0) (sym c.self.view_is) ∙ c.has_forms.ensures.0 c.if-has_forms.true in
     sym (ap (λ m. record p { settings = record p.settings { forms = m } }) (insert-same p.settings.forms c.args.link.0 c.args.forms there))
