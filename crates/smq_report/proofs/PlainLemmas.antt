@@ -13,8 +13,9 @@ use Rattle.smq_kit.specs.ErrorTexts.{is_error_octet, is_error_text}
 use Rattle.smq_kit.specs.Numbers.{IsNetwork}
 use Rattle.smq_kit.specs.declared.error_code.ErrorCode.TheVariants as c
 use Rattle.smq_tally.specs.declared.value.SubmitError.TheVariants as s
+use Rattle.smq_report.specs.Csv.{IsPlain}
 use Rattle.smq_report.specs.Values.{code_text, error_text}
-use Rattle.smq_report.specs.within.Pages.{IsPlain, record_of}
+use Rattle.smq_report.specs.within.Pages.{record_of}
 
 -- a record of five such fields
 pub plain-record : (a b c d e : List ℕ) → IsPlain a → IsPlain b → IsPlain c → IsPlain d → IsPlain e

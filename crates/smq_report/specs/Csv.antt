@@ -1,7 +1,8 @@
 -- The text of a report as CSV: a record of five fields for each row of a view and each place of a list.
-use Rattle.std.specs.Prelude.{ℕ, List, [], ◌∷◌, ◌++◌, codes}
+use Rattle.std.specs.Prelude.{◌≡◌, ℕ, false, List, [], ◌∷◌, ◌++◌, codes}
 use Rattle.std.specs.List.{flat_map}
 use Rattle.std.specs.Fmt.{decimal}
+use Rattle.csv.specs.Writing.{default_writer, needs_quotes}
 use Rattle.smq_kit.specs.declared.place.Place.{Place}
 use Rattle.smq_tally.specs.declared.list.List as lists
 use Rattle.smq_tally.specs.declared.view.View.{View}
@@ -12,6 +13,10 @@ use Rattle.smq_report.specs.declared.pick.Section.{Section}
 use Rattle.smq_report.specs.declared.pick.Section.TheVariants as section
 use Rattle.smq_report.specs.Sections.{sections_of}
 use Rattle.smq_report.specs.Values.{dir_text, value_text}
+
+-- CSV takes a field without quotes
+abbrev pub IsPlain : List ℕ → Type 0
+IsPlain field = needs_quotes default_writer field ≡ false
 
 -- a row of a view: `view,NAME,VALUE,OUTCOME,COUNT` and a line feed
 abbrev pub csv_row : View → ShownRow → List ℕ

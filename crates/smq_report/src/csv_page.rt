@@ -2,8 +2,8 @@
 ghost use Rattle.std.specs.Prelude.{◌≡◌, ◌++◌, [], OnOk, IfErr, IfOk, length, nat_le};
 ghost use Rattle.std.specs.Io.KnownBytes.{Appends};
 ghost use Rattle.smq_report.specs.Beginnings.{AppendsBeginning};
-ghost use Rattle.smq_report.specs.Csv.{csv_place, csv_row};
-ghost use Rattle.smq_report.specs.within.Pages.{IsAtStart, IsPlain, gathered, record_of, waiting};
+ghost use Rattle.smq_report.specs.Csv.{IsPlain, csv_place, csv_row};
+ghost use Rattle.smq_report.specs.within.Pages.{IsAtStart, gathered, record_of, waiting};
 
 use crate::octets::write_octets;
 use crate::pick::ReportFault;

@@ -19,3 +19,4 @@ pub use octets::write_octets;
 pub use pick::{Format, Pick, ReportFault, Section};
 pub use report::write_report;
 pub use table_report::write_table;
+pub use value::{push_code, push_error};

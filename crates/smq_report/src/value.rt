@@ -1,7 +1,7 @@
 //! What stands in the lines of a report: values, errors and directions.
 ghost use Rattle.std.specs.Prelude.{◌≡◌, ◌++◌, OnOk, string_bytes};
+ghost use Rattle.smq_report.specs.Csv.{IsPlain};
 ghost use Rattle.smq_report.specs.Values.{code_text, dir_text, error_text, value_text};
-ghost use Rattle.smq_report.specs.within.Pages.{IsPlain};
 
 use smq_kit::{Dir, ErrorCode, ErrorText, Network};
 use smq_tally::{SubmitError, Value};
@@ -30,8 +30,8 @@ pub(crate) fn push_value(text: &mut String, value: &Value) -> Result<(), AllocEr
     }
 }
 
-/// Puts the error of a submit after the text.
-fn push_error(text: &mut String, error: &SubmitError) -> Result<(), AllocError>
+/// Puts the error of a message after the text, as the view of errors prints it. It needs no quotes in CSV.
+pub fn push_error(text: &mut String, error: &SubmitError) -> Result<(), AllocError>
     ensures ok { OnOk result
         (string_bytes text.new ≡ string_bytes text.old ++ error_text error.now) }
     ensures plain { OnOk result (IsPlain (error_text error.now)) }
@@ -42,8 +42,8 @@ fn push_error(text: &mut String, error: &SubmitError) -> Result<(), AllocError>
     }
 }
 
-/// Puts the error of a receipt after the text.
-fn push_code(text: &mut String, code: &ErrorCode) -> Result<(), AllocError>
+/// Puts the error of a receipt after the text, as the view of errors prints it. It needs no quotes in CSV.
+pub fn push_code(text: &mut String, code: &ErrorCode) -> Result<(), AllocError>
     ensures ok { OnOk result
         (string_bytes text.new ≡ string_bytes text.old ++ code_text code.now) }
     ensures plain { OnOk result (IsPlain (code_text code.now)) }

@@ -1,7 +1,7 @@
 -- Records that wait on a page, and what is written of them.
 use Rattle.std.specs.Prelude.{◌≡◌, ℕ, false, List, [], ◌∷◌, ◌++◌, Option, Vec, codes}
 use Rattle.std.specs.Io.KnownBytes.{Appends}
-use Rattle.csv.specs.Writing.{default_writer, fields_written, has_written, needs_quotes, writer_pending, writer_setup, writer_under}
+use Rattle.csv.specs.Writing.{default_writer, fields_written, has_written, writer_pending, writer_setup, writer_under}
 use Rattle.csv.specs.declared.writer.Writer.{Writer}
 
 -- what a writer in memory has gathered of what was put after its records
@@ -17,10 +17,6 @@ pub record IsAtStart {W : Type 0} (records : Writer W) : Type 0 where
   pub setup : writer_setup records ≡ default_writer
   pub fields : fields_written records ≡ 0
   pub written : has_written records ≡ false
-
--- CSV takes a field without quotes
-abbrev pub IsPlain : List ℕ → Type 0
-IsPlain field = needs_quotes default_writer field ≡ false
 
 -- a record of five fields, with commas between them and a line feed after them
 abbrev pub record_of : List ℕ → List ℕ → List ℕ → List ℕ → List ℕ → List ℕ

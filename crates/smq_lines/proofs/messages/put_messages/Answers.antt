@@ -1,0 +1,27 @@
+use Rattle.smq_report.proofs.BeginningLemmas.{whatever_error}
+use Rattle.smq_report.proofs.PageLemmas.{gathers-cut, gathers-next, gathers-none, gathers-stop}
+use Rattle.smq_lines.specs.Texts.{message_record}
+use Rattle.smq_lines.proofs.LineLemmas.{drop-item}
+use Rattle.smq_lines.proofs.messages.put_messages.Goals as goal
+
+pub loop-line-init : goal.loop-line-init
+loop-line-init g c = record { start = c.requires; gathers = gathers-none message_record _ _ _ }
+
+pub loop-line-preserved : goal.loop-line-preserved
+loop-line-preserved g c =
+    let first = drop-item c.args.lines.now c.loop-line.line-index c.line-item.result c.loop-line-test.true c.line-item.is in
+    let sent = c.in_ok-page.ensures in
+    record {
+      start = sent.start;
+      gathers = gathers-next message_record _ _ _ _ _ _ _ _ _ _ first (rw c.in_ok-put_message.ensures.ok at sent.ok) c.loop-line.invariant.gathers;
+    }
+
+pub returns-in_err-put_message-clause-begun : goal.returns-in_err-put_message-clause-begun
+returns-in_err-put_message-clause-begun g c =
+    whatever_error c.from_residual.result _ (gathers-stop message_record _ _ _ _ _ _ c.loop-line.invariant.gathers)
+
+pub returns-in_err-page-clause-begun : goal.returns-in_err-page-clause-begun
+returns-in_err-page-clause-begun g c =
+    let first = drop-item c.args.lines.now c.loop-line.line-index c.line-item.result c.loop-line-test.true c.line-item.is in
+    whatever_error c.from_residual-in_err-page.result _ (gathers-cut message_record _ _ _ _ _ _ _ _ _ _ first
+    c.in_ok-put_message.ensures.ok c.in_err-page.ensures.begun c.loop-line.invariant.gathers)

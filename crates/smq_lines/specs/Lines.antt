@@ -1,0 +1,28 @@
+-- What lines for messages and delivery receipts say, without where it lies in memory.
+use Rattle.std.specs.Prelude.{ℕ, List, Option}
+use Rattle.smq_kit.specs.declared.names.LinkId.{LinkId}
+use Rattle.smq_kit.specs.declared.place.Place.{Place}
+use Rattle.smq_receipt.specs.declared.reading.Receipt.{Receipt}
+use Rattle.smq_tally.specs.declared.fact.Fact.{Fact}
+use Rattle.smq_lines.specs.declared.lines.DecidingReceipt.{DecidingReceipt}
+use Rattle.smq_lines.specs.declared.lines.ReceiptStanding.{ReceiptStanding}
+
+-- what a line for a message says: what is known of it, when it came in ms, its number, the id with which it is accepted, the
+-- offset of its response, and the receipt that decides it
+pub record MessageLineValue : Type 0 where
+  pub fact : Fact
+  pub moment : ℕ
+  pub number : Option (List ℕ)
+  pub id : Option (List ℕ)
+  pub response : Option ℕ
+  pub receipt : Option DecidingReceipt
+
+-- what a line for a delivery receipt says: its link, its place, when it came in ms, what it says, how it stands to messages,
+-- and the message that it matches
+pub record ReceiptLineValue : Type 0 where
+  pub link : LinkId
+  pub place : Place
+  pub moment : ℕ
+  pub receipt : Receipt
+  pub standing : ReceiptStanding
+  pub message : Option Place

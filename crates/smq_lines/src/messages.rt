@@ -1,0 +1,54 @@
+//! Lines for messages as CSV: records are gathered on a page, and a full page is written.
+ghost use Rattle.std.specs.Prelude.{◌≡◌, ◌++◌, OnOk, IfErr, IfOk};
+ghost use Rattle.std.specs.List.{flat_map};
+ghost use Rattle.std.specs.Io.KnownBytes.{Appends};
+ghost use Rattle.smq_report.specs.Beginnings.{AppendsBeginning};
+ghost use Rattle.smq_report.specs.within.Pages.{AppendsAllBut, IsAtStart, waiting};
+ghost use Rattle.smq_lines.specs.Texts.{message_record, messages_text};
+
+use crate::lines::MessageLine;
+use crate::page::Page;
+use crate::records::MESSAGE_COLUMNS;
+use smq_report::ReportFault;
+use std::alloc::Global;
+use std::io::Write;
+
+/// Writes lines for messages as CSV: a record of columns, and a record for each line. It holds about 64 KiB of them at a time.
+/// `Write` comes only where the writer failed in this call. On an error a beginning of the text has gone out, or nothing.
+pub fn write_messages<W: Write>(
+    alloc: Global,
+    lines: &[MessageLine<'_>],
+    writer: &mut W,
+) -> Result<(), ReportFault>
+    ensures ok { OnOk result
+        (Appends (W.contents writer.old) (W.contents writer.new) (messages_text lines.now)) }
+    ensures begun { IfErr result (λ fault.
+        AppendsBeginning (W.contents writer.old) (W.contents writer.new) (messages_text lines.now)) }
+{
+    let mut page = Page::new(alloc);
+    page.put_columns(&MESSAGE_COLUMNS)?;
+    let page = put_messages(lines, page, writer)?;
+    page.send(writer)?;
+    writer.flush()?;
+    Ok(())
+}
+
+/// Puts lines after the page, and writes each page that is full.
+fn put_messages<W: Write>(
+    lines: &[MessageLine<'_>],
+    mut page: Page,
+    writer: &mut W,
+) -> Result<Page, ReportFault>
+    requires { IsAtStart page.records }
+    ensures ok { IfOk result (λ after.
+        AppendsAllBut (W.contents writer.old) (W.contents writer.new) (waiting after.records)
+        (waiting page.records ++ flat_map message_record lines.now)) }
+    ensures begun { IfErr result (λ fault. AppendsBeginning (W.contents writer.old) (W.contents writer.new)
+        (waiting page.records ++ flat_map message_record lines.now)) }
+{
+    for line in lines {
+        page.put_message(line)?;
+        page = page.send_full(writer)?;
+    }
+    Ok(page)
+}

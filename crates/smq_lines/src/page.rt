@@ -1,0 +1,130 @@
+//! A page of CSV: records that wait to be written, gathered by `csv` in memory that is used again.
+ghost use Rattle.std.specs.Prelude.{◌≡◌, ◌++◌, ◌<◌, [], OnOk, IfErr, IfOk, length, map, nat_le};
+ghost use Rattle.std.specs.Io.KnownBytes.{Appends};
+ghost use Rattle.smq_report.specs.Beginnings.{AppendsBeginning};
+ghost use Rattle.smq_report.specs.within.Pages.{AppendsAllBut, IsAtStart, gathered, waiting};
+ghost use Rattle.smq_lines.specs.Texts.{csv_record, message_record, receipt_record};
+
+use crate::fields::Fields;
+use crate::lines::{MessageLine, ReceiptLine};
+use crate::records::{put_message, put_receipt};
+use csv::Writer;
+use smq_report::{ReportFault, write_octets};
+use std::alloc::Global;
+use std::io::Write;
+
+/// From how many octets on a page is written.
+const FULL: usize = 65_536;
+
+/// Records that wait to be written, and room for the fields of the next.
+#[derive(Drop)]
+pub(crate) struct Page {
+    pub(crate) records: Writer<Vec<u8>>,
+    fields: Fields,
+}
+
+impl Page {
+    /// An empty page.
+    pub(crate) fn new(alloc: Global) -> Page
+        ensures start { IsAtStart result.records }
+        ensures empty { waiting result.records ≡ [] }
+    {
+        Page {
+            records: Writer::from_writer(Vec::new(alloc)),
+            fields: Fields::new(alloc),
+        }
+    }
+
+    /// Puts columns after what waits.
+    pub(crate) fn put_columns(&mut self, columns: &[&[u8]]) -> Result<(), ReportFault>
+        requires { IsAtStart self.old.records }
+        ensures start { OnOk result (IsAtStart self.new.records) }
+        ensures ok { OnOk result (waiting self.new.records
+            ≡ waiting self.old.records ++ csv_record (map (λ column. column.now) columns.now)) }
+    {
+        match self.records.write_fields(columns) {
+            Ok(()) => Ok(()),
+            Err(_) => Err(ReportFault::Memory),
+        }
+    }
+
+    /// Puts a line for a message after what waits.
+    pub(crate) fn put_message(&mut self, line: &MessageLine<'_>) -> Result<(), ReportFault>
+        requires { IsAtStart self.old.records }
+        ensures start { OnOk result (IsAtStart self.new.records) }
+        ensures ok { OnOk result (waiting self.new.records
+            ≡ waiting self.old.records ++ message_record line.now) }
+    {
+        self.fields.clear();
+        put_message(&mut self.fields, line)?;
+        put_record(&mut self.records, &self.fields)
+    }
+
+    /// Puts a line for a delivery receipt after what waits.
+    pub(crate) fn put_receipt(&mut self, line: &ReceiptLine<'_>) -> Result<(), ReportFault>
+        requires { IsAtStart self.old.records }
+        ensures start { OnOk result (IsAtStart self.new.records) }
+        ensures ok { OnOk result (waiting self.new.records
+            ≡ waiting self.old.records ++ receipt_record line.now) }
+    {
+        self.fields.clear();
+        put_receipt(&mut self.fields, line)?;
+        put_record(&mut self.records, &self.fields)
+    }
+
+    /// Whether it is to be written before more is put on it.
+    fn is_full(&self) -> bool
+        ensures { result ≡ nat_le FULL (length (gathered self.now.records)) }
+    {
+        self.records.get_ref().len() >= FULL
+    }
+
+    /// Writes what waits if the page is full, and gives the page, which isn't full then.
+    pub(crate) fn send_full<W: Write>(self, writer: &mut W) -> Result<Page, ReportFault>
+        requires { IsAtStart self.records }
+        ensures start { IfOk result (λ page. IsAtStart page.records) }
+        ensures ok { IfOk result (λ page. AppendsAllBut (W.contents writer.old) (W.contents writer.new)
+            (waiting page.records) (waiting self.records)) }
+        ensures room { IfOk result (λ page. length (gathered page.records) < FULL) }
+        ensures begun { IfErr result (λ fault.
+            AppendsBeginning (W.contents writer.old) (W.contents writer.new) (waiting self.records)) }
+    {
+        if self.is_full() {
+            return self.send(writer);
+        }
+        Ok(self)
+    }
+
+    /// Writes what waits, and gives the page, which is empty then.
+    pub(crate) fn send<W: Write>(self, writer: &mut W) -> Result<Page, ReportFault>
+        ensures start { IfOk result (λ page. IsAtStart page.records) }
+        ensures empty { IfOk result (λ page. waiting page.records ≡ []) }
+        ensures written { OnOk result
+            (Appends (W.contents writer.old) (W.contents writer.new) (waiting self.records)) }
+        ensures begun { IfErr result (λ fault.
+            AppendsBeginning (W.contents writer.old) (W.contents writer.new) (waiting self.records)) }
+    {
+        let Page { records, fields } = self;
+        let Ok(mut octets) = records.into_inner() else {
+            return Err(ReportFault::Memory);
+        };
+        write_octets(writer, octets.as_slice())?;
+        octets.clear();
+        Ok(Page {
+            records: Writer::from_writer(octets),
+            fields,
+        })
+    }
+}
+
+/// Puts fields as a record after the records.
+fn put_record(records: &mut Writer<Vec<u8>>, fields: &Fields) -> Result<(), ReportFault>
+    requires { IsAtStart records.old }
+    ensures start { OnOk result (IsAtStart records.new) }
+    ensures ok { OnOk result (waiting records.new ≡ waiting records.old ++ csv_record fields.now) }
+{
+    match records.write_byte_record(fields.record()) {
+        Ok(()) => Ok(()),
+        Err(_) => Err(ReportFault::Memory),
+    }
+}
