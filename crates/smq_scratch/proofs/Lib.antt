@@ -1,6 +1,9 @@
 pub mod KeyMaps
 pub mod Numbers
 pub mod Deciding
+pub mod Matched
+pub mod LineLaws
+pub mod DecidedLines
 pub mod ReceiptNotes
 pub mod PushedMessages
 pub mod Collected

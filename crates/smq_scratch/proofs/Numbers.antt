@@ -37,7 +37,7 @@ number-last q submits x = omega (
       (λ s. cond (accepted_with q s) 1 0) x [],
 )
 
-one_key : (q k : LinkKey) (x : SubmittedMessage) → x.key ≡ Some k → accepted_with q x ≡ same_key q k
+pub one_key : (q k : LinkKey) (x : SubmittedMessage) → x.key ≡ Some k → accepted_with q x ≡ same_key q k
 one_key q k x e =
     ap (λ (o : Option LinkKey). list_any (same_key q) (option_to_list o)) e
     ∙ elim (same_key q k) as (λ b. (b || false) ≡ b) [ true ↦ refl | false ↦ refl ]

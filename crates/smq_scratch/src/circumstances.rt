@@ -33,8 +33,18 @@ impl<'a> SubmittedMessage<'a> {
     pub(crate) fn key(&self) -> Option<LinkKey>
         ensures { result ≡ self.now.key }
     {
-        let id = accepted_id(self.request, self.response?)?;
-        Some(LinkKey::of(self.source.link, self.source.forms.response, id))
+        match self.id() {
+            Some(id) => Some(LinkKey::of(self.source.link, self.source.forms.response, id)),
+            None => None,
+        }
+    }
+
+    /// The id with which it is accepted, as its response gives it.
+    pub(crate) fn id(&self) -> Option<&'a MessageId>
+        ensures { option_copied result
+            ≡ messages.accepted_id self.now.header self.now.response }
+    {
+        accepted_id(self.request, self.response?)
     }
 }
 

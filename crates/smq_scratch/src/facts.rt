@@ -4,16 +4,17 @@ ghost use Rattle.std.specs.Prelude.{◌≡◌, ℕ, List, Option, option_map, If
 ghost use Rattle.std.specs.Option.{option_copied};
 ghost use Rattle.std.specs.FinMap as map;
 ghost use Rattle.smq_kit.specs.declared.names.RouteId.{RouteId};
+ghost use Rattle.smq_book.specs.join.Circumstances.{lapsed_in, route_in};
 ghost use Rattle.smq_book.specs.join.Facts as facts;
 ghost use Rattle.smq_group.specs.Matching.{Standing};
 ghost use Rattle.smq_book.specs.join.Outcomes as outcomes;
 ghost use Rattle.smq_book.specs.join.Outcomes.{is_shared};
 ghost use Rattle.smq_book.specs.pairing.Traffic.{traffic_of};
-ghost use Rattle.smq_book.specs.within.Accepted.{HasNumbers, HasDeciders};
+ghost use Rattle.smq_book.specs.within.Accepted.{HasNumbers, HasDeciders, decider_of};
 ghost use Rattle.smq_book.specs.within.Lists.{receipts_of, submits_of};
 ghost use Rattle.smq_book.specs.within.Messages.{SubmittedMessage as Submit};
 ghost use Rattle.smq_book.specs.within.Outcomes as listed;
-ghost use Rattle.smq_book.specs.within.Outcomes.{circumstances_by, message_from, received};
+ghost use Rattle.smq_book.specs.within.Outcomes.{circumstances_by, message_from, received, standing_of};
 ghost use Rattle.smq_book.specs.within.Receipts.{KeyedReceipt};
 
 use crate::accepted::Accepted;
@@ -60,16 +61,49 @@ pub(crate) fn fact_of(
         → HasNumbers accepted.now.numbers submits → HasDeciders deciders.now.receipts receipts
         → result ≡ listed.fact_of settings.now submits receipts submit.now }
 {
-    let route = submit.route(settings);
-    let lapsed = submit.has_lapsed(settings);
+    let (shared, decider) = decision(submit, accepted, deciders);
+    fact_with(settings, submit, shared, decider)
+}
+
+/// Whether a message shares its key, and the receipt that decides it.
+pub(crate) fn decision<'d, 'a>(
+    submit: &SubmittedMessage<'_>,
+    accepted: &Accepted,
+    deciders: &'d Deciders<'a>,
+) -> (bool, Option<&'d PlacedReceipt<'a>>)
+    ensures shared { (submits : List Submit) (receipts : List KeyedReceipt)
+        → HasNumbers accepted.now.numbers submits
+        → result.0 ≡ is_shared (option_map (standing_of submits receipts) submit.now.key) }
+    ensures decider { (submits : List Submit) (receipts : List KeyedReceipt)
+        → HasNumbers accepted.now.numbers submits → HasDeciders deciders.now.receipts receipts
+        → option_copied result.1 ≡ decider_of submits receipts submit.now.key }
+{
     let Some(key) = submit.key() else {
-        return fact_by(submit, route, lapsed, false, None);
+        return (false, None);
     };
     if accepted.is_single(&key) {
-        fact_by(submit, route, lapsed, false, deciders.receipt(&key))
+        (false, deciders.receipt(&key))
     } else {
-        fact_by(submit, route, lapsed, true, None)
+        (true, None)
     }
+}
+
+/// What is known of a message, under what is set, by whether it shares its key, and its deciding receipt.
+pub(crate) fn fact_with(
+    settings: &Settings,
+    submit: &SubmittedMessage<'_>,
+    shared: bool,
+    decider: Option<&PlacedReceipt<'_>>,
+) -> Fact
+    ensures { (standing : Option Standing) → is_shared standing ≡ shared
+        → result ≡ facts.fact_by submit.now.place (message_from submit.now)
+        (circumstances_by standing (option_copied decider.entry)
+        (route_in settings.now.versions (message_from submit.now))
+        (lapsed_in settings.now (message_from submit.now))) }
+{
+    let route = submit.route(settings);
+    let lapsed = submit.has_lapsed(settings);
+    fact_by(submit, route, lapsed, shared, decider)
 }
 
 /// What is known of a message, by its route and network, whether it has lapsed, whether its key is shared, and its deciding

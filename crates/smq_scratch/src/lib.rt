@@ -1,5 +1,6 @@
 //! The tables of what is present, counted from nothing: by one thread from what the sessions keep of their PDUs, or by many, which
-//! decode all octets again. Nothing here looks at what a book stores of its tables.
+//! decode all octets again; and a line for each message and each delivery receipt. Nothing here looks at what a book stores of its
+//! tables.
 #![tactic(auto)]
 
 mod accepted;
@@ -8,15 +9,28 @@ mod at_once;
 mod circumstances;
 mod deciders;
 mod facts;
+mod laws;
 mod listings;
+mod matches;
 mod notes;
 mod parallel;
 mod receipts;
+mod received;
 mod sessions;
 mod sides;
 mod submits;
+mod submitted;
 mod traffic;
 mod turns;
 
+// laws
+pub use laws::{
+    lines_name_what_decides, lines_of_known_messages, message_lines_are_counted,
+    message_lines_have_the_facts, open_and_lapsed_lines_are_listed, receipt_lines_give_the_lists,
+};
+
+// calls
 pub use anew::tables_anew;
 pub use parallel::audit;
+pub use received::receipt_lines;
+pub use submitted::message_lines;

@@ -5,9 +5,11 @@ ghost use Rattle.std.specs.Ordering.{is_gt};
 ghost use Rattle.smq_book.specs.present.Kept.{receipt_in};
 ghost use Rattle.smq_book.specs.join.Keyed as keyed;
 ghost use Rattle.smq_book.specs.within.Receipts.{receipt_cmp, receipt_by};
+ghost use Rattle.smq_scratch.specs.Lines.{deciding_receipt};
 
 use smq_book::{KeptPdu, Source};
 use smq_kit::{Dir, LinkId, LinkKey, Moment, Place};
+use smq_lines::DecidingReceipt;
 use smq_receipt::Receipt;
 use std::marker::Model;
 
@@ -41,6 +43,17 @@ impl<'a> PlacedReceipt<'a> {
         ensures { result ≡ (pos self.now.moment -ℤ pos moment) }
     {
         self.moment.milliseconds() as i64 - moment.milliseconds() as i64
+    }
+
+    /// What the line for a message says of it, where it decides that.
+    pub(crate) fn deciding(&self) -> DecidingReceipt
+        ensures { result ≡ deciding_receipt self.now }
+    {
+        DecidingReceipt {
+            place: self.place,
+            moment: self.moment,
+            centre_delay: self.receipt.centre_delay,
+        }
     }
 
     /// Whether it comes after another, by moment, then by place.

@@ -1,5 +1,5 @@
 //! The submitted messages, each with its response.
-ghost use Rattle.std.specs.Prelude.{◌≡◌, ◌++◌, OnOk, Some, slice_get};
+ghost use Rattle.std.specs.Prelude.{◌≡◌, ◌++◌, OnOk, Some, option_map, slice_get};
 ghost use Rattle.std.specs.Option.{option_to_list};
 ghost use Rattle.smq_book.specs.present.Kept.{submit_in};
 ghost use Rattle.smq_book.specs.within.Messages.{submit_by, submits_among};
@@ -49,6 +49,16 @@ impl<'a> SubmittedMessage<'a> {
         ensures { result ≡ self.now.asks_receipt }
     {
         asks_receipt(self.submit.registered_delivery)
+    }
+
+    /// Where its response stands, in octets from the centre's first.
+    pub(crate) fn response_offset(&self) -> Option<u64>
+        ensures { result ≡ option_map (λ p. p.offset) self.now.response }
+    {
+        match self.response {
+            Some(response) => Some(response.offset),
+            None => None,
+        }
     }
 }
 

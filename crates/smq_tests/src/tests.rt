@@ -1,6 +1,7 @@
 mod audits;
 mod edits;
 mod equal;
+mod lines;
 mod load;
 mod memory;
 mod random;

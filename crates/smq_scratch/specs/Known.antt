@@ -1,0 +1,111 @@
+-- The lines for messages and receipts that are written out.
+use Rattle.std.specs.Prelude.{◌≡◌, ℕ, true, false, Bool, List, [], ◌∷◌, map, codes, Option, Some, None, ℤ, pos}
+use Rattle.smq_kit.specs.declared.place.Dir.TheVariants.{FromClient, FromCentre}
+use Rattle.smq_receipt.specs.declared.message_state.MessageState.{MessageState}
+use Rattle.smq_receipt.specs.declared.message_state.MessageState.TheVariants.{Enroute, Delivered, Undeliverable}
+use Rattle.smq_kit.specs.declared.error_code.ErrorCode.TheVariants as e
+use Rattle.smq_tally.specs.declared.outcome.Outcome.TheVariants as o
+use Rattle.smq_lines.specs.Lines.{MessageLineValue, ReceiptLineValue}
+use Rattle.smq_lines.specs.declared.lines.ReceiptStanding.TheVariants.{Stray, Deciding, Extra, Noted, Ambiguous}
+use Rattle.smq_book.specs.declared.pairing.source.Source.{Source}
+use Rattle.smq_book.specs.declared.present.kept.Content.TheVariants as c
+use Rattle.smq_book.specs.declared.present.kept.KeptPdu.{KeptPdu}
+use Rattle.smq_book.specs.known.Pairing.{place_at, receipt_pdu, receipt_saying, submit}
+use Rattle.smq_book.specs.present.Settings.{SettingsValue, opening_forms}
+use Rattle.smq_book.specs.within.Messages.{SubmittedMessage, message_of}
+use Rattle.smq_book.specs.within.Receipts.{KeyedReceipt, keyed_receipt}
+use Rattle.smq_scratch.specs.Lines.{message_line, receipt_line}
+
+-- a session of link 1, whose ids are taken verbatim
+abbrev pub known_source : ℕ → Source
+known_source session = record { session = record { 0 = session }; link = record { 0 = 1 }; forms = opening_forms }
+
+-- a response at an offset, with this command_id, this command_status and this id
+abbrev pub known_response : ℕ → ℕ → ℕ → List ℕ → KeptPdu
+known_response offset command status id =
+    record { offset = offset; moment = 1200; command = command; status = status; seq = 1; content = c.SubmitAnswer (Some id) }
+
+-- a submit_sm of session 10 at an offset that asks for a receipt, with this number and this response
+abbrev pub known_submit : ℕ → Option (List ℕ) → Option KeptPdu → SubmittedMessage
+known_submit offset number response =
+    message_of (known_source 10) (submit offset 1 1) (record { registered_delivery = 1; number = number }) response
+
+-- six messages: one that is accepted with the id 7, two that are with 8, one without a response, one whose response is that to a
+-- data_sm, and one that is refused
+abbrev pub known_submits : List SubmittedMessage
+known_submits =
+    known_submit 0 (Some (codes "44")) (Some (known_response 0 0x8000_0004 0 (codes "7")))
+    ∷ known_submit 34 None (Some (known_response 18 0x8000_0004 0 (codes "8")))
+    ∷ known_submit 68 None (Some (known_response 36 0x8000_0004 0 (codes "8")))
+    ∷ known_submit 102 None None
+    ∷ known_submit 136 None (Some (known_response 54 0x8000_0103 0 (codes "9")))
+    ∷ known_submit 170 None (Some (known_response 72 0x8000_0004 8 (codes "9"))) ∷ []
+
+-- a receipt of session 11 at an offset and a moment, of this id, with this state and this delay at the centre
+abbrev pub known_receipt : ℕ → ℕ → List ℕ → MessageState → Bool → Option ℤ → KeyedReceipt
+known_receipt offset moment id state interim delay =
+    let receipt = record (receipt_saying state e.Unstated interim) { id = id; centre_delay = delay } in
+    keyed_receipt (known_source 11) (receipt_pdu offset moment receipt) receipt
+
+-- seven receipts: five of the id 7, the first of which comes last, two can decide nothing, and two come at one moment; and one each of
+-- 8 and 9
+abbrev pub known_receipts : List KeyedReceipt
+known_receipts =
+    known_receipt 0 6000 (codes "7") Undeliverable false None
+    ∷ known_receipt 60 4000 (codes "7") Enroute false None
+    ∷ known_receipt 120 4000 (codes "7") Delivered true None
+    ∷ known_receipt 180 5000 (codes "7") Delivered false (Some (pos 3000))
+    ∷ known_receipt 240 5000 (codes "7") Delivered false None
+    ∷ known_receipt 300 5000 (codes "8") Delivered false None
+    ∷ known_receipt 360 5000 (codes "9") Delivered false None ∷ []
+
+-- the lines for these messages
+abbrev pub known_lines : SettingsValue → List MessageLineValue
+known_lines s = map (message_line s known_submits known_receipts) known_submits
+
+-- the lines for these receipts
+abbrev pub known_receipt_lines : List ReceiptLineValue
+known_receipt_lines = map (receipt_line known_submits known_receipts) known_receipts
+
+-- What the lines for the messages say, whatever is set.
+pub record KnownMessageLines (s : SettingsValue) : Type 0 where
+  pub places :
+      map (λ line. line.fact.place) (known_lines s)
+      ≡ place_at 10 FromClient 0 ∷ place_at 10 FromClient 34 ∷ place_at 10 FromClient 68 ∷ place_at 10 FromClient 102
+      ∷ place_at 10 FromClient 136 ∷ place_at 10 FromClient 170 ∷ []
+  pub outcomes :
+      map (λ line. line.fact.outcome) (known_lines s)
+      ≡ o.Delivered ∷ o.Ambiguous ∷ o.Ambiguous ∷ o.Waiting ∷ o.Mismatched ∷ o.Refused ∷ []
+  pub moments : map (λ line. line.moment) (known_lines s) ≡ 1000 ∷ 1000 ∷ 1000 ∷ 1000 ∷ 1000 ∷ 1000 ∷ []
+  pub numbers :
+      map (λ line. line.number) (known_lines s)
+      ≡ Some (codes "44") ∷ None ∷ None ∷ None ∷ None ∷ None ∷ []
+  pub ids :
+      map (λ line. line.id) (known_lines s)
+      ≡ Some (codes "7") ∷ Some (codes "8") ∷ Some (codes "8") ∷ None ∷ None ∷ None ∷ []
+  pub responses :
+      map (λ line. line.response) (known_lines s)
+      ≡ Some 0 ∷ Some 18 ∷ Some 36 ∷ None ∷ Some 54 ∷ Some 72 ∷ []
+  pub receipts :
+      map (λ line. line.receipt) (known_lines s)
+      ≡ Some (record { place = place_at 11 FromCentre 180; moment = 5000; centre_delay = Some (pos 3000) })
+      ∷ None ∷ None ∷ None ∷ None ∷ None ∷ []
+
+-- What the lines for the receipts say.
+pub record KnownReceiptLines : Type 0 where
+  pub places :
+      map (λ line. line.place) known_receipt_lines
+      ≡ place_at 11 FromCentre 0 ∷ place_at 11 FromCentre 60 ∷ place_at 11 FromCentre 120 ∷ place_at 11 FromCentre 180
+      ∷ place_at 11 FromCentre 240 ∷ place_at 11 FromCentre 300 ∷ place_at 11 FromCentre 360 ∷ []
+  pub links : map (λ line. line.link.0) known_receipt_lines ≡ 1 ∷ 1 ∷ 1 ∷ 1 ∷ 1 ∷ 1 ∷ 1 ∷ []
+  pub moments : map (λ line. line.moment) known_receipt_lines ≡ 6000 ∷ 4000 ∷ 4000 ∷ 5000 ∷ 5000 ∷ 5000 ∷ 5000 ∷ []
+  pub states :
+      map (λ line. line.receipt.state) known_receipt_lines
+      ≡ Undeliverable ∷ Enroute ∷ Delivered ∷ Delivered ∷ Delivered ∷ Delivered ∷ Delivered ∷ []
+  pub standings :
+      map (λ line. line.standing) known_receipt_lines
+      ≡ Extra ∷ Noted ∷ Noted ∷ Deciding ∷ Extra ∷ Ambiguous ∷ Stray ∷ []
+  pub messages :
+      map (λ line. line.message) known_receipt_lines
+      ≡ Some (place_at 10 FromClient 0) ∷ Some (place_at 10 FromClient 0) ∷ Some (place_at 10 FromClient 0)
+      ∷ Some (place_at 10 FromClient 0) ∷ Some (place_at 10 FromClient 0) ∷ None ∷ None ∷ []

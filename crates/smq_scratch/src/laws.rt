@@ -1,0 +1,62 @@
+//! Laws of lines: what they have in common with the tables of what is present. Each is the contract of a function with no body.
+ghost use Rattle.std.specs.Prelude.{◌≡◌, ◌↔◌, Contains, count_by, is_some, map};
+ghost use Rattle.std.specs.FinMap as fin;
+ghost use Rattle.std.specs.List.{flat_map};
+ghost use Rattle.smq_tally.specs.Rows.{count_key, stands_in};
+ghost use Rattle.smq_tally.specs.Tables.{count_at, listed_in};
+ghost use Rattle.smq_book.specs.join.Facts.{facts_of};
+ghost use Rattle.smq_book.specs.join.Keyed.{grouping_of};
+ghost use Rattle.smq_book.specs.join.Listings.{receipt_notes};
+ghost use Rattle.smq_book.specs.join.Outcomes.{is_decided};
+ghost use Rattle.smq_book.specs.pairing.Traffic.{traffic_of};
+ghost use Rattle.smq_book.specs.present.Present.{PresentValue};
+ghost use Rattle.smq_book.specs.present.Settings.{SettingsValue};
+ghost use Rattle.smq_book.specs.whole.Scratch.{scratch};
+ghost use Rattle.smq_scratch.specs.Known.{KnownMessageLines, KnownReceiptLines};
+ghost use Rattle.smq_scratch.specs.Lines.{HasLineAt, listing_of, message_lines, receipt_lines};
+
+use smq_book::{List, Outcome, Value, View};
+use smq_kit::Place;
+
+/// The lines for messages have the facts that are known by place, in order: one for each message.
+pub fn message_lines_have_the_facts()
+    ensures { (p : PresentValue) → map (λ line. line.fact) (message_lines p)
+        ≡ fin.values (facts_of p.settings (traffic_of p.sessions)) }
+{}
+
+/// Of each view, as many lines for messages have a value and an outcome as the tables count.
+pub fn message_lines_are_counted()
+    ensures { (p : PresentValue) (view : View) (value : Value) (outcome : Outcome)
+        → count_at (scratch p) view value outcome
+        ≡ count_by (λ line. stands_in (count_key view value outcome) line.fact) (message_lines p) }
+{}
+
+/// The tables list as open exactly the places of the messages whose lines are open; likewise those that lapsed.
+pub fn open_and_lapsed_lines_are_listed()
+    ensures open { (p : PresentValue) (place : Place)
+        → Contains (listed_in (scratch p) List.Open) place
+        ↔ HasLineAt (message_lines p) Outcome.Open place }
+    ensures lapsed { (p : PresentValue) (place : Place)
+        → Contains (listed_in (scratch p) List.Lapsed) place
+        ↔ HasLineAt (message_lines p) Outcome.Lapsed place }
+{}
+
+/// A line names a deciding receipt exactly where its message was delivered or failed.
+pub fn lines_name_what_decides()
+    ensures { (p : PresentValue) → map (λ line. is_some line.receipt) (message_lines p)
+        ≡ map (λ line. is_decided line.fact.outcome) (message_lines p) }
+{}
+
+/// The lines for delivery receipts, each in the list of its standing, give the receipts that are listed, in order: the stray, the
+/// ambiguous and the extra ones.
+pub fn receipt_lines_give_the_lists()
+    ensures { (p : PresentValue) → flat_map listing_of (receipt_lines p)
+        ≡ receipt_notes (grouping_of p.settings (traffic_of p.sessions)) }
+{}
+
+/// The lines for messages and receipts that are written out: each standing of a receipt, a message that is delivered, two that share an
+/// id, and three without one.
+pub fn lines_of_known_messages()
+    ensures messages { (s : SettingsValue) → KnownMessageLines s }
+    ensures receipts { KnownReceiptLines }
+{}
