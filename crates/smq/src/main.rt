@@ -1,5 +1,5 @@
-//! Plays a script of captured pieces, and reports what became of the messages, checks the tables of it, or answers questions among
-//! its rows as they come.
+//! Plays a script of captured pieces, and reports what became of the messages, be it of any length, writes a line for each message or
+//! receipt, checks the tables of it, or answers questions among its rows as they come.
 #![tactic(auto)]
 
 ghost use Rattle.std.specs.IoError.{error_kind};
@@ -16,11 +16,11 @@ use clap::error::ErrorKind;
 use error_lines::ErrorLines;
 use smq_desk::NoGate;
 use smq_engine::{Checked, Ran, RunFault, check, run};
-use smq_follow::{Followed, follow};
+use smq_follow::{Followed, follow, messages, receipts, total};
 use smq_kit::Refusal;
 use smq_load::MOST_SETTINGS;
 use smq_report::Format;
-use smq_words::{Order, Query, order, own_words};
+use smq_words::{Lines, Order, Query, order, own_words};
 use status::{BAD_INPUT, DONE, FAULT, check_status, fault_status, followed_status, ran_status};
 use std::io::Read;
 use std::process::ExitCode;
@@ -52,6 +52,14 @@ fn obey<R: Env + Files + Input + Print + Eprint + AllocGlobal + Threads + Wait +
         },
         Ok(Order::Follow { format, settings }) => match read_settings_at(rt, settings) {
             Ok(settings) => tell_follow(rt, format, settings.as_slice()),
+            Err(fault) => fail(rt, fault),
+        },
+        Ok(Order::Total { query, settings }) => match read_settings_at(rt, settings) {
+            Ok(settings) => tell_total(rt, query, settings.as_slice()),
+            Err(fault) => fail(rt, fault),
+        },
+        Ok(Order::Lines { lines, settings }) => match read_settings_at(rt, settings) {
+            Ok(settings) => tell_lines(rt, lines, settings.as_slice()),
             Err(fault) => fail(rt, fault),
         },
         Err(error) => refuse(rt, &error),
@@ -194,6 +202,51 @@ fn play_and_answer<R: Input + Print + Eprint + AllocGlobal>(
         &mut io::writer(rt),
         &mut ErrorLines::new(rt),
     )
+}
+
+/// Plays rows after the settings, however many there are, writes what the query asks for, and tells what was refused.
+fn tell_total<R: Input + Print + Eprint + AllocGlobal>(
+    rt: &R,
+    query: Query,
+    settings: &[u8],
+) -> u8 {
+    match play_as_read(rt, query, settings) {
+        Ok(ran) => tell_refused(rt, ran.refused.as_slice()),
+        Err(fault) => fail(rt, fault),
+    }
+}
+
+/// Plays rows after the settings as they are read, and writes what the query asks for. What `total` promises of it ends here, too.
+fn play_as_read<R: Input + Print + AllocGlobal>(
+    rt: &R,
+    query: Query,
+    settings: &[u8],
+) -> Result<Ran, RunFault> {
+    total(rt, &mut rt.reader(), settings, query, &mut io::writer(rt))
+}
+
+/// Plays rows after the settings, however many there are, writes these lines, and tells what was refused.
+fn tell_lines<R: Input + Print + Eprint + AllocGlobal>(
+    rt: &R,
+    lines: Lines,
+    settings: &[u8],
+) -> u8 {
+    match write_lines(rt, lines, settings) {
+        Ok(ran) => tell_refused(rt, ran.refused.as_slice()),
+        Err(fault) => fail(rt, fault),
+    }
+}
+
+/// Plays rows after the settings as they are read, and writes these lines. What `messages` and `receipts` promise of it ends here, too.
+fn write_lines<R: Input + Print + AllocGlobal>(
+    rt: &R,
+    lines: Lines,
+    settings: &[u8],
+) -> Result<Ran, RunFault> {
+    match lines {
+        Lines::Messages => messages(rt, &mut rt.reader(), settings, &mut io::writer(rt)),
+        Lines::Receipts => receipts(rt, &mut rt.reader(), settings, &mut io::writer(rt)),
+    }
 }
 
 /// Tells why the script wasn't run or checked, or that help couldn't be written, and gives the status.

@@ -107,8 +107,9 @@ fn new_book(alloc: Global) -> Result<Box<PlainBook>, AllocError>
     Ok(Box::new(alloc, PlainBook::new(alloc))?)
 }
 
-/// Writes what the query asks of the report of a book, and leaves the book to the system.
-fn write_tables<W: Write>(
+/// Writes what the query asks of the report of a book, and leaves the book to the system: its memory isn't given back before the process
+/// ends. Errors: `Write` where the writer fails; `Memory`. A beginning of the report may have gone out then.
+pub fn write_tables<W: Write>(
     alloc: Global,
     book: Box<PlainBook>,
     query: Query,

@@ -13,9 +13,9 @@ mod run_fault;
 mod workers;
 
 pub use checking::{Checked, check};
-pub use engine::{Ran, run};
+pub use engine::{Ran, run, write_tables};
 pub use laws::{known_checks, known_faults, known_play, sessions_are_loaded_in_order};
-pub use play::{play_row, play_rows};
+pub use play::{play_next, play_row, play_rows};
 pub use played_book::PlayedBook;
 pub use run_fault::RunFault;
 pub use workers::WORKERS;

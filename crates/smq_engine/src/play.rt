@@ -33,8 +33,8 @@ pub fn play_rows<B: PlayedBook>(
     Ok(refused)
 }
 
-/// Plays a row, and notes its refusal.
-fn play_next<B: PlayedBook>(
+/// Plays the row of a number, and puts its refusal, if it is refused, after those of the rows before it. Errors: memory ran out.
+pub fn play_next<B: PlayedBook>(
     alloc: Global,
     book: &mut B,
     refused: &mut Vec<(u64, Refusal)>,

@@ -1,8 +1,10 @@
 //! What no clause says of a check: that it succeeds with ample memory and threads, what it answers then, that each piece passes the
-//! gate, and that other rows are made where they stand between the pieces; and of records that are followed, when they are answered.
+//! gate, and that other rows are made where they stand between the pieces; and of records that are followed, when they are answered;
+//! and of a total, that it is done.
 mod faults;
 mod follow;
 mod memory;
+mod total;
 
 use smq_desk::{Gate, NoGate};
 use smq_engine::{Checked, RunFault, check};

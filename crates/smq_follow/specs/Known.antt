@@ -1,5 +1,6 @@
 -- Records and answers at known values.
 use Rattle.std.specs.Prelude.{◌≡◌, ℕ, List, [], ◌∷◌, ◌++◌, codes, None, Some}
+use Rattle.smq_book.specs.present.Present.{PresentValue}
 use Rattle.smq_book.specs.declared.present.edit.Edit.TheVariants.{Advance}
 use Rattle.smq_load.specs.declared.row.Row as rows
 use Rattle.smq_load.specs.declared.row.Row.TheVariants.{Plain}
@@ -10,6 +11,8 @@ use Rattle.smq_follow.specs.declared.record.Record.{Record}
 use Rattle.smq_follow.specs.declared.record.Record.TheVariants.{Ask, Row}
 use Rattle.smq_follow.specs.Record.{record_of}
 use Rattle.smq_follow.specs.Answers.{present_after, refusals, refused_after, rows_of, said_of, told_line}
+use Rattle.smq_scratch.specs.Lines.{message_lines, receipt_lines}
+use Rattle.smq_follow.specs.Written.{messages_of, receipts_of}
 
 -- what known records say
 pub record KnowsRecords : Type 0 where
@@ -42,3 +45,11 @@ pub record KnowsAnswers : Type 0 where
   pub last : (present_after [] asked).settings.clock ≡ 6
   pub refused : refused_after [] asked ≡ 1
   pub told : refusals [] asked ≡ codes "row 3: 11 ClockBack 5" ++ 10 ∷ []
+
+-- where no message or no receipt is present, lines are the record of their columns alone
+pub record KnowsLines : Type 0 where
+  pub messages : (p : PresentValue) → message_lines p ≡ [] → messages_of p
+      ≡ codes "link,session,offset,moment,number,route,network,outcome,error,id,response_offset,"
+      ++ (codes "receipt_session,receipt_offset,receipt_moment,centre_delay" ++ 10 ∷ [])
+  pub receipts : (p : PresentValue) → receipt_lines p ≡ [] → receipts_of p
+      ≡ codes "link,session,offset,moment,id,state,interim,error,standing,message_session,message_offset" ++ 10 ∷ []

@@ -1,15 +1,21 @@
--- Laws of the answers.
-use Rattle.std.specs.Prelude.{◌≡◌, ℕ, ◌+◌, List, [], ◌∷◌, ◌++◌, length, Some}
+-- Laws of the answers, and of totals.
+use Rattle.std.specs.Prelude.{◌≡◌, ◌≤◌, ℕ, ◌+◌, List, [], ◌∷◌, ◌++◌, length, Option, Some}
+use Rattle.smq_kit.specs.declared.refusal.Refusal.{Refusal}
 use Rattle.smq_book.specs.whole.Scratch.{scratch}
 use Rattle.smq_load.specs.declared.row.Row as rows
+use Rattle.smq_load.specs.Script.{IsFirstBad, most_records}
 use Rattle.smq_report.specs.declared.pick.Format.{Format}
 use Rattle.smq_report.specs.declared.pick.Pick.{Pick}
 use Rattle.smq_report.specs.Report.{report_text}
+use Rattle.smq_words.specs.declared.orders.Query.{Query}
+use Rattle.smq_engine.specs.IsRun.{IsRun}
 use Rattle.smq_engine.specs.Play.{present_of}
 use Rattle.smq_follow.specs.declared.record.Record.{Record}
 use Rattle.smq_follow.specs.declared.record.Record.TheVariants.{Ask}
 use Rattle.smq_follow.specs.Record.{ask_name, pick_of}
 use Rattle.smq_follow.specs.Answers.{answer_to, answers, present_after, refusal_to, refusals, refused_after, rows_of, said_of, told_line}
+use Rattle.smq_follow.specs.Played.{SaysNoRow}
+use Rattle.smq_follow.specs.Total.{IsTotal}
 
 -- What is said of some records stands whatever records come after them, and is followed by what is said of those: so a beginning of the
 -- answers that ends with an answer is true of the records up to its question. The answer to a last question is the report text of what
@@ -28,3 +34,14 @@ pub record AnswersStand : Type 0 where
 -- each pick is asked by its name
 abbrev pub EachIsAsked : Type 0
 EachIsAsked = (pick : Pick) → pick_of (ask_name pick) ≡ Some pick
+
+-- A run is a total, and a total of no more rows than a script may have is a run. Among as many records as a script may have, its first bad
+-- one is the first that says no row.
+pub record TotalsAreRuns : Type 0 where
+  pub run : (query : Query) (settings : List ℕ) (refused : List (ℕ × Refusal)) (old new : Option (List ℕ)) (text : List ℕ)
+      → IsRun query settings refused old new text → IsTotal query settings refused old new text
+  pub total : (query : Query) (settings : List ℕ) (refused : List (ℕ × Refusal)) (old new : Option (List ℕ)) (text : List ℕ)
+      → (all : IsTotal query settings refused old new text) → length all.rows ≤ most_records
+      → IsRun query settings refused old new text
+  pub no_row : (text : List ℕ) (number : ℕ) → IsFirstBad text number → number ≤ most_records → SaysNoRow text number
+  pub first_bad : (text : List ℕ) (number : ℕ) → SaysNoRow text number → number ≤ most_records → IsFirstBad text number

@@ -18,6 +18,7 @@ pub enum Call {
     WriteTable,
     Audit,
     Run,
+    Total,
     Check,
     NewDesk,
     Seat,

@@ -1,4 +1,4 @@
--- The order that `clap` takes: words in which it finds no fault enter `report`, `query`, `check` or `follow`, with what each asks for.
+-- The order that `clap` takes: words in which it finds no fault enter `report`, `query`, `check`, `follow` or `total`, with what each asks for.
 use Rattle.std.proofs.Common.{◌≡◌, ◌∙◌, ◌||◌, ◌&&◌, ℕ, Bool, true, false, cond, List, [], ◌∷◌, ◌++◌, map, Option, Some, None, ◌⊎◌, inl, inr, refl, sym, ap, ap₂, subst, codes}
 use Rattle.std.specs.Prelude.{fold, is_some, not, option_map, string_bytes, unwrap_or}
 use Rattle.std.specs.Borrow.{Bor}
@@ -27,10 +27,12 @@ use Rattle.smq_report.specs.declared.pick.Format.{Format}
 use Rattle.smq_report.specs.declared.pick.Format.TheVariants as format
 use Rattle.smq_report.specs.declared.pick.Pick.{Pick}
 use Rattle.smq_report.specs.declared.pick.Pick.TheVariants as pick
-use Rattle.smq_words.specs.Words.{Asks, AsksFor, AsksToCheck, AsksToFollow, TakesNames, check_app, follow_app, format_name, format_names, format_rule, name_rule, pick_name, pick_names, program, query_app, report_app, settings_rule, subcommand_name}
+use Rattle.smq_words.specs.Words.{Asks, AsksFor, AsksForLines, AsksToCheck, AsksToFollow, AsksToTotal, TakesNames, follow_app, format_name, format_names, format_rule, lines_name, name_rule, optional_rule, pick_name, pick_names, program, query_app, report_app, settings_app, settings_rule, subcommand_name, total_app}
+use Rattle.smq_words.specs.declared.orders.Lines.{Lines as LinesOf}
+use Rattle.smq_words.specs.declared.orders.Lines.TheVariants.{Messages, Receipts}
 use Rattle.smq_words.specs.declared.orders.Order.{Order}
-use Rattle.smq_words.specs.declared.orders.Order.TheVariants.{Check, Follow, Run}
-use Rattle.smq_words.specs.within.Orders.{IsCheckOf, IsFollowOf, IsRunOf}
+use Rattle.smq_words.specs.declared.orders.Order.TheVariants.{Check, Follow, Lines, Run, Total}
+use Rattle.smq_words.specs.within.Orders.{IsCheckOf, IsFollowOf, IsLinesOf, IsRunOf, IsTotalOf}
 use Rattle.smq_words.proofs.LevelLemmas.{IfHas, Keeps, first_fit, given_fit, help_keeps, level_fit, neither, set_keeps, set_once, some_kind}
 
 -- ---- names
@@ -113,6 +115,9 @@ format_built formats = filled (format_rule formats)
 abbrev name_built : ValueParser → Rule
 name_built names = with_index 1 (filled (name_rule names))
 
+abbrev optional_built : ValueParser → Rule
+optional_built names = with_index 1 (filled (optional_rule names))
+
 format_keeps : (N : Text → Type 0) (formats : ValueParser) → TakesNames format_names formats → Keeps (Known N) (set_once (format_built formats))
 format_keeps N formats takes = set_keeps (Known N) (format_built formats)
     (λ v h. (λ e. absurd (apart (codes "format") (codes "NAME") refl e), λ e. taken_format formats takes v h))
@@ -125,17 +130,24 @@ name_keeps : (names : ValueParser) → TakesNames pick_names names → Keeps (Kn
 name_keeps names takes = set_keeps (Known IsPickName) (name_built names)
     (λ v h. (λ e. taken_pick names takes v h, λ e. absurd (apart (codes "NAME") (codes "format") refl e)))
 
+optional_keeps : (names : ValueParser) → TakesNames pick_names names → Keeps (Known IsPickName) (set_once (optional_built names))
+optional_keeps names takes = set_keeps (Known IsPickName) (optional_built names)
+    (λ v h. (λ e. taken_pick names takes v h, λ e. absurd (apart (codes "NAME") (codes "format") refl e)))
+
 abbrev report_built : ValueParser → Shape
 report_built formats = built_leaf (record (report_app formats).top { no_binary_name = true })
 
 abbrev query_built : ValueParser → ValueParser → Shape
 query_built names formats = built_leaf (record (query_app names formats).top { no_binary_name = true })
 
-abbrev check_built : Shape
-check_built = built_leaf (record check_app.top { no_binary_name = true })
+abbrev settings_built : Text → Shape
+settings_built name = built_leaf (record (settings_app name).top { no_binary_name = true })
 
 abbrev follow_built : ValueParser → Shape
 follow_built formats = built_leaf (record (follow_app formats).top { no_binary_name = true })
+
+abbrev total_built : ValueParser → ValueParser → Shape
+total_built names formats = built_leaf (record (total_app names formats).top { no_binary_name = true })
 
 of_known : (P Q : Text → Type 0) → ((v : Text) → P v → Q v) → (o : Option Text) → IfHas P o → IfHas Q o
 of_known P Q f None h = tt
@@ -149,6 +161,11 @@ format_known : (o : Option Text) → IfHas IsFormatName o → (x : Format) × (u
 format_known None h = (format.Csv, refl)
 format_known (Some v) h = (h.0, sym h.1)
 
+-- a name asks for its view or list, and none for the whole report
+pick_known : (o : Option Text) → IfHas IsPickName o → (x : Pick) × (o ≡ pick_name x)
+pick_known None h = (pick.All, refl)
+pick_known (Some v) h = (h.0, sym h.1)
+
 -- words ask for a report
 abbrev AsksSome : Option (Text × List Row) → Type 0
 AsksSome entered = (query : Query) × (path : Option Text) × AsksFor entered query path
@@ -157,9 +174,19 @@ AsksSome entered = (query : Query) × (path : Option Text) × AsksFor entered qu
 abbrev AsksSomeFollow : Option (Text × List Row) → Type 0
 AsksSomeFollow entered = (format : Format) × (path : Option Text) × AsksToFollow entered format path
 
+-- words ask for a total
+abbrev AsksSomeTotal : Option (Text × List Row) → Type 0
+AsksSomeTotal entered = (query : Query) × (path : Option Text) × AsksToTotal entered query path
+
+-- words ask for lines
+abbrev AsksSomeLines : Option (Text × List Row) → Type 0
+AsksSomeLines entered = (lines : LinesOf) × (path : Option Text) × AsksForLines entered lines path
+
 -- what words ask for is known
 abbrev pub Asked : Option (Text × List Row) → Type 0
-Asked entered = AsksSome entered ⊎ (((path : Option Text) × AsksToCheck entered path) ⊎ AsksSomeFollow entered)
+Asked entered =
+    AsksSome entered
+    ⊎ (((path : Option Text) × AsksToCheck entered path) ⊎ (AsksSomeFollow entered ⊎ (AsksSomeTotal entered ⊎ AsksSomeLines entered)))
 
 report_asked : (formats : ValueParser) → TakesNames format_names formats → (words : List Text)
     → level_fault (report_built formats) [] nothing_held words false [] ≡ [] → AsksSome (Some (rows_at (report_built formats) words))
@@ -220,10 +247,15 @@ query_asked names formats takes_names takes_formats words clean =
       },
     )
 
-check_asked : (words : List Text) → Asked (Some (rows_at check_built words))
+check_asked : (words : List Text) → Asked (Some (rows_at (settings_built (codes "check")) words))
 check_asked words =
-    let rows = rows_after check_built.rules [] words in
+    let rows = rows_after (settings_built (codes "check")).rules [] words in
     inr (inl (first_of (codes "settings") rows, record { rows = rows; enters = refl; has_path = refl }))
+
+lines_asked : (lines : LinesOf) (words : List Text) → Asked (Some (rows_at (settings_built (lines_name lines)) words))
+lines_asked lines words =
+    let rows = rows_after (settings_built (lines_name lines)).rules [] words in
+    inr (inr (inr (inr (lines, first_of (codes "settings") rows, record { rows = rows; enters = refl; has_path = refl }))))
 
 follow_asked : (formats : ValueParser) → TakesNames format_names formats → (words : List Text)
     → level_fault (follow_built formats) [] nothing_held words false [] ≡ [] → Asked (Some (rows_at (follow_built formats) words))
@@ -235,7 +267,31 @@ follow_asked formats takes words clean =
     let shape = format_known (first_of (codes "format") rows)
     (of_known (Known (λ v. ⊥) (codes "format")) IsFormatName (λ v h. h.1 refl) _
     (first_fit (Known (λ v. ⊥)) (codes "format") rows fit)) in
-    inr (inr (shape.0, first_of (codes "settings") rows, record { rows = rows; enters = refl; has_format = shape.1; has_path = refl }))
+    inr (inr (inl (shape.0, first_of (codes "settings") rows, record { rows = rows; enters = refl; has_format = shape.1; has_path = refl })))
+
+total_asked : (names formats : ValueParser) → TakesNames pick_names names → TakesNames format_names formats → (words : List Text)
+    → level_fault (total_built names formats) [] nothing_held words false [] ≡ [] → Asked (Some (rows_at (total_built names formats) words))
+total_asked names formats takes_names takes_formats words clean =
+    let s = total_built names formats in
+    let rows = rows_after s.rules [] words in
+    let fit = (level_fit (Known IsPickName) s (
+      optional_keeps names takes_names,
+      (
+        format_keeps _ formats takes_formats,
+        (settings_keeps _, (help_keeps _ (filled help_rule), tt)),
+      ),
+    ) (refl, (refl, (refl, (refl, tt)))) words clean).0 in
+    let shape = format_known (first_of (codes "format") rows)
+    (of_known (Known IsPickName (codes "format")) IsFormatName (λ v h. h.1 refl) _
+    (first_fit (Known IsPickName) (codes "format") rows fit)) in
+    let named = pick_known (first_of (codes "NAME") rows)
+    (of_known (Known IsPickName (codes "NAME")) IsPickName (λ v h. h.0 refl) _
+    (first_fit (Known IsPickName) (codes "NAME") rows fit)) in
+    inr (inr (inr (inl (
+      record { pick = named.0; format = shape.0 },
+      first_of (codes "settings") rows,
+      record { rows = rows; enters = refl; is_named = named.1; has_format = shape.1; has_path = refl },
+    ))))
 
 -- ---- the subcommand: it is no `help`, which is refused with help
 
@@ -336,12 +392,15 @@ walk_stops names formats ns (word ∷ words) w clean stops =
 -- ---- the words of the program
 
 -- the subcommand that a word names, by a test of each
-abbrev named_by : ValueParser → ValueParser → Bool → Bool → Bool → Bool → Bool → Option Shape
-named_by names formats report query check follow help =
+abbrev named_by : ValueParser → ValueParser → Bool → Bool → Bool → Bool → Bool → Bool → Bool → Bool → Option Shape
+named_by names formats report query check follow total messages receipts help =
     cond (report || false) (Some (report_built formats))
     (cond (query || false) (Some (query_built names formats))
-    (cond (check || false) (Some check_built)
-    (cond (follow || false) (Some (follow_built formats)) (cond (help || false) (Some (built_leaf help_shape)) None))))
+    (cond (check || false) (Some (settings_built (codes "check")))
+    (cond (follow || false) (Some (follow_built formats))
+    (cond (total || false) (Some (total_built names formats))
+    (cond (messages || false) (Some (settings_built (codes "messages")))
+    (cond (receipts || false) (Some (settings_built (codes "receipts"))) (cond (help || false) (Some (built_leaf help_shape)) None)))))))
 
 -- what a subcommand makes of the words after its name
 abbrev entered_at : List Text → Option Shape → Option (Text × List Row)
@@ -354,19 +413,27 @@ missing : (names formats : ValueParser) (rows : List Row) → check_fault (top_b
 missing names formats rows clean = some_kind {k = kind.MissingSubcommand} {ks = []} clean
 
 by_name : (names formats : ValueParser) → TakesNames pick_names names → TakesNames format_names formats
-    → (words : List Text) (rows : List Row) (report query check follow help : Bool)
-    → help ≡ false → below_fault words (named_by names formats report query check follow help) ≡ []
-    → check_fault (top_built names formats) rows (is_some (entered_at words (named_by names formats report query check follow help))) ≡ []
-    → Asked (entered_at words (named_by names formats report query check follow help))
-by_name names formats takes_names takes_formats words rows true query check follow help h clean checks =
+    → (words : List Text) (rows : List Row) (report query check follow total messages receipts help : Bool)
+    → help ≡ false → below_fault words (named_by names formats report query check follow total messages receipts help) ≡ []
+    → check_fault (top_built names formats) rows
+    (is_some (entered_at words (named_by names formats report query check follow total messages receipts help))) ≡ []
+    → Asked (entered_at words (named_by names formats report query check follow total messages receipts help))
+by_name names formats takes_names takes_formats words rows true query check follow total messages receipts help h clean checks =
     inl (report_asked formats takes_formats words clean)
-by_name names formats takes_names takes_formats words rows false true check follow help h clean checks =
+by_name names formats takes_names takes_formats words rows false true check follow total messages receipts help h clean checks =
     inl (query_asked names formats takes_names takes_formats words clean)
-by_name names formats takes_names takes_formats words rows false false true follow help h clean checks = check_asked words
-by_name names formats takes_names takes_formats words rows false false false true help h clean checks =
+by_name names formats takes_names takes_formats words rows false false true follow total messages receipts help h clean checks =
+    check_asked words
+by_name names formats takes_names takes_formats words rows false false false true total messages receipts help h clean checks =
     follow_asked formats takes_formats words clean
-by_name names formats takes_names takes_formats words rows false false false false true h clean checks = cc
-by_name names formats takes_names takes_formats words rows false false false false false h clean checks =
+by_name names formats takes_names takes_formats words rows false false false false true messages receipts help h clean checks =
+    total_asked names formats takes_names takes_formats words clean
+by_name names formats takes_names takes_formats words rows false false false false false true receipts help h clean checks =
+    lines_asked Messages words
+by_name names formats takes_names takes_formats words rows false false false false false false true help h clean checks =
+    lines_asked Receipts words
+by_name names formats takes_names takes_formats words rows false false false false false false false true h clean checks = cc
+by_name names formats takes_names takes_formats words rows false false false false false false false false h clean checks =
     absurd (missing names formats rows checks)
 
 by_stop : (names formats : ValueParser) → TakesNames pick_names names → TakesNames format_names formats
@@ -376,7 +443,8 @@ by_stop : (names formats : ValueParser) → TakesNames pick_names names → Take
 by_stop names formats takes_names takes_formats rows None no_help clean checks = absurd (missing names formats rows checks)
 by_stop names formats takes_names takes_formats rows (Some p) no_help clean checks =
     by_name names formats takes_names takes_formats p.1 rows (bytes_eq (codes "report") p.0) (bytes_eq (codes "query") p.0)
-    (bytes_eq (codes "check") p.0) (bytes_eq (codes "follow") p.0) (bytes_eq (codes "help") p.0)
+    (bytes_eq (codes "check") p.0) (bytes_eq (codes "follow") p.0) (bytes_eq (codes "total") p.0) (bytes_eq (codes "messages") p.0)
+    (bytes_eq (codes "receipts") p.0) (bytes_eq (codes "help") p.0)
     (not_named (bytes_eq (codes "help") p.0) refl) clean checks
   where
     not_named : (b : Bool) → bytes_eq (codes "help") p.0 ≡ b → b ≡ false
@@ -406,6 +474,10 @@ abbrev rows_in : Option (Text × List Row) → List Row
 rows_in None = []
 rows_in (Some p) = p.1
 
+abbrev name_in : Option (Text × List Row) → Text
+name_in None = []
+name_in (Some p) = p.0
+
 -- what the rows of a subcommand say, where they ask for a check
 pub check_rows : (name : Text) (rows : List Row) (path : Option Text) → AsksToCheck (Some (name, rows)) path
     → first_of (codes "settings") rows ≡ path
@@ -418,6 +490,35 @@ follow_rows name rows format path asks = (
   ap (λ e. unwrap_or (first_of (codes "format") (rows_in e)) (codes "csv")) asks.enters ∙ asks.has_format,
   ap (λ e. first_of (codes "settings") (rows_in e)) asks.enters ∙ asks.has_path,
 )
+
+-- where they ask for a total
+pub total_rows : (name : Text) (rows : List Row) (query : Query) (path : Option Text) → AsksToTotal (Some (name, rows)) query path
+    → (first_of (codes "NAME") rows ≡ pick_name query.pick)
+    × ((unwrap_or (first_of (codes "format") rows) (codes "csv") ≡ format_name query.format) × (first_of (codes "settings") rows ≡ path))
+total_rows name rows query path asks = (
+  ap (λ e. first_of (codes "NAME") (rows_in e)) asks.enters ∙ asks.is_named,
+  (
+    ap (λ e. unwrap_or (first_of (codes "format") (rows_in e)) (codes "csv")) asks.enters ∙ asks.has_format,
+    ap (λ e. first_of (codes "settings") (rows_in e)) asks.enters ∙ asks.has_path,
+  ),
+)
+
+-- where they ask for lines
+pub lines_rows : (name : Text) (rows : List Row) (lines : LinesOf) (path : Option Text) → AsksForLines (Some (name, rows)) lines path
+    → (name ≡ lines_name lines) × (first_of (codes "settings") rows ≡ path)
+lines_rows name rows lines path asks = (
+  ap name_in asks.enters,
+  ap (λ e. first_of (codes "settings") (rows_in e)) asks.enters ∙ asks.has_path,
+)
+
+-- the lines of a name
+pub messages_named : (lines : LinesOf) → codes "messages" ≡ lines_name lines → Messages ≡ lines
+messages_named Messages e = refl
+messages_named Receipts e = absurd (apart (codes "messages") (codes "receipts") refl e)
+
+pub receipts_named : (lines : LinesOf) → codes "receipts" ≡ lines_name lines → Receipts ≡ lines
+receipts_named Messages e = absurd (apart (codes "receipts") (codes "messages") refl e)
+receipts_named Receipts e = refl
 
 -- and where they ask for a run
 pub run_rows : (name : Text) (rows : List Row) (query : Query) (path : Option Text) → AsksFor (Some (name, rows)) query path
@@ -444,6 +545,8 @@ run_asks entered query path (Run asked settings) asks is =
     subst (λ q. AsksFor entered q (option_map string_bytes settings)) (sym is.0) (subst (λ p. AsksFor entered query p) (sym is.1) asks)
 run_asks entered query path (Check settings) asks is = absurd is
 run_asks entered query path (Follow format settings) asks is = absurd is
+run_asks entered query path (Total asked settings) asks is = absurd is
+run_asks entered query path (Lines lines settings) asks is = absurd is
 
 -- a check for which words ask
 check_asks : (entered : Option (Text × List Row)) (path : Option Text) (order : Order) → AsksToCheck entered path
@@ -451,6 +554,8 @@ check_asks : (entered : Option (Text × List Row)) (path : Option Text) (order :
 check_asks entered path (Run query settings) asks is = absurd is
 check_asks entered path (Check settings) asks is = subst (λ p. AsksToCheck entered p) (sym is) asks
 check_asks entered path (Follow format settings) asks is = absurd is
+check_asks entered path (Total query settings) asks is = absurd is
+check_asks entered path (Lines lines settings) asks is = absurd is
 
 -- a follow for which words ask
 follow_asks : (entered : Option (Text × List Row)) (format : Format) (path : Option Text) (order : Order) → AsksToFollow entered format path
@@ -459,14 +564,43 @@ follow_asks entered format path (Run query settings) asks is = absurd is
 follow_asks entered format path (Check settings) asks is = absurd is
 follow_asks entered format path (Follow asked settings) asks is =
     subst (λ f. AsksToFollow entered f (option_map string_bytes settings)) (sym is.0) (subst (λ p. AsksToFollow entered format p) (sym is.1) asks)
+follow_asks entered format path (Total query settings) asks is = absurd is
+follow_asks entered format path (Lines lines settings) asks is = absurd is
+
+-- a total for which words ask
+total_asks : (entered : Option (Text × List Row)) (query : Query) (path : Option Text) (order : Order) → AsksToTotal entered query path
+    → IsTotalOf query path order → Asks entered order
+total_asks entered query path (Run asked settings) asks is = absurd is
+total_asks entered query path (Check settings) asks is = absurd is
+total_asks entered query path (Follow format settings) asks is = absurd is
+total_asks entered query path (Total asked settings) asks is =
+    subst (λ q. AsksToTotal entered q (option_map string_bytes settings)) (sym is.0) (subst (λ p. AsksToTotal entered query p) (sym is.1) asks)
+total_asks entered query path (Lines lines settings) asks is = absurd is
+
+-- lines for which words ask
+lines_asks : (entered : Option (Text × List Row)) (lines : LinesOf) (path : Option Text) (order : Order) → AsksForLines entered lines path
+    → IsLinesOf lines path order → Asks entered order
+lines_asks entered lines path (Run query settings) asks is = absurd is
+lines_asks entered lines path (Check settings) asks is = absurd is
+lines_asks entered lines path (Follow format settings) asks is = absurd is
+lines_asks entered lines path (Total query settings) asks is = absurd is
+lines_asks entered lines path (Lines asked settings) asks is =
+    subst (λ l. AsksForLines entered l (option_map string_bytes settings)) (sym is.0) (subst (λ p. AsksForLines entered lines p) (sym is.1) asks)
 
 -- an order of what words ask for
 pub order_asks : (entered : Option (Text × List Row)) (order : Order) → Asked entered
     → ((query : Query) → (path : Option Text) → AsksFor entered query path → IsRunOf query path order)
     → ((path : Option Text) → AsksToCheck entered path → IsCheckOf path order)
-    → ((format : Format) → (path : Option Text) → AsksToFollow entered format path → IsFollowOf format path order) → Asks entered order
-order_asks entered order (inl asked) runs checks follows =
+    → ((format : Format) → (path : Option Text) → AsksToFollow entered format path → IsFollowOf format path order)
+    → ((query : Query) → (path : Option Text) → AsksToTotal entered query path → IsTotalOf query path order)
+    → ((lines : LinesOf) → (path : Option Text) → AsksForLines entered lines path → IsLinesOf lines path order) → Asks entered order
+order_asks entered order (inl asked) runs checks follows totals writes =
     run_asks entered asked.0 asked.1 order asked.2 (runs asked.0 asked.1 asked.2)
-order_asks entered order (inr (inl asked)) runs checks follows = check_asks entered asked.0 order asked.1 (checks asked.0 asked.1)
-order_asks entered order (inr (inr asked)) runs checks follows =
+order_asks entered order (inr (inl asked)) runs checks follows totals writes =
+    check_asks entered asked.0 order asked.1 (checks asked.0 asked.1)
+order_asks entered order (inr (inr (inl asked))) runs checks follows totals writes =
     follow_asks entered asked.0 asked.1 order asked.2 (follows asked.0 asked.1 asked.2)
+order_asks entered order (inr (inr (inr (inl asked)))) runs checks follows totals writes =
+    total_asks entered asked.0 asked.1 order asked.2 (totals asked.0 asked.1 asked.2)
+order_asks entered order (inr (inr (inr (inr asked)))) runs checks follows totals writes =
+    lines_asks entered asked.0 asked.1 order asked.2 (writes asked.0 asked.1 asked.2)

@@ -8,7 +8,9 @@ use Rattle.smq_report.specs.declared.pick.Format.TheVariants as format
 use Rattle.smq_report.specs.declared.pick.Pick.TheVariants as pick
 use Rattle.smq_tally.specs.declared.list.List.TheVariants as list
 use Rattle.smq_tally.specs.declared.view.View.TheVariants as view
-use Rattle.smq_words.specs.Words.{AsksFor, AsksToCheck, AsksToFollow, format_names, format_rule, pick_names, program, settings_rule}
+use Rattle.smq_words.specs.declared.orders.Lines.{Lines}
+use Rattle.smq_words.specs.declared.orders.Lines.TheVariants.{Messages, Receipts}
+use Rattle.smq_words.specs.Words.{AsksFor, AsksForLines, AsksToCheck, AsksToFollow, AsksToTotal, format_names, format_rule, pick_names, program, settings_rule}
 use Rattle.smq_words.specs.Words.{subcommand_name, version_text}
 
 -- the names that `query` takes, the subcommands, the formats and the options, the version, and what `report` alone asks for
@@ -24,7 +26,7 @@ pub record KnowsWords : Type 0 where
   pub formats : format_names ≡ codes "csv" ∷ codes "table" ∷ []
   pub format_option : (formats : ValueParser) → (format_rule formats).long ≡ Some (codes "format")
   pub settings_option : settings_rule.long ≡ Some (codes "settings")
-  pub version : version_text ≡ codes "0.14.0"
+  pub version : version_text ≡ codes "0.15.0"
   pub plain : AsksFor (Some (codes "report", [])) (record { pick = pick.All; format = format.Csv }) None
 
 -- the fault that `clap` finds in words, whatever names and formats its parsers take
@@ -54,3 +56,27 @@ pub record KnowsFollow : Type 0 where
   pub alone_follows : Follows (codes "follow" ∷ []) format.Csv None
   pub settings_follows : Follows (codes "follow" ∷ codes "--settings" ∷ codes "p" ∷ []) format.Csv (Some (codes "p"))
   pub name : HasFault (codes "follow" ∷ codes "link" ∷ []) (UnknownArgument ∷ [])
+
+-- the format and the path of settings for which words ask that enter `total` without a name
+abbrev pub TotalsAll : List Text → Format → Option Text → Type 0
+TotalsAll words format path = (names formats : ValueParser)
+    → AsksToTotal (subcommand_of (program names formats) words) (record { pick = pick.All; format = format }) path
+
+-- words of `total` without a name, which ask for the whole report: it takes a path of settings
+pub record KnowsTotal : Type 0 where
+  pub alone : HasFault (codes "total" ∷ []) []
+  pub alone_totals : TotalsAll (codes "total" ∷ []) format.Csv None
+  pub settings_totals : TotalsAll (codes "total" ∷ codes "--settings" ∷ codes "p" ∷ []) format.Csv (Some (codes "p"))
+
+-- the lines and the path of settings for which words ask
+abbrev pub AskForLines : List Text → Lines → Option Text → Type 0
+AskForLines words lines path = (names formats : ValueParser) → AsksForLines (subcommand_of (program names formats) words) lines path
+
+-- words of `messages` and `receipts`: they take a path of settings, and neither a format nor a name
+pub record KnowsLines : Type 0 where
+  pub messages : HasFault (codes "messages" ∷ []) []
+  pub messages_asked : AskForLines (codes "messages" ∷ []) Messages None
+  pub receipts_asked : AskForLines (codes "receipts" ∷ []) Receipts None
+  pub settings_asked : AskForLines (codes "receipts" ∷ codes "--settings" ∷ codes "p" ∷ []) Receipts (Some (codes "p"))
+  pub format : HasFault (codes "messages" ∷ codes "--format" ∷ codes "csv" ∷ []) (UnknownArgument ∷ [])
+  pub name : HasFault (codes "receipts" ∷ codes "link" ∷ []) (UnknownArgument ∷ [])

@@ -18,8 +18,10 @@ use Rattle.smq_report.specs.declared.pick.Format.{Format}
 use Rattle.smq_report.specs.declared.pick.Format.TheVariants as format
 use Rattle.smq_report.specs.declared.pick.Pick.{Pick}
 use Rattle.smq_report.specs.declared.pick.Pick.TheVariants as pick
+use Rattle.smq_words.specs.declared.orders.Lines.{Lines as LinesOf}
+use Rattle.smq_words.specs.declared.orders.Lines.TheVariants.{Messages, Receipts}
 use Rattle.smq_words.specs.declared.orders.Order.{Order}
-use Rattle.smq_words.specs.declared.orders.Order.TheVariants.{Check, Follow, Run}
+use Rattle.smq_words.specs.declared.orders.Order.TheVariants.{Check, Follow, Lines, Run, Total}
 use Rattle.smq_words.specs.declared.orders.Query.{Query}
 
 -- ---- what can be asked for
@@ -73,6 +75,11 @@ abbrev pub name_rule : ValueParser → Rule
 name_rule names =
     record (new_rule (codes "NAME")) { action = Some Set; parser = Some names; required = true }
 
+-- NAME, which may be left out and has one value
+abbrev pub optional_rule : ValueParser → Rule
+optional_rule names =
+    record (new_rule (codes "NAME")) { action = Some Set; parser = Some names }
+
 -- `--format`, with one value
 abbrev pub format_rule : ValueParser → Rule
 format_rule formats = record (new_rule (codes "format")) {
@@ -107,17 +114,27 @@ abbrev pub query_app : ValueParser → ValueParser → App
 query_app names formats =
     add_options formats (with_rule (new_app (codes "query")) (name_rule names))
 
--- the subcommand `check`: its one option is `--settings`
-abbrev pub check_app : App
-check_app = with_rule (new_app (codes "check")) settings_rule
+-- a subcommand whose one option is `--settings`, as `check`, `messages` and `receipts` are
+abbrev pub settings_app : Text → App
+settings_app name = with_rule (new_app name) settings_rule
+
+-- the subcommand of these lines
+abbrev pub lines_name : LinesOf → Text
+lines_name Messages = codes "messages"
+lines_name Receipts = codes "receipts"
 
 -- the subcommand `follow`: it has the options of `report`
 abbrev pub follow_app : ValueParser → App
 follow_app formats = add_options formats (new_app (codes "follow"))
 
+-- the subcommand `total`: it has the options of `report`, and a NAME that may be left out
+abbrev pub total_app : ValueParser → ValueParser → App
+total_app names formats =
+    add_options formats (with_rule (new_app (codes "total")) (optional_rule names))
+
 -- the program's version
 abbrev pub version_text : Text
-version_text = codes "0.14.0"
+version_text = codes "0.15.0"
 
 -- the program without its subcommands: one is required, or `--version`
 abbrev pub bare_program : App
@@ -128,8 +145,12 @@ bare_program = on_top (λ shape. record shape { no_binary_name = true; subcomman
 abbrev pub program : ValueParser → ValueParser → App
 program names formats =
     with_subcommand
+    (with_subcommand
+    (with_subcommand
+    (with_subcommand
     (with_subcommand (with_subcommand (with_subcommand bare_program (report_app formats).top) (query_app names formats).top)
-    check_app.top) (follow_app formats).top
+    (settings_app (codes "check")).top) (follow_app formats).top) (total_app names formats).top)
+    (settings_app (codes "messages")).top) (settings_app (codes "receipts")).top
 
 -- the program's words, where NAME is the name of a view or a list, and a format is `csv` or `table`
 pub record IsProgram (app : App) : Type 0 where
@@ -168,11 +189,27 @@ pub record AsksToFollow (entered : Option (Text × List Row)) (format : Format) 
   pub has_format : unwrap_or (first_of (codes "format") rows) (codes "csv") ≡ format_name format
   pub has_path : first_of (codes "settings") rows ≡ path
 
+-- The matches of the subcommand `total`, which words enter, ask for a pick, a format and a path, as those of `report` or `query` do.
+pub record AsksToTotal (entered : Option (Text × List Row)) (query : Query) (path : Option Text) : Type 0 where
+  pub rows : List Row
+  pub enters : entered ≡ Some (codes "total", rows)
+  pub is_named : first_of (codes "NAME") rows ≡ pick_name query.pick
+  pub has_format : unwrap_or (first_of (codes "format") rows) (codes "csv") ≡ format_name query.format
+  pub has_path : first_of (codes "settings") rows ≡ path
+
+-- The matches of the subcommand `messages` or `receipts`, which words enter, ask for lines and a path.
+pub record AsksForLines (entered : Option (Text × List Row)) (lines : LinesOf) (path : Option Text) : Type 0 where
+  pub rows : List Row
+  pub enters : entered ≡ Some (lines_name lines, rows)
+  pub has_path : first_of (codes "settings") rows ≡ path
+
 -- the matches of words ask for an order
 abbrev pub Asks : Option (Text × List Row) → Order → Type 0
 Asks entered (Run query settings) = AsksFor entered query (option_map string_bytes settings)
 Asks entered (Check settings) = AsksToCheck entered (option_map string_bytes settings)
 Asks entered (Follow format settings) = AsksToFollow entered format (option_map string_bytes settings)
+Asks entered (Total query settings) = AsksToTotal entered query (option_map string_bytes settings)
+Asks entered (Lines lines settings) = AsksForLines entered lines (option_map string_bytes settings)
 
 -- an order is the one for which `clap`'s matches of the words ask
 abbrev pub HasOrder : List Text → Order → Type 0

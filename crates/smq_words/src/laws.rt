@@ -1,5 +1,5 @@
 //! Known values of the definitions: each is the contract of a function with no body.
-ghost use Rattle.smq_words.specs.Known.{KnowsCheck, KnowsFollow, KnowsWords};
+ghost use Rattle.smq_words.specs.Known.{KnowsCheck, KnowsFollow, KnowsLines, KnowsTotal, KnowsWords};
 
 /// The words of orders.
 pub fn known_words()
@@ -14,4 +14,14 @@ pub fn known_words_of_check()
 /// Which words `follow` takes.
 pub fn known_words_of_follow()
     ensures { KnowsFollow }
+{}
+
+/// Which words `total` takes.
+pub fn known_words_of_total()
+    ensures { KnowsTotal }
+{}
+
+/// Which words `messages` and `receipts` take.
+pub fn known_words_of_lines()
+    ensures { KnowsLines }
 {}

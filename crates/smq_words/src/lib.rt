@@ -6,6 +6,9 @@ mod orders;
 mod rules;
 mod words;
 
-pub use laws::{known_words, known_words_of_check, known_words_of_follow};
-pub use orders::{Order, Query};
+pub use laws::{
+    known_words, known_words_of_check, known_words_of_follow, known_words_of_lines,
+    known_words_of_total,
+};
+pub use orders::{Lines, Order, Query};
 pub use words::{order, own_words};

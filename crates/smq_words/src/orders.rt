@@ -8,6 +8,13 @@ pub struct Query {
     pub format: Format,
 }
 
+/// For what a line each is written.
+#[derive(Clone, Copy, Debug, PartialEq, Eq)]
+pub enum Lines {
+    Messages,
+    Receipts,
+}
+
 /// What the words ask for.
 #[derive(Debug, Drop)]
 pub enum Order {
@@ -24,6 +31,17 @@ pub enum Order {
     /// To play rows as they come, after the settings at a path, if one is named, and to write what is asked among them.
     Follow {
         format: Format,
+        settings: Option<String>,
+    },
+    /// To play rows, however many there are, after the settings at a path, if one is named, and to write what is asked of their report.
+    Total {
+        query: Query,
+        settings: Option<String>,
+    },
+    /// To play rows, however many there are, after the settings at a path, if one is named, and to write a line for each message
+    /// or each delivery receipt.
+    Lines {
+        lines: Lines,
         settings: Option<String>,
     },
 }

@@ -5,8 +5,8 @@ ghost use Rattle.clap.specs.Words.{app_of, new_app};
 ghost use Rattle.clap.specs.declared.builder.command.Command.TheViews.{out-Command as fields_of};
 ghost use Rattle.clap.specs.declared.builder.value_parser.ValueParser.TheVariants.{Names};
 ghost use Rattle.smq_tally.specs.Names.{list_name, view_name};
-ghost use Rattle.smq_words.specs.Words.{IsArgument, IsProgram, add_options, bare_program, check_app, follow_app, format_rule, name_rule};
-ghost use Rattle.smq_words.specs.Words.{pick_names, query_app, report_app, settings_rule, texts_of, version_text};
+ghost use Rattle.smq_words.specs.Words.{IsArgument, IsProgram, add_options, bare_program, follow_app, format_rule, name_rule, optional_rule};
+ghost use Rattle.smq_words.specs.Words.{format_names, pick_names, query_app, report_app, settings_app, settings_rule, texts_of, total_app, version_text};
 
 use clap::{Arg, ArgAction, Command};
 use smq_tally::{List, View};
@@ -18,18 +18,28 @@ const ABOUT: &str =
     "Tells what became of SMPP 3.4 messages, from captured sessions in a script on standard input";
 
 const USAGE: &str =
-    "smq report [OPTIONS] < SCRIPT\n       smq query [OPTIONS] <NAME> < SCRIPT\n       smq check [OPTIONS] < SCRIPT\n       smq follow [OPTIONS] < ROWS";
+    "smq report [OPTIONS] < SCRIPT\n       smq query [OPTIONS] <NAME> < SCRIPT\n       smq check [OPTIONS] < SCRIPT\n       smq follow [OPTIONS] < ROWS\n       smq total [OPTIONS] [NAME] < SCRIPT\n       smq messages [OPTIONS] < SCRIPT\n       smq receipts [OPTIONS] < SCRIPT";
+
+/// What `check`, `messages` and `receipts` do.
+const CHECK: &str =
+    "Plays a script by many threads on one desk, and says whether its tables equal a count from nothing";
+
+const MESSAGES: &str =
+    "Writes a line of CSV for each message of a script of any length: its route, outcome, id and receipt";
+
+const RECEIPTS: &str =
+    "Writes a line of CSV for each delivery receipt of a script of any length, with the message it matches";
 
 /// The version that `--version` prints.
-const VERSION: &str = "0.14.0";
+const VERSION: &str = "0.15.0";
 
 /// The first part of what stands below each help, before the names of views and lists.
 const SCRIPT: &str = "\
 SCRIPT is CSV records, one a line, as `piece,LINK,SESSION,DIR,MOMENT,HEX`, where DIR is client or centre and
-MOMENT is in ms since 1970 or YYYY-MM-DDTHH:MM:SSZ. It has at most 1,000,000 records and 268,435,456 octets.
-ROWS are the same, with `ask,NAME` or `ask,report` among them, and without a limit. A message takes some 2 KB
-of memory (follow: 5). docs/FORMATS.md tells all records, the settings and the report; tools/check-script says
-what is wrong with a script.
+MOMENT is in ms since 1970 or YYYY-MM-DDTHH:MM:SSZ. It has at most 1,000,000 records and 268,435,456 octets
+(total, messages, receipts: any number). ROWS are the same, with `ask,NAME` or `ask,report` among them, and without a limit. A
+message takes some 2 KB of memory (follow: 5). docs/FORMATS.md tells all records, the settings and the report;
+tools/check-script says what is wrong with a script.
 ";
 
 /// The last part.
@@ -113,16 +123,37 @@ pub fn command<'a>(
     requires { texts_of names.now ≡ pick_names }
     ensures { IfOk result (λ command. IsProgram (app_of command)) }
 {
-    let formats = FORMATS.as_slice();
+    command_with(alloc, names, FORMATS.as_slice(), more)
+}
+
+/// The same, where `formats` are the names of formats.
+fn command_with<'a>(
+    alloc: Global,
+    names: &'a [&'a str],
+    formats: &'a [&'a str],
+    more: &'a str,
+) -> Result<Command<'a>, AllocError>
+    requires names { texts_of names.now ≡ pick_names }
+    requires formats { texts_of formats.now ≡ format_names }
+    ensures { IfOk result (λ command. IsProgram (app_of command)) }
+{
     let report = report_command(alloc, formats, more)?;
     let query = query_command(alloc, names, formats, more)?;
-    let check = check_command(alloc, more)?;
+    let check = settings_command(alloc, "check", CHECK, "smq check [OPTIONS] < SCRIPT", more)?;
     let follow = follow_command(alloc, formats, more)?;
+    let total = total_command(alloc, names, formats, more)?;
+    let usage = "smq messages [OPTIONS] < SCRIPT";
+    let messages = settings_command(alloc, "messages", MESSAGES, usage, more)?;
+    let usage = "smq receipts [OPTIONS] < SCRIPT";
+    let receipts = settings_command(alloc, "receipts", RECEIPTS, usage, more)?;
     bare_command(alloc, more)?
         .subcommand(report)?
         .subcommand(query)?
         .subcommand(check)?
-        .subcommand(follow)
+        .subcommand(follow)?
+        .subcommand(total)?
+        .subcommand(messages)?
+        .subcommand(receipts)
 }
 
 /// The program without its subcommands.
@@ -187,14 +218,35 @@ fn query_command<'a>(
     add_options(alloc, formats, query.arg(name_argument(alloc, names))?)
 }
 
-fn check_command<'a>(alloc: Global, more: &'a str) -> Result<Command<'a>, AllocError>
-    ensures rules { IfOk result (λ command. app_of command ≡ check_app) }
+fn total_command<'a>(
+    alloc: Global,
+    names: &'a [&'a str],
+    formats: &'a [&'a str],
+    more: &'a str,
+) -> Result<Command<'a>, AllocError>
+    ensures rules { IfOk result (λ command.
+        app_of command ≡ total_app (Names names.entry) (Names formats.entry)) }
     ensures local { IfOk result (λ command. (fields_of command).has_globals ≡ false) }
 {
     let about =
-        "Plays a script by many threads on one desk, and says whether its tables equal a count from nothing";
-    let usage = "smq check [OPTIONS] < SCRIPT";
-    subcommand(alloc, "check", about, usage, more).arg(settings_option(alloc))
+        "Writes what report or query NAME writes, of a script of any length: no row of it is kept";
+    let usage = "smq total [OPTIONS] [NAME] < SCRIPT";
+    let total = subcommand(alloc, "total", about, usage, more);
+    add_options(alloc, formats, total.arg(optional_name(alloc, names))?)
+}
+
+/// A subcommand whose one option is `--settings`, and its help.
+fn settings_command<'a>(
+    alloc: Global,
+    name: &'a str,
+    about: &'a str,
+    usage: &'a str,
+    more: &'a str,
+) -> Result<Command<'a>, AllocError>
+    ensures rules { IfOk result (λ command. app_of command ≡ settings_app name.entry.now) }
+    ensures local { IfOk result (λ command. (fields_of command).has_globals ≡ false) }
+{
+    subcommand(alloc, name, about, usage, more).arg(settings_option(alloc))
 }
 
 /// A subcommand with no argument yet, and its help.
@@ -236,6 +288,15 @@ fn name_argument<'a>(alloc: Global, names: &'a [&'a str]) -> Arg<'a>
     Arg::new(alloc, "NAME")
         .help("The view's or the list's name: counts are in views, places in lists")
         .required(true)
+        .action(ArgAction::Set)
+        .value_parser(names)
+}
+
+fn optional_name<'a>(alloc: Global, names: &'a [&'a str]) -> Arg<'a>
+    ensures { IsArgument (optional_rule (Names names.entry)) result }
+{
+    Arg::new(alloc, "NAME")
+        .help("The view's or the list's name; the whole report where none is given")
         .action(ArgAction::Set)
         .value_parser(names)
 }

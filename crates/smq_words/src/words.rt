@@ -5,10 +5,10 @@ ghost use Rattle.clap.specs.Words.{Text, first_of, found_of, rows_of, subcommand
 ghost use Rattle.smq_tally.specs.Lists.{lists};
 ghost use Rattle.smq_tally.specs.Names.{list_name, view_name};
 ghost use Rattle.smq_tally.specs.Rows.{views};
-ghost use Rattle.smq_words.specs.Words.{AsksFor, AsksToCheck, AsksToFollow, HasOrder, TakesWords, format_name, is_named, pick_name, picks};
-ghost use Rattle.smq_words.specs.within.Orders.{IsCheckOf, IsFollowOf, IsRunOf};
+ghost use Rattle.smq_words.specs.Words.{AsksFor, AsksForLines, AsksToCheck, AsksToFollow, AsksToTotal, HasOrder, TakesWords, format_name, is_named, pick_name, picks};
+ghost use Rattle.smq_words.specs.within.Orders.{IsCheckOf, IsFollowOf, IsLinesOf, IsRunOf, IsTotalOf};
 
-use crate::orders::{Order, Query};
+use crate::orders::{Lines, Order, Query};
 use crate::rules::{command, more_help, pick_names};
 use clap::{ArgMatches, Error};
 use smq_report::{Format, Pick};
@@ -41,6 +41,12 @@ fn order_in(alloc: Global, matches: &ArgMatches) -> Result<Order, AllocError>
     ensures follow { (format : Format) → (path : Option Text)
         → AsksToFollow (subcommand_rows_of matches.now) format path
         → IfOk result (IsFollowOf format path) }
+    ensures total { (query : Query) → (path : Option Text)
+        → AsksToTotal (subcommand_rows_of matches.now) query path
+        → IfOk result (IsTotalOf query path) }
+    ensures lines { (lines : Lines) → (path : Option Text)
+        → AsksForLines (subcommand_rows_of matches.now) lines path
+        → IfOk result (IsLinesOf lines path) }
 {
     match matches.subcommand() {
         Some((name, entered)) => order_of(alloc, name, entered),
@@ -65,6 +71,12 @@ fn order_of(alloc: Global, name: &str, entered: &ArgMatches) -> Result<Order, Al
     ensures follow { (format : Format) → (path : Option Text)
         → AsksToFollow (Some (name.now, rows_of (found_of entered.now))) format path
         → IfOk result (IsFollowOf format path) }
+    ensures total { (query : Query) → (path : Option Text)
+        → AsksToTotal (Some (name.now, rows_of (found_of entered.now))) query path
+        → IfOk result (IsTotalOf query path) }
+    ensures lines { (lines : Lines) → (path : Option Text)
+        → AsksForLines (Some (name.now, rows_of (found_of entered.now))) lines path
+        → IfOk result (IsLinesOf lines path) }
 {
     let settings = named_path(alloc, entered.get_str("settings"))?;
     if name == "check" {
@@ -74,7 +86,22 @@ fn order_of(alloc: Global, name: &str, entered: &ArgMatches) -> Result<Order, Al
         let format = named_format(entered.get_str("format"));
         return Ok(Order::Follow { format, settings });
     }
+    if name == "messages" {
+        return Ok(Order::Lines {
+            lines: Lines::Messages,
+            settings,
+        });
+    }
+    if name == "receipts" {
+        return Ok(Order::Lines {
+            lines: Lines::Receipts,
+            settings,
+        });
+    }
     let query = query_in(entered);
+    if name == "total" {
+        return Ok(Order::Total { query, settings });
+    }
     Ok(Order::Run { query, settings })
 }
 

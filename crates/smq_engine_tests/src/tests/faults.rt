@@ -1,7 +1,8 @@
-//! Readers that fail, are interrupted or give too much, and writers that fail: a run and a check tell it, and nothing is written that
-//! isn't wanted.
+//! Readers that fail, are interrupted or give too much, and writers that fail: a run, a total and a check tell it, and nothing is written
+//! that isn't wanted. A total takes what is too much for a run.
 use crate::tests::*;
 use smq_engine::run;
+use smq_follow::total;
 use smq_report::{Format, Pick};
 use smq_tally::View;
 use smq_words::Query;
@@ -15,29 +16,31 @@ pub(crate) const SCRIPT: &[u8] =
 #[derive(Clone, Copy)]
 pub(crate) enum Work {
     Report(Query),
+    Total(Query),
     Check,
 }
 
-const CSV: Work = Work::Report(Query {
+const WHOLE: Query = Query {
     pick: Pick::All,
     format: Format::Csv,
-});
+};
 
-const TABLE: Work = Work::Report(Query {
+const LINKS: Query = Query {
     pick: Pick::View(View::Link),
     format: Format::Table,
-});
+};
+
+const WHOLE_TEXT: &[u8] =
+    b"view,link,1,open,1\nview,route,none,open,1\nview,network,none,open,1\nlist,open,10,client,0\n";
+
+const LINKS_TEXT: &[u8] = b"view link\n  1                        open                1\n";
 
 /// Works, and what each writes of `SCRIPT`.
 pub(crate) const WORKS: &[(Work, &[u8])] = &[
-    (
-        CSV,
-        b"view,link,1,open,1\nview,route,none,open,1\nview,network,none,open,1\nlist,open,10,client,0\n",
-    ),
-    (
-        TABLE,
-        b"view link\n  1                        open                1\n",
-    ),
+    (Work::Report(WHOLE), WHOLE_TEXT),
+    (Work::Report(LINKS), LINKS_TEXT),
+    (Work::Total(WHOLE), WHOLE_TEXT),
+    (Work::Total(LINKS), LINKS_TEXT),
     (Work::Check, b"same entries 2 refused 0\n"),
 ];
 
@@ -124,6 +127,7 @@ pub(crate) fn fault_of<RT: AllocGlobal + Threads + Wait + Sync, R: Read, W: Writ
 ) -> Option<RunFault> {
     match work {
         Work::Report(query) => run(rt, reader, b"", query, writer).err(),
+        Work::Total(query) => total(rt, reader, b"", query, writer).err(),
         Work::Check => check(rt, reader, b"", writer, &NoGate).err(),
     }
 }
@@ -215,7 +219,10 @@ const LIMITS: &[(usize, usize, Option<RunFault>)] = &[
 ];
 
 /// Works, and what each writes of empty lines.
-const EMPTY: &[(Work, &[u8])] = &[(CSV, b""), (Work::Check, b"same entries 0 refused 0\n")];
+const EMPTY: &[(Work, &[u8])] = &[
+    (Work::Report(WHOLE), b""),
+    (Work::Check, b"same entries 0 refused 0\n"),
+];
 
 /// Whether a work keeps a limit.
 fn keeps_limit<RT: AllocGlobal + Threads + Wait + Sync>(
@@ -237,5 +244,23 @@ fn a_script_that_passes_a_limit_is_not_read(rt: HostRuntime) {
         for limit in LIMITS {
             assert!(rt; keeps_limit(&rt, *work, text, *limit), "{limit:?}");
         }
+    }
+}
+
+/// More reads, and more octets, than a script may have.
+const BEYOND: &[(usize, usize)] = &[(16_777_217, 1), (268_435_457, usize::MAX)];
+
+/// A total is of any number of octets and reads.
+#[test]
+fn a_total_reads_past_the_limits_of_a_script(rt: HostRuntime) {
+    for (left, most) in BEYOND {
+        let mut reader = LineFeeds {
+            left: *left,
+            most: *most,
+        };
+        assert!(rt;
+            ends(&rt, Work::Total(WHOLE), &mut reader, None, b""),
+            "{left} octets"
+        );
     }
 }

@@ -1,4 +1,4 @@
-//! A run and a check with each allocation and each start of a thread refused in turn (tools/check-refused-calls): what was written is a
+//! A run, a total and a check with each allocation and each start of a thread refused in turn (tools/check-refused-calls): what was written is a
 //! beginning of what is wanted, and the same is done then as ever.
 use crate::tests::faults::{SCRIPT, WORKS, Work, ends, fault_of};
 use crate::tests::*;
@@ -8,6 +8,7 @@ use smq_marks::Call;
 fn call_of(work: Work) -> Call {
     match work {
         Work::Report(_) => Call::Run,
+        Work::Total(_) => Call::Total,
         Work::Check => Call::Check,
     }
 }

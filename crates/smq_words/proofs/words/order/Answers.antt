@@ -54,5 +54,5 @@ returns-clause-order g c =
       is,
       subst (λ e. Asks e order) entered
           (order_asks (subcommand_rows_of c.in_ok-matches.matches) order asks c.in_ok-order_in.ensures.run c.in_ok-order_in.ensures.check
-          c.in_ok-order_in.ensures.follow),
+          c.in_ok-order_in.ensures.follow c.in_ok-order_in.ensures.total c.in_ok-order_in.ensures.lines),
     )

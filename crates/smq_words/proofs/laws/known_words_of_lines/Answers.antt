@@ -1,0 +1,18 @@
+use Rattle.std.proofs.Common.{refl}
+use Rattle.clap.proofs.OnLiterals.{clap_on_literals}
+use Rattle.smq_words.specs.Known.{KnowsLines}
+use Rattle.smq_words.proofs.laws.known_words_of_lines.Goals as goal
+
+known : KnowsLines
+unfolding clap_on_literals
+known = record {
+  messages = λ names formats. refl;
+  messages_asked = λ names formats. record { rows = _; enters = refl; has_path = refl };
+  receipts_asked = λ names formats. record { rows = _; enters = refl; has_path = refl };
+  settings_asked = λ names formats. record { rows = _; enters = refl; has_path = refl };
+  format = λ names formats. refl;
+  name = λ names formats. refl;
+}
+
+pub returns : goal.returns
+returns c = known
