@@ -1,5 +1,5 @@
-"""What rows of a script leave present, why some are refused, and the report of it, by plain searches over all that is there:
-README.md and docs/FORMATS.md read once more."""
+"""What rows of a script leave present, why some are refused, and the report and the lines of it, by plain searches over all that is
+there: README.md and docs/FORMATS.md read once more."""
 import bisect
 import collections
 import datetime
@@ -12,18 +12,22 @@ WITHOUT_RESPONSE = (0x0B, 0x102)
 RECEIPTED_MESSAGE_ID, NETWORK_ERROR_CODE, MESSAGE_PAYLOAD, MESSAGE_STATE = 0x001E, 0x0423, 0x0424, 0x0427
 STATES = (b"ENROUTE", b"DELIVRD", b"EXPIRED", b"DELETED", b"UNDELIV", b"ACCEPTD", b"UNKNOWN", b"REJECTD")
 ENROUTE, DELIVERED, ACCEPTED = 1, 2, 6
+STATE_NAMES = "enroute delivered expired deleted undeliverable accepted unknown rejected".split()
 OUTCOMES = "waiting mismatched refused noid ambiguous delivered failed unasked lapsed open".split()
 VIEWS = "link route network error link-delay centre-delay".split()
 LISTS = ("waiting stray-answers mismatched stray-receipts ambiguous-receipts extra-receipts unreadable undecodable broken open "
          "lapsed").split()
 BANDS = ((0, "early"), (5_000, "under-5s"), (30_000, "under-30s"), (300_000, "under-5m"), (3_600_000, "under-1h"), (None, "over"))
+MESSAGE_FIELDS = ("link session offset moment number route network outcome error id response_offset receipt_session receipt_offset "
+                  "receipt_moment centre_delay").split()
+RECEIPT_FIELDS = "link session offset moment id state interim error standing message_session message_offset".split()
 WINDOW = 172_800_000
 EPOCH = datetime.datetime(1970, 1, 1)
 
 # at: session, direction (0 for the client) and offset; response: the PDU that it is paired with, or None
 Pdu = collections.namedtuple("Pdu", "at moment octets command status number")
 Fields = collections.namedtuple("Fields", "ton address esm_class registered text parameters")
-Receipt = collections.namedtuple("Receipt", "at moment key decides state error delay")
+Receipt = collections.namedtuple("Receipt", "at moment key decides state error delay identity interim")
 
 
 def word(octets, at):
@@ -146,7 +150,7 @@ def receipt_of(pdu, link, form):
     submitted, done = date_of(named(header, b"submit date")), date_of(named(header, b"done date"))
     delay = None if submitted is None or done is None else done - submitted
     return Receipt(pdu.at, pdu.moment, key_of(link, identity, form), state not in (ENROUTE, ACCEPTED) and kind != 0x20, state,
-                   error_of(parameters.get(NETWORK_ERROR_CODE, b""), named(header, b"err")), delay)
+                   error_of(parameters.get(NETWORK_ERROR_CODE, b""), named(header, b"err")), delay, identity, kind == 0x20)
 
 
 def error_of(code, stated):
@@ -167,14 +171,26 @@ def band(delay):
     return next(at for at, (end, _) in enumerate(BANDS) if end is None or delay < end)
 
 
+def csv_of(names, lines):
+    """Returns lines of values under the names of their fields as CSV. None is an empty field."""
+    return b"".join(b",".join(field_of(it) for it in line) + b"\n" for line in [names, *lines])
+
+
+def field_of(value):
+    octets = b"" if value is None else value if isinstance(value, bytes) else str(value).encode()
+    return b'"' + octets.replace(b'"', b'""') + b'"' if re.search(rb'[",\r\n]', octets) else octets
+
+
 class Tables:
-    """Counts by view, value and outcome, and places by list. A value is a tuple that orders it, and its text."""
+    """Counts by view, value and outcome, places by list, and lines for messages and for receipts, each by its place. A value of a view is
+    a tuple that orders it, and its text."""
 
     def __init__(self, sessions, forms, windows, versions, clock):
         self.forms, self.windows, self.versions, self.clock = forms, windows, versions, clock
         self.counts, self.lists = collections.Counter(), collections.defaultdict(set)
         # submit_sm and data_sm of the client with their response, and receipts; keys of accepted messages by place
         self.messages, self.receipts, self.keys = [], [], {}
+        self.message_lines, self.receipt_lines = {}, {}
         for session, (link, both) in sessions.items():
             self.read(session, link, both)
         self.count()
@@ -211,22 +227,27 @@ class Tables:
                         self.receipts.append(receipt)
 
     def count(self):
-        keys = self.keys
+        keys, ids = self.keys, {}
         for link, pdu, _, response in self.messages:
             is_accepted = response and response.command == pdu.command | RESPONSE and response.status == 0
             identity = usable_id(response.octets[16:]) if is_accepted else None
             if identity is not None:
+                ids[pdu.at] = identity
                 keys[pdu.at] = key_of(link, identity, self.forms_of(link)[0])
         matches, deciding = collections.Counter(keys.values()), {}
         for receipt in (it for it in self.receipts if it.decides and matches[it.key] == 1):
             known = deciding.setdefault(receipt.key, receipt)
             if (receipt.moment, receipt.at) < (known.moment, known.at):
                 deciding[receipt.key] = receipt
+        places = {key: at for at, key in keys.items() if matches[key] == 1}
         for receipt in self.receipts:
-            if matches[receipt.key] != 1:
-                self.lists["stray-receipts" if matches[receipt.key] == 0 else "ambiguous-receipts"].add(receipt.at)
-            elif receipt.decides and deciding[receipt.key] is not receipt:
-                self.lists["extra-receipts"].add(receipt.at)
+            standing = self.standing(receipt, matches[receipt.key], deciding.get(receipt.key))
+            if standing in ("stray", "ambiguous", "extra"):
+                self.lists[f"{standing}-receipts"].add(receipt.at)
+            session, _, offset = places.get(receipt.key, (None, None, None))
+            self.receipt_lines[receipt.at] = (
+                receipt.key[0], receipt.at[0], receipt.at[2], receipt.moment, receipt.identity, STATE_NAMES[receipt.state - 1],
+                "yes" if receipt.interim else "no", error_text(receipt.error), standing, session, offset)
         for link, pdu, fields, response in self.messages:
             key = keys.get(pdu.at)
             receipt = deciding.get(key)
@@ -244,6 +265,18 @@ class Tables:
                 self.lists[outcome].add(pdu.at)
             for name, value in values.items():
                 self.counts[name, value, outcome] += 1
+            decides = outcome in ("delivered", "failed")
+            self.message_lines[pdu.at] = (
+                link, pdu.at[0], pdu.at[2], pdu.moment, number_of(fields), route[1], network[1], outcome, values.get("error", (0, None))[1],
+                ids.get(pdu.at), response and response.at[2],
+                *((receipt.at[0], receipt.at[2], receipt.moment, receipt.delay) if decides else (None,) * 4))
+
+    def standing(self, receipt, matches, decider):
+        if matches != 1:
+            return "ambiguous" if matches else "stray"
+        if decider is receipt:
+            return "deciding"
+        return "extra" if receipt.decides else "noted"
 
     def outcome(self, link, pdu, fields, response, key, matches, receipt):
         if response is None:
@@ -278,6 +311,15 @@ class Tables:
         lines += [f"list,{name},{session},{DIRECTIONS[direction]},{offset}\n" for name in LISTS
                   for session, direction, offset in sorted(self.lists[name])]
         return "".join(lines).encode()
+
+
+    def messages_csv(self):
+        """Returns the lines for messages, by place, as CSV."""
+        return csv_of(MESSAGE_FIELDS, (self.message_lines[at] for at in sorted(self.message_lines)))
+
+    def receipts_csv(self):
+        """Returns the lines for receipts, by place, as CSV."""
+        return csv_of(RECEIPT_FIELDS, (self.receipt_lines[at] for at in sorted(self.receipt_lines)))
 
 
 class Present:
@@ -342,6 +384,10 @@ class Present:
         self.clock = moment
         return None
 
+    def tables(self):
+        """Returns the tables of what is left."""
+        return Tables(self.sessions, self.forms, self.windows, self.versions, self.clock)
+
     def report(self):
         """Returns the report of what is left, as CSV."""
-        return Tables(self.sessions, self.forms, self.windows, self.versions, self.clock).csv()
+        return self.tables().csv()
