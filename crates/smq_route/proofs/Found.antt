@@ -12,16 +12,13 @@ use Rattle.smq_route.specs.declared.version.VersionKey.{VersionKey}
 use Rattle.smq_route.specs.declared.version.Version.{Version}
 use Rattle.smq_route.specs.Versions.{Versions, key_at, version_of, lasts_past, holds, begins, serves, version_at, route_at, is_longest, least, AreApart}
 use Rattle.smq_route.specs.within.Kept.{NoneHolds}
+use Rattle.smq_route.specs.within.Searches.{NoneLonger}
 use Rattle.smq_route.proofs.VersionOrders.{versions_total, versions_exact}
 use Rattle.smq_route.proofs.Least.{Entry, AllPassing, IsShorter, longest-found, longest-none, no-longest, none-pass}
 use Rattle.smq_route.proofs.Apart.{ended-then}
 
 abbrev pub pairing : RouteId → List ℕ → Option (RouteId × List ℕ)
 pairing route network = Some (route, network)
-
--- No version for a number at a moment has a prefix of more digits than n.
-abbrev pub NoLonger : Versions → List ℕ → ℕ → ℕ → Type 0
-NoLonger m number t n = (k : VersionKey) (v : Version) → get m k ≡ Some v → serves number t (k, v) ≡ true → length k.prefix ≤ n
 
 both : (a b : Bool) → (a && b) ≡ true → (a ≡ true) × (b ≡ true)
 both true b h = (refl, h)
@@ -42,12 +39,12 @@ pub short : (k : VersionKey) (number : List ℕ) → k.prefix ≡ take (length k
 short k number e = let l = ap length e in let m = Rattle.std.proofs.Common.length-take (length k.prefix) number in omega (arith, l, m)
 
 -- no prefix of a number is longer than it
-pub no_longer-all : (m : Versions) (number : List ℕ) (t : ℕ) → NoLonger m number t (length number)
+pub no_longer-all : (m : Versions) (number : List ℕ) (t : ℕ) → NoneLonger m number t (length number)
 no_longer-all m number t k v there h = short k number (serving number t k v h).0
 
 -- none of this many digits holds
-pub no_longer-next : (m : Versions) (number : List ℕ) (t n : ℕ) → NoLonger m number t (n + 1) → NoneHolds m (take (n + 1) number) t
-    → NoLonger m number t n
+pub no_longer-next : (m : Versions) (number : List ℕ) (t n : ℕ) → NoneLonger m number t (n + 1) → NoneHolds m (take (n + 1) number) t
+    → NoneLonger m number t n
 no_longer-next m number t n all none k v there h =
     let is = serving number t k v h in
     let most = all k v there h in
@@ -78,7 +75,7 @@ one-holds m p t f g v w a there there_too f_below f_lasts g_below g_lasts =
 value-is : (v w : Version) (o : Option Version) → o ≡ Some v → o ≡ Some w → v ≡ w
 value-is v w o p q = cc
 
-at_most : (m : Versions) (number : List ℕ) (t n f : ℕ) (v : Version) → AreApart m → NoLonger m number t n
+at_most : (m : Versions) (number : List ℕ) (t n f : ℕ) (v : Version) → AreApart m → NoneLonger m number t n
     → length (take n number) ≡ n → version_of m (take n number) f ≡ Some v → f ≤ t → lasts_past t v.until ≡ true
     → (k : VersionKey) (w : Version) → get m k ≡ Some w → serves number t (k, w) ≡ true → (length k.prefix < length (take n number))
     ⊎ ◌≡◌ {A = Entry} (k, w) (key_at (take n number) f, v)
@@ -107,7 +104,7 @@ all-shorter m test x h [] a = tt
 all-shorter m test x h (e ∷ es) a = (λ p. h e.0 e.1 a.0 p, all-shorter m test x h es a.1)
 
 -- what is found first, from the longest prefix on, is the version
-pub route-found : (m : Versions) (number : List ℕ) (t n f : ℕ) (v : Version) → AreApart m → NoLonger m number t n
+pub route-found : (m : Versions) (number : List ℕ) (t n f : ℕ) (v : Version) → AreApart m → NoneLonger m number t n
     → n ≤ length number → version_of m (take n number) f ≡ Some v → f ≤ t → lasts_past t v.until ≡ true
     → route_at m number t ≡ Some (v.route, v.network)
 route-found m number t n f v a longer fits there below lasts =
@@ -130,7 +127,7 @@ all-fail m test h (e ∷ es) a = (
 )
 
 -- where no prefix of the number holds there is none
-pub route-none : (m : Versions) (number : List ℕ) (t : ℕ) → AreApart m → NoLonger m number t 0 → route_at m number t ≡ None
+pub route-none : (m : Versions) (number : List ℕ) (t : ℕ) → AreApart m → NoneLonger m number t 0 → route_at m number t ≡ None
 route-none m number t a longer =
     ap (option_map (λ (e : Entry). (e.1.route, e.1.network)))
     (longest-none (serves number t) (entries m) (all-fail m (serves number t)

@@ -5,6 +5,7 @@ pub mod Apart
 pub mod Edited
 pub mod Found
 pub mod Within
+pub mod Searches
 pub mod Elsewhere
 pub mod EditLaws
 pub mod KnownVersions

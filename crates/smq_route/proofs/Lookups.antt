@@ -44,7 +44,7 @@ entries-seen es s = ordered.entries-kept versions_total versions_exact version-o
 
 -- ---- the last up to a key
 
-some-there : (es : List (VersionKey × Version)) (q : VersionKey) → IsSome (get (seen es) q) → IsSome (lookup (is_at (kept_version_cmp q)) es)
+pub some-there : (es : List (VersionKey × Version)) (q : VersionKey) → IsSome (get (seen es) q) → IsSome (lookup (is_at (kept_version_cmp q)) es)
 some-there es q h = subst IsSome (get-seen es q) h
 
 none-of : (o : Option Version) → (IsSome o → ⊥) → o ≡ None
@@ -66,7 +66,7 @@ not-greater Less s h e = cc
 not-greater Equal s h e = cc
 not-greater Greater s h e = cc
 
-not-gt : (a b : ℕ) → a ≤ b → is_gt (nat_cmp a b) ≡ false
+pub not-gt : (a b : ℕ) → a ≤ b → is_gt (nat_cmp a b) ≡ false
 not-gt a b h =
     elim (nat_cmp a b) as (λ r. nat_cmp a b ≡ r → is_gt r ≡ false) [
       | Less ↦ λ e. refl

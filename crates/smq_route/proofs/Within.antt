@@ -8,9 +8,10 @@ use Rattle.smq_route.specs.declared.version.VersionKey.{VersionKey}
 use Rattle.smq_route.specs.declared.version.Version.{Version}
 use Rattle.smq_route.specs.Versions.{Versions, key_at, version_of}
 use Rattle.smq_route.specs.within.Kept.{AreWithin}
+use Rattle.smq_route.specs.within.Searches.{NoneLonger}
 use Rattle.smq_route.specs.Edits.{added, changed, changed_where}
 use Rattle.smq_route.proofs.Lookups.{at-insert}
-use Rattle.smq_route.proofs.Found.{NoLonger, no_longer-all}
+use Rattle.smq_route.proofs.Found.{no_longer-all}
 
 -- no versions
 pub none-within : (most : ℕ) (m : Versions) → ((k : VersionKey) → get m k ≡ None) → AreWithin most m
@@ -54,6 +55,6 @@ pub within-more : (most more : ℕ) (m : Versions) → most ≤ more → AreWith
 within-more most more m bound within k v there = let below = within k v there in omega (arith, bound, below)
 
 -- no version for a number has a prefix longer than the number, or than the longest prefix
-pub no_longer-first : (m : Versions) (number : List ℕ) (t most n : ℕ) → AreWithin most m → (n ≡ length number) ⊎ (n ≡ most) → NoLonger m number t n
-no_longer-first m number t most n within (inl is) = subst (NoLonger m number t) (sym is) (no_longer-all m number t)
+pub no_longer-first : (m : Versions) (number : List ℕ) (t most n : ℕ) → AreWithin most m → (n ≡ length number) ⊎ (n ≡ most) → NoneLonger m number t n
+no_longer-first m number t most n within (inl is) = subst (NoneLonger m number t) (sym is) (no_longer-all m number t)
 no_longer-first m number t most n within (inr is) = λ k v there h. subst (λ (i : ℕ). length k.prefix ≤ i) (sym is) (within k v there)

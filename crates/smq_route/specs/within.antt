@@ -1,4 +1,5 @@
 -- What private contracts alone cite.
 pub mod Kept
+pub mod Searches
 pub mod NumberKeys
 pub mod NumberWalks

@@ -5,6 +5,7 @@ ghost use Rattle.smq_kit.specs.Numbers.{IsDigits};
 ghost use Rattle.smq_kit.specs.Replies.{IsReply, first_of};
 ghost use Rattle.smq_route.specs.Versions.{AreApart, lasts_past, version_of, overlap as least_overlap, route_at};
 ghost use Rattle.smq_route.specs.within.Kept.{NoneHolds, settled_in, versions_in};
+ghost use Rattle.smq_route.specs.within.Searches.{NoneLonger, Tells};
 ghost use Rattle.smq_route.specs.Routes.{empty};
 ghost use Rattle.smq_route.specs.Edits.{add_refusals, end_refusals, correct_refusals, added, changed, ending, corrected};
 
@@ -128,20 +129,29 @@ impl Routes {
     }
 
     /// The route and network of a number at a moment: those of the version which holds then and has the longest prefix
-    /// that begins the number. It takes one ordered search for each digit that the longest prefix has, 15 at most, and no
-    /// memory.
+    /// that begins the number. It takes at most one ordered search for each digit that the longest prefix has, 15 at
+    /// most, mostly one or two in all, and no memory.
     pub fn at(&self, number: &Digits, at: Moment) -> Option<(RouteId, Network)>
         ensures { result ≡ route_at self.now.versions number.now at }
     {
-        let most = lesser(number.as_slice().len(), self.most_digits);
-        for last in (0..most).rev() {
-            let prefix = first_digits(number, last + 1);
-            if let Some((_, version)) = holding(&self.versions, &prefix, at) {
-                return Some((version.route, version.network.copy()));
+        let mut len = lesser(number.as_slice().len(), self.most_digits);
+        while len > 0 {
+            match search(&self.versions, number, len, at) {
+                Sought::Longest(version) => return Some((version.route, version.network.copy())),
+                Sought::NoLonger(fewer) => len = fewer,
             }
         }
         None
     }
+}
+
+/// What a search tells of the versions for a number at a moment.
+#[derive(Drop)]
+enum Sought<'a> {
+    /// The one with the longest prefix.
+    Longest(&'a Version),
+    /// None of them has a prefix of more digits than this.
+    NoLonger(usize),
 }
 
 /// The greater of two numbers.
@@ -247,6 +257,58 @@ fn overlap(versions: &KeptMap<VersionKey, Version>, prefix: &Digits, from: Momen
         Some((earlier, _)) => Some(earlier),
         None => first_from(versions, prefix, from),
     }
+}
+
+/// Searches for the version of a number at a moment, where none of its versions has a prefix of more than `len` digits.
+/// Those of its prefixes stand at or below the first `len` digits, and so at or below the greatest one there, which
+/// begins with their prefixes, too.
+fn search<'a>(
+    versions: &'a KeptMap<VersionKey, Version>,
+    number: &Digits,
+    len: usize,
+    at: Moment,
+) -> Sought<'a>
+    requires apart { AreApart (versions_in versions.now) }
+    requires longest { NoneLonger (versions_in versions.now) number.now at len }
+    requires one { 1 ≤ len }
+    requires in_range { len ≤ length number.now }
+    ensures { Tells (versions_in versions.now) number.now at len result }
+{
+    let key = VersionKey {
+        prefix: first_digits(number, len),
+        from: at,
+    };
+    let Some((found, version)) = versions.entry_up_to(key) else {
+        return Sought::NoLonger(0);
+    };
+    let shared = shared_digits(&found.prefix, number);
+    if shared < found.prefix.as_slice().len() || at < found.from {
+        return Sought::NoLonger(shared);
+    }
+    if version.lasts_past(at) {
+        Sought::Longest(version)
+    } else {
+        Sought::NoLonger(shared - 1)
+    }
+}
+
+/// How many digits two numbers begin with alike.
+fn shared_digits(a: &Digits, b: &Digits) -> usize
+    ensures first { result ≤ length a.now }
+    ensures second { result ≤ length b.now }
+    ensures same { take result a.now ≡ take result b.now }
+    ensures most { (len : ℕ) → len ≤ length a.now → len ≤ length b.now
+        → take len a.now ≡ take len b.now → len ≤ result }
+{
+    let a = a.as_slice();
+    let b = b.as_slice();
+    let most = lesser(a.len(), b.len());
+    for len in 0..most {
+        if a[len] != b[len] {
+            return len;
+        }
+    }
+    most
 }
 
 /// The first digits of a number.
