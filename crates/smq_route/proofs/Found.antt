@@ -38,10 +38,6 @@ serving number t k v h =
 pub short : (k : VersionKey) (number : List ℕ) → k.prefix ≡ take (length k.prefix) number → length k.prefix ≤ length number
 short k number e = let l = ap length e in let m = Rattle.std.proofs.Common.length-take (length k.prefix) number in omega (arith, l, m)
 
--- no prefix of a number is longer than it
-pub no_longer-all : (m : Versions) (number : List ℕ) (t : ℕ) → NoneLonger m number t (length number)
-no_longer-all m number t k v there h = short k number (serving number t k v h).0
-
 -- none of this many digits holds
 pub no_longer-next : (m : Versions) (number : List ℕ) (t n : ℕ) → NoneLonger m number t (n + 1) → NoneHolds m (take (n + 1) number) t
     → NoneLonger m number t n

@@ -1,5 +1,5 @@
 -- How many digits the prefixes of versions have at most.
-use Rattle.std.proofs.Common.{◌≡◌, ◌≤◌, ◌⊎◌, inl, inr, ℕ, List, length, Option, Some, None, Result, Ok, Err, subst, refl, sym, ◌∙◌, arith}
+use Rattle.std.proofs.Common.{◌≡◌, ◌≤◌, inl, inr, ℕ, List, length, Option, Some, None, Result, Ok, Err, subst, refl, sym, ◌∙◌, arith}
 use Rattle.std.specs.FinMap.{get, insert}
 use Rattle.smq_kit.specs.declared.names.RouteId.{RouteId}
 use Rattle.smq_kit.specs.declared.refusal.Refusal.{Refusal}
@@ -8,10 +8,8 @@ use Rattle.smq_route.specs.declared.version.VersionKey.{VersionKey}
 use Rattle.smq_route.specs.declared.version.Version.{Version}
 use Rattle.smq_route.specs.Versions.{Versions, key_at, version_of}
 use Rattle.smq_route.specs.within.Kept.{AreWithin}
-use Rattle.smq_route.specs.within.Searches.{NoneLonger}
 use Rattle.smq_route.specs.Edits.{added, changed, changed_where}
 use Rattle.smq_route.proofs.Lookups.{at-insert}
-use Rattle.smq_route.proofs.Found.{no_longer-all}
 
 -- no versions
 pub none-within : (most : ℕ) (m : Versions) → ((k : VersionKey) → get m k ≡ None) → AreWithin most m
@@ -53,8 +51,3 @@ change-within most m n p f g (Some q) (Err e) within h = subst (AreWithin most) 
 -- more digits are enough too
 pub within-more : (most more : ℕ) (m : Versions) → most ≤ more → AreWithin most m → AreWithin more m
 within-more most more m bound within k v there = let below = within k v there in omega (arith, bound, below)
-
--- no version for a number has a prefix longer than the number, or than the longest prefix
-pub no_longer-first : (m : Versions) (number : List ℕ) (t most n : ℕ) → AreWithin most m → (n ≡ length number) ⊎ (n ≡ most) → NoneLonger m number t n
-no_longer-first m number t most n within (inl is) = subst (NoneLonger m number t) (sym is) (no_longer-all m number t)
-no_longer-first m number t most n within (inr is) = λ k v there h. subst (λ (i : ℕ). length k.prefix ≤ i) (sym is) (within k v there)
