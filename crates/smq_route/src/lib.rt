@@ -5,6 +5,7 @@
 mod laws;
 mod numbers;
 mod routes;
+mod sought;
 mod version;
 mod walk;
 

@@ -2,8 +2,8 @@
 use Rattle.std.proofs.Common.{◌<◌, ◌≤◌, ℕ, List, length, subst, sym, arith}
 use Rattle.std.proofs.lemmas.Map.Keys.{ge_from_not_lt}
 use Rattle.smq_route.proofs.Searches.{none-longest, shared-longest, fewer-other, fewer-later, fewer-ended, later, tells-longest, tells-ended}
-use Rattle.smq_route.proofs.routes.search.Goals as goal
-use Rattle.smq_route.proofs.routes.search.Goals.{then-shared-as_slice-via-then-shared-as_slice, then-shared-as_slice-via-else-shared-as_slice+then-lt}
+use Rattle.smq_route.proofs.sought.search.Goals as goal
+use Rattle.smq_route.proofs.sought.search.Goals.{then-shared-as_slice-via-then-shared-as_slice, then-shared-as_slice-via-else-shared-as_slice+then-lt}
 
 pub returns-in_default : goal.returns-in_default
 returns-in_default c = (
