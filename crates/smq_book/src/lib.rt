@@ -43,9 +43,9 @@ pub use laws::present::{
     withdrawals_leave_no_trace, withdrawals_of_a_known_book,
 };
 pub use laws::whole::{
-    counts_split_by_link, figures_of_a_known_book, known_receipts_are_listed, lists_say_the_same,
-    lists_split_by_link, receipts_are_listed_by_their_matches,
-    tables_list_receipts_by_their_matches,
+    counts_deal_by_key, counts_split_by_link, figures_of_a_known_book, known_receipts_are_listed,
+    lists_deal_by_key, lists_say_the_same, lists_split_by_link, present_tables_are_of_traffic,
+    receipts_are_listed_by_their_matches, tables_list_receipts_by_their_matches,
 };
 
 // values and calls

@@ -6,3 +6,5 @@ pub mod ListedTables
 pub mod KnownBook
 pub mod SplitByLink
 pub mod ListsSplitByLink
+pub mod DealtByKey
+pub mod ListsDealtByKey

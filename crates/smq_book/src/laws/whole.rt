@@ -1,16 +1,18 @@
 //! Laws of the whole: two statements of the same figures, the delivery receipts that are listed, and a known book.
-ghost use Rattle.std.specs.Prelude.{◌≡◌, ◌+◌, ◌↔◌, ◌⊎◌, Bool, Contains};
+ghost use Rattle.std.specs.Prelude.{◌≡◌, ◌+◌, ◌↔◌, ◌⊎◌, Bool, Contains, filter, length};
 ghost use Rattle.std.specs.FinMap as fin;
 ghost use Rattle.smq_book.specs.known.Join.{KnownListings};
 ghost use Rattle.smq_book.specs.known.Whole.{KnownFigures};
 ghost use Rattle.smq_book.specs.present.Present.{PresentValue};
-ghost use Rattle.smq_book.specs.pairing.Traffic.{traffic_of};
+ghost use Rattle.smq_book.specs.present.Settings.{SettingsValue};
+ghost use Rattle.smq_book.specs.pairing.Traffic.{TrafficValue, traffic_of};
 ghost use Rattle.smq_tally.specs.Lists.{listed};
 ghost use Rattle.smq_tally.specs.Tables.{count_at, listed_in};
 ghost use Rattle.smq_book.specs.join.Facts.{facts_of};
 ghost use Rattle.smq_book.specs.join.Keyed.{grouping_of};
 ghost use Rattle.smq_book.specs.join.Listings.{receipt_notes};
 ghost use Rattle.smq_group.specs.Matching.{Grouping, IsStray, HasSharedKey, IsExtra};
+ghost use Rattle.smq_book.specs.whole.Dealt.{tables_from, dealt, other_places, KeepsKeysTogether};
 ghost use Rattle.smq_book.specs.whole.Links.{of_links, other_links};
 ghost use Rattle.smq_book.specs.whole.Scratch.{scratch};
 ghost use Rattle.smq_book.specs.within.Lists.{facts_listed, receipt_notes_listed, tables_listed};
@@ -70,6 +72,42 @@ pub fn lists_split_by_link()
         → Contains (listed_in (scratch p) list) place
         ↔ (Contains (listed_in (scratch (of_links here p)) list) place
         ⊎ Contains (listed_in (scratch (of_links (other_links here) p)) list) place) }
+{}
+
+/// The tables of what is present are those of its traffic, under what is set.
+pub fn present_tables_are_of_traffic()
+    ensures { (p : PresentValue) → scratch p ≡ tables_from p.settings (traffic_of p.sessions) }
+{}
+
+/// Messages meet delivery receipts by key alone: however traffic is dealt to two parts by place, if no accepted message and
+/// no receipt is parted from another with its key, each count is the sum of the counts of both parts, under the same
+/// settings. A part that is dealt in the same way is two parts again, so the law holds of any number of them.
+pub fn counts_deal_by_key()
+    ensures { (s : SettingsValue) (t : TrafficValue) (here : Place → Bool)
+        → KeepsKeysTogether s t here
+        → (view : View) (value : Value) (outcome : Outcome)
+        → count_at (tables_from s t) view value outcome
+        ≡ count_at (tables_from s (dealt here t)) view value outcome
+        + count_at (tables_from s (dealt (other_places here) t)) view value outcome }
+{}
+
+/// Likewise each list of a part is that of the whole, less the places of the other part: a place is in a list exactly where
+/// it is in that of one part or of the other, and the list is as long as these together.
+pub fn lists_deal_by_key()
+    ensures parts { (s : SettingsValue) (t : TrafficValue) (here : Place → Bool)
+        → KeepsKeysTogether s t here → (list : List)
+        → listed_in (tables_from s (dealt here t)) list
+        ≡ filter here (listed_in (tables_from s t) list) }
+    ensures places { (s : SettingsValue) (t : TrafficValue) (here : Place → Bool)
+        → KeepsKeysTogether s t here → (list : List) (place : Place)
+        → Contains (listed_in (tables_from s t) list) place
+        ↔ (Contains (listed_in (tables_from s (dealt here t)) list) place
+        ⊎ Contains (listed_in (tables_from s (dealt (other_places here) t)) list) place) }
+    ensures lengths { (s : SettingsValue) (t : TrafficValue) (here : Place → Bool)
+        → KeepsKeysTogether s t here → (list : List)
+        → length (listed_in (tables_from s t) list)
+        ≡ length (listed_in (tables_from s (dealt here t)) list)
+        + length (listed_in (tables_from s (dealt (other_places here) t)) list) }
 {}
 
 /// Delivery receipts that are written out, in their lists. Each is of the id `1`, but for those under forms.
