@@ -1,6 +1,6 @@
 -- What is listed of traffic that is dealt by place so that no key is parted: each listed place is that of what it is listed
 -- for, so the lists of a part are those of the whole, less the other places.
-use Rattle.std.proofs.Common.{◌≡◌, ◌⊎◌, inl, inr, ◌+◌, Bool, true, false, cond, List, [], ◌∷◌, ◌++◌, length, Option, Some, None, refl, sym, ap, ◌∙◌}
+use Rattle.std.proofs.Common.{◌≡◌, ◌⊎◌, inl, inr, ◌+◌, Bool, true, false, cond, List, [], ◌∷◌, ◌++◌, length, Option, Some, None, refl, sym, ap, ◌∙◌, subst}
 use Rattle.std.specs.Prelude.{◌↔◌, ◌&&◌, Contains, not, is_some, map, filter, option_and_then, option_map, option_to_list}
 use Rattle.std.specs.List.{AllByRecursion, flat_map, list_any}
 use Rattle.std.specs.FinMap.{FinMap, contains_key, entries, get, keys, retain_keys, same_map, values}
@@ -17,12 +17,11 @@ use Rattle.smq_group.specs.Matching.{ReceiptStanding, receipt_standing}
 use Rattle.smq_tally.specs.declared.fact.Fact.{Fact}
 use Rattle.smq_tally.specs.declared.list.List as l
 use Rattle.smq_tally.specs.declared.list.Listed.{Listed}
-use Rattle.smq_tally.specs.declared.outcome.Outcome.{Outcome}
-use Rattle.smq_tally.specs.declared.outcome.Outcome.TheVariants as o
-use Rattle.smq_tally.specs.Lists.{in_list, listed, listed_cmp, listed_set, listings_by, listings_of_fact}
+use Rattle.smq_tally.specs.Lists.{in_list, listed, listed_cmp, listed_set, listings_of_fact}
 use Rattle.smq_tally.specs.Tables.{listed_in}
 use Rattle.smq_tally.specs.within.ListOrder.{listed_total, same_listed}
 use Rattle.smq_tally.proofs.ListOrders.{listed_exact}
+use Rattle.smq_tally.proofs.ListedFacts.{Once, listed-once}
 use Rattle.smq_tally.proofs.Listings.{get-listed, listed-iff, marked}
 use Rattle.smq_book.specs.present.Settings.{SettingsValue}
 use Rattle.smq_book.specs.pairing.Traffic.{Message, TrafficValue}
@@ -96,17 +95,9 @@ module _ (here : Place → Bool) where
 
 -- ---- what is listed for a place stands there
 
-by-outcome : (outcome : Outcome) (place q : Place) → place ≡ q → AllByRecursion (λ x. x.place ≡ q) (listings_by outcome place)
-by-outcome o.Waiting place q e = tt
-by-outcome o.Mismatched place q e = tt
-by-outcome o.Refused place q e = tt
-by-outcome o.NoId place q e = tt
-by-outcome o.Ambiguous place q e = tt
-by-outcome o.Delivered place q e = tt
-by-outcome o.Failed place q e = tt
-by-outcome o.Unasked place q e = tt
-by-outcome o.Lapsed place q e = (e, tt)
-by-outcome o.Open place q e = (e, tt)
+by-fact : (q : Place) (ls : List Listed) (place : Place) → Once ls place → place ≡ q → AllByRecursion (λ x. x.place ≡ q) ls
+by-fact q ls place (inl none) e = subst (AllByRecursion (λ x. x.place ≡ q)) (sym none) tt
+by-fact q ls place (inr one) e = subst (AllByRecursion (λ x. x.place ≡ q)) (sym one.1.0) (one.1.1.0 ∙ e, tt)
 
 by-standing : (q : Place) (list : Option l.List) → AllByRecursion (λ x. x.place ≡ q) (option_to_list (option_map (λ list. listed list q) list))
 by-standing q None = tt
@@ -145,7 +136,7 @@ module _ (s : SettingsValue) (t : TrafficValue) (here : Place → Bool) (togethe
       ∙ flat_map-map listings_of_fact (λ e. e.1) (filter (λ e. here e.0) (entries (facts_of s t)))
       ∙ listed-part here (λ e. listings_of_fact e.1) (λ e. listings_of_fact e.1) (entries (facts_of s t))
       (all-weaker (λ e. get (facts_of s t) e.0 ≡ Some e.1) (λ e. AllByRecursion (λ x. x.place ≡ e.0) (listings_of_fact e.1)) (entries (facts_of s t))
-      (λ e there. by-outcome e.1.outcome e.1.place e.0 (fact-place s t e.0 e.1 there))
+      (λ e there. by-fact e.0 (listings_of_fact e.1) e.1.place (listed-once e.1.outcome e.1.place) (fact-place s t e.0 e.1 there))
       (maps.get-entry places_total places_exact (facts_of s t)))
       (all-places (λ e. here e.0 ≡ true → listings_of_fact e.1 ≡ listings_of_fact e.1) (entries (facts_of s t)) (λ e h. refl))
       ∙ ap (filter (note_here here)) (sym (flat_map-map listings_of_fact (λ e. e.1) (entries (facts_of s t))))
