@@ -8,3 +8,4 @@ pub mod Whole
 pub mod Reach
 pub mod Touches
 pub mod Appended
+pub mod Dealt

@@ -8,3 +8,4 @@ pub mod SplitByLink
 pub mod ListsSplitByLink
 pub mod DealtByKey
 pub mod ListsDealtByKey
+pub mod KnownParts

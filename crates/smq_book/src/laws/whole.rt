@@ -1,6 +1,7 @@
 //! Laws of the whole: two statements of the same figures, the delivery receipts that are listed, and a known book.
 ghost use Rattle.std.specs.Prelude.{◌≡◌, ◌+◌, ◌↔◌, ◌⊎◌, Bool, Contains, filter, length};
 ghost use Rattle.std.specs.FinMap as fin;
+ghost use Rattle.smq_book.specs.known.Dealt.{KnownParts};
 ghost use Rattle.smq_book.specs.known.Join.{KnownListings};
 ghost use Rattle.smq_book.specs.known.Whole.{KnownFigures};
 ghost use Rattle.smq_book.specs.present.Present.{PresentValue};
@@ -108,6 +109,12 @@ pub fn lists_deal_by_key()
         → length (listed_in (tables_from s t) list)
         ≡ length (listed_in (tables_from s (dealt here t)) list)
         + length (listed_in (tables_from s (dealt (other_places here) t)) list) }
+{}
+
+/// What is counted of traffic that is written out, two messages and a receipt of the first, and of its parts: by key their
+/// counts add, and where the receipt is parted from its message they don't.
+pub fn parts_of_known_traffic()
+    ensures { KnownParts }
 {}
 
 /// Delivery receipts that are written out, in their lists. Each is of the id `1`, but for those under forms.
