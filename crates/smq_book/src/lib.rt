@@ -44,8 +44,8 @@ pub use laws::present::{
 };
 pub use laws::whole::{
     counts_deal_by_key, counts_split_by_link, figures_of_a_known_book, known_receipts_are_listed,
-    lists_deal_by_key, lists_say_the_same, lists_split_by_link, parts_of_known_traffic,
-    present_tables_are_of_traffic, receipts_are_listed_by_their_matches,
+    lists_deal_by_key, lists_say_the_same, lists_split_by_link, parts_keep_keys_together,
+    parts_of_known_traffic, present_tables_are_of_traffic, receipts_are_listed_by_their_matches,
     tables_list_receipts_by_their_matches,
 };
 

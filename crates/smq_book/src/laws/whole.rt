@@ -82,7 +82,8 @@ pub fn present_tables_are_of_traffic()
 
 /// Messages meet delivery receipts by key alone: however traffic is dealt to two parts by place, if no accepted message and
 /// no receipt is parted from another with its key, each count is the sum of the counts of both parts, under the same
-/// settings. A part that is dealt in the same way is two parts again, so the law holds of any number of them.
+/// settings. A part that is dealt in the same way is two parts again (`parts_keep_keys_together`), so the law holds of any
+/// number of them.
 pub fn counts_deal_by_key()
     ensures { (s : SettingsValue) (t : TrafficValue) (here : Place → Bool)
         → KeepsKeysTogether s t here
@@ -109,6 +110,12 @@ pub fn lists_deal_by_key()
         → length (listed_in (tables_from s t) list)
         ≡ length (listed_in (tables_from s (dealt here t)) list)
         + length (listed_in (tables_from s (dealt (other_places here) t)) list) }
+{}
+
+/// A test that keeps the keys of traffic together keeps those of each part together, so a part may be dealt again.
+pub fn parts_keep_keys_together()
+    ensures { (s : SettingsValue) (t : TrafficValue) (here there : Place → Bool)
+        → KeepsKeysTogether s t there → KeepsKeysTogether s (dealt here t) there }
 {}
 
 /// What is counted of traffic that is written out, two messages and a receipt of the first, and of its parts: by key their

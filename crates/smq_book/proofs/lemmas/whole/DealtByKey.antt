@@ -291,6 +291,21 @@ pub others-together : (s : SettingsValue) (t : TrafficValue) (here : Place → B
     → KeepsKeysTogether s t (other_places here)
 others-together s t here together key one other a b = ap not (together key one other a b)
 
+-- what has a key in a part has it in the whole
+key-of-part : (s : SettingsValue) (t : TrafficValue) (here : Place → Bool) (key : LinkKey) (q : Place) → HasKey s (dealt here t) key q → HasKey s t key q
+key-of-part s t here key q (inl m) =
+    let found = found-kept (here q) (get t.messages q) m.message (sym (get-kept places_total places_exact here t.messages q) ∙ m.stands) in
+    inl (record { message = m.message; stands = found.1; accepted = m.accepted })
+key-of-part s t here key q (inr r) =
+    let found = found-kept (here q) (get t.receipts q) r.receipt (sym (get-kept places_total places_exact here t.receipts q) ∙ r.stands) in
+    inr (record { receipt = r.receipt; stands = found.1; received = r.received })
+
+-- so a test that keeps keys together keeps them together in a part
+pub part-together : (s : SettingsValue) (t : TrafficValue) (here there : Place → Bool) → KeepsKeysTogether s t there
+    → KeepsKeysTogether s (dealt here t) there
+part-together s t here there together key one other a b =
+    together key one other (key-of-part s t here key one a) (key-of-part s t here key other b)
+
 module _ (s : SettingsValue) (t : TrafficValue) (view : View) (value : Value) (outcome : Outcome) where
   abbrev stands : Fact → Bool
   stands = stands_in (count_key view value outcome)
