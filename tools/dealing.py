@@ -23,6 +23,7 @@ CHECK = load("check-script")
 WINDOW = 172_800_000
 # command_id of outbind and alert_notification, in hexadecimal digits
 WITHOUT_RESPONSE = (b"0000000b", b"00000102")
+FIRST_OF_RESPONSES = ord("8")
 HEXADECIMAL = b"0123456789abcdefABCDEF"
 # A field of a line of CSV, in quotes or not, and what ends it
 FIELD = re.compile(rb'(?:"((?:[^"]|"")*)"|([^,\n]*))([,\n])')
@@ -60,18 +61,18 @@ def moment_of(text):
 
 def put(waiting, number, item):
     """Puts a PDU behind those that wait with its number."""
-    known = waiting.get(number)
-    if known is None:
-        waiting[number] = item
-    elif isinstance(known, list):
+    known = waiting.setdefault(number, item)
+    if known is item:
+        return
+    if isinstance(known, list):
         known.append(item)
     else:
         waiting[number] = [known, item]
 
 
 def take(waiting, number):
-    """Takes out the first PDU that waits with a number, or returns None."""
-    known = waiting.pop(number, None)
+    """Takes out the first PDU that waits with a number."""
+    known = waiting.pop(number)
     if not isinstance(known, list):
         return known
     first, *others = known
@@ -114,20 +115,20 @@ class Script:
 
     def add(self, lane, row, digits):
         """Adds a PDU to its lane, in the pair of the one that waits for it, or in a new one."""
-        number, pair = digits[24:32].lower(), self.count
-        if digits[8:9] >= b"8":
-            known = take(lane.other.requests, number)
-            if known is None:
-                put(lane.other.responses, number, (pair, lane.moment))
+        number = digits[24:32].lower()
+        is_response = digits[8] >= FIRST_OF_RESPONSES
+        waiting = lane.other.requests if is_response else lane.responses
+        if number in waiting:
+            pair = take(waiting, number)[0]
         else:
-            known = take(lane.responses, number)
-            if known is None and digits[8:16].lower() not in WITHOUT_RESPONSE:
-                put(lane.requests, number, (pair, lane.moment))
-            lane.places[lane.at] = pair if known is None else known[0]
-        if known is None:
+            pair = self.count
             self.count += 1
-        else:
-            pair = known[0]
+            if is_response:
+                put(lane.other.responses, number, (pair, lane.moment))
+            elif digits[8:16].lower() not in WITHOUT_RESPONSE:
+                put(lane.requests, number, (pair, lane.moment))
+        if not is_response:
+            lane.places[lane.at] = pair
         lane.rows.append(row)
         lane.pairs.append(pair)
         lane.at += len(digits) // 2
