@@ -1,0 +1,80 @@
+"""Periods that are written out, for tools/check-deal: what stays the same when rows are dealt to periods, and what differs by nature."""
+import sys
+
+sys.dont_write_bytecode = True
+
+from dealt_periods import DELIVER_SM, ENQUIRE_LINK, LINK_TEST, RESPONSE, TESTED, pdu, piece, receipt, response, submit
+
+WINDOW = 172_800_000
+ONE, TWO, ANSWER = submit(1), submit(2), response(1)
+# (registered_delivery is the fifth octet from the end)
+UNASKED = ONE[:-5] + b"\0" + ONE[-4:]
+
+
+def told(moment, number=1, identity=b"1", state=b"DELIVRD", session=5):
+    """Returns the rows of a receipt and of its response."""
+    return [piece(moment, receipt(number, identity, state), "centre", session), piece(moment, pdu(DELIVER_SM + RESPONSE, number, b"\0"), session=session)]
+
+
+def accepted(moment, number=1, identity=b"1", octets=None):
+    """Returns the rows of a message and of its response."""
+    return [piece(moment, octets or submit(number)), piece(moment, response(number, identity), "centre")]
+
+
+def passed(moment):
+    """Returns rows of another session by which a moment is known."""
+    return [piece(moment, LINK_TEST, session=9), piece(moment, TESTED, "centre", session=9)]
+
+
+def link(outcome, count=1):
+    return f"view,link,7,{outcome},{count}"
+
+
+DELIVERED, LAPSED = [link("delivered")], [link("lapsed"), "count,lapsed,1"]
+# a name, the rows of periods, the outcomes of what is settled in each, what the sum says of links and lists, and what the whole says
+# where that differs
+CASES = (
+    ("a message, its response and its receipt in a period each", [[piece(1_000, ONE)], [piece(2_000, ANSWER, "centre")], told(3_000)],
+     [[], [], ["delivered,1"]], DELIVERED, None),
+    ("a receipt in another session", [accepted(1_000), told(2_000, session=6)], [[], ["delivered,1"]], DELIVERED, None),
+    ("a receipt before the response", [[piece(1_000, ONE), *told(1_500)], [piece(2_000, ANSWER, "centre")]], [[], ["delivered,1"]],
+     DELIVERED, None),
+    ("a receipt before its message", [told(1_000), accepted(2_000)], [[], ["delivered,1"]], DELIVERED, None),
+    ("a receipt whose response comes later", [[*accepted(1_000), told(2_000)[0]], [told(3_000)[1]]], [[], ["delivered,1"]], DELIVERED, None),
+    ("a response before its request", [[piece(1_000, ANSWER, "centre")], [piece(2_000, ONE)]], [[], []], [link("open"), "count,open,1"], None),
+    ("a number that is used twice: by rank",
+     [[piece(1_000, ONE), *accepted(2_000)], [piece(3_000, response(1, b"2"), "centre"), *told(3_000, identity=b"2")]],
+     [[], ["delivered,1"]], [link("delivered"), link("open"), "count,open,1"], None),
+    ("a receipt that isn't asked for", [accepted(1_000, octets=UNASKED), told(2_000)], [[], ["delivered,1"]], DELIVERED, None),
+    ("one that isn't asked for and doesn't come", [accepted(1_000, octets=UNASKED), passed(1_000 + WINDOW)], [[], ["unasked,1"]],
+     [link("unasked")], None),
+    ("two messages of one id, and their receipts later", [[*accepted(1_000), *accepted(2_000, 2)], [*told(3_000), *told(4_000, 2)], []],
+     [[], [], []], [link("ambiguous", 2), "count,ambiguous-receipts,2"], None),
+    ("the same, past their windows", [[*accepted(1_000), *accepted(2_000, 2)], [*told(3_000), *told(4_000, 2)], passed(2_000 + WINDOW)],
+     [[], [], ["ambiguous,2"]], [link("ambiguous", 2), "count,ambiguous-receipts,2"], None),
+    ("a refused message", [[piece(1_000, ONE)], [piece(2_000, response(1, status=88), "centre")]], [[], ["refused,1"]], [link("refused")], None),
+    ("a PDU that is cut", [[piece(1_000, ONE[:20])], [piece(2_000, ONE[20:40])], [piece(3_000, ONE[40:] + TWO[:3]), piece(3_000, ANSWER, "centre")],
+                           told(4_000, session=6)], [[], [], [], ["delivered,1"]], DELIVERED, None),
+    ("a direction that is broken", [[piece(1_000, ONE + b"\0\0\0\x0f")], [piece(2_000, TWO), piece(2_000, ANSWER, "centre")], told(3_000)[:1], []],
+     [[], [], [], []], [link("delivered"), "count,waiting,1", "count,broken,1"], None),
+    ("a window that is set, and the clock", [["window,7,1000", *accepted(1_000)], ["clock,1999"], ["clock,2000"]], [[], [], ["lapsed,1"]],
+     LAPSED, None),
+    ("a window that passes by rows, before the clock says so", [accepted(1_000), passed(1_000 + WINDOW), [f"clock,{1_000 + WINDOW}"]],
+     [[], ["lapsed,1"], []], LAPSED, None),
+    ("forms that are set later", [accepted(1_000, identity=b"0A"), [*told(2_000, identity=b"10"), "form,7,hexadecimal,decimal"]],
+     [[], ["delivered,1"]], DELIVERED, None),
+    ("a session that is withdrawn, and begun anew", [[piece(1_000, ONE)], ["withdraw,5", piece(500, TWO)]], [[], []],
+     [link("waiting"), "count,waiting,1"], None),
+    # what differs
+    ("an id that is used again after its message was settled", [[*accepted(1_000), *told(2_000)], [*accepted(3_000, 2), *told(4_000, 2)]],
+     [["delivered,1"], ["delivered,1"]], [link("delivered", 2)], [link("ambiguous", 2), "count,ambiguous-receipts,2"]),
+    ("a second receipt after its message was settled", [[*accepted(1_000), *told(2_000)], told(3_000, 2, state=b"UNDELIV")],
+     [["delivered,1"], []], [link("delivered"), "count,stray-receipts,1"], [link("delivered"), "count,extra-receipts,1"]),
+    ("a receipt past the window", [accepted(1_000), [f"clock,{1_000 + WINDOW}"], told(2_000 + WINDOW)], [[], ["lapsed,1"], []],
+     [link("lapsed"), "count,stray-receipts,1", "count,lapsed,1"], DELIVERED),
+    ("a response past the window", [[piece(1_000, ONE)], passed(1_000 + WINDOW), [piece(2_000 + WINDOW, ANSWER, "centre")]],
+     [[], ["waiting,1"], []], [link("waiting"), "count,waiting,1", "count,stray-answers,1"], [link("open"), "count,open,1"]),
+    ("no clock that says what rows do", [accepted(1_000), passed(1_000 + WINDOW)], [[], ["lapsed,1"]], LAPSED, [link("open"), "count,open,1"]),
+    ("a session that is withdrawn after a message was settled", [[*accepted(1_000), *told(2_000), piece(3_000, TWO)], ["withdraw,5"]],
+     [["delivered,1"], []], DELIVERED, []),
+)
