@@ -240,7 +240,8 @@ class Groups:
         return self.windows.get(link, WINDOW)
 
     def read(self, messages, receipts, now):
-        """Reads the lines; now is the last moment that is known, or None where nothing has to be settled."""
+        """Reads the lines; now is the last moment that is known, or None where nothing has to be settled. What is waited for within
+        its window are receipts of `open`, `unasked` and `ambiguous` messages, messages of stray receipts, and the other of a pair."""
         now = -1 if now is None else now
         for number, (texts, outcomes) in enumerate(((messages, (b"open", b"unasked", b"ambiguous")), (receipts, (b"stray",)))):
             places, link, session = None, None, None
