@@ -225,8 +225,8 @@ class Groups:
 
     def __init__(self, script, forms, windows):
         self.script, self.forms, self.windows = script, forms, windows
-        # pairs by link and key; numbers of pairs that aren't settled
-        self.pairs, self.open = collections.defaultdict(list), set()
+        # by link and key the first pair; the others, each with the first of its key; those that aren't settled
+        self.firsts, self.others, self.open = collections.defaultdict(dict), [], set()
 
     def read(self, messages, receipts, now):
         """Reads the lines; now is the last moment that is known, or None where nothing has to be settled. What is waited for within
@@ -237,9 +237,8 @@ class Groups:
         for lane, pair, moment in self.script.unpaired():
             if moment + self.windows.get(lane.link, WINDOW) > now:
                 self.open.add(pair)
-        for pairs in self.pairs.values():
-            if len(pairs) > 1 and not self.open.isdisjoint(pairs):
-                self.open.update(pairs)
+        self.open.update([first for first, pair in self.others if pair in self.open])
+        self.open.update([pair for first, pair in self.others if first in self.open])
 
     def read_lines(self, text, side, id_at, outcome_at, waited, now):
         """Reads lines of messages or of receipts, whose ids and outcomes stand in these columns."""
@@ -247,10 +246,12 @@ class Groups:
         for fields in records_of(text):
             if fields[1] != session:
                 session, link = fields[1], int(fields[0])
-                places = self.script.sessions[int(session)][side].places()
+                places, firsts = self.script.sessions[int(session)][side].places(), self.firsts[link]
                 form, window = self.forms.get(link, ("verbatim", "verbatim"))[side], self.windows.get(link, WINDOW)
-            pair = places[int(fields[2])]
-            if fields[id_at]:
-                self.pairs[link, key_of(fields[id_at], form)].append(pair)
+            pair, identity = places[int(fields[2])], fields[id_at]
+            if identity:
+                first = firsts.setdefault(key_of(identity, form), pair)
+                if first != pair:
+                    self.others.append((first, pair))
             if fields[outcome_at] in waited and int(fields[3]) + window > now:
                 self.open.add(pair)
