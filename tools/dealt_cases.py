@@ -3,9 +3,13 @@ import sys
 
 sys.dont_write_bytecode = True
 
-from dealt_periods import DELIVER_SM, ENQUIRE_LINK, LINK_TEST, RESPONSE, TESTED, pdu, piece, receipt, response, submit
+import collections
+
+from dealt_periods import DELIVER_SM, LINK_TEST, RESPONSE, TESTED, pdu, piece, receipt, response, submit
 
 WINDOW = 172_800_000
+# Of a random feed: how long a window is, in ms, how long a receipt and a response take at most, and how long all of it is
+SHORT_WINDOW, LATEST, PROMPT, ALL = 60_000, 50_000, 5_000, 600_000
 ONE, TWO, ANSWER = submit(1), submit(2), response(1)
 # (registered_delivery is the fifth octet from the end)
 UNASKED = ONE[:-5] + b"\0" + ONE[-4:]
@@ -78,3 +82,41 @@ CASES = (
     ("a session that is withdrawn after a message was settled", [[*accepted(1_000), *told(2_000), piece(3_000, TWO)], ["withdraw,5"]],
      [["delivered,1"], []], DELIVERED, []),
 )
+
+
+def feed(draw):
+    """Returns rows of messages of two links that go on side by side, by moment: each id is used once, nothing comes past its window, and
+    the clock is at the end. Some get no response, some are refused, some get no receipt; some receipts match no message; rows are cut."""
+    events, numbers = [], collections.Counter()
+
+    def send(moment, session, sender, octets):
+        # (a place in the order of what was made keeps a direction's order at one moment)
+        events.append((moment, len(events), session, sender, octets))
+
+    def next_number(session, sender):
+        numbers[session, sender] += 1
+        return numbers[session, sender]
+
+    for at in range(draw.randint(20, 120)):
+        session, moment = draw.randrange(4), draw.randrange(ALL)
+        number, identity, kind = next_number(session, "client"), b"%d" % at, draw.choice("dddddrwnse")
+        if kind == "e":
+            send(moment, session, "centre", pdu(0x15, number))
+            send(moment + draw.randint(0, PROMPT), session, "client", pdu(0x15 + RESPONSE, number))
+            continue
+        if kind != "s":
+            send(moment, session, "client", submit(number))
+            if kind == "w":
+                continue
+            send(moment + draw.randint(0, PROMPT), session, "centre", response(number, identity, 88 if kind == "r" else 0))
+        if kind in "ds":
+            moment += draw.randint(0, LATEST)
+            session += draw.choice((0, 2)) if session < 2 else draw.choice((0, -2))
+            number = 1_000_000 + next_number(session, "centre")
+            send(moment, session, "centre", receipt(number, identity, draw.choice((b"DELIVRD", b"UNDELIV"))))
+            send(moment + draw.randint(0, PROMPT), session, "client", pdu(DELIVER_SM + RESPONSE, number, b"\0"))
+    rows = [f"window,{it},{SHORT_WINDOW}" for it in (0, 1)]
+    for moment, _, session, sender, octets in sorted(events):
+        cut = draw.randint(1, len(octets)) if draw.random() < 0.2 else len(octets)
+        rows += [piece(moment, it, sender, session, session % 2) for it in (octets[:cut], octets[cut:]) if it]
+    return [*rows, f"clock,{ALL + WINDOW}"]
