@@ -45,17 +45,20 @@ def kind_of(command):
 
 def put(waiting, number, pair):
     """Puts a pair behind those that wait with a sequence number."""
-    known = waiting.get(number)
-    waiting[number] = pair if known is None else [*known, pair] if isinstance(known, list) else [known, pair]
+    known = waiting.setdefault(number, pair)
+    if isinstance(known, collections.deque):
+        known.append(pair)
+    elif known != pair:
+        waiting[number] = collections.deque((known, pair))
 
 
 def take(waiting, number):
     """Takes out the first pair that waits with a sequence number."""
-    known = waiting.pop(number)
-    if not isinstance(known, list):
-        return known
-    waiting[number] = known[1:] if len(known) > 2 else known[1]
-    return known[0]
+    known = waiting[number]
+    if isinstance(known, collections.deque) and len(known) > 1:
+        return known.popleft()
+    del waiting[number]
+    return known[0] if isinstance(known, collections.deque) else known
 
 
 class Lane:
@@ -184,7 +187,7 @@ class Script:
         alone = set()
         for waiting in (it for lane in self.lanes() for it in (lane.requests, lane.responses)):
             for known in waiting.values():
-                alone.update(known if isinstance(known, list) else [known])
+                alone.update(known if isinstance(known, collections.deque) else [known])
         for lane in self.lanes():
             yield from ((lane, pair, moment_of(row)) for pair, row in zip(lane.pairs, lane.rows) if pair in alone)
 
