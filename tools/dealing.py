@@ -65,7 +65,7 @@ class Lane:
     """One direction of a session: of each PDU its row, the number of its pair, and how many digits it has."""
 
     def __init__(self, session, link, name):
-        self.session, self.link, self.name, self.head = session, link, name, b"piece,%d,%d,%s" % (link, session, name)
+        self.link, self.head = link, b"piece,%d,%d,%s" % (link, session, name)
         self.rows, self.pairs, self.sizes = [], [], []
         # by sequence number the pairs that lack the other one: of requests of this direction, and of responses to it
         self.requests, self.responses = {}, {}

@@ -17,7 +17,8 @@ UNASKED = ONE[:-5] + b"\0" + ONE[-4:]
 
 def told(moment, number=1, identity=b"1", state=b"DELIVRD", session=5):
     """Returns the rows of a receipt and of its response."""
-    return [piece(moment, receipt(number, identity, state), "centre", session), piece(moment, pdu(DELIVER_SM + RESPONSE, number, b"\0"), session=session)]
+    return [piece(moment, receipt(number, identity, state), "centre", session),
+            piece(moment, pdu(DELIVER_SM + RESPONSE, number, b"\0"), session=session)]
 
 
 def accepted(moment, number=1, identity=b"1", octets=None):

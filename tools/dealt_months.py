@@ -62,7 +62,8 @@ def lacks(*programs):
 def run(words, room, **more):
     """Returns the status of a command and all that it says."""
     env = {**os.environ, "PATH": f"{os.environ['PATH']}:/usr/sbin", **more}
-    ended = subprocess.run(words, cwd=room, env=env, stdin=subprocess.DEVNULL, stdout=subprocess.PIPE, stderr=subprocess.STDOUT, text=True, check=False)
+    ended = subprocess.run(words, cwd=room, env=env, stdin=subprocess.DEVNULL, stdout=subprocess.PIPE, stderr=subprocess.STDOUT, text=True,
+                           check=False)
     return ended.returncode, ended.stdout
 
 
@@ -103,7 +104,8 @@ def see_make(count, whole):
         os.utime(f"{room}/days/3/link-2.csv")
         status = made(count, room, "-j2")
         anew = sorted(path for path, moment in written(room).items() if known[path] != moment)
-        wanted = [f"link-2/{day}.{kind}" for day in (3, 4, 5) for kind in ("report", "rest", "settled")] + ["link-2/month.report", "link-2/rest.report"]
+        wanted = [f"link-2/{day}.{kind}" for day in (3, 4, 5) for kind in ("report", "rest", "settled")]
+        wanted += ["link-2/month.report", "link-2/rest.report"]
         count.see("month: a touched day of a link makes what follows of that link anew", (0, wanted), (status[0], anew))
         # a day on which a link has no row, and a month that begins with what the one before left
         with open(f"{room}/days/4/link-2.csv", "r+b") as file, open(f"{room}/days/3/link-2.csv", "rb") as before:
