@@ -27,7 +27,7 @@ pub fn write_messages<W: Write>(
 {
     let mut page = Page::new(alloc);
     page.put_columns(&MESSAGE_COLUMNS)?;
-    let page = put_messages(lines, page, writer)?;
+    let page = put_messages(alloc, lines, page, writer)?;
     page.send(writer)?;
     writer.flush()?;
     Ok(())
@@ -35,6 +35,7 @@ pub fn write_messages<W: Write>(
 
 /// Puts lines after the page, and writes each page that is full.
 fn put_messages<W: Write>(
+    alloc: Global,
     lines: &[MessageLine<'_>],
     mut page: Page,
     writer: &mut W,
@@ -48,7 +49,7 @@ fn put_messages<W: Write>(
 {
     for line in lines {
         page.put_message(line)?;
-        page = page.send_full(writer)?;
+        page.send_full(alloc, writer)?;
     }
     Ok(page)
 }

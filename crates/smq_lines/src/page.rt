@@ -12,6 +12,7 @@ use csv::Writer;
 use smq_report::{ReportFault, write_octets};
 use std::alloc::Global;
 use std::io::Write;
+use std::mem::replace;
 
 /// From how many octets on a page is written.
 const FULL: usize = 65_536;
@@ -79,20 +80,26 @@ impl Page {
         self.records.get_ref().len() >= FULL
     }
 
-    /// Writes what waits if the page is full, and gives the page, which isn't full then.
-    pub(crate) fn send_full<W: Write>(self, writer: &mut W) -> Result<Page, ReportFault>
-        requires { IsAtStart self.records }
-        ensures start { IfOk result (λ page. IsAtStart page.records) }
-        ensures ok { IfOk result (λ page. AppendsAllBut (W.contents writer.old) (W.contents writer.new)
-            (waiting page.records) (waiting self.records)) }
-        ensures room { IfOk result (λ page. length (gathered page.records) < FULL) }
+    /// Writes what waits if the page is full, so that it isn't full then.
+    pub(crate) fn send_full<W: Write>(
+        &mut self,
+        alloc: Global,
+        writer: &mut W,
+    ) -> Result<(), ReportFault>
+        requires { IsAtStart self.old.records }
+        ensures start { OnOk result (IsAtStart self.new.records) }
+        ensures ok { OnOk result (AppendsAllBut (W.contents writer.old) (W.contents writer.new)
+            (waiting self.new.records) (waiting self.old.records)) }
+        ensures room { OnOk result (length (gathered self.new.records) < FULL) }
         ensures begun { IfErr result (λ fault.
-            AppendsBeginning (W.contents writer.old) (W.contents writer.new) (waiting self.records)) }
+            AppendsBeginning (W.contents writer.old) (W.contents writer.new) (waiting self.old.records)) }
     {
-        if self.is_full() {
-            return self.send(writer);
+        if !self.is_full() {
+            return Ok(());
         }
-        Ok(self)
+        let full = replace(self, Page::new(alloc));
+        *self = full.send(writer)?;
+        Ok(())
     }
 
     /// Writes what waits, and gives the page, which is empty then.

@@ -27,7 +27,7 @@ pub fn write_receipts<W: Write>(
 {
     let mut page = Page::new(alloc);
     page.put_columns(&RECEIPT_COLUMNS)?;
-    let page = put_receipts(lines, page, writer)?;
+    let page = put_receipts(alloc, lines, page, writer)?;
     page.send(writer)?;
     writer.flush()?;
     Ok(())
@@ -35,6 +35,7 @@ pub fn write_receipts<W: Write>(
 
 /// Puts lines after the page, and writes each page that is full.
 fn put_receipts<W: Write>(
+    alloc: Global,
     lines: &[ReceiptLine<'_>],
     mut page: Page,
     writer: &mut W,
@@ -48,7 +49,7 @@ fn put_receipts<W: Write>(
 {
     for line in lines {
         page.put_receipt(line)?;
-        page = page.send_full(writer)?;
+        page.send_full(alloc, writer)?;
     }
     Ok(page)
 }

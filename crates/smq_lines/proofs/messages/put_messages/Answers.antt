@@ -10,7 +10,7 @@ loop-line-init g c = record { start = c.requires; gathers = gathers-none message
 pub loop-line-preserved : goal.loop-line-preserved
 loop-line-preserved g c =
     let first = drop-item c.args.lines.now c.loop-line.line-index c.line-item.result c.loop-line-test.true c.line-item.is in
-    let sent = c.in_ok-page.ensures in
+    let sent = c.in_ok-send_full.ensures in
     record {
       start = sent.start;
       gathers = gathers-next message_record _ _ _ _ _ _ _ _ _ _ first (rw c.in_ok-put_message.ensures.ok at sent.ok) c.loop-line.invariant.gathers;
@@ -20,8 +20,8 @@ pub returns-in_err-put_message-clause-begun : goal.returns-in_err-put_message-cl
 returns-in_err-put_message-clause-begun g c =
     whatever_error c.from_residual.result _ (gathers-stop message_record _ _ _ _ _ _ c.loop-line.invariant.gathers)
 
-pub returns-in_err-page-clause-begun : goal.returns-in_err-page-clause-begun
-returns-in_err-page-clause-begun g c =
+pub returns-in_err-send_full-clause-begun : goal.returns-in_err-send_full-clause-begun
+returns-in_err-send_full-clause-begun g c =
     let first = drop-item c.args.lines.now c.loop-line.line-index c.line-item.result c.loop-line-test.true c.line-item.is in
-    whatever_error c.from_residual-in_err-page.result _ (gathers-cut message_record _ _ _ _ _ _ _ _ _ _ first
-    c.in_ok-put_message.ensures.ok c.in_err-page.ensures.begun c.loop-line.invariant.gathers)
+    whatever_error c.from_residual-in_err-send_full.result _ (gathers-cut message_record _ _ _ _ _ _ _ _ _ _ first
+    c.in_ok-put_message.ensures.ok c.in_err-send_full.ensures.begun c.loop-line.invariant.gathers)
