@@ -4,6 +4,7 @@ pub mod Deciding
 pub mod Matched
 pub mod LineLaws
 pub mod DecidedLines
+pub mod NamedLines
 pub mod ReceiptNotes
 pub mod PushedMessages
 pub mod Collected

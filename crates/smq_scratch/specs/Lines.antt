@@ -81,6 +81,24 @@ receipt_line submits receipts e = record {
 abbrev pub receipt_lines : PresentValue → List ReceiptLineValue
 receipt_lines p = map (receipt_line (submits_of p) (receipts_of p)) (receipts_of p)
 
+-- ---- lines that name each other
+
+-- Among lines for receipts is that of one which is named: it has its place and moment, decides, and names the message at this place.
+pub record HasDecidingLine (lines : List ReceiptLineValue) (message : Place) (named : DecidingReceipt) : Type 0 where
+  pub line : ReceiptLineValue
+  pub among : Contains lines line
+  pub place : line.place ≡ named.place
+  pub moment : line.moment ≡ named.moment
+  pub decides : line.standing ≡ Deciding
+  pub matches : line.message ≡ Some message
+
+-- Among lines for messages is that of the one which the line for a receipt names, and it names the receipt at its place.
+pub record HasLineNaming (lines : List MessageLineValue) (receipt : ReceiptLineValue) : Type 0 where
+  pub line : MessageLineValue
+  pub among : Contains lines line
+  pub matches : receipt.message ≡ Some line.fact.place
+  pub names : option_map (λ named. named.place) line.receipt ≡ Some receipt.place
+
 -- ---- lists
 
 -- the list of the delivery receipts that stand so, if there is one

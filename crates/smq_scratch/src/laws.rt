@@ -1,9 +1,12 @@
 //! Laws of lines: what they have in common with the tables of what is present. Each is the contract of a function with no body.
-ghost use Rattle.std.specs.Prelude.{◌≡◌, ◌↔◌, Contains, count_by, is_some, map};
+ghost use Rattle.std.specs.Prelude.{◌≡◌, ◌↔◌, Contains, Some, count_by, is_some, map};
 ghost use Rattle.std.specs.FinMap as fin;
 ghost use Rattle.std.specs.List.{flat_map};
 ghost use Rattle.smq_tally.specs.Rows.{count_key, stands_in};
 ghost use Rattle.smq_tally.specs.Tables.{count_at, listed_in};
+ghost use Rattle.smq_lines.specs.Lines.{MessageLineValue, ReceiptLineValue};
+ghost use Rattle.smq_lines.specs.declared.lines.DecidingReceipt.{DecidingReceipt as Named};
+ghost use Rattle.smq_lines.specs.declared.lines.ReceiptStanding.TheVariants.{Deciding};
 ghost use Rattle.smq_book.specs.join.Facts.{facts_of};
 ghost use Rattle.smq_book.specs.join.Keyed.{grouping_of};
 ghost use Rattle.smq_book.specs.join.Listings.{receipt_notes};
@@ -13,7 +16,7 @@ ghost use Rattle.smq_book.specs.present.Present.{PresentValue};
 ghost use Rattle.smq_book.specs.present.Settings.{SettingsValue};
 ghost use Rattle.smq_book.specs.whole.Scratch.{scratch};
 ghost use Rattle.smq_scratch.specs.Known.{KnownMessageLines, KnownReceiptLines};
-ghost use Rattle.smq_scratch.specs.Lines.{HasLineAt, listing_of, message_lines, receipt_lines};
+ghost use Rattle.smq_scratch.specs.Lines.{HasDecidingLine, HasLineAt, HasLineNaming, listing_of, message_lines, receipt_lines};
 
 use smq_book::{List, Outcome, Value, View};
 use smq_kit::Place;
@@ -45,6 +48,17 @@ pub fn open_and_lapsed_lines_are_listed()
 pub fn lines_name_what_decides()
     ensures { (p : PresentValue) → map (λ line. is_some line.receipt) (message_lines p)
         ≡ map (λ line. is_decided line.fact.outcome) (message_lines p) }
+{}
+
+/// The receipt that a line for a message names has a line, which says that it decides and names that message; and the message that the
+/// line for a deciding receipt names has a line, which names that receipt.
+pub fn lines_name_each_other()
+    ensures receipts { (p : PresentValue) (line : MessageLineValue) (named : Named)
+        → Contains (message_lines p) line → line.receipt ≡ Some named
+        → HasDecidingLine (receipt_lines p) line.fact.place named }
+    ensures messages { (p : PresentValue) (line : ReceiptLineValue)
+        → Contains (receipt_lines p) line → line.standing ≡ Deciding
+        → HasLineNaming (message_lines p) line }
 {}
 
 /// The lines for delivery receipts, each in the list of its standing, give the receipts that are listed, in order: the stray, the
