@@ -1,30 +1,21 @@
--- Rows that are read and played one by one, and what was written of them.
-use Rattle.std.proofs.Common.{◌≡◌, ◌+◌, ℕ, suc, List, [], ◌∷◌, ◌++◌, length, Option, Some, None, inr, refl, sym, ap, ◌∙◌, subst, arith, append-nil, append_assoc}
+-- Rows that are read and played one by one.
+use Rattle.std.proofs.Common.{◌≡◌, ◌+◌, ℕ, suc, List, [], ◌∷◌, ◌++◌, length, Option, Some, None, refl, sym, ap, ◌∙◌, arith, append-nil, append_assoc}
 use Rattle.std.proofs.lemmas.List.{length-append}
 use Rattle.std.proofs.lemmas.List.Sums.{fold-append}
 use Rattle.std.specs.Prelude.{IfSome}
-use Rattle.std.specs.Io.KnownBytes.{Appends}
 use Rattle.csv.specs.declared.reader.Reader.{Reader}
 use Rattle.smq_kit.specs.declared.refusal.Refusal.{Refusal}
 use Rattle.smq_book.specs.present.Present.{PresentValue, empty}
 use Rattle.smq_book.specs.present.Steps.{step, steps}
-use Rattle.smq_book.specs.whole.Scratch.{scratch}
-use Rattle.smq_load.specs.declared.load_fault.LoadFault.{LoadFault}
-use Rattle.smq_load.specs.declared.load_fault.LoadFault.TheVariants as load
 use Rattle.smq_load.specs.declared.row.Row.{Row}
 use Rattle.smq_load.specs.NextRecord.{HasGiven, HasRead, IsUnread}
 use Rattle.smq_load.specs.Row.{row_of}
 use Rattle.smq_load.specs.Script.{AreRecordsOf}
 use Rattle.smq_load.specs.Settings.{settings_of}
 use Rattle.smq_load.proofs.NextRecordLemmas.{AreRecords-around, HasRead-more, length-SayRows}
-use Rattle.smq_report.specs.Beginnings.{AppendsBeginning}
-use Rattle.smq_report.specs.Report.{report_text}
-use Rattle.smq_words.specs.declared.orders.Query.{Query}
-use Rattle.smq_engine.specs.IsRun.{run_fault}
 use Rattle.smq_engine.specs.Play.{after_row, after_rows, edits_from, refusal_of, refused_from, refused_rows, row_edits, told}
 use Rattle.smq_engine.proofs.PlayLemmas.{rows-played, rows-then}
 use Rattle.smq_follow.specs.Played.{AreRowsOf, SaysNoRow, TellsRows, WerePlayed}
-use Rattle.smq_follow.specs.Total.{HasBegunTotal, IsTotal, StopsTotal}
 use Rattle.smq_follow.specs.within.Plays.{ArePlayedFrom, HasPlayedRows}
 
 -- ---- one row more is read
@@ -143,38 +134,3 @@ pub all-played : (o : Option (List ℕ)) (settings : List ℕ) (settings_rows : 
 all-played None settings settings_rows first present refused are set h = tt
 all-played (Some text) settings settings_rows first present refused are set h =
     played-after settings settings_rows first present refused text are set (h text refl)
-
--- ---- the report
-
--- the report is written
-pub totalled : (query : Query) (settings : List ℕ) (present : PresentValue) (refused : List (ℕ × Refusal)) (o old new : Option (List ℕ))
-    → IfSome o (WerePlayed settings present refused) → Appends old new (report_text query.pick query.format (scratch present))
-    → IfSome o (IsTotal query settings refused old new)
-totalled query settings present refused None old new h written = tt
-totalled query settings present refused (Some text) old new h written = record {
-  settings_rows = h.settings_rows;
-  rows = h.rows;
-  are_settings = h.are_settings;
-  are_rows = h.are_rows;
-  refused_are = h.refused_are;
-  written = subst (λ (p : PresentValue). Appends old new (report_text query.pick query.format (scratch p))) h.present_is written;
-}
-
--- a beginning of the report is written
-pub total-begun : (query : Query) (settings : List ℕ) (present : PresentValue) (refused : List (ℕ × Refusal)) (o old new : Option (List ℕ))
-    → IfSome o (WerePlayed settings present refused) → AppendsBeginning old new (report_text query.pick query.format (scratch present))
-    → IfSome o (HasBegunTotal query settings old new)
-total-begun query settings present refused None old new h written = tt
-total-begun query settings present refused (Some text) old new h written = record {
-  settings_rows = h.settings_rows;
-  rows = h.rows;
-  are_settings = h.are_settings;
-  are_rows = h.are_rows;
-  written = subst (λ (p : PresentValue). AppendsBeginning old new (report_text query.pick query.format (scratch p))) h.present_is written;
-}
-
--- so it stopped
-pub total-stops : (query : Query) (settings : List ℕ) (o old new : Option (List ℕ)) → IfSome o (HasBegunTotal query settings old new)
-    → IfSome o (StopsTotal query settings old new)
-total-stops query settings None old new h = tt
-total-stops query settings (Some text) old new h = inr h

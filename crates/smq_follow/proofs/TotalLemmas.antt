@@ -6,10 +6,10 @@ use Rattle.smq_load.proofs.NextRecordLemmas.{length-SayRows}
 use Rattle.smq_words.specs.declared.orders.Query.{Query}
 use Rattle.smq_engine.specs.IsRun.{IsRun}
 use Rattle.smq_follow.specs.Played.{SaysNoRow}
-use Rattle.smq_follow.specs.Total.{IsTotal}
+use Rattle.smq_follow.specs.Written.{IsWritten, report_of}
 
 pub run-total : (query : Query) (settings : List ℕ) (refused : List (ℕ × Refusal)) (old new : Option (List ℕ)) (text : List ℕ)
-    → IsRun query settings refused old new text → IsTotal query settings refused old new text
+    → IsRun query settings refused old new text → IsWritten (report_of query) settings refused old new text
 run-total query settings refused old new text h =
     let script = h.is_script in
     record {
@@ -22,7 +22,7 @@ run-total query settings refused old new text h =
     }
 
 pub total-run : (query : Query) (settings : List ℕ) (refused : List (ℕ × Refusal)) (old new : Option (List ℕ)) (text : List ℕ)
-    → (all : IsTotal query settings refused old new text) → length all.rows ≤ most_records
+    → (all : IsWritten (report_of query) settings refused old new text) → length all.rows ≤ most_records
     → IsRun query settings refused old new text
 total-run query settings refused old new text all few =
     let rows = all.are_rows in

@@ -15,7 +15,7 @@ use Rattle.smq_follow.specs.declared.record.Record.TheVariants.{Ask}
 use Rattle.smq_follow.specs.Record.{ask_name, pick_of}
 use Rattle.smq_follow.specs.Answers.{answer_to, answers, present_after, refusal_to, refusals, refused_after, rows_of, said_of, told_line}
 use Rattle.smq_follow.specs.Played.{SaysNoRow}
-use Rattle.smq_follow.specs.Total.{IsTotal}
+use Rattle.smq_follow.specs.Written.{IsWritten, report_of}
 
 -- What is said of some records stands whatever records come after them, and is followed by what is said of those: so a beginning of the
 -- answers that ends with an answer is true of the records up to its question. The answer to a last question is the report text of what
@@ -39,9 +39,9 @@ EachIsAsked = (pick : Pick) → pick_of (ask_name pick) ≡ Some pick
 -- one is the first that says no row.
 pub record TotalsAreRuns : Type 0 where
   pub run : (query : Query) (settings : List ℕ) (refused : List (ℕ × Refusal)) (old new : Option (List ℕ)) (text : List ℕ)
-      → IsRun query settings refused old new text → IsTotal query settings refused old new text
+      → IsRun query settings refused old new text → IsWritten (report_of query) settings refused old new text
   pub total : (query : Query) (settings : List ℕ) (refused : List (ℕ × Refusal)) (old new : Option (List ℕ)) (text : List ℕ)
-      → (all : IsTotal query settings refused old new text) → length all.rows ≤ most_records
+      → (all : IsWritten (report_of query) settings refused old new text) → length all.rows ≤ most_records
       → IsRun query settings refused old new text
   pub no_row : (text : List ℕ) (number : ℕ) → IsFirstBad text number → number ≤ most_records → SaysNoRow text number
   pub first_bad : (text : List ℕ) (number : ℕ) → SaysNoRow text number → number ≤ most_records → IsFirstBad text number

@@ -2,7 +2,6 @@ pub mod Record
 pub mod Answers
 pub mod Followed
 pub mod Played
-pub mod Total
 pub mod Written
 pub mod Laws
 pub mod Known

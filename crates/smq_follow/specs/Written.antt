@@ -3,11 +3,14 @@ use Rattle.std.specs.Prelude.{◌≡◌, ◌⊎◌, ℕ, List, Option, Some}
 use Rattle.std.specs.Io.KnownBytes.{Appends, Keeps}
 use Rattle.smq_kit.specs.declared.refusal.Refusal.{Refusal}
 use Rattle.smq_book.specs.present.Present.{PresentValue}
+use Rattle.smq_book.specs.whole.Scratch.{scratch}
 use Rattle.smq_lines.specs.Texts.{messages_text, receipts_text}
 use Rattle.smq_load.specs.declared.row.Row.{Row}
 use Rattle.smq_load.specs.Settings.{settings_of}
 use Rattle.smq_report.specs.Beginnings.{AppendsBeginning}
+use Rattle.smq_report.specs.Report.{report_text}
 use Rattle.smq_scratch.specs.Lines.{message_lines, receipt_lines}
+use Rattle.smq_words.specs.declared.orders.Query.{Query}
 use Rattle.smq_engine.specs.Play.{present_of, refused_of}
 use Rattle.smq_follow.specs.Played.{AreRowsOf}
 
@@ -33,6 +36,10 @@ pub record HasBegunText (text_of : PresentValue → List ℕ) (settings : List �
 -- what was written where it fails: nothing, or a beginning of the text
 abbrev pub StopsText : (PresentValue → List ℕ) → List ℕ → Option (List ℕ) → Option (List ℕ) → List ℕ → Type 0
 StopsText text_of settings old new text = Keeps old new ⊎ HasBegunText text_of settings old new text
+
+-- what a query asks of the report of what is present: of the tables that the definitions give of it
+abbrev pub report_of : Query → PresentValue → List ℕ
+report_of query p = report_text query.pick query.format (scratch p)
 
 -- the lines for the messages that are present
 abbrev pub messages_of : PresentValue → List ℕ

@@ -3,7 +3,7 @@ ghost use Rattle.std.specs.Prelude.{◌≡◌, ◌≢◌, ◌⊎◌, IfErr, IfOk
 ghost use Rattle.std.specs.Io.KnownBytes.{Keeps};
 ghost use Rattle.smq_load.specs.Settings.{settings_of};
 ghost use Rattle.smq_follow.specs.Played.{TellsRows};
-ghost use Rattle.smq_follow.specs.Total.{HasBegunTotal, IsTotal, StopsTotal};
+ghost use Rattle.smq_follow.specs.Written.{HasBegunText, IsWritten, StopsText, report_of};
 
 use crate::streaming::play_stream;
 use smq_engine::{Ran, RunFault, write_tables};
@@ -24,7 +24,7 @@ pub fn total<RT: AllocGlobal, R: Read, W: Write>(
     writer: &mut W,
 ) -> Result<Ran, RunFault>
     ensures ok { IfOk result (λ ran. IfSome (R.remaining reader.old)
-        (IsTotal query settings.now ran.refused.items (W.contents writer.old) (W.contents writer.new))) }
+        (IsWritten (report_of query) settings.now ran.refused.items (W.contents writer.old) (W.contents writer.new))) }
     ensures bad_row { IfErr result (λ fault. IfSome (R.remaining reader.old) (TellsRows fault)) }
     ensures bad_settings { IfErr result (λ fault.
         fault ≡ RunFault.BadSettings → settings_of settings.now ≡ None) }
@@ -36,9 +36,9 @@ pub fn total<RT: AllocGlobal, R: Read, W: Write>(
         → Keeps (W.contents writer.old) (W.contents writer.new)) }
     ensures write { IfErr result (λ fault. fault ≡ RunFault.Write
         → IfSome (R.remaining reader.old)
-        (HasBegunTotal query settings.now (W.contents writer.old) (W.contents writer.new))) }
+        (HasBegunText (report_of query) settings.now (W.contents writer.old) (W.contents writer.new))) }
     ensures begun { IfErr result (λ fault. IfSome (R.remaining reader.old)
-        (StopsTotal query settings.now (W.contents writer.old) (W.contents writer.new))) }
+        (StopsText (report_of query) settings.now (W.contents writer.old) (W.contents writer.new))) }
 {
     let (book, refused) = play_stream(rt.alloc(), reader, settings)?;
     write_tables(rt.alloc(), book, query, writer)?;
