@@ -20,26 +20,28 @@ const ABOUT: &str =
 const USAGE: &str =
     "smq report [OPTIONS] < SCRIPT\n       smq query [OPTIONS] <NAME> < SCRIPT\n       smq check [OPTIONS] < SCRIPT\n       smq follow [OPTIONS] < ROWS\n       smq total [OPTIONS] [NAME] < SCRIPT\n       smq messages [OPTIONS] < SCRIPT\n       smq receipts [OPTIONS] < SCRIPT";
 
-/// What `check`, `messages` and `receipts` do.
+/// What `check` does.
 const CHECK: &str =
     "Plays a script by many threads on one desk, and says whether its tables equal a count from nothing";
 
+/// What `messages` does.
 const MESSAGES: &str =
     "Writes a line of CSV for each message of a script of any length: its route, outcome, id and receipt";
 
+/// What `receipts` does.
 const RECEIPTS: &str =
     "Writes a line of CSV for each delivery receipt of a script of any length, with the message it matches";
 
 /// The version that `--version` prints.
-const VERSION: &str = "0.15.0";
+const VERSION: &str = "0.16.0";
 
 /// The first part of what stands below each help, before the names of views and lists.
 const SCRIPT: &str = "\
 SCRIPT is CSV records, one a line, as `piece,LINK,SESSION,DIR,MOMENT,HEX`, where DIR is client or centre and
 MOMENT is in ms since 1970 or YYYY-MM-DDTHH:MM:SSZ. It has at most 1,000,000 records and 268,435,456 octets
-(total, messages, receipts: any number). ROWS are the same, with `ask,NAME` or `ask,report` among them, and without a limit. A
-message takes some 2 KB of memory (follow: 5). docs/FORMATS.md tells all records, the settings and the report;
-tools/check-script says what is wrong with a script.
+(total, messages, receipts: any number). ROWS are the same, with `ask,NAME` or `ask,report` among them, and
+without a limit. A message takes some 2 KB of memory (follow: 5). docs/FORMATS.md tells all records, the
+settings, the report and the lines; tools/check-script says what is wrong with a script.
 ";
 
 /// The last part.
