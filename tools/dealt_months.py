@@ -61,7 +61,7 @@ def lacks(*programs):
 
 def run(words, room, **more):
     """Returns the status of a command and all that it says."""
-    env = {**os.environ, "PATH": f"{os.environ['PATH']}:/usr/sbin", **more}
+    env = {**os.environ, "LC_ALL": "C.UTF-8", "PATH": f"{os.environ['PATH']}:/usr/sbin", **more}
     ended = subprocess.run(words, cwd=room, env=env, stdin=subprocess.DEVNULL, stdout=subprocess.PIPE, stderr=subprocess.STDOUT, text=True,
                            check=False)
     return ended.returncode, ended.stdout
