@@ -2,3 +2,4 @@
 pub mod Traffic
 pub mod Places
 pub mod Pushes
+pub mod Dealt

@@ -29,9 +29,9 @@ pub use laws::join::{
     windows_lapse_and_open_messages_alone,
 };
 pub use laws::pairing::{
-    each_message_has_its_place, notes_of_a_known_session, pushes_change_few_messages,
-    responses_are_those_of_pairs, responses_come_in_turn, responses_stand_in_pairs,
-    unread_places_are_noted,
+    each_message_has_its_place, notes_of_a_known_session, pairs_stay_in_parts,
+    pushes_change_few_messages, responses_are_those_of_pairs, responses_come_in_turn,
+    responses_stand_in_pairs, unread_places_are_noted,
 };
 pub use laws::present::{
     absent_sessions_have_no_octets, appends_of_sessions_commute, batches_that_fit_are_not_refused,

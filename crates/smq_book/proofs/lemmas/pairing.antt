@@ -11,3 +11,4 @@ pub mod PairLemmas
 pub mod PushLemmas
 pub mod KnownNotes
 pub mod PairsStay
+pub mod PairsTaken

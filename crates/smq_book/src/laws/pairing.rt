@@ -1,5 +1,5 @@
 //! Laws of messages and delivery receipts by place: what each PDU says, and what one more changes.
-ghost use Rattle.std.specs.Prelude.{◌≡◌, ◌↔◌, ◌⊎◌, ◌++◌, ◌∷◌, [], ℕ, true, IsTrue, List, Some, length, slice_get, option_map, option_to_list};
+ghost use Rattle.std.specs.Prelude.{◌≡◌, ◌↔◌, ◌⊎◌, ◌++◌, ◌∷◌, [], ℕ, Bool, true, IsTrue, List, Some, filter, length, slice_get, option_map, option_to_list};
 ghost use Rattle.std.specs.List.{flat_map};
 ghost use Rattle.std.specs.FinMap as map;
 ghost use Rattle.std.specs.Ordering.{nat_cmp};
@@ -17,9 +17,11 @@ ghost use Rattle.smq_tally.specs.Lists.{listed};
 ghost use Rattle.smq_book.specs.declared.present.session.Session.{Session as SessionValue};
 ghost use Rattle.smq_book.specs.known.Pairing.{InTurn, KnownNotes};
 ghost use Rattle.smq_book.specs.present.Kept.{header_of, headers_of, kept_pdus, submit_in};
+ghost use Rattle.smq_book.specs.pairing.Dealt.{KeepsPairsTogether, pdus_taken};
 ghost use Rattle.smq_book.specs.pairing.Places.{octets_at, StandsAt, Says};
 ghost use Rattle.smq_book.specs.pairing.Pushes.{requests_of};
-ghost use Rattle.smq_book.specs.pairing.Traffic.{Origin, place_of, placed, pairing_among, response_to, message_at, messages_among, session_messages, session_receipts, traffic_of};
+ghost use Rattle.smq_book.specs.pairing.Traffic.{Origin, place_of, placed, pairing_among, response_to, message_at, messages_among, receipts_among, session_messages, session_receipts, traffic_of};
+ghost use Rattle.smq_book.specs.within.Pairs.{SubmitsAreRequests};
 
 use crate::{Content, KeptPdu};
 use smq_kit::Place;
@@ -79,6 +81,21 @@ pub fn pushes_change_few_messages()
         → SameOutside {R = place_cmp} (requests_of origin client centre next)
         (map.from_entries (messages_among origin client centre))
         (map.from_entries (messages_among origin client (centre ++ next ∷ []))) }
+{}
+
+/// Where whole pairs are taken out of a session, what is taken says what it said: the messages of the PDUs that a test of
+/// places takes, with their responses, are those of the whole at these places, and so are the delivery receipts. That each
+/// submit_sm and data_sm is a request holds of any stream.
+pub fn pairs_stay_in_parts()
+    ensures messages { (here : Place → Bool) (origin : Origin) (client centre : List KeptPdu)
+        → SubmitsAreRequests client → KeepsPairsTogether here origin client centre
+        → messages_among origin (pdus_taken here origin FromClient client)
+        (pdus_taken here origin FromCentre centre)
+        ≡ filter (λ e. here e.0) (messages_among origin client centre) }
+    ensures receipts { (here : Place → Bool) (origin : Origin) (centre : List KeptPdu)
+        → receipts_among origin (pdus_taken here origin FromCentre centre)
+        ≡ filter (λ e. here e.0) (receipts_among origin centre) }
+    ensures requests { (stream : List Octet) → SubmitsAreRequests (kept_pdus stream) }
 {}
 
 /// Exactly these places are noted: as unreadable those of the centre's delivery receipts without a usable id or a usable

@@ -53,7 +53,7 @@ get-push (x ∷ xs) y zero h = refl
 get-push (x ∷ xs) y (suc r) h = get-push xs y r (λ e. h (ap suc e))
 
 module _ (p : Header → Bool) where
-  count-headers : (xs : List KeptPdu) → count_by p (headers_of xs) ≡ length (filter (λ x. p (header_of x)) xs)
+  pub count-headers : (xs : List KeptPdu) → count_by p (headers_of xs) ≡ length (filter (λ x. p (header_of x)) xs)
   count-headers [] = refl
   count-headers (x ∷ xs) =
       sum_by-cons (λ h. cond (p h) 1 0) (header_of x) (headers_of xs)

@@ -1,0 +1,12 @@
+use Rattle.smq_book.proofs.lemmas.pairing.PairsTaken.{messages-taken, receipts-taken}
+use Rattle.smq_book.proofs.lemmas.pairing.Requests.{kept-ask}
+use Rattle.smq_book.proofs.laws.pairing.pairs_stay_in_parts.Goals as goal
+
+pub returns-clause-messages : goal.returns-clause-messages
+returns-clause-messages c = messages-taken
+
+pub returns-clause-receipts : goal.returns-clause-receipts
+returns-clause-receipts c = receipts-taken
+
+pub returns-clause-requests : goal.returns-clause-requests
+returns-clause-requests c = kept-ask
