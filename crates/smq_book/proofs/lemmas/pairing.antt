@@ -12,3 +12,4 @@ pub mod PushLemmas
 pub mod KnownNotes
 pub mod PairsStay
 pub mod PairsTaken
+pub mod NotesTaken

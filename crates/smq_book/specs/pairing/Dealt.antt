@@ -1,12 +1,14 @@
 -- The PDUs of a session that are dealt to parts by their places, and what keeps pairs together.
 use Rattle.std.specs.Prelude.{◌≡◌, ℕ, Bool, List, filter, slice_get, Some}
+use Rattle.std.specs.FinMap.{from_entries}
 use Rattle.smq_kit.specs.declared.place.Dir.{Dir}
 use Rattle.smq_kit.specs.declared.place.Dir.TheVariants.{FromClient, FromCentre}
 use Rattle.smq_kit.specs.declared.place.Place.{Place}
 use Rattle.smq_pdu.specs.Pairing.{is_request_of}
+use Rattle.smq_tally.specs.Lists.{listed_set}
 use Rattle.smq_book.specs.declared.present.kept.KeptPdu.{KeptPdu}
 use Rattle.smq_book.specs.present.Kept.{header_of}
-use Rattle.smq_book.specs.pairing.Traffic.{Origin, place_of, responses_of}
+use Rattle.smq_book.specs.pairing.Traffic.{Origin, TrafficValue, messages_among, notes_among, place_of, receipts_among, responses_of}
 
 -- whether a test takes the place of a PDU
 abbrev pub takes : (Place → Bool) → Origin → Dir → KeptPdu → Bool
@@ -32,3 +34,11 @@ KeepsResponses here origin dir other asking answering =
 pub record KeepsPairsTogether (here : Place → Bool) (origin : Origin) (client centre : List KeptPdu) : Type 0 where
   pub client_asks : KeepsResponses here origin FromClient FromCentre client centre
   pub centre_asks : KeepsResponses here origin FromCentre FromClient centre client
+
+-- what the PDUs of a session say: its messages, its delivery receipts and the places that need a look
+abbrev pub traffic_among : Origin → List KeptPdu → List KeptPdu → TrafficValue
+traffic_among origin client centre = record {
+  messages = from_entries (messages_among origin client centre);
+  receipts = from_entries (receipts_among origin centre);
+  notes = listed_set (notes_among origin client centre);
+}

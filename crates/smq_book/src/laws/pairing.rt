@@ -17,10 +17,11 @@ ghost use Rattle.smq_tally.specs.Lists.{listed};
 ghost use Rattle.smq_book.specs.declared.present.session.Session.{Session as SessionValue};
 ghost use Rattle.smq_book.specs.known.Pairing.{InTurn, KnownNotes};
 ghost use Rattle.smq_book.specs.present.Kept.{header_of, headers_of, kept_pdus, submit_in};
-ghost use Rattle.smq_book.specs.pairing.Dealt.{KeepsPairsTogether, pdus_taken};
+ghost use Rattle.smq_book.specs.pairing.Dealt.{KeepsPairsTogether, pdus_taken, traffic_among};
 ghost use Rattle.smq_book.specs.pairing.Places.{octets_at, StandsAt, Says};
 ghost use Rattle.smq_book.specs.pairing.Pushes.{requests_of};
-ghost use Rattle.smq_book.specs.pairing.Traffic.{Origin, place_of, placed, pairing_among, response_to, message_at, messages_among, receipts_among, session_messages, session_receipts, traffic_of};
+ghost use Rattle.smq_book.specs.pairing.Traffic.{Origin, place_of, placed, pairing_among, response_to, message_at, messages_among, notes_among, receipts_among, session_messages, session_receipts, traffic_of};
+ghost use Rattle.smq_book.specs.whole.Dealt.{dealt};
 ghost use Rattle.smq_book.specs.within.Pairs.{SubmitsAreRequests};
 
 use crate::{Content, KeptPdu};
@@ -84,8 +85,9 @@ pub fn pushes_change_few_messages()
 {}
 
 /// Where whole pairs are taken out of a session, what is taken says what it said: the messages of the PDUs that a test of
-/// places takes, with their responses, are those of the whole at these places, and so are the delivery receipts. That each
-/// submit_sm and data_sm is a request holds of any stream.
+/// places takes, with their responses, are those of the whole at these places, and so are the delivery receipts and the
+/// notes. So their traffic is that of the whole as it is dealt. That each submit_sm and data_sm is a request holds of any
+/// stream.
 pub fn pairs_stay_in_parts()
     ensures messages { (here : Place → Bool) (origin : Origin) (client centre : List KeptPdu)
         → SubmitsAreRequests client → KeepsPairsTogether here origin client centre
@@ -95,6 +97,16 @@ pub fn pairs_stay_in_parts()
     ensures receipts { (here : Place → Bool) (origin : Origin) (centre : List KeptPdu)
         → receipts_among origin (pdus_taken here origin FromCentre centre)
         ≡ filter (λ e. here e.0) (receipts_among origin centre) }
+    ensures notes { (here : Place → Bool) (origin : Origin) (client centre : List KeptPdu)
+        → KeepsPairsTogether here origin client centre
+        → notes_among origin (pdus_taken here origin FromClient client)
+        (pdus_taken here origin FromCentre centre)
+        ≡ filter (λ note. here note.place) (notes_among origin client centre) }
+    ensures traffic { (here : Place → Bool) (origin : Origin) (client centre : List KeptPdu)
+        → SubmitsAreRequests client → KeepsPairsTogether here origin client centre
+        → traffic_among origin (pdus_taken here origin FromClient client)
+        (pdus_taken here origin FromCentre centre)
+        ≡ dealt here (traffic_among origin client centre) }
     ensures requests { (stream : List Octet) → SubmitsAreRequests (kept_pdus stream) }
 {}
 

@@ -7,7 +7,8 @@ use Rattle.std.specs.List.{AllByRecursion, flat_map, reduce}
 use Rattle.std.specs.declared.cmp.Ordering.{Ordering}
 use Rattle.std.specs.Ordering.{eq_by_cmp}
 use Rattle.std.specs.Cmp.{IsTotalOrder}
-use Rattle.std.specs.FinMap.{FinMap, IsAntisymmetric, entries, get, retain_keys, get-retain_keys, same_map}
+use Rattle.std.specs.FinMap.{FinMap, IsAntisymmetric, entries, from_entries, get, get-from_entries, retain_keys, get-retain_keys, same_map}
+use Rattle.std.specs.FinMap.Entries.{find-where_key}
 use Rattle.std.proofs.lemmas.Bool.{true≢false}
 use Rattle.std.proofs.lemmas.List.Filters.{length-filter_both}
 use Rattle.std.proofs.lemmas.List.Sums.{sum_by-cons}
@@ -117,6 +118,15 @@ chosen-kept {X} here f m = same_map places_total places_exact _ _ (λ q.
     by : (q : Place) (b : Bool) (v : Option X) → option_and_then (f q) (cond b v None) ≡ cond b (option_and_then (f q) v) None
     by q true v = refl
     by q false v = refl
+
+-- what is taken of the map of some entries is the map of those that are taken
+pub retained : {X : Type 0} (here : Place → Bool) (es : List (Place × X))
+    → retain_keys (from_entries {R = place_cmp} es) here ≡ from_entries (filter (λ e. here e.0) es)
+retained here es = same_map places_total places_exact _ _ (λ q.
+    get-kept places_total places_exact here (from_entries es) q
+    ∙ ap (λ v. cond (here q) v None) (get-from_entries places_total es q)
+    ∙ sym (find-where_key place_cmp here q (λ x e. ap here (sym (places_exact q x e))) es)
+    ∙ sym (get-from_entries places_total (filter (λ e. here e.0) es) q))
 
 -- ---- numbers
 

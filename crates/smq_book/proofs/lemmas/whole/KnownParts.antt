@@ -1,12 +1,10 @@
 -- The facts of known traffic that is dealt are those of lists of PDUs, which the prover computes.
-use Rattle.std.proofs.Common.{◌≡◌, Bool, cond, List, None, sym, ap, ◌∙◌}
+use Rattle.std.proofs.Common.{◌≡◌, Bool, List, ap, ◌∙◌}
 use Rattle.std.specs.Prelude.{T, filter, count_by}
-use Rattle.std.specs.FinMap.{from_entries, get-from_entries, is_sorted, retain_keys, same_map, values}
-use Rattle.std.specs.FinMap.Entries.{find-where_key}
+use Rattle.std.specs.FinMap.{from_entries, is_sorted, values}
 use Rattle.smq_kit.specs.declared.form.Form.TheVariants.{Verbatim}
 use Rattle.smq_kit.specs.declared.place.Place.{Place}
 use Rattle.smq_kit.specs.Orders.{place_cmp}
-use Rattle.smq_kit.proofs.PlaceOrders.{places_total, places_exact}
 use Rattle.smq_tally.specs.declared.fact.CountKey.{CountKey}
 use Rattle.smq_tally.specs.declared.fact.Fact.{Fact}
 use Rattle.smq_tally.specs.Rows.{stands_in}
@@ -20,16 +18,7 @@ use Rattle.smq_book.specs.join.Facts.{facts_of}
 use Rattle.smq_book.specs.join.Listings.{notes_of}
 use Rattle.smq_book.specs.whole.Dealt.{dealt, tables_from}
 use Rattle.smq_book.proofs.lemmas.join.KnownFacts.{facts_known, listed}
-use Rattle.smq_book.proofs.lemmas.whole.DealtByKey.{get-kept}
-
--- what is taken of the map of some entries is the map of those that are taken
-retained : {X : Type 0} (here : Place → Bool) (es : List (Place × X))
-    → retain_keys (from_entries {R = place_cmp} es) here ≡ from_entries (filter (λ e. here e.0) es)
-retained here es = same_map places_total places_exact _ _ (λ q.
-    get-kept places_total places_exact here (from_entries es) q
-    ∙ ap (λ v. cond (here q) v None) (get-from_entries places_total es q)
-    ∙ sym (find-where_key place_cmp here q (λ x e. ap here (sym (places_exact q x e))) es)
-    ∙ sym (get-from_entries places_total (filter (λ e. here e.0) es) q))
+use Rattle.smq_book.proofs.lemmas.whole.DealtByKey.{retained}
 
 -- where the places rise, as they do in any stream
 pub facts-of-part : (here : Place → Bool) (client centre part_client part_centre : List KeptPdu)

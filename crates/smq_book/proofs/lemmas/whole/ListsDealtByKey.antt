@@ -33,7 +33,7 @@ use Rattle.smq_book.proofs.lemmas.whole.DealtByKey.{entries-kept, facts-kept, fi
 use Rattle.smq_book.proofs.lemmas.whole.SplitByLink.{all-weaker}
 use Rattle.smq_book.proofs.lemmas.whole.Tallied.{notes-with}
 
-filter-map : {A B : Type 0} (test : B → Bool) (f : A → B) (xs : List A) → filter test (map f xs) ≡ map f (filter (λ x. test (f x)) xs)
+pub filter-map : {A B : Type 0} (test : B → Bool) (f : A → B) (xs : List A) → filter test (map f xs) ≡ map f (filter (λ x. test (f x)) xs)
 filter-map test f [] = refl
 filter-map {A} test f (x ∷ xs) = by (test (f x)) (filter-map test f xs)
   where
@@ -75,7 +75,7 @@ module _ (here : Place → Bool) where
             ih ∙ ap (λ (xs : List Listed). xs ++ filter note_here (flat_map all es)) (sym (one-place e.0 false h (all e) a.0))
 
   -- the set of what is taken is what is taken of the set
-  set-kept : (xs : List Listed) → listed_set (filter note_here xs) ≡ retain_keys (listed_set xs) note_here
+  pub set-kept : (xs : List Listed) → listed_set (filter note_here xs) ≡ retain_keys (listed_set xs) note_here
   set-kept xs = same_map listed_total listed_exact _ _ (λ q.
       get-listed (filter note_here xs) q
       ∙ ap marked (any-filter_same (same_listed q) note_here (note_here q)
