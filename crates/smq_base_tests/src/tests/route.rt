@@ -1,8 +1,10 @@
 //! Plans as real ones are, whose routes are known by hand, and refused memory.
 mod many;
+mod nested;
 mod numbers;
 mod plans;
 
+use crate::tests::route::nested::NESTED;
 use crate::tests::route::plans::PLANS;
 use smq_kit::{Digits, Moment, Network, Refusal, RouteId};
 use smq_route::{Routes, Version, VersionKey};
@@ -228,4 +230,5 @@ fn plans_are_edited_and_route_as_known(rt: HostRuntime) {
     for plan in &PLANS {
         play_all(&rt, rt.alloc(), plan);
     }
+    play_all(&rt, rt.alloc(), &NESTED);
 }
