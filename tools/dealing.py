@@ -200,10 +200,10 @@ def lines_of(text):
     return list(filter(None, text.split(b"\n")))
 
 
-def records_of(text):
-    """Yields the lines that smq writes for messages or receipts, without that of the columns."""
+def records_of(text, most):
+    """Yields the lines that smq writes for messages or receipts, without that of the columns: of each so many fields at least."""
     if b'"' not in text:
-        yield from (it.split(b",") for it in text.split(b"\n")[1:-1])
+        yield from (it.split(b",", most) for it in text.split(b"\n")[1:-1])
         return
     record, is_first = [], True
     for quoted, plain, end in FIELD.findall(text):
@@ -246,7 +246,7 @@ class Groups:
     def read_lines(self, text, side, id_at, outcome_at, waited, now):
         """Reads lines of messages or of receipts, whose ids and outcomes stand in these columns."""
         session = None
-        for fields in records_of(text):
+        for fields in records_of(text, max(id_at, outcome_at) + 1):
             if fields[1] != session:
                 session, link = fields[1], int(fields[0])
                 places, firsts = self.script.sessions[int(session)][side].places(), self.firsts[link]
