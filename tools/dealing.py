@@ -4,26 +4,15 @@ Rows stay text: one row mostly is one PDU, and its header stands at fixed digits
 sequence_number and rank: requests of a number are answered in their order, and what is paired is taken out.
 """
 import collections
-import importlib.machinery
-import importlib.util
 import itertools
-import os
 import re
 
 import streams
+from loader import load
+from report_names import WINDOW
 from streams import LONGEST_PDU, SHORTEST_PDU
 
-
-def load(name):
-    """Returns a tool beside this file as a module."""
-    loader = importlib.machinery.SourceFileLoader(name.replace("-", "_"), f"{os.path.dirname(os.path.abspath(__file__))}/{name}")
-    module = importlib.util.module_from_spec(importlib.util.spec_from_loader(loader.name, loader))
-    loader.exec_module(module)
-    return module
-
-
 CHECK = load("check-script")
-WINDOW = 172_800_000
 # What a PDU is by its command_id
 REQUEST, WITHOUT_RESPONSE, RESPONSE = range(3)
 HEXADECIMAL = b"0123456789abcdefABCDEF"

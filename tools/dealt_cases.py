@@ -6,8 +6,8 @@ sys.dont_write_bytecode = True
 import collections
 
 from dealt_periods import DELIVER_SM, LINK_TEST, RESPONSE, TESTED, pdu, piece, receipt, response, submit
+from report_names import WINDOW
 
-WINDOW = 172_800_000
 # Of a random feed: how long a window is, in ms, how long a receipt and a response take at most, and how long all of it is
 SHORT_WINDOW, LATEST, PROMPT, ALL = 60_000, 50_000, 5_000, 600_000
 ONE, TWO, ANSWER = submit(1), submit(2), response(1)

@@ -14,8 +14,10 @@ import struct
 import subprocess
 
 from made_captures import ACK, CENTRE_FIRST, SYN, centre, client, pcap
-from random_scripts import CHECK, load, plain, rows_of
-from tables import DIRECTIONS, LISTS, RESPONSE, WITHOUT_RESPONSE, Present, Tables, pdus_of
+from loader import load
+from random_scripts import CHECK, plain, rows_of
+from report_names import DIRECTIONS, LISTS
+from tables import RESPONSE, WITHOUT_RESPONSE, Present, Tables, pdus_of
 
 TOOLS = os.path.dirname(os.path.abspath(__file__))
 BY_HOUR = load("by-hour")

@@ -5,39 +5,27 @@ sys.dont_write_bytecode = True
 
 import datetime
 import glob
-import importlib.machinery
-import importlib.util
 import itertools
 import os
 
 from changed_pdus import DATA_SM, DELIVER_SM, changed, conversation, fields_at, framed
+from loader import load
+from report_names import BANDS, DIRECTIONS, FORMS, WINDOW
 from smpp_names import COMMANDS
 
 TOOLS = os.path.dirname(os.path.abspath(__file__))
+CHECK = load("check-script")
 LAST_MOMENT = 4_102_444_800_000
 EPOCH = datetime.datetime(1970, 1, 1)
-DIRECTIONS = ("client", "centre")
 SESSIONS = (0, 1, 2, 3, 8, 10, 16, 2**32, 2**53 + 1, 2**64 - 1)
 LINKS = (0, 1, 2, 2**32 - 1)
-FORMS = ("verbatim", "decimal", "hexadecimal")
 PREFIXES = ("4", "44", "447", "4477", "447700900123", "1", "0", "49", "999999999999999")
 # What lies between the moments of a direction, and where it begins; bands of delays and the window end at these
-ENDS = (4_999, 5_000, 29_999, 30_000, 299_999, 300_000, 3_599_999, 3_600_000, 172_799_999, 172_800_000)
+ENDS = tuple(it - before for it in (*(end for end, _ in BANDS if end), WINDOW) for before in (1, 0))
 # Windows as short as bands and as steps, and at both ends of their range
-WINDOWS = (1, 100, *ENDS, 172_800_001, LAST_MOMENT)
+WINDOWS = (1, 100, *ENDS, WINDOW + 1, LAST_MOMENT)
 STEPS = ((0, 0, 1), (0, 1, 100), (0, 0, 5_000), (0, *ENDS))
 BEGINNINGS = (0, 1_000, 1_000, 1_000, 1_795_329_376_000, LAST_MOMENT - 300_000, LAST_MOMENT)
-
-
-def load(name):
-    """Returns a tool as a module."""
-    loader = importlib.machinery.SourceFileLoader(name.replace("-", "_"), f"{TOOLS}/{name}")
-    module = importlib.util.module_from_spec(importlib.util.spec_from_loader(loader.name, loader))
-    loader.exec_module(module)
-    return module
-
-
-CHECK = load("check-script")
 
 
 def field(value):

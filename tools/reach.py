@@ -1,8 +1,9 @@
 """How much each row of a script reaches, by what docs/DEFINITIONS.md says of groups, weights and reach."""
 import collections
 
-from tables import (DATA_SM, DELIVER_SM, DIRECTIONS, RESPONSE, SUBMIT_SM, WINDOW, WITHOUT_RESPONSE, Pdu, Present, Receipt, fields_of,
-                    key_of, number_of, receipt_of, usable_id, word)
+from report_names import DIRECTIONS, WINDOW
+from tables import (DATA_SM, DELIVER_SM, RESPONSE, SUBMIT_SM, WITHOUT_RESPONSE, Pdu, Present, Receipt, fields_of, key_of, number_of,
+                    receipt_of, usable_id, word)
 
 # number: of the destination, or None
 Message = collections.namedtuple("Message", "pdu number asks_receipt")

@@ -15,7 +15,7 @@ import threading
 import time
 import urllib.parse
 
-from report_names import LISTS, VIEWS
+from report_names import LISTS, SECTIONS
 
 try:
     from prometheus_client.parser import text_string_to_metric_families
@@ -209,7 +209,7 @@ def see_pages(count):
             text = shown.get("/metrics?x=1")[2]
             count.see("metrics by prometheus_client", parsed(text), parsed_by_client(text))
         count.see("the report", (200, "text/csv; charset=utf-8", REPORT), shown.get("/report.csv"))
-        parts = {name: "".join(f"{it}\n" for it in REPORT.splitlines() if it.split(",")[1] == name) for name in (*VIEWS, *LISTS)}
+        parts = {name: "".join(f"{it}\n" for it in REPORT.splitlines() if it.split(",")[1] == name) for name in SECTIONS}
         count.see("its views and lists", parts, {name: shown.get(f"/{name}.csv")[2] for name in parts})
         status, kind, page = shown.get("/")
         count.see("the page", (200, "text/html; charset=utf-8"), (status, kind))

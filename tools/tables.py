@@ -6,22 +6,17 @@ import datetime
 import itertools
 import re
 
-DIRECTIONS = ("client", "centre")
+from report_names import BANDS, DIRECTIONS, LISTED_STANDINGS, LISTS, OUTCOMES, VIEWS, WINDOW
+
 SUBMIT_SM, DELIVER_SM, DATA_SM, GENERIC_NACK, RESPONSE = 0x04, 0x05, 0x103, 0x80000000, 0x80000000
 WITHOUT_RESPONSE = (0x0B, 0x102)
 RECEIPTED_MESSAGE_ID, NETWORK_ERROR_CODE, MESSAGE_PAYLOAD, MESSAGE_STATE = 0x001E, 0x0423, 0x0424, 0x0427
 STATES = (b"ENROUTE", b"DELIVRD", b"EXPIRED", b"DELETED", b"UNDELIV", b"ACCEPTD", b"UNKNOWN", b"REJECTD")
 ENROUTE, DELIVERED, ACCEPTED = 1, 2, 6
 STATE_NAMES = "enroute delivered expired deleted undeliverable accepted unknown rejected".split()
-OUTCOMES = "waiting mismatched refused noid ambiguous delivered failed unasked lapsed open".split()
-VIEWS = "link route network error link-delay centre-delay".split()
-LISTS = ("waiting stray-answers mismatched stray-receipts ambiguous-receipts extra-receipts unreadable undecodable broken open "
-         "lapsed").split()
-BANDS = ((0, "early"), (5_000, "under-5s"), (30_000, "under-30s"), (300_000, "under-5m"), (3_600_000, "under-1h"), (None, "over"))
 MESSAGE_FIELDS = ("link session offset moment number route network outcome error id response_offset receipt_session receipt_offset "
                   "receipt_moment centre_delay").split()
 RECEIPT_FIELDS = "link session offset moment id state interim error standing message_session message_offset".split()
-WINDOW = 172_800_000
 EPOCH = datetime.datetime(1970, 1, 1)
 
 # at: session, direction (0 for the client) and offset; response: the PDU that it is paired with, or None
@@ -242,8 +237,8 @@ class Tables:
         places = {key: at for at, key in keys.items() if matches[key] == 1}
         for receipt in self.receipts:
             standing = self.standing(receipt, matches[receipt.key], deciding.get(receipt.key))
-            if standing in ("stray", "ambiguous", "extra"):
-                self.lists[f"{standing}-receipts"].add(receipt.at)
+            if standing in LISTED_STANDINGS:
+                self.lists[LISTED_STANDINGS[standing]].add(receipt.at)
             session, _, offset = places.get(receipt.key, (None, None, None))
             self.receipt_lines[receipt.at] = (
                 receipt.key[0], receipt.at[0], receipt.at[2], receipt.moment, receipt.identity, STATE_NAMES[receipt.state - 1],
@@ -311,7 +306,6 @@ class Tables:
         lines += [f"list,{name},{session},{DIRECTIONS[direction]},{offset}\n" for name in LISTS
                   for session, direction, offset in sorted(self.lists[name])]
         return "".join(lines).encode()
-
 
     def messages_csv(self):
         """Returns the lines for messages, by place, as CSV."""

@@ -1,7 +1,7 @@
 """Scripts that mean to take an edit past the bound of its touches: each is rows of a size, and rows that are drawn from a few words."""
 from changed_pdus import DATA_SM, DELIVER_SM, RESPONSE, SUBMIT_SM, framed
 from random_scripts import LAST_MOMENT
-from tables import WINDOW
+from report_names import FORMS, WINDOW
 
 ENQUIRE_LINK, NUMBER = 0x15, b"447700900123"
 
@@ -190,7 +190,7 @@ OF_ONE_KEY = members_that_come, members_that_go, rival_that_comes_and_goes, earl
 
 def drawn(draw, size):
     """Rows of few sessions, ids, sequence numbers and prefixes, which so meet each other often."""
-    moment, forms = 1_000, ("verbatim", "decimal", "hexadecimal")
+    moment = 1_000
     for _ in range(size):
         moment += draw.choice((0, 0, 1, 1_000))
         session, number, identity = draw.randrange(4), draw.randrange(1, 4), draw.choice((b"1", b"01", b"2", b"a", b"10"))
@@ -204,6 +204,6 @@ def drawn(draw, size):
         yield draw.choice((
             client(link, session, moment, *pdus), client(link, session, moment, *pdus), centre(link, session, moment, *answers),
             centre(link, session, moment, *answers), centre(link, session, moment, *answers), draw.choice((
-                ("withdraw", session), ("form", link, draw.choice(forms), draw.choice(forms)), ("window", link, draw.choice((1, 1_000, WINDOW))),
+                ("withdraw", session), ("form", link, draw.choice(FORMS), draw.choice(FORMS)), ("window", link, draw.choice((1, 1_000, WINDOW))),
                 ("route", prefix, begin, 7, "23410"), ("end", prefix, begin, draw.choice((1_500, moment))),
                 ("correct", prefix, begin, draw.randrange(3), "310026"), ("clock", moment + draw.choice((0, 999, 1_000, WINDOW)))))))
