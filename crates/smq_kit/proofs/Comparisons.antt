@@ -1,9 +1,10 @@
 -- What follows of comparisons that come out equal or less, and of tests that are joined.
-use Rattle.std.proofs.Common.{◌≡◌, Bool, true, false, ◌||◌, refl}
+use Rattle.std.proofs.Common.{◌≡◌, ℕ, Bool, true, false, ◌||◌, refl, arith}
 use Rattle.std.specs.Prelude.{T, ◌&&◌}
 use Rattle.std.specs.declared.cmp.Ordering.{Ordering}
 use Rattle.std.specs.declared.cmp.Ordering.TheVariants.{Less, Equal, Greater}
-use Rattle.std.specs.Ordering.{is_lt, is_eq, ordering_then}
+use Rattle.std.specs.Ordering.{is_le, is_lt, is_eq, nat_cmp, ordering_then}
+use Rattle.std.proofs.lemmas.Bool.Decides.{nat_tests}
 
 -- what passes the test of equality is equal
 pub is_equal : (r : Ordering) → is_eq r ≡ true → r ≡ Equal
@@ -33,6 +34,21 @@ pub then_equal : (r : Ordering) → ordering_then r Equal ≡ r
 then_equal Less = refl
 then_equal Equal = refl
 then_equal Greater = refl
+
+-- two comparisons in turn of what is below or the same
+pub then_le : (p q : Ordering) → is_le p ≡ true → is_le q ≡ true → is_le (ordering_then p q) ≡ true
+then_le Less q h k = refl
+then_le Equal q h k = k
+then_le Greater q h k = h
+
+-- where the second is of such, the first alone tells
+pub then_least : (p q : Ordering) → is_le q ≡ true → is_le (ordering_then p q) ≡ is_le p
+then_least Less q h = refl
+then_least Equal q h = h
+then_least Greater q h = refl
+
+pub le_zero : (n : ℕ) → is_le (nat_cmp 0 n) ≡ true
+le_zero n = grind (arith, nat_tests)
 
 -- where neither of two tests passes, each fails
 pub or_first : (a b : Bool) → (a || b) ≡ false → a ≡ false

@@ -5,5 +5,6 @@ pub mod Ordered
 pub mod PlaceOrders
 pub mod KeyOrders
 pub mod LinkKeyOrders
+pub mod HashedKeyOrders
 pub mod ErrorOrders
 pub mod Counted

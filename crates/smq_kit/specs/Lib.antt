@@ -6,6 +6,8 @@ pub mod ErrorTexts
 pub mod Keys
 pub mod Orders
 pub mod LinkKeys
+pub mod Hashes
+pub mod HashedKeys
 pub mod Maps
 pub mod Clones
 pub mod Known

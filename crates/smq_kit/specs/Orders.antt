@@ -71,6 +71,14 @@ abbrev pub place_cmp : Place → Place → Ordering
 place_cmp a b =
     ordering_then (nat_cmp a.session.0 b.session.0) (ordering_then (dir_cmp a.dir b.dir) (nat_cmp a.offset b.offset))
 
+-- the order by which a map of std compares places
+abbrev pub kept_place_cmp : Place → Place → Ordering
+kept_place_cmp = place_ord.ghosts.cmp
+
+-- the place before which none stands
+abbrev pub least_place : Place
+least_place = record { session = record { 0 = 0 }; dir = FromClient; offset = 0 }
+
 -- `cmp` of places is this order, and places that compare equal are one
 pub record PlacesAreOrdered : Type 0 where
   pub order : (a b : Place) → place_ord.ghosts.cmp a b ≡ place_cmp a b

@@ -21,6 +21,18 @@ pub enum Key {
     Text(MessageId),
 }
 
+impl Key {
+    /// An equal key. It takes no memory.
+    pub fn copy(&self) -> Key
+        ensures { result ≡ self.now }
+    {
+        match self {
+            Key::Number(number) => Key::Number(*number),
+            Key::Text(id) => Key::Text(id.copy()),
+        }
+    }
+}
+
 /// The key of an id under a form: its number where all its octets are digits of the form and their value is below
 /// 2^128, and else its text.
 pub fn key_of(form: Form, id: &MessageId) -> Key

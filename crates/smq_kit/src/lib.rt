@@ -4,6 +4,7 @@
 
 mod error_code;
 mod form;
+mod hashed_key;
 mod known;
 mod laws;
 mod link_key;
@@ -18,6 +19,7 @@ mod window;
 
 pub use error_code::{ErrorCode, ErrorText, error_codes_are_ordered};
 pub use form::{Form, Key, key_of, keys_are_ordered};
+pub use hashed_key::HashedKey;
 pub use known::{known_error_texts, known_keys, known_limits, known_orders, known_refusals};
 pub use laws::clones_are_one;
 pub use link_key::{LinkKey, link_keys_match_where_they_are_one};
@@ -26,6 +28,6 @@ pub use message_id::{LONGEST_ID, MessageId, message_ids_are_ordered};
 pub use moment::{LAST_MOMENT, Moment, moments_are_ordered};
 pub use names::{LinkId, RouteId, SessionId, names_are_ordered};
 pub use number::{Digits, Network, digits_are_ordered, networks_are_ordered};
-pub use place::{Dir, Place, places_are_ordered};
+pub use place::{Dir, LEAST_PLACE, Place, places_are_ordered};
 pub use refusal::{Refusal, refusals_are_told_apart};
 pub use window::{OPENING_WINDOW, Window, windows_are_told_apart};

@@ -19,6 +19,13 @@ pub struct Place {
     pub offset: u64,
 }
 
+/// The place before which none stands.
+pub const LEAST_PLACE: Place = Place {
+    session: SessionId(0),
+    dir: Dir::FromClient,
+    offset: 0,
+};
+
 /// The order of places is by session, then direction, the client's first, then offset.
 pub fn places_are_ordered()
     ensures { PlacesAreOrdered }

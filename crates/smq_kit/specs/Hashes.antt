@@ -1,0 +1,14 @@
+-- Hashes of keys, by which maps order the keys of a link.
+use Rattle.std.specs.Prelude.{ℕ, ◌+◌, ◌*◌, ◌^◌, ◌%◌, List, [], ◌∷◌}
+use Rattle.smq_kit.specs.declared.form.Key.{Key}
+use Rattle.smq_kit.specs.declared.form.Key.TheVariants.{Number, Text}
+
+-- the hash of a text, where the octets before it have this one
+abbrev pub hash_of_text : ℕ → List ℕ → ℕ
+hash_of_text so_far [] = so_far
+hash_of_text so_far (octet ∷ octets) = hash_of_text ((so_far * 31 % 2 ^ 64 + octet) % 2 ^ 64) octets
+
+-- the hash of a number, or of a text
+abbrev pub hash_of : Key → ℕ
+hash_of (Number n) = n % 2 ^ 64
+hash_of (Text octets) = hash_of_text 0 octets
