@@ -1,5 +1,5 @@
 -- A value that a change alters where it stands, puts in or takes out.
-use Rattle.std.proofs.Common.{◌≡◌, Bool, true, false, List, [], ◌∷◌, ◌++◌, Option, Some, None, refl, sym, ap, ◌∙◌, reverse, ◌||◌, ◌&&◌, not, Ordering}
+use Rattle.std.proofs.Common.{◌≡◌, ℕ, ◌+◌, ◌≤◌, Bool, true, false, List, [], ◌∷◌, ◌++◌, Option, Some, None, refl, sym, ap, ◌∙◌, reverse, ◌||◌, ◌&&◌, not, Ordering}
 use Rattle.std.specs.Prelude.{is_some, if◌then◌else◌}
 use Rattle.std.specs.Cmp.{IsTotalOrder}
 use Rattle.std.specs.List.Sorted.{IsStrictlySortedBy}
@@ -10,10 +10,10 @@ use Rattle.std.proofs.lemmas.Map.Lookups.{CmpEqualImpliesEq}
 use Rattle.std.proofs.lemmas.Map.Steps.{set_value_same}
 use Rattle.smq_shelf.specs.Places.{content_of}
 use Rattle.smq_shelf.specs.Values.{with_value}
-use Rattle.smq_shelf.specs.within.Undoing.{IsKept, IsKeptBy, Logged, flatten, has_value, is_vacant, pasts, undone}
+use Rattle.smq_shelf.specs.within.Undoing.{IsKept, IsKeptBy, Logged, flatten, has_value, is_vacant, pasts, undone, vacancies}
 use Rattle.smq_shelf.proofs.Changes.{Puts, undone-put, pasts-put, content_of-put_none, content_of-put_some, lookup-content_of, remove_entry-none}
 use Rattle.smq_shelf.proofs.Replacing.{set_value-insert_entry}
-use Rattle.smq_shelf.proofs.Vacancies.{IsKeptBy-set, IsKeptBy-take}
+use Rattle.smq_shelf.proofs.Vacancies.{IsKeptBy-more, IsKeptBy-set, IsKeptBy-take}
 
 -- a place without a value has none
 pub none_there : {V : Type 0} (x : Option V) → is_some x ≡ false → x ≡ None
@@ -96,21 +96,21 @@ module _ {K : Type 0} {R : K → K → Ordering} (o : IsTotalOrder R) where
         at true h = content_put exact w (puts h)
         at false h = content_stays had has w a.was a.is h (rw h at a.entries)
 
-    set_kept : (x : Option V) (b : Bool) → is_some x ≡ true → Puts o k x log es after next → IsKeptBy R b log es → IsKeptBy R b after next
-    set_kept None b i p kept = absurd (false≢true i)
-    set_kept (Some v) b i p kept = IsKeptBy-set o b p kept
+    given_kept : (x : Option V) (n m : ℕ) → is_some x ≡ true → Puts o k x log es after next → n ≤ m → IsKeptBy R n log es → IsKeptBy R m after next
+    given_kept None n m i p l kept = absurd (false≢true i)
+    given_kept (Some v) n m i p l kept = IsKeptBy-set o n m p l kept
 
-    stays_kept : (b : Bool) → had || has ≡ false → IsKeptBy R b log es → IsKeptBy R b after next
-    stays_kept b h kept = rw (rw h at a.logged, rw h at a.entries) kept
+    taken_kept : (x : Option V) (n m : ℕ) → is_some x ≡ false → Puts o k x log es after next → n ≤ m → (vacancies next ≤ n + 1 → vacancies next ≤ m)
+        → IsKeptBy R n log es → IsKeptBy R m after next
+    taken_kept None n m i p l more kept = IsKeptBy-take o n m p l more kept
+    taken_kept (Some v) n m i p l more kept = absurd (false≢true (sym i))
 
-    pub IsKeptBy-altered : (b : Bool) → IsKeptBy R b log es → IsKeptBy R (b || had && not has) after next
-    IsKeptBy-altered b kept = at b had has refl refl kept
+    pub IsKeptBy-altered : (n m : ℕ) → n ≤ m → (had && not has ≡ true → vacancies next ≤ n + 1 → vacancies next ≤ m) → IsKeptBy R n log es
+        → IsKeptBy R m after next
+    IsKeptBy-altered n m l more kept = at had has refl refl
       where
-        at : (b x y : Bool) → had ≡ x → has ≡ y → IsKeptBy R b log es → IsKeptBy R (b || x && not y) after next
-        at true true y hx hy kept = IsKeptBy-take o (puts (rw hx refl))
-        at true false true hx hy kept = IsKeptBy-take o (puts (rw (hx, hy) refl))
-        at true false false hx hy kept = stays_kept true (rw (hx, hy) refl) kept
-        at false true true hx hy kept = set_kept w false (sym a.is ∙ hy) (puts (rw hx refl)) kept
-        at false true false hx hy kept = IsKeptBy-take o (puts (rw hx refl))
-        at false false true hx hy kept = set_kept w false (sym a.is ∙ hy) (puts (rw (hx, hy) refl)) kept
-        at false false false hx hy kept = stays_kept false (rw (hx, hy) refl) kept
+        at : (x y : Bool) → had ≡ x → has ≡ y → IsKeptBy R m after next
+        at true true hx hy = given_kept w n m (sym a.is ∙ hy) (puts (rw hx refl)) l kept
+        at false true hx hy = given_kept w n m (sym a.is ∙ hy) (puts (rw (hx, hy) refl)) l kept
+        at true false hx hy = taken_kept w n m (sym a.is ∙ hy) (puts (rw hx refl)) l (more (rw (hx, hy) refl)) kept
+        at false false hx hy = rw (rw (hx, hy) at a.logged, rw (hx, hy) at a.entries) (IsKeptBy-more o n m log es l kept)

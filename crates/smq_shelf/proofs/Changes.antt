@@ -351,7 +351,7 @@ module _ {K : Type 0} {R : K → K → Ordering} (o : IsTotalOrder R) where
   content_of-remove_vacant k (e ∷ es) h =
       remove_vacant_at e es (remove_entry (is_at (R k)) es) (lookup (is_at (R k)) es) (content_of-remove_vacant k es) (is_at (R k) e.0) h
 
-  vacant_from_is_vacant : {V : Type 0} (p : Option (Option V)) → is_vacant p ≡ true → p ≡ Some None
+  pub vacant_from_is_vacant : {V : Type 0} (p : Option (Option V)) → is_vacant p ≡ true → p ≡ Some None
   vacant_from_is_vacant None h = absurd (false≢true h)
   vacant_from_is_vacant (Some None) h = refl
   vacant_from_is_vacant (Some (Some v)) h = absurd (false≢true h)

@@ -4,6 +4,7 @@ pub mod Places
 pub mod Values
 pub mod Nearest
 pub mod Keeping
+pub mod Walks
 pub mod KeptLending
 pub mod Known
 pub mod within

@@ -10,7 +10,7 @@ ghost use Rattle.smq_shelf.specs.Keeping.{with_touches};
 ghost use Rattle.smq_shelf.specs.Shown.{touched};
 ghost use Rattle.smq_shelf.specs.Places.{content_of, places_of};
 ghost use Rattle.smq_shelf.specs.Values.{with_value};
-ghost use Rattle.smq_shelf.specs.within.Undoing.{flatten};
+ghost use Rattle.smq_shelf.specs.within.Undoing.{flatten, vacancies};
 
 use crate::logged::{alter, clear_vacant, give_back_room, put, revert, vacate};
 use crate::{Change, Shelf, ShelfKey};
@@ -27,8 +27,8 @@ use std::marker::Model;
 pub struct Kept<K: Ord, V> {
     shelf: Shelf<K, Option<V>>,
     log: Vec<(K, Option<Option<V>>)>,
-    /// Whether a key was taken out since the last `settle` or `undo`. If not, no place is vacant.
-    has_vacant: bool,
+    /// How many places are vacant at most: as many keys were taken out since the last `settle` or `undo`.
+    most_vacant: u64,
 }
 
 impl<K: Ord, V> Model for Kept<K, V> {
@@ -49,7 +49,7 @@ impl<K: Ord, V> Model for Kept<K, V> {
       pending = length s.log.items;
     } };
 
-    ghost invariant = { λ s. IsKeptBy K.cmp s.has_vacant s.log.items s.shelf.entries };
+    ghost invariant = { λ s. IsKeptBy K.cmp s.most_vacant s.log.items s.shelf.entries };
 }
 
 impl<K: ShelfKey, V: Drop> Kept<K, V> {
@@ -65,7 +65,7 @@ impl<K: ShelfKey, V: Drop> Kept<K, V> {
         Kept {
             shelf: Shelf::new(alloc),
             log: Vec::new(alloc),
-            has_vacant: false,
+            most_vacant: 0,
         }
     }
 
@@ -118,7 +118,7 @@ impl<K: ShelfKey, V: Drop> Kept<K, V> {
         ensures counted { self.old.touches ≤ self.new.touches }
     {
         if vacate(&mut self.shelf, &mut self.log, key)? {
-            self.has_vacant = true;
+            self.most_vacant = most_vacant_after(self.most_vacant, true, &self.shelf);
         }
         Ok(())
     }
@@ -152,7 +152,7 @@ impl<K: ShelfKey, V: Drop> Kept<K, V> {
         ensures counted { self.old.touches ≤ self.new.touches }
     {
         if vacate(&mut self.shelf, &mut self.log, key)? {
-            self.has_vacant = true;
+            self.most_vacant = most_vacant_after(self.most_vacant, true, &self.shelf);
             return Ok(last_value(&self.log));
         }
         Ok(None)
@@ -190,7 +190,7 @@ impl<K: ShelfKey, V: Drop> Kept<K, V> {
         ensures counted { self.old.touches ≤ self.new.touches }
     {
         let (had, has) = alter(&mut self.shelf, &mut self.log, key, change)?;
-        self.has_vacant |= had & !has;
+        self.most_vacant = most_vacant_after(self.most_vacant, had & !has, &self.shelf);
         Ok(had | has)
     }
 
@@ -223,7 +223,7 @@ impl<K: ShelfKey, V: Drop> Kept<K, V> {
         ensures counted { self.old.touches ≤ self.new.touches }
     {
         let (had, has) = alter(&mut self.shelf, &mut self.log, key, change)?;
-        self.has_vacant |= had & !has;
+        self.most_vacant = most_vacant_after(self.most_vacant, had & !has, &self.shelf);
         Ok(value_before(&self.log, had))
     }
 
@@ -261,12 +261,12 @@ impl<K: ShelfKey, V: Drop> Kept<K, V> {
         while let Some(change) = self.log.pop() {
             revert(&mut self.shelf, change);
         }
-        self.has_vacant = false;
+        self.most_vacant = 0;
         give_back_room(&mut self.log);
     }
 
-    /// Makes the content the one that `undo` brings back, by at most two touches for each pending change. It takes no
-    /// memory, and leaves no place vacant.
+    /// Makes the content the one that `undo` brings back, by at most two touches for each pending change: the newest, up to
+    /// where no more places can be vacant. It takes no memory, and leaves no place vacant.
     pub fn settle(&mut self)
         ensures content { self.new.content ≡ self.old.content }
         ensures settled { self.new.settled ≡ self.old.content }
@@ -276,15 +276,15 @@ impl<K: ShelfKey, V: Drop> Kept<K, V> {
         ensures touches { self.new.touches ≤ self.old.touches + 2 * self.old.pending }
         ensures counted { self.old.touches ≤ self.new.touches }
     {
-        if !self.has_vacant {
-            self.log.clear();
-            give_back_room(&mut self.log);
-            return;
+        while self.most_vacant > 0 {
+            match self.log.pop() {
+                Some(change) => {
+                    self.most_vacant -= u64::from(clear_vacant(&mut self.shelf, change));
+                }
+                None => self.most_vacant = 0,
+            }
         }
-        while let Some(change) = self.log.pop() {
-            clear_vacant(&mut self.shelf, change);
-        }
-        self.has_vacant = false;
+        self.log.clear();
         give_back_room(&mut self.log);
     }
 }
@@ -356,6 +356,21 @@ impl<K: ShelfKey, V> Kept<K, V> {
     {
         self.shelf.touches()
     }
+}
+
+// How many places are vacant at most once one more may be.
+fn most_vacant_after<K: ShelfKey, V>(
+    most: u64,
+    is_vacated: bool,
+    shelf: &Shelf<K, Option<V>>,
+) -> u64
+    ensures vacated { is_vacated ≡ true → vacancies shelf.now.entries ≤ most + 1
+        → vacancies shelf.now.entries ≤ result }
+    ensures before { most ≤ result }
+{
+    // There are fewer places than addresses.
+    let _ = shelf.map().len();
+    most.saturating_add(u64::from(is_vacated))
 }
 
 // What a place holds.

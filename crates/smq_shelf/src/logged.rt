@@ -1,10 +1,10 @@
 //! Changes of a shelf's places, each with what was there before it in a log.
-ghost use Rattle.std.specs.Prelude.{◌≡◌, ◌||◌, ◌∷◌, ◌++◌, ◌+◌, ◌-◌, ◌≤◌, ◌<◌, [], IfOk, OnOk, OnErr, None, Some, IsSome, is_some, if◌then◌else◌};
+ghost use Rattle.std.specs.Prelude.{◌≡◌, ◌||◌, ◌&&◌, ◌∷◌, ◌++◌, ◌+◌, ◌-◌, ◌≤◌, ◌<◌, [], IfOk, OnOk, OnErr, None, Some, IsSome, is_some, if◌then◌else◌};
 ghost use Rattle.std.specs.List.Sorted.{IsStrictlySortedBy};
 ghost use Rattle.std.specs.Map.{keys_of, lookup};
 ghost use Rattle.std.specs.BTreeMap.{is_at, insert_entry};
 ghost use Rattle.smq_shelf.specs.Shown.{touched};
-ghost use Rattle.smq_shelf.specs.within.Undoing.{flatten, has_value, reverted, cleared_after};
+ghost use Rattle.smq_shelf.specs.within.Undoing.{flatten, has_value, is_vacant, reverted, cleared_after};
 
 use crate::{Change, Shelf, ShelfKey};
 use std::alloc::AllocError;
@@ -138,12 +138,14 @@ pub(crate) fn revert<K: ShelfKey, V: Drop>(
     }
 }
 
-// Takes out the place of a change's key where it is vacant. Only a key that had a value can have been taken out by the
-// change, so that no other is looked up.
+// Takes out the place of a change's key where it is vacant, and tells whether it was. Only a key that had a value can have
+// been taken out by the change, so that no other is looked up.
 pub(crate) fn clear_vacant<K: ShelfKey, V: Drop>(
     shelf: &mut Shelf<K, Option<V>>,
     change: (K, Option<Option<V>>),
-)
+) -> bool
+    ensures was_vacant { result ≡ (has_value change.1
+        && is_vacant (lookup (is_at (K.cmp change.0)) shelf.old.entries)) }
     ensures entries { shelf.new.entries ≡ cleared_after K.cmp change shelf.old.entries }
     ensures ordered { IsStrictlySortedBy K.cmp (keys_of shelf.old.entries)
         → IsStrictlySortedBy K.cmp (keys_of shelf.new.entries) }
@@ -151,12 +153,13 @@ pub(crate) fn clear_vacant<K: ShelfKey, V: Drop>(
     ensures counted { shelf.old.touches ≤ shelf.new.touches }
 {
     let (key, Some(Some(_))) = change else {
-        return;
+        return false;
     };
     let is_vacant = matches!(shelf.get(&key), Some(None));
     if is_vacant {
         shelf.remove(&key);
     }
+    is_vacant
 }
 
 // Gives back the room of an emptied log that had many changes.

@@ -1,7 +1,7 @@
 //! Keys of maps that can be undone.
 ghost use Rattle.std.specs.Prelude.{◌≡◌};
 
-use smq_kit::{Key, LinkId, LinkKey, Place, SessionId};
+use smq_kit::{HashedKey, LinkId, Place, SessionId};
 use std::cmp::Ord;
 
 /// A key of a map that can be undone: it is copied without memory, and keys that compare equal are one.
@@ -65,19 +65,12 @@ impl ShelfKey for Place {
     }
 }
 
-impl ShelfKey for LinkKey {
-    ghost use Rattle.smq_shelf.specs.within.KeyLaws.{one_link_key};
+impl ShelfKey for HashedKey {
+    ghost use Rattle.smq_kit.proofs.HashedKeyOrders.{one_hashed_key};
 
-    ghost exact = { one_link_key };
+    ghost exact = { one_hashed_key };
 
-    fn copy(&self) -> LinkKey {
-        let key = match &self.key {
-            Key::Number(number) => Key::Number(*number),
-            Key::Text(id) => Key::Text(id.copy()),
-        };
-        LinkKey {
-            link: self.link,
-            key,
-        }
+    fn copy(&self) -> HashedKey {
+        HashedKey::copy(self)
     }
 }

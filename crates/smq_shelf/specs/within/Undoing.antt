@@ -1,5 +1,5 @@
 -- A log that takes changes back.
-use Rattle.std.specs.Prelude.{◌≡◌, cond, Bool, true, false, List, [], ◌∷◌, Option, Some, None, IsSome, is_some, reverse}
+use Rattle.std.specs.Prelude.{◌≡◌, ◌≤◌, ◌+◌, ℕ, cond, Bool, true, false, List, [], ◌∷◌, Option, Some, None, IsSome, is_some, reverse}
 use Rattle.std.specs.declared.cmp.Ordering.{Ordering}
 use Rattle.std.specs.Map.{lookup, remove_entry, keys_of}
 use Rattle.std.specs.List.{AllByRecursion}
@@ -68,7 +68,12 @@ pub record IsKept {K V : Type 0} (cmp : K → K → Ordering) (log : List (Logge
 abbrev pub AreOccupied : {K V : Type 0} → List (K × Option V) → Type 0
 AreOccupied es = AllByRecursion (λ e. IsSome e.1) es
 
--- the same, and no place is vacant, now or before a change of the log, unless one may be
-pub record IsKeptBy {K V : Type 0} (cmp : K → K → Ordering) (has_vacant : Bool) (log : List (Logged K V)) (es : List (K × Option V)) : Type 0 where
+-- how many places of the entries are vacant
+abbrev pub vacancies : {K V : Type 0} → List (K × Option V) → ℕ
+vacancies [] = 0
+vacancies (e ∷ es) = cond (is_some e.1) 0 1 + vacancies es
+
+-- the same, and no more than so many places are vacant, now or before a change of the log
+pub record IsKeptBy {K V : Type 0} (cmp : K → K → Ordering) (most_vacant : ℕ) (log : List (Logged K V)) (es : List (K × Option V)) : Type 0 where
   pub kept : IsKept cmp log es
-  pub occupied : has_vacant ≡ false → AllByRecursion AreOccupied (es ∷ pasts cmp (reverse log) es)
+  pub vacant : AllByRecursion (λ past. vacancies past ≤ most_vacant) (es ∷ pasts cmp (reverse log) es)

@@ -30,7 +30,8 @@ pub returns-in_err-had-clause-ordered : goal.returns-in_err-had-clause-ordered
 returns-in_err-had-clause-ordered g c = rw (← c.self.view_is) (content_ordered g.met.K.Ord.total _ c.self.invariant.kept.ordered)
 
 pub invariant_of-self-2 : goal.invariant_of-self-2
-invariant_of-self-2 g c = IsKeptBy-altered g.met.K.Ord.total (alters g c) c.self.inside.has_vacant c.self.invariant
+invariant_of-self-2 g c =
+    IsKeptBy-altered g.met.K.Ord.total (alters g c) c.self.inside.most_vacant _ c.most_vacant_after-self-inside.ensures.before c.most_vacant_after-self-inside.ensures.vacated c.self.invariant
 
 pub returns-clause-logged : goal.returns-clause-logged
 returns-clause-logged g c =

@@ -32,7 +32,8 @@ logged : (g : _) (c : goal.After-value_before g)
 logged g c = (λ i. c.in_ok-had.ensures.had i || c.in_ok-had.ensures.has i) ∙ ap (λ v. is_some v || is_some (g.C.Change.after c.args.change.now v)) (before g c)
 
 pub invariant_of-self-2 : goal.invariant_of-self-2
-invariant_of-self-2 g c = IsKeptBy-altered g.met.K.Ord.total (alters g c) c.self.inside.has_vacant c.self.invariant
+invariant_of-self-2 g c =
+    IsKeptBy-altered g.met.K.Ord.total (alters g c) c.self.inside.most_vacant _ c.most_vacant_after-self-inside.ensures.before c.most_vacant_after-self-inside.ensures.vacated c.self.invariant
 
 pub returns-clause-before : goal.returns-clause-before
 returns-clause-before g c = rw (← c.self.view_is) (sym (before g c) ∙ sym (lookup-content_of g.met.K.Ord.total c.args.key _ c.self.invariant.kept.ordered))

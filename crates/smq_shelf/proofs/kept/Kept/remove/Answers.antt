@@ -1,4 +1,4 @@
-use Rattle.std.proofs.Common.{None, ap, sym, ◌∙◌}
+use Rattle.std.proofs.Common.{None, refl, ap, sym, ◌∙◌}
 use Rattle.std.specs.Prelude.{is_some}
 use Rattle.std.proofs.lemmas.Bool.{false≢true}
 use Rattle.smq_shelf.specs.Places.{content_of}
@@ -18,7 +18,8 @@ puts g c = record {
 }
 
 pub invariant_of-self-then-branch : goal.invariant_of-self-then-branch
-invariant_of-self-then-branch g c = IsKeptBy-take g.met.K.Ord.total (puts g c)
+invariant_of-self-then-branch g c =
+    IsKeptBy-take g.met.K.Ord.total c.self.inside.most_vacant _ (puts g c) c.most_vacant_after-self-inside.ensures.before (c.most_vacant_after-self-inside.ensures.vacated refl) c.self.invariant
 
 pub returns-then-branch-clause-content : goal.returns-then-branch-clause-content
 returns-then-branch-clause-content g c = rw (← c.self.view_is) (content_of-put_none g.met.K.Ord.total (puts g c))

@@ -1,4 +1,4 @@
-use Rattle.std.proofs.Common.{Some, ap, refl}
+use Rattle.std.proofs.Common.{Some, ap, refl, arith}
 use Rattle.smq_shelf.specs.Places.{content_of}
 use Rattle.smq_shelf.proofs.Changes.{Puts, undone-put, pasts-put, content_of-put_some}
 use Rattle.smq_shelf.proofs.Vacancies.{IsKeptBy-set}
@@ -16,7 +16,7 @@ puts g c = record {
 }
 
 pub invariant_of-self-2 : goal.invariant_of-self-2
-invariant_of-self-2 g c = IsKeptBy-set g.met.K.Ord.total c.self.inside.has_vacant (puts g c) c.self.invariant
+invariant_of-self-2 g c = IsKeptBy-set g.met.K.Ord.total c.self.inside.most_vacant c.self.inside.most_vacant (puts g c) (omega arith) c.self.invariant
 
 pub returns-clause-content : goal.returns-clause-content
 returns-clause-content g c = rw (← c.self.view_is) (content_of-put_some g.met.K.Ord.total g.met.K.ShelfKey.exact (puts g c))

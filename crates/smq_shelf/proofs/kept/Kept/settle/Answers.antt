@@ -1,38 +1,51 @@
-use Rattle.std.proofs.Common.{◌≡◌, [], false, arith}
+use Rattle.std.proofs.Common.{◌≡◌, ◌≤◌, List, [], sym, subst, ◌∙◌, arith}
+use Rattle.std.specs.Int.{from_bool}
 use Rattle.std.proofs.lemmas.Grind.{common_steps}
+use Rattle.smq_shelf.specs.within.Undoing.{Logged, vacancies}
 use Rattle.smq_shelf.proofs.Occupied.{places-settled}
-use Rattle.smq_shelf.proofs.Changes.{IsSettling-from_kept, IsSettling-pop, IsKept-settled}
-use Rattle.smq_shelf.proofs.Vacancies.{IsKeptBy-none, IsKept-cleared}
+use Rattle.smq_shelf.proofs.Changes.{IsSettling, IsSettling-from_kept, IsSettling-pop}
+use Rattle.smq_shelf.proofs.Vacancies.{IsKeptBy-none, IsKept-settled-by, vacancies-cleared, vacancies-settled}
 use Rattle.smq_shelf.proofs.kept.Kept.settle.Goals as goal
 
-pub loop-change-init : goal.loop-change-init
-loop-change-init g c = record { steps = IsSettling-from_kept g.met.K.Ord.total _ _ c.self.invariant.kept; touches = omega arith; counted = omega arith }
-
-pub loop-change-preserved : goal.loop-change-preserved
-loop-change-preserved g c = record {
-  steps = IsSettling-pop g.met.K.Ord.total _ _ _ _ _ _ c.in-Some.ensures.items c.clear_vacant.ensures.entries (c.clear_vacant.ensures.ordered c.loop-change.invariant.steps.ordered) c.loop-change.invariant.steps;
-  touches = omega (arith, c.in-Some.ensures.len, c.clear_vacant.ensures.touches);
-  counted = omega (arith, c.clear_vacant.ensures.counted, c.loop-change.invariant.counted);
+pub loop-self-init : goal.loop-self-init
+loop-self-init g c = record {
+  steps = IsSettling-from_kept g.met.K.Ord.total _ _ c.self.invariant.kept;
+  vacant = c.self.invariant.vacant.0;
+  touches = omega arith;
+  counted = omega arith;
 }
+
+pub loop-self-preserved-in-Some : goal.loop-self-preserved-in-Some
+loop-self-preserved-in-Some g c =
+    let cleared = vacancies-cleared g.met.K.Ord.total c.in-Some.change c.loop-self.self-inside.shelf.entries c.clear_vacant.new.shelf.entries c.clear_vacant.result c.clear_vacant.ensures.was_vacant c.clear_vacant.ensures.entries in
+    let told : c.from.result ≡ from_bool c.clear_vacant.result = c.from.ensures in
+    record {
+      steps = IsSettling-pop g.met.K.Ord.total c.self.inside.shelf.entries c.loop-self.self-inside.log.items c.pop.new.self.items c.in-Some.change c.loop-self.self-inside.shelf.entries c.clear_vacant.new.shelf.entries c.in-Some.ensures.items c.clear_vacant.ensures.entries (c.clear_vacant.ensures.ordered c.loop-self.invariant.steps.ordered) c.loop-self.invariant.steps;
+      vacant = omega (arith, cleared, told, c.loop-self.invariant.vacant);
+      touches = omega (arith, c.in-Some.ensures.len, c.clear_vacant.ensures.touches, c.loop-self.invariant.touches);
+      counted = omega (arith, c.clear_vacant.ensures.counted, c.loop-self.invariant.counted);
+    }
+
+pub loop-self-preserved : goal.loop-self-preserved
+loop-self-preserved g c =
+    let all : c.loop-self.self-inside.log.items ≡ [] = grind (arith, common_steps) in
+    let left : c.pop.new.self.items ≡ [] = grind (arith, common_steps) in
+    let none = vacancies-settled g.met.K.Ord.total _ _ _ all c.loop-self.invariant.steps in
+    record {
+      steps = subst (λ (log : List (Logged g.row.K.Denot g.row.V.Denot)). IsSettling g.met.K.Ord.total c.self.inside.shelf.entries log c.loop-self.self-inside.shelf.entries) (all ∙ sym left) c.loop-self.invariant.steps;
+      vacant = omega (arith, none);
+      touches = omega (arith, c.in-None.ensures.len, c.loop-self.invariant.touches);
+      counted = c.loop-self.invariant.counted;
+    }
 
 pub invariant_of-self : goal.invariant_of-self
 invariant_of-self g c =
+    let zero : c.loop-self.self-inside.most_vacant ≡ 0 = grind (arith, common_steps) in
+    let none : vacancies c.loop-self.self-inside.shelf.entries ≤ 0 = omega (arith, zero, c.loop-self.invariant.vacant) in
     let left : c.give_back_room.new.log.items ≡ [] = grind (arith, common_steps) in
-    let free : c.self.inside.has_vacant ≡ false = grind (arith, common_steps) in
-    IsKeptBy-none _ _ _ left (IsKept-cleared _ _ _ _ left free c.self.invariant)
-
-pub returns-then-not-self-clause-places : goal.returns-then-not-self-clause-places
-returns-then-not-self-clause-places g c =
-    let left : c.give_back_room.new.log.items ≡ [] = grind (arith, common_steps) in
-    places-settled _ _ left (invariant_of-self g c).kept
-
-pub invariant_of-self-2 : goal.invariant_of-self-2
-invariant_of-self-2 g c =
-    let all : c.loop-change.self-inside.log.items ≡ [] = grind (arith, common_steps) in
-    let left : c.give_back_room-2.new.log.items ≡ [] = grind (arith, common_steps) in
-    IsKeptBy-none _ _ _ left (IsKept-settled g.met.K.Ord.total _ _ _ _ all left c.loop-change.invariant.steps)
+    IsKeptBy-none _ _ _ left (IsKept-settled-by g.met.K.Ord.total _ _ _ _ none left c.loop-self.invariant.steps)
 
 pub returns-clause-places : goal.returns-clause-places
 returns-clause-places g c =
-    let left : c.give_back_room-2.new.log.items ≡ [] = grind (arith, common_steps) in
-    places-settled _ _ left (invariant_of-self-2 g c).kept
+    let left : c.give_back_room.new.log.items ≡ [] = grind (arith, common_steps) in
+    places-settled _ _ left (invariant_of-self g c).kept

@@ -1,4 +1,4 @@
-use Rattle.std.proofs.Common.{◌≡◌, None, ap, sym, ◌∙◌}
+use Rattle.std.proofs.Common.{◌≡◌, None, refl, ap, sym, ◌∙◌}
 use Rattle.std.specs.Prelude.{is_some}
 use Rattle.std.specs.Map.{lookup}
 use Rattle.std.specs.BTreeMap.{is_at}
@@ -29,7 +29,8 @@ pub returns-in_err-vacate-clause-ordered : goal.returns-in_err-vacate-clause-ord
 returns-in_err-vacate-clause-ordered g c = rw (← c.self.view_is) (content_ordered g.met.K.Ord.total _ c.self.invariant.kept.ordered)
 
 pub invariant_of-self-then-branch : goal.invariant_of-self-then-branch
-invariant_of-self-then-branch g c = IsKeptBy-take g.met.K.Ord.total (puts g c)
+invariant_of-self-then-branch g c =
+    IsKeptBy-take g.met.K.Ord.total c.self.inside.most_vacant _ (puts g c) c.most_vacant_after-self-inside.ensures.before (c.most_vacant_after-self-inside.ensures.vacated refl) c.self.invariant
 
 pub returns-then-branch-clause-value : goal.returns-then-branch-clause-value
 returns-then-branch-clause-value g c =
