@@ -1,5 +1,5 @@
 -- The candidates of a key: a look-up of the next place, and a walk to the first that isn't vacant.
-use Rattle.std.proofs.Common.{◌≡◌, ◌≤◌, ◌<◌, ◌+◌, arith, length, Bool, true, false, cond, List, [], ◌∷◌, Option, Some, None, refl, sym, ap, ◌∙◌, map, filter, find}
+use Rattle.std.proofs.Common.{◌≡◌, ◌≤◌, ◌<◌, ◌+◌, arith, length, Bool, true, false, cond, List, [], ◌∷◌, Option, Some, None, refl, sym, ap, ◌∙◌, subst, map, filter, find}
 use Rattle.std.specs.Prelude.{◌&&◌, not, option_map, is_some}
 use Rattle.std.specs.Ordering.{is_lt, nat_cmp, ordering_then}
 use Rattle.std.specs.Cmp.{IsTotalOrder}
@@ -10,33 +10,29 @@ use Rattle.smq_kit.specs.declared.link_key.LinkKey.{LinkKey}
 use Rattle.smq_kit.specs.LinkKeys.{same_key, link_key_cmp}
 use Rattle.smq_kit.proofs.Comparisons.{is_equal}
 use Rattle.smq_kit.proofs.LinkKeyOrders.{link_keys_exact}
+use Rattle.smq_kit.proofs.PlaceOrders.{place-order}
 use Rattle.smq_shelf.specs.Places.{content_of, with_place}
-use Rattle.smq_shelf.specs.within.KeyLaws.{place_order}
+use Rattle.smq_shelf.specs.Walks.{stands_after}
+use Rattle.smq_shelf.proofs.Finds.{and_true, filter_same}
+use Rattle.smq_shelf.proofs.Walks.{Narrows, Rises, and_false, after-rises, filter-none, found-passes, step}
+use Rattle.smq_kit.specs.Orders.{kept_place_cmp}
 use Rattle.smq_group.specs.Matching.{candidate_cmp}
 use Rattle.smq_group.specs.declared.member.Candidate.{Candidate}
 use Rattle.smq_group.specs.declared.outlook.Earliest.{Earliest}
-use Rattle.smq_group.specs.within.Orders.{kept_candidate_cmp, kept_place_cmp}
+use Rattle.smq_group.specs.within.Orders.{kept_candidate_cmp}
 use Rattle.smq_group.specs.within.Walked.{met, earliest_of, is_after, first_candidate_after, candidates_left, first_there, vacant_left, vacant_of, candidate_key}
-use Rattle.smq_group.proofs.Finding.{Narrows, found, keep, keep-found, keep-other, other_above, kept_equal, le_of_lt}
-use Rattle.smq_group.proofs.Placing.{kept_keys_total, kept_places_total}
-use Rattle.smq_group.proofs.Stepping.{Rises, after, after-rises, step, filter-alike, filter-none, found-passes}
+use Rattle.smq_group.proofs.Finding.{other_above, kept_equal, le_of_lt}
+use Rattle.smq_kit.proofs.HashedKeyOrders.{hashed_keys_total}
+use Rattle.smq_group.proofs.Placing.{kept_places_total}
 
 pub candidates_total : IsTotalOrder kept_candidate_cmp
-candidates_total = then_total (on_total (λ c. c.key) kept_keys_total) (then_total (on_total (λ c. c.moment) nat_cmp_total) (on_total (λ c. c.place) kept_places_total))
-
-and_false : (b : Bool) → (b && false) ≡ false
-and_false true = refl
-and_false false = refl
-
-and_true : (b : Bool) → (b && true) ≡ b
-and_true true = refl
-and_true false = refl
+candidates_total = then_total (on_total (λ c. c.key) hashed_keys_total) (then_total (on_total (λ c. c.moment) nat_cmp_total) (on_total (λ c. c.place) kept_places_total))
 
 abbrev pub candidate_at : LinkKey → Earliest → Candidate
 candidate_at key from = record { key = key; moment = from.moment; place = from.place }
 
 -- whether a candidate is of a key
-abbrev pub of_candidate : {V : Type 0} → LinkKey → Candidate × V → Bool
+abbrev of_candidate : {V : Type 0} → LinkKey → Candidate × V → Bool
 of_candidate key e = same_key key e.0.key
 
 module _ {V : Type 0} (key : LinkKey) (from : Earliest) where
@@ -45,35 +41,18 @@ module _ {V : Type 0} (key : LinkKey) (from : Earliest) where
   after_both e true h =
       sym (and_true (is_lt (kept_candidate_cmp (candidate_at key from) e.0))
       ∙ ap (λ r. is_lt (ordering_then r (ordering_then (nat_cmp from.moment e.0.moment) (kept_place_cmp from.place e.0.place)))) (kept_equal key e.0.key h)
-      ∙ ap (λ r. is_lt (ordering_then (nat_cmp from.moment e.0.moment) r)) (place_order from.place e.0.place))
+      ∙ (λ i. is_lt (ordering_then (nat_cmp from.moment e.0.moment) (place-order i from.place e.0.place))))
   after_both e false h = sym (and_false (is_lt (kept_candidate_cmp (candidate_at key from) e.0)))
 
-  pub candidates-narrow : Narrows kept_candidate_cmp (λ (e : Candidate × V). is_lt (kept_candidate_cmp (candidate_at key from) e.0)) (of_candidate key) (is_after key from)
+  candidates-narrow : Narrows kept_candidate_cmp (λ (e : Candidate × V). is_lt (kept_candidate_cmp (candidate_at key from) e.0)) (of_candidate key) (is_after key from)
   candidates-narrow = record {
     both = λ e. after_both e (same_key key e.0.key) refl;
     up = λ e f h n l. other_above key e.0.key f.0.key (ordering_then (nat_cmp from.moment e.0.moment) (kept_place_cmp from.place e.0.place)) (ordering_then (nat_cmp e.0.moment f.0.moment) (kept_place_cmp e.0.place f.0.place))
         (le_of_lt (kept_candidate_cmp (candidate_at key from) e.0) h) n l;
   }
 
-module _ (key k : LinkKey) (from : Earliest) (es : List (Candidate × Option Bool)) where
-  abbrev pub above : LinkKey → Option (Candidate × Option Bool)
-  above l = find (λ e. is_lt (kept_candidate_cmp (candidate_at l from) e.0)) es
-
-  next : k ≡ key → IsStrictlySortedBy kept_candidate_cmp (keys_of es) → find (is_after key from) es ≡ keep (of_candidate key) (above k)
-  next s so =
-      found kept_candidate_cmp (λ e. is_lt (kept_candidate_cmp (candidate_at key from) e.0)) (of_candidate key) (is_after key from) es (candidates-narrow key from) so
-      ∙ ap (λ l. keep (of_candidate key) (above l)) (sym s)
-
-  pub place-found : (m : Candidate) (x : Option Bool) → k ≡ key → IsStrictlySortedBy kept_candidate_cmp (keys_of es) → Some (m, x) ≡ above k → same_key key m.key ≡ true
-      → Some (met (m, x)) ≡ option_map met (find (is_after key from) es)
-  place-found m x s so h t = sym (ap (option_map met) (next s so ∙ keep-found (of_candidate key) (m, x) (above k) h t))
-
-  pub place-other : (m : Candidate) (x : Option Bool) → k ≡ key → IsStrictlySortedBy kept_candidate_cmp (keys_of es) → Some (m, x) ≡ above k → same_key key m.key ≡ false
-      → None ≡ option_map met (find (is_after key from) es)
-  place-other m x s so h t = sym (ap (option_map met) (next s so ∙ keep-other (of_candidate key) (m, x) (above k) h t))
-
-  pub place-none : k ≡ key → IsStrictlySortedBy kept_candidate_cmp (keys_of es) → None ≡ above k → None ≡ option_map met (find (is_after key from) es)
-  place-none s so h = sym (ap (option_map met) (next s so ∙ ap (keep (of_candidate key)) (sym h)))
+  pub next-narrows : (k : LinkKey) → k ≡ key → Narrows kept_candidate_cmp (λ (e : Candidate × V). is_lt (kept_candidate_cmp (candidate_at k from) e.0)) (of_candidate key) (is_after key from)
+  next-narrows k same = subst (λ l. Narrows kept_candidate_cmp (λ (e : Candidate × V). is_lt (kept_candidate_cmp (candidate_at l from) e.0)) (of_candidate key) (is_after key from)) (sym same) candidates-narrow
 
 -- ---- the walk
 
@@ -96,13 +75,13 @@ module _ (key : LinkKey) (es : List (Candidate × Option Bool)) (so : IsStrictly
   of = of_candidate key
 
   abbrev above_it : Earliest → Candidate × Option Bool → Bool
-  above_it from = after candidates_total of (candidate_at key from)
+  above_it from = stands_after kept_candidate_cmp of (candidate_at key from)
 
-  own : (e : Candidate × Option Bool) → same_key key e.0.key ≡ true → filter (after candidates_total of e.0) es ≡ filter (is_after key (earliest_of e)) es
+  own : (e : Candidate × Option Bool) → same_key key e.0.key ≡ true → filter (stands_after kept_candidate_cmp of e.0) es ≡ filter (is_after key (earliest_of e)) es
   own e t =
       let same : key ≡ e.0.key = link_keys_exact key e.0.key (is_equal (link_key_cmp key e.0.key) t) in
-      ap (λ (l : LinkKey). filter (after candidates_total of (candidate_at l (earliest_of e))) es) (sym same)
-      ∙ sym (filter-alike (is_after key (earliest_of e)) (above_it (earliest_of e)) es ((candidates-narrow key (earliest_of e)).both))
+      ap (λ (l : LinkKey). filter (stands_after kept_candidate_cmp of (candidate_at l (earliest_of e))) es) (sym same)
+      ∙ sym (filter_same (is_after key (earliest_of e)) (above_it (earliest_of e)) ((candidates-narrow key (earliest_of e)).both) es)
 
   left_at : (q : Candidate × Option Bool → Bool) (found : Option (Candidate × Option Bool)) → Rises candidates_total of q → find q es ≡ found → candidates_left key es (option_map met found) ≡ map met (filter q es)
   left_at q None r h = sym (ap (map met) (filter-none q es h))
@@ -114,7 +93,7 @@ module _ (key : LinkKey) (es : List (Candidate × Option Bool)) (so : IsStrictly
       ap (candidates_left key es) h
       ∙ ap (λ (q : Candidate × Option Bool → Bool). candidates_left key es (option_map met (find q es))) (λ i e. (candidates-narrow key from).both e i)
       ∙ left_at (above_it from) (find (above_it from) es) (after-rises candidates_total of (candidate_at key from)) refl
-      ∙ ap (map met) (sym (filter-alike (is_after key from) (above_it from) es ((candidates-narrow key from).both)))
+      ∙ ap (map met) (sym (filter_same (is_after key from) (above_it from) ((candidates-narrow key from).both) es))
 
   -- ---- what a walk has left, from step to step
 

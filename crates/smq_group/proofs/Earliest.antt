@@ -16,27 +16,29 @@ use Rattle.std.proofs.lemmas.Bool.{false≢true, eqb-true, eq-eqb}
 use Rattle.std.proofs.lemmas.Cmp.{on_total, then_total, nat_cmp_total}
 use Rattle.smq_kit.specs.declared.place.Place.{Place}
 use Rattle.smq_kit.specs.declared.link_key.LinkKey.{LinkKey}
-use Rattle.smq_kit.specs.Orders.{place_cmp}
-use Rattle.smq_kit.specs.LinkKeys.{link_key_cmp, same_key, kept_key_cmp}
+use Rattle.smq_kit.specs.Orders.{kept_place_cmp, place_cmp}
+use Rattle.smq_kit.specs.HashedKeys.{hashed_key_cmp}
+use Rattle.smq_kit.specs.LinkKeys.{link_key_cmp, same_key}
 use Rattle.smq_kit.specs.Maps.{same_option}
-use Rattle.smq_kit.proofs.PlaceOrders.{places_total, places_exact}
+use Rattle.smq_kit.proofs.PlaceOrders.{place-order, places_total, places_exact}
 use Rattle.smq_kit.proofs.LinkKeyOrders.{link_keys_total, link_keys_exact}
 use Rattle.smq_kit.proofs.Comparisons.{is_equal, then_first, then_second}
 use Rattle.smq_kit.proofs.MapLemmas as maps
-use Rattle.smq_shelf.specs.within.KeyLaws.{place_order}
+use Rattle.smq_shelf.proofs.Walks.{both, found-passes}
 use Rattle.smq_group.specs.Matching as m
 use Rattle.smq_group.specs.Matching.{Grouping, GroupedReceipt, CanDecide, candidates, candidate_cmp, earlier}
 use Rattle.smq_group.specs.declared.member.Candidate.{Candidate}
 use Rattle.smq_group.specs.declared.outlook.Earliest.{Earliest}
 use Rattle.smq_group.specs.within.KeyLaws.{one_candidate}
-use Rattle.smq_group.specs.within.Orders.{kept_candidate_cmp, kept_place_cmp}
+use Rattle.smq_group.specs.within.Orders.{kept_candidate_cmp}
 use Rattle.smq_group.specs.within.Outlooks.{is_before}
 use Rattle.smq_group.specs.within.Stored.{earliest_at, is_candidate}
 use Rattle.smq_group.specs.within.Walked.{earliest_of, is_after, first_candidate_after}
-use Rattle.smq_group.proofs.CandidateWalks.{candidates_total, of_candidate}
+use Rattle.smq_group.proofs.CandidateWalks.{candidates_total}
 use Rattle.smq_group.proofs.Least.{least-found, reduce-all}
-use Rattle.smq_group.proofs.Placing.{same_place, own_place, kept_keys_total}
-use Rattle.smq_group.proofs.Stepping.{both, finds, FindsUpTo, found-there, found-passes}
+use Rattle.smq_kit.proofs.HashedKeyOrders.{hashed_keys_total}
+use Rattle.smq_group.proofs.Placing.{same_place, own_place}
+use Rattle.smq_group.proofs.Stepping.{finds, FindsUpTo, found-there}
 
 pub own_key : (key : LinkKey) → same_key key key ≡ true
 own_key key = ap is_eq (tied_itself link_keys_total key)
@@ -314,21 +316,21 @@ module _ (g h : Grouping) (place : Place) (r : GroupedReceipt) (less : HasLess g
           less_of (candidate_cmp (r.moment, place) (moment, p)) (f.1 moment p before.0)
           (λ e. false≢true (sym before.1 ∙ own_place p place (sym (ap (λ (x : m.Candidate). x.1) (pairs_exact (r.moment, place) (moment, p) e)))))
 
-      later : (moment : ℕ) (p : Place) → CanDecide h key moment p → FindsUpTo candidates_total (of_candidate key) (is_after key from) index (in_index key (moment, p))
-      later moment p c = finds candidates_total (of_candidate key) one_candidate (is_after key from) index (in_index key (moment, p)) true so (in_indexed moment p c)
+      later : (moment : ℕ) (p : Place) → CanDecide h key moment p → FindsUpTo candidates_total (is_after key from) index (in_index key (moment, p))
+      later moment p c = finds candidates_total one_candidate (is_after key from) index (in_index key (moment, p)) true so (in_indexed moment p c)
           ((λ i. own_key key i && comes_after moment p c i))
 
       by_pair : (c : Candidate) (moment : ℕ) (p : Place) → same_key key c.key ≡ true → is_gt (kept_candidate_cmp c (in_index key (moment, p))) ≡ false → is_gt (candidate_cmp (c.moment, c.place) (moment, p)) ≡ false
       by_pair c moment p s n =
           let same : key ≡ c.key = one_key key c.key s in
-          let tied : kept_key_cmp c.key key ≡ Equal = ap (kept_key_cmp c.key) same ∙ tied_itself kept_keys_total c.key in
-          sym (ap (λ o. is_gt (ordering_then o (ordering_then (nat_cmp c.moment moment) (kept_place_cmp c.place p)))) tied ∙ ap (λ o. is_gt (ordering_then (nat_cmp c.moment moment) o)) (place_order c.place p)) ∙ n
+          let tied : hashed_key_cmp c.key key ≡ Equal = ap (hashed_key_cmp c.key) same ∙ tied_itself hashed_keys_total c.key in
+          sym (ap (λ o. is_gt (ordering_then o (ordering_then (nat_cmp c.moment moment) (kept_place_cmp c.place p)))) tied ∙ (λ i. is_gt (ordering_then (nat_cmp c.moment moment) (place-order i c.place p)))) ∙ n
 
       next_by : (y : Option (Candidate × Bool)) → find (is_after key from) index ≡ y → IsFirst h key (option_map pair_of (option_map earliest_of y))
       next_by None e = λ moment p c. (let at = later moment p c in not_none at.at (find (is_after key from) index) e at.is)
       next_by (Some x) e =
           let own : same_key key x.0.key ≡ true = (both (same_key key x.0.key) (is_lt (candidate_cmp (r.moment, place) (x.0.moment, x.0.place))) (found-passes (is_after key from) index x e)).0 in (
-            from_index x.0 (get h.receipts x.0.place) x.1 own refl (sym (indexed x.0) ∙ found-there candidates_total (of_candidate key) (is_after key from) index x so e),
+            from_index x.0 (get h.receipts x.0.place) x.1 own refl (sym (indexed x.0) ∙ found-there candidates_total (is_after key from) index x so e),
             λ moment p c. (let at = later moment p c in
                 let same : at.at ≡ x = one_found at.at x (find (is_after key from) index) at.is e in
                 by_pair x.0 moment p own (ap (λ (z : Candidate × Bool). is_gt (kept_candidate_cmp z.0 (in_index key (moment, p)))) (sym same) ∙ at.up_to)),

@@ -14,9 +14,8 @@ use Rattle.std.proofs.lemmas.Map.Keys.{sorted_head, sorted_tail}
 use Rattle.std.proofs.lemmas.List.Sums.{fold-append}
 use Rattle.smq_kit.specs.declared.place.Place.{Place}
 use Rattle.smq_kit.specs.declared.link_key.LinkKey.{LinkKey}
-use Rattle.smq_kit.specs.Orders.{place_cmp}
-use Rattle.smq_kit.proofs.PlaceOrders.{places_total, places_exact}
-use Rattle.smq_shelf.specs.within.KeyLaws.{place_order}
+use Rattle.smq_kit.specs.Orders.{kept_place_cmp, place_cmp}
+use Rattle.smq_kit.proofs.PlaceOrders.{place-order, places_total, places_exact}
 use Rattle.smq_shelf.proofs.Seen.{inserted, looked_up, removed}
 use Rattle.smq_group.specs.declared.change.Change.{Change}
 use Rattle.smq_group.specs.declared.change.Standing.{Standing}
@@ -25,7 +24,6 @@ use Rattle.smq_group.specs.Changes.{TellsChanges, changed, receipt_at, same_stan
 use Rattle.smq_group.specs.Groups.{no_members, with_receipt, with_submit, without_receipt, without_submit}
 use Rattle.smq_group.specs.Matching.{Grouping, GroupedReceipt, receipt_standing, submit_standing}
 use Rattle.smq_group.specs.Standings.{StandApart, standing_at}
-use Rattle.smq_group.specs.within.Orders.{kept_place_cmp}
 use Rattle.smq_group.specs.within.Standing.{AreKept, standings_in, with_change, with_changes}
 use Rattle.smq_group.proofs.Placing.{own_place, same_place}
 use Rattle.smq_group.proofs.Turning.{same_at}
@@ -286,10 +284,6 @@ none-kept = record {
       ∙ sym (λ i. option_or (option_map (λ key. told_of_submit (submit_standing no_members key)) (get-empty {X = LinkKey} place_cmp place i))
       (option_map (λ (r : GroupedReceipt). told_of_receipt (receipt_standing no_members place r)) (get-empty {X = GroupedReceipt} place_cmp place i)));
 }
-
--- the order of places as maps of std compare them
-pub place-order : kept_place_cmp ≡ place_cmp
-place-order = λ i a b. place_order a b i
 
 pub standing-kept : (g : Grouping) (es : List (Place × Standing)) (place : Place) → AreKept g es → lookup (is_at (kept_place_cmp place)) es ≡ standing_at g place
 standing-kept g es place kept = sym (looked_up places_total places_exact place-order es place) ∙ kept.each place

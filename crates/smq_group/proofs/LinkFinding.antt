@@ -5,22 +5,23 @@ use Rattle.std.specs.declared.cmp.Ordering.{Ordering}
 use Rattle.std.specs.declared.cmp.Ordering.TheVariants.{Less, Equal, Greater}
 use Rattle.std.specs.Ordering.{is_lt, is_le, nat_cmp, ordering_then}
 use Rattle.std.specs.Cmp.{nat_cmp_is, ranked}
-use Rattle.std.specs.List.Sorted.{IsStrictlySortedBy}
-use Rattle.std.specs.Map.{keys_of}
 use Rattle.std.proofs.lemmas.Bool.{false≢true, eqb-true}
 use Rattle.std.proofs.lemmas.Bool.Decides.{nat_tests}
 use Rattle.smq_kit.specs.declared.form.Key.{Key}
 use Rattle.smq_kit.specs.declared.form.Key.TheVariants.{Number, Text}
+use Rattle.smq_kit.specs.declared.link_key.LinkKey.{LinkKey}
 use Rattle.smq_kit.specs.declared.names.LinkId.{LinkId}
-use Rattle.smq_kit.specs.declared.place.Place.{Place}
-use Rattle.smq_kit.specs.declared.place.Dir.TheVariants.{FromClient}
 use Rattle.smq_kit.specs.contracts.form.KeyOrd.TheImpl as key_ord
-use Rattle.smq_kit.specs.LinkKeys.{kept_key_cmp}
+use Rattle.smq_kit.specs.Hashes.{hash_of}
+use Rattle.smq_kit.specs.HashedKeys.{hashed_key_cmp}
+use Rattle.smq_kit.specs.Orders.{kept_place_cmp, least_place}
+use Rattle.smq_kit.proofs.Comparisons.{le_zero, then_le}
+use Rattle.smq_kit.proofs.PlaceOrders.{least-kept}
+use Rattle.smq_shelf.proofs.Walks.{Narrows, both, found-passes, with_first}
 use Rattle.smq_group.specs.declared.member.Member.{Member}
 use Rattle.smq_group.specs.within.LinkWalks.{is_after_on, on_link}
-use Rattle.smq_group.specs.within.Orders.{kept_member_cmp, kept_place_cmp}
-use Rattle.smq_group.proofs.Finding.{Narrows, found, keep, keep-found, keep-other, le_of_lt, least_le, then_le, with_first, zero_le}
-use Rattle.smq_group.proofs.Stepping.{both, found-passes}
+use Rattle.smq_group.specs.within.Orders.{kept_member_cmp}
+use Rattle.smq_group.proofs.Finding.{le_of_lt}
 
 -- ---- links rise with their members
 
@@ -33,26 +34,24 @@ rises_at m n r s h = by (nat_cmp m n) refl
     by Greater e = absurd (false≢true (sym (ap (λ o. is_le (ordering_then (ordering_then o r) s)) e) ∙ h))
 
 link-rises : (k j : Member) → is_le (kept_member_cmp k j) ≡ true → k.key.link.0 ≤ j.key.link.0
-link-rises k j h = rises_at k.key.link.0 j.key.link.0 ((key_ord.ghosts).cmp k.key.key j.key.key) (kept_place_cmp k.place j.place) h
+link-rises k j h = rises_at k.key.link.0 j.key.link.0 (ordering_then (nat_cmp (hash_of k.key.key) (hash_of j.key.key)) ((key_ord.ghosts).cmp k.key.key j.key.key)) (kept_place_cmp k.place j.place) h
 
 key_least : (k : Key) → is_le ((key_ord.ghosts).cmp (Number 0) k) ≡ true
-key_least (Number n) = zero_le n
+key_least (Number n) = le_zero n
 key_least (Text t) = refl
 
 module _ (link : LinkId) where
-  abbrev least : Place
-  least = record { session = record { 0 = 0 }; dir = FromClient; offset = 0 }
-
   abbrev first : Member
-  first = record { key = record { link = link; key = Number 0 }; place = least }
+  first = record { key = record { link = link; key = Number 0 }; place = least_place }
 
   -- each member of the link is at or above the least
   first_le : (m : Member) → (m.key.link.0 == link.0) ≡ true → is_le (kept_member_cmp first m) ≡ true
   first_le m on =
-      then_le (kept_key_cmp first.key m.key) (kept_place_cmp least m.place)
-      (then_le (nat_cmp link.0 m.key.link.0) ((key_ord.ghosts).cmp (Number 0) m.key.key)
-      (ap is_le (sym (nat_cmp_is link.0 m.key.link.0 Equal (sym (eqb-true m.key.link.0 link.0 on))))) (key_least m.key.key))
-      (least_le m.place)
+      then_le (hashed_key_cmp first.key m.key) (kept_place_cmp least_place m.place)
+      (then_le (nat_cmp link.0 m.key.link.0) (ordering_then (nat_cmp 0 (hash_of m.key.key)) ((key_ord.ghosts).cmp (Number 0) m.key.key))
+      (ap is_le (sym (nat_cmp_is link.0 m.key.link.0 Equal (sym (eqb-true m.key.link.0 link.0 on)))))
+      (then_le (nat_cmp 0 (hash_of m.key.key)) ((key_ord.ghosts).cmp (Number 0) m.key.key) (le_zero (hash_of m.key.key)) (key_least m.key.key)))
+      (least-kept m.place)
 
   module _ {V : Type 0} where
     abbrev on : Member × Option V → Bool
@@ -61,24 +60,16 @@ module _ (link : LinkId) where
     abbrev at_or_above : Member → Member × Option V → Bool
     at_or_above k e = is_le (kept_member_cmp k e.0)
 
-    first-narrows : Narrows kept_member_cmp (at_or_above first) on on
+    -- from a key that is the first's
+    pub from-first : (k : LinkKey) → k ≡ first.key → (places : List (Member × Option V))
+        → find (at_or_above (record { key = k; place = least_place })) places ≡ find (at_or_above first) places
+    from-first k h places = ap (λ (l : LinkKey). find (at_or_above (record { key = l; place = least_place })) places) h
+
+    pub first-narrows : Narrows kept_member_cmp (at_or_above first) on on
     first-narrows = record {
       both = λ e. with_first (at_or_above first e) (on e) (first_le e.0);
       up = λ e f g n l. let there = link-rises first e.0 g in let rises = link-rises e.0 f.0 (ap is_le l) in grind (arith, nat_tests, n, there, rises);
     }
-
-    module _ (places : List (Member × Option V)) (so : IsStrictlySortedBy kept_member_cmp (keys_of places)) where
-      first_is : find on places ≡ keep on (find (at_or_above first) places)
-      first_is = found kept_member_cmp (at_or_above first) on on places first-narrows so
-
-      pub first-found : (m : Member) (x : Option V) → Some (m, x) ≡ find (at_or_above first) places → (m.key.link.0 == link.0) ≡ true → Some (m, x) ≡ find on places
-      first-found m x h t = sym (first_is ∙ keep-found on (m, x) (find (at_or_above first) places) h t)
-
-      pub first-other : (m : Member) (x : Option V) → Some (m, x) ≡ find (at_or_above first) places → (m.key.link.0 == link.0) ≡ false → None ≡ find on places
-      first-other m x h t = sym (first_is ∙ keep-other on (m, x) (find (at_or_above first) places) h t)
-
-      pub first-none : None ≡ find (at_or_above first) places → None ≡ find on places
-      first-none h = sym (first_is ∙ ap (keep on) (sym h))
 
 module _ {V : Type 0} (k : Member) where
   abbrev beside : Member × Option V → Bool
@@ -87,7 +78,7 @@ module _ {V : Type 0} (k : Member) where
   abbrev above : Member × Option V → Bool
   above e = is_lt (kept_member_cmp k e.0)
 
-  next-narrows : Narrows kept_member_cmp above beside (is_after_on k.key.link k)
+  pub next-narrows : Narrows kept_member_cmp above beside (is_after_on k.key.link k)
   next-narrows = record {
     both = λ e. refl;
     up = λ e f g n l.
@@ -95,19 +86,6 @@ module _ {V : Type 0} (k : Member) where
         let rises = link-rises e.0 f.0 (ap is_le l) in
         grind (arith, nat_tests, n, there, rises);
   }
-
-  module _ (places : List (Member × Option V)) (so : IsStrictlySortedBy kept_member_cmp (keys_of places)) where
-    next_is : find (is_after_on k.key.link k) places ≡ keep beside (find above places)
-    next_is = found kept_member_cmp above beside (is_after_on k.key.link k) places next-narrows so
-
-    pub next-found : (m : Member) (x : Option V) → Some (m, x) ≡ find above places → (m.key.link.0 == k.key.link.0) ≡ true → Some (m, x) ≡ find (is_after_on k.key.link k) places
-    next-found m x h t = sym (next_is ∙ keep-found beside (m, x) (find above places) h t)
-
-    pub next-other : (m : Member) (x : Option V) → Some (m, x) ≡ find above places → (m.key.link.0 == k.key.link.0) ≡ false → None ≡ find (is_after_on k.key.link k) places
-    next-other m x h t = sym (next_is ∙ keep-other beside (m, x) (find above places) h t)
-
-    pub next-none : None ≡ find above places → None ≡ find (is_after_on k.key.link k) places
-    next-none h = sym (next_is ∙ ap (keep beside) (sym h))
 
 module _ {V : Type 0} (link : LinkId) (places : List (Member × Option V)) where
   -- what a look-up finds is of the link

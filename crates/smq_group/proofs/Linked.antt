@@ -13,14 +13,12 @@ use Rattle.smq_kit.specs.declared.names.LinkId.{LinkId}
 use Rattle.smq_kit.specs.declared.place.Place.{Place}
 use Rattle.smq_kit.specs.declared.link_key.LinkKey.{LinkKey}
 use Rattle.smq_kit.specs.Maps.{chosen}
-use Rattle.smq_kit.specs.Orders.{place_cmp}
+use Rattle.smq_kit.specs.Orders.{kept_place_cmp, place_cmp}
 use Rattle.smq_kit.proofs.Comparisons.{or_first, or_second}
 use Rattle.smq_kit.proofs.MapLemmas.{get-chosen}
-use Rattle.smq_kit.proofs.PlaceOrders.{places_total, places_exact}
-use Rattle.smq_shelf.specs.within.KeyLaws.{place_order}
+use Rattle.smq_kit.proofs.PlaceOrders.{place-order, places_total, places_exact}
 use Rattle.smq_group.specs.declared.member.Member.{Member}
 use Rattle.smq_group.specs.within.LinkWalks.{link_places, on_link}
-use Rattle.smq_group.specs.within.Orders.{kept_place_cmp}
 use Rattle.smq_group.specs.within.Stored.{StandsOnce, by_place}
 use Rattle.smq_group.proofs.Placing.{none_head, not_true, rest_none, same_place}
 use Rattle.smq_group.proofs.SortedKeys.{sorted-keys, sorted-strictly}
@@ -88,7 +86,6 @@ module _ {V W : Type 0} (value : LinkKey → V → W) (key_of : W → LinkKey) (
   pub sorted-places : (es : List (Member × V)) (qs : List Place) → StandsOnce value es → IsPermutation (link_places link es) qs → IsSorted kept_place_cmp qs
       → qs ≡ keys (chosen of_link (from_entries {R = place_cmp} (map (by_place value) es)))
   sorted-places es qs o moved sorted =
-      let place-order : kept_place_cmp ≡ place_cmp = λ i a b. place_order a b i in
       sorted-keys places_total places_exact (chosen of_link (from_entries (map (by_place value) es))) qs
       (sorted-strictly places_total places_exact (link_places link es) qs (distinct es o) moved (subst (λ R. IsSorted R qs) place-order sorted))
       (λ q.

@@ -12,6 +12,7 @@ use Rattle.smq_kit.specs.Orders.{place_cmp}
 use Rattle.smq_kit.specs.LinkKeys.{same_key}
 use Rattle.smq_kit.proofs.PlaceOrders.{places_total}
 use Rattle.smq_kit.proofs.LinkKeyOrders.{link_keys_total}
+use Rattle.smq_shelf.proofs.Walks.{both}
 use Rattle.smq_group.specs.declared.changes.Added.TheVariants as put
 use Rattle.smq_group.specs.declared.outlook.Outlook.{Outlook}
 use Rattle.smq_group.specs.declared.outlook.Earliest.{Earliest}
@@ -24,7 +25,6 @@ use Rattle.smq_group.proofs.Changing.{Moves, ReceiptMove, SubmitMove, decider-ca
 use Rattle.smq_group.proofs.Turning.{is_at_place, same_self}
 use Rattle.smq_group.proofs.Earliest.{HasMore, HasLess, decider_in, is_decided, decider-more, decider-elsewhere, decider-stays, own_key}
 use Rattle.smq_group.proofs.Placing.{same_place, own_place}
-use Rattle.smq_group.proofs.Stepping.{both}
 use Rattle.smq_group.proofs.Storing.{number-more, number-less}
 
 flipped : (a b : LinkKey) → same_key a b ≡ false → same_key b a ≡ false

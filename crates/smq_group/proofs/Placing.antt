@@ -6,20 +6,18 @@ use Rattle.std.specs.declared.cmp.Ordering.TheVariants.{Less, Equal, Greater}
 use Rattle.std.specs.Ordering.{is_eq, eq_by_cmp, match_ordering}
 use Rattle.std.specs.Cmp.{IsTotalOrder, tied_itself}
 use Rattle.std.proofs.lemmas.Cmp.{on_total, then_total}
-use Rattle.smq_kit.specs.LinkKeys.{kept_key_cmp}
-use Rattle.smq_kit.proofs.LinkKeyOrders.{link_key-order, link_keys_total}
-use Rattle.smq_shelf.specs.within.KeyLaws.{place_order}
+use Rattle.smq_kit.proofs.HashedKeyOrders.{hashed_keys_total}
 use Rattle.std.specs.Map.{lookup, remove_entry}
 use Rattle.std.specs.BTreeMap.{is_at, insert_entry}
 use Rattle.std.specs.FinMap.{find, insert, remove, from_entries, get-from_entries, get-insert, get-remove, same_map}
 use Rattle.std.proofs.lemmas.Bool.{false≢true}
 use Rattle.smq_kit.specs.declared.place.Place.{Place}
 use Rattle.smq_kit.specs.declared.link_key.LinkKey.{LinkKey}
-use Rattle.smq_kit.specs.Orders.{place_cmp}
-use Rattle.smq_kit.proofs.PlaceOrders.{places_total, places_exact}
+use Rattle.smq_kit.specs.Orders.{kept_place_cmp, place_cmp}
+use Rattle.smq_kit.proofs.PlaceOrders.{place-order, places_total, places_exact}
 use Rattle.smq_kit.proofs.Comparisons.{is_equal}
 use Rattle.smq_group.specs.declared.member.Member.{Member}
-use Rattle.smq_group.specs.within.Orders.{kept_member_cmp, kept_place_cmp}
+use Rattle.smq_group.specs.within.Orders.{kept_member_cmp}
 use Rattle.smq_group.specs.within.KeyLaws.{one_member}
 use Rattle.smq_group.specs.within.Stored.{by_place, StandsOnce}
 
@@ -47,15 +45,12 @@ swapped true false x y z h = refl
 swapped false true x y z h = refl
 swapped false false x y z h = refl
 
--- the orders by which maps of std compare keys and places
-pub kept_keys_total : IsTotalOrder kept_key_cmp
-kept_keys_total = subst IsTotalOrder (sym link_key-order) link_keys_total
-
+-- the order by which maps of std compare places
 pub kept_places_total : IsTotalOrder kept_place_cmp
-kept_places_total = subst IsTotalOrder (sym (λ i a b. place_order a b i)) places_total
+kept_places_total = subst IsTotalOrder (sym place-order) places_total
 
 pub members_total : IsTotalOrder kept_member_cmp
-members_total = then_total (on_total (λ m. m.key) kept_keys_total) (on_total (λ m. m.place) kept_places_total)
+members_total = then_total (on_total (λ m. m.key) hashed_keys_total) (on_total (λ m. m.place) kept_places_total)
 
 module _ {V W : Type 0} (value : LinkKey → V → W) where
   -- what stands at a place

@@ -11,9 +11,11 @@ use Rattle.smq_kit.specs.declared.place.Place.{Place}
 use Rattle.smq_kit.specs.declared.link_key.LinkKey.{LinkKey}
 use Rattle.smq_kit.specs.Orders.{place_cmp}
 use Rattle.smq_kit.specs.Maps.{number_of, share}
-use Rattle.smq_kit.specs.LinkKeys.{same_key, kept_key_cmp, link_key_cmp}
+use Rattle.smq_kit.specs.HashedKeys.{hashed_key_cmp}
+use Rattle.smq_kit.specs.LinkKeys.{same_key, link_key_cmp}
 use Rattle.smq_kit.proofs.PlaceOrders.{places_total, places_exact}
-use Rattle.smq_kit.proofs.LinkKeyOrders.{link_key-order, link_keys_total, link_keys_exact}
+use Rattle.smq_kit.proofs.HashedKeyOrders.{hashed-same}
+use Rattle.smq_kit.proofs.LinkKeyOrders.{link_keys_total, link_keys_exact}
 use Rattle.std.specs.Cmp.{tied_itself}
 use Rattle.smq_kit.proofs.Comparisons.{is_equal}
 use Rattle.smq_kit.proofs.MapLemmas as maps
@@ -57,8 +59,8 @@ none-stored = record {
 
 -- ---- keys
 
-pub tied_key : (a b : LinkKey) → is_at (kept_key_cmp a) b ≡ same_key a b
-tied_key a b = λ i. is_eq (link_key-order i a b)
+pub tied_key : (a b : LinkKey) → is_at (hashed_key_cmp a) b ≡ same_key a b
+tied_key a b = hashed-same a b
 
 share_of : (k key : LinkKey) (b : Bool) → same_key k key ≡ b → share (same_key k) (Some key) ≡ cond b 1 0
 share_of k key b e = sum_by-cons (λ x. cond (same_key k x) 1 0) key [] ∙ ap (λ b. cond b 1 0 + count_by (same_key k) []) e ∙ one b
@@ -105,7 +107,7 @@ module _ (s : List (Member × Bool)) (r : List (Member × Said)) (i : List (Cand
   -- with one submit more, where its key's outlook counts it and the others stay
   pub submit-stored : at submit_value place s ≡ None → AreStored s r i o
       → outlook_at key o' ≡ an_outlook ((outlook_at key o).matches + 1) (outlook_at key o).decider
-      → ((other : LinkKey) → is_at (kept_key_cmp other) key ≡ false → outlook_at other o' ≡ outlook_at other o)
+      → ((other : LinkKey) → is_at (hashed_key_cmp other) key ≡ false → outlook_at other o' ≡ outlook_at other o)
       → AreStored more r i o'
   submit-stored none st here elsewhere = record {
     submits_once = once-insert submit_value member true s none st.submits_once;
@@ -144,7 +146,7 @@ module _ (s : List (Member × Bool)) (r : List (Member × Said)) (i : List (Cand
   -- with one submit less, where its key's outlook counts it no more and the others stay
   pub submit-taken : get (grouping_in s r).submits place ≡ Some key → AreStored s r i o
       → outlook_at key o' ≡ an_outlook ((outlook_at key o).matches - 1) (outlook_at key o).decider
-      → ((other : LinkKey) → is_at (kept_key_cmp other) key ≡ false → outlook_at other o' ≡ outlook_at other o)
+      → ((other : LinkKey) → is_at (hashed_key_cmp other) key ≡ false → outlook_at other o' ≡ outlook_at other o)
       → AreStored less r i o'
   submit-taken there st here elsewhere = record {
     submits_once = once-remove submit_value (is_at (kept_member_cmp member)) s st.submits_once;

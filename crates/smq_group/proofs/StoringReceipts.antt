@@ -11,10 +11,12 @@ use Rattle.std.proofs.lemmas.Bool.{false≢true, eqb-true, eq-eqb}
 use Rattle.smq_kit.specs.declared.place.Place.{Place}
 use Rattle.smq_kit.specs.declared.link_key.LinkKey.{LinkKey}
 use Rattle.smq_kit.specs.Orders.{place_cmp}
-use Rattle.smq_kit.specs.LinkKeys.{same_key, kept_key_cmp}
+use Rattle.smq_kit.specs.HashedKeys.{hashed_key_cmp}
+use Rattle.smq_kit.specs.LinkKeys.{same_key}
 use Rattle.smq_kit.proofs.PlaceOrders.{places_total}
 use Rattle.smq_kit.proofs.Comparisons.{is_equal}
 use Rattle.smq_shelf.proofs.Changes.{lookup-insert_entry, lookup-insert_other, lookup-removed, lookup-remove_other}
+use Rattle.smq_shelf.proofs.Walks.{both}
 use Rattle.smq_group.specs.declared.member.Member.{Member}
 use Rattle.smq_group.specs.declared.member.Candidate.{Candidate}
 use Rattle.smq_group.specs.declared.member.Said.{Said}
@@ -30,7 +32,6 @@ use Rattle.smq_group.specs.within.Walked.{first_candidate_after}
 use Rattle.smq_group.proofs.CandidateWalks.{candidates_total}
 use Rattle.smq_group.proofs.Earliest.{HasMore, HasLess, decider_in, is_decided, decider-more, decider-elsewhere, decider-stays, decider-next, own_key, one_key}
 use Rattle.smq_group.proofs.Placing.{at, found, same_place, own_place, with-member, without-member, once-insert, once-remove}
-use Rattle.smq_group.proofs.Stepping.{both}
 use Rattle.smq_group.proofs.Storing.{tied_key}
 
 alike : (a b : Bool) → (a ≡ true → b ≡ true) → (b ≡ true → a ≡ true) → a ≡ b
@@ -147,7 +148,7 @@ module _ (s : List (Member × Bool)) (r : List (Member × Said)) (i i' : List (C
   pub receipt-stored : get g.receipts place ≡ None → AreStored s r i o
       → i' ≡ cond said.decides (insert_entry kept_candidate_cmp i (candidate_of key place said) true) i
       → outlook_at key o' ≡ outlook_with (outlook_at key o) (earliest_at (said.moment, place)) said.decides
-      → ((other : LinkKey) → is_at (kept_key_cmp other) key ≡ false → outlook_at other o' ≡ outlook_at other o)
+      → ((other : LinkKey) → is_at (hashed_key_cmp other) key ≡ false → outlook_at other o' ≡ outlook_at other o)
       → AreStored s more i' o'
   receipt-stored none st put here elsewhere = record {
     submits_once = st.submits_once;
@@ -247,7 +248,7 @@ module _ (s : List (Member × Bool)) (r : List (Member × Said)) (i i' : List (C
   pub receipt-taken : AreStored s r i o → get g.receipts place ≡ Some value → lookup (is_at (kept_member_cmp member)) r ≡ Some said
       → i' ≡ cond said.decides (remove_entry (is_at (kept_candidate_cmp (candidate_of key place said))) i) i → (said.decides ≡ true → IsStrictlySortedBy kept_candidate_cmp (keys_of i))
       → (next : Option Earliest) → HasNext next
-      → ((other : LinkKey) → is_at (kept_key_cmp other) key ≡ false → outlook_at other o' ≡ outlook_at other o)
+      → ((other : LinkKey) → is_at (hashed_key_cmp other) key ≡ false → outlook_at other o' ≡ outlook_at other o)
       → AreStored s less i' o'
   receipt-taken st there l out so next n elsewhere = record {
     submits_once = st.submits_once;

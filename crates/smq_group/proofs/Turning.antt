@@ -8,6 +8,7 @@ use Rattle.smq_kit.specs.declared.place.Place.{Place}
 use Rattle.smq_kit.specs.declared.link_key.LinkKey.{LinkKey}
 use Rattle.smq_kit.specs.Orders.{place_cmp}
 use Rattle.smq_kit.specs.Maps.{same_option}
+use Rattle.smq_shelf.proofs.Walks.{both}
 use Rattle.smq_group.specs.declared.change.Standing.{Standing}
 use Rattle.smq_group.specs.declared.change.Standing.TheVariants.{Single, Shared, Stray, Deciding, Extra, Noted}
 use Rattle.smq_group.specs.declared.changes.Turn.TheVariants.{Each, Deciders, Newcomer}
@@ -19,7 +20,6 @@ use Rattle.smq_group.specs.within.Outlooks.{decider_of, submit_standing_of, rece
 use Rattle.smq_group.specs.within.Stored.{earliest_at, outlook_in}
 use Rattle.smq_group.specs.within.Told.{same_decider, turn_between}
 use Rattle.smq_group.proofs.Placing.{same_place, own_place}
-use Rattle.smq_group.proofs.Stepping.{both}
 
 -- ---- standings by outlooks
 

@@ -1,28 +1,32 @@
 -- A walk over the members of a key, from place to place.
-use Rattle.std.proofs.Common.{◌≡◌, ◌≤◌, ◌+◌, ◌++◌, arith, length, append_assoc, length-append, suc, Bool, true, false, cond, List, [], ◌∷◌, Option, Some, None, refl, sym, ap, ◌∙◌, map, filter, find}
+use Rattle.std.proofs.Common.{◌≡◌, ◌≤◌, ◌+◌, ◌++◌, arith, length, append_assoc, append-nil, length-append, suc, Bool, true, false, cond, List, [], ◌∷◌, Option, Some, None, refl, sym, ap, ◌∙◌, map, map-id, filter, find, subst}
 use Rattle.std.specs.Prelude.{◌&&◌, not, is_some, option_map}
 use Rattle.std.specs.declared.cmp.Ordering.TheVariants.{Less}
 use Rattle.std.specs.Ordering.{ordering_then}
 use Rattle.std.specs.List.{AllByRecursion}
 use Rattle.std.specs.List.Sorted.{IsStrictlySortedBy}
 use Rattle.std.specs.Map.{keys_of}
+use Rattle.std.proofs.lemmas.List.Kept.{IsStrictlySortedBy-filter}
 use Rattle.std.proofs.lemmas.List.Filters.{length-filter_both}
 use Rattle.std.proofs.lemmas.Map.Keys.{sorted_head, sorted_tail}
 use Rattle.smq_kit.specs.declared.place.Place.{Place}
 use Rattle.smq_kit.specs.declared.link_key.LinkKey.{LinkKey}
-use Rattle.smq_kit.specs.Orders.{place_cmp}
-use Rattle.smq_kit.specs.LinkKeys.{same_key, link_key_cmp, kept_key_cmp}
+use Rattle.smq_kit.specs.Orders.{kept_place_cmp, place_cmp}
+use Rattle.smq_kit.specs.HashedKeys.{hashed_key_cmp}
+use Rattle.smq_kit.specs.LinkKeys.{same_key, link_key_cmp}
 use Rattle.smq_kit.proofs.Comparisons.{is_equal}
 use Rattle.smq_kit.proofs.LinkKeyOrders.{link_keys_exact}
+use Rattle.smq_kit.proofs.PlaceOrders.{place-order}
 use Rattle.smq_shelf.specs.Places.{content_of, with_place}
-use Rattle.smq_shelf.specs.within.KeyLaws.{place_order}
+use Rattle.smq_shelf.specs.Walks.{stands_after}
 use Rattle.smq_shelf.proofs.Changes.{content_ordered}
+use Rattle.smq_shelf.proofs.Finds.{filter_places, filter_same}
+use Rattle.smq_shelf.proofs.Walks.{Rises, of-rises, after-rises, step, filled-are, filter-none, found-passes}
 use Rattle.smq_group.specs.declared.member.Member.{Member}
-use Rattle.smq_group.specs.within.Orders.{kept_member_cmp, kept_place_cmp}
+use Rattle.smq_group.specs.within.Orders.{kept_member_cmp}
 use Rattle.smq_group.specs.within.Walked.{of_key, is_past, placed, left_after, member_key, vacant_of}
 use Rattle.smq_group.proofs.Finding.{member_at, after-narrows, kept_equal}
 use Rattle.smq_group.proofs.Placing.{members_total}
-use Rattle.smq_group.proofs.Stepping.{Rises, after, of-rises, after-rises, step, filter-alike, filter-none, found-passes, filter-sorted}
 
 module _ {V : Type 0} where
   content_at : (p : Place) (m : Member) (x : Option V) (es : List (Member × Option V)) → p ≡ m.place → content_of (map placed es) ≡ map placed (content_of es)
@@ -35,20 +39,9 @@ module _ {V : Type 0} where
   content-placed [] = refl
   content-placed (e ∷ es) = content_at e.0.place e.0 e.1 es refl (content-placed es)
 
-  content_kept : (key : LinkKey) (m : Member) (x : Option V) (es : List (Member × Option V)) (b : Bool) → same_key key m.key ≡ b → content_of (filter (of_key key) es) ≡ filter (of_key key) (content_of es)
-      → content_of (cond b ((m, x) ∷ filter (of_key key) es) (filter (of_key key) es)) ≡ filter (of_key key) (with_place m x (content_of es))
-  content_kept key m None es true t h = h
-  content_kept key m None es false t h = h
-  content_kept key m (Some v) es true t h = ap (λ (xs : List (Member × V)). (m, v) ∷ xs) h ∙ sym (ap (λ b. cond b ((m, v) ∷ filter (of_key key) (content_of es)) (filter (of_key key) (content_of es))) t)
-  content_kept key m (Some v) es false t h = h ∙ sym (ap (λ b. cond b ((m, v) ∷ filter (of_key key) (content_of es)) (filter (of_key key) (content_of es))) t)
-
-  content-filter : (key : LinkKey) (es : List (Member × Option V)) → content_of (filter (of_key key) es) ≡ filter (of_key key) (content_of es)
-  content-filter key [] = refl
-  content-filter key (e ∷ es) = content_kept key e.0 e.1 es (same_key key e.0.key) refl (content-filter key es)
-
   -- the members of a key are those of its places that aren't vacant
   pub members-are : (key : LinkKey) (es : List (Member × Option V)) → content_of (map placed (filter (of_key key) es)) ≡ map placed (filter (of_key key) (content_of es))
-  members-are key es = content-placed (filter (of_key key) es) ∙ ap (map placed) (content-filter key es)
+  members-are key es = content-placed (filter (of_key key) es) ∙ ap (map placed) (filter_places (λ m. same_key key m.key) es)
 
 length_places : {V : Type 0} (xs : List (Member × V)) → length (map placed xs) ≡ length xs
 length_places [] = refl
@@ -89,11 +82,11 @@ module _ {V : Type 0} (key : LinkKey) (es : List (Member × Option V)) (so : IsS
   abbrev of : Member × Option V → Bool
   of = of_key key
 
-  own : (e : Member × Option V) → same_key key e.0.key ≡ true → filter (after members_total of e.0) es ≡ filter (is_past key e.0.place) es
+  own : (e : Member × Option V) → same_key key e.0.key ≡ true → filter (stands_after kept_member_cmp of e.0) es ≡ filter (is_past key e.0.place) es
   own e t =
       let same : key ≡ e.0.key = link_keys_exact key e.0.key (is_equal (link_key_cmp key e.0.key) t) in
-      ap (λ (l : LinkKey). filter (after members_total of (member_at l e.0.place)) es) (sym same)
-      ∙ sym (filter-alike (is_past key e.0.place) (after members_total of (member_at key e.0.place)) es ((after-narrows key e.0.place).both))
+      ap (λ (l : LinkKey). filter (stands_after kept_member_cmp of (member_at l e.0.place)) es) (sym same)
+      ∙ sym (filter_same (is_past key e.0.place) (stands_after kept_member_cmp of (member_at key e.0.place)) ((after-narrows key e.0.place).both) es)
 
   left_at : (q : Member × Option V → Bool) (found : Option (Member × Option V)) → Rises members_total of q → find q es ≡ found → left_after key es (option_map placed found) ≡ map placed (filter q es)
   left_at q None r h = sym (ap (map placed) (filter-none q es h))
@@ -108,8 +101,8 @@ module _ {V : Type 0} (key : LinkKey) (es : List (Member × Option V)) (so : IsS
   left-next place next h =
       ap (left_after key es) h
       ∙ ap (λ (q : Member × Option V → Bool). left_after key es (option_map placed (find q es))) (λ i e. (after-narrows key place).both e i)
-      ∙ left_at (after members_total of (member_at key place)) (find (after members_total of (member_at key place)) es) (after-rises members_total of (member_at key place)) refl
-      ∙ ap (map placed) (sym (filter-alike (is_past key place) (after members_total of (member_at key place)) es ((after-narrows key place).both)))
+      ∙ left_at (stands_after kept_member_cmp of (member_at key place)) (find (stands_after kept_member_cmp of (member_at key place)) es) (after-rises members_total of (member_at key place)) refl
+      ∙ ap (map placed) (sym (filter_same (is_past key place) (stands_after kept_member_cmp of (member_at key place)) ((after-narrows key place).both) es))
 
   -- ---- what a walk has left, from step to step
 
@@ -146,15 +139,11 @@ module _ {V : Type 0} (key : LinkKey) (es : List (Member × Option V)) (so : IsS
       ∙ ap (λ (xs : List (Place × V)). members ++ xs) (with_one p x (content_of (left then)) ∙ sym (ap content_of (left_of p x next then n h)))
       ∙ g
 
-append_none : {A : Type 0} (xs : List A) → xs ++ [] ≡ xs
-append_none [] = refl
-append_none (x ∷ xs) = ap (λ (ys : List _). x ∷ ys) (append_none xs)
-
 -- at the end: nothing is left
 pub end-gathered : {V : Type 0} (key : LinkKey) (es : List (Member × Option V)) (next : Option (Place × Option V)) (members : List (Place × V)) (content : List (Member × V))
     → members ++ content_of (left_after key es next) ≡ content_of (map placed (filter (of_key key) es)) → next ≡ None → content ≡ content_of es → members ≡ map placed (filter (of_key key) content)
 end-gathered key es next members content g n shown =
-    sym (append_none members)
+    sym (append-nil members)
     ∙ sym (ap (λ (m : Option (Place × Option _)). members ++ content_of (left_after key es m)) n)
     ∙ g ∙ members-are key es ∙ ap (λ (xs : List (Member × _)). map placed (filter (of_key key) xs)) (sym shown)
 
@@ -166,7 +155,7 @@ none_of (x ∷ xs) h = absurd (omega (arith, h))
 whole : {A : Type 0} (xs rest all : List A) → xs ++ rest ≡ all → length all ≤ length xs → xs ≡ all
 whole xs rest all e h =
     let l : length xs + length rest ≡ length all = sym (length-append xs rest) ∙ ap length e in
-    sym (append_none xs) ∙ ap (λ ys. xs ++ ys) (sym (none_of rest (omega (arith, l, h)))) ∙ e
+    sym (append-nil xs) ∙ ap (λ ys. xs ++ ys) (sym (none_of rest (omega (arith, l, h)))) ∙ e
 
 -- at as many as there can be: these are all
 pub full-gathered : {V : Type 0} (key : LinkKey) (es : List (Member × Option V)) (so : IsStrictlySortedBy kept_member_cmp (keys_of es)) (p : Place) (x : Option V) (next : Option (Place × Option V)) (members more : List (Place × V)) (content : List (Member × V))
@@ -181,8 +170,8 @@ full-gathered key es so p x next members more content g n m shown full =
 place_above : (key : LinkKey) (j k : Member) → same_key key j.key ≡ true → same_key key k.key ≡ true → kept_member_cmp j k ≡ Less → place_cmp j.place k.place ≡ Less
 place_above key j k sj sk l =
     let ej : key ≡ j.key = link_keys_exact key j.key (is_equal (link_key_cmp key j.key) sj) in
-    let tied = ap (λ (x : LinkKey). kept_key_cmp x k.key) (sym ej) ∙ kept_equal key k.key sk in
-    sym (place_order j.place k.place) ∙ sym (ap (λ r. ordering_then r (kept_place_cmp j.place k.place)) tied) ∙ l
+    let tied = ap (λ (x : LinkKey). hashed_key_cmp x k.key) (sym ej) ∙ kept_equal key k.key sk in
+    sym (λ i. place-order i j.place k.place) ∙ sym (ap (λ r. ordering_then r (kept_place_cmp j.place k.place)) tied) ∙ l
 
 sorted_cons : (p : Place) (ps : List Place) → AllByRecursion (λ j. place_cmp p j ≡ Less) ps → IsStrictlySortedBy place_cmp ps → IsStrictlySortedBy place_cmp (p ∷ ps)
 unfolding IsStrictlySortedBy
@@ -211,4 +200,9 @@ module _ {V : Type 0} (key : LinkKey) where
 
   -- the members of a key stand in the order of their places
   pub members-by_place : (es : List (Member × Option V)) → IsStrictlySortedBy kept_member_cmp (keys_of es) → IsStrictlySortedBy place_cmp (keys_of (map placed (filter (of_key key) (content_of es))))
-  members-by_place es so = by_place (filter (of_key key) (content_of es)) (all_of (content_of es)) (filter-sorted members_total (of_key key) (of_key key) (content_of es) (content_ordered members_total es so))
+  members-by_place es so =
+      let own : Member → Bool = λ m. same_key key m.key in
+      let kept : keys_of (filter (of_key key) (content_of es)) ≡ filter own (keys_of (content_of es)) =
+      sym (ap (λ (xs : List (Member × V)). keys_of xs) (filter_places own es)) ∙ filled-are (λ m. m) own es ∙ map-id (filter own (keys_of (content_of es))) in
+      by_place (filter (of_key key) (content_of es)) (all_of (content_of es))
+      (subst (IsStrictlySortedBy kept_member_cmp) (sym kept) (IsStrictlySortedBy-filter kept_member_cmp own (keys_of (content_of es)) (content_ordered members_total es so)))

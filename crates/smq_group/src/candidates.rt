@@ -3,19 +3,20 @@ ghost use Rattle.std.specs.Prelude.{◌≡◌, ◌+◌, ◌≤◌, find, option_
 ghost use Rattle.std.specs.List.Sorted.{IsStrictlySortedBy};
 ghost use Rattle.std.specs.Map.{keys_of};
 ghost use Rattle.smq_shelf.specs.Places.{content_of};
+ghost use Rattle.smq_shelf.specs.Walks.{Stays};
 ghost use Rattle.smq_group.specs.within.Orders.{kept_candidate_cmp};
-ghost use Rattle.smq_group.specs.within.Walked.{Stays, candidate_key, first_candidate_after, is_after, met, vacant_of};
+ghost use Rattle.smq_group.specs.within.Walked.{candidate_key, first_candidate_after, is_after, met, vacant_of};
 
 use crate::member::Candidate;
 use crate::outlook::Earliest;
 use crate::walks::is_one_key;
-use smq_kit::LinkKey;
+use smq_kit::HashedKey;
 use smq_shelf::{Kept, ShelfKey};
 
 /// The earliest receipt of a key that can decide after this moment and place.
 pub(crate) fn next_candidate(
     candidates: &mut Kept<Candidate, bool>,
-    key: &LinkKey,
+    key: &HashedKey,
     from: Earliest,
 ) -> Option<Earliest>
     ensures value { result ≡ first_candidate_after key.now from candidates.old.content }
@@ -37,7 +38,7 @@ pub(crate) fn next_candidate(
 // The next place of a key's candidates, and whether it isn't vacant.
 fn place_after(
     candidates: &mut Kept<Candidate, bool>,
-    key: &LinkKey,
+    key: &HashedKey,
     from: Earliest,
 ) -> Option<(Earliest, bool)>
     ensures value { result ≡ option_map met (find (is_after key.now from) candidates.old.places) }

@@ -1,16 +1,18 @@
 //! Which members' standings a change of a group changes.
 ghost use Rattle.std.specs.Prelude.{◌≡◌, ◌≤◌, ◌+◌, length, false, [], ◌∷◌, ◌++◌, IfOk, OnOk, OnErr};
 ghost use Rattle.std.specs.BTreeMap.{is_at};
-ghost use Rattle.smq_kit.specs.LinkKeys.{kept_key_cmp};
+ghost use Rattle.smq_kit.specs.HashedKeys.{hashed_key_cmp};
+ghost use Rattle.smq_kit.specs.declared.link_key.LinkKey.{LinkKey};
+ghost use Rattle.smq_shelf.specs.Walks.{Stays};
 ghost use Rattle.smq_group.specs.within.Outlooks.{decider_of, outlook_at};
 ghost use Rattle.smq_group.specs.within.Told.{HoldsAdded, ReceiptsByPlace, SubmitsByPlace, change_at, decider_changes, is_alone, members_in, newcomer_receipt, newcomer_submit, receipt_changes, rival, same_decider, submit_changes, told_receipts, told_submits, turn_between};
-ghost use Rattle.smq_group.specs.within.Walked.{Stays, member_key, vacant_of};
+ghost use Rattle.smq_group.specs.within.Walked.{member_key, vacant_of};
 
 use crate::member::{Member, Said};
 use crate::outlook::{Earliest, Outlook, keep_outlook};
 use crate::walks::members_of;
 use crate::{Change, Standing};
-use smq_kit::{LinkKey, Place};
+use smq_kit::{HashedKey, Place};
 use smq_shelf::Kept;
 use std::alloc::{AllocError, Global};
 
@@ -39,8 +41,8 @@ pub(crate) fn tell(
     alloc: Global,
     submits: &mut Kept<Member, bool>,
     receipts: &mut Kept<Member, Said>,
-    outlooks: &mut Kept<LinkKey, Outlook>,
-    key: &LinkKey,
+    outlooks: &mut Kept<HashedKey, Outlook>,
+    key: &HashedKey,
     before: &Outlook,
     after: &Outlook,
     added: Added,
@@ -50,7 +52,7 @@ pub(crate) fn tell(
     ensures submits { Stays submits.old submits.new }
     ensures receipts { Stays receipts.old receipts.new }
     ensures here { OnOk result (outlook_at key.now outlooks.new.content ≡ after.now) }
-    ensures elsewhere { OnOk result ((other : LinkKey) → is_at (kept_key_cmp other) key.now ≡ false
+    ensures elsewhere { OnOk result ((other : LinkKey) → is_at (hashed_key_cmp other) key.now ≡ false
         → outlook_at other outlooks.new.content ≡ outlook_at other outlooks.old.content) }
     ensures told { IfOk result (λ changes. changes.items
         ≡ told_submits (turn_between before.now after.now) after.now added
@@ -81,7 +83,7 @@ fn changes_of_key(
     alloc: Global,
     submits: &mut Kept<Member, bool>,
     receipts: &mut Kept<Member, Said>,
-    key: &LinkKey,
+    key: &HashedKey,
     before: &Outlook,
     after: &Outlook,
     added: Added,
@@ -147,7 +149,7 @@ fn tell_submits(
     changes: &mut Vec<Change>,
     alloc: Global,
     submits: &mut Kept<Member, bool>,
-    key: &LinkKey,
+    key: &HashedKey,
     after: &Outlook,
     turn: Turn,
     added: Added,
@@ -193,7 +195,7 @@ fn tell_receipts(
     changes: &mut Vec<Change>,
     alloc: Global,
     receipts: &mut Kept<Member, Said>,
-    key: &LinkKey,
+    key: &HashedKey,
     before: &Outlook,
     after: &Outlook,
     turn: Turn,

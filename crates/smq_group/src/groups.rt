@@ -2,6 +2,7 @@
 ghost use Rattle.std.specs.Prelude.{◌≡◌, ◌+◌, ◌*◌, ◌^◌, ◌-◌, ◌≤◌, ℕ, [], length, if◌then◌else◌, min, None, Some, IfOk, OnOk, OnErr, option_map};
 ghost use Rattle.std.specs.FinMap as fin;
 ghost use Rattle.smq_kit.specs.LinkKeys.{same_key};
+ghost use Rattle.smq_kit.specs.declared.link_key.LinkKey.{LinkKey};
 ghost use Rattle.smq_group.specs.Changes.{TellsChanges};
 ghost use Rattle.smq_group.specs.Links.{receipts_on, submits_on};
 ghost use Rattle.smq_group.specs.Groups.{key_on, no_members, receipt_with, vacancies, with_receipt, with_submit, without_receipt, without_submit};
@@ -12,7 +13,7 @@ use crate::links::places_on;
 use crate::member::{Candidate, Member, Said};
 use crate::outlook::{Earliest, Outlook, outlook_of};
 use crate::receipts::{decider_without, out_receipt, put_receipt, said_at, take_back_receipt};
-use smq_kit::{Key, LinkId, LinkKey, Moment, Place};
+use smq_kit::{HashedKey, Key, LinkId, Moment, Place};
 use smq_shelf::{Kept, ShelfKey};
 use std::alloc::{AllocError, Global};
 use std::marker::Model;
@@ -28,7 +29,7 @@ pub struct Groups {
     submits: Kept<Member, bool>,
     receipts: Kept<Member, Said>,
     candidates: Kept<Candidate, bool>,
-    outlooks: Kept<LinkKey, Outlook>,
+    outlooks: Kept<HashedKey, Outlook>,
 }
 
 impl Model for Groups {
@@ -123,7 +124,7 @@ impl Groups {
         ensures settled { self.new.settled ≡ self.old.settled }
         ensures counted { self.old.touches ≤ self.new.touches }
     {
-        let key = LinkKey { link, key };
+        let key = HashedKey::new(link, key);
         let before = outlook_of(&mut self.outlooks, &key);
         let member = Member {
             key: key.copy(),
@@ -225,7 +226,7 @@ impl Groups {
         ensures settled { self.new.settled ≡ self.old.settled }
         ensures counted { self.old.touches ≤ self.new.touches }
     {
-        let key = LinkKey { link, key };
+        let key = HashedKey::new(link, key);
         let before = outlook_of(&mut self.outlooks, &key);
         put_receipt(
             &mut self.receipts,
@@ -360,12 +361,8 @@ impl Groups {
     }
 }
 
-fn key_of_link(link: LinkId, key: &Key) -> LinkKey
+fn key_of_link(link: LinkId, key: &Key) -> HashedKey
     ensures { result ≡ key_on link key.now }
 {
-    let key = match key {
-        Key::Number(number) => Key::Number(*number),
-        Key::Text(id) => Key::Text(id.copy()),
-    };
-    LinkKey { link, key }
+    HashedKey::new(link, key.copy())
 }

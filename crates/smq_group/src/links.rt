@@ -1,15 +1,16 @@
 //! Walks over the members of a link, by key, then by place.
-ghost use Rattle.std.specs.Prelude.{◌≡◌, ◌≤◌, ◌+◌, ◌++◌, ◌∷◌, [], filter, find, length, IfOk, OnOk};
+ghost use Rattle.std.specs.Prelude.{◌≡◌, ◌==◌, ◌≤◌, ◌+◌, ◌++◌, ◌∷◌, [], filter, find, length, IfOk, OnOk};
 ghost use Rattle.std.specs.List.Sorted.{IsPermutation, IsSorted, IsStrictlySortedBy};
 ghost use Rattle.std.specs.Map.{keys_of};
+ghost use Rattle.smq_kit.specs.Orders.{kept_place_cmp};
 ghost use Rattle.smq_shelf.specs.Places.{content_of};
+ghost use Rattle.smq_shelf.specs.Walks.{IsWalked};
 ghost use Rattle.smq_group.specs.within.LinkWalks.{filled, is_after_on, link_places, on_link};
-ghost use Rattle.smq_group.specs.within.Orders.{kept_member_cmp, kept_place_cmp};
-ghost use Rattle.smq_group.specs.within.Walked.{IsWalked, member_key, vacant_keys};
+ghost use Rattle.smq_group.specs.within.Orders.{kept_member_cmp};
+ghost use Rattle.smq_group.specs.within.Walked.{member_key, vacant_keys};
 
 use crate::member::Member;
-use crate::walks::LEAST;
-use smq_kit::{Key, LinkId, LinkKey, Place};
+use smq_kit::{HashedKey, Key, LEAST_PLACE, LinkId, Place};
 use smq_shelf::{Kept, ShelfKey};
 use std::alloc::{AllocError, Global};
 
@@ -76,15 +77,12 @@ fn first_on<V: Copy + Drop>(kept: &mut Kept<Member, V>, link: LinkId) -> Option<
     ensures ordered { IsStrictlySortedBy kept_member_cmp (keys_of kept.old.places) }
 {
     let from = Member {
-        key: LinkKey {
-            link,
-            key: Key::Number(0),
-        },
-        place: LEAST,
+        key: HashedKey::new(link, Key::Number(0)),
+        place: LEAST_PLACE,
     };
     match kept.first_from(&from) {
         Some((member, value)) => {
-            if member.key.link.0 == link.0 {
+            if is_on(member, link) {
                 Some((member.copy(), value.copied()))
             } else {
                 None
@@ -105,7 +103,7 @@ fn next_on<V: Copy + Drop>(
 {
     match kept.first_after(after) {
         Some((member, value)) => {
-            if member.key.link.0 == after.key.link.0 {
+            if is_on(member, after.key.link()) {
                 Some((member.copy(), value.copied()))
             } else {
                 None
@@ -113,4 +111,11 @@ fn next_on<V: Copy + Drop>(
         }
         None => None,
     }
+}
+
+// Whether a member is of a link.
+fn is_on(member: &Member, link: LinkId) -> bool
+    ensures { result ≡ (member.now.key.link.0 == link.0) }
+{
+    member.key.link().0 == link.0
 }

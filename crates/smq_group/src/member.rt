@@ -1,13 +1,13 @@
 //! The keys of the maps in which members are kept.
 ghost use Rattle.std.specs.Prelude.{◌≡◌};
 
-use smq_kit::{LinkKey, Moment, Place};
+use smq_kit::{HashedKey, Moment, Place};
 use smq_shelf::ShelfKey;
 
 /// A member of a group: the group's key and the member's place. Those of a group stand together, by place.
 #[derive(Debug, PartialEq, Eq, PartialOrd, Ord, Drop)]
 pub(crate) struct Member {
-    pub(crate) key: LinkKey,
+    pub(crate) key: HashedKey,
     pub(crate) place: Place,
 }
 
@@ -28,7 +28,7 @@ impl ShelfKey for Member {
 /// earliest first.
 #[derive(Debug, PartialEq, Eq, PartialOrd, Ord, Drop)]
 pub(crate) struct Candidate {
-    pub(crate) key: LinkKey,
+    pub(crate) key: HashedKey,
     pub(crate) moment: Moment,
     pub(crate) place: Place,
 }

@@ -2,11 +2,12 @@
 ghost use Rattle.std.specs.Prelude.{◌≡◌, true, false, OnOk, OnErr, ◌+◌, ◌≤◌};
 ghost use Rattle.std.specs.Map.{lookup};
 ghost use Rattle.std.specs.BTreeMap.{is_at};
-ghost use Rattle.smq_kit.specs.LinkKeys.{kept_key_cmp};
+ghost use Rattle.smq_kit.specs.HashedKeys.{hashed_key_cmp};
+ghost use Rattle.smq_kit.specs.declared.link_key.LinkKey.{LinkKey};
 ghost use Rattle.smq_group.specs.within.Outlooks.{an_outlook, no_outlook, outlook_at, outlook_with, decider_of, is_decided_by, submit_standing_of, receipt_standing_of};
 
 use crate::Standing;
-use smq_kit::{LinkKey, Moment, Place};
+use smq_kit::{HashedKey, Moment, Place};
 use smq_shelf::{Kept, ShelfKey};
 use std::alloc::AllocError;
 
@@ -98,7 +99,7 @@ impl Outlook {
 }
 
 /// The outlook of a key.
-pub(crate) fn outlook_of(outlooks: &mut Kept<LinkKey, Outlook>, key: &LinkKey) -> Outlook
+pub(crate) fn outlook_of(outlooks: &mut Kept<HashedKey, Outlook>, key: &HashedKey) -> Outlook
     ensures value { result ≡ outlook_at key.now outlooks.old.content }
     ensures content { outlooks.new.content ≡ outlooks.old.content }
     ensures settled { outlooks.new.settled ≡ outlooks.old.settled }
@@ -117,14 +118,14 @@ pub(crate) fn outlook_of(outlooks: &mut Kept<LinkKey, Outlook>, key: &LinkKey) -
 
 /// Keeps another outlook of a key. That of no submits and no candidates is not kept. An error changes nothing.
 pub(crate) fn keep_outlook(
-    outlooks: &mut Kept<LinkKey, Outlook>,
-    key: &LinkKey,
+    outlooks: &mut Kept<HashedKey, Outlook>,
+    key: &HashedKey,
     matches: u64,
     decider: Option<Earliest>,
 ) -> Result<(), AllocError>
     ensures here { OnOk result (outlook_at key.now outlooks.new.content
         ≡ an_outlook matches decider) }
-    ensures elsewhere { OnOk result ((other : LinkKey) → is_at (kept_key_cmp other) key.now ≡ false
+    ensures elsewhere { OnOk result ((other : LinkKey) → is_at (hashed_key_cmp other) key.now ≡ false
         → outlook_at other outlooks.new.content ≡ outlook_at other outlooks.old.content) }
     ensures err { OnErr result (outlooks.new.content ≡ outlooks.old.content) }
     ensures settled { outlooks.new.settled ≡ outlooks.old.settled }

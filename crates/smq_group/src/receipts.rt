@@ -5,22 +5,23 @@ ghost use Rattle.std.specs.Map.{keys_of, lookup, remove_entry};
 ghost use Rattle.std.specs.BTreeMap.{insert_entry, is_at};
 ghost use Rattle.smq_shelf.specs.KeptLending.{IsRead};
 ghost use Rattle.smq_shelf.specs.Places.{content_of};
+ghost use Rattle.smq_shelf.specs.Walks.{Stays};
 ghost use Rattle.smq_group.specs.within.Orders.{kept_candidate_cmp, kept_member_cmp};
 ghost use Rattle.smq_group.specs.within.Outlooks.{is_decided_by};
 ghost use Rattle.smq_group.specs.within.Stored.{CanTakeBack, candidate_of, earliest_of_said, member_of};
-ghost use Rattle.smq_group.specs.within.Walked.{Stays, candidate_key, first_candidate_after, vacant_of};
+ghost use Rattle.smq_group.specs.within.Walked.{candidate_key, first_candidate_after, vacant_of};
 
 use crate::candidates::next_candidate;
 use crate::member::{Candidate, Member, Said};
 use crate::outlook::{Earliest, Outlook};
-use smq_kit::{LinkKey, Place};
+use smq_kit::{HashedKey, Place};
 use smq_shelf::{Kept, ShelfKey};
 use std::alloc::AllocError;
 
 /// What is kept of the receipt of a key at a place.
 pub(crate) fn said_at(
     receipts: &mut Kept<Member, Said>,
-    key: &LinkKey,
+    key: &HashedKey,
     place: Place,
 ) -> Option<Said>
     ensures value { result ≡ lookup
@@ -37,7 +38,7 @@ pub(crate) fn said_at(
 /// The earliest candidate of a key once a receipt is taken out: where that decided, the next one.
 pub(crate) fn decider_without(
     candidates: &mut Kept<Candidate, bool>,
-    key: &LinkKey,
+    key: &HashedKey,
     before: &Outlook,
     place: Place,
     said: Said,
@@ -64,7 +65,7 @@ pub(crate) fn decider_without(
 pub(crate) fn put_receipt(
     receipts: &mut Kept<Member, Said>,
     candidates: &mut Kept<Candidate, bool>,
-    key: &LinkKey,
+    key: &HashedKey,
     place: Place,
     said: Said,
 ) -> Result<(), AllocError>
@@ -121,7 +122,7 @@ pub(crate) fn put_receipt(
 pub(crate) fn out_receipt(
     receipts: &mut Kept<Member, Said>,
     candidates: &mut Kept<Candidate, bool>,
-    key: &LinkKey,
+    key: &HashedKey,
     place: Place,
     said: Said,
 ) -> Result<(), AllocError>

@@ -5,27 +5,21 @@ ghost use Rattle.std.specs.Map.{keys_of};
 ghost use Rattle.smq_shelf.specs.Places.{content_of};
 ghost use Rattle.smq_kit.specs.LinkKeys.{same_key};
 ghost use Rattle.smq_kit.specs.Orders.{place_cmp};
+ghost use Rattle.smq_shelf.specs.Walks.{IsWalked};
 ghost use Rattle.smq_group.specs.within.Orders.{kept_member_cmp};
-ghost use Rattle.smq_group.specs.within.Walked.{IsWalked, of_key, is_past, member_key, placed, vacant_of};
+ghost use Rattle.smq_group.specs.within.Walked.{of_key, is_past, member_key, placed, vacant_of};
 
 use crate::member::Member;
-use smq_kit::{Dir, LinkKey, Place, SessionId};
+use smq_kit::{HashedKey, LEAST_PLACE, Place};
 use smq_shelf::{Kept, ShelfKey};
 use std::alloc::{AllocError, Global};
-
-// The least place.
-pub(crate) const LEAST: Place = Place {
-    session: SessionId(0),
-    dir: Dir::FromClient,
-    offset: 0,
-};
 
 /// The members of a key, by place, with what is kept of each. There are no more than `most`: the walk ends with the last that
 /// there can be.
 pub(crate) fn members_of<V: Copy + Drop>(
     alloc: Global,
     kept: &mut Kept<Member, V>,
-    key: &LinkKey,
+    key: &HashedKey,
     most: u64,
 ) -> Result<Vec<(Place, V)>, AllocError>
     requires most { length (map placed (filter (of_key key.now) kept.old.content)) ≤ most }
@@ -69,7 +63,10 @@ fn push_there<V: Copy + Drop>(
 }
 
 // The first place of a key, and what is kept there unless it is vacant.
-fn first_of<V: Copy + Drop>(kept: &mut Kept<Member, V>, key: &LinkKey) -> Option<(Place, Option<V>)>
+fn first_of<V: Copy + Drop>(
+    kept: &mut Kept<Member, V>,
+    key: &HashedKey,
+) -> Option<(Place, Option<V>)>
     ensures value { result ≡ option_map placed (find (of_key key.now) kept.old.places) }
     ensures walked { IsWalked 1 kept.old kept.new }
     ensures content { kept.old.content ≡ content_of kept.old.places }
@@ -77,7 +74,7 @@ fn first_of<V: Copy + Drop>(kept: &mut Kept<Member, V>, key: &LinkKey) -> Option
 {
     let from = Member {
         key: key.copy(),
-        place: LEAST,
+        place: LEAST_PLACE,
     };
     match kept.first_from(&from) {
         Some((member, value)) => {
@@ -94,7 +91,7 @@ fn first_of<V: Copy + Drop>(kept: &mut Kept<Member, V>, key: &LinkKey) -> Option
 // The next place of a key, and what is kept there unless it is vacant.
 fn next_of<V: Copy + Drop>(
     kept: &mut Kept<Member, V>,
-    key: &LinkKey,
+    key: &HashedKey,
     place: Place,
 ) -> Option<(Place, Option<V>)>
     ensures value { result ≡ option_map placed (find (is_past key.now place) kept.old.places) }
@@ -117,7 +114,7 @@ fn next_of<V: Copy + Drop>(
 }
 
 // Whether two keys are one, by their order.
-pub(crate) fn is_one_key(one: &LinkKey, other: &LinkKey) -> bool
+pub(crate) fn is_one_key(one: &HashedKey, other: &HashedKey) -> bool
     ensures { result ≡ same_key one.now other.now }
 {
     one.cmp(other).is_eq()

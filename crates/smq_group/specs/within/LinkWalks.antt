@@ -1,5 +1,5 @@
 -- What a walk over the members of a link meets.
-use Rattle.std.specs.Prelude.{Bool, ◌==◌, ◌&&◌, List, [], ◌∷◌, map, filter, Option, Some, None}
+use Rattle.std.specs.Prelude.{Bool, ◌==◌, ◌&&◌, List, map, filter, Option}
 use Rattle.std.specs.Ordering.{is_lt}
 use Rattle.smq_kit.specs.declared.names.LinkId.{LinkId}
 use Rattle.smq_kit.specs.declared.place.Place.{Place}
@@ -22,8 +22,3 @@ link_places link es = map (λ e. e.0.place) (filter (on_link link) es)
 -- the places of members that aren't vacant
 abbrev pub filled : {V : Type 0} → List (Member × Option V) → List Place
 filled es = map (λ e. e.0.place) (content_of es)
-
--- what is left of a walk: the member that was found, and those of the link after it
-abbrev pub left_on : {V : Type 0} → LinkId → List (Member × Option V) → Option (Member × Option V) → List (Member × Option V)
-left_on link places None = []
-left_on link places (Some found) = found ∷ filter (is_after_on link found.0) places

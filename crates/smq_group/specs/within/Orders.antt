@@ -1,14 +1,9 @@
 -- The orders by which the maps of members compare their keys.
 use Rattle.std.specs.declared.cmp.Ordering.{Ordering}
-use Rattle.smq_kit.specs.declared.place.Place.{Place}
-use Rattle.smq_kit.specs.contracts.place.PlaceOrd.TheImpl as place_ord
 use Rattle.smq_group.specs.declared.member.Member.{Member}
 use Rattle.smq_group.specs.declared.member.Candidate.{Candidate}
 use Rattle.smq_group.specs.contracts.member.MemberOrd.TheImpl as member_ord
 use Rattle.smq_group.specs.contracts.member.CandidateOrd.TheImpl as candidate_ord
-
-abbrev pub kept_place_cmp : Place → Place → Ordering
-kept_place_cmp = (place_ord.ghosts).cmp
 
 abbrev pub kept_member_cmp : Member → Member → Ordering
 kept_member_cmp = (member_ord.ghosts).cmp

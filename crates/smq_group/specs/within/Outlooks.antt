@@ -7,7 +7,7 @@ use Rattle.smq_kit.specs.declared.place.Place.{Place}
 use Rattle.smq_kit.specs.declared.link_key.LinkKey.{LinkKey}
 use Rattle.smq_kit.specs.Orders.{place_cmp}
 use Rattle.smq_kit.specs.Maps.{same_option}
-use Rattle.smq_kit.specs.LinkKeys.{kept_key_cmp}
+use Rattle.smq_kit.specs.HashedKeys.{hashed_key_cmp}
 use Rattle.smq_group.specs.declared.change.Standing.{Standing}
 use Rattle.smq_group.specs.declared.change.Standing.TheVariants.{Single, Shared, Stray, Deciding, Extra, Noted}
 use Rattle.smq_group.specs.declared.outlook.Outlook.{Outlook}
@@ -24,7 +24,7 @@ no_outlook = record { matches = 0; decider = None }
 
 -- the outlook that is kept of a key
 abbrev pub outlook_at : LinkKey → List (LinkKey × Outlook) → Outlook
-outlook_at key kept = unwrap_or (lookup (is_at (kept_key_cmp key)) kept) no_outlook
+outlook_at key kept = unwrap_or (lookup (is_at (hashed_key_cmp key)) kept) no_outlook
 
 -- the place of the receipt that decides
 abbrev pub decider_of : Outlook → Option Place

@@ -1,7 +1,6 @@
 -- What a walk over the members of a key meets.
-use Rattle.std.specs.Prelude.{◌≡◌, ◌≤◌, ◌+◌, ℕ, Bool, ◌&&◌, not, length, List, [], ◌∷◌, map, filter, Option, Some, None, option_map, is_some, find}
+use Rattle.std.specs.Prelude.{ℕ, Bool, ◌&&◌, not, length, List, [], ◌∷◌, map, filter, Option, Some, None, option_map, is_some, find}
 use Rattle.smq_kit.specs.Orders.{place_cmp}
-use Rattle.smq_shelf.specs.Keeping.{Keeping}
 use Rattle.std.specs.Ordering.{is_lt}
 use Rattle.smq_kit.specs.declared.place.Place.{Place}
 use Rattle.smq_kit.specs.declared.link_key.LinkKey.{LinkKey}
@@ -27,25 +26,6 @@ is_past key place e = same_key key e.0.key && is_lt (place_cmp place e.0.place)
 abbrev pub left_after : {V : Type 0} → LinkKey → List (Member × Option V) → Option (Place × Option V) → List (Place × Option V)
 left_after key places None = []
 left_after key places (Some found) = found ∷ map placed (filter (is_past key found.0) places)
-
--- A map that was read.
-pub record Stays {K V : Type 0} (old new : Keeping K V) : Type 0 where
-  pub content : new.content ≡ old.content
-  pub settled : new.settled ≡ old.settled
-  pub places : new.places ≡ old.places
-  pub past : new.past ≡ old.past
-  pub pending : new.pending ≡ old.pending
-  pub counted : old.touches ≤ new.touches
-
--- A map that was read, by at most so many calls.
-pub record IsWalked {K V : Type 0} (calls : ℕ) (old new : Keeping K V) : Type 0 where
-  pub content : new.content ≡ old.content
-  pub settled : new.settled ≡ old.settled
-  pub places : new.places ≡ old.places
-  pub past : new.past ≡ old.past
-  pub pending : new.pending ≡ old.pending
-  pub touches : new.touches ≤ old.touches + calls
-  pub counted : old.touches ≤ new.touches
 
 -- the moment and place of a candidate
 abbrev pub earliest_of : {V : Type 0} → Candidate × V → Earliest

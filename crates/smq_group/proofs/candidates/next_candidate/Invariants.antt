@@ -1,5 +1,6 @@
 use Rattle.std.proofs.Common.{◌≡◌, ◌≤◌, ◌+◌, length}
-use Rattle.smq_group.specs.within.Walked.{Stays, candidate_key, candidates_left, first_candidate_after, first_there, vacant_left, vacant_of}
+use Rattle.smq_shelf.specs.Walks.{Stays}
+use Rattle.smq_group.specs.within.Walked.{candidate_key, candidates_left, first_candidate_after, first_there, vacant_left, vacant_of}
 use Rattle.smq_group.proofs.candidates.next_candidate.Given as goal
 
 abbrev pub invariant-loop-next : goal.invariant-loop-next

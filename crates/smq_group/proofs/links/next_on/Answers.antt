@@ -1,22 +1,23 @@
-use Rattle.std.proofs.Common.{◌≡◌, true, false, ap, ◌∙◌, arith, Some}
+use Rattle.std.proofs.Common.{◌≡◌, true, false, sym, ap, ◌∙◌, Some}
 use Rattle.std.specs.Prelude.{◌==◌}
-use Rattle.std.proofs.lemmas.Bool.Decides.{nat_tests}
-use Rattle.smq_group.proofs.LinkFinding.{next-found, next-none, next-other}
+use Rattle.smq_kit.specs.declared.names.LinkId.{LinkId}
+use Rattle.smq_shelf.proofs.Walks.{told-found, told-none, told-other}
+use Rattle.smq_group.proofs.LinkFinding.{next-narrows}
 use Rattle.smq_group.proofs.links.next_on.Goals as goal
 
-pub returns-then-member-after-clause-value : goal.returns-then-member-after-clause-value
-returns-then-member-after-clause-value g c =
-    let by = c.if-member-after.true in
-    let on : (c.in-Some.member.now.key.link.0 == c.args.after.now.key.link.0) ≡ true = grind (arith, nat_tests, by) in
+pub returns-then-is_on-clause-value : goal.returns-then-is_on-clause-value
+returns-then-is_on-clause-value g c =
+    let on : (c.in-Some.member.now.key.link.0 == c.args.after.now.key.link.0) ≡ true =
+    ap (λ (l : LinkId). c.in-Some.member.now.key.link.0 == l.0) (sym c.link.ensures) ∙ sym c.is_on.ensures ∙ c.if-is_on.true in
     ap (λ m. Some (m, c.copied.result)) c.copy.ensures
-    ∙ next-found c.args.after.now c.args.kept.now.places c.in-Some.ensures.ordered c.in-Some.member.now c.copied.result
+    ∙ told-found (next-narrows c.args.after.now) c.args.kept.now.places c.in-Some.ensures.ordered (c.in-Some.member.now, c.copied.result)
     (ap (λ x. Some (c.in-Some.member.now, x)) c.copied.ensures ∙ c.in-Some.ensures.value) on
 
-pub returns-else-member-after-clause-value : goal.returns-else-member-after-clause-value
-returns-else-member-after-clause-value g c =
-    let by = c.if-member-after.false in
-    let other : (c.in-Some.member.now.key.link.0 == c.args.after.now.key.link.0) ≡ false = grind (arith, nat_tests, by) in
-    next-other c.args.after.now c.args.kept.now.places c.in-Some.ensures.ordered c.in-Some.member.now _ c.in-Some.ensures.value other
+pub returns-else-is_on-clause-value : goal.returns-else-is_on-clause-value
+returns-else-is_on-clause-value g c =
+    let other : (c.in-Some.member.now.key.link.0 == c.args.after.now.key.link.0) ≡ false =
+    ap (λ (l : LinkId). c.in-Some.member.now.key.link.0 == l.0) (sym c.link.ensures) ∙ sym c.is_on.ensures ∙ c.if-is_on.false in
+    told-other (next-narrows c.args.after.now) c.args.kept.now.places c.in-Some.ensures.ordered (c.in-Some.member.now, _) c.in-Some.ensures.value other
 
 pub returns-in-None-clause-value : goal.returns-in-None-clause-value
-returns-in-None-clause-value g c = next-none c.args.after.now c.args.kept.now.places c.in-None.ensures.ordered c.in-None.ensures.value
+returns-in-None-clause-value g c = told-none (next-narrows c.args.after.now) c.args.kept.now.places c.in-None.ensures.ordered c.in-None.ensures.value

@@ -1,5 +1,6 @@
 use Rattle.std.proofs.Common.{ap, ◌∙◌, arith, find}
 use Rattle.std.specs.Prelude.{option_map}
+use Rattle.smq_shelf.proofs.Walks.{walked-more, walked-on}
 use Rattle.smq_group.specs.within.Walked.{is_past, placed}
 use Rattle.smq_group.proofs.Walking.{members-by_place, start-length, start-gathered, step-length, step-gathered, end-gathered, full-gathered, places-parted, sorted_none}
 use Rattle.smq_group.proofs.walks.members_of.Goals as goal
@@ -13,15 +14,7 @@ loop-next-init g c =
     let walked = c.first_of-next.ensures.walked in
     let touches = walked.touches in
     record {
-      walked = record {
-        content = walked.content;
-        settled = walked.settled;
-        places = walked.places;
-        past = walked.past;
-        pending = walked.pending;
-        touches = omega (arith, touches);
-        counted = walked.counted;
-      };
+      walked = walked-more 1 _ walked (omega arith);
       touches = omega (arith, length, touches);
       gathered = start-gathered c.args.key.now c.args.kept.now.places c.first_of-next.ensures.ordered c.new-members.result.items c.first_of-next.result c.new-members.ensures.items c.first_of-next.ensures.value;
     }
@@ -36,20 +29,11 @@ pub loop-next-preserved : goal.loop-next-preserved
 loop-next-preserved g c =
     let value = c.next_of-next.ensures.value ∙ ap (λ es. option_map placed (find (is_past c.args.key.now c.in-Some.place) es)) c.loop-next.invariant.walked.places in
     let length = step-length c.args.key.now c.args.kept.now.places c.first_of-next.ensures.ordered c.in-Some.place c.in-Some.value c.loop-next.next c.next_of-next.result c.in-Some.is value in
-    let before = c.loop-next.invariant.walked in
     let walked = c.next_of-next.ensures.walked in
     let touches = walked.touches in
     let left = c.loop-next.invariant.touches in
     record {
-      walked = record {
-        content = walked.content ∙ before.content;
-        settled = walked.settled ∙ before.settled;
-        places = walked.places ∙ before.places;
-        past = walked.past ∙ before.past;
-        pending = walked.pending ∙ before.pending;
-        touches = omega (arith, touches, left, length);
-        counted = (let a = walked.counted in let b = before.counted in omega (arith, a, b));
-      };
+      walked = walked-on _ 1 _ c.loop-next.invariant.walked walked (omega (arith, touches, left, length));
       touches = omega (arith, touches, left, length);
       gathered = step-gathered c.args.key.now c.args.kept.now.places c.first_of-next.ensures.ordered c.in-Some.place c.in-Some.value c.loop-next.next c.next_of-next.result c.loop-next.members.items c.push_there.new.members.items _
           c.in-Some.is value c.loop-next.invariant.gathered c.in_ok-push_there.ensures;

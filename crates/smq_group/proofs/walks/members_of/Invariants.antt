@@ -1,6 +1,7 @@
 use Rattle.std.proofs.Common.{◌≡◌, ◌≤◌, ◌+◌, ◌++◌, length, map, filter}
 use Rattle.smq_shelf.specs.Places.{content_of}
-use Rattle.smq_group.specs.within.Walked.{IsWalked, of_key, placed, left_after}
+use Rattle.smq_shelf.specs.Walks.{IsWalked}
+use Rattle.smq_group.specs.within.Walked.{of_key, placed, left_after}
 use Rattle.smq_group.proofs.walks.members_of.Given as goal
 
 abbrev pub invariant-loop-next : goal.invariant-loop-next

@@ -3,7 +3,7 @@ use Rattle.std.specs.FinMap.{get}
 use Rattle.smq_group.specs.declared.changes.Added.TheVariants as put
 use Rattle.smq_group.specs.declared.member.Said.{Said}
 use Rattle.smq_group.specs.declared.outlook.Outlook.{Outlook}
-use Rattle.smq_group.specs.Groups.{GroupsValue, key_on, receipt_with}
+use Rattle.smq_group.specs.Groups.{GroupsValue, key_on}
 use Rattle.smq_group.specs.within.Outlooks.{outlook_at, outlook_with}
 use Rattle.smq_group.specs.within.Stored.{earliest_of_said, grouping_in}
 use Rattle.smq_group.proofs.Calling.{tells-call, receipts-back, candidates-back}
@@ -11,18 +11,18 @@ use Rattle.smq_group.proofs.Counting.{counted}
 use Rattle.smq_group.proofs.Moving.{moves-receipt}
 use Rattle.smq_group.proofs.StoringReceipts.{receipt-more, receipt-stored, has-more}
 use Rattle.smq_group.specs.within.Walked.{member_key, vacant_of}
-use Rattle.smq_group.proofs.Vacating.{candidate-filled, counted-vacant, member-filled}
+use Rattle.smq_group.proofs.Vacating.{candidate-filled, counted-at, counted-vacant, member-filled}
 use Rattle.smq_group.proofs.groups.Groups.add_receipt.Goals as goal
 
 pub tell-requires-clause-counted : goal.tell-requires-clause-counted
 tell-requires-clause-counted c =
     ap (λ (o : Outlook). o.matches) c.with_receipt-after.ensures
-    ∙ counted c.self.inside.submits.content c.self.inside.receipts.content c.self.inside.candidates.content c.self.inside.outlooks.content (key_on c.args.link c.args.key) c.outlook_of-before.result
+    ∙ counted c.self.inside.submits.content c.self.inside.receipts.content c.self.inside.candidates.content c.self.inside.outlooks.content c.new-key.result c.outlook_of-before.result
     c.self.invariant.0 c.outlook_of-before.ensures.value
 
 pub invariant_of-self-in-Ok : goal.invariant_of-self-in-Ok
 invariant_of-self-in-Ok c =
-    let key = key_on c.args.link c.args.key in
+    let key = c.new-key.result in
     let said : Said = record { moment = c.args.moment; decides = c.args.decides } in
     let none : get (grouping_in c.self.inside.submits.content c.self.inside.receipts.content).receipts c.args.place ≡ None = ap (λ (v : GroupsValue). get v.members.receipts c.args.place) c.self.view_is ∙ c.requires.absent in (
       rw (c.in-Ok.ensures.submits.content, c.in-Ok.ensures.receipts.content, c.in_ok-put_receipt.ensures.receipts)
@@ -37,12 +37,12 @@ pub returns-in-Ok-clause-ok : goal.returns-in-Ok-clause-ok
 returns-in-Ok-clause-ok c =
     let said : Said = record { moment = c.args.moment; decides = c.args.decides } in
     let none : get (grouping_in c.self.inside.submits.content c.self.inside.receipts.content).receipts c.args.place ≡ None = ap (λ (v : GroupsValue). get v.members.receipts c.args.place) c.self.view_is ∙ c.requires.absent in
-    rw (← c.self.view_is, c.in-Ok.ensures.submits.content, c.in-Ok.ensures.receipts.content, c.in_ok-put_receipt.ensures.receipts)
-    (receipt-more c.self.inside.submits.content c.self.inside.receipts.content c.self.inside.candidates.content c.self.inside.candidates.content c.self.inside.outlooks.content c.self.inside.outlooks.content (key_on c.args.link c.args.key) c.args.place said none)
+    rw (← c.new-key.ensures, ← c.self.view_is, c.in-Ok.ensures.submits.content, c.in-Ok.ensures.receipts.content, c.in_ok-put_receipt.ensures.receipts)
+    (receipt-more c.self.inside.submits.content c.self.inside.receipts.content c.self.inside.candidates.content c.self.inside.candidates.content c.self.inside.outlooks.content c.self.inside.outlooks.content c.new-key.result c.args.place said none)
 
 pub returns-in-Ok-clause-changes : goal.returns-in-Ok-clause-changes
 returns-in-Ok-clause-changes c =
-    let key = key_on c.args.link c.args.key in
+    let key = c.new-key.result in
     let said : Said = record { moment = c.args.moment; decides = c.args.decides } in
     let none : get (grouping_in c.self.inside.submits.content c.self.inside.receipts.content).receipts c.args.place ≡ None = ap (λ (v : GroupsValue). get v.members.receipts c.args.place) c.self.view_is ∙ c.requires.absent in
     let s = c.self.inside.submits.content in
@@ -53,7 +53,7 @@ returns-in-Ok-clause-changes c =
     rw (← c.self.view_is, c.in-Ok.ensures.submits.content)
     (tells-call (grouping_in s r) s s c.tell.new.receipts.content c.put_receipt.new.receipts.content c.put_receipt.new.candidates.content c.tell.new.outlooks.content key (put.Receipt c.args.place c.args.decides) c.outlook_of-before.result c.with_receipt-after.result c.in-Ok.changes.items
     refl c.in-Ok.ensures.receipts.content
-    (rw (c.in-Ok.ensures.receipts.content, c.in_ok-put_receipt.ensures.receipts) (moves-receipt (grouping_in s r) _ c.args.place (receipt_with c.args.link c.args.key c.args.moment c.args.decides) refl more))
+    (rw (c.in-Ok.ensures.receipts.content, c.in_ok-put_receipt.ensures.receipts) (moves-receipt (grouping_in s r) _ c.args.place (record { key = key; moment = c.args.moment; decides = c.args.decides }) refl more))
     (rw c.in-Ok.ensures.submits.content at (invariant_of-self-in-Ok c).0)
     (c.outlook_of-before.ensures.value ∙ c.self.invariant.0.indexed.outlook key) c.in-Ok.ensures.here c.in-Ok.ensures.told c.in-Ok.ensures.submits_by_place c.in-Ok.ensures.receipts_by_place)
 
@@ -67,9 +67,9 @@ invariant_of-self-in-Err c =
 
 pub returns-in-Ok-clause-touches : goal.returns-in-Ok-clause-touches
 returns-in-Ok-clause-touches c =
-    let key = key_on c.args.link c.args.key in
+    let key = c.new-key.result in
     let said : Said = record { moment = c.args.moment; decides = c.args.decides } in
-    let was = counted-vacant key c.self.inside.submits.places c.self.inside.receipts.places c.self.inside.candidates.places in
+    let was = counted-at key (key_on c.args.link c.args.key) c.new-key.ensures c.self.inside.submits.places c.self.inside.receipts.places c.self.inside.candidates.places in
     let filled = member-filled key key c.args.place said c.self.inside.receipts.places c.put_receipt.new.receipts.places c.in_ok-put_receipt.ensures.places in
     let looked = c.outlook_of-before.ensures.touches in
     let set = c.in_ok-put_receipt.ensures.touches in
@@ -78,7 +78,7 @@ returns-in-Ok-clause-touches c =
 
 pub returns-in-Ok-clause-vacant : goal.returns-in-Ok-clause-vacant
 returns-in-Ok-clause-vacant c = λ k.
-    let key = key_on c.args.link c.args.key in
+    let key = c.new-key.result in
     let said : Said = record { moment = c.args.moment; decides = c.args.decides } in
     let was = counted-vacant k c.self.inside.submits.places c.self.inside.receipts.places c.self.inside.candidates.places in
     let is = counted-vacant k c.tell.new.submits.places c.tell.new.receipts.places c.put_receipt.new.candidates.places in
