@@ -9,7 +9,6 @@ pub mod Searches
 pub mod Elsewhere
 pub mod EditLaws
 pub mod KnownVersions
-pub mod Walks
 pub mod NumberOrders
 pub mod NumberWalks
 pub mod NumberLemmas

@@ -1,5 +1,5 @@
 -- Numbers in the order of their octets: those that begin with a prefix stand together, from the prefix on.
-use Rattle.std.proofs.Common.{◌≡◌, ℕ, Bool, true, false, List, [], ◌∷◌, subst, refl, sym, ap, ◌∙◌, zero, suc, arith}
+use Rattle.std.proofs.Common.{◌≡◌, ℕ, Bool, true, false, List, [], ◌∷◌, subst, refl, sym, ap, ◌∙◌, arith}
 use Rattle.std.specs.Prelude.{◌&&◌, nat_eq}
 use Rattle.std.specs.declared.cmp.Ordering.{Ordering}
 use Rattle.std.specs.declared.cmp.Ordering.TheVariants.{Less, Equal, Greater}
@@ -9,21 +9,18 @@ use Rattle.std.proofs.lemmas.Bool.{false≢true}
 use Rattle.std.proofs.lemmas.Bool.Decides.{nat_tests}
 use Rattle.std.proofs.lemmas.Cmp.{on_total, then_total, nat_cmp_total, nat_list_cmp_total}
 use Rattle.std.specs.FinMap.{IsAntisymmetric}
-use Rattle.smq_kit.specs.declared.place.Place.{Place}
-use Rattle.smq_kit.specs.declared.place.Dir.{Dir}
-use Rattle.smq_kit.specs.declared.place.Dir.TheVariants.{FromClient, FromCentre}
-use Rattle.smq_kit.specs.Orders.{dir_cmp, octets_cmp}
-use Rattle.smq_kit.proofs.PlaceOrders.{places_total}
-use Rattle.smq_shelf.specs.within.KeyLaws.{place_order}
+use Rattle.smq_kit.specs.Orders.{kept_place_cmp, least_place, octets_cmp}
+use Rattle.smq_kit.proofs.Comparisons.{then_le}
+use Rattle.smq_kit.proofs.PlaceOrders.{least-kept, place-order, places_total}
+use Rattle.smq_shelf.proofs.Walks.{and_false, both}
 use Rattle.smq_route.specs.declared.numbers.NumberAt.{NumberAt}
 use Rattle.smq_route.specs.Numbers.{number_cmp}
 use Rattle.smq_route.specs.Versions.{begins}
-use Rattle.smq_route.specs.within.NumberKeys.{kept_number_cmp, kept_place_cmp, one_number}
-use Rattle.smq_route.proofs.Walks.{and_false, both}
+use Rattle.smq_route.specs.within.NumberKeys.{kept_number_cmp, one_number}
 
 -- the shelf's order is that of the definitions
 pub number-order : kept_number_cmp ≡ number_cmp
-number-order = λ i a b. ordering_then (octets_cmp a.number b.number) (place_order a.place b.place i)
+number-order = λ i a b. ordering_then (octets_cmp a.number b.number) (place-order i a.place b.place)
 
 pub numbers_total : IsTotalOrder number_cmp
 numbers_total = then_total (on_total (λ k. k.number) nat_list_cmp_total) (on_total (λ k. k.place) places_total)
@@ -105,44 +102,25 @@ first_lt Less s h = refl
 first_lt Equal s h = refl
 first_lt Greater s h = absurd (false≢true h)
 
-then_le : (r s : Ordering) → is_gt r ≡ false → is_le s ≡ true → is_le (ordering_then r s) ≡ true
-then_le Less s h k = refl
-then_le Equal s h k = k
-then_le Greater s h k = absurd (false≢true (sym h))
-
-zero_le : (n : ℕ) → is_gt (nat_cmp 0 n) ≡ false
-zero_le zero = refl
-zero_le (suc n) = ap is_gt (sym (nat_cmp_is 0 (suc n) Less (omega arith)))
-
-offset_le : (n : ℕ) → is_le (nat_cmp 0 n) ≡ true
-offset_le zero = refl
-offset_le (suc n) = ap is_le (sym (nat_cmp_is 0 (suc n) Less (omega arith)))
-
-client_le : (d : Dir) → is_gt (dir_cmp FromClient d) ≡ false
-client_le FromClient = refl
-client_le FromCentre = refl
-
--- the least place
-abbrev pub least : Place
-least = record { session = record { 0 = 0 }; dir = FromClient; offset = 0 }
-
-least_le : (p : Place) → is_le (kept_place_cmp least p) ≡ true
-least_le p = ap is_le (place_order least p) ∙ then_le (nat_cmp 0 p.session.0) (ordering_then (dir_cmp FromClient p.dir) (nat_cmp 0 p.offset)) (zero_le p.session.0) (then_le (dir_cmp FromClient p.dir) (nat_cmp 0 p.offset) (client_le p.dir) (offset_le p.offset))
+le_of_not_above : (r : Ordering) → is_gt r ≡ false → is_le r ≡ true
+le_of_not_above Less h = refl
+le_of_not_above Equal h = refl
+le_of_not_above Greater h = absurd (false≢true (sym h))
 
 module _ (prefix : List ℕ) where
   abbrev pub from : NumberAt
-  from = record { number = prefix; place = least }
+  from = record { number = prefix; place = least_place }
 
   -- the numbers of a prefix stand at or above it
   pub from-at_or_above : (k : NumberAt) → begins k.number prefix ≡ true → is_le (kept_number_cmp from k) ≡ true
-  from-at_or_above k h = then_le (octets_cmp prefix k.number) (kept_place_cmp least k.place) (not_below k.number prefix h) (least_le k.place)
+  from-at_or_above k h = then_le (octets_cmp prefix k.number) (kept_place_cmp least_place k.place) (le_of_not_above (octets_cmp prefix k.number) (not_below k.number prefix h)) (least-kept k.place)
 
   less_numbers : (k j : NumberAt) → kept_number_cmp k j ≡ Less → is_gt (octets_cmp k.number j.number) ≡ false
   less_numbers k j l = first_lt (octets_cmp k.number j.number) (kept_place_cmp k.place j.place) (ap is_lt l)
 
   -- above another number at or above it, none is of the prefix
   pub from-none_above : (k j : NumberAt) → is_le (kept_number_cmp from k) ≡ true → begins k.number prefix ≡ false → kept_number_cmp k j ≡ Less → begins j.number prefix ≡ false
-  from-none_above k j g n l = none_past prefix k.number j.number (first_le (octets_cmp prefix k.number) (kept_place_cmp least k.place) g) n (less_numbers k j l)
+  from-none_above k j g n l = none_past prefix k.number j.number (first_le (octets_cmp prefix k.number) (kept_place_cmp least_place k.place) g) n (less_numbers k j l)
 
   -- nor above another that is above one of the prefix
   pub after-none_above : (a k j : NumberAt) → begins a.number prefix ≡ true → is_lt (kept_number_cmp a k) ≡ true → begins k.number prefix ≡ false → kept_number_cmp k j ≡ Less → begins j.number prefix ≡ false

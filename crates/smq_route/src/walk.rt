@@ -3,21 +3,15 @@ ghost use Rattle.std.specs.Prelude.{◌≡◌, ◌+◌, ◌++◌, ◌∷◌, [],
 ghost use Rattle.std.specs.List.Sorted.{IsStrictlySortedBy};
 ghost use Rattle.std.specs.Map.{keys_of};
 ghost use Rattle.smq_shelf.specs.Places.{content_of};
+ghost use Rattle.smq_shelf.specs.Walks.{IsWalked};
 ghost use Rattle.smq_route.specs.Versions.{begins};
 ghost use Rattle.smq_route.specs.within.NumberKeys.{kept_number_cmp};
-ghost use Rattle.smq_route.specs.within.NumberWalks.{IsWalked, filled, is_past, is_under};
+ghost use Rattle.smq_route.specs.within.NumberWalks.{filled, is_past, is_under};
 
 use crate::NumberAt;
-use smq_kit::{Digits, Dir, Place, SessionId};
+use smq_kit::{Digits, LEAST_PLACE, Place};
 use smq_shelf::{Kept, ShelfKey};
 use std::alloc::{AllocError, Global};
-
-// The least place.
-const LEAST: Place = Place {
-    session: SessionId(0),
-    dir: Dir::FromClient,
-    offset: 0,
-};
 
 /// The places of the numbers that begin with a prefix.
 pub(crate) fn gather(
@@ -65,7 +59,7 @@ fn first_under(kept: &mut Kept<NumberAt, ()>, prefix: &Digits) -> Option<(Number
 {
     let from = NumberAt {
         number: prefix.copy(),
-        place: LEAST,
+        place: LEAST_PLACE,
     };
     match kept.first_from(&from) {
         Some((found, value)) => {

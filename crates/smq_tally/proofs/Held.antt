@@ -8,8 +8,8 @@ use Rattle.std.specs.BTreeMap.{is_at, insert_entry}
 use Rattle.std.specs.FinMap.{FinMap, get, insert, remove, contains_key, empty, values}
 use Rattle.std.specs.FinSet.{FinSet}
 use Rattle.smq_kit.specs.declared.place.Place.{Place}
-use Rattle.smq_kit.specs.Orders.{place_cmp}
-use Rattle.smq_kit.proofs.PlaceOrders.{places_total, places_exact}
+use Rattle.smq_kit.specs.Orders.{kept_place_cmp, place_cmp}
+use Rattle.smq_kit.proofs.PlaceOrders.{place-order, places_total, places_exact}
 use Rattle.smq_kit.proofs.Ordered as ordered
 use Rattle.smq_shelf.specs.Places.{content_of, with_place}
 use Rattle.smq_shelf.proofs.Seen as seen
@@ -20,9 +20,8 @@ use Rattle.smq_tally.specs.Lists.{listed_cmp, listings_of_fact}
 use Rattle.smq_tally.specs.Rows.{keys_of_fact}
 use Rattle.smq_tally.specs.Tables.{TablesValue, tables_of}
 use Rattle.smq_tally.specs.within.Counting.{AreCounted, count_of, one_more, one_less}
-use Rattle.smq_tally.specs.within.Kept.{kept_place_cmp, facts_in, StandAtTheirPlaces, Tallies}
+use Rattle.smq_tally.specs.within.Kept.{facts_in, StandAtTheirPlaces, Tallies}
 use Rattle.smq_tally.specs.within.ListOrder.{lists}
-use Rattle.smq_tally.proofs.ListOrders.{place-order}
 use Rattle.smq_tally.proofs.ListedFacts.{stand-with, stand-without, stand-none, note-listed, note-stays, note-unlisted}
 use Rattle.smq_tally.proofs.Tallies.{number-bound, stands-counted, added-tables, removed-tables, replaced-tables}
 
@@ -35,15 +34,12 @@ Notes = FinSet listed_cmp
 abbrev pub Entries : Type 0
 Entries = List (Place × Fact)
 
-kept-order : kept_place_cmp ≡ place_cmp
-kept-order = λ i a b. place-order a b i
-
 -- the fact that a look-up gives
 pub fact-found : (es : Entries) (q : Place) → get (facts_in es) q ≡ lookup (is_at (kept_place_cmp q)) es
-fact-found es q = seen.looked_up places_total places_exact kept-order es q
+fact-found es q = seen.looked_up places_total places_exact place-order es q
 
 pub fact-put : (es fs : Entries) (k : Place) (f : Fact) → fs ≡ insert_entry kept_place_cmp es k f → facts_in fs ≡ insert (facts_in es) k f
-fact-put es fs k f put = ap facts_in put ∙ seen.inserted places_total places_exact kept-order es k f
+fact-put es fs k f put = ap facts_in put ∙ seen.inserted places_total places_exact place-order es k f
 
 -- the same at the place of an equal fact
 pub copy-put : (es fs : Entries) (f copy : Fact) → copy ≡ f → fs ≡ insert_entry kept_place_cmp es copy.place f
@@ -52,7 +48,7 @@ copy-put es fs f copy same put = fact-put es fs copy.place f put ∙ (λ i. inse
 
 pub fact-taken : (es fs : Entries) (k : Place) → IsStrictlySortedBy kept_place_cmp (keys_of es) → fs ≡ remove_entry (is_at (kept_place_cmp k)) es
     → facts_in fs ≡ remove (facts_in es) k
-fact-taken es fs k sorted took = ap facts_in took ∙ seen.removed places_total places_exact kept-order es k sorted
+fact-taken es fs k sorted took = ap facts_in took ∙ seen.removed places_total places_exact place-order es k sorted
 
 -- a fact that is found has an entry
 pub has-entry : (es fs : Entries) (q : Place) (f : Fact) → fs ≡ es → Some f ≡ get (facts_in es) q → IsSome (lookup (is_at (kept_place_cmp q)) fs)
@@ -77,7 +73,7 @@ has-room es ps most notes t is sorted shown count small key =
     let told : length es ≡ length (content_of ps) = ap (λ (xs : Entries). length xs) shown in
     let bound : count_of (tables_of (facts_in es) notes) key ≤ length (values (facts_in es)) = number-bound (facts_in es) notes key in
     let same : length (values (facts_in es)) ≡ length es = ap (λ xs. length (map (λ e. e.1) xs))
-    (ordered.entries-kept places_total places_exact kept-order es sorted) ∙ length-values es in
+    (ordered.entries-kept places_total places_exact place-order es sorted) ∙ length-values es in
     let there : count_of t key ≡ count_of (tables_of (facts_in es) notes) key = ap (λ (u : TablesValue). count_of u key) is in
     omega (arith, bound, same, there, fewer, told, count, small)
   where
@@ -166,27 +162,27 @@ module _ {facts settled : Facts} {notes settled_notes : Notes} {shown before : T
       listed ∙ ap (λ (t : TablesValue). record t { places = insert t.places note tt }) holds.now ∙ noted-tables facts notes note
       ∙ ap (λ (n : Notes). tables_of facts n) (sym put)
 
-  -- a note was taken out, whose place stays listed for the fact there
-  pub note-covered : {now : Notes} (note : Listed) → contains_key notes note ≡ true → now ≡ remove notes note
+  -- a note was taken out, if it was there, whose place stays listed for the fact there
+  pub note-covered : {now : Notes} (note : Listed) → now ≡ remove notes note
       → list_any (lists note) (option_to_list (get facts note.place)) ≡ true → shown ≡ tables_of facts now
-  note-covered note noted took there =
+  note-covered note took there =
       holds.now
-      ∙ (λ i. record { counts = (tables_of facts notes).counts; places = note-stays facts notes note holds.places noted there i })
+      ∙ (λ i. record { counts = (tables_of facts notes).counts; places = note-stays facts notes note holds.places there i })
       ∙ ap (λ (n : Notes). tables_of facts n) (sym took)
 
-  -- a note was taken out, and its place is listed no more
-  pub note-removed : {now : Notes} {new : TablesValue} (note : Listed) → contains_key notes note ≡ true → now ≡ remove notes note
+  -- a note was taken out, if it was there, and its place is listed no more
+  pub note-removed : {now : Notes} {new : TablesValue} (note : Listed) → now ≡ remove notes note
       → list_any (lists note) (option_to_list (get facts note.place)) ≡ false
       → new ≡ record shown { places = remove shown.places note } → new ≡ tables_of facts now
-  note-removed note noted took none unlisted =
+  note-removed note took none unlisted =
       unlisted
       ∙ ap (λ (t : TablesValue). record t { places = remove t.places note }) holds.now
-      ∙ (λ i. record { counts = (tables_of facts notes).counts; places = note-unlisted facts notes note holds.places noted none i })
+      ∙ (λ i. record { counts = (tables_of facts notes).counts; places = note-unlisted facts notes note holds.places none i })
       ∙ ap (λ (n : Notes). tables_of facts n) (sym took)
 
-  -- a note was taken out, and its place stays listed where the fact there lists it
-  pub note-taken : {now : Notes} {new : TablesValue} (note : Listed) (stays : Bool) → contains_key notes note ≡ true → now ≡ remove notes note
+  -- a note was taken out, if it was there, and its place stays listed where the fact there lists it
+  pub note-taken : {now : Notes} {new : TablesValue} (note : Listed) (stays : Bool) → now ≡ remove notes note
       → stays ≡ list_any (lists note) (option_to_list (get facts note.place))
       → new ≡ record shown { places = cond stays shown.places (remove shown.places note) } → new ≡ tables_of facts now
-  note-taken note true noted took there listed = listed ∙ note-covered note noted took (sym there)
-  note-taken note false noted took none listed = note-removed note noted took (sym none) listed
+  note-taken note true took there listed = listed ∙ note-covered note took (sym there)
+  note-taken note false took none listed = note-removed note took (sym none) listed

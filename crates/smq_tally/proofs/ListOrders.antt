@@ -4,7 +4,7 @@ use Rattle.std.specs.Prelude.{◌==◌, T, ◌&&◌, not, map, filter, slice_get
 use Rattle.std.specs.List.{AllByRecursion}
 use Rattle.std.specs.List.Sorted.{IsStrictlySortedBy}
 use Rattle.std.specs.declared.cmp.Ordering.{Ordering}
-use Rattle.std.specs.declared.cmp.Ordering.TheVariants.{Less, Equal, Greater}
+use Rattle.std.specs.declared.cmp.Ordering.TheVariants.{Less, Equal}
 use Rattle.std.specs.declared.ops.Bound.TheVariants.{Included, Excluded, Unbounded}
 use Rattle.std.specs.Ordering.{nat_cmp, ordering_then, is_le, is_lt, is_gt}
 use Rattle.std.specs.Cmp.{nat_cmp_is}
@@ -15,22 +15,17 @@ use Rattle.std.specs.FinMap.Entries.{below_all}
 use Rattle.std.specs.FinSet.{FinSet}
 use Rattle.std.proofs.lemmas.Bool.{eqb-true}
 use Rattle.std.proofs.lemmas.Bool.Decides.{nat_tests}
-use Rattle.smq_kit.specs.declared.place.Dir.{Dir}
-use Rattle.smq_kit.specs.declared.place.Dir.TheVariants.{FromClient, FromCentre}
-use Rattle.smq_kit.specs.declared.place.Place.{Place}
-use Rattle.smq_kit.specs.contracts.place.DirOrd.TheImpl as dir_ord
-use Rattle.smq_kit.specs.contracts.place.PlaceOrd.TheImpl as place_ord
-use Rattle.smq_kit.specs.Orders.{dir_cmp, place_cmp}
+use Rattle.smq_kit.specs.Orders.{least_place, place_cmp}
 use Rattle.smq_kit.proofs.Ordered as ordered
-use Rattle.smq_kit.proofs.PlaceOrders.{places_exact}
-use Rattle.smq_kit.proofs.Comparisons.{is_less, then_first, then_second, first_test, second_test}
+use Rattle.smq_kit.proofs.PlaceOrders.{least-le, place-order, places_exact}
+use Rattle.smq_kit.proofs.Comparisons.{is_less, then_first, then_least, then_second, first_test, second_test}
 use Rattle.smq_tally.specs.declared.list.List as l
 use Rattle.smq_tally.specs.declared.list.List.TheVariants as v
 use Rattle.smq_tally.specs.declared.list.Listed.{Listed}
 use Rattle.smq_tally.specs.contracts.list.ListOrd.TheImpl as list_ord
 use Rattle.smq_tally.specs.Lists.{lists, list_rank, listed_cmp, in_list}
 use Rattle.smq_tally.specs.Tables.{TablesValue, listed_in}
-use Rattle.smq_tally.specs.within.ListOrder.{kept_listed_cmp, listed_total, first_place, first_in}
+use Rattle.smq_tally.specs.within.ListOrder.{kept_listed_cmp, listed_total, first_in}
 
 -- ---- the derived orders are those of the definitions
 
@@ -64,17 +59,8 @@ list-order v.Broken = each_list (ListsAlike v.Broken) refl refl refl refl refl r
 list-order v.Open = each_list (ListsAlike v.Open) refl refl refl refl refl refl refl refl refl refl refl
 list-order v.Lapsed = each_list (ListsAlike v.Lapsed) refl refl refl refl refl refl refl refl refl refl refl
 
-dir-order : (a b : Dir) → (dir_ord.ghosts).cmp a b ≡ dir_cmp a b
-dir-order FromClient FromClient = refl
-dir-order FromClient FromCentre = refl
-dir-order FromCentre FromClient = refl
-dir-order FromCentre FromCentre = refl
-
-pub place-order : (a b : Place) → (place_ord.ghosts).cmp a b ≡ place_cmp a b
-place-order a b = λ i. ordering_then (nat_cmp a.session.0 b.session.0) (ordering_then (dir-order a.dir b.dir i) (nat_cmp a.offset b.offset))
-
 pub listed-order : kept_listed_cmp ≡ listed_cmp
-listed-order = λ i a b. ordering_then (list-order a.list b.list i) (place-order a.place b.place i)
+listed-order = λ i a b. ordering_then (list-order a.list b.list i) (place-order i a.place b.place)
 
 -- ---- listed places that compare equal are one
 
@@ -168,33 +154,9 @@ places-sorted t list = among-sorted list (keys t.places) (keys-sorted (entries t
 
 -- ---- where a list begins and ends
 
-pub le_zero : (n : ℕ) → is_le (nat_cmp 0 n) ≡ true
-le_zero n = grind (arith, nat_tests)
-
-le_client : (d : Dir) → is_le (dir_cmp FromClient d) ≡ true
-le_client FromClient = refl
-le_client FromCentre = refl
-
-pub then_le : (p q : Ordering) → is_le p ≡ true → is_le q ≡ true → is_le (ordering_then p q) ≡ true
-then_le Less q h k = refl
-then_le Equal q h k = k
-then_le Greater q h k = h
-
--- no place is before the first
-first_le : (p : Place) → is_le (place_cmp first_place p) ≡ true
-first_le p =
-    let within : is_le (ordering_then (dir_cmp FromClient p.dir) (nat_cmp 0 p.offset)) ≡ true = then_le (dir_cmp FromClient p.dir)
-    (nat_cmp 0 p.offset) (le_client p.dir) (le_zero p.offset) in
-    then_le (nat_cmp 0 p.session.0) (ordering_then (dir_cmp FromClient p.dir) (nat_cmp 0 p.offset)) (le_zero p.session.0) within
-
-pub then_least : (p q : Ordering) → is_le q ≡ true → is_le (ordering_then p q) ≡ is_le p
-then_least Less q h = refl
-then_least Equal q h = h
-then_least Greater q h = refl
-
 -- what a list begins with is at or before what is of no earlier list
 begins : (list : l.List) (q : Listed) → is_le (listed_cmp (first_in list) q) ≡ is_le (nat_cmp (list_rank list) (list_rank q.list))
-begins list q = then_least (nat_cmp (list_rank list) (list_rank q.list)) (place_cmp first_place q.place) (first_le q.place)
+begins list q = then_least (nat_cmp (list_rank list) (list_rank q.list)) (place_cmp least_place q.place) (least-le q.place)
 
 pub one_number : (a b : ℕ) → (is_le (nat_cmp a b) && not (is_le (nat_cmp (a + 1) b))) ≡ (b == a)
 one_number a b = grind (arith, nat_tests)

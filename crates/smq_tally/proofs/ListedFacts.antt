@@ -26,7 +26,7 @@ use Rattle.smq_tally.specs.within.Kept.{StandAtTheirPlaces}
 use Rattle.smq_tally.specs.within.ListOrder.{lists, listed_total, same_listed, takes_facts}
 use Rattle.smq_tally.proofs.ListOrders.{listed_exact}
 use Rattle.smq_tally.proofs.Listings.{marked, get-listed}
-use Rattle.smq_tally.proofs.Undone.{take-out, put-again}
+use Rattle.smq_tally.proofs.Undone.{take-out, put-again, remove-none}
 
 -- ---- sets by what they have
 
@@ -359,26 +359,44 @@ listed-by-own facts q own = by-fact (get facts q.place) refl
 pub noted-again : (notes : FinSet listed_cmp) (note : Listed) → contains_key notes note ≡ true → insert (remove notes note) note tt ≡ notes
 noted-again notes note has = put-again listed_total listed_exact notes note tt (marked-there (get notes note) has)
 
-module _ (facts : FinMap place_cmp Fact) (notes : FinSet listed_cmp) (note : Listed) (own : StandAtTheirPlaces facts)
-    (noted : contains_key notes note ≡ true) where
+module _ (facts : FinMap place_cmp Fact) (notes : FinSet listed_cmp) (note : Listed) (own : StandAtTheirPlaces facts) where
   -- the tables without the note list its place for the fact there alone
   left-listed : contains_key (tables_of facts (remove notes note)).places note ≡ list_any (lists note) (option_to_list (get facts note.place))
   left-listed =
       places-have facts (remove notes note) note
       ∙ (λ i. is_some (maps.get-removed listed_total listed_exact notes note i) || listed-by-own facts note own i)
 
-  before-note : (tables_of facts notes).places ≡ insert (tables_of facts (remove notes note)).places note tt
-  before-note =
+  -- with the note, if it is there, they list its place too
+  before-note : contains_key notes note ≡ true → (tables_of facts notes).places ≡ insert (tables_of facts (remove notes note)).places note tt
+  before-note noted =
       ap (λ (s : FinSet listed_cmp). (tables_of facts s).places) (sym (noted-again notes note noted))
       ∙ sym (note-listed facts (remove notes note) note)
+
+  -- and if it isn't, they list the same
+  before-none : contains_key notes note ≡ false → (tables_of facts notes).places ≡ (tables_of facts (remove notes note)).places
+  before-none none =
+      ap (λ (s : FinSet listed_cmp). (tables_of facts s).places)
+      (sym (remove-none listed_total listed_exact notes note (nothing (get notes note) none)))
 
   -- what the fact of the place lists too stays listed
   pub note-stays : list_any (lists note) (option_to_list (get facts note.place)) ≡ true
       → (tables_of facts notes).places ≡ (tables_of facts (remove notes note)).places
-  note-stays there = before-note ∙ listed-more (tables_of facts (remove notes note)).places note (left-listed ∙ there)
+  note-stays there = by (contains_key notes note) refl
+    where
+      by : (b : Bool) → contains_key notes note ≡ b → (tables_of facts notes).places ≡ (tables_of facts (remove notes note)).places
+      by true noted = before-note noted ∙ listed-more (tables_of facts (remove notes note)).places note (left-listed ∙ there)
+      by false none = before-none none
 
   -- and else it is listed no more
   pub note-unlisted : list_any (lists note) (option_to_list (get facts note.place)) ≡ false
       → remove (tables_of facts notes).places note ≡ (tables_of facts (remove notes note)).places
-  note-unlisted none =
-      ap (λ (s : FinSet listed_cmp). remove s note) before-note ∙ listed-again (tables_of facts (remove notes note)).places note (left-listed ∙ none)
+  note-unlisted unlisted = by (contains_key notes note) refl
+    where
+      left : FinSet listed_cmp
+      left = (tables_of facts (remove notes note)).places
+
+      by : (b : Bool) → contains_key notes note ≡ b → remove (tables_of facts notes).places note ≡ left
+      by true noted = ap (λ (s : FinSet listed_cmp). remove s note) (before-note noted) ∙ listed-again left note (left-listed ∙ unlisted)
+      by false none =
+          ap (λ (s : FinSet listed_cmp). remove s note) (before-none none)
+          ∙ remove-none listed_total listed_exact left note (nothing (get left note) (left-listed ∙ unlisted))

@@ -12,6 +12,7 @@ use Rattle.std.specs.Map.{keys_of}
 use Rattle.std.specs.FinMap.{FinMap, entries}
 use Rattle.smq_tally.specs.declared.fact.RowKey.{RowKey}
 use Rattle.smq_tally.specs.declared.value.Value.{Value}
+use Rattle.smq_kit.proofs.Comparisons.{le_zero, then_le, then_least}
 use Rattle.smq_tally.specs.declared.value.Value.TheVariants as w
 use Rattle.smq_tally.specs.declared.view.View.{View}
 use Rattle.smq_tally.specs.Rows.{views, view_rank, value_cmp, count_cmp}
@@ -22,7 +23,7 @@ use Rattle.smq_tally.specs.within.RowCounts.{row_cmp, rows_in, shown_among}
 use Rattle.smq_tally.proofs.CountOrders.{row_key-order, rows-kept}
 use Rattle.smq_tally.proofs.RowCounts.{Row}
 use Rattle.smq_tally.proofs.ShownRows.{rows-shown}
-use Rattle.smq_tally.proofs.ListOrders.{le_zero, then_le, then_least, one_number, last_number}
+use Rattle.smq_tally.proofs.ListOrders.{one_number, last_number}
 
 -- ---- views in turn
 

@@ -80,11 +80,8 @@ pub(crate) fn unlist(places: &mut KeptMap<Listed, ()>, listed: &Listed) -> Resul
     ensures settled { places.new.settled ≡ places.old.settled }
     ensures err { OnErr result (places.new ≡ places.old) }
 {
-    if places.get(listed).is_none() {
-        return Ok(false);
-    }
-    places.remove(listed)?;
-    Ok(true)
+    let taken = places.take(listed)?;
+    Ok(taken.is_some())
 }
 
 /// Whether a fact's place is in the set of listed places, as one of its list.

@@ -89,9 +89,8 @@ impl NotedTables {
         }
     }
 
-    /// Takes a note out, and lists its place no more unless it stays for a fact. An error changes nothing.
+    /// Takes a note out, if it is there, and lists its place no more unless it stays for a fact. An error changes nothing.
     pub(crate) fn forget(&mut self, note: &Listed, stays: bool) -> Result<(), AllocError>
-        requires noted { IsTrue (fin.contains_key self.old.notes note.now) }
         requires stays { IsTrue stays → IsTrue (takes_facts note.now.list) }
         ensures ok { OnOk result (self.new ≡ record self.old {
           notes = fin.remove self.old.notes note.now;
@@ -105,12 +104,12 @@ impl NotedTables {
             self.tables.unlist_place(note)?;
             return Ok(());
         }
-        self.apart.remove(note)?;
+        let taken = self.apart.take(note)?;
         if stays {
             return Ok(());
         }
         if let Err(error) = self.tables.unlist_place(note) {
-            take_back(&mut self.apart, true);
+            take_back(&mut self.apart, taken.is_some());
             return Err(error);
         }
         Ok(())

@@ -135,16 +135,48 @@ impl Tally {
         ensures touched { OnOk result (touched self.old.touches ≤ self.new.touches) }
         ensures counted { self.old.touches ≤ self.new.touches }
     {
-        let before = fact_at(&mut self.facts, &fact.place);
+        let before = self.look_up(fact.place);
         let outcome = outcome_of(&before);
-        if is_same(&before, &fact) {
-            return Ok(outcome);
+        self.replace(&before, fact)?;
+        Ok(outcome)
+    }
+
+    /// A copy of the fact of a place, if it has one: a look-up.
+    pub fn look_up(&mut self, place: Place) -> Option<Fact>
+        ensures value { result ≡ fin.get self.old.facts place }
+        ensures held { held_in self.new ≡ held_in self.old }
+        ensures settled { self.new.settled ≡ self.old.settled }
+        ensures pending { self.new.pending ≡ self.old.pending }
+        ensures touched { self.new.touches ≡ touched self.old.touches }
+        ensures touches { self.new.touches ≤ self.old.touches + 1 }
+        ensures counted { self.old.touches ≤ self.new.touches }
+    {
+        fact_at(&mut self.facts, &place)
+    }
+
+    /// Sets the fact of its place, in the place of the one that was looked up there: one change of the facts. It costs nothing
+    /// where that one is equal, and no change of a list where both are in the same. An error brings back what it held when it
+    /// was last settled, or made.
+    pub fn replace(&mut self, before: &Option<Fact>, fact: Fact) -> Result<(), AllocError>
+        requires before { before.now ≡ fin.get self.old.facts fact.place }
+        ensures ok { OnOk result (self.new.facts ≡ fin.insert self.old.facts fact.place fact) }
+        ensures notes { OnOk result (self.new.notes ≡ self.old.notes) }
+        ensures err { OnErr result (held_in self.new ≡ self.old.settled) }
+        ensures settled { self.new.settled ≡ self.old.settled }
+        ensures pending { self.new.pending ≤ self.old.pending + 1 }
+        ensures err_pending { OnErr result (self.new.pending ≡ 0) }
+        ensures touches { self.new.touches ≤ self.old.touches + 1 + self.old.pending + 1 }
+        ensures ok_touches { OnOk result (self.new.touches ≤ self.old.touches + 1) }
+        ensures counted { self.old.touches ≤ self.new.touches }
+    {
+        if is_same(before, &fact) {
+            return Ok(());
         }
-        if let Err(error) = put(&mut self.facts, &mut self.tables, &before, fact) {
+        if let Err(error) = put(&mut self.facts, &mut self.tables, before, fact) {
             undo_all(&mut self.facts, &mut self.tables);
             return Err(error);
         }
-        Ok(outcome)
+        Ok(())
     }
 
     /// Notes a place in a list. A place that is noted there already stays. An error changes nothing.
@@ -165,10 +197,9 @@ impl Tally {
         self.tables.is_noted(&Listed { list, place })
     }
 
-    /// Takes a note out, which is there: its place is in the list no more, unless a fact puts it there. Only where facts
+    /// Takes a note out, if it is there: its place is in the list no more, unless a fact puts it there. Only where facts
     /// put places into that list is the fact looked up. An error changes nothing but the touches.
     pub fn forget(&mut self, list: List, place: Place) -> Result<(), AllocError>
-        requires noted { IsTrue (fin.contains_key self.old.notes (listed list place)) }
         ensures ok { OnOk result (self.new.notes ≡ fin.remove self.old.notes (listed list place)) }
         ensures facts { self.new.facts ≡ self.old.facts }
         ensures err { OnErr result (self.new.notes ≡ self.old.notes) }
@@ -322,8 +353,7 @@ fn undo_all(facts: &mut Kept<Place, Fact>, tables: &mut NotedTables)
     tables.undo();
 }
 
-// Whether the fact at a place that is noted puts it into the list too. In a list into which facts put no places, the fact
-// isn't looked up.
+// Whether the fact at a place puts it into the list. In a list into which facts put no places, the fact isn't looked up.
 fn is_listed(facts: &mut Kept<Place, Fact>, note: &Listed) -> bool
     ensures value { result ≡ list_any (lists note.now)
         (option_to_list (fin.get (facts_in facts.old.content) note.now.place)) }

@@ -5,19 +5,14 @@ use Rattle.std.specs.declared.cmp.Ordering.{Ordering}
 use Rattle.std.specs.declared.cmp.Ordering.TheVariants.{Equal}
 use Rattle.std.specs.FinMap as fin
 use Rattle.std.specs.FinSet.{FinSet}
-use Rattle.smq_kit.specs.declared.place.Place.{Place}
-use Rattle.smq_kit.specs.contracts.place.PlaceOrd.TheImpl as place_ord
-use Rattle.smq_kit.specs.Orders.{octets_cmp}
+use Rattle.smq_kit.specs.Orders.{kept_place_cmp, octets_cmp}
 use Rattle.smq_kit.proofs.Comparisons.{then_first, then_second}
 use Rattle.smq_shelf.specs.within.KeyLaws.{one_place}
 use Rattle.smq_route.specs.declared.numbers.NumberAt.{NumberAt}
 use Rattle.smq_route.specs.contracts.numbers.NumberAtOrd.TheImpl as number_ord
 use Rattle.smq_route.specs.Numbers.{number_cmp, number_at}
 
--- the orders by which a shelf compares places, and numbers at places
-abbrev pub kept_place_cmp : Place → Place → Ordering
-kept_place_cmp = (place_ord.ghosts).cmp
-
+-- the order by which a shelf compares numbers at places
 abbrev pub kept_number_cmp : NumberAt → NumberAt → Ordering
 kept_number_cmp = (number_ord.ghosts).cmp
 

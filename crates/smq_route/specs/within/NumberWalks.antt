@@ -1,8 +1,7 @@
 -- What a walk over the numbers that begin with a prefix meets.
-use Rattle.std.specs.Prelude.{◌≡◌, ◌≤◌, ◌+◌, ℕ, Bool, ◌&&◌, not, List, [], ◌∷◌, map, filter, Option, Some, None, is_some}
+use Rattle.std.specs.Prelude.{ℕ, Bool, ◌&&◌, not, List, map, filter, Option, is_some}
 use Rattle.std.specs.Ordering.{is_lt}
 use Rattle.smq_kit.specs.declared.place.Place.{Place}
-use Rattle.smq_shelf.specs.Keeping.{Keeping}
 use Rattle.smq_shelf.specs.Places.{content_of}
 use Rattle.smq_route.specs.declared.numbers.NumberAt.{NumberAt}
 use Rattle.smq_route.specs.Versions.{begins}
@@ -24,11 +23,6 @@ is_past prefix after e = is_lt (kept_number_cmp after e.0) && begins e.0.number 
 abbrev pub placed : {X : Type 0} → List (NumberAt × X) → List Place
 placed es = map (λ e. e.0.place) es
 
--- what is left of a walk: the one that was found, and those of the prefix after it
-abbrev pub left_after : List ℕ → List Spot → Option Spot → List Spot
-left_after prefix spots None = []
-left_after prefix spots (Some found) = found ∷ filter (is_past prefix found.0) spots
-
 -- the places of those that aren't vacant
 abbrev pub filled : List Spot → List Place
 filled spots = placed (content_of spots)
@@ -36,13 +30,3 @@ filled spots = placed (content_of spots)
 -- the numbers of those that are
 abbrev pub vacant_numbers : List Spot → List (List ℕ)
 vacant_numbers spots = map (λ e. e.0.number) (filter (λ e. not (is_some e.1)) spots)
-
--- A map that was read, by at most so many calls.
-pub record IsWalked {K V : Type 0} (calls : ℕ) (old new : Keeping K V) : Type 0 where
-  pub content : new.content ≡ old.content
-  pub settled : new.settled ≡ old.settled
-  pub places : new.places ≡ old.places
-  pub past : new.past ≡ old.past
-  pub pending : new.pending ≡ old.pending
-  pub touches : new.touches ≤ old.touches + calls
-  pub counted : old.touches ≤ new.touches

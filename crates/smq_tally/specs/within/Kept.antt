@@ -1,10 +1,8 @@
 -- Maps that can be undone, seen as finite ones, and what a change leaves in them to be taken back.
 use Rattle.std.specs.Prelude.{◌≡◌, Bool, true, false, List, ◌∷◌, Some}
-use Rattle.std.specs.declared.cmp.Ordering.{Ordering}
 use Rattle.std.specs.FinMap as fin
 use Rattle.std.specs.FinSet.{FinSet}
 use Rattle.smq_kit.specs.declared.place.Place.{Place}
-use Rattle.smq_kit.specs.contracts.place.PlaceOrd.TheImpl as place_ord
 use Rattle.smq_kit.specs.Orders.{place_cmp}
 use Rattle.smq_shelf.specs.Keeping.{KeepingMap}
 use Rattle.smq_shelf.specs.Places.{content_of}
@@ -16,10 +14,6 @@ use Rattle.smq_tally.specs.Lists.{listed_cmp}
 use Rattle.smq_tally.specs.Tables.{TablesValue, tables_of}
 use Rattle.smq_tally.specs.within.Counting.{Counts}
 use Rattle.smq_tally.specs.within.RowCounts.{counts_of, rows_in}
-
--- the order by which a map of std compares places
-abbrev pub kept_place_cmp : Place → Place → Ordering
-kept_place_cmp = (place_ord.ghosts).cmp
 
 -- entries of facts as a finite map
 abbrev pub facts_in : List (Place × Fact) → fin.FinMap place_cmp Fact

@@ -5,8 +5,7 @@ use Rattle.std.specs.declared.cmp.Ordering.{Ordering}
 use Rattle.std.specs.List.{list_any}
 use Rattle.std.specs.Ordering.{eq_by_cmp}
 use Rattle.std.proofs.lemmas.Cmp.{on_total, then_total, nat_cmp_total}
-use Rattle.smq_kit.specs.declared.place.Dir.TheVariants.{FromClient}
-use Rattle.smq_kit.specs.declared.place.Place.{Place}
+use Rattle.smq_kit.specs.Orders.{least_place}
 use Rattle.smq_kit.proofs.PlaceOrders.{places_total}
 use Rattle.smq_tally.specs.declared.list.List as l
 use Rattle.smq_tally.specs.declared.list.List.TheVariants as v
@@ -37,10 +36,6 @@ takes_facts v.Open = true
 takes_facts v.Lapsed = true
 takes_facts _ = false
 
--- the place before which there is none
-abbrev pub first_place : Place
-first_place = record { session = record { 0 = 0 }; dir = FromClient; offset = 0 }
-
 -- what comes before all others that a list can have
 abbrev pub first_in : l.List → Listed
-first_in list = listed list first_place
+first_in list = listed list least_place

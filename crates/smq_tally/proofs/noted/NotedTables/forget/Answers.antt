@@ -1,11 +1,11 @@
 use Rattle.std.proofs.Common.{◌≡◌, Bool, true, false, cond, List, subst, refl, sym, ap, ◌∙◌}
-use Rattle.std.specs.FinMap.{contains_key, remove}
+use Rattle.std.specs.FinMap.{remove}
 use Rattle.smq_tally.specs.declared.list.Listed.{Listed}
 use Rattle.smq_tally.specs.Tables.{TablesValue}
 use Rattle.smq_tally.specs.within.Kept.{places_in}
 use Rattle.smq_tally.specs.within.Noted.{NotedValue, notes_among, AreApart}
-use Rattle.smq_tally.proofs.Stored.{has-seen, place-less}
-use Rattle.smq_tally.proofs.NotesAmong.{apart-noted, apart-fewer, apart-less, among-less}
+use Rattle.smq_tally.proofs.Stored.{place-less, taken-logged}
+use Rattle.smq_tally.proofs.NotesAmong.{apart-fewer, apart-less, among-less}
 use Rattle.std.specs.Prelude.{IsTrue}
 use Rattle.std.specs.FinSet.{FinSet}
 use Rattle.smq_shelf.specs.Keeping.{KeepingMap}
@@ -45,11 +45,11 @@ returns-then-not-takes_facts-clause-ok c =
 
 pub invariant_of-self-then-stays : goal.invariant_of-self-then-stays
 invariant_of-self-then-stays c =
-    let took = place-less c.self.inside.apart.content c.remove.new.self.content c.args.note.now c.in_ok-remove.ensures.ordered
-    c.in_ok-remove.ensures.content in (
+    let took = place-less c.self.inside.apart.content c.take.new.self.content c.args.note.now c.in_ok-taken.ensures.ordered
+    c.in_ok-taken.ensures.content in (
       subst (λ (s : FinSet listed_cmp). AreApart s) (sym took) (apart-fewer (places_in c.self.inside.apart.content) c.args.note.now
           c.self.invariant.0),
-      subst (λ (es : List (Listed × Unit {0})). AreApart (places_in es)) (sym c.remove.ensures.settled) c.self.invariant.1,
+      subst (λ (es : List (Listed × Unit {0})). AreApart (places_in es)) (sym c.take.ensures.settled) c.self.invariant.1,
     )
 
 pub returns-then-stays-clause-ok : goal.returns-then-stays-clause-ok
@@ -57,12 +57,12 @@ returns-then-stays-clause-ok c =
     let note = c.args.note.now in
     let before = c.self.inside.tables.shown in
     let takes = sym c.takes_facts.ensures ∙ c.if-not-takes_facts.false in
-    let took = place-less c.self.inside.apart.content c.remove.new.self.content note c.in_ok-remove.ensures.ordered c.in_ok-remove.ensures.content in
+    let took = place-less c.self.inside.apart.content c.take.new.self.content note c.in_ok-taken.ensures.ordered c.in_ok-taken.ensures.content in
     (λ i. record {
       notes =
           ((λ j. notes_among (took j) before.places)
           ∙ apart-less (places_in c.self.inside.apart.content) before.places note true takes) i;
-      settled_notes = notes_among (places_in (c.remove.ensures.settled i)) c.self.inside.tables.settled.places;
+      settled_notes = notes_among (places_in (c.take.ensures.settled i)) c.self.inside.tables.settled.places;
       shown = listed-so before note c.args.stays true c.if-stays.true i;
       settled = c.self.inside.tables.settled;
     })
@@ -74,12 +74,9 @@ returns-then-stays-clause-ok c =
 -- what was kept apart
 back : (c : goal.After-take_back) → c.take_back.new.map ≡ c.self.inside.apart
 back c =
-    let note = c.args.note.now in
-    let there = has-seen c.self.inside.apart.content note
-    ∙ apart-noted (places_in c.self.inside.apart.content) c.self.inside.tables.shown.places note
-    (sym c.takes_facts.ensures ∙ c.if-not-takes_facts.false)
-    ∙ ap (λ (t : NotedValue). contains_key t.notes note) c.self.view_is ∙ c.requires.noted in
-    c.take_back.ensures c.self.inside.apart (c.in_ok-remove.ensures.shown, c.in_ok-remove.ensures.past there) c.remove.ensures.settled
+    let logged = taken-logged c.self.inside.apart c.take.new.self c.in_ok-taken.taken c.is_some.result c.is_some.ensures
+    c.in_ok-taken.ensures.shown c.in_ok-taken.ensures.past c.in_ok-taken.ensures.absent in
+    c.take_back.ensures c.self.inside.apart logged c.take.ensures.settled
 
 pub invariant_of-self-in-Err : goal.invariant_of-self-in-Err
 invariant_of-self-in-Err c =
@@ -97,11 +94,11 @@ returns-in-Err-clause-err c =
 
 pub invariant_of-self-in_default : goal.invariant_of-self-in_default
 invariant_of-self-in_default c =
-    let took = place-less c.self.inside.apart.content c.remove.new.self.content c.args.note.now c.in_ok-remove.ensures.ordered
-    c.in_ok-remove.ensures.content in (
+    let took = place-less c.self.inside.apart.content c.take.new.self.content c.args.note.now c.in_ok-taken.ensures.ordered
+    c.in_ok-taken.ensures.content in (
       subst (λ (s : FinSet listed_cmp). AreApart s) (sym took) (apart-fewer (places_in c.self.inside.apart.content) c.args.note.now
           c.self.invariant.0),
-      subst (λ (es : List (Listed × Unit {0})). AreApart (places_in es)) (sym c.remove.ensures.settled) c.self.invariant.1,
+      subst (λ (es : List (Listed × Unit {0})). AreApart (places_in es)) (sym c.take.ensures.settled) c.self.invariant.1,
     )
 
 pub returns-clause-ok : goal.returns-clause-ok
@@ -109,13 +106,13 @@ returns-clause-ok c =
     let note = c.args.note.now in
     let before = c.self.inside.tables.shown in
     let takes = sym c.takes_facts.ensures ∙ c.if-not-takes_facts.false in
-    let took = place-less c.self.inside.apart.content c.remove.new.self.content note c.in_ok-remove.ensures.ordered c.in_ok-remove.ensures.content in
+    let took = place-less c.self.inside.apart.content c.take.new.self.content note c.in_ok-taken.ensures.ordered c.in_ok-taken.ensures.content in
     let ok = c.in_default.ensures.ok in
     (λ i. record {
       notes =
           ((λ j. notes_among (took j) (ok j).places)
           ∙ apart-less (places_in c.self.inside.apart.content) before.places note false takes) i;
-      settled_notes = notes_among (places_in (c.remove.ensures.settled i)) (c.unlist_place-2.ensures.settled i).places;
+      settled_notes = notes_among (places_in (c.take.ensures.settled i)) (c.unlist_place-2.ensures.settled i).places;
       shown = (ok ∙ listed-so before note c.args.stays false c.if-stays.false) i;
       settled = c.unlist_place-2.ensures.settled i;
     })

@@ -1,8 +1,6 @@
-use Rattle.std.proofs.Common.{◌≡◌, true, subst, sym, ap, ◌∙◌}
-use Rattle.std.specs.FinMap.{contains_key}
+use Rattle.std.proofs.Common.{subst, sym, ap, ◌∙◌}
 use Rattle.smq_tally.specs.Lists.{listed}
 use Rattle.smq_tally.specs.Tables.{tables_of}
-use Rattle.smq_tally.specs.Tally.{TallyValue}
 use Rattle.smq_tally.specs.within.Kept.{facts_in, StandAtTheirPlaces}
 use Rattle.smq_tally.specs.within.Noted.{NotedValue}
 use Rattle.smq_tally.proofs.Held.{Entries, still, note-taken}
@@ -12,10 +10,8 @@ pub invariant_of-self-2 : goal.invariant_of-self-2
 invariant_of-self-2 c =
     let note = listed c.args.list c.args.place in
     let ok = c.in_ok-forget.ensures.ok in
-    let noted : contains_key c.self.inside.tables.notes note ≡ true = ap (λ (t : TallyValue). contains_key t.notes note) c.self.view_is
-    ∙ c.requires.noted in
     still c.self.invariant
-    (note-taken c.self.invariant note c.is_listed-stays.result noted (ap (λ (t : NotedValue). t.notes) ok) c.is_listed-stays.ensures.value
+    (note-taken c.self.invariant note c.is_listed-stays.result (ap (λ (t : NotedValue). t.notes) ok) c.is_listed-stays.ensures.value
     (ap (λ (t : NotedValue). t.shown) ok)
     ∙ (λ i. tables_of (facts_in (sym c.is_listed-stays.ensures.content i)) c.forget.new.self.notes))
     (subst (λ (es : Entries). StandAtTheirPlaces (facts_in es)) (sym c.is_listed-stays.ensures.content) c.self.invariant.places)
