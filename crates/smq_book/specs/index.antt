@@ -10,6 +10,7 @@ pub mod EndWalks
 pub mod DueWalks
 pub mod Coming
 pub mod Held
+pub mod Following
 pub mod Opening
 pub mod Pairs
 pub mod Kept

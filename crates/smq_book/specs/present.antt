@@ -1,4 +1,5 @@
 -- What is present, and what an edit leaves present.
+pub mod Content
 pub mod Kept
 pub mod Stream
 pub mod Batch

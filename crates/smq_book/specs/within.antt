@@ -1,6 +1,7 @@
 -- What only private clauses and the law of agreement cite: maps and lists as the code keeps them. A reader of the
 -- promises needs none of it.
 pub mod InOrder
+pub mod Contents
 pub mod Pairs
 pub mod Messages
 pub mod Receipts

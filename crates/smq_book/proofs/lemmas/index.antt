@@ -1,6 +1,9 @@
 -- Lemmas of what the book stores of its traffic.
 pub mod Stored
 pub mod Unlisted
+pub mod Newcomers
+pub mod Following
+pub mod ToldNow
 pub mod PlacedKeys
 pub mod Numbered
 pub mod Due

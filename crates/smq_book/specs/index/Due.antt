@@ -6,7 +6,6 @@ use Rattle.std.specs.Ordering.{nat_cmp, ordering_then}
 use Rattle.std.specs.FinMap as fin
 use Rattle.std.specs.FinSet.{FinSet}
 use Rattle.smq_kit.specs.declared.names.LinkId.{LinkId}
-use Rattle.smq_kit.specs.declared.place.Dir.TheVariants.{FromClient}
 use Rattle.smq_kit.specs.declared.place.Place.{Place}
 use Rattle.smq_kit.specs.Orders.{place_cmp}
 use Rattle.smq_tally.specs.declared.fact.Fact.{Fact}
@@ -20,10 +19,6 @@ use Rattle.smq_book.specs.index.PlacedKeys.{keys_made}
 -- a moment of a link at a place
 abbrev pub due_at : LinkId → ℕ → Place → DueAt
 due_at link moment place = record { link = link; moment = moment; place = place }
-
--- the place before which none stands
-abbrev pub least_place : Place
-least_place = record { session = record { 0 = 0 }; dir = FromClient; offset = 0 }
 
 -- by the link, then by the moment, then by the place
 abbrev pub due_cmp : DueAt → DueAt → Ordering

@@ -5,17 +5,12 @@ use Rattle.std.specs.Ordering.{nat_cmp, ordering_then}
 use Rattle.std.specs.declared.cmp.Ordering.{Ordering}
 use Rattle.std.specs.declared.cmp.Ordering.TheVariants.{Equal}
 use Rattle.std.specs.FinMap.{nat_cmp-IsAntisymmetric}
-use Rattle.smq_kit.specs.declared.place.Place.{Place}
-use Rattle.smq_kit.specs.contracts.place.PlaceOrd.TheImpl as place_ord
+use Rattle.smq_kit.specs.Orders.{kept_place_cmp}
 use Rattle.smq_kit.proofs.Comparisons.{then_first, then_second}
 use Rattle.smq_shelf.specs.within.KeyLaws.{one_place}
 use Rattle.smq_book.specs.declared.index.due_at.DueAt.{DueAt}
 use Rattle.smq_book.specs.contracts.index.due_at.DueAtOrd.TheImpl as due_ord
 use Rattle.smq_book.specs.index.Due.{due_at}
-
--- the order by which a shelf compares places
-abbrev pub kept_place_cmp : Place → Place → Ordering
-kept_place_cmp = (place_ord.ghosts).cmp
 
 -- the order by which a shelf compares links and moments at places
 abbrev pub kept_due_cmp : DueAt → DueAt → Ordering

@@ -5,11 +5,11 @@ use Rattle.std.specs.Ordering.{nat_cmp}
 use Rattle.std.specs.declared.cmp.Ordering.{Ordering}
 use Rattle.std.specs.declared.cmp.Ordering.TheVariants.{Equal}
 use Rattle.std.specs.FinMap.{nat_cmp-IsAntisymmetric}
+use Rattle.smq_kit.specs.Orders.{kept_place_cmp}
 use Rattle.smq_kit.proofs.Comparisons.{then_first, then_second}
 use Rattle.smq_shelf.specs.within.KeyLaws.{one_place}
 use Rattle.smq_book.specs.declared.index.end_at.EndAt.{EndAt}
 use Rattle.smq_book.specs.contracts.index.end_at.EndAtOrd.TheImpl as end_ord
-use Rattle.smq_book.specs.index.DueKeys.{kept_place_cmp}
 use Rattle.smq_book.specs.index.Ends.{end_at}
 
 -- the order by which a shelf compares ends at places

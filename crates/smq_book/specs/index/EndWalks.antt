@@ -1,9 +1,9 @@
 -- What a walk over the ends that come after a clock and not after another meets.
-use Rattle.std.specs.Prelude.{◌≡◌, ◌≤◌, ◌+◌, ℕ, Bool, ◌&&◌, nat_le, List, [], ◌∷◌, map, filter, Option, Some, None}
+use Rattle.std.specs.Prelude.{ℕ, Bool, ◌&&◌, nat_le, List, map, Option}
 use Rattle.std.specs.Ordering.{is_lt}
 use Rattle.smq_kit.specs.declared.place.Place.{Place}
-use Rattle.smq_shelf.specs.Keeping.{Keeping}
 use Rattle.smq_shelf.specs.Places.{content_of}
+use Rattle.smq_shelf.specs.Walks.{left_above}
 use Rattle.smq_book.specs.declared.index.end_at.EndAt.{EndAt}
 use Rattle.smq_book.specs.index.EndKeys.{kept_end_cmp}
 use Rattle.smq_book.specs.index.Ends.{is_between}
@@ -26,19 +26,8 @@ placed es = map (λ e. e.0.place) es
 
 -- what is left of a walk: the one that was found, and those after it
 abbrev pub left_after : ℕ → List Spot → Option Spot → List Spot
-left_after clock spots None = []
-left_after clock spots (Some found) = found ∷ filter (is_past clock found.0) spots
+left_after clock = left_above kept_end_cmp (λ e. nat_le e.0.end clock)
 
 -- the places of those that aren't vacant
 abbrev pub filled : List Spot → List Place
 filled spots = placed (content_of spots)
-
--- A map that was read, by at most so many calls.
-pub record IsWalked {K V : Type 0} (calls : ℕ) (old new : Keeping K V) : Type 0 where
-  pub content : new.content ≡ old.content
-  pub settled : new.settled ≡ old.settled
-  pub places : new.places ≡ old.places
-  pub past : new.past ≡ old.past
-  pub pending : new.pending ≡ old.pending
-  pub touches : new.touches ≤ old.touches + calls
-  pub counted : old.touches ≤ new.touches

@@ -120,10 +120,6 @@ is_traffic_list _ = true
 pub record IsUnlisted (notes : FinSet listed_cmp) (place : Place) : Type 0 where
   pub none : (list : l.List) → is_traffic_list list ≡ false → fin.get notes (listed list place) ≡ None
 
--- No place of a message is.
-pub record AreUnlisted (messages : fin.FinMap place_cmp Message) (notes : FinSet listed_cmp) : Type 0 where
-  pub each : (place : Place) (m : Message) → fin.get messages place ≡ Some m → IsUnlisted notes place
-
 -- A move leaves such traffic so.
 abbrev pub KeepsTraffic : Move → Type 0
 KeepsTraffic (PutMessage e) = e.0.dir ≡ FromClient

@@ -7,7 +7,7 @@ use Rattle.smq_tally.specs.declared.outcome.Outcome.TheVariants as o
 use Rattle.smq_tally.specs.declared.value.Value.TheVariants as w
 use Rattle.smq_tally.specs.declared.view.View.TheVariants as view
 use Rattle.smq_tally.specs.Tables.{count_at}
-use Rattle.smq_book.specs.declared.present.kept.Content.TheVariants as c
+use Rattle.smq_book.specs.present.Content as c
 use Rattle.smq_book.specs.pairing.Traffic.{TrafficValue}
 use Rattle.smq_book.specs.whole.Dealt.{dealt, other_places, tables_from}
 use Rattle.smq_book.specs.known.Join.{known_traffic, settings_with}

@@ -18,7 +18,7 @@ use Rattle.smq_tally.specs.declared.outcome.Outcome.{Outcome}
 use Rattle.smq_tally.specs.declared.outcome.Outcome.TheVariants as o
 use Rattle.smq_tally.specs.declared.value.SubmitError.{SubmitError}
 use Rattle.smq_tally.specs.declared.value.SubmitError.TheVariants as s
-use Rattle.smq_book.specs.declared.present.kept.Content.TheVariants as c
+use Rattle.smq_book.specs.present.Content as c
 use Rattle.smq_book.specs.declared.present.kept.KeptPdu.{KeptPdu}
 use Rattle.smq_book.specs.present.Settings.{SettingsValue, opening_settings, with_clock}
 use Rattle.smq_book.specs.present.Steps.{with_window}

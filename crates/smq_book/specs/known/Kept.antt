@@ -5,7 +5,7 @@ use Rattle.smq_pdu.specs.KnownDataSms.{data_sm_pdu, data_sm_receipt_pdu}
 use Rattle.smq_pdu.specs.Pdu.{PduValue}
 use Rattle.smq_pdu.specs.Placed.{PlacedPdu}
 use Rattle.smq_receipt.specs.declared.reading.Reading.TheVariants.{NotReceipt}
-use Rattle.smq_book.specs.declared.present.kept.Content.TheVariants as c
+use Rattle.smq_book.specs.present.Content as c
 use Rattle.smq_book.specs.present.Kept.{kept_pdu, submit_in}
 use Rattle.smq_book.specs.known.Pairing.{pdu}
 

@@ -6,8 +6,8 @@ use Rattle.smq_kit.specs.declared.place.Place.{Place}
 use Rattle.smq_frame.specs.Stream.{Octet}
 use Rattle.smq_pdu.specs.declared.body.Submit.{Submit}
 use Rattle.smq_receipt.specs.declared.reading.Reading.{Reading}
-use Rattle.smq_book.specs.declared.present.kept.Content.{Content}
-use Rattle.smq_book.specs.declared.present.kept.Content.TheVariants as c
+use Rattle.smq_book.specs.present.Content.{Content}
+use Rattle.smq_book.specs.present.Content as c
 use Rattle.smq_book.specs.declared.present.kept.KeptPdu.{KeptPdu}
 use Rattle.smq_book.specs.declared.present.session.Session.{Session}
 use Rattle.smq_book.specs.present.Kept.{kept_pdus}

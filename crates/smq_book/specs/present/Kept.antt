@@ -9,8 +9,8 @@ use Rattle.smq_receipt.specs.Readings.{reading_of}
 use Rattle.smq_receipt.specs.declared.reading.Reading.{Reading}
 use Rattle.smq_receipt.specs.declared.reading.Reading.TheVariants as v
 use Rattle.smq_receipt.specs.declared.reading.Receipt.{Receipt}
-use Rattle.smq_book.specs.declared.present.kept.Content.{Content}
-use Rattle.smq_book.specs.declared.present.kept.Content.TheVariants as c
+use Rattle.smq_book.specs.present.Content.{Content}
+use Rattle.smq_book.specs.present.Content as c
 use Rattle.smq_book.specs.declared.present.kept.KeptPdu.{KeptPdu}
 
 -- what is kept of what is read of a submit_sm

@@ -3,8 +3,9 @@ ghost use Rattle.std.specs.Prelude.{◌≡◌, ◌≤◌, ◌+◌, ◌++◌, ◌
 ghost use Rattle.std.specs.List.Sorted.{IsStrictlySortedBy};
 ghost use Rattle.std.specs.Map.{keys_of};
 ghost use Rattle.smq_shelf.specs.Places.{content_of, places_of};
+ghost use Rattle.smq_shelf.specs.Walks.{IsWalked};
 ghost use Rattle.smq_book.specs.index.EndKeys.{kept_end_cmp};
-ghost use Rattle.smq_book.specs.index.EndWalks.{IsWalked, ends_in_between, filled, is_past};
+ghost use Rattle.smq_book.specs.index.EndWalks.{ends_in_between, filled, is_past};
 ghost use Rattle.std.specs.FinMap as fin;
 ghost use Rattle.smq_book.specs.edits.Reached.{due_by};
 ghost use Rattle.smq_book.specs.index.Ends.{places_ending};

@@ -1,6 +1,7 @@
 //! The keys under which messages whose receipts are due are found by link and by moment.
 ghost use Rattle.std.specs.Prelude.{◌≡◌};
-ghost use Rattle.smq_book.specs.index.Due.{due_at, least_place};
+ghost use Rattle.smq_kit.specs.Orders.{least_place};
+ghost use Rattle.smq_book.specs.index.Due.{due_at};
 
 use smq_kit::{Dir, LinkId, Moment, Place, SessionId};
 use smq_shelf::ShelfKey;

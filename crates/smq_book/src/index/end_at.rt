@@ -1,7 +1,7 @@
 //! The keys under which messages whose receipts are due are found by the ends of their windows.
 ghost use Rattle.std.specs.Prelude.{◌≡◌, ◌+◌};
+ghost use Rattle.smq_kit.specs.Orders.{least_place};
 ghost use Rattle.smq_book.specs.index.Ends.{end_at};
-ghost use Rattle.smq_book.specs.index.Due.{least_place};
 
 use smq_kit::{Dir, Moment, Place, SessionId, Window};
 use smq_shelf::ShelfKey;

@@ -205,7 +205,7 @@ fn push_message(
         ++ option_to_list (option_map (λ m. (place, m)) (option_copied message.entry))) }
 {
     if let Some(message) = message {
-        taken.push((place, message.copy()))?;
+        taken.push((place, message.copy()?))?;
     }
     Ok(())
 }
@@ -244,7 +244,7 @@ fn push_receipt(
         ++ option_to_list (option_map (λ r. (place, r)) (option_copied receipt.entry))) }
 {
     if let Some(receipt) = receipt {
-        taken.push((place, receipt.copy()))?;
+        taken.push((place, receipt.copy()?))?;
     }
     Ok(())
 }

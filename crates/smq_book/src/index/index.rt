@@ -2,21 +2,27 @@
 //!
 //! Each call that puts a message or a receipt in, or takes one out, sets the facts and the listings of the places alone
 //! whose standings it changes.
-ghost use Rattle.std.specs.Prelude.{◌≡◌, ◌<◌, ◌≤◌, ◌+◌, ◌-◌, ◌*◌, ◌^◌, true, if◌then◌else◌, Option, Some, is_some, length, option_map, IfOk, OnOk};
+ghost use Rattle.std.specs.Prelude.{◌≡◌, ◌<◌, ◌≤◌, ◌+◌, ◌-◌, ◌*◌, ◌^◌, true, Option, Some, length, option_map, IsTrue, OnOk};
 ghost use Rattle.std.specs.Option.{option_copied};
 ghost use Rattle.std.specs.FinMap as fin;
 ghost use Rattle.smq_kit.specs.Maps.{set_at};
 ghost use Rattle.smq_kit.specs.Orders.{place_cmp};
+ghost use Rattle.smq_group.specs.Matching.{Grouping};
+ghost use Rattle.smq_group.specs.Standings.{standing_at};
 ghost use Rattle.smq_tally.specs.Lists.{listed};
 ghost use Rattle.smq_tally.specs.declared.fact.Fact.{Fact as FactOf};
 ghost use Rattle.smq_book.specs.index.Opening.{nothing_held};
 ghost use Rattle.smq_book.specs.index.Due.{due_in, is_due_fact};
 ghost use Rattle.smq_book.specs.index.Ends.{ends_by};
 ghost use Rattle.smq_book.specs.index.Stored.{is_told_shared};
-ghost use Rattle.smq_book.specs.index.Held.{AreOf, AreUnlisted, IsTraffic, decider_held, dues_in, ends_in, facts_anew, held_by, held_now, held_settled, list_by, list_held, messages_in, noted, notes_anew, receipts_in, stored_traffic, traffic_held, with_listing};
+ghost use Rattle.smq_book.specs.index.Following.{AreTold, IsInNoOther, MayFollow, with_note};
+ghost use Rattle.smq_book.specs.index.Held.{AreOf, IsTraffic, decider_held, dues_in, ends_in, facts_anew, held_by, held_now, held_settled, list_by, list_held, messages_in, noted, notes_anew, receipts_in, stored_traffic, traffic_held, with_listing};
 ghost use Rattle.smq_book.specs.index.Touches.{HasNothingPending, RisesWithFacts, index_cost, index_touches, kept_cost, pending_in, tally_cost, touches_in};
+ghost use Rattle.smq_book.specs.declared.index.index.RouteOf.TheVariants.{FactThere};
+ghost use Rattle.smq_book.specs.join.Circumstances.{route_in};
 ghost use Rattle.smq_book.specs.join.Facts.{facts_of};
 ghost use Rattle.smq_book.specs.pairing.Traffic.{TrafficValue};
+ghost use Rattle.smq_book.specs.pairing.Traffic.{Message as MessageOf};
 ghost use Rattle.smq_book.specs.present.Settings.{SettingsValue};
 
 use crate::index::due_at::DueAt;
@@ -27,11 +33,18 @@ use crate::present::settings::Settings;
 use crate::present::windows::Windows;
 use crate::{Fact, List, Outcome};
 use smq_group::{Change, Standing, Standings};
-use smq_kit::{Moment, Place};
+use smq_kit::{Dir, Moment, Network, Place, RouteId};
 use smq_route::{Numbers, Routes};
 use smq_shelf::{Kept, KeptMap};
 use smq_tally::Tally;
 use std::alloc::{AllocError, Global};
+
+/// What tells the route of a message: the fact that is there, where one is, or else the versions.
+#[derive(Clone, Copy)]
+enum RouteOf {
+    FactThere,
+    Versions,
+}
 
 /// All messages and delivery receipts that are present, with their standings, facts and notes. Where a call finds no memory,
 /// all that wasn't settled is undone.
@@ -116,8 +129,15 @@ impl Index {
             .saturating_add(self.ends.touches())
     }
 
-    /// Sets the fact and the listing of a place anew.
-    pub(crate) fn refresh(&mut self, settings: &Settings, place: Place) -> Result<(), AllocError>
+    /// Sets what is known of a place anew, by how it stands: of one of the client its fact, of one of the centre its listing.
+    /// No list of receipts but its own notes the place that is new, where one is.
+    pub(crate) fn refresh(
+        &mut self,
+        settings: &Settings,
+        place: Place,
+        standing: Option<Standing>,
+        new: Option<Place>,
+    ) -> Result<(), AllocError>
         ensures messages { self.new.messages ≡ self.old.messages }
         ensures receipts { self.new.receipts ≡ self.old.receipts }
         ensures standings { self.new.standings ≡ self.old.standings }
@@ -126,18 +146,20 @@ impl Index {
         ensures settled_due { self.new.due.settled ≡ self.old.due.settled }
         ensures settled_ends { self.new.ends.settled ≡ self.old.ends.settled }
         ensures facts { let traffic = stored_traffic self.old.messages.content self.old.receipts.content in
-            AreOf settings.now traffic self.old.standings.members
+            standing ≡ standing_at self.old.standings.members place
+            → MayFollow settings.now traffic self.old.standings.members new self.old.tally.facts self.old.tally.notes
             → OnOk result (self.new.tally.facts
             ≡ set_at self.old.tally.facts place (fin.get (facts_of settings.now traffic) place)) }
         ensures notes { let traffic = stored_traffic self.old.messages.content self.old.receipts.content in
-            AreOf settings.now traffic self.old.standings.members
-            → AreUnlisted traffic.messages self.old.tally.notes
+            standing ≡ standing_at self.old.standings.members place
+            → MayFollow settings.now traffic self.old.standings.members new self.old.tally.facts self.old.tally.notes
             → OnOk result (self.new.tally.notes
             ≡ with_listing self.old.tally.notes place (list_held self.old.standings.members place)) }
-        ensures unlisted { let traffic = stored_traffic self.old.messages.content self.old.receipts.content in
-            AreOf settings.now traffic self.old.standings.members
-            → AreUnlisted traffic.messages self.old.tally.notes
-            → OnOk result (AreUnlisted traffic.messages self.new.tally.notes) }
+        ensures follows { let traffic = stored_traffic self.old.messages.content self.old.receipts.content in
+            standing ≡ standing_at self.old.standings.members place
+            → MayFollow settings.now traffic self.old.standings.members new self.old.tally.facts self.old.tally.notes
+            → OnOk result (MayFollow settings.now traffic self.old.standings.members new self.new.tally.facts
+            self.new.tally.notes) }
         ensures due { let messages = messages_in self.old.messages.content in
             dues_in self.old.due.content ≡ due_in messages self.old.tally.facts
             → OnOk result (dues_in self.new.due.content ≡ due_in messages self.new.tally.facts) }
@@ -148,18 +170,23 @@ impl Index {
         ensures counted { touches_in self.old ≤ touches_in self.new }
         ensures rises { OnOk result (RisesWithFacts self.old self.new) }
     {
-        let is_message = self.set_fact_by(
-            settings.routes(),
-            settings.windows_set(),
-            settings.clock(),
-            place,
-        )?;
-        if is_message {
-            return Ok(());
+        match place.dir {
+            Dir::FromClient => {
+                self.set_fact_by(
+                    settings.routes(),
+                    settings.windows_set(),
+                    settings.clock(),
+                    place,
+                    standing,
+                    RouteOf::FactThere,
+                )?;
+                Ok(())
+            }
+            Dir::FromCentre => {
+                list_receipt(&mut self.tally, place, standing, new)?;
+                Ok(())
+            }
         }
-        let list = list_at(&self.receipts, &self.standings, place);
-        set_listing(&mut self.tally, place, list)?;
-        Ok(())
     }
 
     /// Sets the fact of the message at a place anew by routes, windows and a clock, where its standing stays.
@@ -181,15 +208,18 @@ impl Index {
         ensures counted { touches_in self.old ≤ touches_in self.new }
         ensures rises { OnOk result (RisesWithFacts self.old self.new) }
     {
-        self.set_fact_by(routes, windows, clock, place)?;
+        let standing = self.standings.standing(place);
+        self.set_fact_by(routes, windows, clock, place, standing, RouteOf::Versions)?;
         Ok(())
     }
 
-    /// Sets the facts and the listings of the places that changes tell anew.
+    /// Sets the facts and the listings of the places that changes tell anew. No list of receipts but its own notes the place
+    /// that is new, where one is.
     pub(crate) fn follow(
         &mut self,
         settings: &Settings,
         changes: &[Change],
+        new: Option<Place>,
     ) -> Result<(), AllocError>
         ensures messages { self.new.messages ≡ self.old.messages }
         ensures receipts { self.new.receipts ≡ self.old.receipts }
@@ -199,18 +229,20 @@ impl Index {
         ensures settled_due { self.new.due.settled ≡ self.old.due.settled }
         ensures settled_ends { self.new.ends.settled ≡ self.old.ends.settled }
         ensures facts { let traffic = stored_traffic self.old.messages.content self.old.receipts.content in
-            AreOf settings.now traffic self.old.standings.members
+            AreTold self.old.standings.members changes.now
+            → MayFollow settings.now traffic self.old.standings.members new self.old.tally.facts self.old.tally.notes
             → OnOk result (self.new.tally.facts
             ≡ facts_anew (fin.get (facts_of settings.now traffic)) self.old.tally.facts changes.now) }
         ensures notes { let traffic = stored_traffic self.old.messages.content self.old.receipts.content in
-            AreOf settings.now traffic self.old.standings.members
-            → AreUnlisted traffic.messages self.old.tally.notes
+            AreTold self.old.standings.members changes.now
+            → MayFollow settings.now traffic self.old.standings.members new self.old.tally.facts self.old.tally.notes
             → OnOk result (self.new.tally.notes
             ≡ notes_anew self.old.standings.members self.old.tally.notes changes.now) }
-        ensures unlisted { let traffic = stored_traffic self.old.messages.content self.old.receipts.content in
-            AreOf settings.now traffic self.old.standings.members
-            → AreUnlisted traffic.messages self.old.tally.notes
-            → OnOk result (AreUnlisted traffic.messages self.new.tally.notes) }
+        ensures follows { let traffic = stored_traffic self.old.messages.content self.old.receipts.content in
+            AreTold self.old.standings.members changes.now
+            → MayFollow settings.now traffic self.old.standings.members new self.old.tally.facts self.old.tally.notes
+            → OnOk result (MayFollow settings.now traffic self.old.standings.members new self.new.tally.facts
+            self.new.tally.notes) }
         ensures due { let messages = messages_in self.old.messages.content in
             dues_in self.old.due.content ≡ due_in messages self.old.tally.facts
             → OnOk result (dues_in self.new.due.content ≡ due_in messages self.new.tally.facts) }
@@ -222,22 +254,22 @@ impl Index {
         ensures rises { OnOk result (RisesWithFacts self.old self.new) }
     {
         for change in changes {
-            self.refresh(settings, change.place)?;
+            self.refresh(settings, change.place, Some(change.standing), new)?;
         }
         Ok(())
     }
 
     /// Sets the fact of a place anew by routes, windows and a clock, and whether its message is among those whose receipts are
-    /// due. It tells whether a message stands there.
+    /// due.
     fn set_fact_by(
         &mut self,
         routes: &Routes,
         windows: &Windows,
         clock: Moment,
         place: Place,
-    ) -> Result<bool, AllocError>
-        ensures is_message { IfOk result (λ is_message. is_message
-            ≡ is_some (fin.get (messages_in self.old.messages.content) place)) }
+        standing: Option<Standing>,
+        route_of: RouteOf,
+    ) -> Result<(), AllocError>
         ensures messages { self.new.messages ≡ self.old.messages }
         ensures receipts { self.new.receipts ≡ self.old.receipts }
         ensures standings { self.new.standings ≡ self.old.standings }
@@ -249,7 +281,9 @@ impl Index {
         ensures facts { (z : SettingsValue) → z.versions ≡ routes.now.versions
             → z.windows ≡ windows.now → z.clock ≡ clock
             → (let traffic = stored_traffic self.old.messages.content self.old.receipts.content in
-            AreOf z traffic self.old.standings.members
+            AreOf z traffic self.old.standings.members → standing ≡ standing_at self.old.standings.members place
+            → ((m : MessageOf) (f : FactOf) → route_of ≡ FactThere → fin.get traffic.messages place ≡ Some m
+            → fin.get self.old.tally.facts place ≡ Some f → f.route ≡ route_in z.versions m)
             → OnOk result (self.new.tally.facts
             ≡ set_at self.old.tally.facts place (fin.get (facts_of z traffic) place))) }
         ensures due { let messages = messages_in self.old.messages.content in
@@ -258,28 +292,30 @@ impl Index {
         ensures ends { let messages = messages_in self.old.messages.content in
             ends_in self.old.ends.content ≡ ends_by windows.now messages self.old.tally.facts
             → OnOk result (ends_in self.new.ends.content ≡ ends_by windows.now messages self.new.tally.facts) }
-        ensures touches { IfOk result (λ is_message. index_cost self.new
-            ≤ index_cost self.old + (if is_message then 14 else 6)) }
+        ensures touches { OnOk result (index_cost self.new ≤ index_cost self.old + 14) }
         ensures counted { touches_in self.old ≤ touches_in self.new }
         ensures rises { OnOk result (RisesWithFacts self.old self.new) }
     {
         let Some(message) = self.messages.get(&place) else {
             take_fact(&mut self.tally, place)?;
-            return Ok(false);
+            return Ok(());
         };
         let link = message.link;
         let moment = message.moment;
+        let there = self.tally.look_up(place);
+        let before = outcome_of(&there);
+        let route = route_by(route_of, &there, message, routes);
         let fact = fact_at(
             &self.receipts,
-            &self.standings,
-            routes,
             windows,
             clock,
             place,
             message,
+            standing,
+            route,
         );
         let is_now = is_due(Some(fact.outcome));
-        let before = self.tally.set(fact)?;
+        self.tally.replace(&there, fact)?;
         if is_now != is_due(before) {
             let due = DueAt {
                 link,
@@ -293,32 +329,68 @@ impl Index {
                 is_now,
             )?;
         }
-        Ok(true)
+        Ok(())
     }
 }
 
-/// What is known of a message at its place, by routes, windows and a clock.
+/// What became of the message of a fact, if there is one.
+fn outcome_of(fact: &Option<Fact>) -> Option<Outcome>
+    ensures { result ≡ option_map (λ f. f.outcome) fact.now }
+{
+    match fact {
+        Some(fact) => Some(fact.outcome),
+        None => None,
+    }
+}
+
+/// The route and network of a message: those of the fact that is there, or of its number.
+fn route_by(
+    route_of: RouteOf,
+    there: &Option<Fact>,
+    message: &StoredMessage,
+    routes: &Routes,
+) -> Option<(RouteId, Network)>
+    ensures { ((f : FactOf) → route_of ≡ FactThere → there.now ≡ Some f
+        → f.route ≡ route_in routes.now.versions message.now)
+        → result ≡ route_in routes.now.versions message.now }
+{
+    match (route_of, there) {
+        (RouteOf::FactThere, Some(fact)) => copied_route(fact),
+        _ => message.route(routes),
+    }
+}
+
+/// A copy of a fact's route and network.
+fn copied_route(fact: &Fact) -> Option<(RouteId, Network)>
+    ensures { result ≡ fact.now.route }
+{
+    match &fact.route {
+        Some((route, network)) => Some((*route, network.copy())),
+        None => None,
+    }
+}
+
+/// What is known of a message at its place, by windows, a clock, how it stands and its route.
 fn fact_at(
     receipts: &KeptMap<Place, StoredReceipt>,
-    standings: &Standings,
-    routes: &Routes,
     windows: &Windows,
     clock: Moment,
     place: Place,
     message: &StoredMessage,
+    standing: Option<Standing>,
+    route: Option<(RouteId, Network)>,
 ) -> Fact
-    ensures value { (z : SettingsValue) (t : TrafficValue) → z.versions ≡ routes.now.versions
-        → z.windows ≡ windows.now → z.clock ≡ clock → AreOf z t standings.now.members
+    ensures value { (z : SettingsValue) (t : TrafficValue) (g : Grouping)
+        → z.windows ≡ windows.now → z.clock ≡ clock → AreOf z t g → standing ≡ standing_at g place
         → receipts_in receipts.now.content ≡ t.receipts
-        → fin.get t.messages place ≡ Some message.now
+        → fin.get t.messages place ≡ Some message.now → route ≡ route_in z.versions message.now
         → Some result ≡ fin.get (facts_of z t) place }
     ensures place { result.place ≡ place }
 {
-    let standing = standings.standing(place);
     fact_of(
         place,
         message,
-        message.route(routes),
+        route,
         message.has_lapsed(windows, clock),
         is_shared(standing),
         decider_of(receipts, standing),
@@ -330,22 +402,6 @@ fn is_due(outcome: Option<Outcome>) -> bool
     ensures { (fact : Option FactOf) → outcome ≡ option_map (λ f. f.outcome) fact → result ≡ is_due_fact fact }
 {
     matches!(outcome, Some(Outcome::Open | Outcome::Lapsed))
-}
-
-/// The list of the receipt at a place, if one stands there and it has one.
-fn list_at(
-    receipts: &KeptMap<Place, StoredReceipt>,
-    standings: &Standings,
-    place: Place,
-) -> Option<List>
-    ensures { (z : SettingsValue) (t : TrafficValue) → AreOf z t standings.now.members
-        → receipts_in receipts.now.content ≡ t.receipts
-        → result ≡ list_held standings.now.members place }
-{
-    if receipts.get(&place).is_none() {
-        return None;
-    }
-    list_of(standings.standing(place))
 }
 
 /// Whether a message of this standing shares its key.
@@ -429,9 +485,6 @@ fn set_note(tally: &mut Tally, list: List, place: Place, is_noted: bool) -> Resu
     ensures touches { OnOk result (tally_cost tally.new ≤ tally_cost tally.old + 1) }
     ensures counted { tally.old.touches ≤ tally.new.touches }
 {
-    if tally.is_noted(list, place) == is_noted {
-        return Ok(());
-    }
     if is_noted {
         tally.note(list, place)
     } else {
@@ -448,6 +501,54 @@ fn list_of(standing: Option<Standing>) -> Option<List>
         Some(Standing::Shared) => Some(List::AmbiguousReceipts),
         Some(Standing::Extra) => Some(List::ExtraReceipts),
         _ => None,
+    }
+}
+
+/// Puts a receipt's place into the list that its standing gives alone, or into none of the three. One that is new is in no other.
+fn list_receipt(
+    tally: &mut Tally,
+    place: Place,
+    standing: Option<Standing>,
+    new: Option<Place>,
+) -> Result<(), AllocError>
+    ensures notes { let list = list_by true standing in
+        (new ≡ Some place → IsInNoOther tally.old.notes place list)
+        → OnOk result (tally.new.notes ≡ with_listing tally.old.notes place list) }
+    ensures facts { tally.new.facts ≡ tally.old.facts }
+    ensures settled { tally.new.settled ≡ tally.old.settled }
+    ensures touches { OnOk result (tally_cost tally.new ≤ tally_cost tally.old + 3) }
+    ensures counted { tally.old.touches ≤ tally.new.touches }
+{
+    let list = list_of(standing);
+    if is_new(new, place) {
+        note_in(tally, place, list)?;
+        return Ok(());
+    }
+    set_listing(tally, place, list)?;
+    Ok(())
+}
+
+/// Whether a place is the one that is new.
+fn is_new(new: Option<Place>, place: Place) -> bool
+    ensures { IsTrue result → new ≡ Some place }
+{
+    match new {
+        Some(new) => new == place,
+        None => false,
+    }
+}
+
+/// Notes a place in a list, if there is one.
+fn note_in(tally: &mut Tally, place: Place, list: Option<List>) -> Result<(), AllocError>
+    ensures notes { OnOk result (tally.new.notes ≡ with_note tally.old.notes place list) }
+    ensures facts { tally.new.facts ≡ tally.old.facts }
+    ensures settled { tally.new.settled ≡ tally.old.settled }
+    ensures touches { tally_cost tally.new ≤ tally_cost tally.old }
+    ensures counted { tally.old.touches ≤ tally.new.touches }
+{
+    match list {
+        Some(list) => tally.note(list, place),
+        None => Ok(()),
     }
 }
 

@@ -3,6 +3,7 @@
 ghost use Rattle.std.specs.Prelude.{◌≡◌, ◌≤◌, ◌+◌, true, if◌then◌else◌, None, Some, OnOk};
 ghost use Rattle.std.specs.FinMap as fin;
 ghost use Rattle.smq_kit.specs.declared.link_key.LinkKey.{LinkKey};
+ghost use Rattle.smq_kit.specs.declared.place.Dir.TheVariants.{FromClient, FromCentre};
 ghost use Rattle.smq_group.specs.Groups.{vacancies};
 ghost use Rattle.smq_tally.specs.Lists.{listed};
 ghost use Rattle.smq_book.specs.index.Numbered.{numbered};
@@ -27,7 +28,7 @@ use smq_route::Numbers;
 use std::alloc::AllocError;
 
 impl Index {
-    /// Puts a message in, at a place where nothing stands.
+    /// Puts a message in, at a place of the client where nothing stands.
     pub(crate) fn put_message(
         &mut self,
         settings: &Settings,
@@ -39,6 +40,7 @@ impl Index {
             self.old.standings.members }
         requires absent { fin.get (messages_in self.old.messages.content) place ≡ None }
         requires apart { fin.get (receipts_in self.old.receipts.content) place ≡ None }
+        requires dir { place.dir ≡ FromClient }
         ensures held { (t : TrafficValue) → IsTraffic t → held_now self.old ≡ held_of settings.now t
             → OnOk result
             (held_now self.new ≡ held_of settings.now (moves.put_message place message t)) }
@@ -56,11 +58,11 @@ impl Index {
         put_number(&mut self.numbers, place, &message)?;
         self.messages.set(place, message)?;
         let Some(key) = key else {
-            self.refresh(settings, place)?;
+            self.refresh(settings, place, None, None)?;
             return Ok(());
         };
         let changes = self.standings.add_submit(key.link, key.key, place)?;
-        self.follow(settings, changes.as_slice())?;
+        self.follow(settings, changes.as_slice(), None)?;
         Ok(())
     }
 
@@ -92,13 +94,13 @@ impl Index {
         let key = answered.key(settings);
         self.messages.set(place, answered)?;
         let Some(accepted) = key else {
-            self.refresh(settings, place)?;
+            self.refresh(settings, place, None, None)?;
             return Ok(());
         };
         let changes = self
             .standings
             .add_submit(accepted.link, accepted.key, place)?;
-        self.follow(settings, changes.as_slice())?;
+        self.follow(settings, changes.as_slice(), None)?;
         Ok(())
     }
 
@@ -147,12 +149,12 @@ impl Index {
             return Ok(());
         };
         let changes = self.standings.remove_submit(key.link, &key.key, place)?;
-        self.follow(settings, changes.as_slice())?;
+        self.follow(settings, changes.as_slice(), None)?;
         take_fact(&mut self.tally, place)?;
         Ok(())
     }
 
-    /// Puts a delivery receipt in, at a place where nothing stands.
+    /// Puts a delivery receipt in, at a place of the centre where nothing stands.
     pub(crate) fn put_receipt(
         &mut self,
         settings: &Settings,
@@ -164,6 +166,7 @@ impl Index {
             self.old.standings.members }
         requires absent { fin.get (receipts_in self.old.receipts.content) place ≡ None }
         requires apart { fin.get (messages_in self.old.messages.content) place ≡ None }
+        requires dir { place.dir ≡ FromCentre }
         ensures held { (t : TrafficValue) → IsTraffic t → held_now self.old ≡ held_of settings.now t
             → OnOk result
             (held_now self.new ≡ held_of settings.now (moves.put_receipt place receipt t)) }
@@ -184,7 +187,7 @@ impl Index {
         let changes = self
             .standings
             .add_receipt(key.link, key.key, place, moment, decides)?;
-        self.follow(settings, changes.as_slice())?;
+        self.follow(settings, changes.as_slice(), Some(place))?;
         Ok(())
     }
 
@@ -219,8 +222,8 @@ impl Index {
         let key = receipt.key(settings);
         self.receipts.remove(&place)?;
         let changes = self.standings.remove_receipt(key.link, &key.key, place)?;
-        self.follow(settings, changes.as_slice())?;
-        self.refresh(settings, place)?;
+        self.follow(settings, changes.as_slice(), None)?;
+        self.refresh(settings, place, None, None)?;
         Ok(())
     }
 
@@ -249,9 +252,7 @@ impl Index {
         ensures counted { touches_in self.old ≤ touches_in self.new }
         ensures rises { OnOk result (RisesWithFacts self.old self.new) }
     {
-        if self.tally.is_noted(list, place) {
-            self.tally.forget(list, place)?;
-        }
+        self.tally.forget(list, place)?;
         Ok(())
     }
 }

@@ -1,6 +1,6 @@
 //! One PDU more of a session: it makes a pair or waits for one, puts in the message or the delivery receipt that it is, and gives
 //! a message its response.
-ghost use Rattle.std.specs.Prelude.{◌≡◌, ◌≢◌, ◌≤◌, ◌+◌, ◌*◌, ℕ, List, [], ◌∷◌, ◌++◌, Some, None, OnOk};
+ghost use Rattle.std.specs.Prelude.{◌≡◌, ◌≢◌, ◌≤◌, ◌+◌, ◌*◌, ℕ, List, [], ◌∷◌, ◌++◌, Some, None, IfOk, OnOk};
 ghost use Rattle.std.specs.FinMap as fin;
 ghost use Rattle.smq_kit.specs.declared.place.Dir.TheVariants.{FromClient, FromCentre};
 ghost use Rattle.smq_kit.specs.declared.names.SessionId.{SessionId as SessionIdOf};
@@ -30,27 +30,28 @@ use smq_pdu::Submit;
 use std::alloc::AllocError;
 
 /// What the response of a pair says to its request.
-fn said(pair: Pair, response: &KeptPdu) -> StoredResponse
-    ensures { result ≡ said_by pair response.now }
+fn said(pair: Pair, response: &KeptPdu) -> Result<StoredResponse, AllocError>
+    ensures { IfOk result (λ said. said ≡ said_by pair response.now) }
 {
-    StoredResponse {
+    Ok(StoredResponse {
         agrees: pair.agrees,
         status: pair.status,
-        id: match response.content.message_id() {
-            None => None,
-            Some(id) => Some(id.copy()),
-        },
-    }
+        id: response.content.shared_id()?,
+    })
 }
 
 /// The same where a pair is made whose response is one of these PDUs of the centre.
-fn said_in(centre: &[KeptPdu], made: Option<Pair>) -> Option<StoredResponse>
+fn said_in(centre: &[KeptPdu], made: Option<Pair>) -> Result<Option<StoredResponse>, AllocError>
     requires { Rises 0 centre.now }
-    ensures { result ≡ pushed.said_in centre.now made }
+    ensures { IfOk result (λ response. response ≡ pushed.said_in centre.now made) }
 {
-    let pair = made?;
-    let response = pdu_at(centre, pair.response.offset)?;
-    Some(said(pair, response))
+    let Some(pair) = made else {
+        return Ok(None);
+    };
+    let Some(response) = pdu_at(centre, pair.response.offset) else {
+        return Ok(None);
+    };
+    Ok(Some(said(pair, response)?))
 }
 
 /// The message that a submit_sm or data_sm is, with what its response says, where it has one.
@@ -149,7 +150,7 @@ pub(crate) fn push_of_client(
     let place = place_of(session, Dir::FromClient, pdu);
     let made = pairings.add(session, place, pdu.seq, pdu.command, pdu.status)?;
     note_of_client(index, session, pdu, made)?;
-    let response = said_in(centre, made);
+    let response = said_in(centre, made)?;
     put_submit(index, settings, session, link, pdu, response)?;
     Ok(())
 }
@@ -194,7 +195,7 @@ fn answer(
     let Some(message) = index.messages.get(&pair.request) else {
         return Ok(());
     };
-    let answered = with_response(message, said(pair, response));
+    let answered = with_response(message, said(pair, response)?);
     index.answer_message(settings, pair.request, answered)?;
     Ok(())
 }
@@ -246,13 +247,13 @@ fn put_received(
         + 43 * members_at index.new.standings.members
         (receipt_key_at index.new.standings.members place)) }
 {
-    let Some(receipt) = pdu.content.receipt() else {
+    let Some(receipt) = pdu.content.shared_receipt()? else {
         return Ok(());
     };
     let received = StoredReceipt {
         link,
         moment: pdu.moment,
-        receipt: receipt.copy(),
+        receipt,
     };
     index.put_receipt(settings, place_of(session, Dir::FromCentre, pdu), received)?;
     Ok(())

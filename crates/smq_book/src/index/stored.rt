@@ -1,5 +1,5 @@
 //! What is stored of messages and delivery receipts: what their PDUs say, whatever is set.
-ghost use Rattle.std.specs.Prelude.{◌≡◌, pos, ◌-ℤ◌};
+ghost use Rattle.std.specs.Prelude.{◌≡◌, pos, ◌-ℤ◌, IfOk};
 ghost use Rattle.std.specs.Option.{option_copied};
 ghost use Rattle.smq_book.specs.index.Due.{has_ended};
 ghost use Rattle.smq_book.specs.join.Circumstances.{route_in};
@@ -7,29 +7,35 @@ ghost use Rattle.smq_book.specs.join.Keyed as keyed;
 ghost use Rattle.smq_book.specs.join.Keyed.{accepted_id, accepted_key, receipt_key};
 ghost use Rattle.smq_book.specs.present.Settings.{window_in};
 
+use crate::present::kept::shared;
 use crate::present::settings::Settings;
 use crate::present::windows::Windows;
 use smq_kit::{Digits, LinkId, LinkKey, MessageId, Moment, Network, RouteId};
 use smq_receipt::Receipt;
 use smq_route::Routes;
+use std::alloc::{AllocError, Global};
 use std::marker::Model;
+use std::sync::Arc;
 
-/// What a response says to its request. A contract sees it as the definitions have it.
+/// What a response says to its request. It shares the id with what is kept of the PDU. A contract sees it as the
+/// definitions have it.
 #[derive(Drop)]
 pub(crate) struct StoredResponse {
     /// Whether its command is that of the request's response.
     pub agrees: bool,
     /// command_status (SMPP 3.4, 5.1.3).
     pub status: u32,
-    pub id: Option<MessageId>,
+    pub id: Option<Arc<MessageId, Global>>,
 }
 
 impl Model for StoredResponse {
+    ghost use Rattle.std.specs.Prelude.{option_map};
+    ghost use Rattle.std.specs.Arc.{arc_value};
     ghost use Rattle.smq_book.specs.pairing.Traffic.{Response};
 
     ghost Value = { Response };
 
-    ghost view = { λ r. record { agrees = r.agrees; status = r.status; id = r.id } };
+    ghost view = { λ r. record { agrees = r.agrees; status = r.status; id = option_map arc_value r.id } };
 }
 
 /// A message with its response, where it has one.
@@ -57,44 +63,42 @@ impl Model for StoredMessage {
     } };
 }
 
-/// A delivery receipt.
+/// A delivery receipt, which it shares with what is kept of the PDU.
 #[derive(Drop)]
 pub(crate) struct StoredReceipt {
     pub link: LinkId,
     pub moment: Moment,
-    pub receipt: Receipt,
+    pub receipt: Arc<Receipt, Global>,
 }
 
 impl Model for StoredReceipt {
+    ghost use Rattle.std.specs.Arc.{arc_value};
     ghost use Rattle.smq_book.specs.pairing.Traffic.{ReceivedReceipt};
 
     ghost Value = { ReceivedReceipt };
 
-    ghost view = { λ r. record { link = r.link; moment = r.moment; receipt = r.receipt } };
+    ghost view = { λ r. record { link = r.link; moment = r.moment; receipt = arc_value r.receipt } };
 }
 
 impl StoredResponse {
-    /// An equal value. It takes no memory.
-    fn copy(&self) -> StoredResponse
-        ensures { result ≡ self.now }
+    /// An equal value, which shares the id. It takes no memory.
+    fn copy(&self) -> Result<StoredResponse, AllocError>
+        ensures { IfOk result (λ response. response ≡ self.now) }
     {
-        StoredResponse {
+        Ok(StoredResponse {
             agrees: self.agrees,
             status: self.status,
-            id: match &self.id {
-                None => None,
-                Some(id) => Some(id.copy()),
-            },
-        }
+            id: shared(&self.id)?,
+        })
     }
 }
 
 impl StoredMessage {
-    /// An equal value. It takes no memory.
-    pub(crate) fn copy(&self) -> StoredMessage
-        ensures { result ≡ self.now }
+    /// An equal value, which shares the id of its response. It takes no memory.
+    pub(crate) fn copy(&self) -> Result<StoredMessage, AllocError>
+        ensures { IfOk result (λ message. message ≡ self.now) }
     {
-        StoredMessage {
+        Ok(StoredMessage {
             link: self.link,
             moment: self.moment,
             number: match &self.number {
@@ -104,9 +108,9 @@ impl StoredMessage {
             asks_receipt: self.asks_receipt,
             response: match &self.response {
                 None => None,
-                Some(response) => Some(response.copy()),
+                Some(response) => Some(response.copy()?),
             },
-        }
+        })
     }
 
     /// The id with which it is accepted, where it is.
@@ -117,7 +121,10 @@ impl StoredMessage {
         if !response.agrees || response.status != 0 {
             return None;
         }
-        response.id.as_ref()
+        match &response.id {
+            None => None,
+            Some(id) => Some(id),
+        }
     }
 
     /// The key of that id, under what is set.
@@ -147,15 +154,15 @@ impl StoredMessage {
 }
 
 impl StoredReceipt {
-    /// An equal value. It takes no memory.
-    pub(crate) fn copy(&self) -> StoredReceipt
-        ensures { result ≡ self.now }
+    /// An equal value, which shares the receipt. It takes no memory.
+    pub(crate) fn copy(&self) -> Result<StoredReceipt, AllocError>
+        ensures { IfOk result (λ receipt. receipt ≡ self.now) }
     {
-        StoredReceipt {
+        Ok(StoredReceipt {
             link: self.link,
             moment: self.moment,
-            receipt: self.receipt.copy(),
-        }
+            receipt: Arc::try_clone(&self.receipt)?,
+        })
     }
 
     /// The key of its id, under what is set.

@@ -16,6 +16,7 @@ ghost use Rattle.smq_tally.specs.declared.list.List.TheVariants as list;
 ghost use Rattle.smq_tally.specs.Lists.{listed};
 ghost use Rattle.smq_book.specs.declared.present.session.Session.{Session as SessionValue};
 ghost use Rattle.smq_book.specs.known.Pairing.{InTurn, KnownNotes};
+ghost use Rattle.smq_book.specs.present.Content as Content;
 ghost use Rattle.smq_book.specs.present.Kept.{header_of, headers_of, kept_pdus, submit_in};
 ghost use Rattle.smq_book.specs.pairing.Dealt.{KeepsPairsTogether, pdus_taken, traffic_among};
 ghost use Rattle.smq_book.specs.pairing.Places.{octets_at, StandsAt, Says};
@@ -24,7 +25,7 @@ ghost use Rattle.smq_book.specs.pairing.Traffic.{Origin, place_of, placed, pairi
 ghost use Rattle.smq_book.specs.whole.Dealt.{dealt};
 ghost use Rattle.smq_book.specs.within.Pairs.{SubmitsAreRequests};
 
-use crate::{Content, KeptPdu};
+use crate::KeptPdu;
 use smq_kit::Place;
 use smq_receipt::Reading;
 

@@ -8,7 +8,6 @@ use crate::tests::shown::{first_session, octets_from_client};
 use smq_book::{Batch, Book, Content, KeptPdu, Settings};
 use smq_frame::Tail;
 use smq_kit::{Dir, Form, LinkId};
-use smq_receipt::Reading;
 use std::alloc::Global;
 use std::process::Abort;
 
@@ -83,7 +82,7 @@ fn has_header(pdu: &KeptPdu, wanted: Header) -> bool {
 }
 
 /// What the readers of a content give: the registered_delivery of its submit_sm or data_sm, the message id of its
-/// submit_sm_resp or data_sm_resp, what its deliver_sm or data_sm says as a receipt, and the id of the receipt that it is.
+/// submit_sm_resp or data_sm_resp, what of it can't be read, and the id of the receipt that it is.
 type Read<'a> = (
     Option<u8>,
     Option<&'a [u8]>,
@@ -93,10 +92,10 @@ type Read<'a> = (
 
 /// Whether the readers of a content give this.
 fn gives(content: &Content, wanted: Read<'_>) -> bool {
-    let (registered_delivery, id, reading, receipt) = wanted;
+    let (registered_delivery, id, fault, receipt) = wanted;
     has_submit(content, registered_delivery)
         && has_id(content, id)
-        && has_reading(content, reading)
+        && has_fault(content, fault)
         && has_receipt(content, receipt)
 }
 
@@ -116,10 +115,10 @@ fn has_id(content: &Content, wanted: Option<&[u8]>) -> bool {
     }
 }
 
-fn has_reading(content: &Content, wanted: Option<&str>) -> bool {
-    match (content.reading(), wanted) {
+fn has_fault(content: &Content, wanted: Option<&str>) -> bool {
+    match (fault_of(content), wanted) {
         (None, None) => true,
-        (Some(reading), Some(wanted)) => name_of(reading) == wanted,
+        (Some(fault), Some(wanted)) => fault == wanted,
         _ => false,
     }
 }
@@ -132,12 +131,12 @@ fn has_receipt(content: &Content, wanted: Option<&[u8]>) -> bool {
     }
 }
 
-fn name_of(reading: &Reading) -> &'static str {
-    match reading {
-        Reading::Receipt(_) => "a receipt",
-        Reading::NoId => "no id",
-        Reading::NoState => "no state",
-        Reading::NotReceipt => "no receipt",
+fn fault_of(content: &Content) -> Option<&'static str> {
+    match (content.is_unreadable(), content.is_undecodable()) {
+        (false, false) => None,
+        (true, false) => Some("unreadable"),
+        (false, true) => Some("undecodable"),
+        (true, true) => Some("both"),
     }
 }
 
@@ -151,7 +150,7 @@ const CONTENTS: &[(&str, Sent, Read<'static>)] = &[
     (
         "a submit_sm without fields",
         Sent::Pdu(4, 0, 1, b""),
-        (None, None, None, None),
+        (None, None, Some("undecodable"), None),
     ),
     (
         "a response with an id",
@@ -166,27 +165,27 @@ const CONTENTS: &[(&str, Sent, Read<'static>)] = &[
     (
         "a receipt",
         Sent::Receipt(1, b"id:7a stat:DELIVRD"),
-        (None, None, Some("a receipt"), Some(b"7a")),
+        (None, None, None, Some(b"7a")),
     ),
     (
         "a receipt without an id",
         Sent::Receipt(1, b"stat:DELIVRD"),
-        (None, None, Some("no id"), None),
+        (None, None, Some("unreadable"), None),
     ),
     (
         "a receipt without a state",
         Sent::Receipt(1, b"id:7a"),
-        (None, None, Some("no state"), None),
+        (None, None, Some("unreadable"), None),
     ),
     (
         "a message that is no receipt",
         Sent::Message(1, b"id:7a stat:DELIVRD"),
-        (None, None, Some("no receipt"), None),
+        (None, None, None, None),
     ),
     (
         "a data_sm that asks for a receipt and isn't one",
         Sent::Pdu(0x103, 0, 1, b"\0\0\0\0\0\0\0\0\x01\0"),
-        (Some(1), None, Some("no receipt"), None),
+        (Some(1), None, None, None),
     ),
     (
         "a data_sm that is a receipt",
@@ -196,12 +195,12 @@ const CONTENTS: &[(&str, Sent, Read<'static>)] = &[
             1,
             b"\0\0\0\0\0\0\0\x04\0\0\x04\x24\0\x12id:7a stat:DELIVRD",
         ),
-        (Some(0), None, Some("a receipt"), Some(b"7a")),
+        (Some(0), None, None, Some(b"7a")),
     ),
     (
         "a data_sm without fields",
         Sent::Pdu(0x103, 0, 1, b""),
-        (None, None, None, None),
+        (None, None, Some("undecodable"), None),
     ),
     (
         "a data_sm_resp with an id",

@@ -18,8 +18,8 @@ use Rattle.smq_receipt.specs.Readings.{text_of, usable_id, receipted_id, state_i
 use Rattle.smq_receipt.specs.declared.reading.Reading.TheVariants as v
 use Rattle.smq_tally.specs.declared.list.List.TheVariants as l
 use Rattle.smq_tally.specs.Lists.{listed}
-use Rattle.smq_book.specs.declared.present.kept.Content.{Content}
-use Rattle.smq_book.specs.declared.present.kept.Content.TheVariants as c
+use Rattle.smq_book.specs.present.Content.{Content}
+use Rattle.smq_book.specs.present.Content as c
 use Rattle.smq_book.specs.declared.present.kept.KeptPdu.{KeptPdu}
 use Rattle.smq_book.specs.known.Appended.{first_batch, other_response, answered_session, unread_octets}
 use Rattle.smq_book.specs.known.Pairing.{place_at, known_origin, submit_octets, response_octets}

@@ -30,7 +30,7 @@ use Rattle.smq_pdu.specs.Pairing.{nth_index}
 use Rattle.smq_pdu.specs.Pdu.{body_of, submit_of, deliver_of, id_of}
 use Rattle.smq_pdu.specs.Readers.{mandatory_at, address_at, c_octet_at, octets_at, number_at, tlv_at, tlvs_within, tlvs_of}
 use Rattle.smq_book.specs.declared.present.edit.Edit.TheVariants.{Advance, SetWindow, Withdraw}
-use Rattle.smq_book.specs.declared.present.kept.Content.TheVariants as c
+use Rattle.smq_book.specs.present.Content as c
 use Rattle.smq_book.specs.declared.present.kept.KeptPdu.{KeptPdu}
 use Rattle.smq_book.specs.declared.present.session.Session.{Session}
 use Rattle.smq_book.specs.known.Pairing.{place_at, known_origin, submit_octets, response_octets}

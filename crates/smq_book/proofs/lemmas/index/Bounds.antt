@@ -36,7 +36,7 @@ use Rattle.smq_book.specs.declared.index.index.Index.{Index}
 use Rattle.smq_book.specs.declared.index.pairings.Pairings.{Pairings}
 use Rattle.smq_book.specs.declared.present.edit.Edit.{Edit}
 use Rattle.smq_book.specs.declared.present.edit.Edit.TheVariants.{Append, SetWindow, Withdraw, Advance}
-use Rattle.smq_book.specs.declared.present.kept.Content.{Content}
+use Rattle.smq_book.specs.present.Content.{Content}
 use Rattle.smq_book.specs.declared.present.kept.KeptPdu.{KeptPdu}
 use Rattle.smq_book.specs.declared.present.session.Session.{Session}
 use Rattle.smq_book.specs.edits.Reach.{batch_places, groups, members, pair_in, reach, session_places, weight, weights}

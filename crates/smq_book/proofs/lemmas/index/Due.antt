@@ -20,8 +20,7 @@ use Rattle.smq_kit.specs.Maps.{SameOutside, set_at}
 use Rattle.smq_kit.specs.Orders.{place_cmp}
 use Rattle.smq_kit.proofs.Comparisons.{then_equal}
 use Rattle.smq_kit.proofs.MapLemmas as maps
-use Rattle.smq_kit.proofs.PlaceOrders.{places_total, places_exact}
-use Rattle.smq_shelf.specs.within.KeyLaws.{place_order}
+use Rattle.smq_kit.proofs.PlaceOrders.{place-order, places_total, places_exact}
 use Rattle.smq_shelf.proofs.Seen.{inserted, removed}
 use Rattle.smq_tally.specs.declared.fact.Fact.{Fact}
 use Rattle.smq_tally.proofs.Listings.{marked}
@@ -46,7 +45,7 @@ use Rattle.smq_book.proofs.lemmas.index.PlacedKeys as made
 -- the shelf's order is that of the definitions
 pub due-order : kept_due_cmp ≡ due_cmp
 due-order =
-    λ i a b. ordering_then (nat_cmp a.link.0 b.link.0) (ordering_then (nat_cmp a.moment b.moment) (place_order a.place b.place i))
+    λ i a b. ordering_then (nat_cmp a.link.0 b.link.0) (ordering_then (nat_cmp a.moment b.moment) (place-order i a.place b.place))
 
 pub due_total : IsTotalOrder due_cmp
 due_total = then_total (on_total (λ k. k.link.0) nat_cmp_total)

@@ -19,8 +19,7 @@ use Rattle.smq_kit.specs.declared.place.Place.{Place}
 use Rattle.smq_kit.specs.Maps.{set_at}
 use Rattle.smq_kit.specs.Orders.{place_cmp}
 use Rattle.smq_kit.proofs.MapLemmas as maps
-use Rattle.smq_kit.proofs.PlaceOrders.{places_total, places_exact}
-use Rattle.smq_shelf.specs.within.KeyLaws.{place_order}
+use Rattle.smq_kit.proofs.PlaceOrders.{place-order, places_total, places_exact}
 use Rattle.smq_shelf.proofs.Seen.{inserted, removed}
 use Rattle.smq_tally.specs.declared.fact.Fact.{Fact}
 use Rattle.smq_tally.proofs.Listings.{marked}
@@ -44,7 +43,7 @@ use Rattle.smq_book.proofs.lemmas.index.PlacedKeys as made
 
 -- the shelf's order is that of the definitions
 pub end-order : kept_end_cmp ≡ end_cmp
-end-order = λ i a b. ordering_then (nat_cmp a.end b.end) (place_order a.place b.place i)
+end-order = λ i a b. ordering_then (nat_cmp a.end b.end) (place-order i a.place b.place)
 
 pub end_total : IsTotalOrder end_cmp
 end_total = then_total (on_total (λ k. k.end) nat_cmp_total) (on_total (λ k. k.place) places_total)

@@ -11,32 +11,36 @@ use Rattle.std.specs.Ordering.{eq_by_cmp, is_eq}
 use Rattle.smq_shelf.specs.Keeping.{KeepingMap}
 use Rattle.std.proofs.lemmas.Bool.{false≢true}
 use Rattle.smq_kit.specs.declared.link_key.LinkKey.{LinkKey}
+use Rattle.smq_kit.specs.declared.place.Dir.{Dir}
+use Rattle.smq_kit.specs.declared.place.Dir.TheVariants.{FromClient, FromCentre}
 use Rattle.smq_kit.specs.declared.place.Place.{Place}
 use Rattle.smq_kit.specs.Maps.{set_at}
-use Rattle.smq_kit.specs.Orders.{place_cmp}
+use Rattle.smq_kit.specs.Orders.{kept_place_cmp, place_cmp}
 use Rattle.smq_kit.proofs.MapLemmas.{same_key}
 use Rattle.smq_kit.proofs.PlaceOrders.{places_total, places_exact}
 use Rattle.smq_tally.specs.declared.fact.Fact.{Fact}
 use Rattle.smq_tally.specs.declared.list.List as list
 use Rattle.smq_tally.specs.declared.list.List.TheVariants as l
 use Rattle.smq_tally.specs.Lists.{listed}
-use Rattle.smq_tally.specs.within.Kept.{kept_place_cmp}
 use Rattle.smq_group.specs.declared.change.Change.{Change}
 use Rattle.smq_group.specs.Changes.{TellsChanges}
 use Rattle.smq_group.specs.Groups.{GroupsValue, with_receipt, with_submit, without_receipt, without_submit}
 use Rattle.smq_group.specs.Matching.{Grouping}
+use Rattle.smq_group.specs.Standings.{StandApart}
 use Rattle.smq_route.specs.Numbers.{NumbersValue, number_cmp}
+use Rattle.smq_route.specs.Versions.{Versions}
 use Rattle.smq_book.specs.declared.index.index.Index.{Index}
 use Rattle.smq_book.specs.present.Settings.{SettingsValue, window_in}
 use Rattle.smq_book.specs.pairing.Traffic.{Message, ReceivedReceipt, TrafficValue}
-use Rattle.smq_book.specs.join.Circumstances.{circumstances}
+use Rattle.smq_book.specs.join.Circumstances.{circumstances, route_in}
 use Rattle.smq_book.specs.join.Facts.{fact_by, facts_of}
 use Rattle.smq_book.specs.join.Keyed.{accepted_key, grouping_of, keyed_receipt}
 use Rattle.smq_book.specs.join.Listings.{notes_of}
 use Rattle.smq_book.specs.join.Moves.{IsMove, TakeMessage, TakeReceipt, put_message, put_receipt, take_message, take_receipt}
 use Rattle.smq_book.specs.index.Due.{due_at, due_cmp, due_in}
 use Rattle.smq_book.specs.index.Ends.{end_at, end_cmp, ends_by}
-use Rattle.smq_book.specs.index.Held.{AreOf, AreUnlisted, Holding, IsTraffic, IsUnlisted, dues_in, ends_in, facts_anew, held_by, held_now, held_of}
+use Rattle.smq_book.specs.index.Following.{AreTold, MayFollow}
+use Rattle.smq_book.specs.index.Held.{AreOf, Holding, IsTraffic, IsUnlisted, dues_in, ends_in, facts_anew, held_by, held_now, held_of}
 use Rattle.smq_book.specs.index.Held.{is_ambiguous, is_extra, is_stray, is_traffic_list, noted}
 use Rattle.smq_book.specs.index.Held.{list_held, messages_in, notes_anew, receipts_in, stored_traffic, with_listing}
 use Rattle.smq_book.specs.index.Numbered.{numbered, numbers_of}
@@ -49,12 +53,31 @@ use Rattle.smq_book.proofs.lemmas.index.Members.{kept-traffic, members-put, memb
 use Rattle.smq_book.proofs.lemmas.index.Members.{members-untaken, received-put, received-taken, traffic-apart}
 use Rattle.smq_book.proofs.lemmas.index.Moves.{ambiguous-now, extra-now, stray-now}
 use Rattle.smq_book.proofs.lemmas.index.Moves.{alone-facts, alone-notes, taken-facts, taken-notes, tells_of, told-facts, told-notes}
-use Rattle.smq_book.proofs.lemmas.index.Stored.{fact-absent, stored-gone, stored-put}
+use Rattle.smq_book.proofs.lemmas.index.Following.{fact-route}
+use Rattle.smq_book.proofs.lemmas.index.Newcomers.{unlisted-alone}
+use Rattle.smq_book.proofs.lemmas.index.Stored.{at-receipts, at-submits, fact-absent, stored-gone, stored-put}
+use Rattle.smq_book.proofs.lemmas.index.ToldNow.{told-now}
 use Rattle.smq_book.proofs.lemmas.index.Unlisted.{unheld, unlisted-anew, unlisted-same}
 
 -- what is put in is there
 pub put-there : {X : Type 0} (m : FinMap place_cmp X) (q : Place) (v : X) → get (insert m q v) q ≡ Some v
 put-there m q v = get-insert places_total m q v q ∙ ap (λ b. cond b (Some v) (get m q)) (ap is_eq (tied_itself places_total q))
+
+-- there is none
+pub nobody : {X : Type 0} (p : Place) → ◌≡◌ {A = Option Place} None (Some p) → X
+nobody p e = absurd cc
+
+-- or this one alone
+pub only : (q p : Place) → ◌≡◌ {A = Option Place} (Some q) (Some p) → p ≡ q
+only q p e = let same : q ≡ p = cc in sym same
+
+-- where there is one message, no other is
+pub one-none : {X : Type 0} (o : Option Message) (m : Message) → o ≡ None → o ≡ Some m → X
+one-none o m none is = let clash : ◌≡◌ {A = Option Message} None (Some m) = sym none ∙ is in absurd cc
+
+-- where there is one, it is that
+pub one-route : (v : Versions) (o : Option Message) (m n : Message) → o ≡ Some m → o ≡ Some n → route_in v m ≡ route_in v n
+one-route v o m n there is = let same : m ≡ n = (let e : ◌≡◌ {A = Option Message} (Some m) (Some n) = sym there ∙ is in cc) in ap (route_in v) same
 
 -- ---- what is stored of traffic
 
@@ -439,18 +462,65 @@ module _ (s : SettingsValue) (t u : TrafficValue) (i : Index) {ms : List (Place 
 
   -- ---- where listings and facts need no look
 
-  -- no place of a message is noted in a list of receipts, where the message of this place comes where no receipt was
-  pub unlisted : ((m : Message) → get u.messages q ≡ Some m → get t.receipts q ≡ None) → AreUnlisted (messages_in ms) i.tally.notes
-  unlisted free = record {
-    each = λ p m e. unlisted-at s t i held traffic p
-        (by p m (eq_by_cmp place_cmp p q) refl (ap (λ (x : FinMap place_cmp Message). get x p) (sym stores.messages) ∙ e));
+  -- where the traffic after the move is as sessions say it, what was known and listed before it may follow
+  pub may-follow : (new : Option Place) → ((p : Place) → new ≡ Some p → get t.receipts p ≡ None)
+      → ((m n : Message) → get t.messages q ≡ Some m → get u.messages q ≡ Some n → route_in s.versions m ≡ route_in s.versions n)
+      → IsTraffic u
+      → MayFollow s (stored_traffic ms rs) h new i.tally.facts i.tally.notes
+  may-follow new comes alike after = record {
+    are = are-stored stores;
+    messages = λ p m e. after.messages p m (ap (λ (x : FinMap place_cmp Message). get x p) (sym stores.messages) ∙ e);
+    receipts = λ p r e. after.receipts p r (ap (λ (x : FinMap place_cmp ReceivedReceipt). get x p) (sym stores.receipts) ∙ e);
+    known = λ p f e. from p f (get t.messages p) refl (sym (fact-at s t p) ∙ sym (ap (λ (m : FinMap place_cmp Fact). get m p) were) ∙ e);
+    unlisted = λ p client. unlisted-at s t i held traffic p (free p client (get t.receipts p) refl);
+    alone = λ p e. unlisted-alone i.tally.notes p (list_held h p) (unlisted-at s t i held traffic p (comes p e));
+    routed = λ p m f there is. route p m f (get t.messages p) refl
+        (ap (λ (x : FinMap place_cmp Message). get x p) (sym stores.messages) ∙ there)
+        (sym (ap (λ (m : FinMap place_cmp Fact). get m p) were) ∙ is);
   }
     where
-      by : (p : Place) (m : Message) (b : Bool) → eq_by_cmp place_cmp p q ≡ b → get u.messages p ≡ Some m → get t.receipts p ≡ None
-      by p m true same e =
-          let here : p ≡ q = same_key places_total places_exact p q same in
-          ap (get t.receipts) here ∙ free m (ap (get u.messages) (sym here) ∙ e)
-      by p m false apart e = move.receipts.at p (ap (λ b. b || false) apart) ∙ stores.stands.apart p m e
+      one : (m n : Message) → ◌≡◌ {A = Option Message} (Some m) (Some n) → route_in s.versions m ≡ route_in s.versions n
+      one m n e = let same : m ≡ n = cc in ap (route_in s.versions) same
+
+      same_route : (p : Place) (m n : Message) (b : Bool) → eq_by_cmp place_cmp p q ≡ b → get t.messages p ≡ Some m → get u.messages p ≡ Some n
+          → route_in s.versions m ≡ route_in s.versions n
+      same_route p m n true same was is =
+          let here : q ≡ p = sym (same_key places_total places_exact p q same) in
+          alike m n (ap (get t.messages) here ∙ was) (ap (get u.messages) here ∙ is)
+      same_route p m n false other was is = one m n (sym was ∙ move.messages.at p (ap (λ b. b || false) other) ∙ is)
+
+      route : (p : Place) (n : Message) (f : Fact) (x : Option Message) → get t.messages p ≡ x → get u.messages p ≡ Some n
+          → get (facts_of s t) p ≡ Some f → f.route ≡ route_in s.versions n
+      route p n f None e there is =
+          let clash : ◌≡◌ {A = Option Fact} None (Some f) =
+          sym (fact-at s t p ∙ ap (option_map (λ (m : Message). fact_by p m (circumstances s t m))) e) ∙ is in absurd cc
+      route p n f (Some m) e there is = fact-route s t p m f e is ∙ same_route p m n (eq_by_cmp place_cmp p q) refl e there
+
+      from : (p : Place) (f : Fact) (x : Option Message) → get t.messages p ≡ x
+          → option_map (λ (m : Message). fact_by p m (circumstances s t m)) x ≡ Some f → p.dir ≡ FromClient
+      from p f None e is = absurd cc
+      from p f (Some m) e is = traffic.messages p m e
+
+      free : (p : Place) → p.dir ≡ FromClient → (x : Option ReceivedReceipt) → get t.receipts p ≡ x → x ≡ None
+      free p client None e = refl
+      free p client (Some r) e = let clash : ◌≡◌ {A = Dir} FromClient FromCentre = sym client ∙ traffic.receipts p r e in absurd cc
+
+  -- no receipt stands at the place of a message that is accepted
+  stand-apart : StandApart h
+  stand-apart = record { apart = λ p key there. by p key (get (messages_in ms) p) refl (sym (at-submits s (stored_traffic ms rs) h are p) ∙ there) }
+    where
+      are : AreOf s (stored_traffic ms rs) h
+      are = are-stored stores
+
+      by : (p : Place) (key : LinkKey) (x : Option Message) → get (messages_in ms) p ≡ x
+          → option_and_then (λ (m : Message). accepted_key s m) x ≡ Some key → get h.receipts p ≡ None
+      by p key None e is = absurd cc
+      by p key (Some m) e is =
+          at-receipts s (stored_traffic ms rs) h are p
+          ∙ ap (option_and_then (λ (r : ReceivedReceipt). Some (keyed_receipt s r))) (are.apart p m e)
+
+  pub told : (cs : List Change) → TellsChanges i.standings.members h cs → AreTold h cs
+  told cs tells = told-now h stand-apart i.standings.members cs tells
 
   module _ (gone : get u.messages q ≡ None) (before : get t.receipts q ≡ None) (after : get u.receipts q ≡ None) where
     unknown : now q ≡ None

@@ -1,25 +1,21 @@
--- What is known of a stored message, and in which list a stored receipt stands; entries, facts and notes as they are stored.
+-- What is known of a stored message, and in which list a stored receipt stands; entries and facts as they are stored.
 use Rattle.std.proofs.Common.{◌≡◌, ℕ, Bool, true, false, List, Option, Some, None, refl, sym, ap, ◌∙◌}
 use Rattle.std.specs.Prelude.{is_some, option_and_then, option_map}
 use Rattle.std.specs.Option.{option_or}
 use Rattle.std.specs.FinMap.{FinMap, contains_key, from_entries, get, insert, remove}
-use Rattle.std.specs.FinSet.{FinSet}
 use Rattle.std.specs.List.Sorted.{IsStrictlySortedBy}
 use Rattle.std.specs.Map.{keys_of, lookup, remove_entry}
 use Rattle.std.specs.BTreeMap.{is_at, insert_entry}
 use Rattle.smq_kit.specs.Maps.{set_at}
-use Rattle.smq_kit.specs.Orders.{place_cmp}
+use Rattle.smq_kit.specs.Orders.{kept_place_cmp, place_cmp}
 use Rattle.smq_kit.specs.declared.names.RouteId.{RouteId}
 use Rattle.smq_kit.specs.declared.place.Place.{Place}
 use Rattle.smq_kit.specs.declared.link_key.LinkKey.{LinkKey}
-use Rattle.smq_kit.proofs.PlaceOrders.{places_total, places_exact}
+use Rattle.smq_kit.proofs.PlaceOrders.{place-order, places_total, places_exact}
 use Rattle.smq_kit.proofs.MapLemmas.{get-chosen, set-same}
-use Rattle.smq_shelf.specs.within.KeyLaws.{place_order}
 use Rattle.smq_shelf.proofs.Seen.{inserted, looked_up, removed}
-use Rattle.smq_tally.specs.declared.list.Listed.{Listed}
 use Rattle.smq_tally.specs.declared.fact.Fact.{Fact}
 use Rattle.smq_tally.specs.Lists.{listed_cmp}
-use Rattle.smq_tally.specs.within.Kept.{kept_place_cmp}
 use Rattle.smq_tally.specs.within.ListOrder.{listed_total}
 use Rattle.smq_tally.proofs.ListOrders.{listed_exact}
 use Rattle.smq_group.specs.declared.change.Standing as told
@@ -36,13 +32,9 @@ use Rattle.smq_book.specs.join.Listings.{list_of_standing}
 use Rattle.smq_book.specs.join.Outcomes.{is_shared}
 use Rattle.smq_book.specs.edits.Told.{list_told}
 use Rattle.smq_book.specs.index.Stored.{circumstances_by, is_told_shared}
-use Rattle.smq_book.specs.index.Held.{AreOf, decider_held, list_by, list_held, noted}
+use Rattle.smq_book.specs.index.Held.{AreOf, decider_held, list_by, list_held}
 
 -- ---- stored entries as finite maps
-
--- the order of places as maps of std compare them
-place-order : kept_place_cmp ≡ place_cmp
-place-order = λ i a b. place_order a b i
 
 module _ {X : Type 0} where
   -- what is looked up at a place is what the map has there
@@ -59,7 +51,7 @@ module _ {X : Type 0} where
       → from_entries {R = place_cmp} (remove_entry (is_at (kept_place_cmp q)) es) ≡ remove (from_entries es) q
   stored-gone es q sorted = removed places_total places_exact place-order es q sorted
 
--- ---- facts and notes that are set
+-- ---- facts that are set
 
 -- where a place has no fact, none is taken out
 pub fact-free : (facts : FinMap place_cmp Fact) (q : Place) → contains_key facts q ≡ false → facts ≡ remove facts q
@@ -68,25 +60,6 @@ fact-free facts q free = sym (ap (set_at facts q) (sym (none (get facts q) free)
     none : (x : Option Fact) → is_some x ≡ false → x ≡ None
     none None h = refl
     none (Some f) h = absurd cc
-
--- a note that is as it shall be is set to that
-pub note-same : (notes : FinSet listed_cmp) (note : Listed) (is_noted : Bool) → contains_key notes note ≡ is_noted
-    → notes ≡ set_at notes note (noted is_noted)
-note-same notes note is_noted h = sym (ap (set_at notes note) (by (get notes note) is_noted h) ∙ set-same listed_total listed_exact notes note)
-  where
-    by : (x : Option (Unit {0})) (b : Bool) → is_some x ≡ b → noted b ≡ x
-    by None true h = absurd cc
-    by None false h = refl
-    by (Some u) true h = refl
-    by (Some u) false h = absurd cc
-
--- a note that isn't there
-pub none-noted : (notes : FinSet listed_cmp) (note : Listed) → contains_key notes note ≡ false → get notes note ≡ None
-none-noted notes note h = by (get notes note) h
-  where
-    by : (x : Option (Unit {0})) → is_some x ≡ false → x ≡ None
-    by None e = refl
-    by (Some u) e = absurd cc
 
 -- ---- standings as they are told
 
@@ -115,7 +88,7 @@ or-none (Some x) = refl
 -- ---- of one place
 
 module _ (s : SettingsValue) (u : TrafficValue) (g : Grouping) (are : AreOf s u g) (q : Place) where
-  at-submits : get g.submits q ≡ option_and_then (λ (m : Message). accepted_key s m) (get u.messages q)
+  pub at-submits : get g.submits q ≡ option_and_then (λ (m : Message). accepted_key s m) (get u.messages q)
   at-submits = ap (λ (x : Grouping). get x.submits q) are.grouped ∙ get-chosen places_total places_exact (λ place m. accepted_key s m) u.messages q
 
   pub at-receipts : get g.receipts q ≡ option_and_then (λ (r : ReceivedReceipt). Some (keyed_receipt s r)) (get u.receipts q)
@@ -185,28 +158,20 @@ module _ (s : SettingsValue) (u : TrafficValue) (g : Grouping) (are : AreOf s u 
       ∙ (λ i. Some (fact_by q m (circumstances_by (standing_in g s m) ((decides ∙ ap (decider_held u.receipts) told) i) (routed i) (lapses i))))
       ∙ sym (fact-there m there)
 
-  -- the list of a receipt
-  pub list-there : list_by (is_some (get u.receipts q)) (standing_at g q) ≡ list_held g q
-  list-there = from (get u.receipts q) refl (get u.messages q) refl
+  -- where no message stands, the list that is told is that of the receipt
+  pub list-told : get u.messages q ≡ None → list_by true (standing_at g q) ≡ list_held g q
+  list-told none = ap (λ (o : Option told.Standing). option_and_then list_told (option_or o (receipt_at g q))) gone ∙ by (get g.receipts q)
     where
-      from : (o : Option ReceivedReceipt) → get u.receipts q ≡ o → (x : Option Message) → get u.messages q ≡ x
-          → list_by (is_some o) (standing_at g q) ≡ list_held g q
-      from None none x there =
-          sym (ap (option_and_then (λ (r : GroupedReceipt). list_of_standing (receipt_standing g q r))) (at-receipts
-          ∙ ap (option_and_then (λ (r : ReceivedReceipt). Some (keyed_receipt s r))) none))
-      from (Some r) here (Some m) there = let no : ◌≡◌ {A = Option ReceivedReceipt} None (Some r) = sym (are.apart q m there) ∙ here in absurd cc
-      from (Some r) here None there =
-          ap (option_and_then list_told)
-          ((λ i. option_or (gone i) (stands i)))
-          ∙ told-list (receipt_standing g q (keyed_receipt s r))
-          ∙ sym (ap (option_and_then (λ (r : GroupedReceipt). list_of_standing (receipt_standing g q r))) grouped)
-        where
-          grouped : get g.receipts q ≡ Some (keyed_receipt s r)
-          grouped = at-receipts ∙ ap (option_and_then (λ (r : ReceivedReceipt). Some (keyed_receipt s r))) here
+      gone : submit_at g q ≡ None
+      gone = ap (option_map (λ key. told_of_submit (submit_standing g key))) (at-submits
+          ∙ ap (option_and_then (λ (m : Message). accepted_key s m)) none)
 
-          gone : submit_at g q ≡ None
-          gone = ap (option_map (λ key. told_of_submit (submit_standing g key))) (at-submits
-              ∙ ap (option_and_then (λ (m : Message). accepted_key s m)) there)
+      by : (o : Option GroupedReceipt) → option_and_then list_told (option_map (λ (r : GroupedReceipt). told_of_receipt (receipt_standing g q r)) o)
+          ≡ option_and_then (λ (r : GroupedReceipt). list_of_standing (receipt_standing g q r)) o
+      by None = refl
+      by (Some r) = told-list (receipt_standing g q r)
 
-          stands : receipt_at g q ≡ Some (told_of_receipt (receipt_standing g q (keyed_receipt s r)))
-          stands = ap (option_map (λ (r : GroupedReceipt). told_of_receipt (receipt_standing g q r))) grouped
+-- nobody stands where no message that is accepted does, and no receipt
+pub stands-none : (g : Grouping) (q : Place) → get g.submits q ≡ None → get g.receipts q ≡ None → None ≡ standing_at g q
+stands-none g q submits receipts = sym (λ i. option_or (option_map (λ key. told_of_submit (submit_standing g key)) (submits i))
+    (option_map (λ (r : GroupedReceipt). told_of_receipt (receipt_standing g q r)) (receipts i)))

@@ -1,11 +1,10 @@
 -- A place where no receipt stands is noted in no list of receipts, whatever is told: its listings need no look.
 use Rattle.std.proofs.Common.{◌≡◌, Bool, true, false, cond, List, [], ◌∷◌, Option, Some, None, refl, sym, ap, ◌∙◌}
-use Rattle.std.specs.Prelude.{is_some, option_and_then}
+use Rattle.std.specs.Prelude.{option_and_then}
 use Rattle.std.specs.Cmp.{tied_itself}
 use Rattle.std.specs.FinMap.{get, remove}
 use Rattle.std.specs.FinSet.{FinSet}
 use Rattle.std.specs.Ordering.{eq_by_cmp, is_eq}
-use Rattle.std.proofs.lemmas.Bool.{false≢true}
 use Rattle.smq_kit.specs.Maps.{set_at}
 use Rattle.smq_kit.specs.Orders.{place_cmp}
 use Rattle.smq_kit.specs.declared.place.Place.{Place}
@@ -20,10 +19,10 @@ use Rattle.smq_tally.proofs.ListOrders.{listed_exact}
 use Rattle.smq_group.specs.declared.change.Change.{Change}
 use Rattle.smq_group.specs.Matching.{Grouping, GroupedReceipt, receipt_standing}
 use Rattle.smq_book.specs.present.Settings.{SettingsValue}
-use Rattle.smq_book.specs.pairing.Traffic.{Message, ReceivedReceipt, TrafficValue}
+use Rattle.smq_book.specs.pairing.Traffic.{ReceivedReceipt, TrafficValue}
 use Rattle.smq_book.specs.join.Keyed.{keyed_receipt}
 use Rattle.smq_book.specs.join.Listings.{list_of_standing}
-use Rattle.smq_book.specs.index.Held.{AreOf, AreUnlisted, IsUnlisted, list_held, noted, notes_anew, with_listing}
+use Rattle.smq_book.specs.index.Held.{AreOf, IsUnlisted, list_held, noted, notes_anew, with_listing}
 use Rattle.smq_book.specs.index.Held.{is_ambiguous, is_extra, is_stray}
 use Rattle.smq_book.proofs.lemmas.index.Stored.{at-receipts}
 
@@ -85,18 +84,3 @@ module _ (q : Place) where
       (unset n (listed StrayReceipts q) (is.none StrayReceipts refl))
       ∙ ap (λ m. remove m (listed ExtraReceipts q)) (unset n (listed AmbiguousReceipts q) (is.none AmbiguousReceipts refl))
       ∙ unset n (listed ExtraReceipts q) (is.none ExtraReceipts refl)
-
-module _ (s : SettingsValue) (u : TrafficValue) (g : Grouping) (are : AreOf s u g) (n : FinSet listed_cmp) (unlisted : AreUnlisted u.messages n) where
-  -- the listings of a message's place are idle
-  pub listing-idle : (q : Place) → is_some (get u.messages q) ≡ true → with_listing n q (list_held g q) ≡ n
-  listing-idle q there = by (get u.messages q) refl there
-    where
-      by : (x : Option Message) → get u.messages q ≡ x → is_some x ≡ true → with_listing n q (list_held g q) ≡ n
-      by None e some = absurd (false≢true some)
-      by (Some m) e some = ap (with_listing n q) (unheld s u g are q (are.apart q m e)) ∙ unlisted-same q n (unlisted.each q m e)
-
-  -- and those of a place that are set anew note no message
-  pub unlisted-again : (p : Place) → AreUnlisted u.messages (with_listing n p (list_held g p))
-  unlisted-again p = record {
-    each = λ q m e. unlisted-listing q n (unlisted.each q m e) p (list_held g p) (idle-at q g p (unheld s u g are q (are.apart q m e)));
-  }

@@ -1,5 +1,5 @@
 -- A walk over the keys of a link's messages whose receipts are due, from place to place.
-use Rattle.std.proofs.Common.{◌≡◌, ℕ, ◌+◌, ◌≤◌, ◌++◌, arith, length, append_assoc, Bool, true, false, cond, List, [], ◌∷◌, Option, Some, None, refl, sym, ap, ◌∙◌, filter, find, subst}
+use Rattle.std.proofs.Common.{◌≡◌, ℕ, ◌+◌, ◌≤◌, ◌++◌, arith, length, Bool, true, false, List, [], ◌∷◌, Option, Some, None, refl, sym, ap, ◌∙◌, filter, find, map-id, subst}
 use Rattle.std.specs.Prelude.{IfSome, ◌==◌, nat_le}
 use Rattle.std.specs.declared.cmp.Ordering.{Ordering}
 use Rattle.std.specs.declared.cmp.Ordering.TheVariants.{Less, Equal, Greater}
@@ -10,19 +10,21 @@ use Rattle.std.specs.Map.{keys_of}
 use Rattle.std.proofs.lemmas.Bool.{false≢true, eqb-true}
 use Rattle.std.proofs.lemmas.Bool.Decides.{nat_tests}
 use Rattle.smq_kit.specs.declared.names.LinkId.{LinkId}
-use Rattle.smq_kit.specs.Orders.{place_cmp}
+use Rattle.smq_kit.specs.Orders.{least_place, place_cmp}
+use Rattle.smq_kit.proofs.Comparisons.{then_least}
 use Rattle.smq_kit.proofs.Ordered as ordered
+use Rattle.smq_kit.proofs.PlaceOrders.{least-le}
 use Rattle.smq_shelf.specs.Places.{content_of, places_of}
 use Rattle.smq_shelf.proofs.Changes.{content_ordered}
-use Rattle.smq_shelf.proofs.Finds.{filter_places}
-use Rattle.smq_route.proofs.Walks.{both, Narrows, after-rises, filter-none, found, found-passes, keep, keep-found, keep-other, of-rises, step, Rises, with_first}
+use Rattle.smq_shelf.proofs.Walks as walk
+use Rattle.smq_shelf.proofs.Walks.{Narrows, both, filled-are, found-passes, left-found, less, of-rises, told-found, told-none, told-other, with_first}
 use Rattle.smq_book.specs.declared.index.due_at.DueAt.{DueAt}
-use Rattle.smq_book.specs.index.Due.{due_at, due_cmp, keys_on, least_place}
+use Rattle.smq_book.specs.index.Due.{due_at, due_cmp, keys_on}
 use Rattle.smq_book.specs.index.DueKeys.{kept_due_cmp}
 use Rattle.smq_book.specs.index.DueWalks.{Spot, filled, is_on, is_past, left_after}
 use Rattle.smq_book.specs.index.Held.{dues_in}
 use Rattle.smq_book.proofs.lemmas.index.Due.{due-order, due_exact, due_total}
-use Rattle.smq_book.proofs.lemmas.index.EndWalks.{first-rises, le_first, le_nat, least-le}
+use Rattle.smq_book.proofs.lemmas.index.EndWalks.{first-rises, le_nat}
 
 -- ---- their order
 
@@ -38,7 +40,7 @@ module _ (link : LinkId) (k : DueAt) where
   from-moment : (m : ℕ) → k.link.0 ≡ link.0 → is_le (due_cmp (due_at link m least_place) k) ≡ nat_le m k.moment
   from-moment m same =
       ap (λ o. is_le (ordering_then o (rest_cmp m))) (sym (nat_cmp_is link.0 k.link.0 Equal (sym same)))
-      ∙ le_first (nat_cmp m k.moment) (place_cmp least_place k.place) (least-le k.place)
+      ∙ then_least (nat_cmp m k.moment) (place_cmp least_place k.place) (least-le k.place)
       ∙ le_nat m k.moment
 
   -- one that is there is of the link, or of one above it
@@ -57,11 +59,6 @@ kept_due_total = subst IsTotalOrder (sym due-order) due_total
 
 kept-rises : (k j : DueAt) → kept_due_cmp k j ≡ Less → k.link.0 ≤ j.link.0
 kept-rises k j less = link-rises k j (ap (λ (R : DueAt → DueAt → Ordering). R k j) (sym due-order) ∙ less)
-
-less-of : (r : Ordering) → is_lt r ≡ true → r ≡ Less
-less-of Less h = refl
-less-of Equal h = absurd (false≢true h)
-less-of Greater h = absurd (false≢true h)
 
 module _ (link : LinkId) where
   abbrev first : DueAt
@@ -82,98 +79,68 @@ module _ (link : LinkId) where
       ∙ from-moment link e 0 (eqb-true e.link.0 link.0 on)
       ∙ grind (arith, nat_tests)
 
-  first-narrows : Narrows kept_due_cmp (at_or_above first) of of
-  first-narrows = record {
+  first-narrows : (k : DueAt) → k ≡ first → Narrows kept_due_cmp (at_or_above k) of of
+  first-narrows k same = subst (λ j. Narrows kept_due_cmp (at_or_above j) of of) (sym same) (record {
     both = λ e. with_first (at_or_above first e) (of e) (from-there e.0);
     up = λ e f g n l.
         let there = from-link link e.0 0 (ap (λ (R : DueAt → DueAt → Ordering). is_le (R first e.0)) (sym due-order) ∙ g) in
         let rises = kept-rises e.0 f.0 l in
         grind (arith, nat_tests, n, there, rises);
-  }
+  })
 
   after-narrows : (k : DueAt) → k.link.0 ≡ link.0 → Narrows kept_due_cmp (above k) of (is_past link k)
   after-narrows k u = record {
     both = λ e. refl;
     up = λ e f g n l.
-        let there = kept-rises k e.0 (less-of (kept_due_cmp k e.0) g) in
+        let there = kept-rises k e.0 (less (kept_due_cmp k e.0) g) in
         let rises = kept-rises e.0 f.0 l in
         grind (arith, nat_tests, n, u, there, rises);
   }
 
   module _ (spots : List Spot) (so : IsStrictlySortedBy kept_due_cmp (keys_of spots)) where
-    first_is : (k : DueAt) → k ≡ first → find of spots ≡ keep of (find (at_or_above k) spots)
-    first_is k s = found kept_due_cmp (at_or_above first) of of spots first-narrows so ∙ ap (λ j. keep of (find (at_or_above j) spots)) (sym s)
-
     pub first-found : (k m : DueAt) (x : Option (Unit {0})) → k ≡ first → Some (m, x) ≡ find (at_or_above k) spots → (m.link.0 == link.0) ≡ true
         → Some (m, x) ≡ find of spots
-    first-found k m x s h t = sym (first_is k s ∙ keep-found of (m, x) (find (at_or_above k) spots) h t)
+    first-found k m x s h t = told-found (first-narrows k s) spots so (m, x) h t
 
     pub first-other : (k m : DueAt) (x : Option (Unit {0})) → k ≡ first → Some (m, x) ≡ find (at_or_above k) spots → (m.link.0 == link.0) ≡ false
         → None ≡ find of spots
-    first-other k m x s h t = sym (first_is k s ∙ keep-other of (m, x) (find (at_or_above k) spots) h t)
+    first-other k m x s h t = told-other (first-narrows k s) spots so (m, x) h t
 
     pub first-none : (k : DueAt) → k ≡ first → None ≡ find (at_or_above k) spots → None ≡ find of spots
-    first-none k s h = sym (first_is k s ∙ ap (keep of) (sym h))
-
-    next_is : (k : DueAt) → k.link.0 ≡ link.0 → find (is_past link k) spots ≡ keep of (find (above k) spots)
-    next_is k u = found kept_due_cmp (above k) of (is_past link k) spots (after-narrows k u) so
+    first-none k s h = told-none (first-narrows k s) spots so h
 
     pub after-found : (k m : DueAt) (x : Option (Unit {0})) → k.link.0 ≡ link.0 → Some (m, x) ≡ find (above k) spots → (m.link.0 == link.0) ≡ true
         → Some (m, x) ≡ find (is_past link k) spots
-    after-found k m x u h t = sym (next_is k u ∙ keep-found of (m, x) (find (above k) spots) h t)
+    after-found k m x u h t = told-found (after-narrows k u) spots so (m, x) h t
 
     pub after-other : (k m : DueAt) (x : Option (Unit {0})) → k.link.0 ≡ link.0 → Some (m, x) ≡ find (above k) spots → (m.link.0 == link.0) ≡ false
         → None ≡ find (is_past link k) spots
-    after-other k m x u h t = sym (next_is k u ∙ keep-other of (m, x) (find (above k) spots) h t)
+    after-other k m x u h t = told-other (after-narrows k u) spots so (m, x) h t
 
     pub after-none : (k : DueAt) → k.link.0 ≡ link.0 → None ≡ find (above k) spots → None ≡ find (is_past link k) spots
-    after-none k u h = sym (next_is k u ∙ ap (keep of) (sym h))
+    after-none k u h = told-none (after-narrows k u) spots so h
 
     -- ---- what is left of a walk, from step to step
 
     abbrev left : Option Spot → List Spot
     left next = left_after link spots next
 
-    left_at : (q : Spot → Bool) (found : Option Spot) → Rises kept_due_total of q → find q spots ≡ found → left found ≡ filter q spots
-    left_at q None r h = sym (filter-none q spots h)
-    left_at q (Some e) r h = sym (step kept_due_total of q spots e r so h)
-
     pub left-first : (next : Option Spot) → next ≡ find of spots → left next ≡ filter of spots
-    left-first next h = ap left h ∙ left_at of (find of spots) (of-rises kept_due_total of) refl
-
-    pub left-next : (k : DueAt) (next : Option Spot) → next ≡ find (is_past link k) spots → left next ≡ filter (is_past link k) spots
-    left-next k next h = ap left h ∙ left_at (is_past link k) (find (is_past link k) spots) (after-rises kept_due_total of k) refl
-
-    left_of : (k : DueAt) (x : Option (Unit {0})) (next then : Option Spot) → next ≡ Some (k, x) → then ≡ find (is_past link k) spots
-        → left next ≡ (k, x) ∷ left then
-    left_of k x next then n h = ap left n ∙ ap (λ (xs : List Spot). (k, x) ∷ xs) (sym (left-next k then h))
+    left-first next h = left-found kept_due_total of spots so of next (of-rises kept_due_total of) h
 
     pub step-length : (k : DueAt) (x : Option (Unit {0})) (next then : Option Spot) → next ≡ Some (k, x) → then ≡ find (is_past link k) spots
         → length (left next) ≡ length (left then) + 1
-    step-length k x next then n h = let e : length (left next) ≡ length ((k, x) ∷ left then) = ap length (left_of k x next then n h) in omega (arith, e)
-
-    with_one : (k : DueAt) (x : Option (Unit {0})) (xs : List Spot) → filled ((k, x) ∷ []) ++ filled xs ≡ filled ((k, x) ∷ xs)
-    with_one k None xs = refl
-    with_one k (Some v) xs = refl
+    step-length k x next then n h = walk.step-length kept_due_total of spots so (k, x) next then n h
 
     pub step-gathered : (k : DueAt) (x : Option (Unit {0})) (next then : Option Spot) (ks more all : List DueAt) → next ≡ Some (k, x)
         → then ≡ find (is_past link k) spots
         → ks ++ filled (left next) ≡ all → more ≡ ks ++ filled ((k, x) ∷ []) → more ++ filled (left then) ≡ all
-    step-gathered k x next then ks more all n h g m =
-        ap (λ (xs : List DueAt). xs ++ filled (left then)) m
-        ∙ append_assoc ks (filled ((k, x) ∷ [])) (filled (left then))
-        ∙ ap (λ (xs : List DueAt). ks ++ xs) (with_one k x (left then) ∙ sym (ap filled (left_of k x next then n h)))
-        ∙ g
-
-append_none : (xs : List DueAt) → xs ++ [] ≡ xs
-append_none [] = refl
-append_none (x ∷ xs) = ap (λ (ys : List DueAt). x ∷ ys) (append_none xs)
+    step-gathered = walk.step-gathered kept_due_cmp (λ k. k) kept_due_total of spots so
 
 -- at the end nothing is left
 pub end-gathered : (link : LinkId) (spots : List Spot) (next : Option Spot) (ks all : List DueAt)
     → ks ++ filled (left_after link spots next) ≡ all → next ≡ None → ks ≡ all
-end-gathered link spots next ks all g n =
-    sym (append_none ks) ∙ sym (ap (λ (m : Option Spot). ks ++ filled (left_after link spots m)) n) ∙ g
+end-gathered link = walk.end-gathered kept_due_cmp (λ k. k) (is_on link)
 
 -- what a look-up finds is of the link
 pub found-on : (link : LinkId) (spots : List Spot) (next : Option Spot) → next ≡ find (is_on link) spots → IfSome next (λ e. e.0.link.0 ≡ link.0)
@@ -189,34 +156,15 @@ next-on link k spots (Some e) h =
 -- ---- what a walk tells
 
 module _ (link : LinkId) where
-  keyed_at : (e : DueAt × Unit {0}) (es : List (DueAt × Unit {0})) (b : Bool)
-      → keys_of (filter (is_on link) es) ≡ filter (λ k. k.link.0 == link.0) (keys_of es)
-      → keys_of (cond b (e ∷ filter (is_on link) es) (filter (is_on link) es))
-      ≡ cond b (e.0 ∷ filter (λ k. k.link.0 == link.0) (keys_of es)) (filter (λ k. k.link.0 == link.0) (keys_of es))
-  keyed_at e es true h = ap (λ (ks : List DueAt). e.0 ∷ ks) h
-  keyed_at e es false h = h
-
-  keyed : (es : List (DueAt × Unit {0})) → keys_of (filter (is_on link) es) ≡ filter (λ k. k.link.0 == link.0) (keys_of es)
-  keyed [] = refl
-  keyed (e ∷ es) = keyed_at e es (e.0.link.0 == link.0) (keyed es)
-
   -- the keys of a link are those of its places that aren't vacant
   pub filled-on : (spots : List Spot) → IsStrictlySortedBy kept_due_cmp (keys_of spots)
       → filled (filter (is_on link) spots) ≡ keys_on link (dues_in (content_of spots))
   filled-on spots so =
-      ap (λ (es : List (DueAt × Unit {0})). keys_of es) (filter_places (λ k. k.link.0 == link.0) spots)
-      ∙ keyed (content_of spots)
+      filled-are (λ k. k) (λ k. k.link.0 == link.0) spots
+      ∙ map-id (filter (λ k. k.link.0 == link.0) (keys_of (content_of spots)))
       ∙ sym (ap (λ (es : List (DueAt × Unit {0})). filter (λ k. k.link.0 == link.0) (keys_of es))
       (ordered.entries-kept due_total due_exact due-order (content_of spots) (content_ordered kept_due_total spots so)))
 
-  full_at : (k : DueAt) (v : Unit {0}) (es : List Spot) (b : Bool)
-      → length (filter (is_on link) es) ≡ length (filled (filter (is_on link) es))
-      → length (cond b ((k, Some v) ∷ filter (is_on link) es) (filter (is_on link) es))
-      ≡ length (filled (cond b ((k, Some v) ∷ filter (is_on link) es) (filter (is_on link) es)))
-  full_at k v es true h = omega (arith, h)
-  full_at k v es false h = h
-
   -- where none is vacant, it meets no more than it tells
   pub full : (es : List (DueAt × Unit {0})) → length (filter (is_on link) (places_of es)) ≡ length (filled (filter (is_on link) (places_of es)))
-  full [] = refl
-  full (e ∷ es) = full_at e.0 e.1 (places_of es) (e.0.link.0 == link.0) (full es)
+  full = walk.full (λ k. k) (is_on link)

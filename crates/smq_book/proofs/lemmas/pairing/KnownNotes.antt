@@ -12,8 +12,8 @@ use Rattle.smq_receipt.specs.States.{state_of_number, state_of_word}
 use Rattle.smq_receipt.specs.Readings as readings
 use Rattle.smq_receipt.specs.Readings.{text_of, usable_id, receipted_id, state_in, state_of, receipt_of, reading_of}
 use Rattle.smq_receipt.specs.declared.reading.Reading.TheVariants as v
-use Rattle.smq_book.specs.declared.present.kept.Content.{Content}
-use Rattle.smq_book.specs.declared.present.kept.Content.TheVariants as c
+use Rattle.smq_book.specs.present.Content.{Content}
+use Rattle.smq_book.specs.present.Content as c
 use Rattle.smq_book.specs.declared.present.kept.KeptPdu.{KeptPdu}
 use Rattle.smq_book.specs.known.Pairing.{broken_session, known_origin}
 use Rattle.smq_book.specs.present.Kept.{kept_pdus}

@@ -21,7 +21,7 @@ use Rattle.smq_pair.specs.Pairing.{PairingValue, PlacedHeader, headers, opposite
 use Rattle.smq_tally.specs.declared.list.List.TheVariants as list
 use Rattle.smq_tally.specs.declared.list.Listed.{Listed}
 use Rattle.smq_tally.specs.Lists.{listed, listed_set}
-use Rattle.smq_book.specs.declared.present.kept.Content.{Content}
+use Rattle.smq_book.specs.present.Content.{Content}
 use Rattle.smq_book.specs.declared.present.kept.KeptPdu.{KeptPdu}
 use Rattle.smq_book.specs.present.Kept.{header_of, is_undecodable, is_unreadable}
 use Rattle.smq_book.specs.pairing.Dealt.{KeepsPairsTogether, KeepsResponses, pdus_taken, requests_numbered, takes, traffic_among}

@@ -48,8 +48,8 @@ use Rattle.smq_tally.specs.declared.outcome.Outcome.TheVariants as o
 use Rattle.smq_tally.specs.declared.value.SubmitError.TheVariants as s
 use Rattle.smq_book.specs.declared.pairing.source.Source.{Source}
 use Rattle.smq_book.specs.declared.present.forms.Forms.{Forms}
-use Rattle.smq_book.specs.declared.present.kept.Content.{Content}
-use Rattle.smq_book.specs.declared.present.kept.Content.TheVariants as c
+use Rattle.smq_book.specs.present.Content.{Content}
+use Rattle.smq_book.specs.present.Content as c
 use Rattle.smq_book.specs.declared.present.kept.KeptPdu.{KeptPdu}
 use Rattle.smq_book.specs.known.Pairing.{place_at}
 use Rattle.smq_book.specs.known.Join.{settings_with}

@@ -1,6 +1,7 @@
 -- The places so far, and those that are left of the walk, are all that are met.
 use Rattle.std.proofs.Common.{◌≡◌, ◌≤◌, ◌+◌, ◌++◌, length, filter}
-use Rattle.smq_book.specs.index.EndWalks.{IsWalked, ends_in_between, filled, left_after}
+use Rattle.smq_shelf.specs.Walks.{IsWalked}
+use Rattle.smq_book.specs.index.EndWalks.{ends_in_between, filled, left_after}
 use Rattle.smq_book.proofs.index.clock.ending_places.Given as goal
 
 abbrev pub invariant-loop-next : goal.invariant-loop-next

@@ -57,7 +57,7 @@ returns-clause-held c =
     let one = after-one s g put (PutMessage (q, n)) c.requires.held (c.requires.held.traffic.messages q m there)
     (c.in_ok-answer_message.ensures.held (traffic_held g) c.requires.held.traffic c.requires.held.held) in
     after-same s g put (TakeMessage q ∷ PutMessage (q, n) ∷ []) (answer_moves g.messages (Some c.args.pair) c.args.response.now)
-    (answer-one g.messages c.args.response.now c.args.pair m n there (c.with_response-answered.ensures ∙ ap (with_response m) c.said.ensures))
+    (answer-one g.messages c.args.response.now c.args.pair m n there (c.with_response-answered.ensures ∙ ap (with_response m) c.in_ok-said.ensures))
     (after-over s g put q n one)
 
 pub returns-clause-came : goal.returns-clause-came

@@ -20,7 +20,7 @@ returns-clause-held c = λ client rises asks pairs.
     let centre = c.args.centre.now in
     let g = held_now c.args.index.now in
     let made : Option Pair = c.in_ok-made.made in
-    let response = c.said_in-response.result in
+    let response = c.in_ok-response.response in
     let first = c.in_ok-note_of_client.ensures.held s c.requires.held in
     let made_is : made ≡ made_by (pairing_among origin client centre) (placed origin FromClient next) =
     c.in_ok-made.ensures.made
@@ -28,7 +28,7 @@ returns-clause-held c = λ client rises asks pairs.
     ∙ (λ i. pair_at (pushed (pairs i) (placed_header (c.place_of-place.ensures i) next.command next.status next.seq)) (c.place_of-place.ensures i)) in
     after-same s g (held_now c.put_submit.new.index) (noted_moves origin FromClient next made ++ submit_moves origin next response)
     (pdu_moves origin FromClient client centre next)
-    (client-pushed origin next client centre made response rises c.requires.centre asks made_is c.said_in-response.ensures)
+    (client-pushed origin next client centre made response rises c.requires.centre asks made_is c.in_ok-response.ensures)
     (after-both s g (held_now c.note_of_client.new.index) (held_now c.put_submit.new.index) first c.in_ok-put_submit.ensures.held)
 
 pub returns-clause-came : goal.returns-clause-came

@@ -1,6 +1,7 @@
 use Rattle.std.proofs.Common.{◌≡◌, [], ◌∷◌, Option, Some, None, refl, ap, ◌∙◌, rules, arith}
 use Rattle.std.specs.FinMap.{get}
-use Rattle.std.specs.Option.{option_copied}
+use Rattle.std.specs.Option.{option_map}
+use Rattle.std.specs.Arc.{arc_value}
 use Rattle.smq_kit.specs.declared.place.Place.{Place}
 use Rattle.smq_receipt.specs.declared.reading.Receipt.{Receipt}
 use Rattle.smq_group.specs.Matching.{Grouping}
@@ -14,6 +15,9 @@ use Rattle.smq_book.proofs.lemmas.index.Members.{receipt-absent}
 use Rattle.smq_book.proofs.lemmas.index.Pushed.{after-one, after-same, receipt-one}
 use Rattle.smq_book.proofs.index.push.put_received.Goals as goal
 
+pub put_receipt-requires-clause-dir : goal.put_receipt-requires-clause-dir
+put_receipt-requires-clause-dir c = ap (λ (q : Place). q.dir) c.place_of.ensures
+
 pub returns-clause-held : goal.returns-clause-held
 returns-clause-held c =
     let s = c.args.settings.now in
@@ -22,11 +26,11 @@ returns-clause-held c =
     let next = c.args.pdu.now in
     let origin = origin_at c.args.session c.args.link in
     let q = c.place_of.result in
-    let receipt = c.in-Some.receipt.now in
-    let r : ReceivedReceipt = received origin next c.copy.result in
-    let some : ◌≡◌ {A = Option Receipt} (Some receipt) (option_copied c.receipt.result) = search rules in
+    let receipt = arc_value c.in-Some.receipt in
+    let r : ReceivedReceipt = received origin next receipt in
+    let some : ◌≡◌ {A = Option Receipt} (Some receipt) (option_map arc_value c.in_ok-receipt.field-0) = search rules in
     after-same s g h (PutReceipt (q, r) ∷ []) (receipt_moves origin next)
-    (receipt-one origin next receipt q r c.place_of.ensures (ap (received origin next) c.copy.ensures) (some ∙ c.receipt.ensures))
+    (receipt-one origin next receipt q r c.place_of.ensures refl (some ∙ c.in_ok-receipt.ensures))
     (after-one s g h (PutReceipt (q, r)) c.requires.held (ap (λ (q : Place). q.dir) c.place_of.ensures)
     (c.in_ok-put_receipt.ensures.held (traffic_held g) c.requires.held.traffic c.requires.held.held))
 
@@ -43,7 +47,7 @@ returns-clause-came c =
     let g = c.args.index.now.standings in
     let h = c.put_receipt.new.self.standings in
     let q = c.place_of.result in
-    let r : ReceivedReceipt = received (origin_at c.args.session c.args.link) c.args.pdu.now c.copy.result in
+    let r : ReceivedReceipt = received (origin_at c.args.session c.args.link) c.args.pdu.now (arc_value c.in-Some.receipt) in
     let were = ap (λ (x : Holding). x.members) c.requires.held.held in
     let are = ap (λ (x : Holding). x.members) (c.in_ok-put_receipt.ensures.held t c.requires.held.traffic c.requires.held.held) in
     let absent : get t.receipts q ≡ None = ap (get t.receipts) c.place_of.ensures ∙ c.requires.absent in
@@ -57,7 +61,7 @@ returns-clause-touches c = λ full.
     let g = c.args.index.now.standings in
     let h = c.put_receipt.new.self.standings in
     let q = c.place_of.result in
-    let r : ReceivedReceipt = received (origin_at c.args.session c.args.link) c.args.pdu.now c.copy.result in
+    let r : ReceivedReceipt = received (origin_at c.args.session c.args.link) c.args.pdu.now (arc_value c.in-Some.receipt) in
     let were = ap (λ (x : Holding). x.members) c.requires.held.held in
     let are = ap (λ (x : Holding). x.members) (c.in_ok-put_receipt.ensures.held t c.requires.held.traffic c.requires.held.held) in
     let absent : get t.receipts q ≡ None = ap (get t.receipts) c.place_of.ensures ∙ c.requires.absent in

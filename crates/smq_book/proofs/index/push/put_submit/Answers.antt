@@ -13,6 +13,9 @@ use Rattle.smq_book.proofs.lemmas.index.Members.{submit-absent}
 use Rattle.smq_book.proofs.lemmas.index.Pushed.{after-one, after-same, submit-one}
 use Rattle.smq_book.proofs.index.push.put_submit.Goals as goal
 
+pub put_message-requires-clause-dir : goal.put_message-requires-clause-dir
+put_message-requires-clause-dir c = ap (λ (q : Place). q.dir) c.place_of.ensures
+
 pub returns-clause-held : goal.returns-clause-held
 returns-clause-held c =
     let s = c.args.settings.now in

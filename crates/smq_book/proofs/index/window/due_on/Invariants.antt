@@ -1,8 +1,8 @@
 -- The keys so far, and those that are left of the walk, are all that are met.
 use Rattle.std.proofs.Common.{◌≡◌, ◌≤◌, ◌+◌, ◌++◌, length, filter}
 use Rattle.std.specs.Prelude.{IfSome}
+use Rattle.smq_shelf.specs.Walks.{IsWalked}
 use Rattle.smq_book.specs.index.DueWalks.{filled, is_on, left_after}
-use Rattle.smq_book.specs.index.EndWalks.{IsWalked}
 use Rattle.smq_book.proofs.index.window.due_on.Given as goal
 
 abbrev pub invariant-loop-next : goal.invariant-loop-next

@@ -1,7 +1,8 @@
 use Rattle.std.proofs.Common.{ap, ◌∙◌, Option, Some, ◌≡◌, true, false, arith}
 use Rattle.std.specs.Prelude.{◌==◌}
 use Rattle.std.proofs.lemmas.Bool.Decides.{nat_tests}
-use Rattle.smq_book.specs.index.Due.{due_at, least_place}
+use Rattle.smq_kit.specs.Orders.{least_place}
+use Rattle.smq_book.specs.index.Due.{due_at}
 use Rattle.smq_book.proofs.lemmas.index.Walks.{first-found, first-none, first-other}
 use Rattle.smq_book.proofs.index.window.first_due.Goals as goal
 

@@ -3,7 +3,7 @@ use Rattle.std.specs.FinMap.{values}
 use Rattle.smq_kit.specs.declared.form.Form.TheVariants.{Verbatim}
 use Rattle.smq_pdu.specs.Pairing.{nth_index}
 use Rattle.smq_tally.specs.declared.fact.Fact.{Fact}
-use Rattle.smq_book.specs.declared.present.kept.Content.TheVariants as c
+use Rattle.smq_book.specs.present.Content as c
 use Rattle.smq_book.specs.declared.present.kept.KeptPdu.{KeptPdu}
 use Rattle.smq_book.specs.known.Dealt.{of_first_key, of_messages, two_keys}
 use Rattle.smq_book.specs.known.Join.{settings_with}

@@ -10,11 +10,11 @@ use Rattle.smq_route.specs.Numbers.{NumbersValue}
 use Rattle.smq_book.specs.index.Held.{Holding, stored_traffic}
 use Rattle.smq_book.specs.index.Pushed.{without_response}
 use Rattle.smq_book.specs.join.Keyed.{accepted_key, grouping_of}
-use Rattle.smq_book.specs.join.Moves.{put_message}
+use Rattle.smq_book.specs.join.Moves.{PutMessage, put_message}
 use Rattle.smq_book.specs.pairing.Traffic.{Message, ReceivedReceipt}
-use Rattle.smq_book.proofs.lemmas.index.Followed.{are-stored, due-stays, ends-stay, facts-alone, facts-told, holds, notes-alone, numbers-stay}
-use Rattle.smq_book.proofs.lemmas.index.Followed.{notes-told, put-there, stored-accepted, stored-held, stored-unmoved, unlisted}
-use Rattle.smq_book.proofs.lemmas.index.Members.{members-unmoved, receipt-absent, submit-there}
+use Rattle.smq_book.proofs.lemmas.index.Followed.{due-stays, ends-stay, facts-alone, facts-told, holds, may-follow, notes-alone, numbers-stay}
+use Rattle.smq_book.proofs.lemmas.index.Followed.{notes-told, put-there, stored-accepted, stored-held, stored-unmoved}
+use Rattle.smq_book.proofs.lemmas.index.Members.{kept-traffic, members-unmoved, receipt-absent, submit-there}
 use Rattle.smq_book.proofs.lemmas.index.Moves.{came-submit}
 use Rattle.smq_book.proofs.lemmas.join.MoveLemmas.{put_message-moves}
 use Rattle.smq_book.proofs.lemmas.index.Costs.{tells-none}
@@ -22,6 +22,8 @@ use Rattle.smq_book.specs.index.Touches.{vacancies_at}
 use Rattle.smq_book.specs.edits.Reached.{IsMoveOf}
 use Rattle.smq_book.specs.index.Touches.{load_of}
 use Rattle.smq_book.proofs.lemmas.index.Weights.{few-changes, submit-put}
+use Rattle.smq_book.proofs.lemmas.index.Followed.{nobody, one-route, told}
+use Rattle.smq_book.proofs.lemmas.index.Stored.{stands-none}
 use Rattle.smq_book.proofs.index.index.Index.answer_message.Goals as goal
 
 pub add_submit-requires-clause-absent : goal.add_submit-requires-clause-absent
@@ -46,25 +48,33 @@ returns-in_default-clause-held c = λ t traffic held.
     let m = c.args.answered in
     let old = without_response m in
     let u = put_message q m t in
-    let is : get t.messages q ≡ Some old = sym (ap (λ (h : Holding). get h.messages q) held) ∙ c.requires.unanswered in
+    let is_before : get t.messages q ≡ Some old = sym (ap (λ (h : Holding). get h.messages q) held) ∙ c.requires.unanswered in
     let stored = stored-held s t i traffic held in
-    let free : get t.receipts q ≡ None = stored.stands.apart q old is in
+    let free : get t.receipts q ≡ None = stored.stands.apart q old is_before in
     let gone : c.key-key.result ≡ None = search rules in
     let refused : accepted_key s m ≡ None = sym c.key-key.ensures ∙ gone in
-    let none : get (grouping_of s t).submits q ≡ None = submit-there s q t old is in
+    let none : get (grouping_of s t).submits q ≡ None = submit-there s q t old is_before in
     let stores = stored-unmoved stored q m refused none free c.in_ok-set.ensures.content in
     let move = put_message-moves q m t free in
     let alike = sym (members-unmoved s q t m refused none) in
+    let now = stands-none i.standings.members q
+    (ap (λ (x : Grouping). get x.submits q) c.requires.are.grouped
+    ∙ submit-there s q (stored_traffic i.messages.content i.receipts.content) old c.requires.unanswered)
+    (ap (λ (x : Grouping). get x.receipts q) c.requires.are.grouped
+    ∙ receipt-absent s q (stored_traffic i.messages.content i.receipts.content) (c.requires.are.apart q old c.requires.unanswered)) in
+    let may = may-follow s t u i held stores traffic q move refl None (λ p e. nobody p e)
+    (λ x y was is. one-route s.versions (get t.messages q) x old was is_before
+    ∙ one-route s.versions (get u.messages q) m y (put-there t.messages q m) is) (kept-traffic t traffic (PutMessage (q, m)) (traffic.messages q old is_before)) in
     holds s t u i held stores traffic q move refl c.refresh.new.self
     (ap (λ (k : KeepingMap Place Message). k.content) c.refresh.ensures.messages)
     (ap (λ (k : KeepingMap Place ReceivedReceipt). k.content) c.refresh.ensures.receipts)
     (ap (λ (v : GroupsValue). v.members) c.refresh.ensures.standings)
-    (c.in_ok-refresh.ensures.facts (are-stored stores) ∙ facts-alone s t u i held stores traffic q move refl alike)
-    (c.in_ok-refresh.ensures.notes (are-stored stores) (unlisted s t u i held stores traffic q move refl (λ m e. free))
+    (c.in_ok-refresh.ensures.facts now may ∙ facts-alone s t u i held stores traffic q move refl alike)
+    (c.in_ok-refresh.ensures.notes now may
     ∙ notes-alone s t u i held stores traffic q move refl alike)
-    (c.in_ok-refresh.ensures.due (due-stays s t i held q old m is refl refl stores.messages))
-    (c.in_ok-refresh.ensures.ends (ends-stay s t i held q old m is refl refl stores.messages))
-    (ap (λ (n : NumbersValue). n.numbers) c.refresh.ensures.numbers ∙ numbers-stay s t i held q old m is refl)
+    (c.in_ok-refresh.ensures.due (due-stays s t i held q old m is_before refl refl stores.messages))
+    (c.in_ok-refresh.ensures.ends (ends-stay s t i held q old m is_before refl refl stores.messages))
+    (ap (λ (n : NumbersValue). n.numbers) c.refresh.ensures.numbers ∙ numbers-stay s t i held q old m is_before refl)
 
 pub returns-clause-held : goal.returns-clause-held
 returns-clause-held c = λ t traffic held.
@@ -77,9 +87,9 @@ returns-clause-held c = λ t traffic held.
     let u = put_message q m t in
     let g = i.standings.members in
     let h = c.add_submit.new.self.members in
-    let is : get t.messages q ≡ Some old = sym (ap (λ (h : Holding). get h.messages q) held) ∙ c.requires.unanswered in
+    let is_before : get t.messages q ≡ Some old = sym (ap (λ (h : Holding). get h.messages q) held) ∙ c.requires.unanswered in
     let stored = stored-held s t i traffic held in
-    let free : get t.receipts q ≡ None = stored.stands.apart q old is in
+    let free : get t.receipts q ≡ None = stored.stands.apart q old is_before in
     let keyed = sym c.key-key.ensures ∙ c.in-Some.is in
     let stores = stored-accepted stored q m key keyed free c.in_ok-set.ensures.content c.in_ok-changes.ensures.ok in
     let move = put_message-moves q m t free in
@@ -90,16 +100,20 @@ returns-clause-held c = λ t traffic held.
     ∙ submit-there s q (stored_traffic i.messages.content i.receipts.content) old c.requires.unanswered in
     let there = came-submit g h cs tells q key absent
     (ap (λ (x : Grouping). get x.submits q) c.in_ok-changes.ensures.ok ∙ put-there g.submits q key) in
+    let now = told s t u i held stores traffic q move refl cs tells in
+    let may = may-follow s t u i held stores traffic q move refl None (λ p e. nobody p e)
+    (λ x y was is. one-route s.versions (get t.messages q) x old was is_before
+    ∙ one-route s.versions (get u.messages q) m y (put-there t.messages q m) is) (kept-traffic t traffic (PutMessage (q, m)) (traffic.messages q old is_before)) in
     holds s t u i held stores traffic q move refl c.follow.new.self
     (ap (λ (k : KeepingMap Place Message). k.content) c.follow.ensures.messages)
     (ap (λ (k : KeepingMap Place ReceivedReceipt). k.content) c.follow.ensures.receipts)
     (ap (λ (v : GroupsValue). v.members) c.follow.ensures.standings)
-    (c.in_ok-follow.ensures.facts (are-stored stores) ∙ facts-told s t u i held stores traffic q move refl cs tells there)
-    (c.in_ok-follow.ensures.notes (are-stored stores) (unlisted s t u i held stores traffic q move refl (λ m e. free))
+    (c.in_ok-follow.ensures.facts now may ∙ facts-told s t u i held stores traffic q move refl cs tells there)
+    (c.in_ok-follow.ensures.notes now may
     ∙ notes-told s t u i held stores traffic q move refl cs tells there)
-    (c.in_ok-follow.ensures.due (due-stays s t i held q old m is refl refl stores.messages))
-    (c.in_ok-follow.ensures.ends (ends-stay s t i held q old m is refl refl stores.messages))
-    (ap (λ (n : NumbersValue). n.numbers) c.follow.ensures.numbers ∙ numbers-stay s t i held q old m is refl)
+    (c.in_ok-follow.ensures.due (due-stays s t i held q old m is_before refl refl stores.messages))
+    (c.in_ok-follow.ensures.ends (ends-stay s t i held q old m is_before refl refl stores.messages))
+    (ap (λ (n : NumbersValue). n.numbers) c.follow.ensures.numbers ∙ numbers-stay s t i held q old m is_before refl)
 
 pub returns-in_default-clause-touches : goal.returns-in_default-clause-touches
 returns-in_default-clause-touches c = record {

@@ -9,11 +9,11 @@ use Rattle.smq_group.specs.Matching.{Grouping}
 use Rattle.smq_route.specs.Numbers.{NumbersValue}
 use Rattle.smq_book.specs.index.Held.{Holding, stored_traffic}
 use Rattle.smq_book.specs.join.Keyed.{accepted_key}
-use Rattle.smq_book.specs.join.Moves.{put_message}
+use Rattle.smq_book.specs.join.Moves.{PutMessage, put_message}
 use Rattle.smq_book.specs.pairing.Traffic.{Message, ReceivedReceipt}
-use Rattle.smq_book.proofs.lemmas.index.Followed.{are-stored, due-came, ends-came, facts-alone, facts-told, holds, notes-alone, numbers-came}
-use Rattle.smq_book.proofs.lemmas.index.Followed.{notes-told, put-there, stored-accepted, stored-held, stored-refused, unlisted}
-use Rattle.smq_book.proofs.lemmas.index.Members.{members-unput, receipt-absent, submit-absent}
+use Rattle.smq_book.proofs.lemmas.index.Followed.{due-came, ends-came, facts-alone, facts-told, holds, may-follow, notes-alone, numbers-came}
+use Rattle.smq_book.proofs.lemmas.index.Followed.{notes-told, put-there, stored-accepted, stored-held, stored-refused}
+use Rattle.smq_book.proofs.lemmas.index.Members.{kept-traffic, members-unput, receipt-absent, submit-absent}
 use Rattle.smq_book.proofs.lemmas.index.Moves.{came-submit}
 use Rattle.smq_book.proofs.lemmas.join.MoveLemmas.{put_message-moves}
 use Rattle.smq_book.proofs.lemmas.index.Costs.{tells-none}
@@ -21,6 +21,8 @@ use Rattle.smq_book.specs.index.Touches.{vacancies_at}
 use Rattle.smq_book.specs.edits.Reached.{IsMoveOf}
 use Rattle.smq_book.specs.index.Touches.{load_of}
 use Rattle.smq_book.proofs.lemmas.index.Weights.{few-changes, submit-put}
+use Rattle.smq_book.proofs.lemmas.index.Followed.{nobody, one-none, told}
+use Rattle.smq_book.proofs.lemmas.index.Stored.{stands-none}
 use Rattle.smq_book.proofs.index.index.Index.put_message.Goals as goal
 
 pub add_submit-requires-clause-absent : goal.add_submit-requires-clause-absent
@@ -50,12 +52,19 @@ returns-in_default-clause-held c = λ t traffic held.
     let stores = stored-refused (stored-held s t i traffic held) q m refused none free c.in_ok-set.ensures.content in
     let move = put_message-moves q m t free in
     let alike = sym (members-unput s q t m refused none) in
+    let now = stands-none i.standings.members q
+    (ap (λ (x : Grouping). get x.submits q) c.requires.are.grouped
+    ∙ submit-absent s q (stored_traffic i.messages.content i.receipts.content) c.requires.absent)
+    (ap (λ (x : Grouping). get x.receipts q) c.requires.are.grouped
+    ∙ receipt-absent s q (stored_traffic i.messages.content i.receipts.content) c.requires.apart) in
+    let may = may-follow s t u i held stores traffic q move refl None (λ p e. nobody p e)
+    (λ x y was is. one-none (get t.messages q) x none was) (kept-traffic t traffic (PutMessage (q, m)) c.requires.dir) in
     holds s t u i held stores traffic q move refl c.refresh.new.self
     (ap (λ (k : KeepingMap Place Message). k.content) c.refresh.ensures.messages)
     (ap (λ (k : KeepingMap Place ReceivedReceipt). k.content) c.refresh.ensures.receipts)
     (ap (λ (v : GroupsValue). v.members) c.refresh.ensures.standings)
-    (c.in_ok-refresh.ensures.facts (are-stored stores) ∙ facts-alone s t u i held stores traffic q move refl alike)
-    (c.in_ok-refresh.ensures.notes (are-stored stores) (unlisted s t u i held stores traffic q move refl (λ m e. free))
+    (c.in_ok-refresh.ensures.facts now may ∙ facts-alone s t u i held stores traffic q move refl alike)
+    (c.in_ok-refresh.ensures.notes now may
     ∙ notes-alone s t u i held stores traffic q move refl alike)
     (c.in_ok-refresh.ensures.due (due-came s t i held q m none stores.messages))
     (c.in_ok-refresh.ensures.ends (ends-came s t i held q m none stores.messages))
@@ -84,12 +93,15 @@ returns-clause-held c = λ t traffic held.
     ∙ submit-absent s q (stored_traffic i.messages.content i.receipts.content) c.requires.absent in
     let there = came-submit g h cs tells q key absent
     (ap (λ (x : Grouping). get x.submits q) c.in_ok-changes.ensures.ok ∙ put-there g.submits q key) in
+    let now = told s t u i held stores traffic q move refl cs tells in
+    let may = may-follow s t u i held stores traffic q move refl None (λ p e. nobody p e)
+    (λ x y was is. one-none (get t.messages q) x none was) (kept-traffic t traffic (PutMessage (q, m)) c.requires.dir) in
     holds s t u i held stores traffic q move refl c.follow.new.self
     (ap (λ (k : KeepingMap Place Message). k.content) c.follow.ensures.messages)
     (ap (λ (k : KeepingMap Place ReceivedReceipt). k.content) c.follow.ensures.receipts)
     (ap (λ (v : GroupsValue). v.members) c.follow.ensures.standings)
-    (c.in_ok-follow.ensures.facts (are-stored stores) ∙ facts-told s t u i held stores traffic q move refl cs tells there)
-    (c.in_ok-follow.ensures.notes (are-stored stores) (unlisted s t u i held stores traffic q move refl (λ m e. free))
+    (c.in_ok-follow.ensures.facts now may ∙ facts-told s t u i held stores traffic q move refl cs tells there)
+    (c.in_ok-follow.ensures.notes now may
     ∙ notes-told s t u i held stores traffic q move refl cs tells there)
     (c.in_ok-follow.ensures.due (due-came s t i held q m none stores.messages))
     (c.in_ok-follow.ensures.ends (ends-came s t i held q m none stores.messages))

@@ -9,11 +9,11 @@ use Rattle.smq_group.specs.Matching.{Grouping}
 use Rattle.smq_route.specs.Numbers.{NumbersValue}
 use Rattle.smq_book.specs.index.Held.{Holding, stored_traffic}
 use Rattle.smq_book.specs.join.Keyed.{keyed_receipt}
-use Rattle.smq_book.specs.join.Moves.{put_receipt}
+use Rattle.smq_book.specs.join.Moves.{PutReceipt, put_receipt}
 use Rattle.smq_book.specs.pairing.Traffic.{Message, ReceivedReceipt}
-use Rattle.smq_book.proofs.lemmas.index.Followed.{are-stored, due-kept, ends-kept, facts-told, holds, notes-told, put-there}
-use Rattle.smq_book.proofs.lemmas.index.Followed.{stored-held, stored-received, unlisted}
-use Rattle.smq_book.proofs.lemmas.index.Members.{receipt-absent, submit-absent}
+use Rattle.smq_book.proofs.lemmas.index.Followed.{due-kept, ends-kept, facts-told, holds, may-follow, notes-told, put-there}
+use Rattle.smq_book.proofs.lemmas.index.Followed.{stored-held, stored-received}
+use Rattle.smq_book.proofs.lemmas.index.Members.{kept-traffic, receipt-absent, submit-absent}
 use Rattle.smq_book.proofs.lemmas.index.Moves.{came-receipt}
 use Rattle.smq_book.proofs.lemmas.join.MoveLemmas.{put_receipt-moves}
 use Rattle.smq_kit.specs.declared.link_key.LinkKey.{LinkKey}
@@ -21,6 +21,7 @@ use Rattle.smq_group.specs.Matching.{GroupedReceipt}
 use Rattle.smq_book.specs.edits.Reached.{IsMoveOf}
 use Rattle.smq_book.specs.index.Touches.{load_of}
 use Rattle.smq_book.proofs.lemmas.index.Weights.{few-changes, receipt-put}
+use Rattle.smq_book.proofs.lemmas.index.Followed.{one-route, only, told}
 use Rattle.smq_book.proofs.index.index.Index.put_receipt.Goals as goal
 
 pub add_receipt-requires-clause-absent : goal.add_receipt-requires-clause-absent
@@ -61,12 +62,15 @@ returns-clause-held c = λ t traffic held.
     ∙ receipt-absent s q (stored_traffic i.messages.content i.receipts.content) c.requires.absent in
     let there = came-receipt g h cs tells q (keyed_receipt s r) absent
     (ap (λ (x : Grouping). get x.receipts q) came ∙ put-there g.receipts q (keyed_receipt s r)) in
+    let now = told s t u i held stores traffic q move refl cs tells in
+    let may = may-follow s t u i held stores traffic q move refl (Some q) (λ p e. ap (get t.receipts) (only q p e) ∙ none)
+    (λ x y was is. one-route s.versions (get t.messages q) x y was is) (kept-traffic t traffic (PutReceipt (q, r)) c.requires.dir) in
     holds s t u i held stores traffic q move refl c.follow.new.self
     (ap (λ (k : KeepingMap Place Message). k.content) c.follow.ensures.messages)
     (ap (λ (k : KeepingMap Place ReceivedReceipt). k.content) c.follow.ensures.receipts)
     (ap (λ (v : GroupsValue). v.members) c.follow.ensures.standings)
-    (c.in_ok-follow.ensures.facts (are-stored stores) ∙ facts-told s t u i held stores traffic q move refl cs tells there)
-    (c.in_ok-follow.ensures.notes (are-stored stores) (unlisted s t u i held stores traffic q move refl (λ m e. none))
+    (c.in_ok-follow.ensures.facts now may ∙ facts-told s t u i held stores traffic q move refl cs tells there)
+    (c.in_ok-follow.ensures.notes now may
     ∙ notes-told s t u i held stores traffic q move refl cs tells there)
     (c.in_ok-follow.ensures.due (due-kept s t i held stores.messages))
     (c.in_ok-follow.ensures.ends (ends-kept s t i held stores.messages))

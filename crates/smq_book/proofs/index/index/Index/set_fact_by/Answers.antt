@@ -1,12 +1,13 @@
 use Rattle.std.proofs.Common.{◌≡◌, ◌+◌, Option, Some, None, refl, ap, sym, ◌∙◌, rules}
 use Rattle.std.specs.FinMap.{get, insert}
 use Rattle.std.specs.Option.{option_copied}
-use Rattle.std.specs.Prelude.{is_some, option_map}
+use Rattle.std.specs.Prelude.{option_map}
 use Rattle.smq_kit.specs.Maps.{set_at}
-use Rattle.smq_kit.specs.declared.place.Place.{Place}
 use Rattle.smq_tally.specs.declared.fact.Fact.{Fact}
 use Rattle.smq_book.specs.index.Due.{due_at, due_in, is_due_fact}
 use Rattle.smq_book.specs.index.Ends.{end_at, ends_by}
+use Rattle.smq_route.specs.Versions.{Versions}
+use Rattle.smq_book.specs.join.Circumstances.{route_in}
 use Rattle.smq_book.specs.present.Settings.{window_in}
 use Rattle.smq_book.specs.index.Held.{messages_in, noted, stored_traffic}
 use Rattle.smq_book.specs.pairing.Traffic.{Message}
@@ -15,16 +16,13 @@ use Rattle.smq_book.proofs.lemmas.index.Ends.{end-fact, end-fact-absent, end-sti
 use Rattle.smq_book.proofs.lemmas.index.Stored.{fact-absent, stored-at}
 use Rattle.smq_book.proofs.index.index.Index.set_fact_by.Goals as goal
 
-pub returns-in_default-clause-is_message : goal.returns-in_default-clause-is_message
-returns-in_default-clause-is_message c =
-    let i = c.args.self.now in
-    let q = c.args.place in
-    let gone : ◌≡◌ {A = Option Message} None (option_copied c.get.result) = search rules in
-    let none : get (messages_in i.messages.content) q ≡ None = sym (gone ∙ c.get.ensures ∙ stored-at i.messages.content q) in
-    ap is_some (sym none)
+pub replace-requires : goal.replace-requires
+replace-requires c = record {
+  before = c.look_up-there.ensures.value ∙ sym (λ j. get (c.look_up-there.ensures.held j).facts (c.fact_at-fact.ensures.place j));
+}
 
 pub returns-in_default-clause-facts : goal.returns-in_default-clause-facts
-returns-in_default-clause-facts c = λ z versions windows clock are.
+returns-in_default-clause-facts c = λ z versions windows clock are told routes.
     let i = c.args.self.now in
     let q = c.args.place in
     let gone : ◌≡◌ {A = Option Message} None (option_copied c.get.result) = search rules in
@@ -54,18 +52,8 @@ returns-in_default-clause-ends c = λ same.
     ∙ sym (end-fact-absent w (messages_in i.messages.content) i.tally.facts q None none)
     ∙ ap (ends_by w (messages_in i.messages.content)) (sym c.in_ok-take_fact.ensures.facts)
 
-pub returns-in_ok-set_end-clause-is_message : goal.returns-in_ok-set_end-clause-is_message
-returns-in_ok-set_end-clause-is_message c =
-    let i = c.args.self.now in
-    let q = c.args.place in
-    let m = c.in-Some.message.now in
-    let ms = messages_in i.messages.content in
-    let some : ◌≡◌ {A = Option Message} (Some m) (option_copied c.get.result) = search rules in
-    let there : get ms q ≡ Some m = sym (some ∙ c.get.ensures ∙ stored-at i.messages.content q) in
-    ap is_some (sym there)
-
 pub returns-in_ok-set_end-clause-facts : goal.returns-in_ok-set_end-clause-facts
-returns-in_ok-set_end-clause-facts c = λ z versions windows clock are.
+returns-in_ok-set_end-clause-facts c = λ z versions windows clock are told routes.
     let i = c.args.self.now in
     let q = c.args.place in
     let m = c.in-Some.message.now in
@@ -73,23 +61,16 @@ returns-in_ok-set_end-clause-facts c = λ z versions windows clock are.
     let some : ◌≡◌ {A = Option Message} (Some m) (option_copied c.get.result) = search rules in
     let there : get ms q ≡ Some m = sym (some ∙ c.get.ensures ∙ stored-at i.messages.content q) in
     let fact : Fact = c.fact_at-fact.result in
-    let sets = c.in_ok-before.ensures.ok ∙ ap (λ (p : Place). insert i.tally.facts p fact) c.fact_at-fact.ensures.place in
+    let sets = c.in_ok-replace.ensures.ok
+    ∙ (λ j. insert (c.look_up-there.ensures.held j).facts (c.fact_at-fact.ensures.place j) fact) in
     sets
     ∙ ap (set_at i.tally.facts q)
-    (c.fact_at-fact.ensures.value z (stored_traffic i.messages.content i.receipts.content) versions windows clock are refl there)
-
-pub returns-else-is_now-is_due-clause-is_message : goal.returns-else-is_now-is_due-clause-is_message
-returns-else-is_now-is_due-clause-is_message c =
-    let i = c.args.self.now in
-    let q = c.args.place in
-    let m = c.in-Some.message.now in
-    let ms = messages_in i.messages.content in
-    let some : ◌≡◌ {A = Option Message} (Some m) (option_copied c.get.result) = search rules in
-    let there : get ms q ≡ Some m = sym (some ∙ c.get.ensures ∙ stored-at i.messages.content q) in
-    ap is_some (sym there)
+    (c.fact_at-fact.ensures.value z (stored_traffic i.messages.content i.receipts.content) i.standings.members windows clock are told refl there
+    (c.route_by-route.ensures (λ f of is. routes m f of there (sym c.look_up-there.ensures.value ∙ is) ∙ ap (λ (v : Versions). route_in v m) versions)
+    ∙ ap (λ (v : Versions). route_in v m) (sym versions)))
 
 pub returns-else-is_now-is_due-clause-facts : goal.returns-else-is_now-is_due-clause-facts
-returns-else-is_now-is_due-clause-facts c = λ z versions windows clock are.
+returns-else-is_now-is_due-clause-facts c = λ z versions windows clock are told routes.
     let i = c.args.self.now in
     let q = c.args.place in
     let m = c.in-Some.message.now in
@@ -97,10 +78,13 @@ returns-else-is_now-is_due-clause-facts c = λ z versions windows clock are.
     let some : ◌≡◌ {A = Option Message} (Some m) (option_copied c.get.result) = search rules in
     let there : get ms q ≡ Some m = sym (some ∙ c.get.ensures ∙ stored-at i.messages.content q) in
     let fact : Fact = c.fact_at-fact.result in
-    let sets = c.in_ok-before.ensures.ok ∙ ap (λ (p : Place). insert i.tally.facts p fact) c.fact_at-fact.ensures.place in
+    let sets = c.in_ok-replace.ensures.ok
+    ∙ (λ j. insert (c.look_up-there.ensures.held j).facts (c.fact_at-fact.ensures.place j) fact) in
     sets
     ∙ ap (set_at i.tally.facts q)
-    (c.fact_at-fact.ensures.value z (stored_traffic i.messages.content i.receipts.content) versions windows clock are refl there)
+    (c.fact_at-fact.ensures.value z (stored_traffic i.messages.content i.receipts.content) i.standings.members windows clock are told refl there
+    (c.route_by-route.ensures (λ f of is. routes m f of there (sym c.look_up-there.ensures.value ∙ is) ∙ ap (λ (v : Versions). route_in v m) versions)
+    ∙ ap (λ (v : Versions). route_in v m) (sym versions)))
 
 pub returns-in_ok-set_end-clause-due : goal.returns-in_ok-set_end-clause-due
 returns-in_ok-set_end-clause-due c = λ same.
@@ -111,7 +95,8 @@ returns-in_ok-set_end-clause-due c = λ same.
     let some : ◌≡◌ {A = Option Message} (Some m) (option_copied c.get.result) = search rules in
     let there : get ms q ≡ Some m = sym (some ∙ c.get.ensures ∙ stored-at i.messages.content q) in
     let fact : Fact = c.fact_at-fact.result in
-    let sets = c.in_ok-before.ensures.ok ∙ ap (λ (p : Place). insert i.tally.facts p fact) c.fact_at-fact.ensures.place in
+    let sets = c.in_ok-replace.ensures.ok
+    ∙ (λ j. insert (c.look_up-there.ensures.held j).facts (c.fact_at-fact.ensures.place j) fact) in
     let is_now = c.is_due-is_now.ensures (Some fact) refl in
     c.in_ok-set_due.ensures.value
     ∙ (λ j. set_at (same j) (due_at (c.message.view_is j).link (c.message.view_is j).moment q) (noted (is_now j)))
@@ -128,7 +113,8 @@ returns-in_ok-set_end-clause-ends c = λ same.
     let some : ◌≡◌ {A = Option Message} (Some m) (option_copied c.get.result) = search rules in
     let there : get ms q ≡ Some m = sym (some ∙ c.get.ensures ∙ stored-at i.messages.content q) in
     let fact : Fact = c.fact_at-fact.result in
-    let sets = c.in_ok-before.ensures.ok ∙ ap (λ (p : Place). insert i.tally.facts p fact) c.fact_at-fact.ensures.place in
+    let sets = c.in_ok-replace.ensures.ok
+    ∙ (λ j. insert (c.look_up-there.ensures.held j).facts (c.fact_at-fact.ensures.place j) fact) in
     let w = c.args.windows.now in
     let is_now = c.is_due-is_now.ensures (Some fact) refl in
     c.in_ok-set_end.ensures.value
@@ -147,9 +133,10 @@ returns-else-is_now-is_due-clause-due c = λ same.
     let some : ◌≡◌ {A = Option Message} (Some m) (option_copied c.get.result) = search rules in
     let there : get ms q ≡ Some m = sym (some ∙ c.get.ensures ∙ stored-at i.messages.content q) in
     let fact : Fact = c.fact_at-fact.result in
-    let sets = c.in_ok-before.ensures.ok ∙ ap (λ (p : Place). insert i.tally.facts p fact) c.fact_at-fact.ensures.place in
+    let sets = c.in_ok-replace.ensures.ok
+    ∙ (λ j. insert (c.look_up-there.ensures.held j).facts (c.fact_at-fact.ensures.place j) fact) in
     let equal : c.is_due-is_now.result ≡ c.is_due.result = search rules in
-    let before = c.in_ok-before.ensures.before ∙ ap (λ (p : Place). option_map (λ (f : Fact). f.outcome) (get i.tally.facts p)) c.fact_at-fact.ensures.place in
+    let before = c.outcome_of-before.ensures ∙ ap (option_map (λ (f : Fact). f.outcome)) c.look_up-there.ensures.value in
     let still : is_due_fact (Some fact) ≡ is_due_fact (get i.tally.facts q) =
     sym (c.is_due-is_now.ensures (Some fact) refl) ∙ equal ∙ c.is_due.ensures (get i.tally.facts q) before in
     same ∙ sym (due-still ms i.tally.facts q (Some fact) m there still) ∙ ap (due_in ms) (sym sets)
@@ -163,9 +150,10 @@ returns-else-is_now-is_due-clause-ends c = λ same.
     let some : ◌≡◌ {A = Option Message} (Some m) (option_copied c.get.result) = search rules in
     let there : get ms q ≡ Some m = sym (some ∙ c.get.ensures ∙ stored-at i.messages.content q) in
     let fact : Fact = c.fact_at-fact.result in
-    let sets = c.in_ok-before.ensures.ok ∙ ap (λ (p : Place). insert i.tally.facts p fact) c.fact_at-fact.ensures.place in
+    let sets = c.in_ok-replace.ensures.ok
+    ∙ (λ j. insert (c.look_up-there.ensures.held j).facts (c.fact_at-fact.ensures.place j) fact) in
     let equal : c.is_due-is_now.result ≡ c.is_due.result = search rules in
-    let before = c.in_ok-before.ensures.before ∙ ap (λ (p : Place). option_map (λ (f : Fact). f.outcome) (get i.tally.facts p)) c.fact_at-fact.ensures.place in
+    let before = c.outcome_of-before.ensures ∙ ap (option_map (λ (f : Fact). f.outcome)) c.look_up-there.ensures.value in
     let still : is_due_fact (Some fact) ≡ is_due_fact (get i.tally.facts q) =
     sym (c.is_due-is_now.ensures (Some fact) refl) ∙ equal ∙ c.is_due.ensures (get i.tally.facts q) before in
     let w = c.args.windows.now in

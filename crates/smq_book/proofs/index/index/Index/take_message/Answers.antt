@@ -15,11 +15,11 @@ use Rattle.smq_book.specs.index.Due.{due_at}
 use Rattle.smq_book.specs.index.Ends.{end_at}
 use Rattle.smq_book.specs.present.Settings.{window_in}
 use Rattle.smq_book.specs.index.Held.{Holding, dues_in, ends_in, held_of, messages_in, stored_traffic}
-use Rattle.smq_book.specs.join.Moves.{take_message}
+use Rattle.smq_book.specs.join.Moves.{TakeMessage, take_message}
 use Rattle.smq_book.specs.pairing.Traffic.{Message, ReceivedReceipt}
-use Rattle.smq_book.proofs.lemmas.index.Followed.{are-stored, due-dropped, due-went, ends-dropped, ends-went, facts-gone, facts-left, holds, notes-gone, notes-left}
-use Rattle.smq_book.proofs.lemmas.index.Followed.{numbers-went, stored-dropped, stored-held, stored-withdrawn, unlisted}
-use Rattle.smq_book.proofs.lemmas.index.Members.{members-untaken, submit-there}
+use Rattle.smq_book.proofs.lemmas.index.Followed.{due-dropped, due-went, ends-dropped, ends-went, facts-gone, facts-left, holds, may-follow, notes-gone, notes-left}
+use Rattle.smq_book.proofs.lemmas.index.Followed.{numbers-went, stored-dropped, stored-held, stored-withdrawn}
+use Rattle.smq_book.proofs.lemmas.index.Members.{kept-traffic, members-untaken, submit-there}
 use Rattle.smq_book.proofs.lemmas.index.Stored.{stored-at}
 use Rattle.smq_book.proofs.lemmas.join.MoveLemmas.{take_message-moves}
 use Rattle.smq_book.proofs.lemmas.index.Costs.{tells-none}
@@ -29,6 +29,7 @@ use Rattle.smq_book.specs.edits.Reached.{IsMoveOf}
 use Rattle.smq_book.specs.index.Touches.{taken_of}
 use Rattle.smq_book.proofs.lemmas.index.Members.{receipt-absent}
 use Rattle.smq_book.proofs.lemmas.index.Weights.{few-changes, not-there, submit-counts, submit-taken}
+use Rattle.smq_book.proofs.lemmas.index.Followed.{nobody, one-none, told}
 use Rattle.smq_book.proofs.index.index.Index.take_message.Goals as goal
 
 pub returns-in_default-clause-held : goal.returns-in_default-clause-held
@@ -124,6 +125,9 @@ returns-clause-held c = λ t traffic held.
     ∙ ap (remove (ends_in i.ends.content)) (c.of-end.ensures
     ∙ (λ j. end_at ((c.message.view_is j).moment + (c.of-window.ensures ∙ (λ k. window_in (c.windows_set.ensures k) (c.message.view_is k).link)) j) q)) in
     let taken = c.in_ok-take_fact-2.ensures.facts in
+    let now = told s t u i held stores traffic q move refl cs tells in
+    let may = may-follow s t u i held stores traffic q move refl None (λ p e. nobody p e)
+    (λ x y was is. one-none (get u.messages q) y free is) (kept-traffic t traffic (TakeMessage q) tt) in
     holds s t u i held stores traffic q move refl
     (record {
       standings = c.follow.new.self.standings;
@@ -138,10 +142,10 @@ returns-clause-held c = λ t traffic held.
     (ap (λ (k : KeepingMap Place ReceivedReceipt). k.content) c.follow.ensures.receipts)
     (ap (λ (v : GroupsValue). v.members) c.follow.ensures.standings)
     (taken
-    ∙ (λ j. remove (c.in_ok-follow.ensures.facts (are-stored stores) j) q)
+    ∙ (λ j. remove (c.in_ok-follow.ensures.facts now may j) q)
     ∙ facts-gone s t u i held stores traffic q move refl free apart apart cs tells)
     (c.take_fact-2.ensures.notes
-    ∙ c.in_ok-follow.ensures.notes (are-stored stores) (unlisted s t u i held stores traffic q move refl (λ m e. apart))
+    ∙ c.in_ok-follow.ensures.notes now may
     ∙ notes-gone s t u i held stores traffic q move refl free apart apart cs tells)
     (c.in_ok-follow.ensures.due (due-went s t i held q m there stores.messages gone-due)
     ∙ due-dropped stores q free c.follow.new.self.tally.facts taken)

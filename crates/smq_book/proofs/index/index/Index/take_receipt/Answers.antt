@@ -1,28 +1,30 @@
 use Rattle.std.proofs.Common.{◌≡◌, ℕ, if◌then◌else◌, Option, List, [], Some, None, length, subst, refl, ap, sym, ◌∙◌, rules, arith}
-use Rattle.std.specs.FinMap.{FinMap, get}
+use Rattle.std.specs.FinMap.{get}
 use Rattle.std.specs.Option.{option_copied}
 use Rattle.std.specs.Prelude.{option_map}
 use Rattle.smq_shelf.specs.Keeping.{KeepingMap}
 use Rattle.smq_kit.specs.Maps.{set_at}
-use Rattle.smq_kit.specs.Orders.{place_cmp}
 use Rattle.smq_kit.specs.declared.place.Place.{Place}
+use Rattle.smq_kit.proofs.MapLemmas.{get-removed}
 use Rattle.smq_kit.proofs.PlaceOrders.{places_total, places_exact}
 use Rattle.smq_tally.proofs.Undone.{remove-none}
 use Rattle.smq_group.specs.declared.change.Change.{Change}
 use Rattle.smq_group.specs.Changes.{TellsChanges}
-use Rattle.smq_group.specs.Groups.{GroupsValue, vacancies}
+use Rattle.smq_group.specs.Groups.{GroupsValue, vacancies, without_receipt}
+use Rattle.smq_group.specs.Standings.{standing_at}
 use Rattle.smq_group.specs.Matching.{Grouping, GroupedReceipt}
 use Rattle.smq_book.specs.declared.index.index.Index.{Index}
 use Rattle.smq_route.specs.Numbers.{NumbersValue}
 use Rattle.smq_book.specs.index.Due.{due_in}
 use Rattle.smq_book.specs.index.Ends.{ends_by}
-use Rattle.smq_book.specs.index.Held.{AreOf, AreUnlisted, Holding, held_of, list_held, messages_in, receipts_in, stored_traffic, with_listing}
+use Rattle.smq_book.specs.index.Following.{MayFollow}
+use Rattle.smq_book.specs.index.Held.{Holding, held_of, list_held, messages_in, receipts_in, stored_traffic, with_listing}
 use Rattle.smq_book.specs.join.Facts.{facts_of}
-use Rattle.smq_book.specs.join.Moves.{take_receipt}
+use Rattle.smq_book.specs.join.Moves.{TakeReceipt, take_receipt}
 use Rattle.smq_book.specs.pairing.Traffic.{Message, ReceivedReceipt}
-use Rattle.smq_book.proofs.lemmas.index.Followed.{are-stored, due-kept, ends-kept, facts-taken, holds, notes-taken, stored-forgotten, stored-held, unlisted}
-use Rattle.smq_book.proofs.lemmas.index.Members.{receipt-there}
-use Rattle.smq_book.proofs.lemmas.index.Stored.{stored-at}
+use Rattle.smq_book.proofs.lemmas.index.Followed.{due-kept, ends-kept, facts-taken, holds, may-follow, notes-taken, stored-forgotten, stored-held}
+use Rattle.smq_book.proofs.lemmas.index.Members.{kept-traffic, receipt-there}
+use Rattle.smq_book.proofs.lemmas.index.Stored.{stands-none, stored-at}
 use Rattle.smq_book.proofs.lemmas.join.MoveLemmas.{take_receipt-moves}
 use Rattle.smq_book.proofs.lemmas.index.Costs.{tells-none}
 use Rattle.smq_book.specs.index.Touches.{is_key, receipt_key_at, vacancies_at}
@@ -32,6 +34,7 @@ use Rattle.smq_book.specs.edits.Reached.{IsMoveOf}
 use Rattle.smq_book.specs.index.Touches.{taken_of}
 use Rattle.smq_book.proofs.lemmas.index.Members.{submit-absent}
 use Rattle.smq_book.proofs.lemmas.index.Weights.{few-changes, no-message-there, not-there, receipt-taken, receipt-counts}
+use Rattle.smq_book.proofs.lemmas.index.Followed.{nobody, one-route, told}
 use Rattle.smq_book.proofs.index.index.Index.take_receipt.Goals as goal
 
 pub returns-in_default-clause-held : goal.returns-in_default-clause-held
@@ -75,11 +78,14 @@ returns-clause-held c = λ t traffic held.
     let cs = c.as_slice.result.now in
     let tells : TellsChanges g h cs =
     subst (λ (l : List Change). TellsChanges g h l) (sym c.as_slice.ensures.value) c.in_ok-changes.ensures.changes in
-    let free = unlisted s t u i held stores traffic q move refl ((stored-held s t i traffic held).stands.apart q) in
+    let now = told s t u i held stores traffic q move refl cs tells in
+    let may = may-follow s t u i held stores traffic q move refl None (λ p e. nobody p e)
+    (λ x y was is. one-route s.versions (get t.messages q) x y was is) (kept-traffic t traffic (TakeReceipt q) tt) in
     let gs = ap (λ (v : GroupsValue). v.members) c.follow.ensures.standings in
     let mc = ap (λ (k : KeepingMap Place Message). k.content) c.follow.ensures.messages in
     let rc = ap (λ (k : KeepingMap Place ReceivedReceipt). k.content) c.follow.ensures.receipts in
-    let are = subst (λ (x : Index). AreOf s (stored_traffic x.messages.content x.receipts.content) x.standings.members)
+    let still = subst (λ (x : Index). MayFollow s (stored_traffic x.messages.content x.receipts.content) x.standings.members None
+    c.follow.new.self.tally.facts c.follow.new.self.tally.notes)
     (λ j. record {
       standings = sym c.follow.ensures.standings j;
       messages = sym c.follow.ensures.messages j;
@@ -89,18 +95,25 @@ returns-clause-held c = λ t traffic held.
       ends = c.follow.new.self.ends;
       numbers = c.follow.new.self.numbers;
     })
-    (are-stored stores) in
+    (c.in_ok-follow.ensures.follows now may) in
+    let r = c.in-Some.receipt.now in
+    let some : ◌≡◌ {A = Option ReceivedReceipt} (Some r) (option_copied c.get.result) = search rules in
+    let there : get (receipts_in i.receipts.content) q ≡ Some r = sym (some ∙ c.get.ensures ∙ stored-at i.receipts.content q) in
+    let before = stored_traffic i.messages.content i.receipts.content in
+    let gone = stands-none h q
+    (ap (λ (x : Grouping). get x.submits q) (c.in_ok-changes.ensures.ok ∙ ap (λ (x : Grouping). without_receipt x q) c.requires.are.grouped)
+    ∙ submit-absent s q before (no-message-there before q r (c.requires.are.apart q) there))
+    (ap (λ (x : Grouping). get x.receipts q) c.in_ok-changes.ensures.ok ∙ get-removed places_total places_exact g.receipts q)
+    ∙ (λ j. standing_at (sym gs j) q) in
     holds s t u i held stores traffic q move refl c.refresh.new.self
     (ap (λ (k : KeepingMap Place Message). k.content) (c.refresh.ensures.messages ∙ c.follow.ensures.messages))
     (ap (λ (k : KeepingMap Place ReceivedReceipt). k.content) (c.refresh.ensures.receipts ∙ c.follow.ensures.receipts))
     (ap (λ (v : GroupsValue). v.members) (c.refresh.ensures.standings ∙ c.follow.ensures.standings))
-    (c.in_ok-refresh.ensures.facts are
-    ∙ (λ j. set_at (c.in_ok-follow.ensures.facts (are-stored stores) j) q (get (facts_of s (stored_traffic (mc j) (rc j))) q))
+    (c.in_ok-refresh.ensures.facts gone still
+    ∙ (λ j. set_at (c.in_ok-follow.ensures.facts now may j) q (get (facts_of s (stored_traffic (mc j) (rc j))) q))
     ∙ facts-taken s t u i held stores traffic q move refl cs tells)
-    (c.in_ok-refresh.ensures.notes are
-    (subst (λ (m : FinMap place_cmp Message). AreUnlisted m c.follow.new.self.tally.notes) (sym (ap messages_in mc))
-    (c.in_ok-follow.ensures.unlisted (are-stored stores) free))
-    ∙ (λ j. with_listing (c.in_ok-follow.ensures.notes (are-stored stores) free j) q (list_held (gs j) q))
+    (c.in_ok-refresh.ensures.notes gone still
+    ∙ (λ j. with_listing (c.in_ok-follow.ensures.notes now may j) q (list_held (gs j) q))
     ∙ notes-taken s t u i held stores traffic q move refl cs tells)
     (c.in_ok-refresh.ensures.due (c.in_ok-follow.ensures.due (due-kept s t i held stores.messages)
     ∙ (λ j. due_in (messages_in (sym mc j)) c.follow.new.self.tally.facts))

@@ -1,7 +1,7 @@
 -- The copies so far are put after what was there, and there is room for the rest.
 use Rattle.std.proofs.Common.{◌≡◌, ◌+◌, ◌≤◌, ◌++◌, length, take}
 use Rattle.std.specs.Vec.{vec_len, vec_capacity}
-use Rattle.smq_book.proofs.present.kept.push_copies.Given as goal
+use Rattle.smq_book.proofs.present.kept.push_each.Given as goal
 
 abbrev pub invariant-loop-pdu : goal.invariant-loop-pdu
 invariant-loop-pdu l = record {
