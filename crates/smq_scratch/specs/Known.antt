@@ -8,7 +8,7 @@ use Rattle.smq_tally.specs.declared.outcome.Outcome.TheVariants as o
 use Rattle.smq_lines.specs.Lines.{MessageLineValue, ReceiptLineValue}
 use Rattle.smq_lines.specs.declared.lines.ReceiptStanding.TheVariants.{Stray, Deciding, Extra, Noted, Ambiguous}
 use Rattle.smq_book.specs.declared.pairing.source.Source.{Source}
-use Rattle.smq_book.specs.declared.present.kept.Content.TheVariants as c
+use Rattle.smq_book.specs.present.Content as c
 use Rattle.smq_book.specs.declared.present.kept.KeptPdu.{KeptPdu}
 use Rattle.smq_book.specs.known.Pairing.{place_at, receipt_pdu, receipt_saying, submit}
 use Rattle.smq_book.specs.present.Settings.{SettingsValue, opening_forms}

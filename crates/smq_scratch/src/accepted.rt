@@ -7,14 +7,14 @@ ghost use Rattle.smq_book.specs.within.Accepted.{HasNumbers, number_kept};
 ghost use Rattle.smq_book.specs.within.Messages.{SubmittedMessage as Submit};
 
 use crate::submits::SubmittedMessage;
-use smq_kit::LinkKey;
+use smq_kit::HashedKey;
 use std::alloc::{AllocError, Global};
 use std::collections::BTreeMap;
 
 /// How many submitted messages are accepted with each key, where there are any.
 #[derive(Drop)]
 pub(crate) struct Accepted {
-    pub numbers: BTreeMap<LinkKey, u64>,
+    pub numbers: BTreeMap<HashedKey, u64>,
 }
 
 impl Accepted {
@@ -37,7 +37,7 @@ impl Accepted {
     }
 
     /// Counts one more with this key.
-    fn add(&mut self, key: LinkKey) -> Result<(), AllocError>
+    fn add(&mut self, key: HashedKey) -> Result<(), AllocError>
         requires { number_kept self.old.numbers key + 1 < 2 ^ 64 }
         ensures { OnOk result (by_key self.new.numbers
             ≡ map.insert (by_key self.old.numbers) key (number_kept self.old.numbers key + 1)) }
@@ -48,7 +48,7 @@ impl Accepted {
     }
 
     /// How many messages are accepted with the key.
-    pub(crate) fn number(&self, key: &LinkKey) -> u64
+    pub(crate) fn number(&self, key: &HashedKey) -> u64
         ensures { result ≡ number_kept self.now.numbers key.now }
     {
         match self.numbers.get(key) {
@@ -58,7 +58,7 @@ impl Accepted {
     }
 
     /// Whether one message is accepted with the key and no other.
-    pub(crate) fn is_single(&self, key: &LinkKey) -> bool
+    pub(crate) fn is_single(&self, key: &HashedKey) -> bool
         ensures { (submits : List Submit) → HasNumbers self.now.numbers submits
             → result ≡ among.is_single submits key.now }
     {

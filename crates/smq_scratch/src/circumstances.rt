@@ -8,7 +8,7 @@ ghost use Rattle.smq_book.specs.within.Outcomes.{message_from};
 
 use crate::submits::SubmittedMessage;
 use smq_book::{KeptPdu, Settings};
-use smq_kit::{LinkKey, MessageId, Network, RouteId};
+use smq_kit::{HashedKey, MessageId, Network, RouteId};
 use smq_pdu::agrees;
 
 impl<'a> SubmittedMessage<'a> {
@@ -30,11 +30,11 @@ impl<'a> SubmittedMessage<'a> {
     }
 
     /// The key of its id, where it is accepted.
-    pub(crate) fn key(&self) -> Option<LinkKey>
+    pub(crate) fn key(&self) -> Option<HashedKey>
         ensures { result ≡ self.now.key }
     {
         match self.id() {
-            Some(id) => Some(LinkKey::of(self.source.link, self.source.forms.response, id)),
+            Some(id) => Some(HashedKey::of(self.source.link, self.source.forms.response, id)),
             None => None,
         }
     }

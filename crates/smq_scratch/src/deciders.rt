@@ -11,14 +11,14 @@ ghost use Rattle.smq_scratch.specs.Sourced.{receipts_in};
 use crate::receipts::{PlacedReceipt, receipt_at};
 use crate::sessions::SourcedSession;
 use smq_book::{KeptPdu, Source};
-use smq_kit::LinkKey;
+use smq_kit::HashedKey;
 use std::alloc::{AllocError, Global};
 use std::collections::BTreeMap;
 
 /// The least receipt of each key, by moment and place, of those that can decide.
 #[derive(Drop)]
 pub(crate) struct Deciders<'a> {
-    pub receipts: BTreeMap<LinkKey, PlacedReceipt<'a>>,
+    pub receipts: BTreeMap<HashedKey, PlacedReceipt<'a>>,
 }
 
 impl<'a> Deciders<'a> {
@@ -47,14 +47,14 @@ impl<'a> Deciders<'a> {
     }
 
     /// The deciding receipt of a key, where there is one.
-    pub(crate) fn receipt(&self, key: &LinkKey) -> Option<&PlacedReceipt<'a>>
+    pub(crate) fn receipt(&self, key: &HashedKey) -> Option<&PlacedReceipt<'a>>
         ensures { option_copied result ≡ decider_kept self.now.receipts key.now }
     {
         self.receipts.get(key)
     }
 
     /// Takes one more receipt that can decide.
-    fn add(&mut self, key: LinkKey, receipt: PlacedReceipt<'a>) -> Result<(), AllocError>
+    fn add(&mut self, key: HashedKey, receipt: PlacedReceipt<'a>) -> Result<(), AllocError>
         ensures { OnOk result (by_key self.new.receipts ≡ map.insert (by_key self.old.receipts) key
             (decider_with (decider_kept self.old.receipts key) receipt.entry)) }
     {

@@ -13,7 +13,7 @@ use crate::deciders::Deciders;
 use crate::receipts::{PlacedReceipt, receipt_at};
 use crate::sessions::SourcedSession;
 use smq_book::{KeptPdu, List, Listed, Source};
-use smq_kit::LinkKey;
+use smq_kit::HashedKey;
 use std::alloc::{AllocError, Global};
 
 /// Puts the receipts of sessions that are in a list after what is there.

@@ -5,7 +5,7 @@ ghost use Rattle.smq_kit.specs.LinkKeys.{by_key};
 ghost use Rattle.smq_scratch.specs.within.Matches.{HasMatches, match_kept, match_with};
 
 use crate::submits::SubmittedMessage;
-use smq_kit::{LinkKey, Place};
+use smq_kit::{HashedKey, Place};
 use std::alloc::{AllocError, Global};
 use std::collections::BTreeMap;
 
@@ -21,7 +21,7 @@ pub(crate) enum Match {
 /// Which messages are accepted with each key, where any are.
 #[derive(Drop)]
 pub(crate) struct Matches {
-    pub messages: BTreeMap<LinkKey, Match>,
+    pub messages: BTreeMap<HashedKey, Match>,
 }
 
 impl Matches {
@@ -44,7 +44,7 @@ impl Matches {
     }
 
     /// Takes one more message, which is accepted with this key.
-    fn add(&mut self, key: LinkKey, place: Place) -> Result<(), AllocError>
+    fn add(&mut self, key: HashedKey, place: Place) -> Result<(), AllocError>
         ensures { OnOk result (by_key self.new.messages ≡ map.insert (by_key self.old.messages) key
             (match_with (match_kept self.old.messages key) place)) }
     {
@@ -57,7 +57,7 @@ impl Matches {
     }
 
     /// The messages that are accepted with the key, where any are.
-    pub(crate) fn get(&self, key: &LinkKey) -> Option<Match>
+    pub(crate) fn get(&self, key: &HashedKey) -> Option<Match>
         ensures { result ≡ match_kept self.now.messages key.now }
     {
         match self.messages.get(key) {

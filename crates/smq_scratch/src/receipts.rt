@@ -8,7 +8,7 @@ ghost use Rattle.smq_book.specs.within.Receipts.{receipt_cmp, receipt_by};
 ghost use Rattle.smq_scratch.specs.Lines.{deciding_receipt};
 
 use smq_book::{KeptPdu, Source};
-use smq_kit::{Dir, LinkId, LinkKey, Moment, Place};
+use smq_kit::{Dir, HashedKey, LinkId, Moment, Place};
 use smq_lines::DecidingReceipt;
 use smq_receipt::Receipt;
 use std::marker::Model;
@@ -68,12 +68,12 @@ impl<'a> PlacedReceipt<'a> {
 pub(crate) fn receipt_at<'a>(
     source: Source,
     pdu: &'a KeptPdu,
-) -> Option<(LinkKey, PlacedReceipt<'a>)>
+) -> Option<(HashedKey, PlacedReceipt<'a>)>
     ensures { option_to_list result ≡ receipt_by (receipt_in pdu.now.content) source pdu.now }
 {
     match pdu.content.receipt() {
         Some(receipt) => Some((
-            LinkKey::of(source.link, source.forms.receipt, &receipt.id),
+            HashedKey::of(source.link, source.forms.receipt, &receipt.id),
             PlacedReceipt {
                 link: source.link,
                 place: Place {
