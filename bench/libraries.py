@@ -1,4 +1,4 @@
-"""Builds a program over the libraries of this repository, in a repository of its own: for bench/routes, bench/edits and bench/desk."""
+"""Builds a program over the libraries of this repository, in a repository of its own, and runs it."""
 import os
 import shutil
 import subprocess
@@ -43,3 +43,23 @@ def build(folder, name, libraries, words):
     if made.returncode != 0:
         sys.exit(made.stdout)
     return os.path.join(own, 'out', crate)
+
+
+def ran(program, words):
+    """What a run prints, and its seconds of processor."""
+    child = subprocess.Popen([program, *map(str, words)], stdout=subprocess.PIPE)
+    printed = child.stdout.read()
+    _, status, usage = os.wait4(child.pid, 0)
+    if os.waitstatus_to_exitcode(status) != 0:
+        sys.exit('%s: status %d, %s' % (words, status, printed))
+    return printed, usage.ru_utime + usage.ru_stime
+
+
+def least(runs, rows, measure):
+    """The least measure of each row, of so many in turns."""
+    best = {}
+    for _ in range(runs):
+        for row in rows:
+            took = measure(row)
+            best[row] = min(took, best.get(row, took))
+    return best
