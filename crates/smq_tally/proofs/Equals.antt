@@ -1,54 +1,41 @@
 -- `==` of tables.
 use Rattle.std.proofs.Common.{◌≡◌, ℕ, ◌+◌, ◌<◌, Bool, true, false, List, [], ◌∷◌, Option, Some, None, subst, get_or, refl, sym, ap, ◌∙◌, arith, rules}
-use Rattle.std.specs.Prelude.{◌&&◌, ◌==◌, Contains, map, filter, nat_eq, Decides, IsTrue, ◌↔◌}
-use Rattle.std.specs.Ordering.{is_eq}
-use Rattle.std.specs.Cmp.{unsigned_Decides}
+use Rattle.std.proofs.Math.Bool.{and-true}
+use Rattle.std.specs.Prelude.{◌&&◌, ◌==◌, Contains, map, filter, Decides, IsTrue, ◌↔◌}
+use Rattle.std.specs.declared.cmp.Ordering.{Ordering}
+use Rattle.std.specs.Ordering.{eq_by_cmp, is_eq}
+use Rattle.std.specs.Cmp.{IsTotalOrder, unsigned_Decides}
+use Rattle.std.specs.List.{list_any}
 use Rattle.std.specs.Cmp.Lexicographic.{pointwise}
-use Rattle.std.specs.FinMap.{FinMap, entries, get, keys, same_entries_map, same_map}
+use Rattle.std.specs.FinMap.{FinMap, IsAntisymmetric, contains_key-keys, entries, get, keys, same_entries_map, same_map}
 use Rattle.std.specs.FinSet.{FinSet}
 use Rattle.std.specs.List.Sorted.{IsStrictlySortedBy}
 use Rattle.std.specs.Map.{keys_of}
 use Rattle.std.proofs.lemmas.Cmp.{eq_by_cmp_equiv}
 use Rattle.std.proofs.lemmas.Bool.{eqb-true}
-use Rattle.std.proofs.lemmas.Bool.Decides.{Decides-and, Decides-like, nat_tests}
+use Rattle.std.proofs.lemmas.Bool.Decides.{Decides-and, Decides-like, nat_tests, same_from_decides}
 use Rattle.std.proofs.lemmas.Map.Views.{tells_apart}
 use Rattle.std.proofs.lemmas.Slice.Eq.{slice_eq-Decides}
 use Rattle.smq_tally.specs.declared.fact.CountKey.{CountKey}
-use Rattle.smq_tally.specs.declared.value.Value.{Value}
 use Rattle.smq_tally.specs.declared.view.View.{View}
 use Rattle.smq_tally.specs.declared.list.Listed.{Listed}
-use Rattle.smq_tally.specs.contracts.value.ValueOrd.TheImpl.Laws as value_laws
 use Rattle.smq_tally.specs.contracts.list.ListedOrd.TheImpl.Laws as listed_laws
 use Rattle.smq_tally.specs.contracts.list.ListedPartialEq.TheImpl as listed_eq
 use Rattle.smq_tally.specs.Lists.{listed_cmp}
-use Rattle.smq_tally.specs.Rows.{count_cmp, same_count_key, value_cmp, view_rank, views}
+use Rattle.smq_tally.specs.Rows.{count_cmp, view_rank, views}
 use Rattle.smq_tally.specs.Tables.{TablesValue, ShownRow, in_view, shown_row, rows_of}
 use Rattle.smq_tally.specs.within.Equal.{tables_eq, same_entry, same_shown, both_eq}
-use Rattle.smq_tally.specs.within.Keys.{values}
+use Rattle.smq_tally.specs.within.Keys.{outcomes, values}
 use Rattle.smq_tally.specs.within.Kept.{places_in}
-use Rattle.smq_tally.specs.within.CountOrder.{kept_value_eq, count_keys_total, values_total}
-use Rattle.smq_tally.proofs.CountOrders.{count_keys_exact, value-order, same_value}
+use Rattle.smq_tally.specs.within.CountOrder.{count_keys_total}
+use Rattle.smq_tally.proofs.CountOrders.{count_keys_exact}
 use Rattle.smq_tally.specs.within.ListOrder.{kept_listed_cmp, listed_total, same_listed}
-use Rattle.smq_tally.proofs.ListOrders.{listed-order, listed_exact, places-seen}
-use Rattle.smq_tally.proofs.RowMoves.{one-outcome}
+use Rattle.smq_tally.proofs.ListOrders.{Entries, listed-order, listed_exact, places-seen}
+use Rattle.smq_tally.proofs.ListedFacts.{sets-one}
 use Rattle.smq_tally.proofs.Shown.{shown-iff}
-
--- a set's entries: a listed place with nothing
-abbrev Entries : Type 0
-Entries = List (Listed × Unit {0})
 
 listed-equal : (x y : Listed) → (listed_eq.ghosts).eq x y ≡ same_listed x y
 listed-equal x y = listed_laws.matches_eq-law x y ∙ (λ i. is_eq (listed-order i x y))
-
-value-equal : (a b : Value) → kept_value_eq a b ≡ is_eq (value_cmp a b)
-value-equal a b = value_laws.matches_eq-law a b ∙ (λ i. is_eq (value-order a b i))
-
--- `==` of values says whether they are one
-pub value-same : (a b : Value) → IsTrue (kept_value_eq a b) ↔ (a ≡ b)
-value-same a b = (
-  λ e. tells_apart same_value a b (sym (value-equal a b) ∙ e),
-  λ e. value-equal a b ∙ ap (λ (x : Value). is_eq (value_cmp a x)) (sym e) ∙ (eq_by_cmp_equiv values_total).refl a,
-)
 
 -- entries of a set, compared by their keys alone
 pointwise-keys : (same : Listed → Listed → Bool) (nothing : Unit {0} → Unit {0} → Bool) → ((u v : Unit {0}) → nothing u v ≡ true) → (es fs : Entries)
@@ -59,53 +46,30 @@ pointwise-keys same nothing always (e ∷ es) [] = refl
 pointwise-keys same nothing always (e ∷ es) (f ∷ fs) =
     (λ i. (same e.0 f.0 && always e.1 f.1 i) && pointwise-keys same nothing always es fs i)
     ∙ (λ i. and-true (same e.0 f.0) i && pointwise same (keys_of es) (keys_of fs))
-  where
-    and-true : (b : Bool) → (b && true) ≡ b
-    and-true true = refl
-    and-true false = refl
 
 -- entries of listed places that are compared one by one
-places-equal : (nothing : Unit {0} → Unit {0} → Bool) → ((u v : Unit {0}) → nothing u v ≡ true) → (ps rs : Entries)
+pub places-told : {nothing : Unit {0} → Unit {0} → Bool} (r : Bool) (ps rs : Entries)
+    → r ≡ pointwise (both_eq (listed_eq.ghosts).eq nothing) ps rs → ((u v : Unit {0}) → nothing u v ≡ true)
     → IsStrictlySortedBy kept_listed_cmp (keys_of ps) → IsStrictlySortedBy kept_listed_cmp (keys_of rs)
-    → pointwise (both_eq (listed_eq.ghosts).eq nothing) ps rs ≡ pointwise same_listed (keys (places_in ps)) (keys (places_in rs))
-places-equal nothing always ps rs s t =
-    pointwise-keys (listed_eq.ghosts).eq nothing always ps rs
+    → r ≡ pointwise same_listed (keys (places_in ps)) (keys (places_in rs))
+places-told {nothing = nothing} r ps rs told always s t =
+    told
+    ∙ pointwise-keys (listed_eq.ghosts).eq nothing always ps rs
     ∙ (λ i. pointwise (λ (p q : Listed). listed-equal p q i) (keys_of ps) (keys_of rs))
     ∙ (λ i. pointwise same_listed (keys_of (sym (places-seen ps s) i)) (keys_of (sym (places-seen rs t) i)))
 
--- the same of what an iteration gives
-pub places-told : {nothing : Unit {0} → Unit {0} → Bool} (r : Bool) (left right ps rs : Entries)
-    → r ≡ pointwise (both_eq (listed_eq.ghosts).eq nothing) left right → ((u v : Unit {0}) → nothing u v ≡ true) → left ≡ ps → right ≡ rs
-    → IsStrictlySortedBy kept_listed_cmp (keys_of left) → IsStrictlySortedBy kept_listed_cmp (keys_of right)
-    → r ≡ pointwise same_listed (keys (places_in ps)) (keys (places_in rs))
-places-told {nothing = nothing} r left right ps rs told always is is_other s t =
-    told ∙ places-equal nothing always left right s t
-    ∙ (λ i. pointwise same_listed (keys (places_in (is i))) (keys (places_in (is_other i))))
-
-both_true : (a b : Bool) → (a && b) ≡ true → (a ≡ true) × (b ≡ true)
-both_true true b e = (refl, e)
-both_true false b e = absurd (Rattle.std.proofs.lemmas.Bool.false≢true e)
-
--- the tests in turn: the second where the first passes
-pub then_second_test : (r s a b : Bool) → r ≡ a → r ≡ true → s ≡ b → s ≡ (a && b)
-then_second_test r s true b e t k = k
-then_second_test r s false b e t k = absurd cc
-
-pub then_no_test : (r a b : Bool) → r ≡ a → r ≡ false → r ≡ (a && b)
-then_no_test r true b e f = absurd cc
-then_no_test r false b e f = e
+-- keys that compare equal are one
+told_apart : {K : Type 0} {R : K → K → Ordering} → IsTotalOrder R → IsAntisymmetric R → (a b : K) → Decides (eq_by_cmp R a b) (a ≡ b)
+told_apart {R = R} o exact a b = (tells_apart exact a b, λ e. ap (eq_by_cmp R a) (sym e) ∙ (eq_by_cmp_equiv o).refl a)
 
 one_entry : (p q : CountKey × ℕ) → Decides (same_entry p q) (p ≡ q)
-one_entry p q = (
-  λ e. let h : (same_count_key p.0 q.0 ≡ true) × (nat_eq p.1 q.1 ≡ true) = both_true (same_count_key p.0 q.0) (nat_eq p.1 q.1) e in
-      λ i. (tells_apart count_keys_exact p.0 q.0 h.0 i, (unsigned_Decides p.1 q.1).0 h.1 i),
-  λ e. ap (same_entry p) (sym e) ∙ (λ i. (eq_by_cmp_equiv count_keys_total).refl p.0 i && (unsigned_Decides p.1 p.1).1 refl i),
-)
+one_entry p q = Decides-like (same_entry p q) (λ e. λ i. (e.0 i, e.1 i)) (λ e. (ap (λ x. x.0) e, ap (λ x. x.1) e))
+    (Decides-and _ _ (told_apart count_keys_total count_keys_exact p.0 q.0) (unsigned_Decides p.1 q.1))
 
 -- rows that compare equal one by one are the same
 one_shown : (p q : ShownRow) → Decides (same_shown p q) (p ≡ q)
 one_shown p q = Decides-like (same_shown p q) (λ e. λ i. (e.0.0 i, e.0.1 i, e.1 i)) (λ e. ((ap (λ r. r.0) e, ap (λ r. r.1) e), ap (λ r. r.2) e))
-    (Decides-and _ _ (Decides-and _ _ (values p.0 q.0) (one-outcome p.1 q.1)) (unsigned_Decides p.2 q.2))
+    (Decides-and _ _ (Decides-and _ _ (values p.0 q.0) (outcomes p.1 q.1)) (unsigned_Decides p.2 q.2))
 
 pub same-rows : (xs ys : List ShownRow) → IsTrue (pointwise same_shown xs ys) ↔ (xs ≡ ys)
 same-rows xs ys = slice_eq-Decides one_shown xs ys (pointwise same_shown xs ys) refl
@@ -148,38 +112,24 @@ same_counts t u alike = same_map count_keys_total count_keys_exact t.counts u.co
     over t u q n e has = (shown-iff u q.view q.value q.outcome n).0
         (subst (λ (rows : List ShownRow). Contains rows (q.value, q.outcome, n)) e ((shown-iff t q.view q.value q.outcome n).1 has))
 
-one_test : (r b : Bool) → (r ≡ true → b ≡ true) → (b ≡ true → r ≡ true) → r ≡ b
-one_test true b f g = sym (f refl)
-one_test false true f g = g refl
-one_test false false f g = refl
-
 -- whether tables show the same rows says whether they have the same counts
 pub counts-told : (r : Bool) (t u : TablesValue) → (IsTrue r ↔ ((view : View) → rows_of t view ≡ rows_of u view))
     → r ≡ pointwise same_entry (entries t.counts) (entries u.counts)
 counts-told r t u told =
-    let counts = slice_eq-Decides one_entry (entries t.counts) (entries u.counts) (pointwise same_entry (entries t.counts) (entries u.counts)) refl in
-    one_test r (pointwise same_entry (entries t.counts) (entries u.counts))
-    (λ e. counts.1 (ap (λ (m : FinMap count_cmp ℕ). entries m) (same_counts t u (told.0 e))))
-    (λ e. told.1 (λ view. ap (λ es. map shown_row (filter (in_view view) es)) (counts.0 e)))
-
-one_listed : (a b : Listed) → Decides (same_listed a b) (a ≡ b)
-one_listed a b = (tells_apart listed_exact a b, λ e. ap (same_listed a) (sym e) ∙ (eq_by_cmp_equiv listed_total).refl a)
-
-with_nothing : (es : Entries) → map (λ (e : Listed). (e, tt)) (keys_of es) ≡ es
-with_nothing [] = refl
-with_nothing (e ∷ es) = ap (λ (fs : Entries). e ∷ fs) (with_nothing es)
+    same_from_decides r (pointwise same_entry (entries t.counts) (entries u.counts)) told
+    (Decides-like (pointwise same_entry (entries t.counts) (entries u.counts))
+    (λ e view. ap (λ es. map shown_row (filter (in_view view) es)) e)
+    (λ alike. ap (λ (m : FinMap count_cmp ℕ). entries m) (same_counts t u alike))
+    (slice_eq-Decides one_entry (entries t.counts) (entries u.counts) _ refl))
 
 -- sets with the same listed places are one
 same_places : (s t : FinSet listed_cmp) → keys s ≡ keys t → s ≡ t
-same_places s t e =
-    same_entries_map s t (sym (with_nothing (entries s)) ∙ ap (λ (ks : List Listed). map (λ k. (k, tt)) ks) e ∙ with_nothing (entries t))
+same_places s t e = sets-one s t (λ q. contains_key-keys s q ∙ ap (list_any (same_listed q)) e ∙ sym (contains_key-keys t q))
 
 pub equal-same : (t u : TablesValue) → IsTrue (tables_eq t u) ↔ (t ≡ u)
 equal-same t u =
-    let counts = slice_eq-Decides one_entry (entries t.counts) (entries u.counts) (pointwise same_entry (entries t.counts) (entries u.counts)) refl in
-    let places = slice_eq-Decides one_listed (keys t.places) (keys u.places) (pointwise same_listed (keys t.places) (keys u.places)) refl in (
-      λ e.
-          let h = both_true (pointwise same_entry (entries t.counts) (entries u.counts)) (pointwise same_listed (keys t.places) (keys u.places)) e in
-          λ i. record { counts = same_entries_map t.counts u.counts (counts.0 h.0) i; places = same_places t.places u.places (places.0 h.1) i },
-      λ e. λ i. counts.1 (ap (λ (x : TablesValue). entries x.counts) e) i && places.1 (ap (λ (x : TablesValue). keys x.places) e) i,
-    )
+    Decides-like (tables_eq t u)
+    (λ h. λ i. record { counts = same_entries_map t.counts u.counts h.0 i; places = same_places t.places u.places h.1 i })
+    (λ e. (ap (λ (x : TablesValue). entries x.counts) e, ap (λ (x : TablesValue). keys x.places) e))
+    (Decides-and _ _ (slice_eq-Decides one_entry (entries t.counts) (entries u.counts) _ refl)
+    (slice_eq-Decides (told_apart listed_total listed_exact) (keys t.places) (keys u.places) _ refl))

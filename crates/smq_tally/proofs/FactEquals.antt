@@ -4,8 +4,6 @@ use Rattle.std.specs.Bool.{Decides}
 use Rattle.std.specs.Prelude.{◌&&◌}
 use Rattle.std.specs.Option.{option_eq}
 use Rattle.std.proofs.lemmas.Bool.Decides.{Decides-and, Decides-like}
-use Rattle.smq_kit.specs.declared.place.Place.{Place}
-use Rattle.smq_kit.specs.contracts.place.PlacePartialEq.TheImpl as place_eq
 use Rattle.smq_kit.specs.declared.names.LinkId.{LinkId}
 use Rattle.smq_kit.specs.contracts.names.LinkIdPartialEq.TheImpl as link_eq
 use Rattle.smq_kit.specs.declared.names.RouteId.{RouteId}
@@ -13,15 +11,9 @@ use Rattle.smq_kit.specs.contracts.names.RouteIdPartialEq.TheImpl as route_eq
 use Rattle.smq_kit.specs.contracts.number.NetworkPartialEq.TheImpl as network_eq
 use Rattle.smq_tally.specs.declared.band.Band.{Band}
 use Rattle.smq_tally.specs.declared.fact.Fact.{Fact}
-use Rattle.smq_tally.specs.declared.outcome.Outcome.{Outcome}
-use Rattle.smq_tally.specs.declared.value.SubmitError.{SubmitError}
 use Rattle.smq_tally.specs.contracts.band.BandPartialEq.TheImpl as band_eq
-use Rattle.smq_tally.specs.contracts.outcome.OutcomePartialEq.TheImpl as outcome_eq
-use Rattle.smq_tally.specs.contracts.value.SubmitErrorPartialEq.TheImpl as error_eq
 use Rattle.smq_tally.specs.within.Equal.{fact_eq}
-
-places : (a b : Place) → Decides (place_eq.ghosts.eq a b) (a ≡ b)
-places a b = search rules
+use Rattle.smq_tally.specs.within.Keys.{at_places, errors, outcomes}
 
 links : (a b : LinkId) → Decides (link_eq.ghosts.eq a b) (a ≡ b)
 links a b = search rules
@@ -38,14 +30,8 @@ routed a b =
     Decides-like (route_eq.ghosts.eq a.0 b.0 && network_eq.ghosts.eq a.1 b.1) (λ p i. (p.0 i, p.1 i)) (λ e. (ap (λ x. x.0) e, ap (λ x. x.1) e))
     (Decides-and _ _ (routes a.0 b.0) (networks a.1 b.1))
 
-outcomes : (a b : Outcome) → Decides (outcome_eq.ghosts.eq a b) (a ≡ b)
-outcomes a b = search rules
-
 bands : (a b : Band) → Decides (band_eq.ghosts.eq a b) (a ≡ b)
 bands a b = search rules
-
-errors : (a b : SubmitError) → Decides (error_eq.ghosts.eq a b) (a ≡ b)
-errors a b = search rules
 
 pub options : {X : Type 0} (eq : X → X → Bool) → ((x y : X) → Decides (eq x y) (x ≡ y)) → (a b : Option X) → Decides (option_eq eq a b) (a ≡ b)
 options eq decides None None = (λ h. refl, λ e. refl)
@@ -60,7 +46,7 @@ Parts a b = (a.place ≡ b.place) × ((a.link ≡ b.link)
     × ((a.error ≡ b.error) × ((a.link_delay ≡ b.link_delay) × (a.centre_delay ≡ b.centre_delay))))))
 
 parts_decide : (a b : Fact) → Decides (fact_eq a b) (Parts a b)
-parts_decide a b = Decides-and _ _ (places a.place b.place)
+parts_decide a b = Decides-and _ _ (at_places a.place b.place)
     (Decides-and _ _ (links a.link b.link) (Decides-and _ _ (options _ routed a.route b.route)
     (Decides-and _ _ (outcomes a.outcome b.outcome)
     (Decides-and _ _ (options _ errors a.error b.error) (Decides-and _ _ (options _ bands a.link_delay b.link_delay)

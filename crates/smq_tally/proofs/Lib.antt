@@ -1,3 +1,5 @@
+pub mod Parts
+pub mod Runs
 pub mod CountOrders
 pub mod ListOrders
 pub mod Listings

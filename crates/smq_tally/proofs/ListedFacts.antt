@@ -4,7 +4,9 @@ use Rattle.std.specs.Prelude.{count_by, is_some, map, option_to_list}
 use Rattle.std.specs.List.{AllByRecursion, flat_map, list_any}
 use Rattle.std.specs.Ordering.{eq_by_cmp}
 use Rattle.std.specs.FinMap.{FinMap, get, insert, remove, empty, entries, values, keys, contains_key, contains_key-keys, get-empty, get-insert, get-remove, same_map}
-use Rattle.std.proofs.lemmas.Bool.{false≢true}
+use Rattle.std.proofs.Math.Bool.{or-false, or_assoc, or_self_left}
+use Rattle.std.proofs.lemmas.Bool.{false≢true, false_from_ne_true}
+use Rattle.std.proofs.lemmas.List.Folds.{list_any-append}
 use Rattle.std.proofs.lemmas.Map.Views.{tells_apart}
 use Rattle.std.specs.FinSet.{FinSet}
 use Rattle.std.proofs.lemmas.List.Sums.{sum_by-cons}
@@ -25,18 +27,10 @@ use Rattle.smq_tally.specs.within.Counting.{with_listed, without}
 use Rattle.smq_tally.specs.within.Kept.{StandAtTheirPlaces}
 use Rattle.smq_tally.specs.within.ListOrder.{lists, listed_total, same_listed, takes_facts}
 use Rattle.smq_tally.proofs.ListOrders.{listed_exact}
-use Rattle.smq_tally.proofs.Listings.{marked, get-listed}
+use Rattle.smq_tally.proofs.Listings.{same_some}
 use Rattle.smq_tally.proofs.Undone.{take-out, put-again, remove-none}
 
 -- ---- sets by what they have
-
-mark : (x : Option (Unit {0})) → x ≡ marked (is_some x)
-mark None = refl
-mark (Some u) = refl
-
-pub is-marked : (b : Bool) → is_some (marked b) ≡ b
-is-marked true = refl
-is-marked false = refl
 
 some-or : (b : Bool) (x : Option (Unit {0})) → is_some (cond b (Some tt) x) ≡ (b || is_some x)
 some-or true x = refl
@@ -44,39 +38,33 @@ some-or false x = refl
 
 -- sets that have the same are one
 pub sets-one : (s t : FinSet listed_cmp) → ((q : Listed) → contains_key s q ≡ contains_key t q) → s ≡ t
-sets-one s t same = same_map listed_total listed_exact s t (λ q. mark (get s q) ∙ ap marked (same q) ∙ sym (mark (get t q)))
+sets-one s t same = same_map listed_total listed_exact s t (λ q. same_some (get s q) (get t q) (same q))
 
 pub have-insert : (s : FinSet listed_cmp) (e q : Listed) → contains_key (insert s e tt) q ≡ (same_listed q e || contains_key s q)
 have-insert s e q = ap is_some (get-insert listed_total s e tt q) ∙ some-or (same_listed q e) (get s q)
 
 pub have-listed : (es : List Listed) (q : Listed) → contains_key (listed_set es) q ≡ list_any (same_listed q) es
-have-listed es q = ap is_some (get-listed es q) ∙ is-marked (list_any (same_listed q) es)
+have-listed [] q = ap is_some (get-empty listed_cmp q)
+have-listed (e ∷ es) q = have-insert (listed_set es) e q ∙ ap (λ b. same_listed q e || b) (have-listed es q)
 
 -- ---- what tables list
-
-or-assoc : (a b c : Bool) → ((a || b) || c) ≡ (a || (b || c))
-or-assoc true b c = refl
-or-assoc false b c = refl
 
 or-swap : (a b c : Bool) → (a || (b || c)) ≡ (b || (a || c))
 or-swap true true c = refl
 or-swap true false c = refl
 or-swap false b c = refl
 
-pub any-append : (p : Listed → Bool) (xs ys : List Listed) → list_any p (xs ++ ys) ≡ (list_any p xs || list_any p ys)
-any-append p [] ys = refl
-any-append p (x ∷ xs) ys = ap (λ b. p x || b) (any-append p xs ys) ∙ sym (or-assoc (p x) (list_any p xs) (list_any p ys))
-
 any-flat : (q : Listed) (fs : List Fact) → list_any (same_listed q) (flat_map listings_of_fact fs) ≡ list_any (lists q) fs
 any-flat q [] = refl
-any-flat q (f ∷ fs) = any-append (same_listed q) (listings_of_fact f) (flat_map listings_of_fact fs) ∙ ap (λ b. lists q f || b) (any-flat q fs)
+any-flat q (f ∷ fs) =
+    list_any-append (same_listed q) (listings_of_fact f) (flat_map listings_of_fact fs) ∙ ap (λ b. lists q f || b) (any-flat q fs)
 
 -- listed are the notes, and what a fact lists
 pub places-have : (facts : FinMap place_cmp Fact) (notes : FinSet listed_cmp) (q : Listed)
     → contains_key (tables_of facts notes).places q ≡ (contains_key notes q || list_any (lists q) (values facts))
 places-have facts notes q =
     have-listed (keys notes ++ flat_map listings_of_fact (values facts)) q
-    ∙ any-append (same_listed q) (keys notes) (flat_map listings_of_fact (values facts))
+    ∙ list_any-append (same_listed q) (keys notes) (flat_map listings_of_fact (values facts))
     ∙ (λ i. sym (contains_key-keys notes q) i || any-flat q (values facts) i)
 
 pub with-have : (places : FinSet listed_cmp) (es : List Listed) (q : Listed)
@@ -86,7 +74,7 @@ with-have places (e ∷ es) q =
     with-have (insert places e tt) es q
     ∙ ap (λ b. list_any (same_listed q) es || b) (have-insert places e q)
     ∙ or-swap (list_any (same_listed q) es) (same_listed q e) (contains_key places q)
-    ∙ sym (or-assoc (same_listed q e) (list_any (same_listed q) es) (contains_key places q))
+    ∙ sym (or_assoc (same_listed q e) (list_any (same_listed q) es) (contains_key places q))
 
 -- ---- one fact more
 
@@ -140,20 +128,11 @@ pub note-listed : (facts : FinMap place_cmp Fact) (notes : FinSet listed_cmp) (n
 note-listed facts notes note = sets-one _ _ (λ q.
     have-insert (tables_of facts notes).places note q
     ∙ ap (λ b. same_listed q note || b) (places-have facts notes q)
-    ∙ sym (or-assoc (same_listed q note) (contains_key notes q) (list_any (lists q) (values facts)))
+    ∙ sym (or_assoc (same_listed q note) (contains_key notes q) (list_any (lists q) (values facts)))
     ∙ ap (λ b. b || list_any (lists q) (values facts)) (sym (have-insert notes note q))
     ∙ sym (places-have facts (insert notes note tt) q))
 
 -- ---- one fact less
-
-pub nothing : (x : Option (Unit {0})) → is_some x ≡ false → x ≡ None
-nothing None e = refl
-nothing (Some u) e = absurd cc
-
--- what is there, is there with nothing
-pub marked-there : (x : Option (Unit {0})) → is_some x ≡ true → x ≡ Some tt
-marked-there None e = absurd (false≢true e)
-marked-there (Some u) e = refl
 
 -- a message is listed once at most, by its place, in a list that takes messages
 abbrev pub Once : List Listed → Place → Type 0
@@ -162,18 +141,7 @@ Once ls place = (ls ≡ []) ⊎ ((e : Listed) × ((ls ≡ e ∷ []) × ((e.place
 pub listed-once : (outcome : Outcome) (place : Place) → Once (listings_by outcome place) place
 listed-once o.Open place = inr (listed l.Open place, (refl, (refl, refl)))
 listed-once o.Lapsed place = inr (listed l.Lapsed place, (refl, (refl, refl)))
-listed-once o.Waiting place = inl refl
-listed-once o.Mismatched place = inl refl
-listed-once o.Refused place = inl refl
-listed-once o.NoId place = inl refl
-listed-once o.Ambiguous place = inl refl
-listed-once o.Delivered place = inl refl
-listed-once o.Failed place = inl refl
-listed-once o.Unasked place = inl refl
-
-pub or-none : (b : Bool) → (b || false) ≡ b
-or-none true = refl
-or-none false = refl
+listed-once _ place = inl refl
 
 -- a message that is listed somewhere has that place
 own-place : (q : Listed) (f : Fact) → lists q f ≡ true → q.place ≡ f.place
@@ -182,23 +150,19 @@ own-place q f h = by-once (listings_of_fact f) (listed-once f.outcome f.place) h
     by-once : (ls : List Listed) → Once ls f.place → list_any (same_listed q) ls ≡ true → q.place ≡ f.place
     by-once ls (inl none) t = absurd (false≢true (ap (list_any (same_listed q)) (sym none) ∙ t))
     by-once ls (inr one) t =
-        let same : q ≡ one.0 = tells_apart listed_exact q one.0 (sym (or-none (same_listed q one.0)) ∙ ap (list_any (same_listed q)) (sym one.1.0)
-        ∙ t) in
+        let same : q ≡ one.0 = tells_apart listed_exact q one.0 (sym (or-false (same_listed q one.0))
+        ∙ ap (list_any (same_listed q)) (sym one.1.0) ∙ t) in
         ap (λ (e : Listed). e.place) same ∙ one.1.1.0
 
 -- no message is listed in a list that takes none
 pub none-taken : (q : Listed) (f : Fact) → takes_facts q.list ≡ false → lists q f ≡ false
 none-taken q f none = by-once (listings_of_fact f) (listed-once f.outcome f.place)
   where
-    told : (e : Listed) → takes_facts e.list ≡ true → (b : Bool) → same_listed q e ≡ b → b ≡ false
-    told e takes true h =
-        absurd (false≢true (sym none ∙ ap (λ (x : Listed). takes_facts x.list) (tells_apart listed_exact q e h) ∙ takes))
-    told e takes false h = refl
-
     by-once : (ls : List Listed) → Once ls f.place → list_any (same_listed q) ls ≡ false
     by-once ls (inl e) = ap (list_any (same_listed q)) e
     by-once ls (inr one) =
-        ap (list_any (same_listed q)) one.1.0 ∙ or-none (same_listed q one.0) ∙ told one.0 one.1.1.1 (same_listed q one.0) refl
+        ap (list_any (same_listed q)) one.1.0 ∙ or-false (same_listed q one.0) ∙ false_from_ne_true (same_listed q one.0) (λ h.
+        false≢true (sym none ∙ ap (λ (x : Listed). takes_facts x.list) (tells_apart listed_exact q one.0 h) ∙ one.1.1.1))
 
 -- the same of the fact at a place, if there is one
 pub none-taken-at : (q : Listed) (x : Option Fact) → takes_facts q.list ≡ false → list_any (lists q) (option_to_list x) ≡ false
@@ -210,15 +174,14 @@ none-lists : (facts : FinMap place_cmp Fact) (q : Listed) → StandAtTheirPlaces
     → list_any (lists q) (values facts) ≡ false
 none-lists facts q own none = among (entries facts) (maps.get-entry places_total places_exact facts)
   where
-    passes : (e : Place × Fact) → get facts e.0 ≡ Some e.1 → (b : Bool) → lists q e.1 ≡ b → b ≡ false
-    passes e has true h =
+    passes : (e : Place × Fact) → get facts e.0 ≡ Some e.1 → lists q e.1 ≡ false
+    passes e has = false_from_ne_true (lists q e.1) (λ h.
         let at : q.place ≡ e.0 = own-place q e.1 h ∙ own.own e.0 e.1 has in
-        let clash : Some e.1 ≡ None = sym has ∙ ap (get facts) (sym at) ∙ none in absurd cc
-    passes e has false h = refl
+        let clash : Some e.1 ≡ None = sym has ∙ ap (get facts) (sym at) ∙ none in cc)
 
     among : (es : List (Place × Fact)) → AllByRecursion (λ e. get facts e.0 ≡ Some e.1) es → list_any (lists q) (map (λ e. e.1) es) ≡ false
     among [] a = refl
-    among (e ∷ es) a = (λ i. (passes e a.0 (lists q e.1) refl) i || list_any (lists q) (map (λ x. x.1) es)) ∙ among es a.1
+    among (e ∷ es) a = (λ i. passes e a.0 i || list_any (lists q) (map (λ x. x.1) es)) ∙ among es a.1
 
 -- facts that stand at their places still do without one of them, and with one at its own
 pub stand-without : (facts : FinMap place_cmp Fact) (place : Place) → StandAtTheirPlaces facts → StandAtTheirPlaces (remove facts place)
@@ -242,10 +205,10 @@ stand-none = record { own = λ q f has. let clash : None ≡ Some f = sym (get-e
 
 -- a place that is listed already, or is listed anew and then taken out
 listed-more : (places : FinSet listed_cmp) (e : Listed) → contains_key places e ≡ true → insert places e tt ≡ places
-listed-more places e has = ordered.insert-same listed_total listed_exact refl places e tt (marked-there (get places e) has)
+listed-more places e has = ordered.insert-same listed_total listed_exact refl places e tt (same_some (get places e) (Some tt) has)
 
 listed-again : (places : FinSet listed_cmp) (e : Listed) → contains_key places e ≡ false → remove (insert places e tt) e ≡ places
-listed-again places e none = take-out listed_total listed_exact places e tt (nothing (get places e) none)
+listed-again places e none = take-out listed_total listed_exact places e tt (same_some (get places e) None none)
 
 -- the tables list what they do without a fact that is there, and what it lists
 listed-over : (facts : FinMap place_cmp Fact) (notes : FinSet listed_cmp) (place : Place) (f : Fact) → StandAtTheirPlaces facts
@@ -258,16 +221,12 @@ listed-over facts notes place f own has =
     ∙ ap (λ (p : Place). insert left p f) (sym at))
     ∙ sym (fact-listed left notes f (ap (get left) at ∙ maps.get-removed places_total places_exact facts place))
 
-or-again : (a b : Bool) → (a || (a || b)) ≡ (a || b)
-or-again true b = refl
-or-again false b = refl
-
 -- what is listed twice is listed once
 listed-twice : (places : FinSet listed_cmp) (es : List Listed) → with_listed (with_listed places es) es ≡ with_listed places es
 listed-twice places es = sets-one _ _ (λ q.
     with-have (with_listed places es) es q
     ∙ ap (λ b. list_any (same_listed q) es || b) (with-have places es q)
-    ∙ or-again (list_any (same_listed q) es) (contains_key places q)
+    ∙ or_self_left (list_any (same_listed q) es) (contains_key places q)
     ∙ sym (with-have places es q))
 
 -- what a fact that is there lists is listed
@@ -334,7 +293,7 @@ fact-unlisted facts notes place f own has =
         (without (with_listed rest es) es)) none
     by-once ls (inr e) =
         ap (λ (es : List Listed). cond (list_any (contains_key notes) es) (with_listed rest es) (without (with_listed rest es) es)) e.1.0
-        ∙ ap (λ b. cond b (insert rest e.0 tt) (remove (insert rest e.0 tt) e.0)) (or-none (contains_key notes e.0))
+        ∙ ap (λ b. cond b (insert rest e.0 tt) (remove (insert rest e.0 tt) e.0)) (or-false (contains_key notes e.0))
         ∙ one e.0 e.1.1.0 (contains_key notes e.0) refl
 
 -- ---- one note less
@@ -357,7 +316,7 @@ listed-by-own facts q own = by-fact (get facts q.place) refl
 
 -- a note more and less
 pub noted-again : (notes : FinSet listed_cmp) (note : Listed) → contains_key notes note ≡ true → insert (remove notes note) note tt ≡ notes
-noted-again notes note has = put-again listed_total listed_exact notes note tt (marked-there (get notes note) has)
+noted-again notes note has = put-again listed_total listed_exact notes note tt (same_some (get notes note) (Some tt) has)
 
 module _ (facts : FinMap place_cmp Fact) (notes : FinSet listed_cmp) (note : Listed) (own : StandAtTheirPlaces facts) where
   -- the tables without the note list its place for the fact there alone
@@ -376,7 +335,7 @@ module _ (facts : FinMap place_cmp Fact) (notes : FinSet listed_cmp) (note : Lis
   before-none : contains_key notes note ≡ false → (tables_of facts notes).places ≡ (tables_of facts (remove notes note)).places
   before-none none =
       ap (λ (s : FinSet listed_cmp). (tables_of facts s).places)
-      (sym (remove-none listed_total listed_exact notes note (nothing (get notes note) none)))
+      (sym (remove-none listed_total listed_exact notes note (same_some (get notes note) None none)))
 
   -- what the fact of the place lists too stays listed
   pub note-stays : list_any (lists note) (option_to_list (get facts note.place)) ≡ true
@@ -399,4 +358,4 @@ module _ (facts : FinMap place_cmp Fact) (notes : FinSet listed_cmp) (note : Lis
       by true noted = ap (λ (s : FinSet listed_cmp). remove s note) (before-note noted) ∙ listed-again left note (left-listed ∙ unlisted)
       by false none =
           ap (λ (s : FinSet listed_cmp). remove s note) (before-none none)
-          ∙ remove-none listed_total listed_exact left note (nothing (get left note) (left-listed ∙ unlisted))
+          ∙ remove-none listed_total listed_exact left note (same_some (get left note) None (left-listed ∙ unlisted))

@@ -1,11 +1,13 @@
 -- Notes among the listed places of tables.
-use Rattle.std.proofs.Common.{◌≡◌, Bool, ◌&&◌, ◌||◌, not, true, false, cond, None, inl, inr, List, [], ◌∷◌, refl, sym, ap, ◌∙◌}
+use Rattle.std.proofs.Common.{◌≡◌, Bool, ◌&&◌, ◌||◌, not, true, false, cond, None, inl, inr, List, refl, sym, ap, ◌∙◌}
 use Rattle.std.specs.Prelude.{filter, is_some}
 use Rattle.std.specs.List.{list_any}
 use Rattle.std.specs.FinMap.{get, insert, remove, empty, keys, contains_key, contains_key-keys, get-empty, get-remove}
 use Rattle.std.specs.FinSet.{FinSet}
+use Rattle.std.proofs.Math.Bool.{and-false, or-false, or-true}
 use Rattle.std.proofs.lemmas.Bool.{false≢true}
-use Rattle.std.proofs.lemmas.Map.Views.{tells_apart}
+use Rattle.std.proofs.lemmas.List.Folds.{list_any-append}
+use Rattle.std.proofs.lemmas.Map.Views.{any-filter_same, tells_apart}
 use Rattle.smq_tally.specs.declared.fact.Fact.{Fact}
 use Rattle.smq_tally.specs.declared.list.Listed.{Listed}
 use Rattle.smq_tally.specs.Lists.{listed_cmp, listings_of_fact}
@@ -13,7 +15,7 @@ use Rattle.smq_tally.specs.within.Counting.{with_listed, without}
 use Rattle.smq_tally.specs.within.ListOrder.{listed_total, same_listed, takes_facts}
 use Rattle.smq_tally.specs.within.Noted.{is_untaken, notes_among, AreApart}
 use Rattle.smq_tally.proofs.ListOrders.{listed_exact}
-use Rattle.smq_tally.proofs.ListedFacts.{sets-one, have-insert, have-listed, any-append, with-have, left-have, or-none, none-taken, Once, listed-once}
+use Rattle.smq_tally.proofs.ListedFacts.{sets-one, have-insert, have-listed, with-have, left-have, none-taken, Once, listed-once}
 
 abbrev Places : Type 0
 Places = FinSet listed_cmp
@@ -24,42 +26,14 @@ same-taken q e h = ap (λ (x : Listed). takes_facts x.list) (tells_apart listed_
 
 -- ---- what notes have
 
-and-false : (b : Bool) → false ≡ (b && false)
-and-false true = refl
-and-false false = refl
-
-or-true : (b : Bool) → (b || true) ≡ true
-or-true true = refl
-or-true false = refl
-
-one-kept : (own mine same rest : Bool) → (same ≡ true → own ≡ mine)
-    → (cond mine (same || (own && rest)) (own && rest)) ≡ (own && (same || rest))
-one-kept own mine true rest e = by mine own (e refl)
-  where
-    by : (m o : Bool) → o ≡ m → (cond m (true || (o && rest)) (o && rest)) ≡ (o && true)
-    by true true h = refl
-    by true false h = absurd (false≢true h)
-    by false true h = absurd (false≢true (sym h))
-    by false false h = refl
-one-kept own true false rest e = refl
-one-kept own false false rest e = refl
-
 any-filter : (q : Listed) (es : List Listed) → list_any (same_listed q) (filter is_untaken es) ≡ (is_untaken q && list_any (same_listed q) es)
-any-filter q [] = and-false (is_untaken q)
-any-filter q (e ∷ es) =
-    elim (is_untaken e) as (λ b. list_any (same_listed q) (cond b (e ∷ filter is_untaken es) (filter is_untaken es))
-    ≡ cond b (same_listed q e || list_any (same_listed q) (filter is_untaken es)) (list_any (same_listed q) (filter is_untaken es))) [
-      | true ↦ refl
-      | false ↦ refl
-    ]
-    ∙ ap (λ r. cond (is_untaken e) (same_listed q e || r) r) (any-filter q es)
-    ∙ one-kept (is_untaken q) (is_untaken e) (same_listed q e) (list_any (same_listed q) es) (λ h. ap not (same-taken q e h))
+any-filter q es = any-filter_same (same_listed q) is_untaken (is_untaken q) (λ e h. ap not (sym (same-taken q e h))) es
 
 pub notes-have : (apart places : Places) (q : Listed)
     → contains_key (notes_among apart places) q ≡ (contains_key apart q || (not (takes_facts q.list) && contains_key places q))
 notes-have apart places q =
     have-listed _ q
-    ∙ any-append (same_listed q) (keys apart) (filter is_untaken (keys places))
+    ∙ list_any-append (same_listed q) (keys apart) (filter is_untaken (keys places))
     ∙ (λ i. sym (contains_key-keys apart q) i || any-filter q (keys places) i)
     ∙ ap (λ b. contains_key apart q || (is_untaken q && b)) (sym (contains_key-keys places q))
 
@@ -128,7 +102,7 @@ among-less apart places note own none = sets-one _ _ (λ q.
         → (a || (not (takes_facts q.list) && cond b false (contains_key places q)))
         ≡ cond b false (a || (not (takes_facts q.list) && contains_key places q))
     there q true h true has = absurd (false≢true (sym none ∙ sym (same-taken q note h) ∙ own.taken q has))
-    there q true h false has = sym (and-false (not (takes_facts q.list)))
+    there q true h false has = and-false (not (takes_facts q.list))
     there q false h a has = refl
 
 -- ---- a fact more or less
@@ -168,7 +142,7 @@ notes-without apart places f stays = notes-stay apart places _ (without-other pl
 pub apart-noted : (apart places : Places) (q : Listed) → takes_facts q.list ≡ true
     → contains_key apart q ≡ contains_key (notes_among apart places) q
 apart-noted apart places q takes =
-    sym (or-none (contains_key apart q))
+    sym (or-false (contains_key apart q))
     ∙ ap (λ t. contains_key apart q || (not t && contains_key places q)) (sym takes)
     ∙ sym (notes-have apart places q)
 
@@ -217,5 +191,5 @@ pub none-noted : notes_among empty empty ≡ empty
 none-noted = sets-one _ _ (λ q.
     notes-have empty empty q
     ∙ (λ i. is_some (get-empty {X = Unit {0}} listed_cmp q i) || (not (takes_facts q.list) && is_some (get-empty {X = Unit {0}} listed_cmp q i)))
-    ∙ sym (and-false (not (takes_facts q.list)))
+    ∙ and-false (not (takes_facts q.list))
     ∙ sym (ap is_some (get-empty {X = Unit {0}} listed_cmp q)))

@@ -1,5 +1,6 @@
 -- Counts that move from the keys of one fact to those of another, view by view.
-use Rattle.std.proofs.Common.{◌≡◌, ℕ, ◌+◌, ◌-◌, ◌<◌, ◌≤◌, ◌^◌, true, false, cond, List, [], ◌∷◌, Option, Some, None, zero, suc, refl, ap, ◌∙◌, arith, rules}
+use Rattle.std.proofs.Common.{◌≡◌, ℕ, ◌+◌, ◌-◌, ◌<◌, ◌≤◌, ◌^◌, List, [], ◌∷◌, Option, Some, None, suc, refl, ap, ◌∙◌, arith, rules}
+use Rattle.std.proofs.lemmas.List.{drop_all}
 use Rattle.std.specs.Prelude.{drop, option_map, option_to_list, slice_get, unwrap_or}
 use Rattle.smq_tally.specs.declared.counts.Step.TheVariants as s
 use Rattle.smq_tally.specs.declared.fact.CountKey.{CountKey}
@@ -9,8 +10,9 @@ use Rattle.smq_tally.specs.declared.view.View.{View}
 use Rattle.smq_tally.specs.declared.view.View.TheVariants as v
 use Rattle.smq_tally.specs.Rows.{views, view_rank, value_in, count_key, key_in, same_count_key, stands_in}
 use Rattle.smq_tally.specs.within.Counting.{Counts, count_in, steps, keys_left, key_in_if, times, AreCounted, HaveRoom, IsMoved}
-use Rattle.smq_tally.proofs.Tallies.{Has, has-one, has-same, has-more, has-less, once, keys_in, count-append}
-use Rattle.smq_tally.proofs.ViewRanges.{view_next}
+use Rattle.smq_tally.proofs.Tallies.{Has, has-one, has-same, has-more, has-less, once, one_most, keys_in, count-append}
+use Rattle.smq_tally.proofs.Runs.{next_rank, past-length}
+use Rattle.smq_tally.proofs.ViewRanges.{view_parts}
 
 -- ---- counts that moved are those after steps
 
@@ -26,30 +28,15 @@ moved-steps m u from to h k few moved =
 once_at_most : (f : Option Fact) (q : CountKey) → times q (keys_left v.Link f) ≤ 1
 once_at_most None q = omega arith
 once_at_most (Some f) q =
-    let one = once f q in
-    elim (stands_in q f) as (λ b. times q (keys_left v.Link (Some f)) ≡ cond b 1 0 → times q (keys_left v.Link (Some f)) ≤ 1) [
-      | true ↦ λ e. omega (arith, e)
-      | false ↦ λ e. omega (arith, e)
-    ] one
+    let one = once f q in let most = one_most (stands_in q f) in omega (arith, one, most)
 
 pub room-for : (m : Counts) (f : Option Fact) → ((key : CountKey) → count_in m key + 1 < 2 ^ 64) → HaveRoom (keys_left v.Link f) m
 room-for m f room q some = let one = once_at_most f q in let few = room q in omega (arith, one, few)
 
 -- ---- views in turn
 
-here : (view : View) → Some view ≡ slice_get views (view_rank view)
-here view = search rules
-
-drop-at : (vs : List View) (m : ℕ) (view : View) → Some view ≡ slice_get vs m → drop m vs ≡ view ∷ drop (suc m) vs
-drop-at [] m view e = absurd cc
-drop-at (v ∷ vs) zero view e = let same : v ≡ view = cc in ap (λ (w : View). w ∷ vs) same
-drop-at (v ∷ vs) (suc m) view e = drop-at vs m view e
-
-drop-past : (vs : List View) (m : ℕ) → None ≡ slice_get vs m → drop m vs ≡ []
-drop-past [] zero e = refl
-drop-past [] (suc m) e = refl
-drop-past (v ∷ vs) zero e = absurd cc
-drop-past (v ∷ vs) (suc m) e = drop-past vs m e
+dropped : (view : View) → drop (view_rank view) views ≡ view ∷ drop (suc (view_rank view)) views
+dropped view = search rules
 
 -- where a fact is counted in the views after one
 abbrev pub keys_after : View → Option Fact → List CountKey
@@ -59,20 +46,20 @@ keys_after view (Some f) = keys_in f (drop (suc (view_rank view)) views)
 pub times-split : (view : View) (f : Option Fact) (q : CountKey) → times q (keys_left view f) ≡ times q (option_to_list (key_in_if view f)) + times q (keys_after view f)
 times-split view None q = refl
 times-split view (Some f) q =
-    ap (λ (vs : List View). times q (keys_in f vs)) (drop-at views (view_rank view) view (here view))
+    ap (λ (vs : List View). times q (keys_in f vs)) (dropped view)
     ∙ count-append (same_count_key q) (option_to_list (key_in view f)) (keys_after view (Some f))
 
 pub after-next : (view next : View) (f : Option Fact) → Some next ≡ slice_get views (view_rank view + 1) → keys_after view f ≡ keys_left next f
 after-next view next None e = refl
 after-next view next (Some f) e =
-    let after : suc (view_rank view) ≡ view_rank next = let n = view_next view next e in omega (arith, n) in
+    let after : suc (view_rank view) ≡ view_rank next = let n = next_rank view_parts view next e in omega (arith, n) in
     ap (λ (m : ℕ). keys_in f (drop m views)) after
 
 pub after-last : (view : View) (f : Option Fact) → None ≡ slice_get views (view_rank view + 1) → keys_after view f ≡ []
 after-last view None e = refl
 after-last view (Some f) e =
-    let after : view_rank view + 1 ≡ suc (view_rank view) = omega arith in
-    ap (λ (vs : List View). keys_in f vs) (drop-past views (suc (view_rank view)) (e ∙ ap (slice_get views) after))
+    let few = past-length views (view_rank view + 1) e in
+    ap (λ (vs : List View). keys_in f vs) (drop_all (suc (view_rank view)) views (omega (arith, few)))
 
 -- what is counted in a view is among what is counted in it and those after it, and so is what is to be
 module _ (view : View) (m : Counts) (f : Option Fact) where

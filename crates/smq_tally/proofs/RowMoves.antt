@@ -7,6 +7,7 @@ use Rattle.std.specs.List.Sorted.{IsStrictlySortedBy}
 use Rattle.std.specs.Map.{keys_of, lookup}
 use Rattle.std.specs.FinMap.{get}
 use Rattle.std.proofs.Math.Nat.{min-eq_left}
+use Rattle.std.proofs.lemmas.Bool.{not-false}
 use Rattle.smq_kit.specs.Maps.{set_at}
 use Rattle.smq_kit.proofs.MapLemmas as maps
 use Rattle.smq_shelf.specs.Values.{with_value}
@@ -17,7 +18,6 @@ use Rattle.smq_tally.specs.declared.fact.RowKey.{RowKey}
 use Rattle.smq_tally.specs.declared.outcome.Outcome.{Outcome}
 use Rattle.smq_tally.specs.declared.outcome_counts.OutcomeCounts.{OutcomeCounts}
 use Rattle.smq_tally.specs.declared.value.Value.{Value}
-use Rattle.smq_tally.specs.contracts.outcome.OutcomePartialEq.TheImpl as outcome_eq
 use Rattle.smq_tally.specs.contracts.value.ValuePartialEq.TheImpl as value_eq
 use Rattle.smq_tally.specs.contracts.outcome_counts.OutcomeCountsPartialEq.TheImpl as counts_eq
 use Rattle.smq_tally.specs.Rows.{same_count_key}
@@ -152,15 +152,8 @@ pub beside : (from to : CountKey) (row : RowKey) → row ≡ row_of from → fro
     → keys_at row (Some to.outcome) ≡ to ∷ []
 beside from to row same view value = in-row to row (same ∙ (λ i. record { view = view i; value = value i }))
 
-pub one-outcome : (a b : Outcome) → Decides ((outcome_eq.ghosts).eq a b) (a ≡ b)
-one-outcome a b = search rules
-
 pub same_value : (a b : Value) (r : Bool) → r ≡ not ((value_eq.ghosts).eq a b) → r ≡ false → a ≡ b
-same_value a b r told e = (values a b).0 (was ((value_eq.ghosts).eq a b) (sym told ∙ e))
-  where
-    was : (x : Bool) → not x ≡ false → x ≡ true
-    was true h = refl
-    was false h = absurd cc
+same_value a b r told e = (values a b).0 (not-false _ (sym told ∙ e))
 
 pub moved-nowhere : (m : Counts) (from to : CountKey) → from.view ≡ to.view → from.value ≡ to.value → from.outcome ≡ to.outcome
     → IsMoved (from ∷ []) (to ∷ []) m m

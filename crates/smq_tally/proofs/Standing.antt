@@ -1,13 +1,13 @@
 -- At which keys a message stands, and in which lists.
-use Rattle.std.proofs.Common.{◌≡◌, ◌≢◌, Bool, ◌||◌, true, false, ◌⊎◌, inl, inr, List, [], ◌∷◌, ◌++◌, Option, Some, None, subst, refl, sym, ap, ◌∙◌, arith, rules}
+use Rattle.std.proofs.Common.{◌≡◌, ◌≢◌, suc, Bool, ◌||◌, true, false, ◌⊎◌, inl, inr, List, [], ◌∷◌, ◌++◌, Option, Some, None, subst, refl, sym, ap, ◌∙◌, rules}
 use Rattle.std.specs.Prelude.{◌↔◌, take, drop, Contains, IsTrue, option_map, option_to_list}
 use Rattle.std.specs.List.{list_any}
 use Rattle.std.specs.Cmp.{eq_by_cmp_equiv}
 use Rattle.std.specs.FinMap.{FinMap, contains_key, values}
 use Rattle.std.specs.FinSet.{FinSet}
+use Rattle.std.proofs.Math.Bool.{or-false, or-true}
 use Rattle.std.proofs.lemmas.Bool.{false≢true}
-use Rattle.std.proofs.lemmas.List.Elements.{Contains-append_right}
-use Rattle.std.proofs.lemmas.List.Folds.{list_any_at}
+use Rattle.std.proofs.lemmas.List.Folds.{Any-from_list_any, list_any-append, list_any_at}
 use Rattle.std.proofs.lemmas.Map.Views.{tells_apart}
 use Rattle.smq_kit.specs.declared.place.Place.{Place}
 use Rattle.smq_kit.specs.Orders.{place_cmp}
@@ -21,7 +21,7 @@ use Rattle.smq_tally.specs.declared.value.Value.{Value}
 use Rattle.smq_tally.specs.declared.view.View.{View}
 use Rattle.smq_tally.specs.declared.view.View.TheVariants as v
 use Rattle.smq_tally.specs.Lists.{listed, listed_cmp, listings_by, HasOutcomeAt}
-use Rattle.smq_tally.specs.Rows.{views, value_in, count_key, same_count_key, key_in, stands_in}
+use Rattle.smq_tally.specs.Rows.{views, view_rank, value_in, count_key, same_count_key, key_in, stands_in}
 use Rattle.smq_tally.specs.Tables.{tables_of, listed_in}
 use Rattle.smq_tally.specs.within.CountOrder.{count_keys_total}
 use Rattle.smq_tally.specs.within.ListOrder.{lists, listed_total, same_listed}
@@ -29,7 +29,7 @@ use Rattle.smq_tally.proofs.CountOrders.{count_keys_exact}
 use Rattle.smq_tally.proofs.ListOrders.{listed_exact}
 use Rattle.smq_tally.proofs.Listings.{listed-iff}
 use Rattle.smq_tally.proofs.ListedFacts.{places-have}
-use Rattle.smq_tally.proofs.Tallies.{Others, keys_in, others-none, any-one, any-append, or-false}
+use Rattle.smq_tally.proofs.Tallies.{Others, keys_in, others-none}
 
 -- ---- keys
 
@@ -37,28 +37,23 @@ use Rattle.smq_tally.proofs.Tallies.{Others, keys_in, others-none, any-one, any-
 at-own : (q : CountKey) (f : Fact) (before : List View) (view : View) (after : List View) → Others q before → Others q after
     → list_any (same_count_key q) (keys_in f (before ++ view ∷ after)) ≡ list_any (same_count_key q) (option_to_list (key_in view f))
 at-own q f [] view after h k =
-    any-append (same_count_key q) (option_to_list (key_in view f)) (keys_in f after)
+    list_any-append (same_count_key q) (option_to_list (key_in view f)) (keys_in f after)
     ∙ ap (λ b. list_any (same_count_key q) (option_to_list (key_in view f)) || b) ((others-none q f after k).1)
     ∙ or-false (list_any (same_count_key q) (option_to_list (key_in view f)))
 at-own q f (w ∷ ws) view after h k =
-    any-append (same_count_key q) (option_to_list (key_in w f)) (keys_in f (ws ++ view ∷ after))
+    list_any-append (same_count_key q) (option_to_list (key_in w f)) (keys_in f (ws ++ view ∷ after))
     ∙ (λ i. none i || at-own q f ws view after h.1 k i)
   where
     none : list_any (same_count_key q) (option_to_list (key_in w f)) ≡ false
-    none = sym (any-append (same_count_key q) (option_to_list (key_in w f)) []
+    none = sym (list_any-append (same_count_key q) (option_to_list (key_in w f)) []
         ∙ or-false (list_any (same_count_key q) (option_to_list (key_in w f)))) ∙ (others-none q f (w ∷ []) (h.0, tt)).1
 
 stands-own : (f : Fact) (view : View) (value : Value) (outcome : Outcome) → stands_in (count_key view value outcome) f
     ≡ list_any (same_count_key (count_key view value outcome)) (option_to_list (key_in view f))
 stands-own f v.Link value outcome = at-own (count_key v.Link value outcome) f [] v.Link (drop 1 views) (search rules) (search rules)
-stands-own f v.Route value outcome = at-own (count_key v.Route value outcome) f (take 1 views) v.Route (drop 2 views) (search rules) (search rules)
-stands-own f v.Network value outcome = at-own (count_key v.Network value outcome) f (take 2 views) v.Network (drop 3 views)
+stands-own f view value outcome =
+    at-own (count_key view value outcome) f (take (view_rank view) views) view (drop (suc (view_rank view)) views)
     (search rules) (search rules)
-stands-own f v.Error value outcome = at-own (count_key v.Error value outcome) f (take 3 views) v.Error (drop 4 views) (search rules) (search rules)
-stands-own f v.LinkDelay value outcome = at-own (count_key v.LinkDelay value outcome) f (take 4 views) v.LinkDelay (drop 5 views)
-    (search rules) (search rules)
-stands-own f v.CentreDelay value outcome = at-own (count_key v.CentreDelay value outcome) f (take 5 views) v.CentreDelay
-    (drop 6 views) (search rules) (search rules)
 
 -- a test of one key, where there is one
 by-value : (view : View) (own : Option Value) (at : Outcome) (value : Value) (outcome : Outcome)
@@ -68,12 +63,12 @@ by-value view None at value outcome = (λ h. absurd (false≢true h), λ e. absu
 by-value view (Some x) at value outcome = (
   λ h.
       let same : count_key view value outcome ≡ count_key view x at =
-      tells_apart count_keys_exact _ _ (sym (any-one (same_count_key (count_key view value outcome)) (count_key view x at))
+      tells_apart count_keys_exact _ _ (sym (or-false (same_count_key (count_key view value outcome) (count_key view x at)))
       ∙ h) in
       (λ i. Some ((sym same i).value), λ i. (sym same i).outcome),
   λ e.
       let own : x ≡ value = let s : Some x ≡ Some value = e.0 in cc in
-      any-one (same_count_key (count_key view value outcome)) (count_key view x at)
+      or-false (same_count_key (count_key view value outcome) (count_key view x at))
       ∙ (λ i. same_count_key (count_key view value outcome) (count_key view (own i) (e.1 i)))
       ∙ (eq_by_cmp_equiv count_keys_total).refl (count_key view value outcome),
 )
@@ -89,18 +84,7 @@ stands-once f view value outcome =
 
 -- what passes a test is in the list
 some-passes : (p : Fact → Bool) (fs : List Fact) → list_any p fs ≡ true → (f : Fact) × (Contains fs f × (p f ≡ true))
-some-passes p [] h = absurd (false≢true h)
-some-passes p (f ∷ fs) h =
-    elim (p f) as (λ b. p f ≡ b → (b || list_any p fs) ≡ true → (g : Fact) × (Contains (f ∷ fs) g × (p g ≡ true))) [
-      | true ↦ λ e _. (f, ((0, omega arith, refl), e))
-      | false ↦ λ _ later.
-          let rest = some-passes p fs later in
-          (rest.0, (Contains-append_right (f ∷ []) fs rest.0 rest.1.0, rest.1.1))
-    ] refl h
-
-or-true : (a : Bool) → (a || true) ≡ true
-or-true true = refl
-or-true false = refl
+some-passes p fs h = let one = Any-from_list_any p fs h in (one.1, ((one.0, one.2, one.3), one.4))
 
 -- the outcome for which a message stands in a list
 abbrev Fits : l.List → Outcome → Type 0
@@ -117,22 +101,15 @@ by-outcome : (list : l.List) (place : Place) (outcome : Outcome) (at : Place)
     → list_any (same_listed (listed list place)) (listings_by outcome at) ≡ true → Fits list outcome × (at ≡ place)
 by-outcome list place o.Open at h = let e = one-place list place lists_of.Open at h in (inl (e.0, refl), e.1)
 by-outcome list place o.Lapsed at h = let e = one-place list place lists_of.Lapsed at h in (inr (e.0, refl), e.1)
-by-outcome list place o.Waiting at h = absurd (false≢true h)
-by-outcome list place o.Mismatched at h = absurd (false≢true h)
-by-outcome list place o.Refused at h = absurd (false≢true h)
-by-outcome list place o.NoId at h = absurd (false≢true h)
-by-outcome list place o.Ambiguous at h = absurd (false≢true h)
-by-outcome list place o.Delivered at h = absurd (false≢true h)
-by-outcome list place o.Failed at h = absurd (false≢true h)
-by-outcome list place o.Unasked at h = absurd (false≢true h)
+by-outcome list place _ at h = absurd (false≢true h)
 
-is-open : (list : l.List) (outcome : Outcome) → list ≡ lists_of.Open → Fits list outcome → outcome ≡ o.Open
-is-open list outcome e (inl h) = h.1
-is-open list outcome e (inr h) = absurd (let clash : lists_of.Open ≡ lists_of.Lapsed = sym e ∙ h.0 in cc)
+is-open : (outcome : Outcome) → Fits lists_of.Open outcome → outcome ≡ o.Open
+is-open outcome (inl h) = h.1
+is-open outcome (inr h) = absurd (let clash : lists_of.Open ≡ lists_of.Lapsed = h.0 in cc)
 
-is-lapsed : (list : l.List) (outcome : Outcome) → list ≡ lists_of.Lapsed → Fits list outcome → outcome ≡ o.Lapsed
-is-lapsed list outcome e (inl h) = absurd (let clash : lists_of.Lapsed ≡ lists_of.Open = sym e ∙ h.0 in cc)
-is-lapsed list outcome e (inr h) = h.1
+is-lapsed : (outcome : Outcome) → Fits lists_of.Lapsed outcome → outcome ≡ o.Lapsed
+is-lapsed outcome (inl h) = absurd (let clash : lists_of.Lapsed ≡ lists_of.Open = h.0 in cc)
+is-lapsed outcome (inr h) = h.1
 
 is-neither : {A : Type 0} (list : l.List) (outcome : Outcome) → list ≢ lists_of.Open → list ≢ lists_of.Lapsed → Fits list outcome → A
 is-neither list outcome other never (inl h) = absurd (other h.0)
@@ -160,17 +137,14 @@ noted-in facts notes list place h =
     (listed-iff (tables_of facts notes) list place).1 (places-have facts notes (listed list place)
     ∙ ap (λ b. b || list_any (lists (listed list place)) (values facts)) h)
 
--- a test passes somewhere where it passes at an element
-passes-at : (p : Fact → Bool) (fs : List Fact) (f : Fact) → Contains fs f → p f ≡ true → list_any p fs ≡ true
-passes-at p fs f h e = list_any_at p fs h.0 f h.1 (ap p h.2 ∙ e)
-
 -- a message's place is in the list of its outcome
 message-in : (facts : FinMap place_cmp Fact) (notes : FinSet listed_cmp) (list : l.List) (f : Fact) → Contains (values facts) f
     → lists (listed list f.place) f ≡ true → Contains (listed_in (tables_of facts notes) list) f.place
 message-in facts notes list f h e =
     (listed-iff (tables_of facts notes) list f.place).1
     (places-have facts notes (listed list f.place)
-    ∙ ap (λ b. contains_key notes (listed list f.place) || b) (passes-at (lists (listed list f.place)) (values facts) f h e)
+    ∙ ap (λ b. contains_key notes (listed list f.place) || b)
+    (list_any_at (lists (listed list f.place)) (values facts) h.0 f h.1 (ap (lists (listed list f.place)) h.2 ∙ e))
     ∙ or-true (contains_key notes (listed list f.place)))
 
 -- one of an outcome stands at its place
@@ -189,37 +163,33 @@ found-in facts notes list outcome place h has =
 itself : (list : l.List) (place : Place) → list_any (same_listed (listed list place)) (listed list place ∷ []) ≡ true
 itself list place = or-false (same_listed (listed list place) (listed list place)) ∙ (eq_by_cmp_equiv listed_total).refl (listed list place)
 
+-- a place is in the list of an outcome where it is noted there or a message's
+by-either : (facts : FinMap place_cmp Fact) (notes : FinSet listed_cmp) (place : Place) (list : l.List) (outcome : Outcome)
+    → ((at : Place) → list_any (same_listed (listed list at)) (listings_by outcome at) ≡ true) → ((x : Outcome) → Fits list x → x ≡ outcome)
+    → Contains (listed_in (tables_of facts notes) list) place
+    ↔ (IsTrue (contains_key notes (listed list place)) ⊎ HasOutcomeAt facts outcome place)
+by-either facts notes place list outcome own fits = (λ h. to (in-list facts notes list place h), from)
+  where
+    to : IsTrue (contains_key notes (listed list place))
+        ⊎ ((f : Fact) × (Contains (values facts) f × (Fits list f.outcome × (f.place ≡ place))))
+        → IsTrue (contains_key notes (listed list place)) ⊎ HasOutcomeAt facts outcome place
+    to (inl h) = inl h
+    to (inr h) = inr (h.0, h.1.0, h.1.1.1, fits h.0.outcome h.1.1.0)
+
+    from : IsTrue (contains_key notes (listed list place)) ⊎ HasOutcomeAt facts outcome place
+        → Contains (listed_in (tables_of facts notes) list) place
+    from (inl h) = noted-in facts notes list place h
+    from (inr h) = found-in facts notes list outcome place own h
+
 pub open-listed : (facts : FinMap place_cmp Fact) (notes : FinSet listed_cmp) (place : Place)
     → Contains (listed_in (tables_of facts notes) lists_of.Open) place
     ↔ (IsTrue (contains_key notes (listed lists_of.Open place)) ⊎ HasOutcomeAt facts o.Open place)
-open-listed facts notes place = (λ h. to (in-list facts notes lists_of.Open place h), from)
-  where
-    to : IsTrue (contains_key notes (listed lists_of.Open place))
-        ⊎ ((f : Fact) × (Contains (values facts) f × (Fits lists_of.Open f.outcome × (f.place ≡ place))))
-        → IsTrue (contains_key notes (listed lists_of.Open place)) ⊎ HasOutcomeAt facts o.Open place
-    to (inl h) = inl h
-    to (inr h) = inr (h.0, h.1.0, h.1.1.1, is-open lists_of.Open h.0.outcome refl h.1.1.0)
-
-    from : IsTrue (contains_key notes (listed lists_of.Open place)) ⊎ HasOutcomeAt facts o.Open place
-        → Contains (listed_in (tables_of facts notes) lists_of.Open) place
-    from (inl h) = noted-in facts notes lists_of.Open place h
-    from (inr h) = found-in facts notes lists_of.Open o.Open place (itself lists_of.Open) h
+open-listed facts notes place = by-either facts notes place lists_of.Open o.Open (itself lists_of.Open) is-open
 
 pub lapsed-listed : (facts : FinMap place_cmp Fact) (notes : FinSet listed_cmp) (place : Place)
     → Contains (listed_in (tables_of facts notes) lists_of.Lapsed) place
     ↔ (IsTrue (contains_key notes (listed lists_of.Lapsed place)) ⊎ HasOutcomeAt facts o.Lapsed place)
-lapsed-listed facts notes place = (λ h. to (in-list facts notes lists_of.Lapsed place h), from)
-  where
-    to : IsTrue (contains_key notes (listed lists_of.Lapsed place))
-        ⊎ ((f : Fact) × (Contains (values facts) f × (Fits lists_of.Lapsed f.outcome × (f.place ≡ place))))
-        → IsTrue (contains_key notes (listed lists_of.Lapsed place)) ⊎ HasOutcomeAt facts o.Lapsed place
-    to (inl h) = inl h
-    to (inr h) = inr (h.0, h.1.0, h.1.1.1, is-lapsed lists_of.Lapsed h.0.outcome refl h.1.1.0)
-
-    from : IsTrue (contains_key notes (listed lists_of.Lapsed place)) ⊎ HasOutcomeAt facts o.Lapsed place
-        → Contains (listed_in (tables_of facts notes) lists_of.Lapsed) place
-    from (inl h) = noted-in facts notes lists_of.Lapsed place h
-    from (inr h) = found-in facts notes lists_of.Lapsed o.Lapsed place (itself lists_of.Lapsed) h
+lapsed-listed facts notes place = by-either facts notes place lists_of.Lapsed o.Lapsed (itself lists_of.Lapsed) is-lapsed
 
 pub others-listed : (facts : FinMap place_cmp Fact) (notes : FinSet listed_cmp) (list : l.List) (place : Place)
     → list ≢ lists_of.Open → list ≢ lists_of.Lapsed

@@ -2,11 +2,11 @@
 use Rattle.std.proofs.Common.{◌≡◌, ℕ, ◌+◌, ◌-◌, ◌≤◌, Bool, ◌||◌, true, false, cond, List, [], ◌∷◌, ◌++◌, length, refl, sym, ap, ◌∙◌, arith, rules, zero, suc}
 use Rattle.std.specs.Prelude.{◌==◌, count_by, unwrap_or, Option, Some, None, option_map, option_to_list}
 use Rattle.std.specs.List.{AllByRecursion, flat_map, list_any}
-use Rattle.std.specs.declared.cmp.Ordering.{Ordering}
-use Rattle.std.specs.declared.cmp.Ordering.TheVariants.{Less, Equal, Greater}
-use Rattle.std.specs.Ordering.{nat_cmp, ordering_then, is_eq}
-use Rattle.std.proofs.lemmas.Bool.Decides.{nat_tests}
-use Rattle.std.proofs.lemmas.Bool.{eqb-true}
+use Rattle.std.specs.declared.cmp.Ordering.TheVariants.{Less}
+use Rattle.std.proofs.lemmas.Map.Views.{tells_apart}
+use Rattle.std.proofs.Math.Bool.{or-false}
+use Rattle.std.proofs.lemmas.Bool.{eqb-false, eqb-true, false_from_ne_true}
+use Rattle.std.proofs.lemmas.List.Folds.{list_any-append}
 use Rattle.std.proofs.lemmas.List.Sums.{sum_by-cons, sum_by-append, count_by-le-length}
 use Rattle.std.specs.FinMap.{FinMap, get, insert, remove, contains_key, values}
 use Rattle.std.specs.FinSet.{FinSet}
@@ -57,34 +57,23 @@ number-bound facts notes q = let e = count-tables facts notes q in let b = count
 
 -- ---- a fact stands at a key once at most
 
-unequal_then : (o r : Ordering) → is_eq o ≡ false → is_eq (ordering_then o r) ≡ false
-unequal_then Less r e = refl
-unequal_then Equal r e = absurd cc
-unequal_then Greater r e = refl
-
-unequal_places : (a b : ℕ) → (a == b) ≡ false → is_eq (nat_cmp a b) ≡ false
-unequal_places a b e = grind (arith, nat_tests, e)
+pub one_most : (b : Bool) → cond b 1 0 ≤ 1
+one_most true = omega arith
+one_most false = omega arith
 
 -- a key of another view is another key
 apart : (q : CountKey) (view : View) (value : Value) (outcome : Outcome) → (view_rank q.view == view_rank view) ≡ false
     → same_count_key q (count_key view value outcome) ≡ false
-apart q view value outcome e = unequal_then (nat_cmp (view_rank q.view) (view_rank view)) _ (unequal_places _ _ e)
+apart q view value outcome e = false_from_ne_true _ (λ h.
+    eqb-false _ _ e (ap (λ (k : CountKey). view_rank k.view) (tells_apart count_keys_exact q (count_key view value outcome) h)))
 
 module _ (p : CountKey → Bool) where
   pub count-one : (k : CountKey) → count_by p (k ∷ []) ≡ cond (p k) 1 0
   count-one k = sum_by-cons (λ y. cond (p y) 1 0) k [] ∙ elim (p k) as (λ b. cond b 1 0 + 0 ≡ cond b 1 0) [ true ↦ refl | false ↦ refl ]
 
-  pub any-one : (k : CountKey) → list_any p (k ∷ []) ≡ p k
-  any-one k = elim (p k) as (λ b. (b || false) ≡ b) [ true ↦ refl | false ↦ refl ]
-
   once-one : (o : Option CountKey) → count_by p (option_to_list o) ≡ cond (list_any p (option_to_list o)) 1 0
   once-one None = refl
-  once-one (Some k) = count-one k ∙ ap (λ b. cond b 1 0) (sym (any-one k))
-
-  pub any-append : (xs ys : List CountKey) → list_any p (xs ++ ys) ≡ (list_any p xs || list_any p ys)
-  any-append [] ys = refl
-  any-append (x ∷ xs) ys =
-      elim (p x) as (λ b. (b || list_any p (xs ++ ys)) ≡ ((b || list_any p xs) || list_any p ys)) [ true ↦ refl | false ↦ any-append xs ys ]
+  once-one (Some k) = count-one k ∙ ap (λ b. cond b 1 0) (sym (or-false (p k)))
 
   pub count-append : (xs ys : List CountKey) → count_by p (xs ++ ys) ≡ count_by p xs + count_by p ys
   count-append xs ys = sum_by-append (λ y. cond (p y) 1 0) xs ys
@@ -105,7 +94,7 @@ one-none q view f (Some x) e = count-one (same_count_key q) (count_key view x f.
 any-none : (q : CountKey) (view : View) (f : Fact) (value : Option Value) → (view_rank q.view == view_rank view) ≡ false
     → list_any (same_count_key q) (option_to_list (option_map (λ x. count_key view x f.outcome) value)) ≡ false
 any-none q view f None e = refl
-any-none q view f (Some x) e = any-one (same_count_key q) (count_key view x f.outcome) ∙ apart q view x f.outcome e
+any-none q view f (Some x) e = or-false (same_count_key q (count_key view x f.outcome)) ∙ apart q view x f.outcome e
 
 pub others-none : (q : CountKey) (f : Fact) (vs : List View) → Others q vs
     → (count_by (same_count_key q) (keys_in f vs) ≡ 0) × (list_any (same_count_key q) (keys_in f vs) ≡ false)
@@ -113,7 +102,8 @@ others-none q f [] h = (refl, refl)
 others-none q f (v ∷ vs) h =
     let rest = others-none q f vs h.1 in (
       count-append (same_count_key q) (option_to_list (key_in v f)) (keys_in f vs) ∙ (λ i. one-none q v f (value_in v f) h.0 i + rest.0 i),
-      any-append (same_count_key q) (option_to_list (key_in v f)) (keys_in f vs) ∙ (λ i. any-none q v f (value_in v f) h.0 i || rest.1 i),
+      list_any-append (same_count_key q) (option_to_list (key_in v f)) (keys_in f vs)
+          ∙ (λ i. any-none q v f (value_in v f) h.0 i || rest.1 i),
     )
 
 -- no two of these views are one
@@ -125,10 +115,6 @@ carried : (q : CountKey) (v : View) (vs : List View) → view_rank q.view ≡ vi
     → AllByRecursion (λ (w : View). (view_rank v == view_rank w) ≡ false) vs → Others q vs
 carried q v [] e h = tt
 carried q v (w ∷ vs) e h = (ap (λ n. n == view_rank w) e ∙ h.0, carried q v vs e h.1)
-
-pub or-false : (b : Bool) → (b || false) ≡ b
-or-false true = refl
-or-false false = refl
 
 once_in : (f : Fact) (q : CountKey) (vs : List View) → AreApart vs
     → count_by (same_count_key q) (keys_in f vs) ≡ cond (list_any (same_count_key q) (keys_in f vs)) 1 0
@@ -151,7 +137,7 @@ once_in f q (v ∷ vs) h =
           none ∙ once_in f q vs h.1
           ∙ ap (λ b. cond (b || list_any (same_count_key q) (keys_in f vs)) 1 0) (sym (any-none q v f (value_in v f) e))
     ] refl
-    ∙ ap (λ b. cond b 1 0) (sym (any-append (same_count_key q) here (keys_in f vs)))
+    ∙ ap (λ b. cond b 1 0) (sym (list_any-append (same_count_key q) here (keys_in f vs)))
 
 pub once : (f : Fact) (q : CountKey) → count_by (same_count_key q) (keys_of_fact f) ≡ cond (stands_in q f) 1 0
 once f q = once_in f q views (search rules)

@@ -1,6 +1,6 @@
 //! Counts of facts in rows by view and value, in one ordered map that can be undone, in which no row is of no messages. A
 //! fact that is put in the place of another moves its counts: one look-up in each view where both have one value.
-ghost use Rattle.std.specs.Prelude.{◌≡◌, ◌<◌, ◌+◌, ◌^◌, IfOk, OnOk, OnErr, [], ◌∷◌, option_copied, option_to_list};
+ghost use Rattle.std.specs.Prelude.{◌≡◌, ◌<◌, IfOk, OnOk, OnErr, [], ◌∷◌, option_copied, option_to_list};
 ghost use Rattle.smq_tally.specs.within.Counting.{keys_left, key_in_if, count_in, steps, IsMoved, AreCounted, HaveRoom};
 ghost use Rattle.smq_tally.specs.within.Kept.{counts_in, IsLogged, AreLogged};
 ghost use Rattle.smq_tally.specs.within.RowCounts.{keys_at};

@@ -1,5 +1,5 @@
 //! Listed places in one ordered set that can be undone, where those of a list stand beside each other.
-ghost use Rattle.std.specs.Prelude.{◌≡◌, Bool, cond, IfOk, OnOk, OnErr};
+ghost use Rattle.std.specs.Prelude.{◌≡◌, cond, IfOk, OnOk, OnErr};
 ghost use Rattle.std.specs.List.{list_any};
 ghost use Rattle.std.specs.FinMap as fin;
 ghost use Rattle.smq_tally.specs.Lists.{listings_of_fact};

@@ -9,6 +9,7 @@ use Rattle.smq_kit.specs.contracts.place.PlacePartialEq.TheImpl as place_eq
 use Rattle.smq_tally.specs.declared.fact.RowKey.{RowKey}
 use Rattle.smq_tally.specs.declared.list.List as l
 use Rattle.smq_tally.specs.declared.list.Listed.{Listed}
+use Rattle.smq_tally.specs.declared.outcome.Outcome.{Outcome}
 use Rattle.smq_tally.specs.declared.value.SubmitError.{SubmitError}
 use Rattle.smq_tally.specs.declared.value.Value.{Value}
 use Rattle.smq_tally.specs.declared.view.View.{View}
@@ -17,6 +18,7 @@ use Rattle.smq_tally.specs.contracts.fact.RowKeyOrd.TheImpl.Laws as row_laws
 use Rattle.smq_tally.specs.contracts.list.ListPartialEq.TheImpl as list_eq
 use Rattle.smq_tally.specs.contracts.list.ListedPartialEq.TheImpl as listed_eq
 use Rattle.smq_tally.specs.contracts.list.ListedOrd.TheImpl.Laws as listed_laws
+use Rattle.smq_tally.specs.contracts.outcome.OutcomePartialEq.TheImpl as outcome_eq
 use Rattle.smq_tally.specs.contracts.value.SubmitErrorPartialEq.TheImpl as error_eq
 use Rattle.smq_tally.specs.contracts.value.ValuePartialEq.TheImpl as value_eq
 use Rattle.smq_tally.specs.contracts.view.ViewPartialEq.TheImpl as view_eq
@@ -24,20 +26,23 @@ use Rattle.smq_tally.specs.within.CountOrder.{kept_row_cmp}
 use Rattle.smq_tally.specs.within.ListOrder.{kept_listed_cmp}
 use Rattle.std.proofs.lemmas.Bool.Decides.{Decides-and, Decides-like}
 
-views : (a b : View) → Decides (view_eq.ghosts.eq a b) (a ≡ b)
+pub views : (a b : View) → Decides (view_eq.ghosts.eq a b) (a ≡ b)
 views a b = search rules
 
-errors : (a b : SubmitError) → Decides (error_eq.ghosts.eq a b) (a ≡ b)
+pub errors : (a b : SubmitError) → Decides (error_eq.ghosts.eq a b) (a ≡ b)
 errors a b = search rules
 
 pub values : (a b : Value) → Decides (value_eq.ghosts.eq a b) (a ≡ b)
 values a b = search (rules, errors)
 
-in_lists : (a b : l.List) → Decides (list_eq.ghosts.eq a b) (a ≡ b)
+pub in_lists : (a b : l.List) → Decides (list_eq.ghosts.eq a b) (a ≡ b)
 in_lists a b = search rules
 
-at_places : (a b : Place) → Decides (place_eq.ghosts.eq a b) (a ≡ b)
+pub at_places : (a b : Place) → Decides (place_eq.ghosts.eq a b) (a ≡ b)
 at_places a b = search rules
+
+pub outcomes : (a b : Outcome) → Decides (outcome_eq.ghosts.eq a b) (a ≡ b)
+outcomes a b = search rules
 
 rows : (x y : RowKey) → Decides (row_eq.ghosts.eq x y) ((x.view ≡ y.view) × (x.value ≡ y.value))
 rows x y = Decides-and _ _ (views x.view y.view) (values x.value y.value)

@@ -2,7 +2,8 @@ use Rattle.std.proofs.Common.{arith, ap, subst, sym, ◌∙◌}
 use Rattle.std.specs.Option.{option_copied}
 use Rattle.smq_tally.specs.within.Kept.{counts_in, AreLogged}
 use Rattle.smq_tally.proofs.Recounts.{counted-here, room-here, counted-later, room-later, moved-on, moved-last}
-use Rattle.smq_tally.proofs.ViewRanges.{view_fewer}
+use Rattle.smq_tally.proofs.Runs.{fewer_left}
+use Rattle.smq_tally.proofs.ViewRanges.{view_parts}
 use Rattle.smq_tally.proofs.counts.+recount_from.Goals as goal
 
 pub recount_in_view-requires : goal.recount_in_view-requires
@@ -17,7 +18,7 @@ recount_from-requires t c =
     let mid = counts_in c.recount_in_view.new.counts.content in
     let before = option_copied c.args.before in
     let after = option_copied c.args.after in (
-      omega (arith, c.decreases, view_fewer c.args.view c.in-Some.next c.in-Some.ensures),
+      omega (arith, c.decreases, fewer_left view_parts c.args.view c.in-Some.next c.in-Some.ensures),
       (
         counted-later c.args.view c.in-Some.next m mid before after c.requires.counted c.requires.room c.in_ok-are_logged.ensures.ok
             c.in-Some.ensures,

@@ -3,14 +3,15 @@ use Rattle.smq_tally.specs.declared.fact.CountKey.{CountKey}
 use Rattle.smq_tally.specs.within.Counting.{HaveRoom, IsMoved}
 use Rattle.smq_tally.specs.within.Kept.{counts_in}
 use Rattle.smq_tally.specs.within.RowCounts.{keys_at}
-use Rattle.smq_tally.proofs.RowMoves.{in-row, beside, moved-nowhere, one-outcome, same_value}
+use Rattle.smq_tally.specs.within.Keys.{outcomes}
+use Rattle.smq_tally.proofs.RowMoves.{in-row, beside, moved-nowhere, same_value}
 use Rattle.smq_tally.proofs.counts.move_between.Goals as goal
 
 pub returns-then-eq-clause-ok : goal.returns-then-eq-clause-ok
 returns-then-eq-clause-ok c =
     moved-nowhere (counts_in c.args.counts.now.content) c.args.from c.args.to c.requires.one_view
     (same_value c.args.from.value c.args.to.value c.ne.result c.ne.ensures c.if-ne.false)
-    ((one-outcome c.args.from.outcome c.args.to.outcome).0 (sym c.if-eq.ensures))
+    ((outcomes c.args.from.outcome c.args.to.outcome).0 (sym c.if-eq.ensures))
 
 pub change_row-requires-clause-room : goal.change_row-requires-clause-room
 change_row-requires-clause-room c =

@@ -1,22 +1,27 @@
 use Rattle.std.proofs.Common.{ap, ◌∙◌}
 use Rattle.smq_tally.specs.Tables.{TablesKept}
-use Rattle.smq_tally.proofs.ViewRanges.{view-forward, rows-next, rows-end}
+use Rattle.smq_tally.specs.within.RowCounts.{shown_among}
+use Rattle.smq_tally.proofs.Runs.{run-forward, run-next, run-end}
+use Rattle.smq_tally.proofs.ViewRanges.{view_parts, view-whole}
 use Rattle.smq_tally.proofs.tables.Tables.rows.Goals as goal
 
 pub range-requires : goal.range-requires
-range-requires c =
-    record {
-      forward = view-forward c.args.view c.in-Some.next c.first_in-first.result c.first_in.result c.first_in-first.ensures c.first_in.ensures
-          c.in-Some.ensures;
-    }
+range-requires c = record {
+  forward = run-forward view_parts c.args.view c.in-Some.next _ _ c.first_in-first.ensures c.first_in.ensures c.in-Some.ensures;
+}
 
 pub returns-in-Some : goal.returns-in-Some
 returns-in-Some c =
-    c.of.ensures ∙ rows-next c.args.self.now.shown c.args.view c.in-Some.next c.first_in-first.result c.first_in.result c.self.inside.counts.content c.range.result
-    c.first_in-first.ensures c.first_in.ensures
-    (ap (λ (t : TablesKept). t.shown.counts) c.self.view_is) c.range.ensures.ordered c.in-Some.ensures c.range.ensures.between
+    c.of.ensures
+    ∙ ap shown_among (c.range.ensures.between ∙ run-next view_parts c.args.view c.in-Some.next _ _ c.first_in-first.ensures
+    c.first_in.ensures c.in-Some.ensures c.self.inside.counts.content)
+    ∙ view-whole c.args.self.now.shown c.args.view c.self.inside.counts.content (ap (λ (t : TablesKept). t.shown.counts) c.self.view_is)
+    c.range.ensures.ordered
 
 pub returns-in-None : goal.returns-in-None
 returns-in-None c =
-    c.of-in-None.ensures ∙ rows-end c.args.self.now.shown c.args.view c.first_in-first.result c.self.inside.counts.content c.range_from.result c.first_in-first.ensures
-    (ap (λ (t : TablesKept). t.shown.counts) c.self.view_is) c.range_from.ensures.ordered c.in-None.ensures c.range_from.ensures.between
+    c.of-in-None.ensures
+    ∙ ap shown_among (c.range_from.ensures.between ∙ run-end view_parts c.args.view _ c.first_in-first.ensures c.in-None.ensures
+    c.self.inside.counts.content)
+    ∙ view-whole c.args.self.now.shown c.args.view c.self.inside.counts.content (ap (λ (t : TablesKept). t.shown.counts) c.self.view_is)
+    c.range_from.ensures.ordered
