@@ -1,11 +1,12 @@
 -- What a tally holds, in maps that can be undone, and its tables.
-use Rattle.std.proofs.Common.{◌≡◌, ℕ, ◌+◌, ◌<◌, ◌≤◌, ◌^◌, Bool, true, false, cond, suc, List, [], ◌∷◌, length, Option, Some, None, subst, refl, sym, ap, ◌∙◌, arith}
+use Rattle.std.proofs.Common.{◌≡◌, ℕ, ◌+◌, ◌<◌, ◌≤◌, ◌^◌, Bool, true, false, cond, List, [], ◌∷◌, length, Option, Some, None, subst, refl, sym, ap, ◌∙◌, arith}
+use Rattle.std.proofs.lemmas.Map.Entries.{length-values_of}
 use Rattle.std.specs.Prelude.{IsSome, map, option_to_list}
 use Rattle.std.specs.List.{list_any}
 use Rattle.std.specs.List.Sorted.{IsStrictlySortedBy}
 use Rattle.std.specs.Map.{keys_of, lookup, remove_entry}
 use Rattle.std.specs.BTreeMap.{is_at, insert_entry}
-use Rattle.std.specs.FinMap.{FinMap, get, insert, remove, contains_key, empty, values}
+use Rattle.std.specs.FinMap.{FinMap, get, insert, remove, contains_key, values}
 use Rattle.std.specs.FinSet.{FinSet}
 use Rattle.smq_kit.specs.declared.place.Place.{Place}
 use Rattle.smq_kit.specs.Orders.{kept_place_cmp, place_cmp}
@@ -22,7 +23,7 @@ use Rattle.smq_tally.specs.Tables.{TablesValue, tables_of}
 use Rattle.smq_tally.specs.within.Counting.{AreCounted, count_of, one_more, one_less}
 use Rattle.smq_tally.specs.within.Kept.{facts_in, StandAtTheirPlaces, Tallies}
 use Rattle.smq_tally.specs.within.ListOrder.{lists}
-use Rattle.smq_tally.proofs.ListedFacts.{stand-with, stand-without, stand-none, note-listed, note-stays, note-unlisted}
+use Rattle.smq_tally.proofs.ListedFacts.{stand-with, stand-without, note-listed, note-stays, note-unlisted}
 use Rattle.smq_tally.proofs.Tallies.{number-bound, stands-counted, added-tables, removed-tables, replaced-tables}
 
 abbrev Facts : Type 0
@@ -73,30 +74,9 @@ has-room es ps most notes t is sorted shown count small key =
     let told : length es ≡ length (content_of ps) = ap (λ (xs : Entries). length xs) shown in
     let bound : count_of (tables_of (facts_in es) notes) key ≤ length (values (facts_in es)) = number-bound (facts_in es) notes key in
     let same : length (values (facts_in es)) ≡ length es = ap (λ xs. length (map (λ e. e.1) xs))
-    (ordered.entries-kept places_total places_exact place-order es sorted) ∙ length-values es in
+    (ordered.entries-kept places_total places_exact place-order es sorted) ∙ length-values_of es in
     let there : count_of t key ≡ count_of (tables_of (facts_in es) notes) key = ap (λ (u : TablesValue). count_of u key) is in
     omega (arith, bound, same, there, fewer, told, count, small)
-  where
-    length-values : (xs : Entries) → length (map (λ e. e.1) xs) ≡ length xs
-    length-values [] = refl
-    length-values (x ∷ xs) = ap suc (length-values xs)
-
--- tables with one note more
-noted-tables : (facts : Facts) (notes : Notes) (note : Listed)
-    → record (tables_of facts notes) { places = insert (tables_of facts notes).places note tt } ≡ tables_of facts (insert notes note tt)
-noted-tables facts notes note = λ i. record { counts = (tables_of facts notes).counts; places = note-listed facts notes note i }
-
--- a tally of nothing
-pub holds-nothing : (es settled : Entries) (ns settled_notes : Notes) (shown before : TablesValue) → es ≡ [] → settled ≡ []
-    → ns ≡ empty → settled_notes ≡ empty
-    → shown ≡ tables_of empty empty → before ≡ tables_of empty empty
-    → Tallies (facts_in es) (facts_in settled) ns settled_notes shown before
-holds-nothing es settled ns settled_notes shown before none none_settled clear clear_settled now then = record {
-  now = now ∙ (λ i. tables_of (facts_in (sym none i)) (sym clear i));
-  before = then ∙ (λ i. tables_of (facts_in (sym none_settled i)) (sym clear_settled i));
-  places = subst (λ (xs : Entries). StandAtTheirPlaces (facts_in xs)) (sym none) stand-none;
-  places_before = subst (λ (xs : Entries). StandAtTheirPlaces (facts_in xs)) (sym none_settled) stand-none;
-}
 
 -- a fact that is there is counted
 pub is-counted : (facts : Facts) (notes : Notes) {shown : TablesValue} (is : shown ≡ tables_of facts notes) (place : Place) (f : Fact)
@@ -137,10 +117,6 @@ module _ {facts settled : Facts} {notes settled_notes : Notes} {shown before : T
   }
 
   -- a fact was added
-  pub fact-added : {now : Facts} {new : TablesValue} (f : Fact) → get facts f.place ≡ None → now ≡ insert facts f.place f → new ≡ one_more shown f
-      → new ≡ tables_of now notes
-  fact-added f none put counted = shown-added facts notes holds.now f none put counted
-
   pub stand-added : {now : Facts} (f : Fact) → now ≡ insert facts f.place f → StandAtTheirPlaces now
   stand-added f put = subst (λ (m : Facts). StandAtTheirPlaces m) (sym put) (stand-with facts f holds.places)
 
@@ -159,30 +135,20 @@ module _ {facts settled : Facts} {notes settled_notes : Notes} {shown before : T
   pub note-added : {now : Notes} {new : TablesValue} (note : Listed) → now ≡ insert notes note tt
       → new ≡ record shown { places = insert shown.places note tt } → new ≡ tables_of facts now
   note-added note put listed =
-      listed ∙ ap (λ (t : TablesValue). record t { places = insert t.places note tt }) holds.now ∙ noted-tables facts notes note
+      listed ∙ ap (λ (t : TablesValue). record t { places = insert t.places note tt }) holds.now
+      ∙ (λ i. record { counts = (tables_of facts notes).counts; places = note-listed facts notes note i })
       ∙ ap (λ (n : Notes). tables_of facts n) (sym put)
-
-  -- a note was taken out, if it was there, whose place stays listed for the fact there
-  pub note-covered : {now : Notes} (note : Listed) → now ≡ remove notes note
-      → list_any (lists note) (option_to_list (get facts note.place)) ≡ true → shown ≡ tables_of facts now
-  note-covered note took there =
-      holds.now
-      ∙ (λ i. record { counts = (tables_of facts notes).counts; places = note-stays facts notes note holds.places there i })
-      ∙ ap (λ (n : Notes). tables_of facts n) (sym took)
-
-  -- a note was taken out, if it was there, and its place is listed no more
-  pub note-removed : {now : Notes} {new : TablesValue} (note : Listed) → now ≡ remove notes note
-      → list_any (lists note) (option_to_list (get facts note.place)) ≡ false
-      → new ≡ record shown { places = remove shown.places note } → new ≡ tables_of facts now
-  note-removed note took none unlisted =
-      unlisted
-      ∙ ap (λ (t : TablesValue). record t { places = remove t.places note }) holds.now
-      ∙ (λ i. record { counts = (tables_of facts notes).counts; places = note-unlisted facts notes note holds.places none i })
-      ∙ ap (λ (n : Notes). tables_of facts n) (sym took)
 
   -- a note was taken out, if it was there, and its place stays listed where the fact there lists it
   pub note-taken : {now : Notes} {new : TablesValue} (note : Listed) (stays : Bool) → now ≡ remove notes note
       → stays ≡ list_any (lists note) (option_to_list (get facts note.place))
       → new ≡ record shown { places = cond stays shown.places (remove shown.places note) } → new ≡ tables_of facts now
-  note-taken note true took there listed = listed ∙ note-covered note took (sym there)
-  note-taken note false took none listed = note-removed note took (sym none) listed
+  note-taken note true took there listed =
+      listed ∙ holds.now
+      ∙ (λ i. record { counts = (tables_of facts notes).counts; places = note-stays facts notes note holds.places (sym there) i })
+      ∙ ap (λ (n : Notes). tables_of facts n) (sym took)
+  note-taken note false took none listed =
+      listed
+      ∙ ap (λ (t : TablesValue). record t { places = remove t.places note }) holds.now
+      ∙ (λ i. record { counts = (tables_of facts notes).counts; places = note-unlisted facts notes note holds.places (sym none) i })
+      ∙ ap (λ (n : Notes). tables_of facts n) (sym took)

@@ -6,7 +6,6 @@ pub mod Listings
 pub mod ListedFacts
 pub mod Undone
 pub mod Tallies
-pub mod CountMoves
 pub mod Shown
 pub mod ViewRanges
 pub mod Stored

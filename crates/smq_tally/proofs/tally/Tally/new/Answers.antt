@@ -1,8 +1,14 @@
-use Rattle.smq_tally.proofs.Held.{holds-nothing}
+use Rattle.std.proofs.Common.{subst, sym, ◌∙◌}
+use Rattle.smq_tally.specs.Tables.{tables_of}
+use Rattle.smq_tally.specs.within.Kept.{facts_in, StandAtTheirPlaces}
+use Rattle.smq_tally.proofs.Held.{Entries}
+use Rattle.smq_tally.proofs.ListedFacts.{stand-none}
 use Rattle.smq_tally.proofs.tally.Tally.new.Goals as goal
 
 pub invariant_of-result : goal.invariant_of-result
-invariant_of-result c =
-    holds-nothing c.new.result.content c.new.result.settled c.new-2.result.notes c.new-2.result.settled_notes c.new-2.result.shown
-    c.new-2.result.settled c.new.ensures.content c.new.ensures.settled c.new-2.ensures.notes c.new-2.ensures.settled_notes c.new-2.ensures.shown
-    c.new-2.ensures.settled
+invariant_of-result c = record {
+  now = c.new-2.ensures.shown ∙ (λ i. tables_of (facts_in (sym c.new.ensures.content i)) (sym c.new-2.ensures.notes i));
+  before = c.new-2.ensures.settled ∙ (λ i. tables_of (facts_in (sym c.new.ensures.settled i)) (sym c.new-2.ensures.settled_notes i));
+  places = subst (λ (es : Entries). StandAtTheirPlaces (facts_in es)) (sym c.new.ensures.content) stand-none;
+  places_before = subst (λ (es : Entries). StandAtTheirPlaces (facts_in es)) (sym c.new.ensures.settled) stand-none;
+}
