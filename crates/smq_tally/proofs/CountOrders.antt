@@ -41,7 +41,7 @@ outcome-order a b = search rules
 view-order : (a b : View) → (view_ord.ghosts).cmp a b ≡ nat_cmp (view_rank a) (view_rank b)
 view-order a b = search rules
 
-pub band-order : (a b : Band) → (band_ord.ghosts).cmp a b ≡ nat_cmp (band_rank a) (band_rank b)
+band-order : (a b : Band) → (band_ord.ghosts).cmp a b ≡ nat_cmp (band_rank a) (band_rank b)
 band-order a b = search rules
 
 error-order : (x y : SubmitError) → (error_ord.ghosts).cmp x y ≡ slice_cmp nat_cmp (submit_error_numbers x) (submit_error_numbers y)

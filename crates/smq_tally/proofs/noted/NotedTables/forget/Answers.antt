@@ -51,7 +51,8 @@ returns-then-not-takes_facts-clause-ok c =
 -- what is kept apart without the note
 took : (c : In_ok-taken) → places_in c.take.new.self.content ≡ remove (places_in c.self.inside.apart.content) c.args.note.now
 took c =
-    place-less c.self.inside.apart.content c.take.new.self.content c.args.note.now c.in_ok-taken.ensures.ordered c.in_ok-taken.ensures.content
+    place-less c.self.inside.apart.content c.take.new.self.content c.args.note.now c.in_ok-taken.ensures.ordered
+    c.in_ok-taken.ensures.content
 
 own : (c : In_ok-taken) → AreApart (places_in c.take.new.self.content) × AreApart (places_in c.take.new.self.settled)
 own c = (

@@ -1,14 +1,9 @@
 use Rattle.std.proofs.Common.{ap, ◌∙◌}
 use Rattle.smq_tally.specs.Tables.{TablesKept}
 use Rattle.smq_tally.specs.within.RowCounts.{shown_among}
-use Rattle.smq_tally.proofs.Runs.{run-forward, run-next, run-end}
+use Rattle.smq_tally.proofs.Runs.{run-next, run-end}
 use Rattle.smq_tally.proofs.ViewRanges.{view_parts, view-whole}
 use Rattle.smq_tally.proofs.tables.Tables.rows.Goals as goal
-
-pub range-requires : goal.range-requires
-range-requires c = record {
-  forward = run-forward view_parts c.args.view c.in-Some.next _ _ c.first_in-first.ensures c.first_in.ensures c.in-Some.ensures;
-}
 
 pub returns-in-Some : goal.returns-in-Some
 returns-in-Some c =

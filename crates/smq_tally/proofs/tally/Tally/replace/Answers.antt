@@ -1,12 +1,7 @@
 use Rattle.std.proofs.Common.{sym, ap, ◌∙◌}
-use Rattle.std.specs.FinMap.{get}
-use Rattle.smq_tally.specs.Tally.{TallyValue}
 use Rattle.smq_tally.specs.within.Kept.{facts_in}
 use Rattle.smq_tally.proofs.Held.{fact-same, still, stand-added}
 use Rattle.smq_tally.proofs.tally.Tally.replace.Goals as goal
-
-pub put-requires-clause-there : goal.put-requires-clause-there
-put-requires-clause-there c = c.requires.before ∙ ap (λ (t : TallyValue). get t.facts c.args.fact.place) (sym c.self.view_is)
 
 pub returns-then-is_same-clause-ok : goal.returns-then-is_same-clause-ok
 returns-then-is_same-clause-ok c =
