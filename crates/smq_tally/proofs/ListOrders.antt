@@ -58,8 +58,8 @@ places-of list (e ∷ es) =
       | false ↦ places-of list es
     ]
 
-pub places-sorted : (t : TablesValue) (list : l.List) → IsStrictlySortedBy place_cmp (listed_in t list)
-places-sorted t list =
+pub places_sorted : (t : TablesValue) (list : l.List) → IsStrictlySortedBy place_cmp (listed_in t list)
+places_sorted t list =
     subst (λ (ps : List Place). IsStrictlySortedBy place_cmp ps) (places-of list (entries t.places))
     (part-sorted listed_cmp (λ e. in_list list e.0) (λ e. e.0.place) place_cmp
     (λ d e. then_next (list_rank d.0.list) (list_rank e.0.list) (list_rank list) (place_cmp d.0.place e.0.place)) t.places)

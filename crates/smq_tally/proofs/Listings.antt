@@ -9,7 +9,7 @@ use Rattle.smq_tally.specs.declared.list.Listed.{Listed}
 use Rattle.smq_tally.specs.Lists.{listed, listed_cmp, list_rank, in_list}
 use Rattle.smq_tally.specs.Tables.{TablesValue, listed_in}
 use Rattle.smq_tally.specs.within.ListOrder.{listed_total}
-use Rattle.smq_tally.proofs.ListOrders.{listed_exact, same_list, places-of}
+use Rattle.smq_tally.proofs.ListOrders.{listed_exact, places_sorted, same_list, places-of}
 use Rattle.smq_tally.proofs.Parts.{part-iff}
 
 -- what a set may have at a key is nothing
@@ -23,12 +23,14 @@ same_some (Some u) (Some v) e = refl
 listed-shown : (list : l.List) (e : Listed × Unit {0}) → in_list list e.0 ≡ true → ◌≡◌ {A = Listed × Unit {0}} (listed list e.0.place, tt) e
 listed-shown list e h = λ i. (listed (same_list list e.0.list (sym (eqb-true _ _ h)) i) e.0.place, tt)
 
-pub listed-iff : (t : TablesValue) (list : l.List) (place : Place)
+pub listed_iff : (t : TablesValue) (list : l.List) (place : Place)
     → Contains (listed_in t list) place ↔ IsTrue (contains_key t.places (listed list place))
-listed-iff t list place =
+listed_iff t list place =
     let one = part-iff listed_cmp (λ e. in_list list e.0) (λ e. e.0.place) listed_total listed_exact (λ p. (listed list p, tt))
     (listed-shown list) t.places (listed list place) tt (eq-eqb (list_rank list) (list_rank list) refl) in
     let same = places-of list (entries t.places) in (
       λ h. ap is_some (one.0 (subst (λ (ps : List Place). Contains ps place) (sym same) h)),
       λ h. subst (λ (ps : List Place). Contains ps place) same (one.1 (same_some (get t.places (listed list place)) (Some tt) h)),
     )
+
+pub ruleset list_facts = (places_sorted, listed_iff)

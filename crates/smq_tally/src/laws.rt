@@ -24,6 +24,7 @@ use std::cmp::Ordering;
 
 /// A message is counted by its link, its route and its network, each a value or none, and by its error and its delays where
 /// it has them: once in each view in which it has a value, under its outcome.
+#[tactic(auto, using(crate::proofs::Standing::stands_once))]
 pub fn messages_are_counted_once_in_a_view()
     ensures link { (fact : Fact) → value_in View.Link fact ≡ Some (Value.Link fact.link) }
     ensures route { (fact : Fact) → value_in View.Route fact ≡ Some (route_value fact.route) }
@@ -77,12 +78,14 @@ pub fn one_fact_moves_its_counts()
 {}
 
 /// `==` of tables says whether they are one.
+#[tactic(auto, using(crate::proofs::Equals::equal_same))]
 pub fn equal_tables_are_one()
     ensures { (tables others : TablesValue)
         → IsTrue (tables_eq tables others) ↔ (tables ≡ others) }
 {}
 
 /// `==` of facts says whether they are one.
+#[tactic(auto, using(crate::proofs::FactEquals::facts_decide))]
 pub fn facts_are_told_apart()
     ensures { (a b : Fact) → IsTrue (fact_eq a b) ↔ (a ≡ b) }
 {}
@@ -109,6 +112,7 @@ pub fn rows_are_in_order()
 
 /// A list shows exactly the places that are listed there, strictly in order. Lists are in the order of their table, and
 /// listed places are compared by list, then by place; they are equal exactly where they are one.
+#[tactic(auto, using(crate::proofs::Listings::list_facts))]
 pub fn lists_are_in_order()
     ensures order { (a b : Listed) → kept_listed_cmp a b ≡ listed_cmp a b }
     ensures exact { (a b : Listed) → listed_cmp a b ≡ Ordering.Equal → a ≡ b }

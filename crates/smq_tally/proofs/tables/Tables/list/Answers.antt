@@ -4,7 +4,7 @@ use Rattle.std.specs.List.Sorted.{IsStrictlySortedBy}
 use Rattle.smq_kit.specs.declared.place.Place.{Place}
 use Rattle.smq_kit.specs.Orders.{place_cmp}
 use Rattle.smq_tally.specs.Tables.{TablesKept}
-use Rattle.smq_tally.proofs.ListOrders.{Entries, places-sorted, list_parts, list-whole}
+use Rattle.smq_tally.proofs.ListOrders.{Entries, places_sorted, list_parts, list-whole}
 use Rattle.smq_tally.proofs.Runs.{run-forward, run-next, run-end}
 use Rattle.smq_tally.proofs.tables.Tables.list.Goals as goal
 
@@ -23,7 +23,7 @@ returns-in-Some-clause-places c =
 pub returns-in-Some-clause-in_order : goal.returns-in-Some-clause-in_order
 returns-in-Some-clause-in_order c =
     subst (λ (ps : List Place). IsStrictlySortedBy place_cmp ps) (sym (returns-in-Some-clause-places c))
-    (places-sorted c.args.self.now.shown c.args.list)
+    (places_sorted c.args.self.now.shown c.args.list)
 
 pub returns-in-None-clause-places : goal.returns-in-None-clause-places
 returns-in-None-clause-places c =
@@ -35,4 +35,4 @@ returns-in-None-clause-places c =
 pub returns-in-None-clause-in_order : goal.returns-in-None-clause-in_order
 returns-in-None-clause-in_order c =
     subst (λ (ps : List Place). IsStrictlySortedBy place_cmp ps) (sym (returns-in-None-clause-places c))
-    (places-sorted c.args.self.now.shown c.args.list)
+    (places_sorted c.args.self.now.shown c.args.list)
