@@ -25,6 +25,7 @@ use Rattle.smq_tally.specs.within.Kept.{facts_in, StandAtTheirPlaces, Tallies}
 use Rattle.smq_tally.specs.within.ListOrder.{lists}
 use Rattle.smq_tally.proofs.ListedFacts.{stand-with, stand-without, note-listed, note-stays, note-unlisted}
 use Rattle.smq_tally.proofs.Tallies.{number-bound, stands-counted, added-tables, removed-tables, replaced-tables}
+use Rattle.smq_tally.proofs.Stored.{copied_some}
 
 abbrev Facts : Type 0
 Facts = FinMap place_cmp Fact
@@ -36,8 +37,8 @@ abbrev pub Entries : Type 0
 Entries = List (Place × Fact)
 
 -- the fact that a look-up gives
-pub fact-found : (es : Entries) (q : Place) → get (facts_in es) q ≡ lookup (is_at (kept_place_cmp q)) es
-fact-found es q = seen.looked_up places_total places_exact place-order es q
+pub fact_found : (es : Entries) (q : Place) → get (facts_in es) q ≡ lookup (is_at (kept_place_cmp q)) es
+fact_found es q = seen.looked_up places_total places_exact place-order es q
 
 pub fact-put : (es fs : Entries) (k : Place) (f : Fact) → fs ≡ insert_entry kept_place_cmp es k f → facts_in fs ≡ insert (facts_in es) k f
 fact-put es fs k f put = ap facts_in put ∙ seen.inserted places_total places_exact place-order es k f
@@ -55,7 +56,7 @@ fact-taken es fs k sorted took = ap facts_in took ∙ seen.removed places_total 
 pub has-entry : (es fs : Entries) (q : Place) (f : Fact) → fs ≡ es → Some f ≡ get (facts_in es) q → IsSome (lookup (is_at (kept_place_cmp q)) fs)
 has-entry es fs q f same found =
     subst (λ (xs : Entries). IsSome (lookup (is_at (kept_place_cmp q)) xs)) (sym same) (subst (λ (x : Option Fact). IsSome x) (found
-    ∙ fact-found es q) refl)
+    ∙ fact_found es q) refl)
 
 with_place-fewer : {K V : Type 0} (k : K) (x : Option V) (cs : List (K × V)) → length (with_place k x cs) ≤ length cs + 1
 with_place-fewer k None cs = omega arith
@@ -152,3 +153,5 @@ module _ {facts settled : Facts} {notes settled_notes : Notes} {shown before : T
       ∙ ap (λ (t : TablesValue). record t { places = remove t.places note }) holds.now
       ∙ (λ i. record { counts = (tables_of facts notes).counts; places = note-unlisted facts notes note holds.places (sym none) i })
       ∙ ap (λ (n : Notes). tables_of facts n) (sym took)
+
+pub ruleset found_facts = (fact_found, copied_some)

@@ -113,9 +113,9 @@ fact-listed facts notes f none = sets-one _ _ (λ q.
     ∙ sym (places-have (insert facts f.place f) notes q))
 
 -- where notes are listed too, one after the other, the tables list what they do with them
-pub notes-listed : (facts : FinMap place_cmp Fact) (notes : List Listed)
+pub notes_listed : (facts : FinMap place_cmp Fact) (notes : List Listed)
     → with_listed (tables_of facts empty).places notes ≡ (tables_of facts (listed_set notes)).places
-notes-listed facts notes = sets-one _ _ (λ q.
+notes_listed facts notes = sets-one _ _ (λ q.
     with-have (tables_of facts empty).places notes q
     ∙ ap (λ b. list_any (same_listed q) notes || b) (places-have facts empty q)
     ∙ (λ i. list_any (same_listed q) notes || (is_some (get-empty {X = Unit {0}} listed_cmp q i) || list_any (lists q) (values facts)))

@@ -131,8 +131,8 @@ without-other places f false q none =
     ∙ left-have places (listings_of_fact f) q
     ∙ ap (λ b. b || contains_key places q) (none-taken q f none)
 
-pub notes-with : (apart places : Places) (f : Fact) → notes_among apart (with_listed places (listings_of_fact f)) ≡ notes_among apart places
-notes-with apart places f = notes-stay apart places _ (with-other places f)
+pub notes_with : (apart places : Places) (f : Fact) → notes_among apart (with_listed places (listings_of_fact f)) ≡ notes_among apart places
+notes_with apart places f = notes-stay apart places _ (with-other places f)
 
 pub notes-without : (apart places : Places) (f : Fact) (stays : Bool)
     → notes_among apart (cond stays places (without places (listings_of_fact f))) ≡ notes_among apart places

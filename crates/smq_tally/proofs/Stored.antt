@@ -29,15 +29,15 @@ abbrev pub Places : Type 0
 Places = List (Listed × Unit {0})
 
 -- whether a place is listed
-pub has-seen : (ps : Places) (q : Listed) → is_some (lookup (is_at (kept_listed_cmp q)) ps) ≡ contains_key (places_in ps) q
-has-seen ps q = sym (ap is_some (seen.looked_up listed_total listed_exact listed-order ps q))
+pub has_seen : (ps : Places) (q : Listed) → is_some (lookup (is_at (kept_listed_cmp q)) ps) ≡ contains_key (places_in ps) q
+has_seen ps q = sym (ap is_some (seen.looked_up listed_total listed_exact listed-order ps q))
 
-pub place-more : (ps fs : Places) (q : Listed) (u : Unit {0}) → fs ≡ insert_entry kept_listed_cmp ps q u → places_in fs ≡ insert (places_in ps) q tt
-place-more ps fs q u put = ap places_in put ∙ seen.inserted listed_total listed_exact listed-order ps q tt
+pub place_more : (ps fs : Places) (q : Listed) (u : Unit {0}) → fs ≡ insert_entry kept_listed_cmp ps q u → places_in fs ≡ insert (places_in ps) q tt
+place_more ps fs q u put = ap places_in put ∙ seen.inserted listed_total listed_exact listed-order ps q tt
 
-pub place-less : (ps fs : Places) (q : Listed) → IsStrictlySortedBy kept_listed_cmp (keys_of ps) → fs ≡ remove_entry (is_at (kept_listed_cmp q)) ps
+pub place_less : (ps fs : Places) (q : Listed) → IsStrictlySortedBy kept_listed_cmp (keys_of ps) → fs ≡ remove_entry (is_at (kept_listed_cmp q)) ps
     → places_in fs ≡ remove (places_in ps) q
-place-less ps fs q sorted took = ap places_in took ∙ seen.removed listed_total listed_exact listed-order ps q sorted
+place_less ps fs q sorted took = ap places_in took ∙ seen.removed listed_total listed_exact listed-order ps q sorted
 
 -- what taking a key out left to be taken back
 pub taken-logged : {K V : Type 0} (old new : KeepingMap K V) (taken : Option V) (logged : Bool) → logged ≡ is_some taken
@@ -47,13 +47,13 @@ taken-logged old new None logged e shown past same = subst (λ b. IsLogged b old
 taken-logged old new (Some v) logged e shown past same = subst (λ b. IsLogged b old new) (sym e) (shown, past)
 
 -- whether there is one, behind a reference
-pub copied-some : {X : Type 0} (x : Option (Bor X)) → is_some x ≡ is_some (option_copied x)
-copied-some None = refl
-copied-some (Some b) = refl
+pub copied_some : {X : Type 0} (x : Option (Bor X)) → is_some x ≡ is_some (option_copied x)
+copied_some None = refl
+copied_some (Some b) = refl
 
 -- nothing counted and nothing listed are the tables of nothing
-pub nothing-seen : (es : List (RowKey × OutcomeCounts)) (ps : Places) → es ≡ [] → ps ≡ [] → tables_in es ps ≡ tables_of empty empty
-nothing-seen es ps none clear =
+pub nothing_seen : (es : List (RowKey × OutcomeCounts)) (ps : Places) → es ≡ [] → ps ≡ [] → tables_in es ps ≡ tables_of empty empty
+nothing_seen es ps none clear =
     (λ i. tables_in (none i) (clear i))
     ∙ (λ i. record { counts = from_entries (counts_among (no-entries row_cmp OutcomeCounts i)); places = from_entries [] })
     ∙ (λ i. record {
@@ -62,3 +62,5 @@ nothing-seen es ps none clear =
           listed_set (map (λ e. e.0) (sym (no-entries listed_cmp (Unit {0})) i) ++ flat_map listings_of_fact
           (map (λ e. e.1) (sym (no-entries place_cmp Fact) i)));
     })
+
+pub ruleset seen_facts = (has_seen, copied_some)

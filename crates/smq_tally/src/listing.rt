@@ -12,6 +12,7 @@ use std::alloc::AllocError;
 
 /// Lists a fact's place where it is open or lapsed. It says whether it left a change to take back. An error changes
 /// nothing.
+#[tactic(auto, using(crate::proofs::Stored::place_more))]
 pub(crate) fn list_fact(places: &mut KeptMap<Listed, ()>, fact: &Fact) -> Result<bool, AllocError>
     ensures ok { OnOk result (places_in places.new.content
         ≡ with_listed (places_in places.old.content) (listings_of_fact fact.now)) }
@@ -73,6 +74,7 @@ pub(crate) fn relist(
 }
 
 /// Lists a place no more. It says whether it left a change to take back. An error changes nothing.
+#[tactic(auto, using(crate::proofs::Stored::place_less))]
 pub(crate) fn unlist(places: &mut KeptMap<Listed, ()>, listed: &Listed) -> Result<bool, AllocError>
     ensures ok { OnOk result (places_in places.new.content
         ≡ fin.remove (places_in places.old.content) listed.now) }
@@ -85,6 +87,7 @@ pub(crate) fn unlist(places: &mut KeptMap<Listed, ()>, listed: &Listed) -> Resul
 }
 
 /// Whether a fact's place is in the set of listed places, as one of its list.
+#[tactic(auto, using(crate::proofs::Stored::seen_facts))]
 pub(crate) fn has_listing(places: &KeptMap<Listed, ()>, fact: &Fact) -> bool
     ensures { result
         ≡ list_any (fin.contains_key (places_in places.now.content)) (listings_of_fact fact.now) }

@@ -116,6 +116,7 @@ impl NotedTables {
     }
 
     /// Counts one fact more, and lists it where it is open or lapsed. An error changes nothing.
+    #[tactic(auto, using(crate::proofs::NotesAmong::notes_with))]
     pub(crate) fn add_fact(&mut self, fact: &Fact) -> Result<(), AllocError>
         requires room { (key : CountKey) → count_of self.old.shown key + 1 < 2 ^ 64 }
         ensures ok { OnOk result (self.new.shown ≡ one_more self.old.shown fact.now) }

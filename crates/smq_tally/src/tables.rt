@@ -64,6 +64,7 @@ impl Eq for Tables {
 
 impl Tables {
     /// The tables of no facts and no notes.
+    #[tactic(auto, using(crate::proofs::Stored::nothing_seen))]
     pub(crate) fn new(alloc: Global) -> Tables
         ensures shown { result.shown ≡ tables_of fin.empty fin.empty }
         ensures settled { result.settled ≡ tables_of fin.empty fin.empty }
@@ -75,6 +76,7 @@ impl Tables {
     }
 
     /// The tables of facts, no two of one place, and of notes.
+    #[tactic(auto, using(crate::proofs::ListedFacts::notes_listed))]
     pub fn of(alloc: Global, facts: &[Fact], notes: &[Listed]) -> Result<Tables, AllocError>
         requires apart { AreOfDifferentPlaces facts.now }
         ensures shown { IfOk result (λ tables.
@@ -164,6 +166,7 @@ impl Tables {
     }
 
     /// Whether a place is listed.
+    #[tactic(auto, using(crate::proofs::Stored::seen_facts))]
     pub(crate) fn is_listed(&self, listed: &Listed) -> bool
         ensures { result ≡ fin.contains_key self.now.shown.places listed.now }
     {
@@ -221,6 +224,7 @@ impl Tables {
     }
 
     /// Lists one place more. An error changes nothing.
+    #[tactic(auto, using(crate::proofs::Stored::place_more))]
     pub(crate) fn list_place(&mut self, listed: Listed) -> Result<(), AllocError>
         ensures ok { OnOk result (self.new.shown ≡ record self.old.shown {
           places = fin.insert self.old.shown.places listed tt;

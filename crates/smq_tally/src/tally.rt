@@ -251,6 +251,7 @@ impl Tally {
 }
 
 // Whether there is a fact at a place.
+#[tactic(auto, using(crate::proofs::Held::found_facts))]
 fn is_there(facts: &mut Kept<Place, Fact>, place: &Place) -> bool
     ensures value { result ≡ fin.contains_key (facts_in facts.old.content) place.now }
     ensures content { facts.new.content ≡ facts.old.content }
@@ -263,6 +264,7 @@ fn is_there(facts: &mut Kept<Place, Fact>, place: &Place) -> bool
 }
 
 // A copy of the fact at a place.
+#[tactic(auto, using(crate::proofs::Held::fact_found))]
 fn fact_at(facts: &mut Kept<Place, Fact>, place: &Place) -> Option<Fact>
     ensures value { result ≡ fin.get (facts_in facts.old.content) place.now }
     ensures content { facts.new.content ≡ facts.old.content }
@@ -290,6 +292,7 @@ fn outcome_of(fact: &Option<Fact>) -> Option<Outcome>
 }
 
 // Whether the fact that is there, if one is, is this one.
+#[tactic(auto, using(crate::proofs::FactEquals::facts_decide))]
 fn is_same(there: &Option<Fact>, fact: &Fact) -> bool
     ensures { IsTrue result → there.now ≡ Some fact.now }
 {

@@ -4,7 +4,7 @@ use Rattle.smq_tally.specs.declared.list.Listed.{Listed}
 use Rattle.smq_tally.specs.Tables.{TablesValue}
 use Rattle.smq_tally.specs.within.Kept.{places_in}
 use Rattle.smq_tally.specs.within.Noted.{NotedValue, notes_among, AreApart}
-use Rattle.smq_tally.proofs.Stored.{place-less, taken-logged}
+use Rattle.smq_tally.proofs.Stored.{place_less, taken-logged}
 use Rattle.smq_tally.proofs.NotesAmong.{apart-fewer, apart-less, among-less}
 use Rattle.std.specs.Prelude.{IsTrue}
 use Rattle.std.specs.FinSet.{FinSet}
@@ -51,7 +51,7 @@ returns-then-not-takes_facts-clause-ok c =
 -- what is kept apart without the note
 took : (c : In_ok-taken) → places_in c.take.new.self.content ≡ remove (places_in c.self.inside.apart.content) c.args.note.now
 took c =
-    place-less c.self.inside.apart.content c.take.new.self.content c.args.note.now c.in_ok-taken.ensures.ordered
+    place_less c.self.inside.apart.content c.take.new.self.content c.args.note.now c.in_ok-taken.ensures.ordered
     c.in_ok-taken.ensures.content
 
 own : (c : In_ok-taken) → AreApart (places_in c.take.new.self.content) × AreApart (places_in c.take.new.self.settled)

@@ -4,7 +4,7 @@ use Rattle.smq_tally.specs.declared.list.Listed.{Listed}
 use Rattle.smq_tally.specs.Tables.{TablesValue, tables_of}
 use Rattle.smq_tally.specs.within.Kept.{places_in}
 use Rattle.smq_tally.specs.within.Noted.{notes_among, AreApart}
-use Rattle.smq_tally.proofs.Stored.{nothing-seen}
+use Rattle.smq_tally.proofs.Stored.{nothing_seen}
 use Rattle.smq_tally.proofs.NotesAmong.{apart-none, none-noted}
 use Rattle.smq_tally.proofs.noted.NotedTables.new.Goals as goal
 
@@ -12,7 +12,7 @@ abbrev Entries : Type 0
 Entries = List (Listed × Unit {0})
 
 clear : notes_among empty (tables_of empty empty).places ≡ empty
-clear = ap (λ (t : TablesValue). notes_among empty t.places) (sym (nothing-seen [] [] refl refl)) ∙ none-noted
+clear = ap (λ (t : TablesValue). notes_among empty t.places) (sym (nothing_seen [] [] refl refl)) ∙ none-noted
 
 pub invariant_of-result : goal.invariant_of-result
 invariant_of-result c = (

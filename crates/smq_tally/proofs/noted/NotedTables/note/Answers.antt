@@ -4,7 +4,7 @@ use Rattle.smq_tally.specs.declared.list.Listed.{Listed}
 use Rattle.smq_tally.specs.Tables.{TablesValue}
 use Rattle.smq_tally.specs.within.Kept.{places_in}
 use Rattle.smq_tally.specs.within.Noted.{NotedValue, notes_among, AreApart}
-use Rattle.smq_tally.proofs.Stored.{place-more}
+use Rattle.smq_tally.proofs.Stored.{place_more}
 use Rattle.smq_tally.proofs.NotesAmong.{apart-more, note-apart, note-among}
 use Rattle.std.specs.FinSet.{FinSet}
 use Rattle.smq_tally.specs.Lists.{listed_cmp}
@@ -28,7 +28,7 @@ returns-then-not-takes_facts-clause-ok c =
 
 pub invariant_of-self-in_default : goal.invariant_of-self-in_default
 invariant_of-self-in_default c =
-    let put = place-more c.self.inside.apart.content c.set.new.self.content c.args.note tt c.in_ok-set.ensures.content in
+    let put = place_more c.self.inside.apart.content c.set.new.self.content c.args.note tt c.in_ok-set.ensures.content in
     let takes = sym c.takes_facts.ensures ∙ c.if-not-takes_facts.false in (
       subst (λ (s : FinSet listed_cmp). AreApart s) (sym put)
           (apart-more (places_in c.self.inside.apart.content) c.args.note takes c.self.invariant.0),
@@ -38,7 +38,7 @@ invariant_of-self-in_default c =
 pub returns-clause-ok : goal.returns-clause-ok
 returns-clause-ok c =
     let note = c.args.note in
-    let put = place-more c.self.inside.apart.content c.set.new.self.content note tt c.in_ok-set.ensures.content in
+    let put = place_more c.self.inside.apart.content c.set.new.self.content note tt c.in_ok-set.ensures.content in
     let ok = c.in_default.ensures.ok in
     (λ i. record {
       notes =

@@ -6,7 +6,7 @@ use Rattle.smq_tally.specs.Tables.{TablesValue}
 use Rattle.smq_tally.specs.within.Counting.{one_more, one_less, without}
 use Rattle.smq_tally.specs.within.Kept.{places_in}
 use Rattle.smq_tally.specs.within.Noted.{NotedValue, notes_among}
-use Rattle.smq_tally.proofs.NotesAmong.{notes-with, notes-without, fact-noted}
+use Rattle.smq_tally.proofs.NotesAmong.{notes_with, notes-without, fact-noted}
 use Rattle.smq_tally.proofs.noted.NotedTables.replace_fact.Goals as goal
 
 pub returns-clause-ok : goal.returns-clause-ok
@@ -23,6 +23,6 @@ returns-clause-notes c =
     let places = c.self.inside.tables.shown.places in
     let stays = c.has_listing-is_noted.result in
     ap (λ (t : TablesValue). notes_among apart t.places) c.in_ok-replace_fact.ensures.ok
-    ∙ notes-with apart (cond stays places (without places (listings_of_fact c.args.before.now))) c.args.after.now
+    ∙ notes_with apart (cond stays places (without places (listings_of_fact c.args.before.now))) c.args.after.now
     ∙ notes-without apart places c.args.before.now stays
     ∙ ap (λ (t : NotedValue). t.notes) c.self.view_is
