@@ -25,7 +25,6 @@ use Rattle.smq_tally.specs.within.Kept.{facts_in, StandAtTheirPlaces, Tallies}
 use Rattle.smq_tally.specs.within.ListOrder.{lists}
 use Rattle.smq_tally.proofs.ListedFacts.{stand-with, stand-without, note-listed, note-stays, note-unlisted}
 use Rattle.smq_tally.proofs.Tallies.{number-bound, stands-counted, added-tables, removed-tables, replaced-tables}
-use Rattle.smq_tally.proofs.Stored.{copied_some}
 
 abbrev Facts : Type 0
 Facts = FinMap place_cmp Fact
@@ -44,9 +43,9 @@ pub fact-put : (es fs : Entries) (k : Place) (f : Fact) → fs ≡ insert_entry 
 fact-put es fs k f put = ap facts_in put ∙ seen.inserted places_total places_exact place-order es k f
 
 -- the same at the place of an equal fact
-pub copy-put : (es fs : Entries) (f copy : Fact) → copy ≡ f → fs ≡ insert_entry kept_place_cmp es copy.place f
+pub copy_put : (es fs : Entries) (f copy : Fact) → copy ≡ f → fs ≡ insert_entry kept_place_cmp es copy.place f
     → facts_in fs ≡ insert (facts_in es) f.place f
-copy-put es fs f copy same put = fact-put es fs copy.place f put ∙ (λ i. insert (facts_in es) (same i).place f)
+copy_put es fs f copy same put = fact-put es fs copy.place f put ∙ (λ i. insert (facts_in es) (same i).place f)
 
 pub fact-taken : (es fs : Entries) (k : Place) → IsStrictlySortedBy kept_place_cmp (keys_of es) → fs ≡ remove_entry (is_at (kept_place_cmp k)) es
     → facts_in fs ≡ remove (facts_in es) k
@@ -80,9 +79,9 @@ has-room es ps most notes t is sorted shown count small key =
     omega (arith, bound, same, there, fewer, told, count, small)
 
 -- a fact that is there is counted
-pub is-counted : (facts : Facts) (notes : Notes) {shown : TablesValue} (is : shown ≡ tables_of facts notes) (place : Place) (f : Fact)
+pub is_counted : (facts : Facts) (notes : Notes) {shown : TablesValue} (is : shown ≡ tables_of facts notes) (place : Place) (f : Fact)
     → get facts place ≡ Some f → AreCounted (keys_of_fact f) shown.counts
-is-counted facts notes is place f has =
+is_counted facts notes is place f has =
     subst (λ (t : TablesValue). AreCounted (keys_of_fact f) t.counts) (sym is) (stands-counted facts notes place f has)
 
 -- tables that are those of facts and notes, and the tables and facts after a change
@@ -153,5 +152,3 @@ module _ {facts settled : Facts} {notes settled_notes : Notes} {shown before : T
       ∙ ap (λ (t : TablesValue). record t { places = remove t.places note }) holds.now
       ∙ (λ i. record { counts = (tables_of facts notes).counts; places = note-unlisted facts notes note holds.places (sym none) i })
       ∙ ap (λ (n : Notes). tables_of facts n) (sym took)
-
-pub ruleset found_facts = (fact_found, copied_some)

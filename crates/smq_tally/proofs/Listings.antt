@@ -9,7 +9,7 @@ use Rattle.smq_tally.specs.declared.list.Listed.{Listed}
 use Rattle.smq_tally.specs.Lists.{listed, listed_cmp, list_rank, in_list}
 use Rattle.smq_tally.specs.Tables.{TablesValue, listed_in}
 use Rattle.smq_tally.specs.within.ListOrder.{listed_total}
-use Rattle.smq_tally.proofs.ListOrders.{listed_exact, places_sorted, same_list, places-of}
+use Rattle.smq_tally.proofs.ListOrders.{listed_exact, same_list, places-of}
 use Rattle.smq_tally.proofs.Parts.{part-iff}
 
 -- what a set may have at a key is nothing
@@ -32,5 +32,3 @@ listed_iff t list place =
       λ h. ap is_some (one.0 (subst (λ (ps : List Place). Contains ps place) (sym same) h)),
       λ h. subst (λ (ps : List Place). Contains ps place) same (one.1 (same_some (get t.places (listed list place)) (Some tt) h)),
     )
-
-pub ruleset list_facts = (places_sorted, listed_iff)

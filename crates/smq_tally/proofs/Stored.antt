@@ -62,5 +62,3 @@ nothing_seen es ps none clear =
           listed_set (map (λ e. e.0) (sym (no-entries listed_cmp (Unit {0})) i) ++ flat_map listings_of_fact
           (map (λ e. e.1) (sym (no-entries place_cmp Fact) i)));
     })
-
-pub ruleset seen_facts = (has_seen, copied_some)

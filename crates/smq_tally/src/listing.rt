@@ -87,7 +87,7 @@ pub(crate) fn unlist(places: &mut KeptMap<Listed, ()>, listed: &Listed) -> Resul
 }
 
 /// Whether a fact's place is in the set of listed places, as one of its list.
-#[tactic(auto, using(crate::proofs::Stored::seen_facts))]
+#[tactic(auto, using(crate::proofs::Stored::has_seen, crate::proofs::Stored::copied_some))]
 pub(crate) fn has_listing(places: &KeptMap<Listed, ()>, fact: &Fact) -> bool
     ensures { result
         ≡ list_any (fin.contains_key (places_in places.now.content)) (listings_of_fact fact.now) }

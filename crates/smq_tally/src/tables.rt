@@ -166,7 +166,7 @@ impl Tables {
     }
 
     /// Whether a place is listed.
-    #[tactic(auto, using(crate::proofs::Stored::seen_facts))]
+    #[tactic(auto, using(crate::proofs::Stored::has_seen, crate::proofs::Stored::copied_some))]
     pub(crate) fn is_listed(&self, listed: &Listed) -> bool
         ensures { result ≡ fin.contains_key self.now.shown.places listed.now }
     {

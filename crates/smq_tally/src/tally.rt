@@ -93,6 +93,7 @@ impl Tally {
     }
 
     /// Takes the fact of a place out, which is there. An error leaves facts and notes as they were.
+    #[tactic(auto, using(crate::proofs::Held::is_counted))]
     pub fn remove(&mut self, place: Place) -> Result<(), AllocError>
         requires there { IsSome (fin.get self.old.facts place) }
         ensures ok { OnOk result (self.new.facts ≡ fin.remove self.old.facts place) }
@@ -251,7 +252,7 @@ impl Tally {
 }
 
 // Whether there is a fact at a place.
-#[tactic(auto, using(crate::proofs::Held::found_facts))]
+#[tactic(auto, using(crate::proofs::Held::fact_found, crate::proofs::Stored::copied_some))]
 fn is_there(facts: &mut Kept<Place, Fact>, place: &Place) -> bool
     ensures value { result ≡ fin.contains_key (facts_in facts.old.content) place.now }
     ensures content { facts.new.content ≡ facts.old.content }
@@ -304,6 +305,7 @@ fn is_same(there: &Option<Fact>, fact: &Fact) -> bool
 
 // Puts a fact at its place, and counts and lists it in the place of the one that is there. An error leaves what was
 // settled.
+#[tactic(auto, using(crate::proofs::Held::is_counted, crate::proofs::Held::copy_put))]
 fn put(
     facts: &mut Kept<Place, Fact>,
     tables: &mut NotedTables,

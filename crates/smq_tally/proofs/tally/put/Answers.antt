@@ -5,7 +5,7 @@ use Rattle.smq_tally.specs.Lists.{listings_of_fact}
 use Rattle.smq_tally.specs.Tables.{TablesValue, tables_of}
 use Rattle.smq_tally.specs.within.Counting.{with_listed, one_more, one_less}
 use Rattle.smq_tally.specs.within.Kept.{facts_in}
-use Rattle.smq_tally.proofs.Held.{copy-put, has-room, is-counted, shown-added, shown-replaced}
+use Rattle.smq_tally.proofs.Held.{copy_put, has-room, shown-added, shown-replaced}
 use Rattle.smq_tally.proofs.ListedFacts.{fact-covered}
 use Rattle.smq_tally.proofs.tally.put.Goals as goal
 
@@ -13,11 +13,6 @@ pub replace_fact-requires-clause-room : goal.replace_fact-requires-clause-room
 replace_fact-requires-clause-room c =
     has-room c.args.facts.now.content c.args.facts.now.places c.place_count.result c.args.tables.now.notes c.args.tables.now.shown
     c.requires.shown c.place_count.ensures.ordered c.place_count.ensures.content c.place_count.ensures.count c.place_count.ensures.small
-
-pub replace_fact-requires-clause-counted : goal.replace_fact-requires-clause-counted
-replace_fact-requires-clause-counted c =
-    is-counted (facts_in c.args.facts.now.content) c.args.tables.now.notes c.requires.shown c.args.fact.place c.in-Some.before
-    (sym c.requires.there ∙ c.in-Some.is)
 
 pub replace_fact-requires-clause-listed : goal.replace_fact-requires-clause-listed
 replace_fact-requires-clause-listed c =
@@ -33,26 +28,18 @@ add_fact-requires c = record {
       c.requires.shown c.place_count.ensures.ordered c.place_count.ensures.content c.place_count.ensures.count c.place_count.ensures.small;
 }
 
-pub returns-in_ok-replace_fact-in-Some-clause-ok : goal.returns-in_ok-replace_fact-in-Some-clause-ok
-returns-in_ok-replace_fact-in-Some-clause-ok c =
-    copy-put c.args.facts.now.content c.set.new.self.content c.args.fact c.copy-after.result c.copy-after.ensures c.in_ok-set.ensures.content
-
-pub returns-in_ok-add_fact-in-None-clause-ok : goal.returns-in_ok-add_fact-in-None-clause-ok
-returns-in_ok-add_fact-in-None-clause-ok c =
-    copy-put c.args.facts.now.content c.set.new.self.content c.args.fact c.copy-after.result c.copy-after.ensures c.in_ok-set.ensures.content
-
 pub returns-in_ok-replace_fact-in-Some-clause-shown : goal.returns-in_ok-replace_fact-in-Some-clause-shown
 returns-in_ok-replace_fact-in-Some-clause-shown c =
     let stays = list_any (contains_key c.args.tables.now.notes) (listings_of_fact c.in-Some.before) in
     shown-replaced (facts_in c.args.facts.now.content) c.args.tables.now.notes c.requires.shown c.in-Some.before c.args.fact stays
     c.requires.places (sym c.requires.there ∙ c.in-Some.is) refl
-    (copy-put c.args.facts.now.content c.set.new.self.content c.args.fact c.copy-after.result c.copy-after.ensures c.in_ok-set.ensures.content)
+    (copy_put c.args.facts.now.content c.set.new.self.content c.args.fact c.copy-after.result c.copy-after.ensures c.in_ok-set.ensures.content)
     (c.in_ok-replace_fact-in-Some.ensures.ok ∙ ap (one_more (one_less c.args.tables.now.shown c.in-Some.before stays)) c.copy-after.ensures)
     ∙ ap (tables_of (facts_in c.set.new.self.content)) (sym c.in_ok-replace_fact-in-Some.ensures.notes)
 
 pub returns-in_ok-add_fact-in-None-clause-shown : goal.returns-in_ok-add_fact-in-None-clause-shown
 returns-in_ok-add_fact-in-None-clause-shown c =
     shown-added (facts_in c.args.facts.now.content) c.args.tables.now.notes c.requires.shown c.args.fact (sym c.requires.there ∙ c.in-None.is)
-    (copy-put c.args.facts.now.content c.set.new.self.content c.args.fact c.copy-after.result c.copy-after.ensures c.in_ok-set.ensures.content)
+    (copy_put c.args.facts.now.content c.set.new.self.content c.args.fact c.copy-after.result c.copy-after.ensures c.in_ok-set.ensures.content)
     (c.in_ok-add_fact-in-None.ensures.ok ∙ ap (one_more c.args.tables.now.shown) c.copy-after.ensures)
     ∙ ap (tables_of (facts_in c.set.new.self.content)) (sym c.in_ok-add_fact-in-None.ensures.notes)

@@ -7,14 +7,8 @@ use Rattle.smq_tally.specs.Lists.{listings_of_fact}
 use Rattle.smq_tally.specs.Tally.{TallyValue}
 use Rattle.smq_tally.specs.within.Noted.{NotedValue}
 use Rattle.smq_tally.specs.within.Kept.{facts_in, StandAtTheirPlaces}
-use Rattle.smq_tally.proofs.Held.{Entries, fact-taken, has-entry, is-counted, still, fact-removed, stand-removed}
+use Rattle.smq_tally.proofs.Held.{Entries, fact-taken, has-entry, still, fact-removed, stand-removed}
 use Rattle.smq_tally.proofs.tally.Tally.remove.Goals as goal
-
-pub remove_fact-requires : goal.remove_fact-requires
-remove_fact-requires c = record {
-  counted = is-counted (facts_in c.self.inside.facts.content) c.self.inside.tables.notes c.self.invariant.now c.args.place c.in-Some.fact
-      (sym c.in-Some.ensures.value);
-}
 
 -- the facts of before
 back : (c : goal.After-take_back) → c.take_back.new.self.content ≡ c.self.inside.facts.content
