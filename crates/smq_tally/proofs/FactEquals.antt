@@ -1,5 +1,5 @@
 -- What `==` calls one fact is one: part by part.
-use Rattle.std.proofs.Common.{◌≡◌, ℕ, Bool, List, Option, Some, None, refl, ap, rules}
+use Rattle.std.proofs.Common.{◌≡◌, ℕ, Bool, List, Option, Some, None, refl, sym, ap, ◌∙◌, rules}
 use Rattle.std.specs.Bool.{Decides}
 use Rattle.std.specs.Prelude.{◌&&◌}
 use Rattle.std.specs.Option.{option_eq}
@@ -12,6 +12,7 @@ use Rattle.smq_kit.specs.contracts.number.NetworkPartialEq.TheImpl as network_eq
 use Rattle.smq_tally.specs.declared.band.Band.{Band}
 use Rattle.smq_tally.specs.declared.fact.Fact.{Fact}
 use Rattle.smq_tally.specs.contracts.band.BandPartialEq.TheImpl as band_eq
+use Rattle.smq_tally.specs.contracts.fact.FactEq.TheImpl.Laws as fact_laws
 use Rattle.smq_tally.specs.within.Equal.{fact_eq}
 use Rattle.smq_tally.specs.within.Keys.{at_places, errors, outcomes}
 
@@ -64,14 +65,5 @@ one a b p = λ i. record {
   centre_delay = p.1.1.1.1.1.1 i;
 }
 
-parts : (a b : Fact) → a ≡ b → Parts a b
-parts a b e = (
-  ap (λ f. f.place) e,
-  (
-    ap (λ f. f.link) e,
-    (ap (λ f. f.route) e, (ap (λ f. f.outcome) e, (ap (λ f. f.error) e, (ap (λ f. f.link_delay) e, ap (λ f. f.centre_delay) e)))),
-  ),
-)
-
 pub facts_decide : (a b : Fact) → Decides (fact_eq a b) (a ≡ b)
-facts_decide a b = Decides-like (fact_eq a b) (one a b) (parts a b) (parts_decide a b)
+facts_decide a b = (λ h. one a b ((parts_decide a b).0 h), λ e. ap (fact_eq a) (sym e) ∙ fact_laws.laws-law.refl a)

@@ -4,7 +4,7 @@ use Rattle.std.specs.Prelude.{count_by, is_some, map, option_to_list}
 use Rattle.std.specs.List.{AllByRecursion, flat_map, list_any}
 use Rattle.std.specs.Ordering.{eq_by_cmp}
 use Rattle.std.specs.FinMap.{FinMap, get, insert, remove, empty, entries, values, keys, contains_key, contains_key-keys, get-empty, get-insert, get-remove, same_map}
-use Rattle.std.proofs.Math.Bool.{or-false, or_assoc, or_self_left}
+use Rattle.std.proofs.Math.Bool.{or-false, or-true, or_assoc, or_self_left}
 use Rattle.std.proofs.lemmas.Bool.{false≢true, false_from_ne_true}
 use Rattle.std.proofs.lemmas.List.Folds.{list_any-append}
 use Rattle.std.proofs.lemmas.Map.Views.{tells_apart}
@@ -28,7 +28,7 @@ use Rattle.smq_tally.specs.within.Kept.{StandAtTheirPlaces}
 use Rattle.smq_tally.specs.within.ListOrder.{lists, listed_total, same_listed, takes_facts}
 use Rattle.smq_tally.proofs.ListOrders.{listed_exact}
 use Rattle.smq_tally.proofs.Listings.{same_some}
-use Rattle.smq_tally.proofs.Undone.{take-out, put-again, remove-none}
+use Rattle.smq_tally.proofs.Undone.{take-out, put-again}
 
 -- ---- sets by what they have
 
@@ -42,6 +42,11 @@ sets-one s t same = same_map listed_total listed_exact s t (λ q. same_some (get
 
 pub have-insert : (s : FinSet listed_cmp) (e q : Listed) → contains_key (insert s e tt) q ≡ (same_listed q e || contains_key s q)
 have-insert s e q = ap is_some (get-insert listed_total s e tt q) ∙ some-or (same_listed q e) (get s q)
+
+pub have-remove : (s : FinSet listed_cmp) (e q : Listed) → contains_key (remove s e) q ≡ cond (same_listed q e) false (contains_key s q)
+have-remove s e q =
+    ap is_some (get-remove listed_total s e q)
+    ∙ elim (same_listed q e) as (λ b. is_some (cond b None (get s q)) ≡ cond b false (contains_key s q)) [ true ↦ refl | false ↦ refl ]
 
 pub have-listed : (es : List Listed) (q : Listed) → contains_key (listed_set es) q ≡ list_any (same_listed q) es
 have-listed [] q = ap is_some (get-empty listed_cmp q)
@@ -314,48 +319,38 @@ listed-by-own facts q own = by-fact (get facts q.place) refl
         ∙ any-more (lists q) left f (ap (get left) at ∙ gone)
         ∙ ap (λ b. lists q f || b) (none-lists left q (stand-without facts q.place own) gone)
 
--- a note more and less
-pub noted-again : (notes : FinSet listed_cmp) (note : Listed) → contains_key notes note ≡ true → insert (remove notes note) note tt ≡ notes
-noted-again notes note has = put-again listed_total listed_exact notes note tt (same_some (get notes note) (Some tt) has)
-
 module _ (facts : FinMap place_cmp Fact) (notes : FinSet listed_cmp) (note : Listed) (own : StandAtTheirPlaces facts) where
-  -- the tables without the note list its place for the fact there alone
-  left-listed : contains_key (tables_of facts (remove notes note)).places note ≡ list_any (lists note) (option_to_list (get facts note.place))
-  left-listed =
-      places-have facts (remove notes note) note
-      ∙ (λ i. is_some (maps.get-removed listed_total listed_exact notes note i) || listed-by-own facts note own i)
+  -- at the note's place is listed what the fact there lists
+  there : (q : Listed) → same_listed q note ≡ true
+      → list_any (lists q) (values facts) ≡ list_any (lists note) (option_to_list (get facts note.place))
+  there q e = ap (λ (x : Listed). list_any (lists x) (values facts)) (tells_apart listed_exact q note e) ∙ listed-by-own facts note own
 
-  -- with the note, if it is there, they list its place too
-  before-note : contains_key notes note ≡ true → (tables_of facts notes).places ≡ insert (tables_of facts (remove notes note)).places note tt
-  before-note noted =
-      ap (λ (s : FinSet listed_cmp). (tables_of facts s).places) (sym (noted-again notes note noted))
-      ∙ sym (note-listed facts (remove notes note) note)
-
-  -- and if it isn't, they list the same
-  before-none : contains_key notes note ≡ false → (tables_of facts notes).places ≡ (tables_of facts (remove notes note)).places
-  before-none none =
-      ap (λ (s : FinSet listed_cmp). (tables_of facts s).places)
-      (sym (remove-none listed_total listed_exact notes note (same_some (get notes note) None none)))
+  -- what the tables without the note have
+  without-note : (q : Listed) → (cond (same_listed q note) false (contains_key notes q) || list_any (lists q) (values facts))
+      ≡ contains_key (tables_of facts (remove notes note)).places q
+  without-note q =
+      ap (λ b. b || list_any (lists q) (values facts)) (sym (have-remove notes note q)) ∙ sym (places-have facts (remove notes note) q)
 
   -- what the fact of the place lists too stays listed
   pub note-stays : list_any (lists note) (option_to_list (get facts note.place)) ≡ true
       → (tables_of facts notes).places ≡ (tables_of facts (remove notes note)).places
-  note-stays there = by (contains_key notes note) refl
+  note-stays stays = sets-one _ _ (λ q. places-have facts notes q ∙ by q (same_listed q note) refl ∙ without-note q)
     where
-      by : (b : Bool) → contains_key notes note ≡ b → (tables_of facts notes).places ≡ (tables_of facts (remove notes note)).places
-      by true noted = before-note noted ∙ listed-more (tables_of facts (remove notes note)).places note (left-listed ∙ there)
-      by false none = before-none none
+      by : (q : Listed) (b : Bool) → same_listed q note ≡ b → (contains_key notes q || list_any (lists q) (values facts))
+          ≡ (cond b false (contains_key notes q) || list_any (lists q) (values facts))
+      by q true e = ap (λ b. contains_key notes q || b) (there q e ∙ stays) ∙ or-true (contains_key notes q) ∙ sym (there q e ∙ stays)
+      by q false e = refl
 
   -- and else it is listed no more
   pub note-unlisted : list_any (lists note) (option_to_list (get facts note.place)) ≡ false
       → remove (tables_of facts notes).places note ≡ (tables_of facts (remove notes note)).places
-  note-unlisted unlisted = by (contains_key notes note) refl
+  note-unlisted none = sets-one _ _ (λ q.
+      have-remove (tables_of facts notes).places note q
+      ∙ ap (cond (same_listed q note) false) (places-have facts notes q)
+      ∙ by q (same_listed q note) refl
+      ∙ without-note q)
     where
-      left : FinSet listed_cmp
-      left = (tables_of facts (remove notes note)).places
-
-      by : (b : Bool) → contains_key notes note ≡ b → remove (tables_of facts notes).places note ≡ left
-      by true noted = ap (λ (s : FinSet listed_cmp). remove s note) (before-note noted) ∙ listed-again left note (left-listed ∙ unlisted)
-      by false none =
-          ap (λ (s : FinSet listed_cmp). remove s note) (before-none none)
-          ∙ remove-none listed_total listed_exact left note (same_some (get left note) None (left-listed ∙ unlisted))
+      by : (q : Listed) (b : Bool) → same_listed q note ≡ b → cond b false (contains_key notes q || list_any (lists q) (values facts))
+          ≡ (cond b false (contains_key notes q) || list_any (lists q) (values facts))
+      by q true e = sym (there q e ∙ none)
+      by q false e = refl

@@ -1,8 +1,8 @@
 -- Notes among the listed places of tables.
-use Rattle.std.proofs.Common.{◌≡◌, Bool, ◌&&◌, ◌||◌, not, true, false, cond, None, inl, inr, List, refl, sym, ap, ◌∙◌}
+use Rattle.std.proofs.Common.{◌≡◌, Bool, ◌&&◌, ◌||◌, not, true, false, cond, inl, inr, List, refl, sym, ap, ◌∙◌}
 use Rattle.std.specs.Prelude.{filter, is_some}
 use Rattle.std.specs.List.{list_any}
-use Rattle.std.specs.FinMap.{get, insert, remove, empty, keys, contains_key, contains_key-keys, get-empty, get-remove}
+use Rattle.std.specs.FinMap.{insert, remove, empty, keys, contains_key, contains_key-keys, get-empty}
 use Rattle.std.specs.FinSet.{FinSet}
 use Rattle.std.proofs.Math.Bool.{and-false, or-false, or-true}
 use Rattle.std.proofs.lemmas.Bool.{false≢true}
@@ -12,10 +12,10 @@ use Rattle.smq_tally.specs.declared.fact.Fact.{Fact}
 use Rattle.smq_tally.specs.declared.list.Listed.{Listed}
 use Rattle.smq_tally.specs.Lists.{listed_cmp, listings_of_fact}
 use Rattle.smq_tally.specs.within.Counting.{with_listed, without}
-use Rattle.smq_tally.specs.within.ListOrder.{listed_total, same_listed, takes_facts}
+use Rattle.smq_tally.specs.within.ListOrder.{same_listed, takes_facts}
 use Rattle.smq_tally.specs.within.Noted.{is_untaken, notes_among, AreApart}
 use Rattle.smq_tally.proofs.ListOrders.{listed_exact}
-use Rattle.smq_tally.proofs.ListedFacts.{sets-one, have-insert, have-listed, with-have, left-have, none-taken, Once, listed-once}
+use Rattle.smq_tally.proofs.ListedFacts.{sets-one, have-insert, have-listed, have-remove, with-have, left-have, none-taken, Once, listed-once}
 
 abbrev Places : Type 0
 Places = FinSet listed_cmp
@@ -36,11 +36,6 @@ notes-have apart places q =
     ∙ list_any-append (same_listed q) (keys apart) (filter is_untaken (keys places))
     ∙ (λ i. sym (contains_key-keys apart q) i || any-filter q (keys places) i)
     ∙ ap (λ b. contains_key apart q || (is_untaken q && b)) (sym (contains_key-keys places q))
-
-have-remove : (s : Places) (e q : Listed) → contains_key (remove s e) q ≡ cond (same_listed q e) false (contains_key s q)
-have-remove s e q =
-    ap is_some (get-remove listed_total s e q)
-    ∙ elim (same_listed q e) as (λ b. is_some (cond b None (get s q)) ≡ cond b false (contains_key s q)) [ true ↦ refl | false ↦ refl ]
 
 -- ---- a note more
 

@@ -57,6 +57,7 @@ impl Tally {
     }
 
     /// Whether it has a fact of a place.
+    #[tactic(auto, using(crate::proofs::Held::fact_found, crate::proofs::Stored::copied_some))]
     pub fn has_fact(&mut self, place: Place) -> bool
         ensures value { result ≡ fin.contains_key self.old.facts place }
         ensures held { held_in self.new ≡ held_in self.old }
@@ -65,7 +66,7 @@ impl Tally {
         ensures touches { self.new.touches ≤ self.old.touches + 1 }
         ensures counted { self.old.touches ≤ self.new.touches }
     {
-        is_there(&mut self.facts, &place)
+        self.facts.get(&place).is_some()
     }
 
     /// Takes one fact more, of a place that has none yet. An error leaves facts and notes as they were.
@@ -249,19 +250,6 @@ impl Tally {
         self.facts.settle();
         self.tables.settle();
     }
-}
-
-// Whether there is a fact at a place.
-#[tactic(auto, using(crate::proofs::Held::fact_found, crate::proofs::Stored::copied_some))]
-fn is_there(facts: &mut Kept<Place, Fact>, place: &Place) -> bool
-    ensures value { result ≡ fin.contains_key (facts_in facts.old.content) place.now }
-    ensures content { facts.new.content ≡ facts.old.content }
-    ensures settled { facts.new.settled ≡ facts.old.settled }
-    ensures pending { facts.new.pending ≡ facts.old.pending }
-    ensures touches { facts.new.touches ≤ facts.old.touches + 1 }
-    ensures counted { facts.old.touches ≤ facts.new.touches }
-{
-    facts.get(place).is_some()
 }
 
 // A copy of the fact at a place.

@@ -18,10 +18,6 @@ use Rattle.smq_tally.specs.Tables.{TablesValue}
 abbrev pub Counts : Type 0
 Counts = fin.FinMap count_cmp ℕ
 
--- where a message is counted in a view and those after it
-abbrev pub keys_from : View → Fact → List CountKey
-keys_from view f = flat_map (λ v. option_to_list (key_in v f)) (drop (view_rank view) views)
-
 -- the count at a key, which is 0 where none stands
 abbrev pub count_in : Counts → CountKey → ℕ
 count_in counts key = unwrap_or (fin.get counts key) 0
@@ -53,7 +49,7 @@ key_in_if view fact = option_and_then (key_in view) fact
 -- where it is counted in a view and those after it
 abbrev pub keys_left : View → Option Fact → List CountKey
 keys_left view None = []
-keys_left view (Some f) = keys_from view f
+keys_left view (Some f) = flat_map (λ v. option_to_list (key_in v f)) (drop (view_rank view) views)
 
 -- how many of these keys are one
 abbrev pub times : CountKey → List CountKey → ℕ

@@ -6,7 +6,5 @@ use Rattle.smq_tally.proofs.tables.Tables.add_fact.Goals as goal
 
 pub recount-requires-clause-room : goal.recount-requires-clause-room
 recount-requires-clause-room c =
-    room-for (counts_in c.self.inside.counts.content) (Some c.args.fact.now) (λ key.
-    let was = ap (λ t. count_in t.shown.counts key) c.self.view_is in
-    let few = c.requires.room key in
-    omega (arith, was, few))
+    room-for (counts_in c.self.inside.counts.content) (Some c.args.fact.now)
+    (λ key. omega (arith, ap (λ t. count_in t.shown.counts key) c.self.view_is, c.requires.room key))
