@@ -16,6 +16,7 @@ use Rattle.smq_tally.specs.within.ListOrder.{same_listed, takes_facts}
 use Rattle.smq_tally.specs.within.Noted.{is_untaken, notes_among, AreApart}
 use Rattle.smq_tally.proofs.ListOrders.{listed_exact}
 use Rattle.smq_tally.proofs.ListedFacts.{sets-one, have-insert, have-listed, have-remove, with-have, left-have, none-taken, Once, listed-once}
+use Rattle.smq_tally.proofs.Stored.{has_seen, copied_some}
 
 abbrev Places : Type 0
 Places = FinSet listed_cmp
@@ -129,22 +130,22 @@ without-other places f false q none =
 pub notes_with : (apart places : Places) (f : Fact) → notes_among apart (with_listed places (listings_of_fact f)) ≡ notes_among apart places
 notes_with apart places f = notes-stay apart places _ (with-other places f)
 
-pub notes-without : (apart places : Places) (f : Fact) (stays : Bool)
+pub notes_without : (apart places : Places) (f : Fact) (stays : Bool)
     → notes_among apart (cond stays places (without places (listings_of_fact f))) ≡ notes_among apart places
-notes-without apart places f stays = notes-stay apart places _ (without-other places f stays)
+notes_without apart places f stays = notes-stay apart places _ (without-other places f stays)
 
 -- in a list where messages stand for their outcomes, what is noted is kept apart
-pub apart-noted : (apart places : Places) (q : Listed) → takes_facts q.list ≡ true
+pub apart_noted : (apart places : Places) (q : Listed) → takes_facts q.list ≡ true
     → contains_key apart q ≡ contains_key (notes_among apart places) q
-apart-noted apart places q takes =
+apart_noted apart places q takes =
     sym (or-false (contains_key apart q))
     ∙ ap (λ t. contains_key apart q || (not t && contains_key places q)) (sym takes)
     ∙ sym (notes-have apart places q)
 
 -- and in another it is listed
-pub among-noted : (apart places : Places) (q : Listed) → AreApart apart → takes_facts q.list ≡ false
+pub among_noted : (apart places : Places) (q : Listed) → AreApart apart → takes_facts q.list ≡ false
     → contains_key places q ≡ contains_key (notes_among apart places) q
-among-noted apart places q own none = there (contains_key apart q) refl ∙ sym (notes-have apart places q)
+among_noted apart places q own none = there (contains_key apart q) refl ∙ sym (notes-have apart places q)
   where
     there : (a : Bool) → contains_key apart q ≡ a → contains_key places q ≡ (contains_key apart q || (not (takes_facts q.list) && contains_key places q))
     there true has = absurd (false≢true (sym none ∙ own.taken q has))
@@ -159,13 +160,13 @@ fact-noted apart places f = by-once (listings_of_fact f) (listed-once f.outcome 
     by-once ls (inl e) = ap (list_any (contains_key apart)) e ∙ sym (ap (list_any (contains_key (notes_among apart places))) e)
     by-once ls (inr one) =
         ap (list_any (contains_key apart)) one.1.0
-        ∙ ap (λ b. b || false) (apart-noted apart places one.0 one.1.1.1)
+        ∙ ap (λ b. b || false) (apart_noted apart places one.0 one.1.1.1)
         ∙ sym (ap (list_any (contains_key (notes_among apart places))) one.1.0)
 
 -- ---- what is kept apart
 
-pub apart-none : AreApart empty
-apart-none = record { taken = λ q has. absurd (false≢true (sym (ap is_some (get-empty {X = Unit {0}} listed_cmp q)) ∙ has)) }
+pub apart_none : AreApart empty
+apart_none = record { taken = λ q has. absurd (false≢true (sym (ap is_some (get-empty {X = Unit {0}} listed_cmp q)) ∙ has)) }
 
 pub apart-more : (apart : Places) (note : Listed) → takes_facts note.list ≡ true → AreApart apart → AreApart (insert apart note tt)
 apart-more apart note takes own = record { taken = λ q has. there q (same_listed q note) refl (sym (have-insert apart note q) ∙ has) }
@@ -188,3 +189,5 @@ none-noted = sets-one _ _ (λ q.
     ∙ (λ i. is_some (get-empty {X = Unit {0}} listed_cmp q i) || (not (takes_facts q.list) && is_some (get-empty {X = Unit {0}} listed_cmp q i)))
     ∙ and-false (not (takes_facts q.list))
     ∙ sym (ap is_some (get-empty {X = Unit {0}} listed_cmp q)))
+
+pub ruleset noted_facts = (apart_noted, among_noted, has_seen, copied_some)

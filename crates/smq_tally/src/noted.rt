@@ -44,6 +44,7 @@ impl Model for NotedTables {
 
 impl NotedTables {
     /// The tables of no facts and no notes.
+    #[tactic(auto, using(crate::proofs::NotesAmong::apart_none))]
     pub(crate) fn new(alloc: Global) -> NotedTables
         ensures shown { result.shown ≡ tables_of fin.empty fin.empty }
         ensures settled { result.settled ≡ tables_of fin.empty fin.empty }
@@ -79,6 +80,7 @@ impl NotedTables {
     }
 
     /// Whether a place is noted.
+    #[tactic(auto, using(crate::proofs::NotesAmong::noted_facts))]
     pub(crate) fn is_noted(&self, note: &Listed) -> bool
         ensures { result ≡ fin.contains_key self.now.notes note.now }
     {
@@ -130,6 +132,7 @@ impl NotedTables {
     }
 
     /// Counts a fact no more, and lists its place no more unless it is noted. An error changes nothing.
+    #[tactic(auto, using(crate::proofs::NotesAmong::notes_without))]
     pub(crate) fn remove_fact(&mut self, fact: &Fact) -> Result<(), AllocError>
         requires counted { AreCounted (keys_of_fact fact.now) self.old.shown.counts }
         ensures ok { OnOk result (self.new.shown ≡ one_less self.old.shown fact.now
@@ -146,6 +149,7 @@ impl NotedTables {
 
     /// Counts a fact no more and another in its place, and lists the other where it is open or lapsed. The place of the
     /// first is listed no more unless it is noted. An error leaves what was settled.
+    #[tactic(auto, using(crate::proofs::NotesAmong::notes_with, crate::proofs::NotesAmong::notes_without))]
     pub(crate) fn replace_fact(&mut self, before: &Fact, after: &Fact) -> Result<(), AllocError>
         requires room { (key : CountKey) → count_of self.old.shown key + 1 < 2 ^ 64 }
         requires counted { AreCounted (keys_of_fact before.now) self.old.shown.counts }

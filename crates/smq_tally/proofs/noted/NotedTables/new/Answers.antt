@@ -1,24 +1,14 @@
-use Rattle.std.proofs.Common.{◌≡◌, List, [], subst, refl, sym, ap, ◌∙◌}
+use Rattle.std.proofs.Common.{◌≡◌, [], refl, sym, ap, ◌∙◌}
 use Rattle.std.specs.FinMap.{empty}
-use Rattle.smq_tally.specs.declared.list.Listed.{Listed}
 use Rattle.smq_tally.specs.Tables.{TablesValue, tables_of}
 use Rattle.smq_tally.specs.within.Kept.{places_in}
-use Rattle.smq_tally.specs.within.Noted.{notes_among, AreApart}
+use Rattle.smq_tally.specs.within.Noted.{notes_among}
 use Rattle.smq_tally.proofs.Stored.{nothing_seen}
-use Rattle.smq_tally.proofs.NotesAmong.{apart-none, none-noted}
+use Rattle.smq_tally.proofs.NotesAmong.{none-noted}
 use Rattle.smq_tally.proofs.noted.NotedTables.new.Goals as goal
-
-abbrev Entries : Type 0
-Entries = List (Listed × Unit {0})
 
 clear : notes_among empty (tables_of empty empty).places ≡ empty
 clear = ap (λ (t : TablesValue). notes_among empty t.places) (sym (nothing_seen [] [] refl refl)) ∙ none-noted
-
-pub invariant_of-result : goal.invariant_of-result
-invariant_of-result c = (
-  subst (λ (es : Entries). AreApart (places_in es)) (sym c.new.ensures.content) apart-none,
-  subst (λ (es : Entries). AreApart (places_in es)) (sym c.new.ensures.settled) apart-none,
-)
 
 pub returns-clause-notes : goal.returns-clause-notes
 returns-clause-notes c = (λ i. notes_among (places_in (c.new.ensures.content i)) (c.new-2.ensures.shown i).places) ∙ clear

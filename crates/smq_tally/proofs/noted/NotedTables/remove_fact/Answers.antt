@@ -2,11 +2,10 @@ use Rattle.std.proofs.Common.{ap, ◌∙◌}
 use Rattle.std.specs.List.{list_any}
 use Rattle.std.specs.FinMap.{contains_key}
 use Rattle.smq_tally.specs.Lists.{listings_of_fact}
-use Rattle.smq_tally.specs.Tables.{TablesValue}
 use Rattle.smq_tally.specs.within.Counting.{one_less}
 use Rattle.smq_tally.specs.within.Kept.{places_in}
-use Rattle.smq_tally.specs.within.Noted.{NotedValue, notes_among}
-use Rattle.smq_tally.proofs.NotesAmong.{notes-without, fact-noted}
+use Rattle.smq_tally.specs.within.Noted.{NotedValue}
+use Rattle.smq_tally.proofs.NotesAmong.{fact-noted}
 use Rattle.smq_tally.proofs.noted.NotedTables.remove_fact.Goals as goal
 
 pub returns-clause-ok : goal.returns-clause-ok
@@ -15,9 +14,3 @@ returns-clause-ok c =
     c.in_ok-remove_fact.ensures.ok
     ∙ ap (one_less c.self.inside.tables.shown c.args.fact.now) noted
     ∙ ap (λ (t : NotedValue). one_less t.shown c.args.fact.now (list_any (contains_key t.notes) (listings_of_fact c.args.fact.now))) c.self.view_is
-
-pub returns-clause-notes : goal.returns-clause-notes
-returns-clause-notes c =
-    ap (λ (t : TablesValue). notes_among (places_in c.self.inside.apart.content) t.places) c.in_ok-remove_fact.ensures.ok
-    ∙ notes-without (places_in c.self.inside.apart.content) c.self.inside.tables.shown.places c.args.fact.now c.has_listing-is_noted.result
-    ∙ ap (λ (t : NotedValue). t.notes) c.self.view_is

@@ -1,12 +1,11 @@
-use Rattle.std.proofs.Common.{Bool, cond, ap, ◌∙◌}
+use Rattle.std.proofs.Common.{Bool, ap, ◌∙◌}
 use Rattle.std.specs.List.{list_any}
 use Rattle.std.specs.FinMap.{contains_key}
 use Rattle.smq_tally.specs.Lists.{listings_of_fact}
-use Rattle.smq_tally.specs.Tables.{TablesValue}
-use Rattle.smq_tally.specs.within.Counting.{one_more, one_less, without}
+use Rattle.smq_tally.specs.within.Counting.{one_more, one_less}
 use Rattle.smq_tally.specs.within.Kept.{places_in}
-use Rattle.smq_tally.specs.within.Noted.{NotedValue, notes_among}
-use Rattle.smq_tally.proofs.NotesAmong.{notes_with, notes-without, fact-noted}
+use Rattle.smq_tally.specs.within.Noted.{NotedValue}
+use Rattle.smq_tally.proofs.NotesAmong.{fact-noted}
 use Rattle.smq_tally.proofs.noted.NotedTables.replace_fact.Goals as goal
 
 pub returns-clause-ok : goal.returns-clause-ok
@@ -16,13 +15,3 @@ returns-clause-ok c =
     ∙ ap (λ (b : Bool). one_more (one_less c.self.inside.tables.shown c.args.before.now b) c.args.after.now) noted
     ∙ ap (λ (t : NotedValue). one_more (one_less t.shown c.args.before.now
     (list_any (contains_key t.notes) (listings_of_fact c.args.before.now))) c.args.after.now) c.self.view_is
-
-pub returns-clause-notes : goal.returns-clause-notes
-returns-clause-notes c =
-    let apart = places_in c.self.inside.apart.content in
-    let places = c.self.inside.tables.shown.places in
-    let stays = c.has_listing-is_noted.result in
-    ap (λ (t : TablesValue). notes_among apart t.places) c.in_ok-replace_fact.ensures.ok
-    ∙ notes_with apart (cond stays places (without places (listings_of_fact c.args.before.now))) c.args.after.now
-    ∙ notes-without apart places c.args.before.now stays
-    ∙ ap (λ (t : NotedValue). t.notes) c.self.view_is
