@@ -75,16 +75,16 @@ pub same-rows : (xs ys : List ShownRow) → IsTrue (pointwise same_shown xs ys) 
 same-rows xs ys = slice_eq-Decides one_shown xs ys (pointwise same_shown xs ys) refl
 
 -- where rows of one view differ, tables don't show the same in each
-pub shown-apart : (r : Bool) (t u : TablesValue) (view : View) (left right : List ShownRow) → r ≡ pointwise same_shown left right → r ≡ false
+pub shown_apart : (r : Bool) (t u : TablesValue) (view : View) (left right : List ShownRow) → r ≡ pointwise same_shown left right → r ≡ false
     → left ≡ rows_of t view → right ≡ rows_of u view → ((view : View) → rows_of t view ≡ rows_of u view) → false ≡ true
-shown-apart r t u view left right told fails is is_other alike =
+shown_apart r t u view left right told fails is is_other alike =
     sym fails ∙ told ∙ (same-rows left right).1 (is ∙ alike view ∙ sym is_other)
 
 -- where they are the same in the views before one, and in that one, they are so in those before the next
-pub shown-alike : (t u : TablesValue) (vs : List View) (n : ℕ) (d : View) (left right : List ShownRow) → vs ≡ views
+pub shown_alike : (t u : TablesValue) (vs : List View) (n : ℕ) (d : View) (left right : List ShownRow) → vs ≡ views
     → ((view : View) → view_rank view < n → rows_of t view ≡ rows_of u view) → true ≡ pointwise same_shown left right
     → left ≡ rows_of t (get_or vs n d) → right ≡ rows_of u (get_or vs n d) → (view : View) → view_rank view < n + 1 → rows_of t view ≡ rows_of u view
-shown-alike t u vs n d left right all before told is is_other view below =
+shown_alike t u vs n d left right all before told is is_other view below =
     elim (view_rank view == n) as (λ b. (view_rank view == n) ≡ b → rows_of t view ≡ rows_of u view) [
       | true ↦ λ e.
           let here : get_or vs n d ≡ view = (λ i. get_or (all i) (sym (eqb-true (view_rank view) n e) i) d) ∙ again view in

@@ -55,8 +55,8 @@ module _ {all left : List Fact} {shown : TablesValue} (apart : AreOfDifferentPla
       omega (arith, bound, most, same, there, small)
 
   -- it is counted
-  pub gathered-one : (before : List Fact) (f : Fact) (new : TablesValue) → left ≡ before ++ f ∷ [] → new ≡ one_more shown f → IsGathering all before new
-  gathered-one before f new last counted =
+  pub gathered_one : (before : List Fact) (f : Fact) (new : TablesValue) → left ≡ before ++ f ∷ [] → new ≡ one_more shown f → IsGathering all before new
+  gathered_one before f new last counted =
       let here = apart-after before (f ∷ g.counted) (subst (λ (fs : List Fact). AreOfDifferentPlaces fs) (split_at before f last) apart) in
       record {
         counted = f ∷ g.counted;

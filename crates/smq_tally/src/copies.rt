@@ -7,6 +7,7 @@ use smq_shelf::{Entries, KeptMap, ShelfKey};
 use std::alloc::{AllocError, Global};
 
 /// A map of these entries, which come by key. It is settled.
+#[tactic(auto, using(crate::proofs::Copied::comes_next))]
 pub(crate) fn copy_entries<K: ShelfKey, V: Copy + Drop>(
     alloc: Global,
     mut entries: Entries<'_, K, V>,

@@ -24,6 +24,7 @@ pub(crate) fn have_same_entries<K: PartialEq, V: PartialEq>(
 }
 
 /// Whether two tables show the same rows in each view.
+#[tactic(auto, using(crate::proofs::Equals::shown_apart, crate::proofs::Equals::shown_alike))]
 pub(crate) fn have_same_rows(these: &Tables, those: &Tables) -> bool
     ensures { IsTrue result
         ↔ ((view : View) → rows_of these.now.shown view ≡ rows_of those.now.shown view) }

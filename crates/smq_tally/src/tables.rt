@@ -100,6 +100,7 @@ impl Tables {
     }
 
     /// Counts and lists facts, the last first, where none was.
+    #[tactic(auto, using(crate::proofs::Gathered::gathered_one))]
     fn add_facts(&mut self, facts: &[Fact]) -> Result<(), AllocError>
         requires apart { AreOfDifferentPlaces facts.now }
         requires nothing { self.old.shown ≡ tables_of fin.empty fin.empty }
