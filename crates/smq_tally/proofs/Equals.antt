@@ -1,7 +1,7 @@
 -- `==` of tables.
 use Rattle.std.proofs.Common.{◌≡◌, ℕ, ◌+◌, ◌<◌, Bool, true, false, List, [], ◌∷◌, Option, Some, None, subst, get_or, refl, sym, ap, ◌∙◌, arith, rules}
 use Rattle.std.proofs.Math.Bool.{and-true}
-use Rattle.std.specs.Prelude.{◌&&◌, ◌==◌, Contains, map, filter, Decides, IsTrue, ◌↔◌}
+use Rattle.std.specs.Prelude.{◌&&◌, ◌==◌, Contains, map, filter, Decides, IsTrue, ◌↔◌, nat_eq}
 use Rattle.std.specs.declared.cmp.Ordering.{Ordering}
 use Rattle.std.specs.Ordering.{eq_by_cmp, is_eq}
 use Rattle.std.specs.Cmp.{IsTotalOrder, unsigned_Decides}
@@ -22,9 +22,9 @@ use Rattle.smq_tally.specs.declared.list.Listed.{Listed}
 use Rattle.smq_tally.specs.contracts.list.ListedOrd.TheImpl.Laws as listed_laws
 use Rattle.smq_tally.specs.contracts.list.ListedPartialEq.TheImpl as listed_eq
 use Rattle.smq_tally.specs.Lists.{listed_cmp}
-use Rattle.smq_tally.specs.Rows.{count_cmp, view_rank, views}
+use Rattle.smq_tally.specs.Rows.{count_cmp, same_count_key, view_rank, views}
 use Rattle.smq_tally.specs.Tables.{TablesValue, ShownRow, in_view, shown_row, rows_of}
-use Rattle.smq_tally.specs.within.Equal.{tables_eq, same_entry, same_shown, both_eq}
+use Rattle.smq_tally.specs.within.Equal.{tables_eq, same_shown, both_eq}
 use Rattle.smq_tally.specs.within.Keys.{outcomes, values}
 use Rattle.smq_tally.specs.within.Kept.{places_in}
 use Rattle.smq_tally.specs.within.CountOrder.{count_keys_total}
@@ -62,8 +62,8 @@ places-told {nothing = nothing} r ps rs told always s t =
 told_apart : {K : Type 0} {R : K → K → Ordering} → IsTotalOrder R → IsAntisymmetric R → (a b : K) → Decides (eq_by_cmp R a b) (a ≡ b)
 told_apart {R = R} o exact a b = (tells_apart exact a b, λ e. ap (eq_by_cmp R a) (sym e) ∙ (eq_by_cmp_equiv o).refl a)
 
-one_entry : (p q : CountKey × ℕ) → Decides (same_entry p q) (p ≡ q)
-one_entry p q = Decides-like (same_entry p q) (λ e. λ i. (e.0 i, e.1 i)) (λ e. (ap (λ x. x.0) e, ap (λ x. x.1) e))
+one_entry : (p q : CountKey × ℕ) → Decides (both_eq same_count_key nat_eq p q) (p ≡ q)
+one_entry p q = Decides-like (both_eq same_count_key nat_eq p q) (λ e. λ i. (e.0 i, e.1 i)) (λ e. (ap (λ x. x.0) e, ap (λ x. x.1) e))
     (Decides-and _ _ (told_apart count_keys_total count_keys_exact p.0 q.0) (unsigned_Decides p.1 q.1))
 
 -- rows that compare equal one by one are the same
@@ -114,10 +114,10 @@ same_counts t u alike = same_map count_keys_total count_keys_exact t.counts u.co
 
 -- whether tables show the same rows says whether they have the same counts
 pub counts-told : (r : Bool) (t u : TablesValue) → (IsTrue r ↔ ((view : View) → rows_of t view ≡ rows_of u view))
-    → r ≡ pointwise same_entry (entries t.counts) (entries u.counts)
+    → r ≡ pointwise (both_eq same_count_key nat_eq) (entries t.counts) (entries u.counts)
 counts-told r t u told =
-    same_from_decides r (pointwise same_entry (entries t.counts) (entries u.counts)) told
-    (Decides-like (pointwise same_entry (entries t.counts) (entries u.counts))
+    same_from_decides r (pointwise (both_eq same_count_key nat_eq) (entries t.counts) (entries u.counts)) told
+    (Decides-like (pointwise (both_eq same_count_key nat_eq) (entries t.counts) (entries u.counts))
     (λ e view. ap (λ es. map shown_row (filter (in_view view) es)) e)
     (λ alike. ap (λ (m : FinMap count_cmp ℕ). entries m) (same_counts t u alike))
     (slice_eq-Decides one_entry (entries t.counts) (entries u.counts) _ refl))

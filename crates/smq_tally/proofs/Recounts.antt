@@ -61,13 +61,11 @@ after-last view (Some f) e =
     let few = past-length views (view_rank view + 1) e in
     ap (λ (vs : List View). keys_in f vs) (drop_all (suc (view_rank view)) views (omega (arith, few)))
 
--- what is counted in a view is among what is counted in it and those after it, and so is what is to be
-module _ (view : View) (m : Counts) (f : Option Fact) where
-  pub counted-here : AreCounted (keys_left view f) m → AreCounted (option_to_list (key_in_if view f)) m
-  counted-here few q = let split = times-split view f q in let all = few q in omega (arith, split, all)
-
-  pub room-here : HaveRoom (keys_left view f) m → HaveRoom (option_to_list (key_in_if view f)) m
-  room-here room q some = let split = times-split view f q in let all = room q (omega (arith, split, some)) in omega (arith, split, all)
+-- what is to be counted in a view is among what is to be in it and those after it
+pub room-here : (view : View) (m : Counts) (f : Option Fact) → HaveRoom (keys_left view f) m
+    → HaveRoom (option_to_list (key_in_if view f)) m
+room-here view m f room q some =
+    let split = times-split view f q in let all = room q (omega (arith, split, some)) in omega (arith, split, all)
 
 -- what moved in a view leaves room for what is to move in those after it, and together they moved in all
 module _ (view next : View) (m mid : Counts) (before after : Option Fact) (few : AreCounted (keys_left view before) m)

@@ -1,6 +1,6 @@
 -- What counts in rows have at a key: what its row has under its outcome.
 use Rattle.std.proofs.Common.{◌≡◌, ℕ, Bool, true, false, cond, ◌||◌, List, [], ◌∷◌, ◌++◌, Option, Some, None, subst, refl, sym, ap, ◌∙◌, rules}
-use Rattle.std.specs.Prelude.{T, ◌&&◌, map, option_to_list, unwrap_or}
+use Rattle.std.specs.Prelude.{T, ◌&&◌, map, option_to_list}
 use Rattle.std.specs.List.{list_any}
 use Rattle.std.specs.declared.cmp.Ordering.{Ordering}
 use Rattle.std.specs.declared.cmp.Ordering.TheVariants.{Less, Equal, Greater}
@@ -20,7 +20,7 @@ use Rattle.smq_tally.specs.within.CountOrder.{count_keys_total, rows_total}
 use Rattle.smq_tally.specs.within.Kept.{counts_in}
 use Rattle.smq_tally.specs.within.RowCounts.{outcomes, no_counts, count_under, counts_or_none, row_of, row_cmp, Rows, numbers_under, counts_under, counts_among, counts_of, rows_in}
 use Rattle.smq_tally.proofs.CountOrders.{same_outcome, rows_exact}
-use Rattle.smq_tally.proofs.Tallies.{Has, has-same, left-of}
+use Rattle.smq_tally.proofs.Tallies.{Has, has-count, has-same}
 
 -- an entry of a map of rows
 abbrev pub Row : Type 0
@@ -151,7 +151,7 @@ has-rows rows = record {
 }
 
 pub count-rows : (rows : Rows) (q : CountKey) → count_in (counts_of rows) q ≡ number_in rows q
-count-rows rows q = ap (λ (c : Option ℕ). unwrap_or c 0) ((has-rows rows).at q) ∙ left-of (number_in rows q)
+count-rows rows q = has-count (counts_of rows) (number_in rows) (has-rows rows) q
 
 -- counts in rows have what they count, where it isn't 0
 pub has-counts : (es : List Row) → Has (counts_in es) (count_in (counts_in es))

@@ -1,6 +1,6 @@
 -- Tables after one fact more or less.
-use Rattle.std.proofs.Common.{◌≡◌, ℕ, ◌+◌, ◌-◌, ◌≤◌, Bool, ◌||◌, true, false, cond, List, [], ◌∷◌, ◌++◌, length, refl, sym, ap, ◌∙◌, arith, rules, zero, suc}
-use Rattle.std.specs.Prelude.{◌==◌, count_by, unwrap_or, Option, Some, None, option_map, option_to_list}
+use Rattle.std.proofs.Common.{◌≡◌, ℕ, ◌+◌, ◌-◌, ◌≤◌, Bool, ◌||◌, true, false, cond, List, [], ◌∷◌, ◌++◌, length, refl, sym, ap, ◌∙◌, arith, rules}
+use Rattle.std.specs.Prelude.{◌==◌, count_by, Option, Some, None, option_map, option_to_list}
 use Rattle.std.specs.List.{AllByRecursion, flat_map, list_any}
 use Rattle.std.specs.declared.cmp.Ordering.TheVariants.{Less}
 use Rattle.std.proofs.lemmas.Map.Views.{tells_apart}
@@ -45,7 +45,7 @@ has-one m u n h k = counted.has-one count_keys_total count_keys_exact keys_of_fa
 pub has-same : (m : Counts) (n p : CountKey → ℕ) → Has m n → ((q : CountKey) → n q ≡ p q) → Has m p
 has-same m n p h e = counted.has-same count_keys_total count_keys_exact keys_of_fact m n p h e
 
-has-count : (m : Counts) (n : CountKey → ℕ) → Has m n → (q : CountKey) → count_in m q ≡ n q
+pub has-count : (m : Counts) (n : CountKey → ℕ) → Has m n → (q : CountKey) → count_in m q ≡ n q
 has-count m n h q = counted.has-count count_keys_total count_keys_exact keys_of_fact m n h q
 
 pub count-tables : (facts : FinMap place_cmp Fact) (notes : FinSet listed_cmp) (q : CountKey) → count_of (tables_of facts notes) q ≡ number_at q facts
@@ -239,7 +239,3 @@ replaced-tables facts notes before f own has =
     ap (λ (t : TablesValue). one_more t f) (removed-tables facts notes f.place before own has)
     ∙ added-tables (remove facts f.place) notes f (maps.get-removed places_total places_exact facts f.place)
     ∙ ap (λ (m : FinMap place_cmp Fact). tables_of m notes) (put-instead places_total places_exact facts f.place f)
-
-pub left-of : (n : ℕ) → unwrap_or (positive n) 0 ≡ n
-left-of zero = refl
-left-of (suc n) = refl

@@ -136,7 +136,7 @@ impl Tally {
         ensures counted { self.old.touches ≤ self.new.touches }
     {
         let before = self.look_up(fact.place);
-        let outcome = outcome_of(&before);
+        let outcome = before.as_ref().map(|fact| fact.outcome);
         self.replace(&before, fact)?;
         Ok(outcome)
     }
@@ -270,16 +270,6 @@ fn fact_at(facts: &mut Kept<Place, Fact>, place: &Place) -> Option<Fact>
     }
 }
 
-// What became of the message of a fact, if there is one.
-fn outcome_of(fact: &Option<Fact>) -> Option<Outcome>
-    ensures { result ≡ option_map (λ f. f.outcome) fact.now }
-{
-    match fact {
-        Some(fact) => Some(fact.outcome),
-        None => None,
-    }
-}
-
 // Whether the fact that is there, if one is, is this one.
 #[tactic(auto, using(crate::proofs::FactEquals::facts_decide))]
 fn is_same(there: &Option<Fact>, fact: &Fact) -> bool
@@ -358,15 +348,7 @@ fn is_listed(facts: &mut Kept<Place, Fact>, note: &Listed) -> bool
     if !note.list.takes_facts() {
         return false;
     }
-    let fact = fact_at(facts, &note.place);
-    lists_place(&fact, note)
-}
-
-// Whether a fact puts its place into a list.
-fn lists_place(fact: &Option<Fact>, note: &Listed) -> bool
-    ensures { result ≡ list_any (lists note.now) (option_to_list fact.now) }
-{
-    match fact {
+    match fact_at(facts, &note.place) {
         Some(fact) => match fact.listed() {
             Some(listed) => listed == *note,
             None => false,

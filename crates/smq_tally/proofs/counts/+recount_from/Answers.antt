@@ -1,16 +1,14 @@
 use Rattle.std.proofs.Common.{arith, ap, subst, sym, ◌∙◌}
 use Rattle.std.specs.Option.{option_copied}
 use Rattle.smq_tally.specs.within.Kept.{counts_in, AreLogged}
-use Rattle.smq_tally.proofs.Recounts.{counted-here, room-here, counted-later, room-later, moved-on, moved-last}
+use Rattle.smq_tally.proofs.Recounts.{room-here, counted-later, room-later, moved-on, moved-last}
 use Rattle.smq_tally.proofs.Runs.{fewer_left}
 use Rattle.smq_tally.proofs.ViewRanges.{view_parts}
 use Rattle.smq_tally.proofs.counts.+recount_from.Goals as goal
 
-pub recount_in_view-requires : goal.recount_in_view-requires
-recount_in_view-requires t c = record {
-  counted = counted-here c.args.view (counts_in c.args.counts.now.content) (option_copied c.args.before) c.requires.counted;
-  room = room-here c.args.view (counts_in c.args.counts.now.content) (option_copied c.args.after) c.requires.room;
-}
+pub recount_in_view-requires-clause-room : goal.recount_in_view-requires-clause-room
+recount_in_view-requires-clause-room t c =
+    room-here c.args.view (counts_in c.args.counts.now.content) (option_copied c.args.after) c.requires.room
 
 pub recount_from-requires : goal.recount_from-requires
 recount_from-requires t c =
