@@ -47,9 +47,9 @@ pub copy_put : (es fs : Entries) (f copy : Fact) → copy ≡ f → fs ≡ inser
     → facts_in fs ≡ insert (facts_in es) f.place f
 copy_put es fs f copy same put = fact-put es fs copy.place f put ∙ (λ i. insert (facts_in es) (same i).place f)
 
-pub fact-taken : (es fs : Entries) (k : Place) → IsStrictlySortedBy kept_place_cmp (keys_of es) → fs ≡ remove_entry (is_at (kept_place_cmp k)) es
+pub fact_taken : (es fs : Entries) (k : Place) → IsStrictlySortedBy kept_place_cmp (keys_of es) → fs ≡ remove_entry (is_at (kept_place_cmp k)) es
     → facts_in fs ≡ remove (facts_in es) k
-fact-taken es fs k sorted took = ap facts_in took ∙ seen.removed places_total places_exact place-order es k sorted
+fact_taken es fs k sorted took = ap facts_in took ∙ seen.removed places_total places_exact place-order es k sorted
 
 -- a fact that is found has an entry
 pub has-entry : (es fs : Entries) (q : Place) (f : Fact) → fs ≡ es → Some f ≡ get (facts_in es) q → IsSome (lookup (is_at (kept_place_cmp q)) fs)
@@ -100,8 +100,8 @@ module _ (facts : Facts) (notes : Notes) {now : Facts} {shown new : TablesValue}
       ∙ ap (λ (m : Facts). tables_of m notes) (sym put)
 
 -- a fact that is there, put in again, changes nothing
-pub fact-same : (facts : Facts) (k : Place) (f : Fact) → get facts k ≡ Some f → facts ≡ insert facts k f
-fact-same facts k f has = sym (ordered.insert-same places_total places_exact refl facts k f has)
+pub fact_same : (facts : Facts) (k : Place) (f : Fact) → get facts k ≡ Some f → facts ≡ insert facts k f
+fact_same facts k f has = sym (ordered.insert-same places_total places_exact refl facts k f has)
 
 module _ {facts settled : Facts} {notes settled_notes : Notes} {shown before : TablesValue}
     (holds : Tallies facts settled notes settled_notes shown before) where

@@ -235,9 +235,9 @@ listed-twice places es = sets-one _ _ (λ q.
     ∙ sym (with-have places es q))
 
 -- what a fact that is there lists is listed
-pub fact-covered : (facts : FinMap place_cmp Fact) (notes : FinSet listed_cmp) (place : Place) (f : Fact) → StandAtTheirPlaces facts
+pub fact_covered : (facts : FinMap place_cmp Fact) (notes : FinSet listed_cmp) (place : Place) (f : Fact) → StandAtTheirPlaces facts
     → get facts place ≡ Some f → with_listed (tables_of facts notes).places (listings_of_fact f) ≡ (tables_of facts notes).places
-fact-covered facts notes place f own has =
+fact_covered facts notes place f own has =
     let over = listed-over facts notes place f own has in
     ap (λ (p : FinSet listed_cmp). with_listed p (listings_of_fact f)) over
     ∙ listed-twice (tables_of (remove facts place) notes).places (listings_of_fact f)

@@ -70,6 +70,7 @@ impl Tally {
     }
 
     /// Takes one fact more, of a place that has none yet. An error leaves facts and notes as they were.
+    #[tactic(auto, using(crate::proofs::Held::copy_put))]
     pub fn add(&mut self, fact: Fact) -> Result<(), AllocError>
         requires absent { fin.get self.old.facts fact.place ≡ None }
         ensures ok { OnOk result (self.new.facts ≡ fin.insert self.old.facts fact.place fact) }
@@ -94,7 +95,7 @@ impl Tally {
     }
 
     /// Takes the fact of a place out, which is there. An error leaves facts and notes as they were.
-    #[tactic(auto, using(crate::proofs::Held::is_counted))]
+    #[tactic(auto, using(crate::proofs::Held::is_counted, crate::proofs::Held::fact_taken))]
     pub fn remove(&mut self, place: Place) -> Result<(), AllocError>
         requires there { IsSome (fin.get self.old.facts place) }
         ensures ok { OnOk result (self.new.facts ≡ fin.remove self.old.facts place) }
@@ -157,6 +158,7 @@ impl Tally {
     /// Sets the fact of its place, in the place of the one that was looked up there: one change of the facts. It costs nothing
     /// where that one is equal, and no change of a list where both are in the same. An error brings back what it held when it
     /// was last settled, or made.
+    #[tactic(auto, using(crate::proofs::Held::fact_same))]
     pub fn replace(&mut self, before: &Option<Fact>, fact: Fact) -> Result<(), AllocError>
         requires before { before.now ≡ fin.get self.old.facts fact.place }
         ensures ok { OnOk result (self.new.facts ≡ fin.insert self.old.facts fact.place fact) }
@@ -283,7 +285,7 @@ fn is_same(there: &Option<Fact>, fact: &Fact) -> bool
 
 // Puts a fact at its place, and counts and lists it in the place of the one that is there. An error leaves what was
 // settled.
-#[tactic(auto, using(crate::proofs::Held::is_counted, crate::proofs::Held::copy_put))]
+#[tactic(auto, using(crate::proofs::Held::is_counted, crate::proofs::Held::copy_put, crate::proofs::ListedFacts::fact_covered))]
 fn put(
     facts: &mut Kept<Place, Fact>,
     tables: &mut NotedTables,

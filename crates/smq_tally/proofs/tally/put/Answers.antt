@@ -2,24 +2,16 @@ use Rattle.std.proofs.Common.{refl, sym, ap, ◌∙◌}
 use Rattle.std.specs.List.{list_any}
 use Rattle.std.specs.FinMap.{contains_key}
 use Rattle.smq_tally.specs.Lists.{listings_of_fact}
-use Rattle.smq_tally.specs.Tables.{TablesValue, tables_of}
-use Rattle.smq_tally.specs.within.Counting.{with_listed, one_more, one_less}
+use Rattle.smq_tally.specs.Tables.{tables_of}
+use Rattle.smq_tally.specs.within.Counting.{one_more, one_less}
 use Rattle.smq_tally.specs.within.Kept.{facts_in}
 use Rattle.smq_tally.proofs.Held.{copy_put, has-room, shown-added, shown-replaced}
-use Rattle.smq_tally.proofs.ListedFacts.{fact-covered}
 use Rattle.smq_tally.proofs.tally.put.Goals as goal
 
 pub replace_fact-requires-clause-room : goal.replace_fact-requires-clause-room
 replace_fact-requires-clause-room c =
     has-room c.args.facts.now.content c.args.facts.now.places c.place_count.result c.args.tables.now.notes c.args.tables.now.shown
     c.requires.shown c.place_count.ensures.ordered c.place_count.ensures.content c.place_count.ensures.count c.place_count.ensures.small
-
-pub replace_fact-requires-clause-listed : goal.replace_fact-requires-clause-listed
-replace_fact-requires-clause-listed c =
-    ap (λ (t : TablesValue). with_listed t.places (listings_of_fact c.in-Some.before)) c.requires.shown
-    ∙ fact-covered (facts_in c.args.facts.now.content) c.args.tables.now.notes c.args.fact.place c.in-Some.before c.requires.places
-    (sym c.requires.there ∙ c.in-Some.is)
-    ∙ sym (ap (λ (t : TablesValue). t.places) c.requires.shown)
 
 pub add_fact-requires : goal.add_fact-requires
 add_fact-requires c = record {

@@ -31,6 +31,3 @@ invariant_of-self-in_default c =
     ∙ ap (one_more c.self.inside.tables.shown) c.copy-counted.ensures)
     ∙ ap (tables_of (facts_in c.set.new.self.content)) (sym c.in_default.ensures.notes))
     (stand-added c.self.invariant c.args.fact (put c)) (ap facts_in c.set.ensures.settled) c.add_fact.ensures.settled_notes c.add_fact.ensures.settled
-
-pub returns-clause-ok : goal.returns-clause-ok
-returns-clause-ok c = put c ∙ ap (λ (t : TallyValue). insert t.facts c.args.fact.place c.args.fact) c.self.view_is

@@ -7,7 +7,7 @@ use Rattle.smq_tally.specs.Lists.{listings_of_fact}
 use Rattle.smq_tally.specs.Tally.{TallyValue}
 use Rattle.smq_tally.specs.within.Noted.{NotedValue}
 use Rattle.smq_tally.specs.within.Kept.{facts_in, StandAtTheirPlaces}
-use Rattle.smq_tally.proofs.Held.{Entries, fact-taken, has-entry, still, fact-removed, stand-removed}
+use Rattle.smq_tally.proofs.Held.{Entries, fact_taken, has-entry, still, fact-removed, stand-removed}
 use Rattle.smq_tally.proofs.tally.Tally.remove.Goals as goal
 
 -- the facts of before
@@ -33,7 +33,7 @@ returns-in-Err-clause-err c = ap facts_in (back c) ∙ ap (λ (t : TallyValue). 
 -- the facts without the one
 took : (c : goal.In_default-remove_fact) → facts_in c.remove.new.self.content ≡ remove (facts_in c.self.inside.facts.content) c.args.place
 took c =
-    fact-taken c.fact_at.new.facts.content c.remove.new.self.content c.args.place c.in_ok-remove.ensures.ordered c.in_ok-remove.ensures.content
+    fact_taken c.fact_at.new.facts.content c.remove.new.self.content c.args.place c.in_ok-remove.ensures.ordered c.in_ok-remove.ensures.content
     ∙ (λ i. remove (facts_in (c.fact_at.ensures.content i)) c.args.place)
 
 pub invariant_of-self-in_default-remove_fact : goal.invariant_of-self-in_default-remove_fact
@@ -45,6 +45,3 @@ invariant_of-self-in_default-remove_fact c =
     ∙ ap (tables_of (facts_in c.remove.new.self.content)) (sym c.in_default-remove_fact.ensures.notes))
     (stand-removed c.self.invariant c.args.place (took c)) (ap facts_in (c.remove.ensures.settled
     ∙ c.fact_at.ensures.settled)) c.remove_fact.ensures.settled_notes c.remove_fact.ensures.settled
-
-pub returns-clause-ok : goal.returns-clause-ok
-returns-clause-ok c = took c ∙ ap (λ (t : TallyValue). remove t.facts c.args.place) c.self.view_is
