@@ -59,8 +59,7 @@ one a b p = λ i. record {
   link = p.1.0 i;
   route = p.1.1.0 i;
   outcome = p.1.1.1.0 i;
-  error =
-      p.1.1.1.1.0 i;
+  error = p.1.1.1.1.0 i;
   link_delay = p.1.1.1.1.1.0 i;
   centre_delay = p.1.1.1.1.1.1 i;
 }

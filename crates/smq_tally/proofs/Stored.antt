@@ -21,22 +21,19 @@ use Rattle.smq_tally.specs.Tables.{tables_of, number_at}
 use Rattle.smq_tally.specs.within.Kept.{places_in, tables_in, IsLogged}
 use Rattle.smq_tally.specs.within.ListOrder.{kept_listed_cmp, listed_total}
 use Rattle.smq_tally.specs.within.RowCounts.{row_cmp, counts_among}
-use Rattle.smq_tally.proofs.ListOrders.{listed-order, listed_exact}
+use Rattle.smq_tally.proofs.ListOrders.{Entries, listed-order, listed_exact}
 use Rattle.smq_tally.proofs.Undone.{no-entries}
 
--- entries of listed places
-abbrev pub Places : Type 0
-Places = List (Listed × Unit {0})
-
 -- whether a place is listed
-pub has_seen : (ps : Places) (q : Listed) → is_some (lookup (is_at (kept_listed_cmp q)) ps) ≡ contains_key (places_in ps) q
+pub has_seen : (ps : Entries) (q : Listed) → is_some (lookup (is_at (kept_listed_cmp q)) ps) ≡ contains_key (places_in ps) q
 has_seen ps q = sym (ap is_some (seen.looked_up listed_total listed_exact listed-order ps q))
 
-pub place_more : (ps fs : Places) (q : Listed) (u : Unit {0}) → fs ≡ insert_entry kept_listed_cmp ps q u → places_in fs ≡ insert (places_in ps) q tt
+pub place_more : (ps fs : Entries) (q : Listed) (u : Unit {0}) → fs ≡ insert_entry kept_listed_cmp ps q u
+    → places_in fs ≡ insert (places_in ps) q tt
 place_more ps fs q u put = ap places_in put ∙ seen.inserted listed_total listed_exact listed-order ps q tt
 
-pub place_less : (ps fs : Places) (q : Listed) → IsStrictlySortedBy kept_listed_cmp (keys_of ps) → fs ≡ remove_entry (is_at (kept_listed_cmp q)) ps
-    → places_in fs ≡ remove (places_in ps) q
+pub place_less : (ps fs : Entries) (q : Listed) → IsStrictlySortedBy kept_listed_cmp (keys_of ps)
+    → fs ≡ remove_entry (is_at (kept_listed_cmp q)) ps → places_in fs ≡ remove (places_in ps) q
 place_less ps fs q sorted took = ap places_in took ∙ seen.removed listed_total listed_exact listed-order ps q sorted
 
 -- what taking a key out left to be taken back
@@ -52,7 +49,7 @@ copied_some None = refl
 copied_some (Some b) = refl
 
 -- nothing counted and nothing listed are the tables of nothing
-pub nothing_seen : (es : List (RowKey × OutcomeCounts)) (ps : Places) → es ≡ [] → ps ≡ [] → tables_in es ps ≡ tables_of empty empty
+pub nothing_seen : (es : List (RowKey × OutcomeCounts)) (ps : Entries) → es ≡ [] → ps ≡ [] → tables_in es ps ≡ tables_of empty empty
 nothing_seen es ps none clear =
     (λ i. tables_in (none i) (clear i))
     ∙ (λ i. record { counts = from_entries (counts_among (no-entries row_cmp OutcomeCounts i)); places = from_entries [] })

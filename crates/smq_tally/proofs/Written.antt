@@ -4,7 +4,7 @@ use Rattle.std.specs.Prelude.{map, filter, count_by}
 use Rattle.std.specs.List.{flat_map}
 use Rattle.std.specs.declared.cmp.Ordering.{Ordering}
 use Rattle.std.specs.Cmp.{IsTotalOrder}
-use Rattle.std.specs.FinMap.{empty, entries, values, from_entries, entries-insert}
+use Rattle.std.specs.FinMap.{entries, values, from_entries, entries-insert}
 use Rattle.std.specs.FinMap.Entries.{put}
 use Rattle.smq_kit.specs.declared.place.Place.{Place}
 use Rattle.smq_kit.specs.Orders.{place_cmp}
@@ -56,8 +56,3 @@ module _ (es : List (Place × Fact)) (notes : List Listed) where
       ∙ (λ i. map (λ e. e.place) (filter (in_list list)
       (places_in_order (map (λ x. x.0) (entries-in_order listed_total (map (λ (e : Listed). (e, tt)) notes) i)
       ++ flat_map listings_of_fact (have i)))))
-
--- the same without facts
-pub listed-without : (notes : List Listed) (list : l.List) → listed_in (tables_of empty (listed_set notes)) list
-    ≡ map (λ e. e.place) (filter (in_list list) (places_in_order (places_in_order notes ++ [])))
-listed-without notes list = listed-at [] notes list

@@ -48,7 +48,6 @@ impl<'a> Model for Rows<'a> {
 }
 
 impl<'a> Rows<'a> {
-    ghost use Rattle.std.specs.Prelude.{◌≡◌};
     ghost use Rattle.smq_tally.specs.within.RowCounts.{shown_among};
 
     /// All counts of the map's rows.

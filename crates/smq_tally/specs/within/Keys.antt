@@ -13,7 +13,6 @@ use Rattle.smq_tally.specs.declared.outcome.Outcome.{Outcome}
 use Rattle.smq_tally.specs.declared.value.SubmitError.{SubmitError}
 use Rattle.smq_tally.specs.declared.value.Value.{Value}
 use Rattle.smq_tally.specs.declared.view.View.{View}
-use Rattle.smq_tally.specs.contracts.fact.RowKeyPartialEq.TheImpl as row_eq
 use Rattle.smq_tally.specs.contracts.fact.RowKeyOrd.TheImpl.Laws as row_laws
 use Rattle.smq_tally.specs.contracts.list.ListPartialEq.TheImpl as list_eq
 use Rattle.smq_tally.specs.contracts.list.ListedPartialEq.TheImpl as listed_eq
@@ -44,23 +43,15 @@ at_places a b = search rules
 pub outcomes : (a b : Outcome) → Decides (outcome_eq.ghosts.eq a b) (a ≡ b)
 outcomes a b = search rules
 
-rows : (x y : RowKey) → Decides (row_eq.ghosts.eq x y) ((x.view ≡ y.view) × (x.value ≡ y.value))
-rows x y = Decides-and _ _ (views x.view y.view) (values x.value y.value)
-
 pub row_key_exact : (x y : RowKey) → kept_row_cmp x y ≡ Equal → x ≡ y
 row_key_exact x y e =
-    let parts = (rows x y).0 (row_laws.matches_eq-law x y ∙ ap is_eq e) in
+    let parts = (Decides-and _ _ (views x.view y.view) (values x.value y.value)).0 (row_laws.matches_eq-law x y ∙ ap is_eq e) in
     λ i. record { view = parts.0 i; value = parts.1 i }
-
-listings : (x y : Listed) → Decides (listed_eq.ghosts.eq x y) ((x.list ≡ y.list) × (x.place ≡ y.place))
-listings x y = Decides-and _ _ (in_lists x.list y.list) (at_places x.place y.place)
 
 pub listed_decides : (x y : Listed) → Decides (listed_eq.ghosts.eq x y) (x ≡ y)
 listed_decides x y =
     Decides-like (listed_eq.ghosts.eq x y) (λ p i. record { list = p.0 i; place = p.1 i }) (λ e. (ap (λ z. z.list) e, ap (λ z. z.place) e))
-    (listings x y)
+    (Decides-and _ _ (in_lists x.list y.list) (at_places x.place y.place))
 
 pub listed_key_exact : (x y : Listed) → kept_listed_cmp x y ≡ Equal → x ≡ y
-listed_key_exact x y e =
-    let parts = (listings x y).0 (listed_laws.matches_eq-law x y ∙ ap is_eq e) in
-    λ i. record { list = parts.0 i; place = parts.1 i }
+listed_key_exact x y e = (listed_decides x y).0 (listed_laws.matches_eq-law x y ∙ ap is_eq e)

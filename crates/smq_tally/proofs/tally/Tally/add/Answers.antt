@@ -4,7 +4,7 @@ use Rattle.smq_tally.specs.Tables.{tables_of}
 use Rattle.smq_tally.specs.Tally.{TallyValue}
 use Rattle.smq_tally.specs.within.Counting.{one_more}
 use Rattle.smq_tally.specs.within.Kept.{facts_in}
-use Rattle.smq_tally.proofs.Held.{fact-put, has-room, shown-added, still, stand-added}
+use Rattle.smq_tally.proofs.Held.{copy_put, has-room, shown-added, still, stand-added}
 use Rattle.smq_tally.proofs.tally.Tally.add.Goals as goal
 
 pub add_fact-requires : goal.add_fact-requires
@@ -18,8 +18,8 @@ add_fact-requires c = record {
 -- the facts with the new one
 put : (c : goal.In_default) → facts_in c.set.new.self.content ≡ insert (facts_in c.self.inside.facts.content) c.args.fact.place c.args.fact
 put c =
-    fact-put c.self.inside.facts.content c.set.new.self.content c.copy-counted.result.place c.args.fact c.in_ok-set.ensures.content
-    ∙ (λ i. insert (facts_in c.self.inside.facts.content) (c.copy-counted.ensures i).place c.args.fact)
+    copy_put c.self.inside.facts.content c.set.new.self.content c.args.fact c.copy-counted.result c.copy-counted.ensures
+    c.in_ok-set.ensures.content
 
 pub invariant_of-self-in_default : goal.invariant_of-self-in_default
 invariant_of-self-in_default c =
