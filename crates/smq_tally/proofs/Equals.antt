@@ -126,8 +126,8 @@ counts-told r t u told =
 same_places : (s t : FinSet listed_cmp) → keys s ≡ keys t → s ≡ t
 same_places s t e = sets-one s t (λ q. contains_key-keys s q ∙ ap (list_any (same_listed q)) e ∙ sym (contains_key-keys t q))
 
-pub equal_same : (t u : TablesValue) → IsTrue (tables_eq t u) ↔ (t ≡ u)
-equal_same t u =
+pub equal-same : (t u : TablesValue) → IsTrue (tables_eq t u) ↔ (t ≡ u)
+equal-same t u =
     Decides-like (tables_eq t u)
     (λ h. λ i. record { counts = same_entries_map t.counts u.counts h.0 i; places = same_places t.places u.places h.1 i })
     (λ e. (ap (λ (x : TablesValue). entries x.counts) e, ap (λ (x : TablesValue). keys x.places) e))

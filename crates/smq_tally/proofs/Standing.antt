@@ -27,7 +27,7 @@ use Rattle.smq_tally.specs.within.CountOrder.{count_keys_total}
 use Rattle.smq_tally.specs.within.ListOrder.{lists, listed_total, same_listed}
 use Rattle.smq_tally.proofs.CountOrders.{count_keys_exact}
 use Rattle.smq_tally.proofs.ListOrders.{listed_exact}
-use Rattle.smq_tally.proofs.Listings.{listed_iff}
+use Rattle.smq_tally.proofs.Listings.{listed-iff}
 use Rattle.smq_tally.proofs.ListedFacts.{places-have}
 use Rattle.smq_tally.proofs.Tallies.{Others, keys_in, others-none}
 
@@ -121,7 +121,7 @@ in-list : (facts : FinMap place_cmp Fact) (notes : FinSet listed_cmp) (list : l.
     → IsTrue (contains_key notes (listed list place)) ⊎ ((f : Fact) × (Contains (values facts) f × (Fits list f.outcome × (f.place ≡ place))))
 in-list facts notes list place h =
     let either : (contains_key notes (listed list place) || list_any (lists (listed list place)) (values facts)) ≡ true =
-    sym (places-have facts notes (listed list place)) ∙ (listed_iff (tables_of facts notes) list place).0 h in
+    sym (places-have facts notes (listed list place)) ∙ (listed-iff (tables_of facts notes) list place).0 h in
     elim (contains_key notes (listed list place)) as (λ b. (b || list_any (lists (listed list place)) (values facts)) ≡ true
     → IsTrue b ⊎ ((f : Fact) × (Contains (values facts) f × (Fits list f.outcome × (f.place ≡ place))))) [
       | true ↦ λ _. inl refl
@@ -134,14 +134,14 @@ in-list facts notes list place h =
 pub noted-in : (facts : FinMap place_cmp Fact) (notes : FinSet listed_cmp) (list : l.List) (place : Place)
     → IsTrue (contains_key notes (listed list place)) → Contains (listed_in (tables_of facts notes) list) place
 noted-in facts notes list place h =
-    (listed_iff (tables_of facts notes) list place).1 (places-have facts notes (listed list place)
+    (listed-iff (tables_of facts notes) list place).1 (places-have facts notes (listed list place)
     ∙ ap (λ b. b || list_any (lists (listed list place)) (values facts)) h)
 
 -- a message's place is in the list of its outcome
 message-in : (facts : FinMap place_cmp Fact) (notes : FinSet listed_cmp) (list : l.List) (f : Fact) → Contains (values facts) f
     → lists (listed list f.place) f ≡ true → Contains (listed_in (tables_of facts notes) list) f.place
 message-in facts notes list f h e =
-    (listed_iff (tables_of facts notes) list f.place).1
+    (listed-iff (tables_of facts notes) list f.place).1
     (places-have facts notes (listed list f.place)
     ∙ ap (λ b. contains_key notes (listed list f.place) || b)
     (list_any_at (lists (listed list f.place)) (values facts) h.0 f h.1 (ap (lists (listed list f.place)) h.2 ∙ e))

@@ -43,6 +43,10 @@ module _ {K X : Type 0} {R : K → K → Ordering} (o : IsTotalOrder R) (exact :
       there x true = refl
       there x false = refl
 
+  -- what isn't there need not be taken out
+  pub remove-none : (m : FinMap R X) (k : K) → get m k ≡ None → remove m k ≡ m
+  remove-none m k none = ap (set_at m k) (sym none) ∙ maps.set-same o exact m k
+
 -- the empty map has no entries
 pub no-entries : {K : Type 0} (R : K → K → Ordering) (X : Type 0) → entries (empty {X = X} {R = R}) ≡ []
 no-entries R X = nil_from_length (entries (empty {X = X} {R = R})) (sym (len-entries (empty {X = X} {R = R})) ∙ len-empty R X)

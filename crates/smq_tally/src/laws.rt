@@ -76,7 +76,6 @@ pub fn one_fact_moves_its_counts()
 {}
 
 /// `==` of tables says whether they are one.
-#[tactic(auto, using(crate::proofs::Equals::equal_same))]
 pub fn equal_tables_are_one()
     ensures { (tables others : TablesValue)
         → IsTrue (tables_eq tables others) ↔ (tables ≡ others) }
@@ -110,7 +109,7 @@ pub fn rows_are_in_order()
 
 /// A list shows exactly the places that are listed there, strictly in order. Lists are in the order of their table, and
 /// listed places are compared by list, then by place; they are equal exactly where they are one.
-#[tactic(auto, using(crate::proofs::ListOrders::places_sorted, crate::proofs::Listings::listed_iff))]
+#[tactic(auto, using(crate::proofs::ListOrders::places_sorted))]
 pub fn lists_are_in_order()
     ensures order { (a b : Listed) → kept_listed_cmp a b ≡ listed_cmp a b }
     ensures exact { (a b : Listed) → listed_cmp a b ≡ Ordering.Equal → a ≡ b }
