@@ -39,11 +39,11 @@ Entries = List (Place × Fact)
 pub fact_found : (es : Entries) (q : Place) → get (facts_in es) q ≡ lookup (is_at (kept_place_cmp q)) es
 fact_found es q = seen.looked_up places_total places_exact place-order es q
 
--- a fact that is put at the place of an equal one
-pub copy_put : (es fs : Entries) (f copy : Fact) → copy ≡ f → fs ≡ insert_entry kept_place_cmp es copy.place f
+-- what is kept of a fact that is put at its place
+pub kept_put : (es fs : Entries) (f kept : Fact) → kept ≡ f → fs ≡ insert_entry kept_place_cmp es f.place kept
     → facts_in fs ≡ insert (facts_in es) f.place f
-copy_put es fs f copy same put =
-    ap facts_in put ∙ seen.inserted places_total places_exact place-order es copy.place f ∙ (λ i. insert (facts_in es) (same i).place f)
+kept_put es fs f kept same put =
+    ap facts_in put ∙ seen.inserted places_total places_exact place-order es f.place kept ∙ ap (insert (facts_in es) f.place) same
 
 pub fact_taken : (es fs : Entries) (k : Place) → IsStrictlySortedBy kept_place_cmp (keys_of es) → fs ≡ remove_entry (is_at (kept_place_cmp k)) es
     → facts_in fs ≡ remove (facts_in es) k

@@ -5,6 +5,7 @@ mod band;
 mod copies;
 mod counts;
 mod fact;
+mod kept_fact;
 mod laws;
 mod list;
 mod listing;

@@ -10,6 +10,7 @@ ghost use Rattle.smq_tally.specs.Tally.{opening_tally, held_in};
 ghost use Rattle.smq_tally.specs.within.Kept.{facts_in, StandAtTheirPlaces};
 ghost use Rattle.smq_tally.specs.within.ListOrder.{lists, takes_facts};
 
+use crate::kept_fact::KeptFact;
 use crate::noted::NotedTables;
 use crate::{Fact, List, Listed, Outcome, Tables};
 use smq_kit::Place;
@@ -21,7 +22,8 @@ use std::marker::Model;
 /// touches are those of the shelf that has the facts.
 #[derive(Drop)]
 pub struct Tally {
-    facts: Kept<Place, Fact>,
+    alloc: Global,
+    facts: Kept<Place, KeptFact>,
     tables: NotedTables,
 }
 
@@ -51,6 +53,7 @@ impl Tally {
         ensures { result ≡ opening_tally }
     {
         Tally {
+            alloc,
             facts: Kept::new(alloc),
             tables: NotedTables::new(alloc),
         }
@@ -70,7 +73,7 @@ impl Tally {
     }
 
     /// Takes one fact more, of a place that has none yet. An error leaves facts and notes as they were.
-    #[tactic(auto, using(crate::proofs::Held::copy_put))]
+    #[tactic(auto, using(crate::proofs::Held::kept_put))]
     pub fn add(&mut self, fact: Fact) -> Result<(), AllocError>
         requires absent { fin.get self.old.facts fact.place ≡ None }
         ensures ok { OnOk result (self.new.facts ≡ fin.insert self.old.facts fact.place fact) }
@@ -83,11 +86,11 @@ impl Tally {
         ensures touched { OnOk result (touched self.old.touches ≤ self.new.touches) }
         ensures counted { self.old.touches ≤ self.new.touches }
     {
-        let counted = fact.copy();
+        let kept = KeptFact::of(self.alloc, &fact)?;
         // There are fewer places than addresses.
         let _ = self.facts.place_count();
-        self.facts.set(counted.place, fact)?;
-        if let Err(error) = self.tables.add_fact(&counted) {
+        self.facts.set(fact.place, kept)?;
+        if let Err(error) = self.tables.add_fact(&fact) {
             self.facts.take_back();
             return Err(error);
         }
@@ -174,7 +177,7 @@ impl Tally {
         if is_same(before, &fact) {
             return Ok(());
         }
-        if let Err(error) = put(&mut self.facts, &mut self.tables, before, fact) {
+        if let Err(error) = put(self.alloc, &mut self.facts, &mut self.tables, before, &fact) {
             undo_all(&mut self.facts, &mut self.tables);
             return Err(error);
         }
@@ -256,7 +259,7 @@ impl Tally {
 
 // A copy of the fact at a place.
 #[tactic(auto, using(crate::proofs::Held::fact_found))]
-fn fact_at(facts: &mut Kept<Place, Fact>, place: &Place) -> Option<Fact>
+fn fact_at(facts: &mut Kept<Place, KeptFact>, place: &Place) -> Option<Fact>
     ensures value { result ≡ fin.get (facts_in facts.old.content) place.now }
     ensures content { facts.new.content ≡ facts.old.content }
     ensures settled { facts.new.settled ≡ facts.old.settled }
@@ -267,7 +270,7 @@ fn fact_at(facts: &mut Kept<Place, Fact>, place: &Place) -> Option<Fact>
     ensures counted { facts.old.touches ≤ facts.new.touches }
 {
     match facts.get(place) {
-        Some(fact) => Some(fact.copy()),
+        Some(fact) => Some(fact.fact()),
         None => None,
     }
 }
@@ -285,19 +288,20 @@ fn is_same(there: &Option<Fact>, fact: &Fact) -> bool
 
 // Puts a fact at its place, and counts and lists it in the place of the one that is there. An error leaves what was
 // settled.
-#[tactic(auto, using(crate::proofs::Held::is_counted, crate::proofs::Held::copy_put, crate::proofs::ListedFacts::fact_covered))]
+#[tactic(auto, using(crate::proofs::Held::is_counted, crate::proofs::Held::kept_put, crate::proofs::ListedFacts::fact_covered))]
 fn put(
-    facts: &mut Kept<Place, Fact>,
+    alloc: Global,
+    facts: &mut Kept<Place, KeptFact>,
     tables: &mut NotedTables,
     before: &Option<Fact>,
-    fact: Fact,
+    fact: &Fact,
 ) -> Result<(), AllocError>
-    requires there { before.now ≡ fin.get (facts_in facts.old.content) fact.place }
+    requires there { before.now ≡ fin.get (facts_in facts.old.content) fact.now.place }
     requires places { StandAtTheirPlaces (facts_in facts.old.content) }
     requires shown { tables.old.shown
         ≡ tables_of (facts_in facts.old.content) tables.old.notes }
     ensures ok { OnOk result (facts_in facts.new.content
-        ≡ fin.insert (facts_in facts.old.content) fact.place fact) }
+        ≡ fin.insert (facts_in facts.old.content) fact.now.place fact.now) }
     ensures shown { OnOk result (tables.new.shown
         ≡ tables_of (facts_in facts.new.content) tables.new.notes) }
     ensures notes { OnOk result (tables.new.notes ≡ tables.old.notes) }
@@ -309,19 +313,19 @@ fn put(
     ensures touches { facts.new.touches ≤ facts.old.touches + 1 }
     ensures counted { facts.old.touches ≤ facts.new.touches }
 {
-    let after = fact.copy();
+    let kept = KeptFact::of(alloc, fact)?;
     // There are fewer places than addresses.
     let _ = facts.place_count();
-    facts.set(after.place, fact)?;
+    facts.set(fact.place, kept)?;
     match before {
-        Some(before) => tables.replace_fact(before, &after)?,
-        None => tables.add_fact(&after)?,
+        Some(before) => tables.replace_fact(before, fact)?,
+        None => tables.add_fact(fact)?,
     }
     Ok(())
 }
 
 // Brings back what was last settled, in each. It takes no memory.
-fn undo_all(facts: &mut Kept<Place, Fact>, tables: &mut NotedTables)
+fn undo_all(facts: &mut Kept<Place, KeptFact>, tables: &mut NotedTables)
     ensures facts { facts.new.content ≡ facts.old.settled }
     ensures facts_settled { facts.new.settled ≡ facts.old.settled }
     ensures shown { tables.new.shown ≡ tables.old.settled }
@@ -337,7 +341,7 @@ fn undo_all(facts: &mut Kept<Place, Fact>, tables: &mut NotedTables)
 }
 
 // Whether the fact at a place puts it into the list. In a list into which facts put no places, the fact isn't looked up.
-fn is_listed(facts: &mut Kept<Place, Fact>, note: &Listed) -> bool
+fn is_listed(facts: &mut Kept<Place, KeptFact>, note: &Listed) -> bool
     ensures value { result ≡ list_any (lists note.now)
         (option_to_list (fin.get (facts_in facts.old.content) note.now.place)) }
     ensures taken { IsTrue result → IsTrue (takes_facts note.now.list) }

@@ -3,9 +3,8 @@ use Rattle.std.specs.List.{list_any}
 use Rattle.std.specs.FinMap.{contains_key}
 use Rattle.smq_tally.specs.Lists.{listings_of_fact}
 use Rattle.smq_tally.specs.Tables.{tables_of}
-use Rattle.smq_tally.specs.within.Counting.{one_more, one_less}
 use Rattle.smq_tally.specs.within.Kept.{facts_in}
-use Rattle.smq_tally.proofs.Held.{copy_put, has-room, shown-added, shown-replaced}
+use Rattle.smq_tally.proofs.Held.{has-room, kept_put, shown-added, shown-replaced}
 use Rattle.smq_tally.proofs.tally.put.Goals as goal
 
 pub replace_fact-requires-clause-room : goal.replace_fact-requires-clause-room
@@ -23,15 +22,15 @@ add_fact-requires c = record {
 pub returns-in_ok-replace_fact-in-Some-clause-shown : goal.returns-in_ok-replace_fact-in-Some-clause-shown
 returns-in_ok-replace_fact-in-Some-clause-shown c =
     let stays = list_any (contains_key c.args.tables.now.notes) (listings_of_fact c.in-Some.before) in
-    shown-replaced (facts_in c.args.facts.now.content) c.args.tables.now.notes c.requires.shown c.in-Some.before c.args.fact stays
+    shown-replaced (facts_in c.args.facts.now.content) c.args.tables.now.notes c.requires.shown c.in-Some.before c.args.fact.now stays
     c.requires.places (sym c.requires.there ∙ c.in-Some.is) refl
-    (copy_put c.args.facts.now.content c.set.new.self.content c.args.fact c.copy-after.result c.copy-after.ensures c.in_ok-set.ensures.content)
-    (c.in_ok-replace_fact-in-Some.ensures.ok ∙ ap (one_more (one_less c.args.tables.now.shown c.in-Some.before stays)) c.copy-after.ensures)
+    (kept_put c.args.facts.now.content c.set.new.self.content c.args.fact.now c.in_ok-kept.kept c.in_ok-kept.ensures c.in_ok-set.ensures.content)
+    c.in_ok-replace_fact-in-Some.ensures.ok
     ∙ ap (tables_of (facts_in c.set.new.self.content)) (sym c.in_ok-replace_fact-in-Some.ensures.notes)
 
 pub returns-in_ok-add_fact-in-None-clause-shown : goal.returns-in_ok-add_fact-in-None-clause-shown
 returns-in_ok-add_fact-in-None-clause-shown c =
-    shown-added (facts_in c.args.facts.now.content) c.args.tables.now.notes c.requires.shown c.args.fact (sym c.requires.there ∙ c.in-None.is)
-    (copy_put c.args.facts.now.content c.set.new.self.content c.args.fact c.copy-after.result c.copy-after.ensures c.in_ok-set.ensures.content)
-    (c.in_ok-add_fact-in-None.ensures.ok ∙ ap (one_more c.args.tables.now.shown) c.copy-after.ensures)
+    shown-added (facts_in c.args.facts.now.content) c.args.tables.now.notes c.requires.shown c.args.fact.now (sym c.requires.there ∙ c.in-None.is)
+    (kept_put c.args.facts.now.content c.set.new.self.content c.args.fact.now c.in_ok-kept.kept c.in_ok-kept.ensures c.in_ok-set.ensures.content)
+    c.in_ok-add_fact-in-None.ensures.ok
     ∙ ap (tables_of (facts_in c.set.new.self.content)) (sym c.in_ok-add_fact-in-None.ensures.notes)
