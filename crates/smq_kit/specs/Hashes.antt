@@ -8,7 +8,11 @@ abbrev pub hash_of_text : ℕ → List ℕ → ℕ
 hash_of_text so_far [] = so_far
 hash_of_text so_far (octet ∷ octets) = hash_of_text ((so_far * 31 % 2 ^ 64 + octet) % 2 ^ 64) octets
 
+-- times an odd number near 2 ^ 64 by the golden ratio, by which hashes that lie close together are spread
+abbrev pub spread : ℕ → ℕ
+spread hash = hash * 11400714819323198485 % 2 ^ 64
+
 -- the hash of a number, or of a text
 abbrev pub hash_of : Key → ℕ
-hash_of (Number n) = n % 2 ^ 64
-hash_of (Text octets) = hash_of_text 0 octets
+hash_of (Number n) = spread (n % 2 ^ 64)
+hash_of (Text octets) = spread (hash_of_text 0 octets)

@@ -1,6 +1,6 @@
 //! The key of a message id on its link as maps keep it: with a hash of it, by which nearly all keys differ.
 ghost use Rattle.std.specs.Prelude.{◌≡◌};
-ghost use Rattle.smq_kit.specs.Hashes.{hash_of, hash_of_text};
+ghost use Rattle.smq_kit.specs.Hashes.{hash_of, hash_of_text, spread};
 ghost use Rattle.smq_kit.specs.LinkKeys.{link_key};
 
 use crate::{Form, Key, LinkId, MessageId, key_of};
@@ -67,14 +67,24 @@ impl HashedKey {
     }
 }
 
-/// The hash of what a key is on its link: of a number its last 64 bits, of a text that of its octets.
+/// An odd number near 2^64 by the golden ratio. Times this, hashes that lie close together are spread over all 64 bits: ids that
+/// are given in a row would else come to a map in order, and leave its nodes half empty.
+const SPREAD: u64 = 11_400_714_819_323_198_485;
+
+/// The hash of what a key is on its link: of a number its last 64 bits, of a text that of its octets, each spread.
 fn hash_of(key: &Key) -> u64
     ensures { result ≡ hash_of key.now }
 {
     match key {
-        Key::Number(number) => (*number % (1 << 64)) as u64,
-        Key::Text(id) => hash_of_text(id.as_slice()),
+        Key::Number(number) => spread((*number % (1 << 64)) as u64),
+        Key::Text(id) => spread(hash_of_text(id.as_slice())),
     }
+}
+
+fn spread(hash: u64) -> u64
+    ensures { result ≡ spread hash }
+{
+    hash.wrapping_mul(SPREAD)
 }
 
 /// The hash of a text: as each octet comes, 31 times the hash so far and the octet, of which the last 64 bits count.

@@ -1,5 +1,5 @@
 //! What is kept of each PDU, and the only readers that know the cases of its content.
-ghost use Rattle.std.specs.Prelude.{◌≡◌, ◌++◌, IfOk, OnOk, OnErr, length, map, option_copied, option_map, take};
+ghost use Rattle.std.specs.Prelude.{◌≡◌, ◌++◌, ◌+◌, ◌≤◌, IfOk, OnOk, OnErr, length, map, option_copied, option_map, take, vec_capacity, vec_len};
 ghost use Rattle.std.specs.Arc.{arc_value};
 ghost use Rattle.smq_pdu.specs.Decoded.{body_view};
 ghost use Rattle.smq_pdu.specs.Placed.{placed_pdu};
@@ -367,9 +367,23 @@ fn push_each(to: &mut Vec<KeptPdu>, pdus: &[KeptPdu]) -> Result<(), AllocError>
     ensures ok { OnOk result (to.new.items ≡ to.old.items ++ pdus.now) }
     ensures err { OnErr result (take (length to.old.items) to.new.items ≡ to.old.items) }
 {
-    to.reserve(pdus.len())?;
+    make_room(to, pdus.len())?;
     for pdu in pdus {
         to.push_reserved(pdu.copy()?);
     }
     Ok(())
+}
+
+/// Makes room for so many more: where there is none, for an eighth of what is there at least. What is kept of a session stays for
+/// long, so little of its room is to be empty. An error changes nothing.
+pub(crate) fn make_room<T: Drop>(items: &mut Vec<T>, more: usize) -> Result<(), AllocError>
+    ensures items { items.new.items ≡ items.old.items }
+    ensures len { vec_len items.new ≡ vec_len items.old }
+    ensures ok { OnOk result (vec_len items.new + more ≤ vec_capacity items.new) }
+{
+    if more <= items.capacity() - items.len() {
+        return Ok(());
+    }
+    let eighth = items.len() / 8 + 3;
+    items.reserve_exact(if more < eighth { eighth } else { more })
 }

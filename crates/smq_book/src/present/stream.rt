@@ -12,7 +12,7 @@ ghost use Rattle.smq_kit.specs.Replies.{IsReply, first_of};
 ghost use Rattle.smq_book.specs.present.Replies.{backward, stream_refusals};
 
 use crate::present::batch::DecodedPiece;
-use crate::present::kept::push_copies;
+use crate::present::kept::{make_room, push_copies};
 use crate::{Batch, KeptPdu};
 use bytes::Bytes;
 use smq_frame::Tail;
@@ -130,7 +130,8 @@ impl Direction {
             mut pdus,
             next,
         } = piece;
-        self.pieces.reserve(1)?;
+        make_room(&mut self.pieces, 1)?;
+        make_room(&mut self.pdus, pdus.len())?;
         self.pdus.append(&mut pdus)?;
         self.pieces.push_reserved(Piece { moment, octets });
         self.tail = next;
@@ -156,7 +157,7 @@ impl Direction {
             pdus,
             last,
         } = self;
-        pieces.reserve(1)?;
+        make_room(pieces, 1)?;
         push_copies(pdus, piece.pdus.as_slice())?;
         pieces.push_reserved(Piece { moment, octets });
         *tail = next;
