@@ -9,13 +9,15 @@ use Rattle.std.specs.List.{reduce}
 use Rattle.std.specs.List.Sorted.{IsStrictlySortedBy}
 use Rattle.std.specs.Map.{keys_of}
 use Rattle.std.specs.FinMap.{get, get-from_entries}
-use Rattle.std.proofs.lemmas.Bool.{false≢true}
+use Rattle.std.proofs.lemmas.Bool.{false≢true, false_from_ne_true}
 use Rattle.smq_kit.specs.declared.place.Place.{Place}
 use Rattle.smq_kit.specs.declared.link_key.LinkKey.{LinkKey}
 use Rattle.smq_kit.specs.Orders.{place_cmp}
 use Rattle.smq_kit.specs.Maps.{same_option}
 use Rattle.smq_kit.specs.LinkKeys.{same_key}
 use Rattle.smq_kit.proofs.PlaceOrders.{places_total}
+use Rattle.smq_shelf.proofs.Finds.{and_true}
+use Rattle.smq_shelf.proofs.Walks.{and_false}
 use Rattle.smq_group.specs.declared.change.Change.{Change}
 use Rattle.smq_group.specs.declared.change.Standing.{Standing}
 use Rattle.smq_group.specs.declared.change.Standing.TheVariants.{Deciding, Extra, Noted}
@@ -34,7 +36,7 @@ use Rattle.smq_group.specs.within.Stored.{earliest_at, by_place, StandsOnce, sub
 use Rattle.smq_group.specs.within.Told.{SubmitsByPlace, ReceiptsByPlace, members_in, change_at, same_decider, turn_between, submit_changes, receipt_changes, newcomer_submit, newcomer_receipt, rival, decider_changes, told_submits, told_receipts}
 use Rattle.smq_group.specs.within.Walked.{of_key, placed}
 use Rattle.smq_group.proofs.Earliest.{first-is, own_key, one_key}
-use Rattle.smq_group.proofs.Placing.{at, same_place, own_place}
+use Rattle.smq_group.proofs.Placing.{at, not_none, one_of, own_place, same_place, sorted_none, sorted_one, sorted_two, swapped}
 use Rattle.smq_group.proofs.Storing.{number-less}
 use Rattle.smq_group.proofs.Turning.{anew-is, deciders-after, deciders-before, deciders-submit, each-receipt, each-submit, is_at_place, newcomer-receipt, newcomer-submit, same_at, same_self, standing-itself, told-receipt, told-submit}
 
@@ -142,16 +144,6 @@ rival_was : (b : Outlook) (added : Added) (q : Place) → is_at_place (rival b a
 rival_was b (put.Submit _) q h = absurd (false≢true h)
 rival_was b (put.Receipt _ _) q h = h
 rival_was b put.Nothing q h = absurd (false≢true h)
-
-nothing : {A : Type 0} (x : A) (y : Option A) → y ≡ None → y ≡ Some x → ⊥
-nothing x y e f = absurd cc
-
-one_of : {A : Type 0} (x z : A) (y : Option A) → y ≡ Some x → y ≡ Some z → x ≡ z
-one_of x z y e f = cc
-
-never : (b : Bool) → (b ≡ true → ⊥) → b ≡ false
-never true h = absurd (h refl)
-never false h = refl
 
 -- ---- submits
 
@@ -305,17 +297,17 @@ module _ (g h : Grouping) (key : LinkKey) (added : Added) (moves : Moves g h key
 
   module _ (t : turn_between before after ≡ Deciders) (rivals : IsRival g h key added) where
     not_now : (get h.receipts q ≡ None) → now_at ≡ false
-    not_now gone = never now_at (λ e. let d = decider-can h key q e in nothing d.r (get h.receipts q) gone d.is)
+    not_now gone = false_from_ne_true now_at (λ e. let d = decider-can h key q e in not_none d.r (get h.receipts q) gone d.is)
 
     not_rival : (get h.receipts q ≡ None) → rival_at ≡ false
-    not_rival gone = never rival_at (λ e. let d = decider-can g key q (rival_was before added q e) in nothing d.r (get h.receipts q) gone (rivals.kept q e ∙ d.is))
+    not_rival gone = false_from_ne_true rival_at (λ e. let d = decider-can g key q (rival_was before added q e) in not_none d.r (get h.receipts q) gone (rivals.kept q e ∙ d.is))
 
     foreign_now : (r : GroupedReceipt) → get h.receipts q ≡ Some r → same_key key r.key ≡ false → now_at ≡ false
-    foreign_now r is n = never now_at (λ e. let d = decider-can h key q e in
+    foreign_now r is n = false_from_ne_true now_at (λ e. let d = decider-can h key q e in
         false≢true (sym n ∙ ap (λ (x : GroupedReceipt). same_key key x.key) (one_of r d.r (get h.receipts q) is d.is) ∙ ap (same_key key) d.own ∙ own_key key))
 
     foreign_rival : (r : GroupedReceipt) → get h.receipts q ≡ Some r → same_key key r.key ≡ false → rival_at ≡ false
-    foreign_rival r is n = never rival_at (λ e. let d = decider-can g key q (rival_was before added q e) in
+    foreign_rival r is n = false_from_ne_true rival_at (λ e. let d = decider-can g key q (rival_was before added q e) in
         false≢true (sym n ∙ ap (λ (x : GroupedReceipt). same_key key x.key) (one_of r d.r (get h.receipts q) is (rivals.kept q e ∙ d.is)) ∙ ap (same_key key) d.own ∙ own_key key))
 
     quiet : now_at ≡ false → rival_at ≡ false → of_deciders now_at rival_at ≡ None
@@ -342,7 +334,7 @@ module _ (g h : Grouping) (key : LinkKey) (added : Added) (moves : Moves g h key
         (λ i. cond (n i) (Some Deciding) (cond ((ap (λ o. is_at_place o q) told.0 ∙ w) i && told.1 i) (Some Extra) None))
         ∙ sym (own_receipt r false s (λ i. same_standing ((deciders-before before after q r.decides t ∙ ap (λ b. cond b Deciding (cond r.decides Extra Noted)) w) i) (now i)) ∙ ap Some now)
     own_by r is was_is s false false n w =
-        let still : rival_at ≡ false = never rival_at (λ e. false≢true (sym w ∙ rival_was before added q e)) in
+        let still : rival_at ≡ false = false_from_ne_true rival_at (λ e. false≢true (sym w ∙ rival_was before added q e)) in
         quiet n still
         ∙ sym (own_receipt r true s ((λ i. same_standing ((deciders-before before after q r.decides t ∙ ap (λ b. cond b Deciding (cond r.decides Extra Noted)) w) i) ((deciders-after before after q r.decides t ∙ ap (λ b. cond b Deciding (cond r.decides Extra Noted)) n) i)) ∙ standing-itself (cond r.decides Extra Noted)))
 
@@ -367,31 +359,17 @@ module _ (g h : Grouping) (key : LinkKey) (added : Added) (moves : Moves g h key
 turned_test : (p q : Place) → eq_by_cmp place_cmp p q ≡ eq_by_cmp place_cmp q p
 turned_test p q = (eq_by_cmp_equiv places_total).symm p q
 
-crossed : (a b : Bool) (x y : Option Standing) → (a ≡ true → b ≡ true → ⊥) → cond a x (cond b y None) ≡ cond b y (cond a x None)
-crossed true true x y h = absurd (h refl refl)
-crossed true false x y h = refl
-crossed false true x y h = refl
-crossed false false x y h = refl
-
 deciders_tell : (q : Place) (rival now : Option Place) → ((v d : Place) → rival ≡ Some v → now ≡ Some d → eq_by_cmp place_cmp v d ≡ false)
     → told_at q (decider_changes rival now) ≡ cond (is_at_place now q) (Some Deciding) (cond (is_at_place rival q && is_some now) (Some Extra) None)
 deciders_tell q None None h = refl
-deciders_tell q (Some v) None h = sym (ap (λ b. cond b (Some Extra) None) (none (eq_by_cmp place_cmp v q)))
-  where
-    none : (b : Bool) → (b && false) ≡ false
-    none true = refl
-    none false = refl
+deciders_tell q (Some v) None h = sym (ap (λ b. cond b (Some Extra) None) (and_false (eq_by_cmp place_cmp v q)))
 deciders_tell q None (Some d) h = ap (λ b. cond b (Some Deciding) None) (turned_test q d)
 deciders_tell q (Some v) (Some d) h =
-    by (is_lt (place_cmp d v)) ∙ (λ i. cond (turned_test q d i) (Some Deciding) (cond (turned_test q v i) (Some Extra) None)) ∙ ap (λ b. cond (eq_by_cmp place_cmp d q) (Some Deciding) (cond b (Some Extra) None)) (sym (whole (eq_by_cmp place_cmp v q)))
+    by (is_lt (place_cmp d v)) ∙ (λ i. cond (turned_test q d i) (Some Deciding) (cond (turned_test q v i) (Some Extra) None)) ∙ ap (λ b. cond (eq_by_cmp place_cmp d q) (Some Deciding) (cond b (Some Extra) None)) (sym (and_true (eq_by_cmp place_cmp v q)))
   where
-    whole : (b : Bool) → (b && true) ≡ b
-    whole true = refl
-    whole false = refl
-
     by : (b : Bool) → told_at q (cond b (change_at d Deciding ∷ change_at v Extra ∷ []) (change_at v Extra ∷ change_at d Deciding ∷ [])) ≡ cond (eq_by_cmp place_cmp q d) (Some Deciding) (cond (eq_by_cmp place_cmp q v) (Some Extra) None)
     by true = refl
-    by false = crossed (eq_by_cmp place_cmp q v) (eq_by_cmp place_cmp q d) (Some Extra) (Some Deciding)
+    by false = swapped (eq_by_cmp place_cmp q v) (eq_by_cmp place_cmp q d) (Some Extra) (Some Deciding) None
         (λ a b. false≢true (sym (h v d refl refl) ∙ own_place v d (sym (same_place q v a) ∙ same_place q d b)))
 
 rival_apart : (b a : Outlook) (added : Added) → same_decider b a ≡ false → (v d : Place) → rival b added ≡ Some v → decider_of a ≡ Some d → eq_by_cmp place_cmp v d ≡ false
@@ -400,18 +378,6 @@ rival_apart b a (put.Receipt _ _) n v d r e = sym (λ i. same_option (eq_by_cmp 
 rival_apart b a put.Nothing n v d r e = absurd cc
 
 -- ---- in the order of places
-
-pub sorted_none : IsStrictlySortedBy place_cmp []
-unfolding IsStrictlySortedBy
-sorted_none = tt
-
-pub sorted_one : (p : Place) → IsStrictlySortedBy place_cmp (p ∷ [])
-unfolding IsStrictlySortedBy
-sorted_one p = (tt, tt)
-
-pub sorted_two : (p q : Place) → place_cmp p q ≡ Less → IsStrictlySortedBy place_cmp (p ∷ q ∷ [])
-unfolding IsStrictlySortedBy
-sorted_two p q l = ((l, tt), (tt, tt))
 
 deciders_sorted : (rival now : Option Place) → ((v d : Place) → rival ≡ Some v → now ≡ Some d → eq_by_cmp place_cmp v d ≡ false) → IsStrictlySortedBy place_cmp (map (λ (c : Change). c.place) (decider_changes rival now))
 deciders_sorted None None h = sorted_none
@@ -486,17 +452,13 @@ module _ (g : Grouping) (s : List (Member × Bool)) (r : List (Member × Said)) 
       ∙ new_receipts g h key added moves q (get g.receipts q) (get h.receipts q) (new_receipt added q) (moves.receipt q) (λ can. newcomer-receipt b a q can t)
       ∙ sym (receipts_are g h key added moves q)
 
-  submit_places : (ms : List (Place × Bool)) → map (λ (c : Change). c.place) (submit_changes a ms) ≡ keys_of ms
-  submit_places [] = refl
-  submit_places (m ∷ ms) = ap (λ (ps : List Place). m.0 ∷ ps) (submit_places ms)
-
-  receipt_places : (ms : List (Place × Said)) → map (λ (c : Change). c.place) (receipt_changes a ms) ≡ keys_of ms
-  receipt_places [] = refl
-  receipt_places (m ∷ ms) = ap (λ (ps : List Place). m.0 ∷ ps) (receipt_places ms)
+  change_places : {V : Type 0} (standing : Place × V → Standing) (ms : List (Place × V)) → map (λ (c : Change). c.place) (map (λ m. change_at m.0 (standing m)) ms) ≡ keys_of ms
+  change_places standing [] = refl
+  change_places standing (m ∷ ms) = ap (λ (ps : List Place). m.0 ∷ ps) (change_places standing ms)
 
   submits_sorted : (t : Turn) → SubmitsByPlace t (members_in key s) → IsStrictlySortedBy place_cmp (map (λ (c : Change). c.place) (told_submits t a added (members_in key s)))
-  submits_sorted Each so = subst (IsStrictlySortedBy place_cmp) (sym (submit_places (members_in key s))) so
-  submits_sorted Deciders so = subst (IsStrictlySortedBy place_cmp) (sym (submit_places (members_in key s))) so
+  submits_sorted Each so = subst (IsStrictlySortedBy place_cmp) (sym (change_places (λ m. submit_standing_of a) (members_in key s))) so
+  submits_sorted Deciders so = subst (IsStrictlySortedBy place_cmp) (sym (change_places (λ m. submit_standing_of a) (members_in key s))) so
   submits_sorted Newcomer so = by added
     where
       by : (x : Added) → IsStrictlySortedBy place_cmp (map (λ (c : Change). c.place) (newcomer_submit a x))
@@ -505,7 +467,7 @@ module _ (g : Grouping) (s : List (Member × Bool)) (r : List (Member × Said)) 
       by put.Nothing = sorted_none
 
   receipts_sorted : (t : Turn) → turn_between b a ≡ t → ReceiptsByPlace t (members_in key r) → IsStrictlySortedBy place_cmp (map (λ (c : Change). c.place) (told_receipts t b a added (members_in key r)))
-  receipts_sorted Each t so = subst (IsStrictlySortedBy place_cmp) (sym (receipt_places (members_in key r))) so
+  receipts_sorted Each t so = subst (IsStrictlySortedBy place_cmp) (sym (change_places (λ m. receipt_standing_of a m.0 m.1.decides) (members_in key r))) so
   receipts_sorted Deciders t so = deciders_sorted (rival b added) (decider_of a) (rival_apart b a added (anew-is b a t).other)
   receipts_sorted Newcomer t so = by added
     where

@@ -27,16 +27,12 @@ use Rattle.smq_group.specs.within.Outlooks.{outlook_at}
 use Rattle.smq_group.specs.within.Stored.{AreStored, StandsOnce, by_place, grouping_in, member_of, submit_value}
 use Rattle.smq_group.specs.within.Told.{HoldsAdded, SubmitsByPlace, is_alone, members_in, newcomer_submit, submit_changes, told_submits}
 use Rattle.smq_group.specs.within.Walked.{of_key, placed}
-use Rattle.smq_group.proofs.Changing.{sorted_one}
 use Rattle.smq_group.proofs.Earliest.{own_key}
-use Rattle.smq_group.proofs.Placing.{once-insert, once-remove}
+use Rattle.smq_group.proofs.Placing.{once-insert, once-remove, sorted_one}
 use Rattle.smq_group.proofs.Storing.{absent, counted-less, counted-more, empty_entries, from-cons, number-more}
 use Rattle.smq_group.proofs.Walking.{none_of}
 
 -- ---- the only submit of a key
-
-some_one : {A : Type 0} (x y : A) → Some x ≡ Some y → x ≡ y
-some_one x y e = cc
 
 module _ (key : LinkKey) (place : Place) (v : Bool) where
   abbrev sought : Member → Bool
@@ -69,7 +65,7 @@ module _ (key : LinkKey) (place : Place) (v : Bool) where
           → map placed (cond b (e ∷ filter (of_key key) es) (filter (of_key key) es)) ≡ (place, v) ∷ []
       step true true t s h n rest =
           let at : e.0.place ≡ place = ap (λ (k : Member). k.place) (sym (is_sought e.0 t)) in
-          let value : e.1 ≡ v = some_one e.1 v h in
+          let value : e.1 ≡ v = cc in
           let none : members_in key es ≡ [] = none_of (members_in key es) (omega (arith, n)) in
           λ i. (at i, value i) ∷ none i
       step true false t s h n rest = absurd (false≢true (sym s ∙ of_its_key e.0 t))

@@ -7,66 +7,22 @@ use Rattle.std.specs.List.{AllByRecursion}
 use Rattle.std.specs.List.Sorted.{IsStrictlySortedBy}
 use Rattle.std.specs.declared.cmp.Ordering.TheVariants.{Less}
 use Rattle.std.specs.FinMap.{FinMap, get, insert, remove, get-empty, get-insert, get-remove}
-use Rattle.std.specs.Map.{keys_of, lookup, remove_entry}
-use Rattle.std.specs.BTreeMap.{is_at, insert_entry}
-use Rattle.std.proofs.lemmas.Bool.{false≢true}
 use Rattle.std.proofs.lemmas.Map.Keys.{sorted_head, sorted_tail}
 use Rattle.std.proofs.lemmas.List.Sums.{fold-append}
 use Rattle.smq_kit.specs.declared.place.Place.{Place}
 use Rattle.smq_kit.specs.declared.link_key.LinkKey.{LinkKey}
-use Rattle.smq_kit.specs.Orders.{kept_place_cmp, place_cmp}
-use Rattle.smq_kit.proofs.PlaceOrders.{place-order, places_total, places_exact}
-use Rattle.smq_shelf.proofs.Seen.{inserted, looked_up, removed}
+use Rattle.smq_kit.specs.Orders.{place_cmp}
+use Rattle.smq_kit.proofs.MapLemmas.{get-removed}
+use Rattle.smq_kit.proofs.PlaceOrders.{places_total, places_exact}
 use Rattle.smq_group.specs.declared.change.Change.{Change}
 use Rattle.smq_group.specs.declared.change.Standing.{Standing}
-use Rattle.smq_group.specs.declared.change.Standing.TheVariants.{Single, Shared, Stray, Deciding, Extra, Noted}
 use Rattle.smq_group.specs.Changes.{TellsChanges, changed, receipt_at, same_standing, submit_at, told_at, told_of_receipt, told_of_submit}
 use Rattle.smq_group.specs.Groups.{no_members, with_receipt, with_submit, without_receipt, without_submit}
 use Rattle.smq_group.specs.Matching.{Grouping, GroupedReceipt, receipt_standing, submit_standing}
 use Rattle.smq_group.specs.Standings.{StandApart, standing_at}
 use Rattle.smq_group.specs.within.Standing.{AreKept, standings_in, with_change, with_changes}
-use Rattle.smq_group.proofs.Placing.{own_place, same_place}
-use Rattle.smq_group.proofs.Turning.{same_at}
-
--- ---- standings that are called the same are one
-
-same-standing-is : (s t : Standing) → same_standing s t ≡ true → s ≡ t
-same-standing-is (Single a) (Single b) h = ap Single (same_at a b h)
-same-standing-is (Single a) Shared h = absurd (false≢true h)
-same-standing-is (Single a) Stray h = absurd (false≢true h)
-same-standing-is (Single a) Deciding h = absurd (false≢true h)
-same-standing-is (Single a) Extra h = absurd (false≢true h)
-same-standing-is (Single a) Noted h = absurd (false≢true h)
-same-standing-is Shared (Single a) h = absurd (false≢true h)
-same-standing-is Shared Shared h = refl
-same-standing-is Shared Stray h = absurd (false≢true h)
-same-standing-is Shared Deciding h = absurd (false≢true h)
-same-standing-is Shared Extra h = absurd (false≢true h)
-same-standing-is Shared Noted h = absurd (false≢true h)
-same-standing-is Stray (Single a) h = absurd (false≢true h)
-same-standing-is Stray Shared h = absurd (false≢true h)
-same-standing-is Stray Stray h = refl
-same-standing-is Stray Deciding h = absurd (false≢true h)
-same-standing-is Stray Extra h = absurd (false≢true h)
-same-standing-is Stray Noted h = absurd (false≢true h)
-same-standing-is Deciding (Single a) h = absurd (false≢true h)
-same-standing-is Deciding Shared h = absurd (false≢true h)
-same-standing-is Deciding Stray h = absurd (false≢true h)
-same-standing-is Deciding Deciding h = refl
-same-standing-is Deciding Extra h = absurd (false≢true h)
-same-standing-is Deciding Noted h = absurd (false≢true h)
-same-standing-is Extra (Single a) h = absurd (false≢true h)
-same-standing-is Extra Shared h = absurd (false≢true h)
-same-standing-is Extra Stray h = absurd (false≢true h)
-same-standing-is Extra Deciding h = absurd (false≢true h)
-same-standing-is Extra Extra h = refl
-same-standing-is Extra Noted h = absurd (false≢true h)
-same-standing-is Noted (Single a) h = absurd (false≢true h)
-same-standing-is Noted Shared h = absurd (false≢true h)
-same-standing-is Noted Stray h = absurd (false≢true h)
-same-standing-is Noted Deciding h = absurd (false≢true h)
-same-standing-is Noted Extra h = absurd (false≢true h)
-same-standing-is Noted Noted h = refl
+use Rattle.smq_group.proofs.Placing.{not_none, same_place}
+use Rattle.smq_group.proofs.Turning.{same-standing-is}
 
 -- ---- one standing after a change
 
@@ -90,10 +46,8 @@ after-changes sa None ra rb h k apart = ap (λ (o : Option Standing). option_or 
 after-changes sa (Some x) ra rb h k apart =
     let gone : rb ≡ None = apart x refl in
     let none : ra ≡ None = k gone in
-    ap (λ (o : Option Standing). option_or (changed ra o) (option_or (changed sa (Some x)) (option_or sa ra))) gone
-    ∙ ap (λ (o : Option Standing). option_or (changed sa (Some x)) (option_or sa o)) none
-    ∙ ap (option_or (changed sa (Some x))) (or-none sa)
-    ∙ after-change sa (Some x) h
+    (λ i. option_or (changed ra (gone i)) (option_or (changed sa (Some x)) (option_or sa (none i))))
+    ∙ ap (option_or (changed sa (Some x))) (or-none sa) ∙ after-change sa (Some x) h
 
 -- ---- changes in the order of places
 
@@ -157,123 +111,69 @@ module _ (g h : Grouping) (cs : List Change) (told : TellsChanges g h cs) (m : F
       ∙ (λ i. option_or (changed (receipt_at g q) (r i)) (option_or (changed (submit_at g q) (s i)) (is i)))
       ∙ sym (λ i. option_or (s i) (r i))
 
--- ---- of each of the four calls
+-- ---- of each of the four calls: one member more or less, at one place
 
-module _ (g : Grouping) (es es' : List (Place × Standing)) (cs : List Change) (p : Place) where
-  -- a message more
-  pub submit-kept : (key : LinkKey) → AreKept g es → get g.receipts p ≡ None → TellsChanges g (with_submit g key p) cs
+module _ (g h : Grouping) (es es' : List (Place × Standing)) (cs : List Change) (p : Place) (kept : AreKept g es) (told : TellsChanges g h cs)
+    (same : (q : Place) → eq_by_cmp place_cmp q p ≡ false → (get h.submits q ≡ get g.submits q) × (get h.receipts q ≡ get g.receipts q))
+    (alone : (key : LinkKey) → get h.submits p ≡ Some key → get h.receipts p ≡ None) where
+  apart : (q : Place) (b : Bool) → eq_by_cmp place_cmp q p ≡ b → (key : LinkKey) → get h.submits q ≡ Some key → get h.receipts q ≡ None
+  apart q true t key e = ap (get h.receipts) (same_place q p t) ∙ alone key (ap (get h.submits) (sym (same_place q p t)) ∙ e)
+  apart q false t key e = (same q t).1 ∙ kept.apart.apart q key (sym (same q t).0 ∙ e)
+
+  pub with-more : get g.submits p ≡ None → get g.receipts p ≡ None → standings_in es' ≡ with_changes (standings_in es) cs → AreKept h es'
+  with-more s r is = record {
+    apart = record { apart = λ q. apart q (eq_by_cmp place_cmp q p) refl };
+    each = λ q. ap (λ (n : FinMap place_cmp Standing). get n q) is ∙ by q (eq_by_cmp place_cmp q p) refl;
+  }
+    where
+      by : (q : Place) (b : Bool) → eq_by_cmp place_cmp q p ≡ b → get (with_changes (standings_in es) cs) q ≡ standing_at h q
+      by q true t = stays-at g h cs told (standings_in es) q (kept.each q) (λ _. ap (get g.submits) (same_place q p t) ∙ s) (λ _. ap (get g.receipts) (same_place q p t) ∙ r) (apart q true t)
+      by q false t = stays-at g h cs told (standings_in es) q (kept.each q) (λ e. sym (same q t).0 ∙ e) (λ e. sym (same q t).1 ∙ e) (apart q false t)
+
+  pub with-less : get h.submits p ≡ None → get h.receipts p ≡ None → standings_in es' ≡ with_changes (remove (standings_in es) p) cs → AreKept h es'
+  with-less s r is = record {
+    apart = record { apart = λ q. apart q (eq_by_cmp place_cmp q p) refl };
+    each = λ q. ap (λ (n : FinMap place_cmp Standing). get n q) is ∙ by q (eq_by_cmp place_cmp q p) refl (get-remove places_total (standings_in es) p q);
+  }
+    where
+      by : (q : Place) (b : Bool) → eq_by_cmp place_cmp q p ≡ b → get (remove (standings_in es) p) q ≡ cond (eq_by_cmp place_cmp q p) None (get (standings_in es) q)
+          → get (with_changes (remove (standings_in es) p) cs) q ≡ standing_at h q
+      by q true t mid = left-at g h cs told (remove (standings_in es) p) q (mid ∙ ap (λ b. cond b None (get (standings_in es) q)) t)
+          (ap (get h.submits) (same_place q p t) ∙ s) (ap (get h.receipts) (same_place q p t) ∙ r)
+      by q false t mid = stays-at g h cs told (remove (standings_in es) p) q (mid ∙ ap (λ b. cond b None (get (standings_in es) q)) t ∙ kept.each q)
+          (λ e. sym (same q t).0 ∙ e) (λ e. sym (same q t).1 ∙ e) (apart q false t)
+
+put-beside : {X : Type 0} (m : FinMap place_cmp X) (p : Place) (v : X) (q : Place) → eq_by_cmp place_cmp q p ≡ false → get (insert m p v) q ≡ get m q
+put-beside m p v q t = get-insert places_total m p v q ∙ ap (λ b. cond b (Some v) (get m q)) t
+
+out-beside : {X : Type 0} (m : FinMap place_cmp X) (p q : Place) → eq_by_cmp place_cmp q p ≡ false → get (remove m p) q ≡ get m q
+out-beside m p q t = get-remove places_total m p q ∙ ap (λ b. cond b None (get m q)) t
+
+module _ (g : Grouping) (es es' : List (Place × Standing)) (cs : List Change) (p : Place) (kept : AreKept g es) where
+  pub submit-kept : (key : LinkKey) → get g.submits p ≡ None → get g.receipts p ≡ None → TellsChanges g (with_submit g key p) cs
       → standings_in es' ≡ with_changes (standings_in es) cs → AreKept (with_submit g key p) es'
-  submit-kept key kept free told is = record {
-    apart = record { apart = apart };
-    each = λ q. ap (λ (n : FinMap place_cmp Standing). get n q) is
-        ∙ stays-at g (with_submit g key p) cs told (standings_in es) q (kept.each q) (stays q) (λ e. e) (apart q);
-  }
-    where
-      stays : (q : Place) → get (insert g.submits p key) q ≡ None → get g.submits q ≡ None
-      stays q none = by (eq_by_cmp place_cmp q p) (sym (get-insert places_total g.submits p key q) ∙ none)
-        where
-          by : (b : Bool) → cond b (Some key) (get g.submits q) ≡ None → get g.submits q ≡ None
-          by true e = absurd cc
-          by false e = e
+  submit-kept key s r told = with-more g (with_submit g key p) es es' cs p kept told (λ q t. (put-beside g.submits p key q t, refl)) (λ k e. r) s r
 
-      apart : (q : Place) (other : LinkKey) → get (insert g.submits p key) q ≡ Some other → get g.receipts q ≡ None
-      apart q other there = by (eq_by_cmp place_cmp q p) refl (sym (get-insert places_total g.submits p key q) ∙ there)
-        where
-          by : (b : Bool) → eq_by_cmp place_cmp q p ≡ b → cond b (Some key) (get g.submits q) ≡ Some other → get g.receipts q ≡ None
-          by true e h = ap (get g.receipts) (same_place q p e) ∙ free
-          by false e h = kept.apart.apart q other h
-
-  -- a message less
-  pub submit-left : (key : LinkKey) → AreKept g es → get g.submits p ≡ Some key → TellsChanges g (without_submit g p) cs
+  pub submit-left : (key : LinkKey) → get g.submits p ≡ Some key → TellsChanges g (without_submit g p) cs
       → standings_in es' ≡ with_changes (remove (standings_in es) p) cs → AreKept (without_submit g p) es'
-  submit-left key kept there told is = record {
-    apart = record { apart = λ q other e. kept.apart.apart q other (still q other e) };
-    each = λ q. ap (λ (n : FinMap place_cmp Standing). get n q) is ∙ by q (eq_by_cmp place_cmp q p) refl;
-  }
-    where
-      at-mid : (q : Place) → get (remove (standings_in es) p) q ≡ cond (eq_by_cmp place_cmp q p) None (get (standings_in es) q)
-      at-mid q = get-remove places_total (standings_in es) p q
+  submit-left key there told =
+      let r = kept.apart.apart p key there in
+      with-less g (without_submit g p) es es' cs p kept told (λ q t. (out-beside g.submits p q t, refl)) (λ k e. r) (get-removed places_total places_exact g.submits p) r
 
-      at-submits : (q : Place) → get (remove g.submits p) q ≡ cond (eq_by_cmp place_cmp q p) None (get g.submits q)
-      at-submits q = get-remove places_total g.submits p q
-
-      still : (q : Place) (other : LinkKey) → get (remove g.submits p) q ≡ Some other → get g.submits q ≡ Some other
-      still q other e = from (eq_by_cmp place_cmp q p) (sym (at-submits q) ∙ e)
-        where
-          from : (b : Bool) → cond b None (get g.submits q) ≡ Some other → get g.submits q ≡ Some other
-          from true h = absurd cc
-          from false h = h
-
-      by : (q : Place) (b : Bool) → eq_by_cmp place_cmp q p ≡ b → get (with_changes (remove (standings_in es) p) cs) q ≡ standing_at (without_submit g p) q
-      by q true e = left-at g (without_submit g p) cs told (remove (standings_in es) p) q
-          (at-mid q ∙ ap (λ b. cond b None (get (standings_in es) q)) e)
-          (at-submits q ∙ ap (λ b. cond b None (get g.submits q)) e)
-          (ap (get g.receipts) (same_place q p e) ∙ kept.apart.apart p key there)
-      by q false e = stays-at g (without_submit g p) cs told (remove (standings_in es) p) q
-          (at-mid q ∙ ap (λ b. cond b None (get (standings_in es) q)) e ∙ kept.each q)
-          (λ h. sym (at-submits q ∙ ap (λ b. cond b None (get g.submits q)) e) ∙ h) (λ h. h)
-          (λ other h. kept.apart.apart q other (still q other h))
-
-  -- a receipt more
-  pub receipt-kept : (r : GroupedReceipt) → AreKept g es → get g.submits p ≡ None → TellsChanges g (with_receipt g p r) cs
+  pub receipt-kept : (r : GroupedReceipt) → get g.submits p ≡ None → get g.receipts p ≡ None → TellsChanges g (with_receipt g p r) cs
       → standings_in es' ≡ with_changes (standings_in es) cs → AreKept (with_receipt g p r) es'
-  receipt-kept r kept free told is = record {
-    apart = record { apart = apart };
-    each = λ q. ap (λ (n : FinMap place_cmp Standing). get n q) is
-        ∙ stays-at g (with_receipt g p r) cs told (standings_in es) q (kept.each q) (λ e. e) (stays q) (apart q);
-  }
-    where
-      stays : (q : Place) → get (insert g.receipts p r) q ≡ None → get g.receipts q ≡ None
-      stays q none = by (eq_by_cmp place_cmp q p) (sym (get-insert places_total g.receipts p r q) ∙ none)
-        where
-          by : (b : Bool) → cond b (Some r) (get g.receipts q) ≡ None → get g.receipts q ≡ None
-          by true e = absurd cc
-          by false e = e
+  receipt-kept r s none told =
+      with-more g (with_receipt g p r) es es' cs p kept told (λ q t. (refl, put-beside g.receipts p r q t)) (λ key e. absurd (not_none key (get g.submits p) s e)) s none
 
-      apart : (q : Place) (key : LinkKey) → get g.submits q ≡ Some key → get (insert g.receipts p r) q ≡ None
-      apart q key there = get-insert places_total g.receipts p r q ∙ by (eq_by_cmp place_cmp q p) refl
-        where
-          by : (b : Bool) → eq_by_cmp place_cmp q p ≡ b → cond b (Some r) (get g.receipts q) ≡ None
-          by true e = let no : ◌≡◌ {A = Option LinkKey} None (Some key) = sym (ap (get g.submits) (same_place q p e) ∙ free) ∙ there in absurd cc
-          by false e = kept.apart.apart q key there
-
-  -- a receipt less
-  pub receipt-left : (r : GroupedReceipt) → AreKept g es → get g.receipts p ≡ Some r → TellsChanges g (without_receipt g p) cs
+  pub receipt-left : (r : GroupedReceipt) → get g.receipts p ≡ Some r → TellsChanges g (without_receipt g p) cs
       → standings_in es' ≡ with_changes (remove (standings_in es) p) cs → AreKept (without_receipt g p) es'
-  receipt-left r kept there told is = record {
-    apart = record { apart = apart };
-    each = λ q. ap (λ (n : FinMap place_cmp Standing). get n q) is ∙ by q (eq_by_cmp place_cmp q p) refl;
-  }
+  receipt-left r there told =
+      let gone = get-removed places_total places_exact g.receipts p in
+      with-less g (without_receipt g p) es es' cs p kept told (λ q t. (refl, out-beside g.receipts p q t)) (λ key e. gone) (free (get g.submits p) refl) gone
     where
-      at-mid : (q : Place) → get (remove (standings_in es) p) q ≡ cond (eq_by_cmp place_cmp q p) None (get (standings_in es) q)
-      at-mid q = get-remove places_total (standings_in es) p q
-
-      at-receipts : (q : Place) → get (remove g.receipts p) q ≡ cond (eq_by_cmp place_cmp q p) None (get g.receipts q)
-      at-receipts q = get-remove places_total g.receipts p q
-
-      less : (q : Place) → get g.receipts q ≡ None → get (remove g.receipts p) q ≡ None
-      less q none = at-receipts q ∙ from (eq_by_cmp place_cmp q p)
-        where
-          from : (b : Bool) → cond b None (get g.receipts q) ≡ None
-          from true = refl
-          from false = none
-
-      apart : (q : Place) (key : LinkKey) → get g.submits q ≡ Some key → get (remove g.receipts p) q ≡ None
-      apart q key e = less q (kept.apart.apart q key e)
-
-      free : (o : Option LinkKey) → get g.submits p ≡ o → o ≡ None
-      free None e = refl
-      free (Some key) e = let no : ◌≡◌ {A = Option GroupedReceipt} None (Some r) = sym (kept.apart.apart p key e) ∙ there in absurd cc
-
-      by : (q : Place) (b : Bool) → eq_by_cmp place_cmp q p ≡ b → get (with_changes (remove (standings_in es) p) cs) q ≡ standing_at (without_receipt g p) q
-      by q true e = left-at g (without_receipt g p) cs told (remove (standings_in es) p) q
-          (at-mid q ∙ ap (λ b. cond b None (get (standings_in es) q)) e)
-          (ap (get g.submits) (same_place q p e) ∙ free (get g.submits p) refl)
-          (at-receipts q ∙ ap (λ b. cond b None (get g.receipts q)) e)
-      by q false e = stays-at g (without_receipt g p) cs told (remove (standings_in es) p) q
-          (at-mid q ∙ ap (λ b. cond b None (get (standings_in es) q)) e ∙ kept.each q) (λ h. h)
-          (λ h. sym (at-receipts q ∙ ap (λ b. cond b None (get g.receipts q)) e) ∙ h)
-          (apart q)
+      free : (o : Option LinkKey) → get g.submits p ≡ o → get g.submits p ≡ None
+      free None e = e
+      free (Some key) e = absurd (not_none r (get g.receipts p) (kept.apart.apart p key e) there)
 
 -- ---- no members, and what is kept of a place
 
@@ -284,13 +184,3 @@ none-kept = record {
       ∙ sym (λ i. option_or (option_map (λ key. told_of_submit (submit_standing no_members key)) (get-empty {X = LinkKey} place_cmp place i))
       (option_map (λ (r : GroupedReceipt). told_of_receipt (receipt_standing no_members place r)) (get-empty {X = GroupedReceipt} place_cmp place i)));
 }
-
-pub standing-kept : (g : Grouping) (es : List (Place × Standing)) (place : Place) → AreKept g es → lookup (is_at (kept_place_cmp place)) es ≡ standing_at g place
-standing-kept g es place kept = sym (looked_up places_total places_exact place-order es place) ∙ kept.each place
-
-pub set-standing : (es : List (Place × Standing)) (place : Place) (s : Standing) → standings_in (insert_entry kept_place_cmp es place s) ≡ insert (standings_in es) place s
-set-standing es place s = inserted places_total places_exact place-order es place s
-
-pub removed-standing : (es : List (Place × Standing)) (place : Place) → IsStrictlySortedBy kept_place_cmp (keys_of es)
-    → standings_in (remove_entry (is_at (kept_place_cmp place)) es) ≡ remove (standings_in es) place
-removed-standing es place so = removed places_total places_exact place-order es place so

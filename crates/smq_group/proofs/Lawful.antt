@@ -21,7 +21,7 @@ use Rattle.smq_group.specs.Matching.{submit_standing}
 use Rattle.smq_group.specs.within.Outlooks.{submit_standing_of}
 use Rattle.smq_group.proofs.Turning.{standing-itself, told-submit}
 use Rattle.smq_group.proofs.Moving.{moves-submit}
-use Rattle.smq_group.proofs.Placing.{same_place}
+use Rattle.smq_group.proofs.Placing.{not_none, same_place, sorted_none, swapped}
 
 -- ---- a finite map by place
 
@@ -34,16 +34,10 @@ module _ {X : Type 0} (m : FinMap place_cmp X) where
   inserted-removed p v none = same_map places_total places_exact _ _ (λ q.
       get-remove places_total (insert m p v) p q ∙ ap (cond (eq_by_cmp place_cmp q p) None) (get-insert places_total m p v q) ∙ back p q v (eq_by_cmp place_cmp q p) none refl)
 
-  crossed : (a b : Bool) (x y z : Option X) → (a ≡ true → b ≡ true → ⊥) → cond a x (cond b y z) ≡ cond b y (cond a x z)
-  crossed true true x y z h = absurd (h refl refl)
-  crossed true false x y z h = refl
-  crossed false true x y z h = refl
-  crossed false false x y z h = refl
-
   pub inserted-swapped : (p q : Place) (v w : X) → p ≢ q → insert (insert m p v) q w ≡ insert (insert m q w) p v
   inserted-swapped p q v w ne = same_map places_total places_exact _ _ (λ x.
       get-insert places_total (insert m p v) q w x ∙ ap (cond (eq_by_cmp place_cmp x q) (Some w)) (get-insert places_total m p v x)
-      ∙ crossed (eq_by_cmp place_cmp x q) (eq_by_cmp place_cmp x p) (Some w) (Some v) (get m x) (λ a b. ne (sym (same_place x p b) ∙ same_place x q a))
+      ∙ swapped (eq_by_cmp place_cmp x q) (eq_by_cmp place_cmp x p) (Some w) (Some v) (get m x) (λ a b. ne (sym (same_place x p b) ∙ same_place x q a))
       ∙ sym (get-insert places_total (insert m q w) p v x ∙ ap (cond (eq_by_cmp place_cmp x p) (Some v)) (get-insert places_total m q w x)))
 
 pub submits-no-trace : SubmitsLeaveNoTrace
@@ -97,10 +91,6 @@ told-one-way before after one other a b =
     ++ one_list a.receipts b.receipts a.receipts_by_place b.receipts_by_place (λ q. a.each_receipt q ∙ sym (b.each_receipt q)) i)
     ∙ sym b.parts
 
-sorted_none : IsStrictlySortedBy place_cmp []
-unfolding IsStrictlySortedBy
-sorted_none = tt
-
 unchanged : (x : Option Standing) → changed x x ≡ None
 unchanged None = refl
 unchanged (Some s) = ap (λ b. cond b None (Some s)) (standing-itself s)
@@ -126,9 +116,6 @@ other-keys-stay g key other place q none apart there =
     told-submit (with_submit g key place) other ∙ ap submit_standing_of (moves.elsewhere other apart) ∙ sym (told-submit g other) in
     ap (option_map (λ k. told_of_submit (submit_standing (with_submit g key place) k))) still ∙ ap Some same ∙ sym (ap (option_map (λ k. told_of_submit (submit_standing g k))) there)
   where
-    not_none : None ≡ Some other → ⊥
-    not_none e = absurd cc
-
     by : (b : Bool) → eq_by_cmp place_cmp q place ≡ b → cond (eq_by_cmp place_cmp q place) (Some key) (get g.submits q) ≡ Some other
-    by true t = absurd (not_none (sym (ap (get g.submits) (same_place q place t) ∙ none) ∙ there))
+    by true t = absurd (not_none other (get g.submits q) (ap (get g.submits) (same_place q place t) ∙ none) there)
     by false t = ap (λ b. cond b (Some key) (get g.submits q)) t ∙ there

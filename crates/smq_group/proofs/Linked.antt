@@ -3,6 +3,7 @@ use Rattle.std.proofs.Common.{◌≡◌, Bool, true, false, cond, ◌||◌, List
 use Rattle.std.specs.Prelude.{◌==◌, IfOk, is_some, option_and_then}
 use Rattle.std.specs.declared.result.Result.{Result}
 use Rattle.std.specs.declared.result.Result.TheVariants.{Ok, Err}
+use Rattle.std.proofs.lemmas.Bool.{false_from_ne_true}
 use Rattle.std.specs.Ordering.{eq_by_cmp}
 use Rattle.std.specs.FinMap.{find, from_entries, get-from_entries, keys}
 use Rattle.std.specs.List.{AllByRecursion, IsDistinct, list_any}
@@ -20,7 +21,7 @@ use Rattle.smq_kit.proofs.PlaceOrders.{place-order, places_total, places_exact}
 use Rattle.smq_group.specs.declared.member.Member.{Member}
 use Rattle.smq_group.specs.within.LinkWalks.{link_places, on_link}
 use Rattle.smq_group.specs.within.Stored.{StandsOnce, by_place}
-use Rattle.smq_group.proofs.Placing.{none_head, not_true, rest_none, same_place}
+use Rattle.smq_group.proofs.Placing.{none_head, rest_none, same_place}
 use Rattle.smq_group.proofs.SortedKeys.{sorted-keys, sorted-strictly}
 
 none_there : IsDistinct (eq_by_cmp place_cmp) []
@@ -52,7 +53,7 @@ module _ {V W : Type 0} (value : LinkKey → V → W) (key_of : W → LinkKey) (
   none-on : (q : Place) (es : List (Member × V)) → at q es ≡ None → list_any (eq_by_cmp place_cmp q) (link_places link es) ≡ false
   none-on q [] h = refl
   none-on q (e ∷ es) h = none_at q e es (on e)
-      (not_true (eq_by_cmp place_cmp q e.0.place) (λ t. none_head (eq_by_cmp place_cmp q e.0.place) (value e.0.key e.1) (at q es) t h))
+      (false_from_ne_true (eq_by_cmp place_cmp q e.0.place) (λ t. none_head (eq_by_cmp place_cmp q e.0.place) (value e.0.key e.1) (at q es) t h))
       (none-on q es (rest_none (eq_by_cmp place_cmp q e.0.place) (value e.0.key e.1) (at q es) h))
 
   there_at : (q : Place) (e : Member × V) (es : List (Member × V)) (a b : Bool) → eq_by_cmp place_cmp q e.0.place ≡ a → on e ≡ b → at e.0.place es ≡ None

@@ -2,10 +2,9 @@
 use Rattle.std.proofs.Common.{◌≡◌, ◌≢◌, ℕ, ◌+◌, Bool, true, false, cond, List, [], ◌∷◌, Option, Some, None, refl, sym, ap, ◌∙◌, subst, arith}
 use Rattle.std.specs.Prelude.{◌==◌, ◌↔◌, IsTrue, map, count_by, option_map}
 use Rattle.std.specs.List.{AllByRecursion, reduce}
-use Rattle.std.specs.Cmp.{tied_itself}
-use Rattle.std.specs.Ordering.{eq_by_cmp, is_eq}
+use Rattle.std.specs.Ordering.{eq_by_cmp}
 use Rattle.std.specs.FinMap.{FinMap, entries, get, remove, get-remove}
-use Rattle.std.proofs.lemmas.Bool.{false≢true, eq-eqb, eqb-true}
+use Rattle.std.proofs.lemmas.Bool.{false≢true, false_from_ne_true, eq-eqb, eqb-true}
 use Rattle.std.proofs.lemmas.List.Sums.{sum_by-cons}
 use Rattle.smq_kit.specs.declared.place.Place.{Place}
 use Rattle.smq_kit.specs.declared.link_key.LinkKey.{LinkKey}
@@ -16,6 +15,7 @@ use Rattle.smq_kit.proofs.MapLemmas as maps
 use Rattle.smq_kit.proofs.PlaceOrders.{places_total, places_exact}
 use Rattle.smq_group.specs.Matching.{Grouping, Candidate, CanDecide, IsSingle, IsEarliest, candidates, decider, earlier, matches}
 use Rattle.smq_group.proofs.Earliest.{IsFirst, first-is, one_key, own_key}
+use Rattle.smq_group.proofs.Placing.{not_none, own_place, same_place}
 
 -- ---- numbers of a map by place
 
@@ -50,24 +50,16 @@ module _ {X : Type 0} (test : X → Bool) where
 
 -- ---- places
 
-other_place : (p q : Place) (b : Bool) → eq_by_cmp place_cmp p q ≡ b → p ≢ q → b ≡ false
-other_place p q true e ne = absurd (ne (maps.same_key places_total places_exact p q e))
-other_place p q false e ne = refl
-
 pub still-there : {X : Type 0} (m : FinMap place_cmp X) (p q : Place) → p ≢ q → get (remove m q) p ≡ get m p
-still-there m p q ne = get-remove places_total m q p ∙ ap (λ b. cond b None (get m p)) (other_place p q (eq_by_cmp place_cmp p q) refl ne)
+still-there m p q ne = get-remove places_total m q p ∙ ap (λ b. cond b None (get m p)) (false_from_ne_true (eq_by_cmp place_cmp p q) (λ e. ne (same_place p q e)))
 
 pub gone : {X : Type 0} (m : FinMap place_cmp X) (p q : Place) (v : X) → get (remove m q) p ≡ Some v → (p ≢ q) × (get m p ≡ Some v)
 gone {X} m p q v e = by_test (eq_by_cmp place_cmp p q) refl
   where
     by_test : (b : Bool) → eq_by_cmp place_cmp p q ≡ b → (p ≢ q) × (get m p ≡ Some v)
-    by_test true t = absurd (nothing v (sym (get-remove places_total m q p ∙ ap (λ b. cond b None (get m p)) t) ∙ e))
-      where
-        nothing : (v : X) → None ≡ Some v → ⊥
-        nothing v e = absurd cc
+    by_test true t = absurd (not_none v (get (remove m q) p) (get-remove places_total m q p ∙ ap (λ b. cond b None (get m p)) t) e)
     by_test false t =
-        let ne : p ≢ q = λ same. false≢true (sym t ∙ ap (λ (x : Place). eq_by_cmp place_cmp p x) (sym same)
-        ∙ ap is_eq (tied_itself places_total p)) in
+        let ne : p ≢ q = λ same. false≢true (sym t ∙ own_place p q same) in
         (ne, sym (still-there m p q ne) ∙ e)
 
 -- ---- single keys

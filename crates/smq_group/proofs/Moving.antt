@@ -4,7 +4,7 @@ use Rattle.std.specs.Prelude.{◌&&◌, is_some, option_map}
 use Rattle.std.specs.Ordering.{eq_by_cmp}
 use Rattle.std.specs.Cmp.{eq_by_cmp_equiv}
 use Rattle.std.specs.FinMap.{FinMap, get, insert, remove, get-insert, get-remove}
-use Rattle.std.proofs.lemmas.Bool.{false≢true}
+use Rattle.std.proofs.lemmas.Bool.{false≢true, false_from_ne_true}
 use Rattle.smq_kit.specs.declared.place.Place.{Place}
 use Rattle.smq_kit.specs.declared.link_key.LinkKey.{LinkKey}
 use Rattle.smq_kit.specs.Maps.{number_of, same_option}
@@ -24,18 +24,11 @@ use Rattle.smq_group.specs.within.Told.{same_decider}
 use Rattle.smq_group.proofs.Changing.{Moves, ReceiptMove, SubmitMove, decider-can}
 use Rattle.smq_group.proofs.Turning.{is_at_place, same_self}
 use Rattle.smq_group.proofs.Earliest.{HasMore, HasLess, decider_in, is_decided, decider-more, decider-elsewhere, decider-stays, own_key}
-use Rattle.smq_group.proofs.Placing.{same_place, own_place}
+use Rattle.smq_group.proofs.Placing.{not_none, own_place, same_place}
 use Rattle.smq_group.proofs.Storing.{number-more, number-less}
 
 flipped : (a b : LinkKey) → same_key a b ≡ false → same_key b a ≡ false
 flipped a b n = (eq_by_cmp_equiv link_keys_total).symm b a ∙ n
-
-nothing : {A : Type 0} (x : A) (y : Option A) → y ≡ None → y ≡ Some x → ⊥
-nothing x y e f = absurd cc
-
-never : (b : Bool) → (b ≡ true → ⊥) → b ≡ false
-never true h = absurd (h refl)
-never false h = refl
 
 -- outlooks of the same deciding receipt have the same decider
 same_deciders : (b a : Outlook) → a.decider ≡ b.decider → same_decider b a ≡ true
@@ -93,7 +86,7 @@ module _ (g h : Grouping) (place : Place) (r : GroupedReceipt) (same : h.submits
       new = λ q can e. ap (λ (d : Option Earliest). is_at_place (option_map (λ x. x.place) d) q) new ∙ here q (eq_by_cmp place_cmp q place) refl can e;
       stays = λ q x is at. (refl, ap (λ (d : Option Earliest). is_some (option_map (λ x. x.place) d)) new);
       kept = λ q at. (let d = decider-can g r.key q at in
-          more.each q ∙ ap (λ b. cond b (Some r) (get g.receipts q)) (never (eq_by_cmp place_cmp q place) (λ t. nothing d.r (get g.receipts q) (ap (get g.receipts) (same_place q place t) ∙ more.absent) d.is)));
+          more.each q ∙ ap (λ b. cond b (Some r) (get g.receipts q)) (false_from_ne_true (eq_by_cmp place_cmp q place) (λ t. not_none d.r (get g.receipts q) (ap (get g.receipts) (same_place q place t) ∙ more.absent) d.is)));
     };
   }
     where
@@ -111,10 +104,7 @@ module _ (g h : Grouping) (place : Place) (r : GroupedReceipt) (same : h.submits
 
       here : (q : Place) (b : Bool) → eq_by_cmp place_cmp q place ≡ b → (can : Bool) → cond (eq_by_cmp place_cmp q place) (Some r.decides) None ≡ Some can → eq_by_cmp place_cmp place q ≡ true
       here q true t can e = own_place place q (sym (same_place q place t))
-      here q false t can e = absurd (none_some can (sym (ap (λ b. cond b (Some r.decides) None) t) ∙ e))
-        where
-          none_some : (can : Bool) → None ≡ Some can → ⊥
-          none_some can e = absurd cc
+      here q false t can e = absurd (not_none can _ (ap (λ b. cond b (Some r.decides) None) t) e)
 
   -- one receipt less
   pub moves-no_receipt : HasLess g h place r → Moves g h r.key put.Nothing
@@ -123,15 +113,12 @@ module _ (g h : Grouping) (place : Place) (r : GroupedReceipt) (same : h.submits
     receipt = λ q. by q (eq_by_cmp place_cmp q place) refl;
     elsewhere = λ k n. λ i. an_outlook (same_matches k i) (decider-elsewhere g h place r less k (flipped r.key k n) i);
     anew = λ n. record {
-      new = λ q can e. absurd (none_some can e);
+      new = λ q can e. absurd (not_none can None refl e);
       stays = λ q x is at. absurd (gone n q x is at (r.decides && is_decided (decider_in g r.key) place) refl);
       kept = λ q at. absurd (false≢true at);
     };
   }
     where
-      none_some : (can : Bool) → None ≡ Some can → ⊥
-      none_some can e = absurd cc
-
       by : (q : Place) (b : Bool) → eq_by_cmp place_cmp q place ≡ b → (get h.receipts q ≡ get g.receipts q) ⊎ (get h.receipts q ≡ None)
       by q true t = inr (less.each q ∙ ap (λ b. cond b None (get g.receipts q)) t)
       by q false t = inl (less.each q ∙ ap (λ b. cond b None (get g.receipts q)) t)
@@ -144,5 +131,5 @@ module _ (g h : Grouping) (place : Place) (r : GroupedReceipt) (same : h.submits
           → (b : Bool) → (r.decides && is_decided (decider_in g r.key) place) ≡ b → ⊥
       gone n q x is at true t =
           let here = (both r.decides (is_decided (decider_in g r.key) place) t).1 in
-          nothing x (get h.receipts q) (less.each q ∙ ap (λ b. cond b None (get g.receipts q)) (at_one (decider_of (outlook_in g r.key)) place q here at)) is
+          not_none x (get h.receipts q) (less.each q ∙ ap (λ b. cond b None (get g.receipts q)) (at_one (decider_of (outlook_in g r.key)) place q here at)) is
       gone n q x is at false t = false≢true (sym n ∙ same_deciders (outlook_in g r.key) (outlook_in h r.key) (decider-stays g h place r less t))

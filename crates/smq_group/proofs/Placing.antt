@@ -7,10 +7,11 @@ use Rattle.std.specs.Ordering.{is_eq, eq_by_cmp, match_ordering}
 use Rattle.std.specs.Cmp.{IsTotalOrder, tied_itself}
 use Rattle.std.proofs.lemmas.Cmp.{on_total, then_total}
 use Rattle.smq_kit.proofs.HashedKeyOrders.{hashed_keys_total}
+use Rattle.std.specs.List.Sorted.{IsStrictlySortedBy}
 use Rattle.std.specs.Map.{lookup, remove_entry}
 use Rattle.std.specs.BTreeMap.{is_at, insert_entry}
 use Rattle.std.specs.FinMap.{find, insert, remove, from_entries, get-from_entries, get-insert, get-remove, same_map}
-use Rattle.std.proofs.lemmas.Bool.{false≢true}
+use Rattle.std.proofs.lemmas.Bool.{false≢true, false_from_ne_true}
 use Rattle.smq_kit.specs.declared.place.Place.{Place}
 use Rattle.smq_kit.specs.declared.link_key.LinkKey.{LinkKey}
 use Rattle.smq_kit.specs.Orders.{kept_place_cmp, place_cmp}
@@ -35,11 +36,27 @@ pub rest_none : {A : Type 0} (b : Bool) (x : A) (y : Option A) → cond b (Some 
 rest_none true x y h = absurd cc
 rest_none false x y h = h
 
-pub not_true : (b : Bool) → (b ≡ true → ⊥) → b ≡ false
-not_true true h = absurd (h refl)
-not_true false h = refl
+-- an option has one value, or none
+pub one_of : {A : Type 0} (x z : A) (y : Option A) → y ≡ Some x → y ≡ Some z → x ≡ z
+one_of x z y e f = cc
 
-swapped : {A : Type 0} (a b : Bool) (x y z : Option A) → (a ≡ true → b ≡ true → ⊥) → cond a x (cond b y z) ≡ cond b y (cond a x z)
+pub not_none : {A : Type 0} (x : A) (y : Option A) → y ≡ None → y ≡ Some x → ⊥
+not_none x y e f = absurd cc
+
+pub sorted_none : IsStrictlySortedBy place_cmp []
+unfolding IsStrictlySortedBy
+sorted_none = tt
+
+pub sorted_one : (p : Place) → IsStrictlySortedBy place_cmp (p ∷ [])
+unfolding IsStrictlySortedBy
+sorted_one p = (tt, tt)
+
+pub sorted_two : (p q : Place) → place_cmp p q ≡ Less → IsStrictlySortedBy place_cmp (p ∷ q ∷ [])
+unfolding IsStrictlySortedBy
+sorted_two p q l = ((l, tt), (tt, tt))
+
+-- of two tests that don't both pass, either may be asked first
+pub swapped : {A : Type 0} (a b : Bool) (x y z : Option A) → (a ≡ true → b ≡ true → ⊥) → cond a x (cond b y z) ≡ cond b y (cond a x z)
 swapped true true x y z h = absurd (h refl refl)
 swapped true false x y z h = refl
 swapped false true x y z h = refl
@@ -87,7 +104,7 @@ module _ {V W : Type 0} (value : LinkKey → V → W) where
         | Equal ↦ λ r. absurd (apart m e es h (ap (λ (k : Member). k.place) (one_member m e.0 r)))
         | Greater ↦ λ r. (
           insert-at m v es (later m.place e es h) e.0.place
-              ∙ ap (λ b. cond b (Some (value m.key v)) (at e.0.place es)) (not_true (eq_by_cmp place_cmp e.0.place m.place) (λ t. apart m e es h (sym (same_place e.0.place m.place t))))
+              ∙ ap (λ b. cond b (Some (value m.key v)) (at e.0.place es)) (false_from_ne_true (eq_by_cmp place_cmp e.0.place m.place) (λ t. apart m e es h (sym (same_place e.0.place m.place t))))
               ∙ o.0,
           once-insert m v es (later m.place e es h) o.1,
         )
@@ -110,7 +127,7 @@ module _ {V W : Type 0} (value : LinkKey → V → W) where
       elim (t e.0) as (λ b. at q (cond b es (e ∷ remove_entry t es)) ≡ None) [
         | true ↦ later q e es h
         | false ↦
-            ap (λ b. cond b (Some (value e.0.key e.1)) (at q (remove_entry t es))) (not_true (eq_by_cmp place_cmp q e.0.place) (λ s. none_head (eq_by_cmp place_cmp q e.0.place) (value e.0.key e.1) (at q es) s h))
+            ap (λ b. cond b (Some (value e.0.key e.1)) (at q (remove_entry t es))) (false_from_ne_true (eq_by_cmp place_cmp q e.0.place) (λ s. none_head (eq_by_cmp place_cmp q e.0.place) (value e.0.key e.1) (at q es) s h))
             ∙ remove-none t q es (later q e es h)
       ]
 
@@ -127,9 +144,8 @@ module _ {V W : Type 0} (value : LinkKey → V → W) where
   stands m v [] h n = absurd cc
   stands m v (e ∷ es) h n =
       elim (kept_member_cmp m e.0) as (λ r. kept_member_cmp m e.0 ≡ r → cond (is_eq r) (Some e.1) (lookup (is_at (kept_member_cmp m)) es) ≡ Some v → ⊥) [
-        | Less ↦ λ r l. stands m v es l (later m.place e es n)
         | Equal ↦ λ r l. apart m e es n (ap (λ (k : Member). k.place) (one_member m e.0 r))
-        | Greater ↦ λ r l. stands m v es l (later m.place e es n)
+        | _ ↦ λ r l. stands m v es l (later m.place e es n)
       ] refl h
 
   pub remove-at : (m : Member) (v : V) (es : List (Member × V)) → StandsOnce value es → lookup (is_at (kept_member_cmp m)) es ≡ Some v → (q : Place)
@@ -138,9 +154,8 @@ module _ {V W : Type 0} (value : LinkKey → V → W) where
   remove-at m v (e ∷ es) o h q =
       elim (kept_member_cmp m e.0) as (λ r. kept_member_cmp m e.0 ≡ r → cond (is_eq r) (Some e.1) (lookup (is_at (kept_member_cmp m)) es) ≡ Some v
       → at q (cond (is_eq r) es (e ∷ remove_entry (is_at (kept_member_cmp m)) es)) ≡ cond (eq_by_cmp place_cmp q m.place) None (at q (e ∷ es))) [
-        | Less ↦ λ r l. kept_on l (remove-at m v es o.1 l q)
         | Equal ↦ λ r l. taken (ap (λ (k : Member). k.place) (one_member m e.0 r)) (eq_by_cmp place_cmp q m.place) refl
-        | Greater ↦ λ r l. kept_on l (remove-at m v es o.1 l q)
+        | _ ↦ λ r l. kept_on l (remove-at m v es o.1 l q)
       ] refl h
     where
       kept_on : lookup (is_at (kept_member_cmp m)) es ≡ Some v → at q (remove_entry (is_at (kept_member_cmp m)) es) ≡ cond (eq_by_cmp place_cmp q m.place) None (at q es) → at q (e ∷ remove_entry (is_at (kept_member_cmp m)) es) ≡ cond (eq_by_cmp place_cmp q m.place) None (at q (e ∷ es))
@@ -188,7 +203,7 @@ module _ {V W : Type 0} (value : LinkKey → V → W) where
     is = f.is;
     there =
         ap (λ b. cond b (Some e.1) (lookup (is_at (kept_member_cmp (record { key = f.key; place = p }))) es))
-        (not_true (is_eq (kept_member_cmp (record { key = f.key; place = p }) e.0))
+        (false_from_ne_true (is_eq (kept_member_cmp (record { key = f.key; place = p }) e.0))
         (λ s. false≢true (sym t ∙ own_place p e.0.place (ap (λ (k : Member). k.place) (one_member (record { key = f.key; place = p }) e.0 (is_equal (kept_member_cmp (record { key = f.key; place = p }) e.0) s))))))
         ∙ f.there;
   }

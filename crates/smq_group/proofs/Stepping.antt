@@ -15,9 +15,8 @@ module _ {K X : Type 0} {R : K → K → Ordering} (o : IsTotalOrder R) where
   above_kept : (k j : K) (es : List (K × X)) (v : X) → AllByRecursion (λ y. R j y ≡ Less) (keys_of es) → lookup (is_at (R k)) es ≡ Some v → R j k ≡ Less
   above_kept k j [] v a h = absurd cc
   above_kept k j (e ∷ es) v a h = elim (R k e.0) as (λ r. R k e.0 ≡ r → cond (is_eq r) (Some e.1) (lookup (is_at (R k)) es) ≡ Some v → R j k ≡ Less) [
-    | Less ↦ λ r l. above_kept k j es v a.1 l
     | Equal ↦ λ r l. alike_right o k e.0 j r ∙ a.0
-    | Greater ↦ λ r l. above_kept k j es v a.1 l
+    | _ ↦ λ r l. above_kept k j es v a.1 l
   ] refl h
 
   -- what is found stands there
@@ -40,9 +39,8 @@ module _ {K X : Type 0} {R : K → K → Ordering} (o : IsTotalOrder R) where
   pub finds : ((x y : K) → R x y ≡ Equal → x ≡ y) → (q : K × X → Bool) (es : List (K × X)) (k : K) (v : X) → IsStrictlySortedBy R (keys_of es) → lookup (is_at (R k)) es ≡ Some v → q (k, v) ≡ true → FindsUpTo q es k
   finds exact q [] k v so h p = absurd cc
   finds exact q (e ∷ es) k v so h p = elim (R k e.0) as (λ r. R k e.0 ≡ r → cond (is_eq r) (Some e.1) (lookup (is_at (R k)) es) ≡ Some v → FindsUpTo q (e ∷ es) k) [
-    | Less ↦ λ r l. later (q e) refl l (finds exact q es k v (sorted_tail R e.0 (keys_of es) so) l p)
     | Equal ↦ λ r l. (let value : e.1 ≡ v = cc in here (exact k e.0 r) value)
-    | Greater ↦ λ r l. later (q e) refl l (finds exact q es k v (sorted_tail R e.0 (keys_of es) so) l p)
+    | _ ↦ λ r l. later (q e) refl l (finds exact q es k v (sorted_tail R e.0 (keys_of es) so) l p)
   ] refl h
     where
       here : k ≡ e.0 → e.1 ≡ v → FindsUpTo q (e ∷ es) k

@@ -57,11 +57,6 @@ none-stored = record {
         ap (λ (es : List (Place × GroupedReceipt)). option_map earliest_at (reduce earlier (map (λ e. (e.1.moment, e.0)) (filter (λ e. same_key key e.1.key && e.1.decides) es)))) empty_entries in
         λ i. an_outlook (m i) (d i)
 
--- ---- keys
-
-pub tied_key : (a b : LinkKey) → is_at (hashed_key_cmp a) b ≡ same_key a b
-tied_key a b = hashed-same a b
-
 share_of : (k key : LinkKey) (b : Bool) → same_key k key ≡ b → share (same_key k) (Some key) ≡ cond b 1 0
 share_of k key b e = sum_by-cons (λ x. cond (same_key k x) 1 0) key [] ∙ ap (λ b. cond b 1 0 + count_by (same_key k) []) e ∙ one b
   where
@@ -126,7 +121,7 @@ module _ (s : List (Member × Bool)) (r : List (Member × Said)) (i : List (Cand
           ∙ (λ j. an_outlook (number j) (earliest (sym same j)))
       by_key k false t =
           let number : matches (grouping_in s r) k ≡ matches (grouping_in more r) k = (let z : matches (grouping_in s r) k ≡ matches (grouping_in s r) k + 0 = omega arith in z) ∙ sym (counted-more none k false t) in
-          elsewhere k (tied_key k key ∙ t) ∙ st.indexed.outlook k ∙ (λ j. an_outlook (number j) (earliest k))
+          elsewhere k (hashed-same k key ∙ t) ∙ st.indexed.outlook k ∙ (λ j. an_outlook (number j) (earliest k))
 
   -- a submit that is there is a member
   held : get (grouping_in s r).submits place ≡ Some key → (v : Bool) × (lookup (is_at (kept_member_cmp member)) s ≡ Some v)
@@ -168,7 +163,7 @@ module _ (s : List (Member × Bool)) (r : List (Member × Said)) (i : List (Cand
       by_key k false t =
           let one = counted-less there st k false t in
           let number : matches (grouping_in s r) k ≡ matches (grouping_in less r) k = omega (arith, one) in
-          elsewhere k (tied_key k key ∙ t) ∙ st.indexed.outlook k ∙ (λ j. an_outlook (number j) (earliest k))
+          elsewhere k (hashed-same k key ∙ t) ∙ st.indexed.outlook k ∙ (λ j. an_outlook (number j) (earliest k))
 
 -- ---- the number of submits of a key is at most that of places
 

@@ -2,12 +2,12 @@
 use Rattle.std.proofs.Common.{◌≡◌, Bool, true, false, cond, List, Option, Some, None, refl, sym, ap, ◌∙◌}
 use Rattle.std.specs.Prelude.{◌&&◌, ◌||◌, ◌==◌, not, map, option_map, IsSome, is_some}
 use Rattle.std.specs.Ordering.{eq_by_cmp, is_eq}
-use Rattle.std.specs.Cmp.{tied_itself}
+use Rattle.std.specs.Cmp.{both_ways, tied_itself}
 use Rattle.std.specs.Map.{keys_of, lookup, remove_entry}
 use Rattle.std.specs.BTreeMap.{is_at, insert_entry}
 use Rattle.std.specs.FinMap.{get, get-from_entries, get-insert, get-remove}
 use Rattle.std.specs.List.Sorted.{IsStrictlySortedBy}
-use Rattle.std.proofs.lemmas.Bool.{false≢true, eqb-true, eq-eqb}
+use Rattle.std.proofs.lemmas.Bool.{false≢true, false_from_ne_true, eqb-true, eq-eqb}
 use Rattle.smq_kit.specs.declared.place.Place.{Place}
 use Rattle.smq_kit.specs.declared.link_key.LinkKey.{LinkKey}
 use Rattle.smq_kit.specs.Orders.{place_cmp}
@@ -32,16 +32,7 @@ use Rattle.smq_group.specs.within.Walked.{first_candidate_after}
 use Rattle.smq_group.proofs.CandidateWalks.{candidates_total}
 use Rattle.smq_group.proofs.Earliest.{HasMore, HasLess, decider_in, is_decided, decider-more, decider-elsewhere, decider-stays, decider-next, own_key, one_key}
 use Rattle.smq_group.proofs.Placing.{at, found, same_place, own_place, with-member, without-member, once-insert, once-remove}
-use Rattle.smq_group.proofs.Storing.{tied_key}
-
-alike : (a b : Bool) → (a ≡ true → b ≡ true) → (b ≡ true → a ≡ true) → a ≡ b
-alike true b f g = sym (f refl)
-alike false true f g = g refl
-alike false false f g = refl
-
-none_of : (b : Bool) → (b ≡ true → ⊥) → b ≡ false
-none_of true h = absurd (h refl)
-none_of false h = refl
+use Rattle.smq_kit.proofs.HashedKeyOrders.{hashed-same}
 
 module _ (key : LinkKey) (place : Place) (said : Said) where
   abbrev new_one : Candidate
@@ -58,7 +49,7 @@ module _ (key : LinkKey) (place : Place) (said : Said) where
 
   -- at its place a candidate is the one of this receipt where key and moment are
   own_at : (c : Candidate) → c.place ≡ place → own c ≡ (same_key c.key key && (said.moment == c.moment))
-  own_at c p = alike (own c) (same_key c.key key && (said.moment == c.moment)) there back
+  own_at c p = both_ways (own c) (same_key c.key key && (said.moment == c.moment)) there back
     where
       there : own c ≡ true → (same_key c.key key && (said.moment == c.moment)) ≡ true
       there e = let s = is_it c e in ap (λ (x : Candidate). same_key x.key key && (said.moment == x.moment)) s ∙ (λ i. own_key key i && (eq-eqb said.moment said.moment refl) i)
@@ -70,7 +61,7 @@ module _ (key : LinkKey) (place : Place) (said : Said) where
           ap own s ∙ itself
 
   elsewhere : (c : Candidate) → eq_by_cmp place_cmp c.place place ≡ false → own c ≡ false
-  elsewhere c n = none_of (own c) (λ e. false≢true (sym n ∙ own_place c.place place (ap (λ (x : Candidate). x.place) (is_it c e))))
+  elsewhere c n = false_from_ne_true (own c) (λ e. false≢true (sym n ∙ own_place c.place place (ap (λ (x : Candidate). x.place) (is_it c e))))
 
   -- whether one is a candidate, with this receipt more
   marked-more : (before after : Option GroupedReceipt) (c : Candidate) (b : Bool) → eq_by_cmp place_cmp c.place place ≡ b
@@ -171,7 +162,7 @@ module _ (s : List (Member × Bool)) (r : List (Member × Said)) (i i' : List (C
           ap (λ (x : LinkKey). outlook_at x o') same ∙ here ∙ ap (λ (x : Outlook). outlook_with x (earliest_at (said.moment, place)) said.decides) (st.indexed.outlook key)
           ∙ sym (ap (outlook_in (grouping_in s more)) same ∙ ap (an_outlook (matches g key)) new)
       by_key k false t =
-          elsewhere k (tied_key k key ∙ t) ∙ st.indexed.outlook k
+          elsewhere k (hashed-same k key ∙ t) ∙ st.indexed.outlook k
           ∙ sym (ap (an_outlook (matches g k)) (decider-more g (grouping_in s more) place value (has-more none) k false said.decides t refl))
 
   -- ---- one less
@@ -284,5 +275,5 @@ module _ (s : List (Member × Bool)) (r : List (Member × Said)) (i i' : List (C
           ap (λ (x : LinkKey). outlook_at x o') same ∙ n.here ∙ ap (λ (x : Outlook). an_outlook x.matches next) (st.indexed.outlook key)
           ∙ sym (ap (outlook_in (grouping_in s less)) same ∙ ap (an_outlook (matches g key)) (new did_decide refl))
       by_key k false t =
-          elsewhere k (tied_key k key ∙ t) ∙ st.indexed.outlook k
+          elsewhere k (hashed-same k key ∙ t) ∙ st.indexed.outlook k
           ∙ sym (ap (an_outlook (matches g k)) (decider-elsewhere g (grouping_in s less) place value (has-less st there l) k t))

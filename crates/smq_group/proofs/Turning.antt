@@ -1,9 +1,10 @@
 -- Standings by the outlook of their key, and which of them another outlook changes.
-use Rattle.std.proofs.Common.{◌≡◌, ◌≤◌, ℕ, zero, suc, Bool, true, false, cond, Option, Some, None, refl, sym, ap, ◌∙◌, arith}
+use Rattle.std.proofs.Common.{◌≡◌, ◌≢◌, ◌≤◌, ℕ, Bool, true, false, cond, Option, Some, None, refl, sym, ap, ◌∙◌, subst, arith}
 use Rattle.std.specs.Prelude.{◌&&◌, ◌==◌, not, min, option_map}
 use Rattle.std.specs.Ordering.{eq_by_cmp}
+use Rattle.std.specs.Cmp.{both_ways}
 use Rattle.std.specs.List.{reduce}
-use Rattle.std.proofs.lemmas.Bool.{false≢true, eqb-true}
+use Rattle.std.proofs.lemmas.Bool.{false≢true, false_from_ne_true, eqb-true, eqb-false, eq-eqb, not-true, not-false}
 use Rattle.smq_kit.specs.declared.place.Place.{Place}
 use Rattle.smq_kit.specs.declared.link_key.LinkKey.{LinkKey}
 use Rattle.smq_kit.specs.Orders.{place_cmp}
@@ -11,6 +12,7 @@ use Rattle.smq_kit.specs.Maps.{same_option}
 use Rattle.smq_shelf.proofs.Walks.{both}
 use Rattle.smq_group.specs.declared.change.Standing.{Standing}
 use Rattle.smq_group.specs.declared.change.Standing.TheVariants.{Single, Shared, Stray, Deciding, Extra, Noted}
+use Rattle.smq_group.specs.declared.changes.Turn.{Turn}
 use Rattle.smq_group.specs.declared.changes.Turn.TheVariants.{Each, Deciders, Newcomer}
 use Rattle.smq_group.specs.declared.outlook.Outlook.{Outlook}
 use Rattle.smq_group.specs.Changes.{told_of_submit, told_of_receipt, same_standing}
@@ -61,11 +63,7 @@ same_self (Some p) = own_place p p refl
 
 pub standing-itself : (s : Standing) → same_standing s s ≡ true
 standing-itself (Single p) = same_self p
-standing-itself Shared = refl
-standing-itself Stray = refl
-standing-itself Deciding = refl
-standing-itself Extra = refl
-standing-itself Noted = refl
+standing-itself _ = refl
 
 -- the place that an option has
 abbrev pub is_at_place : Option Place → Place → Bool
@@ -73,76 +71,63 @@ is_at_place o q = same_option (eq_by_cmp place_cmp) o (Some q)
 
 pub same_at : (a b : Option Place) → same_option (eq_by_cmp place_cmp) a b ≡ true → a ≡ b
 same_at None None h = refl
-same_at None (Some q) h = absurd (false≢true h)
-same_at (Some p) None h = absurd (false≢true h)
 same_at (Some p) (Some q) h = ap Some (same_place p q h)
+same_at _ _ h = absurd (false≢true h)
 
--- ---- sizes: none, one, more
+-- standings that are called the same are one
+pub same-standing-is : (s t : Standing) → same_standing s t ≡ true → s ≡ t
+same-standing-is (Single a) (Single b) h = ap Single (same_at a b h)
+same-standing-is Shared Shared h = refl
+same-standing-is Stray Stray h = refl
+same-standing-is Deciding Deciding h = refl
+same-standing-is Extra Extra h = refl
+same-standing-is Noted Noted h = refl
+same-standing-is _ _ h = absurd (false≢true h)
 
-data Size : Type 0 where
-  Zero : Size
-  One : Size
-  Many : Size
-
-abbrev is_zero : Size → Bool
-is_zero Zero = true
-is_zero One = false
-is_zero Many = false
-
-abbrev is_one : Size → Bool
-is_one Zero = false
-is_one One = true
-is_one Many = false
-
-abbrev number : Size → ℕ
-number Zero = 0
-number One = 1
-number Many = 2
-
-record IsSize (n : ℕ) (s : Size) : Type 0 where
-  none : (n == 0) ≡ is_zero s
-  one : (n == 1) ≡ is_one s
-  least : min n 2 ≡ number s
-
-not_equal : (a b : ℕ) → (a ≡ b → ⊥) → (a == b) ≡ false
-not_equal a b n = by (a == b) refl
-  where
-    by : (t : Bool) → (a == b) ≡ t → (a == b) ≡ false
-    by true e = absurd (n (eqb-true a b e))
-    by false e = e
-
-size_of : (n : ℕ) → (s : Size) × IsSize n s
-size_of zero = (Zero, record { none = refl; one = refl; least = refl })
-size_of (suc zero) = (One, record { none = refl; one = refl; least = refl })
-size_of (suc (suc n)) = (
-  Many,
-  record {
-    none = not_equal (suc (suc n)) 0 (λ e. absurd (omega (arith, e)));
-    one = not_equal (suc (suc n)) 1 (λ e. absurd (omega (arith, e)));
-    least = omega arith;
-  },
+-- where the numbers of submits are alike up to two, the tests for none and for one are
+alike : (n m : ℕ) → (min n 2 == min m 2) ≡ true → ((n == 0) ≡ (m == 0)) × ((n == 1) ≡ (m == 1))
+alike n m e = let s = eqb-true (min n 2) (min m 2) e in (
+  both_ways (n == 0) (m == 0) (λ h. let k = eqb-true n 0 h in eq-eqb m 0 (omega (arith, s, k))) (λ h. let k = eqb-true m 0 h in eq-eqb n 0 (omega (arith, s, k))),
+  both_ways (n == 1) (m == 1) (λ h. let k = eqb-true n 1 h in eq-eqb m 1 (omega (arith, s, k))) (λ h. let k = eqb-true m 1 h in eq-eqb n 1 (omega (arith, s, k))),
 )
+
+-- how many submits a standing tells of: none, one or more
+abbrev rank : Standing → ℕ
+rank Stray = 0
+rank Shared = 2
+rank _ = 1
+
+unlike : (s t : Standing) → (rank s == rank t) ≡ false → same_standing s t ≡ false
+unlike s t n = false_from_ne_true (same_standing s t) (λ h. false≢true (sym n ∙ eq-eqb (rank s) (rank t) (ap rank (same-standing-is s t h))))
+
+rank-submit : (o : Outlook) → 1 ≤ o.matches → rank (submit_standing_of o) ≡ min o.matches 2
+rank-submit o h = by (o.matches == 1) refl
+  where
+    by : (u : Bool) → (o.matches == 1) ≡ u → rank (cond u (Single (decider_of o)) Shared) ≡ min o.matches 2
+    by true e = let n = eqb-true o.matches 1 e in omega (arith, n)
+    by false e = let n : o.matches ≢ 1 = eqb-false o.matches 1 e in omega (arith, n, h)
+
+rank-receipt : (o : Outlook) (q : Place) (can : Bool) → rank (receipt_standing_of o q can) ≡ min o.matches 2
+rank-receipt o q can = by (o.matches == 0) (o.matches == 1) (is_at_place (decider_of o) q) can refl refl
+  where
+    by : (z u d c : Bool) → (o.matches == 0) ≡ z → (o.matches == 1) ≡ u → rank (by_tests z u d c) ≡ min o.matches 2
+    by true u d c e f = let n = eqb-true o.matches 0 e in omega (arith, n)
+    by false false d c e f = let n : o.matches ≢ 0 = eqb-false o.matches 0 e in let m : o.matches ≢ 1 = eqb-false o.matches 1 f in omega (arith, n, m)
+    by false true true c e f = let n = eqb-true o.matches 1 f in omega (arith, n)
+    by false true false true e f = let n = eqb-true o.matches 1 f in omega (arith, n)
+    by false true false false e f = let n = eqb-true o.matches 1 f in omega (arith, n)
 
 -- ---- which turn it is
 
-each_is : (e w : Bool) → cond (not e) Each (cond w Deciders Newcomer) ≡ Each → e ≡ false
-each_is true true h = absurd cc
-each_is true false h = absurd cc
-each_is false w h = refl
+abbrev Tells : Turn → Bool → Bool → Type 0
+Tells Each e w = e ≡ false
+Tells Deciders e w = (e ≡ true) × (w ≡ true)
+Tells Newcomer e w = (e ≡ true) × (w ≡ false)
 
-deciders_are : (e w : Bool) → cond (not e) Each (cond w Deciders Newcomer) ≡ Deciders → (e ≡ true) × (w ≡ true)
-deciders_are true true h = (refl, refl)
-deciders_are true false h = absurd cc
-deciders_are false w h = absurd cc
-
-newcomer_is : (e w : Bool) → cond (not e) Each (cond w Deciders Newcomer) ≡ Newcomer → (e ≡ true) × (w ≡ false)
-newcomer_is true true h = absurd cc
-newcomer_is true false h = (refl, refl)
-newcomer_is false w h = absurd cc
-
-not_false : (b : Bool) → not b ≡ true → b ≡ false
-not_false true h = absurd (false≢true h)
-not_false false h = refl
+turn-tells : (e w : Bool) → Tells (cond (not e) Each (cond w Deciders Newcomer)) e w
+turn-tells true true = (refl, refl)
+turn-tells true false = (refl, refl)
+turn-tells false w = refl
 
 module _ (b a : Outlook) where
   abbrev sizes : Bool
@@ -151,37 +136,12 @@ module _ (b a : Outlook) where
   abbrev anew : Bool
   anew = (a.matches == 1) && not (same_decider b a)
 
-  by_size : (sb sa : Size) → IsSize b.matches sb → IsSize a.matches sa → (t : Bool) → sizes ≡ t → (number sb == number sa) ≡ t
-  by_size sb sa hb ha t e = sym (λ i. hb.least i == ha.least i) ∙ e
-
-  -- ---- submits: there is one before and after
-
-  submit_by : (u : Bool) → (a.matches == 1) ≡ u → submit_standing_of a ≡ cond u (Single (decider_of a)) Shared
-  submit_by u e = ap (λ u. cond u (Single (decider_of a)) Shared) e
-
-  some_size : (n : ℕ) → 1 ≤ n → IsSize n Zero → ⊥
-  some_size n h s = let l = s.least in absurd (omega (arith, l, h))
-
-  abbrev both_submits : Size → Size → Bool
-  both_submits sb sa = same_standing (cond (is_one sb) (Single (decider_of b)) Shared) (cond (is_one sa) (Single (decider_of a)) Shared)
-
-  submits_by : (sb sa : Size) → IsSize b.matches sb → IsSize a.matches sa → same_standing (submit_standing_of b) (submit_standing_of a) ≡ both_submits sb sa
-  submits_by sb sa hb ha = λ i. same_standing (cond (hb.one i) (Single (decider_of b)) Shared) (cond (ha.one i) (Single (decider_of a)) Shared)
-
-  other_submits : (sb sa : Size) → IsSize b.matches sb → IsSize a.matches sa → 1 ≤ b.matches → 1 ≤ a.matches → (number sb == number sa) ≡ false → both_submits sb sa ≡ false
-  other_submits Zero sa hb ha nb na e = absurd (some_size b.matches nb hb)
-  other_submits sb Zero hb ha nb na e = absurd (some_size a.matches na ha)
-  other_submits One One hb ha nb na e = absurd (false≢true (sym e))
-  other_submits Many Many hb ha nb na e = absurd (false≢true (sym e))
-  other_submits One Many hb ha nb na e = refl
-  other_submits Many One hb ha nb na e = refl
+  tests : (t : Turn) → turn_between b a ≡ t → Tells t sizes anew
+  tests t e = subst (λ (x : Turn). Tells x sizes anew) e (turn-tells sizes anew)
 
   -- where all are told, the submits' standing is another
   pub each-submit : 1 ≤ b.matches → 1 ≤ a.matches → turn_between b a ≡ Each → same_standing (submit_standing_of b) (submit_standing_of a) ≡ false
-  each-submit nb na t =
-      let sb = size_of b.matches in
-      let sa = size_of a.matches in
-      submits_by sb.0 sa.0 sb.1 sa.1 ∙ other_submits sb.0 sa.0 sb.1 sa.1 nb na (by_size sb.0 sa.0 sb.1 sa.1 false (each_is sizes anew t))
+  each-submit nb na t = unlike (submit_standing_of b) (submit_standing_of a) ((λ i. rank-submit b nb i == rank-submit a na i) ∙ tests Each t)
 
   -- where another receipt decides, there is one submit before and after
   pub record IsAnew : Type 0 where
@@ -191,51 +151,28 @@ module _ (b a : Outlook) where
     pub none_after : (a.matches == 0) ≡ false
     pub other : same_decider b a ≡ false
 
-  anew_by : (sb sa : Size) → IsSize b.matches sb → IsSize a.matches sa → (number sb == number sa) ≡ true → (a.matches == 1) ≡ true → same_decider b a ≡ false → IsAnew
-  anew_by Zero One hb ha e o d = absurd (false≢true e)
-  anew_by One One hb ha e o d = record { one_before = hb.one; one_after = o; none_before = hb.none; none_after = ha.none; other = d }
-  anew_by Many One hb ha e o d = absurd (false≢true e)
-  anew_by sb Zero hb ha e o d = absurd (false≢true (sym ha.one ∙ o))
-  anew_by sb Many hb ha e o d = absurd (false≢true (sym ha.one ∙ o))
-
   pub anew-is : turn_between b a ≡ Deciders → IsAnew
   anew-is t =
-      let parts = deciders_are sizes anew t in
+      let parts = tests Deciders t in
       let two = both (a.matches == 1) (not (same_decider b a)) parts.1 in
-      let sb = size_of b.matches in
-      let sa = size_of a.matches in
-      anew_by sb.0 sa.0 sb.1 sa.1 (by_size sb.0 sa.0 sb.1 sa.1 true parts.0) two.0 (not_false (same_decider b a) two.1)
+      let same = alike b.matches a.matches parts.0 in
+      let none : (a.matches == 0) ≡ false = ap (λ n. n == 0) (eqb-true a.matches 1 two.0) in
+      record { one_before = same.1 ∙ two.0; one_after = two.0; none_before = same.0 ∙ none; none_after = none; other = not-true (same_decider b a) two.1 }
 
   pub deciders-submit : turn_between b a ≡ Deciders → same_standing (submit_standing_of b) (submit_standing_of a) ≡ false
   deciders-submit t =
       let n = anew-is t in
       (λ i. same_standing (cond (n.one_before i) (Single (decider_of b)) Shared) (cond (n.one_after i) (Single (decider_of a)) Shared)) ∙ n.other
 
-  -- ---- where the newcomer alone is told, the others' standings stay
-
-  same_or : (u d : Bool) → (u && not d) ≡ false → u ≡ true → d ≡ true
-  same_or true true h u = refl
-  same_or true false h u = absurd (false≢true (sym h))
-  same_or false d h u = absurd (false≢true u)
-
-  submits_stay : (sb sa : Size) → (number sb == number sa) ≡ true → (is_one sa ≡ true → same_decider b a ≡ true) → both_submits sb sa ≡ true
-  submits_stay Zero Zero e d = refl
-  submits_stay One One e d = d refl
-  submits_stay Many Many e d = refl
-  submits_stay Zero One e d = absurd (false≢true e)
-  submits_stay Zero Many e d = absurd (false≢true e)
-  submits_stay One Zero e d = absurd (false≢true e)
-  submits_stay One Many e d = absurd (false≢true e)
-  submits_stay Many Zero e d = absurd (false≢true e)
-  submits_stay Many One e d = absurd (false≢true e)
-
+  -- where the newcomer alone is told, the others' standings stay
   pub newcomer-submit : turn_between b a ≡ Newcomer → same_standing (submit_standing_of b) (submit_standing_of a) ≡ true
   newcomer-submit t =
-      let parts = newcomer_is sizes anew t in
-      let sb = size_of b.matches in
-      let sa = size_of a.matches in
-      submits_by sb.0 sa.0 sb.1 sa.1
-      ∙ submits_stay sb.0 sa.0 (by_size sb.0 sa.0 sb.1 sa.1 true parts.0) (λ o. same_or (a.matches == 1) (same_decider b a) parts.1 (sa.1.one ∙ o))
+      let parts = tests Newcomer t in
+      ap (λ u. same_standing (cond u (Single (decider_of b)) Shared) (submit_standing_of a)) (alike b.matches a.matches parts.0).1 ∙ stays (a.matches == 1) parts.1
+    where
+      stays : (u : Bool) → (u && not (same_decider b a)) ≡ false → same_standing (cond u (Single (decider_of b)) Shared) (cond u (Single (decider_of a)) Shared) ≡ true
+      stays true h = not-false (same_decider b a) h
+      stays false h = refl
 
   -- ---- receipts
 
@@ -246,70 +183,22 @@ module _ (b a : Outlook) where
     abbrev at_after : Bool
     at_after = is_at_place (decider_of a) q
 
-    abbrev both_receipts : Size → Size → Bool
-    both_receipts sb sa = same_standing (by_tests (is_zero sb) (is_one sb) at_before can) (by_tests (is_zero sa) (is_one sa) at_after can)
-
-    receipts_by : (sb sa : Size) → IsSize b.matches sb → IsSize a.matches sa → same_standing (receipt_standing_of b q can) (receipt_standing_of a q can) ≡ both_receipts sb sa
-    receipts_by sb sa hb ha = λ i. same_standing (by_tests (hb.none i) (hb.one i) at_before can) (by_tests (ha.none i) (ha.one i) at_after can)
-
-    -- the standings of a receipt of one submit are neither stray nor shared
-    stray_one : (d c : Bool) → same_standing Stray (by_tests false true d c) ≡ false
-    stray_one true c = refl
-    stray_one false true = refl
-    stray_one false false = refl
-
-    one_stray : (d c : Bool) → same_standing (by_tests false true d c) Stray ≡ false
-    one_stray true c = refl
-    one_stray false true = refl
-    one_stray false false = refl
-
-    shared_one : (d c : Bool) → same_standing Shared (by_tests false true d c) ≡ false
-    shared_one true c = refl
-    shared_one false true = refl
-    shared_one false false = refl
-
-    one_shared : (d c : Bool) → same_standing (by_tests false true d c) Shared ≡ false
-    one_shared true c = refl
-    one_shared false true = refl
-    one_shared false false = refl
-
-    other_receipts : (sb sa : Size) → (number sb == number sa) ≡ false → both_receipts sb sa ≡ false
-    other_receipts Zero Zero e = absurd (false≢true (sym e))
-    other_receipts One One e = absurd (false≢true (sym e))
-    other_receipts Many Many e = absurd (false≢true (sym e))
-    other_receipts Zero One e = stray_one at_after can
-    other_receipts Zero Many e = refl
-    other_receipts One Zero e = one_stray at_before can
-    other_receipts One Many e = one_shared at_before can
-    other_receipts Many Zero e = refl
-    other_receipts Many One e = shared_one at_after can
-
     -- where all are told, a receipt's standing is another
     pub each-receipt : turn_between b a ≡ Each → same_standing (receipt_standing_of b q can) (receipt_standing_of a q can) ≡ false
-    each-receipt t =
-        let sb = size_of b.matches in
-        let sa = size_of a.matches in
-        receipts_by sb.0 sa.0 sb.1 sa.1 ∙ other_receipts sb.0 sa.0 (by_size sb.0 sa.0 sb.1 sa.1 false (each_is sizes anew t))
-
-    receipts_stay : (sb sa : Size) → (number sb == number sa) ≡ true → (is_one sa ≡ true → same_decider b a ≡ true) → both_receipts sb sa ≡ true
-    receipts_stay Zero Zero e d = refl
-    receipts_stay One One e d =
-        ap (λ o. same_standing (by_tests false true (is_at_place o q) can) (by_tests false true at_after can)) (same_at (decider_of b) (decider_of a) (d refl)) ∙ standing-itself (by_tests false true at_after can)
-    receipts_stay Many Many e d = refl
-    receipts_stay Zero One e d = absurd (false≢true e)
-    receipts_stay Zero Many e d = absurd (false≢true e)
-    receipts_stay One Zero e d = absurd (false≢true e)
-    receipts_stay One Many e d = absurd (false≢true e)
-    receipts_stay Many Zero e d = absurd (false≢true e)
-    receipts_stay Many One e d = absurd (false≢true e)
+    each-receipt t = unlike (receipt_standing_of b q can) (receipt_standing_of a q can) ((λ i. rank-receipt b q can i == rank-receipt a q can i) ∙ tests Each t)
 
     pub newcomer-receipt : turn_between b a ≡ Newcomer → same_standing (receipt_standing_of b q can) (receipt_standing_of a q can) ≡ true
     newcomer-receipt t =
-        let parts = newcomer_is sizes anew t in
-        let sb = size_of b.matches in
-        let sa = size_of a.matches in
-        receipts_by sb.0 sa.0 sb.1 sa.1
-        ∙ receipts_stay sb.0 sa.0 (by_size sb.0 sa.0 sb.1 sa.1 true parts.0) (λ o. same_or (a.matches == 1) (same_decider b a) parts.1 (sa.1.one ∙ o))
+        let parts = tests Newcomer t in
+        let same = alike b.matches a.matches parts.0 in
+        (λ i. same_standing (by_tests (same.0 i) (same.1 i) at_before can) (receipt_standing_of a q can)) ∙ stays (a.matches == 0) (a.matches == 1) parts.1
+      where
+        stays : (z u : Bool) → (u && not (same_decider b a)) ≡ false → same_standing (by_tests z u at_before can) (by_tests z u at_after can) ≡ true
+        stays true u h = refl
+        stays false false h = refl
+        stays false true h =
+            ap (λ o. same_standing (by_tests false true (is_at_place o q) can) (by_tests false true at_after can)) (same_at (decider_of b) (decider_of a) (not-false (same_decider b a) h))
+            ∙ standing-itself (by_tests false true at_after can)
 
     -- where another receipt decides, what stands at a place is told by the deciding receipts before and after
     pub deciders-before : turn_between b a ≡ Deciders → receipt_standing_of b q can ≡ cond at_before Deciding (cond can Extra Noted)

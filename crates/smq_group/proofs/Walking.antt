@@ -6,6 +6,7 @@ use Rattle.std.specs.Ordering.{ordering_then}
 use Rattle.std.specs.List.{AllByRecursion}
 use Rattle.std.specs.List.Sorted.{IsStrictlySortedBy}
 use Rattle.std.specs.Map.{keys_of}
+use Rattle.std.proofs.lemmas.List.{length-map}
 use Rattle.std.proofs.lemmas.List.Kept.{IsStrictlySortedBy-filter}
 use Rattle.std.proofs.lemmas.List.Filters.{length-filter_both}
 use Rattle.std.proofs.lemmas.Map.Keys.{sorted_head, sorted_tail}
@@ -26,7 +27,7 @@ use Rattle.smq_group.specs.declared.member.Member.{Member}
 use Rattle.smq_group.specs.within.Orders.{kept_member_cmp}
 use Rattle.smq_group.specs.within.Walked.{of_key, is_past, placed, left_after, member_key, vacant_of}
 use Rattle.smq_group.proofs.Finding.{member_at, after-narrows, kept_equal}
-use Rattle.smq_group.proofs.Placing.{members_total}
+use Rattle.smq_group.proofs.Placing.{members_total, sorted_none}
 
 module _ {V : Type 0} where
   content_at : (p : Place) (m : Member) (x : Option V) (es : List (Member × Option V)) → p ≡ m.place → content_of (map placed es) ≡ map placed (content_of es)
@@ -42,10 +43,6 @@ module _ {V : Type 0} where
   -- the members of a key are those of its places that aren't vacant
   pub members-are : (key : LinkKey) (es : List (Member × Option V)) → content_of (map placed (filter (of_key key) es)) ≡ map placed (filter (of_key key) (content_of es))
   members-are key es = content-placed (filter (of_key key) es) ∙ ap (map placed) (filter_places (λ m. same_key key m.key) es)
-
-length_places : {V : Type 0} (xs : List (Member × V)) → length (map placed xs) ≡ length xs
-length_places [] = refl
-length_places (x ∷ xs) = ap suc (length_places xs)
 
 -- the places of a key are those of its members and those that are vacant
 module _ {V : Type 0} (key : LinkKey) where
@@ -68,7 +65,7 @@ module _ {V : Type 0} (key : LinkKey) where
       → length (filter (of_key key) es) ≡ vacant_of member_key key es + length members
   places-parted es content members shown are =
       let p = parted es in
-      let l : length members ≡ length (filter (of_key key) (content_of es)) = ap length are ∙ length_places (filter (of_key key) content) ∙ ap (λ (xs : List (Member × V)). length (filter (of_key key) xs)) shown in
+      let l : length members ≡ length (filter (of_key key) (content_of es)) = ap length are ∙ length-map (filter (of_key key) content) placed ∙ ap (λ (xs : List (Member × V)). length (filter (of_key key) xs)) shown in
       omega (arith, p, l)
 
   -- a key has at most as many members as there are places
@@ -109,13 +106,9 @@ module _ {V : Type 0} (key : LinkKey) (es : List (Member × Option V)) (so : IsS
   abbrev left : Option (Place × Option V) → List (Place × Option V)
   left next = left_after key es next
 
-  length_placed : (xs : List (Member × Option V)) → length (map placed xs) ≡ length xs
-  length_placed [] = refl
-  length_placed (x ∷ xs) = ap suc (length_placed xs)
-
   -- at the start: all is left
   pub start-length : (next : Option (Place × Option V)) → next ≡ option_map placed (find of es) → length (left next) ≡ length (filter of es)
-  start-length next h = ap length (left-first next h) ∙ length_placed (filter of es)
+  start-length next h = ap length (left-first next h) ∙ length-map (filter of es) placed
 
   pub start-gathered : (members : List (Place × V)) (next : Option (Place × Option V)) → members ≡ [] → next ≡ option_map placed (find of es)
       → members ++ content_of (left next) ≡ content_of (map placed (filter of es))
@@ -176,10 +169,6 @@ place_above key j k sj sk l =
 sorted_cons : (p : Place) (ps : List Place) → AllByRecursion (λ j. place_cmp p j ≡ Less) ps → IsStrictlySortedBy place_cmp ps → IsStrictlySortedBy place_cmp (p ∷ ps)
 unfolding IsStrictlySortedBy
 sorted_cons p ps a s = (a, s)
-
-pub sorted_none : IsStrictlySortedBy place_cmp []
-unfolding IsStrictlySortedBy
-sorted_none = tt
 
 module _ {V : Type 0} (key : LinkKey) where
   all_of : (es : List (Member × V)) → AllByRecursion (λ e. same_key key e.0.key ≡ true) (filter (of_key key) es)

@@ -1,7 +1,7 @@
 use Rattle.std.proofs.Common.{[], ◌∷◌, Some, refl}
 use Rattle.smq_group.specs.declared.change.Standing.TheVariants.{Deciding, Extra, Noted, Shared, Single}
 use Rattle.smq_group.specs.Known.{centre_at, client_at, late, late_and_early, one, told, two, undecided}
-use Rattle.smq_group.proofs.Changing.{sorted_none, sorted_one, sorted_two}
+use Rattle.smq_group.proofs.Placing.{sorted_none, sorted_one, sorted_two}
 use Rattle.smq_group.proofs.KnownGroups.{tells-known, submits-told, receipts-told}
 use Rattle.smq_group.proofs.laws.known_changes.Goals as goal
 

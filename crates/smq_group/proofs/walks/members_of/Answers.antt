@@ -2,7 +2,8 @@ use Rattle.std.proofs.Common.{ap, ◌∙◌, arith, find}
 use Rattle.std.specs.Prelude.{option_map}
 use Rattle.smq_shelf.proofs.Walks.{walked-more, walked-on}
 use Rattle.smq_group.specs.within.Walked.{is_past, placed}
-use Rattle.smq_group.proofs.Walking.{members-by_place, start-length, start-gathered, step-length, step-gathered, end-gathered, full-gathered, places-parted, sorted_none}
+use Rattle.smq_group.proofs.Walking.{members-by_place, start-length, start-gathered, step-length, step-gathered, end-gathered, full-gathered, places-parted}
+use Rattle.smq_group.proofs.Placing.{sorted_none}
 use Rattle.smq_group.proofs.walks.members_of.Goals as goal
 
 pub returns-then-most-eq0-clause-by_place : goal.returns-then-most-eq0-clause-by_place

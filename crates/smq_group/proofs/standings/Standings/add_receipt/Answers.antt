@@ -16,8 +16,9 @@ invariant_of-self-in_default-keep c =
     let changes = c.in-Ok.changes.items in
     let kept_now = subst (λ (l : List Change). standings_in c.keep.new.standings.content ≡ with_changes (standings_in kept) l) c.as_slice.ensures.value c.in_default-keep.ensures.kept in (
       rw (c.in-Ok.ensures.ok)
-          (receipt-kept old kept c.keep.new.standings.content changes c.args.place (receipt_with c.args.link c.args.key c.args.moment c.args.decides) c.self.invariant.0
+          (receipt-kept old kept c.keep.new.standings.content changes c.args.place c.self.invariant.0 (receipt_with c.args.link c.args.key c.args.moment c.args.decides)
           (ap (λ (v : GroupsValue). fin.get v.members.submits c.args.place) c.self.view_is ∙ c.requires.apart)
+          (ap (λ (v : GroupsValue). fin.get v.members.receipts c.args.place) c.self.view_is ∙ c.requires.absent)
           (subst (λ (g : Grouping). TellsChanges old g changes) c.in-Ok.ensures.ok c.in-Ok.ensures.changes) kept_now),
       rw (c.add_receipt-reported.ensures.settled, c.keep.ensures.settled) c.self.invariant.1,
     )

@@ -16,7 +16,8 @@ invariant_of-self-in_default-keep c =
     let changes = c.in-Ok.changes.items in
     let kept_now = subst (λ (l : List Change). standings_in c.keep.new.standings.content ≡ with_changes (standings_in kept) l) c.as_slice.ensures.value c.in_default-keep.ensures.kept in (
       rw (c.in-Ok.ensures.ok)
-          (submit-kept old kept c.keep.new.standings.content changes c.args.place (key_on c.args.link c.args.key) c.self.invariant.0
+          (submit-kept old kept c.keep.new.standings.content changes c.args.place c.self.invariant.0 (key_on c.args.link c.args.key)
+          (ap (λ (v : GroupsValue). fin.get v.members.submits c.args.place) c.self.view_is ∙ c.requires.absent)
           (ap (λ (v : GroupsValue). fin.get v.members.receipts c.args.place) c.self.view_is ∙ c.requires.apart)
           (subst (λ (g : Grouping). TellsChanges old g changes) c.in-Ok.ensures.ok c.in-Ok.ensures.changes) kept_now),
       rw (c.add_submit-reported.ensures.settled, c.keep.ensures.settled) c.self.invariant.1,

@@ -18,7 +18,7 @@ invariant_of-self-in_default-keep_without c =
     (ap (λ (v : GroupsValue). option_map (λ (r : GroupedReceipt). r.key) (fin.get v.members.receipts c.args.place)) c.self.view_is ∙ c.requires.there) in
     let kept_now = subst (λ (l : List Change). standings_in c.keep_without.new.standings.content ≡ with_changes (fin.remove (standings_in kept) c.args.place) l) c.as_slice.ensures.value c.in_default-keep_without.ensures.kept in (
       rw (c.in-Ok.ensures.ok)
-          (receipt-left old kept c.keep_without.new.standings.content changes c.args.place there.0 c.self.invariant.0 there.1
+          (receipt-left old kept c.keep_without.new.standings.content changes c.args.place c.self.invariant.0 there.0 there.1
           (subst (λ (g : Grouping). TellsChanges old g changes) c.in-Ok.ensures.ok c.in-Ok.ensures.changes) kept_now),
       rw (c.remove_receipt-reported.ensures.settled, c.keep_without.ensures.settled) c.self.invariant.1,
     )
