@@ -393,7 +393,7 @@ deciders_sorted (Some v) (Some d) h = by (place_cmp d v) refl
 -- ---- just this is told
 
 -- a submit of a key counts
-submit-counts : (g : Grouping) (key : LinkKey) (place : Place) → get g.submits place ≡ Some key → 1 ≤ matches g key
+pub submit-counts : (g : Grouping) (key : LinkKey) (place : Place) → get g.submits place ≡ Some key → 1 ≤ matches g key
 submit-counts g key place there = let one = number-less g.submits key key place true there (own_key key) in omega (arith, one)
 
 module _ (g : Grouping) (s : List (Member × Bool)) (r : List (Member × Said)) (key : LinkKey) (added : Added)

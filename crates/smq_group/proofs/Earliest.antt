@@ -1,6 +1,6 @@
 -- The earliest receipt of a key that can decide, as receipts come and go: there is one at most, so what comes after none
 -- of those that can is the one that is found.
-use Rattle.std.proofs.Common.{◌≡◌, ◌⊎◌, inl, inr, ℕ, Bool, true, false, cond, ◌||◌, List, [], ◌∷◌, Option, Some, None, refl, sym, ap, ◌∙◌, subst}
+use Rattle.std.proofs.Common.{◌≡◌, ℕ, Bool, true, false, cond, ◌||◌, List, [], ◌∷◌, Option, Some, None, refl, sym, ap, ◌∙◌, subst}
 use Rattle.std.specs.Prelude.{◌&&◌, ◌==◌, map, filter, option_map, find}
 use Rattle.std.specs.List.{AllByRecursion, list_any, reduce}
 use Rattle.std.specs.declared.cmp.Ordering.{Ordering}
@@ -12,7 +12,8 @@ use Rattle.std.specs.BTreeMap.{is_at}
 use Rattle.std.specs.List.Sorted.{IsStrictlySortedBy}
 use Rattle.std.specs.FinMap as fin
 use Rattle.std.specs.FinMap.{entries, get, get-entries, nat_cmp-IsAntisymmetric}
-use Rattle.std.proofs.lemmas.Bool.{false≢true, eqb-true, eq-eqb}
+use Rattle.std.proofs.lemmas.Bool.{false≢true, false_from_ne_true, eqb-true, eq-eqb, or_right}
+use Rattle.std.proofs.lemmas.Option.{cond_some}
 use Rattle.std.proofs.lemmas.Cmp.{on_total, then_total, nat_cmp_total}
 use Rattle.smq_kit.specs.declared.place.Place.{Place}
 use Rattle.smq_kit.specs.declared.link_key.LinkKey.{LinkKey}
@@ -24,7 +25,7 @@ use Rattle.smq_kit.proofs.PlaceOrders.{place-order, places_total, places_exact}
 use Rattle.smq_kit.proofs.LinkKeyOrders.{link_keys_total, link_keys_exact}
 use Rattle.smq_kit.proofs.Comparisons.{is_equal, then_first, then_second}
 use Rattle.smq_kit.proofs.MapLemmas as maps
-use Rattle.smq_shelf.proofs.Walks.{both, found-passes}
+use Rattle.smq_shelf.proofs.Walks.{both, found-passes, less}
 use Rattle.smq_group.specs.Matching as m
 use Rattle.smq_group.specs.Matching.{Grouping, GroupedReceipt, CanDecide, candidates, candidate_cmp, earlier}
 use Rattle.smq_group.specs.declared.member.Candidate.{Candidate}
@@ -37,7 +38,7 @@ use Rattle.smq_group.specs.within.Walked.{earliest_of, is_after, first_candidate
 use Rattle.smq_group.proofs.CandidateWalks.{candidates_total}
 use Rattle.smq_group.proofs.Least.{least-found, reduce-all}
 use Rattle.smq_kit.proofs.HashedKeyOrders.{hashed_keys_total}
-use Rattle.smq_group.proofs.Placing.{same_place, own_place}
+use Rattle.smq_group.proofs.Placing.{not_none, one_of, own_place, same_place}
 use Rattle.smq_group.proofs.Stepping.{finds, FindsUpTo, found-there}
 
 pub own_key : (key : LinkKey) → same_key key key ≡ true
@@ -89,8 +90,8 @@ module _ (g : Grouping) (key : LinkKey) where
       elim (eq_by_cmp place_cmp place x.0) as (λ b. eq_by_cmp place_cmp place x.0 ≡ b → cond b (Some x.1) (fin.find place_cmp place es)
       ≡ Some r → list_any p (map candidate (cond (passes x) (x ∷ filter passes es) (filter passes es))) ≡ true) [
         | true ↦ λ t found.
-            let same : place ≡ x.0 = maps.same_key places_total places_exact place x.0 t in
-            let value : x.1 ≡ (record { key = key; moment = moment; decides = true }) = some_is x.1 r (Some x.1) refl found ∙ is in
+            let same : place ≡ x.0 = same_place place x.0 t in
+            let value : x.1 ≡ (record { key = key; moment = moment; decides = true }) = one_of x.1 r (Some x.1) refl found ∙ is in
             let pass : passes x ≡ true = ap (λ (v : GroupedReceipt). same_key key v.key && v.decides) value ∙ ap (λ b. b && true) (own_key key) in
             let at : p (candidate x) ≡ true = (λ i. p ((value i).moment, sym same i)) ∙ h in
             ap (λ b. list_any p (map candidate (cond b (x ∷ filter passes es) (filter passes es)))) pass
@@ -98,17 +99,10 @@ module _ (g : Grouping) (key : LinkKey) where
         | false ↦ λ t found. skip (passes x) x es (among p moment place es r is found h)
       ] refl e
     where
-      some_is : (x y : GroupedReceipt) (o : Option GroupedReceipt) → o ≡ Some x → o ≡ Some y → x ≡ y
-      some_is x y o e f = cc
-
-      or_true : (a b : Bool) → b ≡ true → (a || b) ≡ true
-      or_true true b e = refl
-      or_true false b e = e
-
       skip : (b : Bool) (x : Place × GroupedReceipt) (es : List (Place × GroupedReceipt))
           → list_any p (map candidate (filter passes es)) ≡ true
           → list_any p (map candidate (cond b (x ∷ filter passes es) (filter passes es))) ≡ true
-      skip true x es e = or_true (p (candidate x)) (list_any p (map candidate (filter passes es))) e
+      skip true x es e = or_right (p (candidate x)) (list_any p (map candidate (filter passes es))) e
       skip false x es e = e
 
   among-candidates : (p : m.Candidate → Bool) (moment : ℕ) (place : Place) → CanDecide g key moment place
@@ -122,10 +116,6 @@ abbrev pub IsFirst : Grouping → LinkKey → Option m.Candidate → Type 0
 IsFirst g key None = (moment : ℕ) (place : Place) → CanDecide g key moment place → ⊥
 IsFirst g key (Some c) = CanDecide g key c.0 c.1 × ((moment : ℕ) (place : Place) → CanDecide g key moment place → is_gt (candidate_cmp c (moment, place)) ≡ false)
 
-none_gt : (b : Bool) → (b ≡ true → ⊥) → b ≡ false
-none_gt true h = absurd (h refl)
-none_gt false h = refl
-
 no_candidates : (cs : List m.Candidate) → reduce earlier cs ≡ None → list_any (λ c. true) cs ≡ false
 no_candidates [] e = refl
 no_candidates (c ∷ cs) e = absurd cc
@@ -136,7 +126,7 @@ first-is g key (Some c) e =
     let least = least-found candidate_cmp pairs_total (candidates g key) c e in (
       reduce-all candidate_cmp pairs_total (λ (c : m.Candidate). CanDecide g key c.0 c.1) (candidates g key) c
           (all-can g key (entries g.receipts) (maps.get-entry places_total places_exact g.receipts)) e,
-      λ moment place other. none_gt (is_gt (candidate_cmp c (moment, place))) (λ after.
+      λ moment place other. false_from_ne_true (is_gt (candidate_cmp c (moment, place))) (λ after.
           false≢true (sym least.after_none ∙ among-candidates g key (λ y. is_gt (candidate_cmp c y)) moment place other after)),
     )
 
@@ -163,11 +153,8 @@ pub record HasMore (g h : Grouping) (place : Place) (r : GroupedReceipt) : Type 
   pub absent : get g.receipts place ≡ None
   pub each : (q : Place) → get h.receipts q ≡ cond (eq_by_cmp place_cmp q place) (Some r) (get g.receipts q)
 
-some_receipt : (x y : GroupedReceipt) (o : Option GroupedReceipt) → o ≡ Some x → o ≡ Some y → x ≡ y
-some_receipt x y o e f = cc
-
-not_none : {A : Type 0} (x : A) (o : Option A) → o ≡ None → o ≡ Some x → ⊥
-not_none x o e f = absurd cc
+abbrev AfterNone : m.Candidate → ℕ → Place → Type 0
+AfterNone c moment place = is_gt (candidate_cmp c (moment, place)) ≡ false
 
 abbrev a_candidate : LinkKey → ℕ → GroupedReceipt
 a_candidate key moment = record { key = key; moment = moment; decides = true }
@@ -178,10 +165,13 @@ module _ (g h : Grouping) (place : Place) (r : GroupedReceipt) (more : HasMore g
   kept_can moment p false t c = record { stands = more.each p ∙ ap (λ b. cond b (Some r) (get g.receipts p)) t ∙ c.stands }
 
   -- what can decide then is the new one, or could before
-  split_can : (moment : ℕ) (p : Place) (b : Bool) → eq_by_cmp place_cmp p place ≡ b → CanDecide h key moment p → ((p ≡ place) × (r ≡ a_candidate key moment)) ⊎ CanDecide g key moment p
-  split_can moment p true t c =
-      inl (same_place p place t, some_receipt r (a_candidate key moment) (get h.receipts p) (more.each p ∙ ap (λ b. cond b (Some r) (get g.receipts p)) t) c.stands)
-  split_can moment p false t c = inr (record { stands = sym (more.each p ∙ ap (λ b. cond b (Some r) (get g.receipts p)) t) ∙ c.stands })
+  each_can : (P : ℕ → Place → Type 0) → ((moment : ℕ) (p : Place) → (p ≡ place) × (r ≡ a_candidate key moment) → P moment p) → ((moment : ℕ) (p : Place) → CanDecide g key moment p → P moment p)
+      → (moment : ℕ) (p : Place) → CanDecide h key moment p → P moment p
+  each_can P new old moment p c = by (eq_by_cmp place_cmp p place) refl
+    where
+      by : (b : Bool) → eq_by_cmp place_cmp p place ≡ b → P moment p
+      by true t = new moment p (same_place p place t, one_of r (a_candidate key moment) (get h.receipts p) (more.each p ∙ ap (λ b. cond b (Some r) (get g.receipts p)) t) c.stands)
+      by false t = old moment p (record { stands = sym (more.each p ∙ ap (λ b. cond b (Some r) (get g.receipts p)) t) ∙ c.stands })
 
   new_here : same_key key r.key ≡ true → r.decides ≡ true → CanDecide h key r.moment place
   new_here s d = record {
@@ -193,16 +183,8 @@ module _ (g h : Grouping) (place : Place) (r : GroupedReceipt) (more : HasMore g
 
   -- a receipt of another key, or that can't decide, changes nothing
   pub more-other : (same_key key r.key && r.decides) ≡ false → (o : Option m.Candidate) → IsFirst g key o → IsFirst h key o
-  more-other n None f = λ moment p c. by (split_can moment p (eq_by_cmp place_cmp p place) refl c)
-    where
-      by : {moment : ℕ} {p : Place} → ((p ≡ place) × (r ≡ a_candidate key moment)) ⊎ CanDecide g key moment p → ⊥
-      by {moment = moment} {p = p} (inl e) = no_candidate moment n e.1
-      by {moment = moment} {p = p} (inr c) = f moment p c
-  more-other n (Some e) f = (kept_can e.0 e.1 (eq_by_cmp place_cmp e.1 place) refl f.0, λ moment p c. by moment p (split_can moment p (eq_by_cmp place_cmp p place) refl c))
-    where
-      by : (moment : ℕ) (p : Place) → ((p ≡ place) × (r ≡ a_candidate key moment)) ⊎ CanDecide g key moment p → is_gt (candidate_cmp e (moment, p)) ≡ false
-      by moment p (inl x) = absurd (no_candidate moment n x.1)
-      by moment p (inr c) = f.1 moment p c
+  more-other n None f = each_can (λ _ _. ⊥) (λ moment p x. no_candidate moment n x.1) f
+  more-other n (Some e) f = (kept_can e.0 e.1 (eq_by_cmp place_cmp e.1 place) refl f.0, each_can (AfterNone e) (λ moment p x. absurd (no_candidate moment n x.1)) f.1)
 
   at_new : (e : m.Candidate) (moment : ℕ) (p : Place) → (p ≡ place) × (r ≡ a_candidate key moment) → is_gt (candidate_cmp e (r.moment, place)) ≡ false → is_gt (candidate_cmp e (moment, p)) ≡ false
   at_new e moment p x n = (λ i. is_gt (candidate_cmp e (sym (ap (λ (y : GroupedReceipt). y.moment) x.1) i, x.0 i))) ∙ n
@@ -211,37 +193,24 @@ module _ (g h : Grouping) (place : Place) (r : GroupedReceipt) (more : HasMore g
   itself = ap is_gt (tied_itself pairs_total (r.moment, place))
 
   not_after : (a b : m.Candidate) → is_lt (candidate_cmp a b) ≡ false → is_gt (candidate_cmp b a) ≡ false
-  not_after a b n = turned (candidate_cmp a b) (candidate_cmp b a) (pairs_total.antisymm b a) n
+  not_after a b n = ap is_gt (pairs_total.antisymm b a) ∙ turned (candidate_cmp a b) n
     where
-      turned : (r s : Ordering) → s ≡ ordering_reverse r → is_lt r ≡ false → is_gt s ≡ false
-      turned Less s e n = absurd (false≢true (sym n))
-      turned Equal s e n = ap is_gt e
-      turned Greater s e n = ap is_gt e
-
-  up_to : (r : Ordering) → is_lt r ≡ true → is_gt r ≡ false
-  up_to Less e = refl
-  up_to Equal e = refl
-  up_to Greater e = absurd (false≢true e)
+      turned : (r : Ordering) → is_lt r ≡ false → is_gt (ordering_reverse r) ≡ false
+      turned Less n = absurd (false≢true (sym n))
+      turned _ n = refl
 
   -- one that can decide is the earliest where it comes before the one that was
   pub more-first : same_key key r.key ≡ true → r.decides ≡ true → (o : Option m.Candidate) (b : Bool) → is_before (earliest_at (r.moment, place)) (option_map earliest_at o) ≡ b → IsFirst g key o
       → IsFirst h key (cond b (Some (r.moment, place)) o)
   more-first s d None false t f = absurd (false≢true (sym t))
-  more-first s d None true t f = (new_here s d, λ moment p c. by moment p (split_can moment p (eq_by_cmp place_cmp p place) refl c))
-    where
-      by : (moment : ℕ) (p : Place) → ((p ≡ place) × (r ≡ a_candidate key moment)) ⊎ CanDecide g key moment p → is_gt (candidate_cmp (r.moment, place) (moment, p)) ≡ false
-      by moment p (inl x) = at_new (r.moment, place) moment p x itself
-      by moment p (inr c) = absurd (f moment p c)
-  more-first s d (Some e) true t f = (new_here s d, λ moment p c. by moment p (split_can moment p (eq_by_cmp place_cmp p place) refl c))
-    where
-      by : (moment : ℕ) (p : Place) → ((p ≡ place) × (r ≡ a_candidate key moment)) ⊎ CanDecide g key moment p → is_gt (candidate_cmp (r.moment, place) (moment, p)) ≡ false
-      by moment p (inl x) = at_new (r.moment, place) moment p x itself
-      by moment p (inr c) = upto pairs_total (r.moment, place) e (moment, p) (up_to (candidate_cmp (r.moment, place) e) t) (f.1 moment p c)
-  more-first s d (Some e) false t f = (kept_can e.0 e.1 (eq_by_cmp place_cmp e.1 place) refl f.0, λ moment p c. by moment p (split_can moment p (eq_by_cmp place_cmp p place) refl c))
-    where
-      by : (moment : ℕ) (p : Place) → ((p ≡ place) × (r ≡ a_candidate key moment)) ⊎ CanDecide g key moment p → is_gt (candidate_cmp e (moment, p)) ≡ false
-      by moment p (inl x) = at_new e moment p x (not_after (r.moment, place) e t)
-      by moment p (inr c) = f.1 moment p c
+  more-first s d None true t f = (new_here s d, each_can (AfterNone (r.moment, place)) (λ moment p x. at_new (r.moment, place) moment p x itself) (λ moment p c. absurd (f moment p c)))
+  more-first s d (Some e) true t f = (
+    new_here s d,
+    each_can (AfterNone (r.moment, place)) (λ moment p x. at_new (r.moment, place) moment p x itself)
+        (λ moment p c. upto pairs_total (r.moment, place) e (moment, p) (ap is_gt (less (candidate_cmp (r.moment, place) e) t)) (f.1 moment p c)),
+  )
+  more-first s d (Some e) false t f =
+      (kept_can e.0 e.1 (eq_by_cmp place_cmp e.1 place) refl f.0, each_can (AfterNone e) (λ moment p x. at_new e moment p x (not_after (r.moment, place) e t)) f.1)
 
 -- ---- one receipt less
 
@@ -267,7 +236,7 @@ module _ (g h : Grouping) (place : Place) (r : GroupedReceipt) (less : HasLess g
   stay_can moment p t c = record { stands = less.each p ∙ ap (λ b. cond b None (get g.receipts p)) t ∙ c.stands }
 
   was_there : (e : m.Candidate) → CanDecide g key e.0 e.1 → eq_by_cmp place_cmp e.1 place ≡ true → r ≡ a_candidate key e.0
-  was_there e c t = some_receipt r (a_candidate key e.0) (get g.receipts place) less.there (ap (λ (x : Place). get g.receipts x) (sym (same_place e.1 place t)) ∙ c.stands)
+  was_there e c t = one_of r (a_candidate key e.0) (get g.receipts place) less.there (ap (λ (x : Place). get g.receipts x) (sym (same_place e.1 place t)) ∙ c.stands)
 
   -- where another receipt was the earliest, it still is
   pub less-other : (o : Option m.Candidate) → ((e : m.Candidate) → o ≡ Some e → eq_by_cmp place_cmp e.1 place ≡ false) → IsFirst g key o → IsFirst h key o
@@ -277,7 +246,7 @@ module _ (g h : Grouping) (place : Place) (r : GroupedReceipt) (less : HasLess g
   -- one that isn't a candidate of the key isn't the earliest of it
   pub less-stays : (same_key key r.key && r.decides) ≡ false → (o : Option m.Candidate) → IsFirst g key o → IsFirst h key o
   less-stays n None f = less-other None (λ e x. absurd cc) f
-  less-stays n (Some d) f = less-other (Some d) (λ e x. let s : d ≡ e = cc in subst (λ (y : m.Candidate). eq_by_cmp place_cmp y.1 place ≡ false) s (none_gt (eq_by_cmp place_cmp d.1 place)
+  less-stays n (Some d) f = less-other (Some d) (λ e x. let s : d ≡ e = cc in subst (λ (y : m.Candidate). eq_by_cmp place_cmp y.1 place ≡ false) s (false_from_ne_true (eq_by_cmp place_cmp d.1 place)
       (λ t. false≢true (sym n ∙ ap (λ (y : GroupedReceipt). same_key key y.key && y.decides) (was_there d f.0 t) ∙ ap (λ b. b && true) (own_key key))))) f
 
   module _ (index : List (Candidate × Bool)) (so : IsStrictlySortedBy kept_candidate_cmp (keys_of index))
@@ -290,15 +259,11 @@ module _ (g h : Grouping) (place : Place) (r : GroupedReceipt) (less : HasLess g
     from_index : (c : Candidate) (x : Option GroupedReceipt) (v : Bool) → same_key key c.key ≡ true → get h.receipts c.place ≡ x → cond (is_candidate c x) (Some true) None ≡ Some v → CanDecide h key c.moment c.place
     from_index c None v s e l = absurd cc
     from_index c (Some y) v s e l =
-        let all = both (same_key c.key y.key && (y.moment == c.moment)) y.decides (passed (same_key c.key y.key && (y.moment == c.moment) && y.decides) l) in
+        let all = both (same_key c.key y.key && (y.moment == c.moment)) y.decides (cond_some (same_key c.key y.key && (y.moment == c.moment) && y.decides) true v l).0 in
         let parts = both (same_key c.key y.key) (y.moment == c.moment) all.0 in
         record {
           stands = e ∙ (λ i. Some (record { key = (sym (one_key c.key y.key parts.0) ∙ sym (one_key key c.key s)) i; moment = eqb-true y.moment c.moment parts.1 i; decides = all.1 i }));
         }
-      where
-        passed : (b : Bool) → cond b (Some true) None ≡ Some v → b ≡ true
-        passed true l = refl
-        passed false l = absurd cc
 
     module _ (f : IsFirst g key (Some (r.moment, place))) where
       abbrev from : Earliest
@@ -332,12 +297,9 @@ module _ (g h : Grouping) (place : Place) (r : GroupedReceipt) (less : HasLess g
           let own : same_key key x.0.key ≡ true = (both (same_key key x.0.key) (is_lt (candidate_cmp (r.moment, place) (x.0.moment, x.0.place))) (found-passes (is_after key from) index x e)).0 in (
             from_index x.0 (get h.receipts x.0.place) x.1 own refl (sym (indexed x.0) ∙ found-there candidates_total (is_after key from) index x so e),
             λ moment p c. (let at = later moment p c in
-                let same : at.at ≡ x = one_found at.at x (find (is_after key from) index) at.is e in
+                let same : at.at ≡ x = one_of at.at x (find (is_after key from) index) at.is e in
                 by_pair x.0 moment p own (ap (λ (z : Candidate × Bool). is_gt (kept_candidate_cmp z.0 (in_index key (moment, p)))) (sym same) ∙ at.up_to)),
           )
-        where
-          one_found : (a b : Candidate × Bool) (o : Option (Candidate × Bool)) → o ≡ Some a → o ≡ Some b → a ≡ b
-          one_found a b o s t = cc
 
       -- after the one that decided is taken out, the next candidate of the index is the earliest
       pub less-next : IsFirst h key (option_map pair_of (first_candidate_after key from index))
@@ -356,8 +318,8 @@ chosen false c o = refl
 abbrev pub decider_in : Grouping → LinkKey → Option Earliest
 decider_in g key = option_map earliest_at (reduce earlier (candidates g key))
 
-stays_first : (g h : Grouping) (key : LinkKey) → IsFirst h key (reduce earlier (candidates g key)) → decider_in h key ≡ decider_in g key
-stays_first g h key f = ap (option_map earliest_at) (first-found h key (reduce earlier (candidates g key)) f)
+stays_first : (g h : Grouping) (key : LinkKey) → ((o : Option m.Candidate) → reduce earlier (candidates g key) ≡ o → IsFirst g key o → IsFirst h key o) → decider_in h key ≡ decider_in g key
+stays_first g h key f = let o = reduce earlier (candidates g key) in ap (option_map earliest_at) (first-found h key o (f o refl (first-is g key o refl)))
 
 -- with one receipt more
 pub decider-more : (g h : Grouping) (place : Place) (r : GroupedReceipt) → HasMore g h place r → (key : LinkKey) (s d : Bool) → same_key key r.key ≡ s → r.decides ≡ d
@@ -368,9 +330,9 @@ decider-more g h place r more key true true s d =
     ap (option_map earliest_at) (first-found h key (cond b (Some (r.moment, place)) o) (more-first g h place r more key s d o b refl (first-is g key o refl)))
     ∙ chosen b (r.moment, place) o
 decider-more g h place r more key true false s d =
-    stays_first g h key (more-other g h place r more key (λ i. s i && d i) (reduce earlier (candidates g key)) (first-is g key (reduce earlier (candidates g key)) refl))
+    stays_first g h key (λ o t. more-other g h place r more key (λ i. s i && d i) o)
 decider-more g h place r more key false d s e =
-    stays_first g h key (more-other g h place r more key (ap (λ b. b && r.decides) s) (reduce earlier (candidates g key)) (first-is g key (reduce earlier (candidates g key)) refl))
+    stays_first g h key (λ o t. more-other g h place r more key (ap (λ b. b && r.decides) s) o)
 
 abbrev pub is_decided : Option Earliest → Place → Bool
 is_decided o place = same_option (eq_by_cmp place_cmp) (option_map (λ e. e.place) o) (Some place)
@@ -378,20 +340,15 @@ is_decided o place = same_option (eq_by_cmp place_cmp) (option_map (λ e. e.plac
 -- with one receipt less of another key
 pub decider-elsewhere : (g h : Grouping) (place : Place) (r : GroupedReceipt) → HasLess g h place r → (key : LinkKey) → same_key key r.key ≡ false → decider_in h key ≡ decider_in g key
 decider-elsewhere g h place r less key s =
-    stays_first g h key (less-stays g h place r less key (ap (λ b. b && r.decides) s) (reduce earlier (candidates g key)) (first-is g key (reduce earlier (candidates g key)) refl))
+    stays_first g h key (λ o t. less-stays g h place r less key (ap (λ b. b && r.decides) s) o)
 
 -- with one receipt less that doesn't decide
 pub decider-stays : (g h : Grouping) (place : Place) (r : GroupedReceipt) → HasLess g h place r → (r.decides && is_decided (decider_in g r.key) place) ≡ false → decider_in h r.key ≡ decider_in g r.key
-decider-stays g h place r less n = by (reduce earlier (candidates g r.key)) refl
+decider-stays g h place r less n = stays_first g h r.key (λ o t f. less-other g h place r less r.key o (λ e x. not_here o e t x (subst (IsFirst g r.key) x f)) f)
   where
     not_here : (o : Option m.Candidate) (e : m.Candidate) → reduce earlier (candidates g r.key) ≡ o → o ≡ Some e → IsFirst g r.key (Some e) → eq_by_cmp place_cmp e.1 place ≡ false
-    not_here o e t x f = none_gt (eq_by_cmp place_cmp e.1 place) (λ same.
+    not_here o e t x f = false_from_ne_true (eq_by_cmp place_cmp e.1 place) (λ same.
         false≢true (sym n ∙ (λ i. (ap (λ (y : GroupedReceipt). y.decides) (was_there g h place r less r.key e f.0 same) i) && is_decided (option_map earliest_at ((t ∙ x) i)) place) ∙ same))
-
-    by : (o : Option m.Candidate) → reduce earlier (candidates g r.key) ≡ o → decider_in h r.key ≡ decider_in g r.key
-    by o t =
-        ap (option_map earliest_at) (first-found h r.key o (less-other g h place r less r.key o (λ e x. not_here o e t x (subst (IsFirst g r.key) x (first-is g r.key o t))) (first-is g r.key o t)))
-        ∙ sym (ap (option_map earliest_at) t)
 
 -- with one receipt less that decided: the next candidate
 pub decider-next : (g h : Grouping) (place : Place) (r : GroupedReceipt) → HasLess g h place r → (index : List (Candidate × Bool)) → IsStrictlySortedBy kept_candidate_cmp (keys_of index)

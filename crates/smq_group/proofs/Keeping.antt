@@ -1,5 +1,5 @@
 -- Standings by place that are changed as groups tell are those of the groups after the change.
-use Rattle.std.proofs.Common.{◌≡◌, Bool, true, false, cond, List, [], ◌∷◌, ◌++◌, map, Option, Some, None, refl, sym, ap, ◌∙◌, subst}
+use Rattle.std.proofs.Common.{◌≡◌, Bool, true, false, cond, List, [], ◌∷◌, map, Option, Some, None, refl, sym, ap, ◌∙◌}
 use Rattle.std.specs.Prelude.{option_map}
 use Rattle.std.specs.Option.{option_or}
 use Rattle.std.specs.Ordering.{eq_by_cmp, is_eq}
@@ -19,7 +19,7 @@ use Rattle.smq_group.specs.declared.change.Standing.{Standing}
 use Rattle.smq_group.specs.Changes.{TellsChanges, changed, receipt_at, same_standing, submit_at, told_at, told_of_receipt, told_of_submit}
 use Rattle.smq_group.specs.Groups.{no_members, with_receipt, with_submit, without_receipt, without_submit}
 use Rattle.smq_group.specs.Matching.{Grouping, GroupedReceipt, receipt_standing, submit_standing}
-use Rattle.smq_group.specs.Standings.{StandApart, standing_at}
+use Rattle.smq_group.specs.Standings.{standing_at}
 use Rattle.smq_group.specs.within.Standing.{AreKept, standings_in, with_change, with_changes}
 use Rattle.smq_group.proofs.Placing.{not_none, same_place}
 use Rattle.smq_group.proofs.Turning.{same-standing-is}

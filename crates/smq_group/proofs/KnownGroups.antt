@@ -29,14 +29,14 @@ number es key = count_by (same_key key) (map (λ e. e.1) es)
 abbrev decided : List (Place × GroupedReceipt) → LinkKey → Option Place
 decided rs key = option_map (λ c. c.1) (reduce earlier (map (λ e. (e.1.moment, e.0)) (filter (λ e. same_key key e.1.key && e.1.decides) rs)))
 
-abbrev pub submit_in : List (Place × LinkKey) → List (Place × GroupedReceipt) → Place → Option Standing
-submit_in es rs q = option_map (λ key. told_of_submit (cond (number es key == 1) (m.Single (decided rs key)) m.Shared)) (find place_cmp q es)
+abbrev pub accepted : List (Place × LinkKey) → List (Place × GroupedReceipt) → Place → LinkKey → Standing
+accepted es rs q key = told_of_submit (cond (number es key == 1) (m.Single (decided rs key)) m.Shared)
 
-abbrev pub receipt_in : List (Place × LinkKey) → List (Place × GroupedReceipt) → Place → Option Standing
-receipt_in es rs q = option_map (λ r. told_of_receipt (cond (number es r.key == 0) m.Stray
+abbrev pub received : List (Place × LinkKey) → List (Place × GroupedReceipt) → Place → GroupedReceipt → Standing
+received es rs q r = told_of_receipt (cond (number es r.key == 0) m.Stray
     (cond (not (number es r.key == 1)) m.KeyShared
     (cond (same_option (eq_by_cmp place_cmp) (decided rs r.key) (Some q)) m.Deciding
-    (cond r.decides m.Extra m.Noted))))) (find place_cmp q rs)
+    (cond r.decides m.Extra m.Noted))))
 
 module _ (es : List (Place × LinkKey)) (rs : List (Place × GroupedReceipt)) (se : T (is_sorted place_cmp es)) (sr : T (is_sorted place_cmp rs)) where
   is_es : entries (from_entries {R = place_cmp} es) ≡ es
@@ -45,14 +45,11 @@ module _ (es : List (Place × LinkKey)) (rs : List (Place × GroupedReceipt)) (s
   is_rs : entries (from_entries {R = place_cmp} rs) ≡ rs
   is_rs = entries-from_entries places_total places_exact rs sr
 
-  pub submit-listed : (q : Place) → submit_at (grouped es rs) q ≡ submit_in es rs q
-  submit-listed q = λ i. option_map (λ key. told_of_submit (cond (number (is_es i) key == 1) (m.Single (decided (is_rs i) key)) m.Shared)) (get-from_entries places_total es q i)
+  pub submit-listed : (q : Place) → submit_at (grouped es rs) q ≡ option_map (accepted es rs q) (find place_cmp q es)
+  submit-listed q = λ i. option_map (accepted (is_es i) (is_rs i) q) (get-from_entries places_total es q i)
 
-  pub receipt-listed : (q : Place) → receipt_at (grouped es rs) q ≡ receipt_in es rs q
-  receipt-listed q = λ i. option_map (λ r. told_of_receipt (cond (number (is_es i) r.key == 0) m.Stray
-      (cond (not (number (is_es i) r.key == 1)) m.KeyShared
-      (cond (same_option (eq_by_cmp place_cmp) (decided (is_rs i) r.key) (Some q)) m.Deciding
-      (cond r.decides m.Extra m.Noted))))) (get-from_entries places_total rs q i)
+  pub receipt-listed : (q : Place) → receipt_at (grouped es rs) q ≡ option_map (received es rs q) (find place_cmp q rs)
+  receipt-listed q = λ i. option_map (received (is_es i) (is_rs i) q) (get-from_entries places_total rs q i)
 
   -- of a link
 
@@ -70,15 +67,6 @@ module _ (es : List (Place × LinkKey)) (rs : List (Place × GroupedReceipt)) (s
 
 -- ---- what is told of them
 
--- what holds at two places, and at each other place, holds everywhere
-everywhere : (P : Place → Type 0) (a b : Place) → P a → P b → ((q : Place) → eq_by_cmp place_cmp q a ≡ false → eq_by_cmp place_cmp q b ≡ false → P q) → (q : Place) → P q
-everywhere P a b pa pb other q = by (eq_by_cmp place_cmp q a) (eq_by_cmp place_cmp q b) refl refl
-  where
-    by : (s t : Bool) → eq_by_cmp place_cmp q a ≡ s → eq_by_cmp place_cmp q b ≡ t → P q
-    by true t e f = subst P (sym (same_place q a e)) pa
-    by false true e f = subst P (sym (same_place q b f)) pb
-    by false false e f = other q e f
-
 absent : {X : Type 0} (q : Place) (es : List (Place × X)) → AllByRecursion (λ e. eq_by_cmp place_cmp q e.0 ≡ false) es → find place_cmp q es ≡ None
 absent q [] a = refl
 absent q (e ∷ es) a = ap (λ b. cond b (Some e.1) (find place_cmp q es)) a.0 ∙ absent q es a.1
@@ -87,47 +75,39 @@ untold : (q : Place) (cs : List Change) → AllByRecursion (λ (c : Change). eq_
 untold q [] a = refl
 untold q (c ∷ cs) a = ap (λ b. cond b (Some c.standing) (told_at q cs)) a.0 ∙ untold q cs a.1
 
-module _ (es es' : List (Place × LinkKey)) (rs rs' : List (Place × GroupedReceipt)) where
-  -- where no submit stands, before or after, none is told
-  abbrev pub SubmitTold : List Change → Place → Type 0
-  SubmitTold cs q = told_at q cs ≡ changed (submit_in es rs q) (submit_in es' rs' q)
+module _ {X : Type 0} (was is : Place → X → Standing) (es es' : List (Place × X)) (cs : List Change) where
+  abbrev pub ToldAt : Place → Type 0
+  ToldAt q = told_at q cs ≡ changed (option_map (was q) (find place_cmp q es)) (option_map (is q) (find place_cmp q es'))
 
-  abbrev pub ReceiptTold : List Change → Place → Type 0
-  ReceiptTold cs q = told_at q cs ≡ changed (receipt_in es rs q) (receipt_in es' rs' q)
+  -- no member stands at another place than these two, before or after, and none is told
+  abbrev pub NoOther : Place → Place → Type 0
+  NoOther a b = (q : Place) → eq_by_cmp place_cmp q a ≡ false → eq_by_cmp place_cmp q b ≡ false → AllByRecursion (λ e. eq_by_cmp place_cmp q e.0 ≡ false) es
+      × AllByRecursion (λ e. eq_by_cmp place_cmp q e.0 ≡ false) es' × AllByRecursion (λ (c : Change). eq_by_cmp place_cmp q c.place ≡ false) cs
 
-  -- every submit and receipt stands at one of these places, and what is told of these is right
-  pub submits-told : (cs : List Change) (a b : Place) → SubmitTold cs a → SubmitTold cs b
-      → ((q : Place) → eq_by_cmp place_cmp q a ≡ false → eq_by_cmp place_cmp q b ≡ false
-      → AllByRecursion (λ e. eq_by_cmp place_cmp q e.0 ≡ false) es × AllByRecursion (λ e. eq_by_cmp place_cmp q e.0 ≡ false) es' × AllByRecursion (λ (c : Change). eq_by_cmp place_cmp q c.place ≡ false) cs)
-      → (q : Place) → SubmitTold cs q
-  submits-told cs a b pa pb other = everywhere (SubmitTold cs) a b pa pb (λ q e f.
-      let all = other q e f in
-      untold q cs all.2 ∙ sym (λ i. changed (option_map (λ key. told_of_submit (cond (number es key == 1) (m.Single (decided rs key)) m.Shared)) (absent q es all.0 i))
-      (option_map (λ key. told_of_submit (cond (number es' key == 1) (m.Single (decided rs' key)) m.Shared)) (absent q es' all.1 i))))
+  -- so what is told of these two is told of every place
+  told-everywhere : (a b : Place) → ToldAt a → ToldAt b → NoOther a b → (q : Place) → ToldAt q
+  told-everywhere a b pa pb other q = by (eq_by_cmp place_cmp q a) (eq_by_cmp place_cmp q b) refl refl
+    where
+      by : (s t : Bool) → eq_by_cmp place_cmp q a ≡ s → eq_by_cmp place_cmp q b ≡ t → ToldAt q
+      by true t e f = subst ToldAt (sym (same_place q a e)) pa
+      by false true e f = subst ToldAt (sym (same_place q b f)) pb
+      by false false e f =
+          let all = other q e f in
+          untold q cs all.2 ∙ sym (λ i. changed (option_map (was q) (absent q es all.0 i)) (option_map (is q) (absent q es' all.1 i)))
 
-  abbrev standing : List (Place × LinkKey) → List (Place × GroupedReceipt) → Place → GroupedReceipt → Standing
-  standing es rs q r = told_of_receipt (cond (number es r.key == 0) m.Stray
-      (cond (not (number es r.key == 1)) m.KeyShared
-      (cond (same_option (eq_by_cmp place_cmp) (decided rs r.key) (Some q)) m.Deciding
-      (cond r.decides m.Extra m.Noted))))
-
-  pub receipts-told : (cs : List Change) (a b : Place) → ReceiptTold cs a → ReceiptTold cs b
-      → ((q : Place) → eq_by_cmp place_cmp q a ≡ false → eq_by_cmp place_cmp q b ≡ false
-      → AllByRecursion (λ e. eq_by_cmp place_cmp q e.0 ≡ false) rs × AllByRecursion (λ e. eq_by_cmp place_cmp q e.0 ≡ false) rs' × AllByRecursion (λ (c : Change). eq_by_cmp place_cmp q c.place ≡ false) cs)
-      → (q : Place) → ReceiptTold cs q
-  receipts-told cs a b pa pb other = everywhere (ReceiptTold cs) a b pa pb (λ q e f.
-      let all = other q e f in
-      untold q cs all.2 ∙ sym (λ i. changed (option_map (standing es rs q) (absent q rs all.0 i)) (option_map (standing es' rs' q) (absent q rs' all.1 i))))
-
-  pub tells-known : T (is_sorted place_cmp es) → T (is_sorted place_cmp es') → T (is_sorted place_cmp rs) → T (is_sorted place_cmp rs') → (submits receipts : List Change)
+module _ (es es' : List (Place × LinkKey)) (rs rs' : List (Place × GroupedReceipt)) (submits receipts : List Change) where
+  pub tells-known : T (is_sorted place_cmp es) → T (is_sorted place_cmp es') → T (is_sorted place_cmp rs) → T (is_sorted place_cmp rs')
       → IsStrictlySortedBy place_cmp (map (λ (c : Change). c.place) submits) → IsStrictlySortedBy place_cmp (map (λ (c : Change). c.place) receipts)
-      → ((q : Place) → SubmitTold submits q) → ((q : Place) → ReceiptTold receipts q) → TellsChanges (grouped es rs) (grouped es' rs') (submits ++ receipts)
-  tells-known se se' sr sr' submits receipts so ro st rt = record {
+      → (a b : Place) → ToldAt (accepted es rs) (accepted es' rs') es es' submits a → ToldAt (accepted es rs) (accepted es' rs') es es' submits b
+      → NoOther (accepted es rs) (accepted es' rs') es es' submits a b
+      → (c d : Place) → ToldAt (received es rs) (received es' rs') rs rs' receipts c → ToldAt (received es rs) (received es' rs') rs rs' receipts d
+      → NoOther (received es rs) (received es' rs') rs rs' receipts c d → TellsChanges (grouped es rs) (grouped es' rs') (submits ++ receipts)
+  tells-known se se' sr sr' so ro a b sa sb s c d rc rd r = record {
     submits = submits;
     receipts = receipts;
     parts = refl;
     submits_by_place = so;
     receipts_by_place = ro;
-    each_submit = λ q. st q ∙ sym (λ i. changed (submit-listed es rs se sr q i) (submit-listed es' rs' se' sr' q i));
-    each_receipt = λ q. rt q ∙ sym (λ i. changed (receipt-listed es rs se sr q i) (receipt-listed es' rs' se' sr' q i));
+    each_submit = λ q. told-everywhere (accepted es rs) (accepted es' rs') es es' submits a b sa sb s q ∙ sym (λ i. changed (submit-listed es rs se sr q i) (submit-listed es' rs' se' sr' q i));
+    each_receipt = λ q. told-everywhere (received es rs) (received es' rs') rs rs' receipts c d rc rd r q ∙ sym (λ i. changed (receipt-listed es rs se sr q i) (receipt-listed es' rs' se' sr' q i));
   }

@@ -1,5 +1,5 @@
 -- Look-ups at or above the least member of a link, and above one of its members: what stands first of those of the link.
-use Rattle.std.proofs.Common.{◌≡◌, ◌≤◌, ℕ, arith, Bool, true, false, List, Option, Some, None, refl, sym, ap, ◌∙◌, subst, find}
+use Rattle.std.proofs.Common.{◌≡◌, ◌≤◌, ℕ, arith, Bool, true, List, Option, Some, None, refl, sym, ap, ◌∙◌, subst, find}
 use Rattle.std.specs.Prelude.{◌==◌, ◌&&◌, IfSome}
 use Rattle.std.specs.declared.cmp.Ordering.{Ordering}
 use Rattle.std.specs.declared.cmp.Ordering.TheVariants.{Less, Equal, Greater}

@@ -1,8 +1,8 @@
 -- The four maps hold a grouping: none at first, and with one submit more or less.
-use Rattle.std.proofs.Common.{◌≡◌, ℕ, suc, length, ◌≤◌, ◌+◌, ◌-◌, Bool, true, false, cond, List, [], ◌∷◌, Option, Some, None, refl, sym, ap, ◌∙◌, arith}
+use Rattle.std.proofs.Common.{◌≡◌, ◌+◌, ◌-◌, Bool, true, false, cond, List, [], ◌∷◌, Option, Some, None, refl, sym, ap, ◌∙◌, arith}
 use Rattle.std.specs.Prelude.{map, filter, count_by, option_map, ◌&&◌, IsSome, is_some}
 use Rattle.std.specs.List.{reduce}
-use Rattle.std.specs.Ordering.{is_eq, eq_by_cmp}
+use Rattle.std.specs.Ordering.{eq_by_cmp}
 use Rattle.std.specs.Map.{lookup, remove_entry}
 use Rattle.std.specs.BTreeMap.{is_at, insert_entry}
 use Rattle.std.specs.FinMap.{FinMap, entries, get, insert, remove, from_entries, get-from_entries, get-insert, same_map}
@@ -15,8 +15,7 @@ use Rattle.smq_kit.specs.HashedKeys.{hashed_key_cmp}
 use Rattle.smq_kit.specs.LinkKeys.{same_key, link_key_cmp}
 use Rattle.smq_kit.proofs.PlaceOrders.{places_total, places_exact}
 use Rattle.smq_kit.proofs.HashedKeyOrders.{hashed-same}
-use Rattle.smq_kit.proofs.LinkKeyOrders.{link_keys_total, link_keys_exact}
-use Rattle.std.specs.Cmp.{tied_itself}
+use Rattle.smq_kit.proofs.LinkKeyOrders.{link_keys_exact}
 use Rattle.smq_kit.proofs.Comparisons.{is_equal}
 use Rattle.smq_kit.proofs.MapLemmas as maps
 use Rattle.smq_group.specs.declared.member.Member.{Member}
@@ -30,7 +29,6 @@ use Rattle.smq_group.specs.within.Orders.{kept_member_cmp}
 use Rattle.smq_group.specs.within.Outlooks.{an_outlook, outlook_at, no_outlook}
 use Rattle.smq_group.specs.within.Stored.{grouping_in, submit_value, is_candidate, earliest_at, outlook_in, AreStored, by_place}
 use Rattle.smq_group.proofs.Placing.{at, found, with-member, without-member, once-insert, once-remove}
-use Rattle.smq_shelf.specs.Places.{content_of, with_place}
 
 -- ---- nothing
 
@@ -165,43 +163,9 @@ module _ (s : List (Member × Bool)) (r : List (Member × Said)) (i : List (Cand
           let number : matches (grouping_in s r) k ≡ matches (grouping_in less r) k = omega (arith, one) in
           elsewhere k (hashed-same k key ∙ t) ∙ st.indexed.outlook k ∙ (λ j. an_outlook (number j) (earliest k))
 
--- ---- the number of submits of a key is at most that of places
-
 pub from-cons : {X : Type 0} (e : Place × X) (es : List (Place × X)) → from_entries {R = place_cmp} (e ∷ es) ≡ insert (from_entries es) e.0 e.1
 from-cons e es = same_map places_total places_exact _ _ (λ q.
     get-from_entries places_total (e ∷ es) q ∙ ap (cond (eq_by_cmp place_cmp q e.0) (Some e.1)) (sym (get-from_entries places_total es q)) ∙ sym (get-insert places_total (from_entries es) e.0 e.1 q))
-
-at_most_one : {X : Type 0} (test : X → Bool) (x : X) (b : Bool) → test x ≡ b → share test (Some x) ≤ 1
-at_most_one test x true e = let n : share test (Some x) ≡ 1 = sum_by-cons (λ y. cond (test y) 1 0) x [] ∙ ap (λ b. cond b 1 0 + count_by test []) e in omega (arith, n)
-at_most_one test x false e = let n : share test (Some x) ≡ 0 = sum_by-cons (λ y. cond (test y) 1 0) x [] ∙ ap (λ b. cond b 1 0 + count_by test []) e in omega (arith, n)
-
-number-bound : {X : Type 0} (test : X → Bool) (es : List (Place × X)) → number_of test (from_entries {R = place_cmp} es) ≤ length es
-number-bound test [] = let n : number_of test (from_entries {R = place_cmp} []) ≡ 0 = ap (λ es. count_by test (map (λ e. e.1) es)) empty_entries in omega (arith, n)
-number-bound test (e ∷ es) =
-    let step = maps.count-set places_total places_exact test (from_entries es) e.0 (Some e.1) in
-    let same : number_of test (from_entries (e ∷ es)) ≡ number_of test (insert (from_entries es) e.0 e.1) = ap (number_of test) (from-cons e es) in
-    let ih = number-bound test es in
-    let one = at_most_one test e.1 (test e.1) refl in
-    omega (arith, step, same, ih, one)
-
-placed-length : (s : List (Member × Bool)) → length (map (by_place submit_value) s) ≡ length s
-placed-length [] = refl
-placed-length (e ∷ s) = ap suc (placed-length s)
-
-content-length : (ps : List (Member × Option Bool)) → length (content_of ps) ≤ length ps
-content-length [] = omega arith
-content-length (p ∷ ps) = elim p.1 as (λ x. length (with_place p.0 x (content_of ps)) ≤ length (p ∷ ps)) [
-  | None ↦ omega (arith, content-length ps)
-  | Some v ↦ omega (arith, content-length ps)
-]
-
-pub matches-bound : (s : List (Member × Bool)) (r : List (Member × Said)) (ps : List (Member × Option Bool)) (key : LinkKey) → s ≡ content_of ps → matches (grouping_in s r) key ≤ length ps
-matches-bound s r ps key shown =
-    let n = number-bound (same_key key) (map (by_place submit_value) s) in
-    let l = placed-length s in
-    let c = content-length ps in
-    let e : length s ≡ length (content_of ps) = ap length shown in
-    omega (arith, n, l, c, e)
 
 module _ (s : List (Member × Bool)) (r : List (Member × Said)) (key : LinkKey) (place : Place) where
   abbrev the_member : Member
@@ -214,15 +178,6 @@ module _ (s : List (Member × Bool)) (r : List (Member × Said)) (key : LinkKey)
   pub grouping-more : get (grouping_in s r).submits place ≡ None → grouping_in (insert_entry kept_member_cmp s the_member true) r ≡ with_submit (grouping_in s r) key place
   grouping-more none = λ i. record { submits = with-member submit_value the_member true s (absent none) i; receipts = (grouping_in s r).receipts }
 
-  -- the number of its key then, which is that of places at most
-  pub matches-fit : (ps : List (Member × Option Bool)) (most : ℕ) → get (grouping_in s r).submits place ≡ None → insert_entry kept_member_cmp s the_member true ≡ content_of ps → most ≡ length ps
-      → matches (grouping_in s r) key + 1 ≤ most
-  matches-fit ps most none shown count =
-      let bound = matches-bound (insert_entry kept_member_cmp s the_member true) r ps key shown in
-      let more : matches (grouping_in (insert_entry kept_member_cmp s the_member true) r) key ≡ matches (grouping_in s r) key + 1 =
-      ap (number_of (same_key key)) (with-member submit_value the_member true s (absent none)) ∙ number-more (grouping_in s r).submits key key place true none (ap is_eq (tied_itself link_keys_total key)) in
-      omega (arith, bound, more, count)
-
   -- the grouping with one submit less
   pub grouping-less : (i : List (Candidate × Bool)) (o : List (LinkKey × Outlook)) → AreStored s r i o → get (grouping_in s r).submits place ≡ Some key
       → grouping_in (remove_entry (is_at (kept_member_cmp the_member)) s) r ≡ without_submit (grouping_in s r) place
@@ -233,9 +188,3 @@ module _ (s : List (Member × Bool)) (r : List (Member × Said)) (key : LinkKey)
   -- a submit that is there is found by its key and place
   pub is_held : get (grouping_in s r).submits place ≡ Some key → IsSome (lookup (is_at (kept_member_cmp the_member)) s)
   is_held there = ap is_some (held s r [] [] [] key place there).1
-
-  -- a submit that is there counts
-  pub some-match : get (grouping_in s r).submits place ≡ Some key → 1 ≤ matches (grouping_in s r) key
-  some-match there =
-      let one = number-less (grouping_in s r).submits key key place true there (ap is_eq (tied_itself link_keys_total key)) in
-      omega (arith, one)

@@ -31,7 +31,7 @@ use Rattle.smq_group.specs.within.Stored.{grouping_in, receipt_value, is_candida
 use Rattle.smq_group.specs.within.Walked.{first_candidate_after}
 use Rattle.smq_group.proofs.CandidateWalks.{candidates_total}
 use Rattle.smq_group.proofs.Earliest.{HasMore, HasLess, decider_in, is_decided, decider-more, decider-elsewhere, decider-stays, decider-next, own_key, one_key}
-use Rattle.smq_group.proofs.Placing.{at, found, same_place, own_place, with-member, without-member, once-insert, once-remove}
+use Rattle.smq_group.proofs.Placing.{at, found, one_of, same_place, own_place, with-member, without-member, once-insert, once-remove}
 use Rattle.smq_kit.proofs.HashedKeyOrders.{hashed-same}
 
 module _ (key : LinkKey) (place : Place) (said : Said) where
@@ -168,31 +168,24 @@ module _ (s : List (Member × Bool)) (r : List (Member × Said)) (i i' : List (C
   -- ---- one less
 
   -- a receipt that is there is found by its key and place
-  pub receipt-held : (x : Said) → option_map (λ (y : GroupedReceipt). y.key) (get g.receipts place) ≡ Some key → lookup (is_at (kept_member_cmp member)) r ≡ Some x → get g.receipts place ≡ Some (receipt_value key x)
-  receipt-held x k l = by (get g.receipts place) refl k
-    where
-      same_said : (v : Said) → lookup (is_at (kept_member_cmp member)) r ≡ Some v → v ≡ x
-      same_said v e = (let n : Some v ≡ Some x = sym e ∙ l in cc)
-
-      by : (y : Option GroupedReceipt) → get g.receipts place ≡ y → option_map (λ (z : GroupedReceipt). z.key) y ≡ Some key → get g.receipts place ≡ Some (receipt_value key x)
-      by None e n = absurd cc
-      by (Some y) e n =
-          let f = found receipt_value place y r (sym (get-from_entries places_total (map (by_place receipt_value) r) place) ∙ e) in
-          let own : y.key ≡ key = cc in
-          let at_key : f.key ≡ key = ap (λ (z : GroupedReceipt). z.key) f.is ∙ own in
-          let v : f.v ≡ x = same_said f.v (ap (λ (k : LinkKey). lookup (is_at (kept_member_cmp (member_of k place))) r) (sym at_key) ∙ f.there) in
-          e ∙ ap Some (sym f.is) ∙ (λ j. Some (receipt_value (at_key j) (v j)))
-
-  pub receipt-is_held : option_map (λ (y : GroupedReceipt). y.key) (get g.receipts place) ≡ Some key → (v : Said) × (lookup (is_at (kept_member_cmp member)) r ≡ Some v)
+  pub receipt-is_held : option_map (λ (y : GroupedReceipt). y.key) (get g.receipts place) ≡ Some key
+      → (v : Said) × (lookup (is_at (kept_member_cmp member)) r ≡ Some v) × (get g.receipts place ≡ Some (receipt_value key v))
   receipt-is_held k = by (get g.receipts place) refl k
     where
-      by : (y : Option GroupedReceipt) → get g.receipts place ≡ y → option_map (λ (z : GroupedReceipt). z.key) y ≡ Some key → (v : Said) × (lookup (is_at (kept_member_cmp member)) r ≡ Some v)
+      by : (y : Option GroupedReceipt) → get g.receipts place ≡ y → option_map (λ (z : GroupedReceipt). z.key) y ≡ Some key
+          → (v : Said) × (lookup (is_at (kept_member_cmp member)) r ≡ Some v) × (get g.receipts place ≡ Some (receipt_value key v))
       by None e n = absurd cc
       by (Some y) e n =
           let f = found receipt_value place y r (sym (get-from_entries places_total (map (by_place receipt_value) r) place) ∙ e) in
           let own : y.key ≡ key = cc in
-          let at_key : f.key ≡ key = ap (λ (z : GroupedReceipt). z.key) f.is ∙ own in
-          (f.v, ap (λ (k : LinkKey). lookup (is_at (kept_member_cmp (member_of k place))) r) (sym at_key) ∙ f.there)
+          let at_key : f.key ≡ key = ap (λ (z : GroupedReceipt). z.key) f.is ∙ own in (
+            f.v,
+            ap (λ (k : LinkKey). lookup (is_at (kept_member_cmp (member_of k place))) r) (sym at_key) ∙ f.there,
+            e ∙ ap Some (sym f.is) ∙ ap (λ (k : LinkKey). Some (receipt_value k f.v)) at_key,
+          )
+
+  pub receipt-held : (x : Said) → option_map (λ (y : GroupedReceipt). y.key) (get g.receipts place) ≡ Some key → lookup (is_at (kept_member_cmp member)) r ≡ Some x → get g.receipts place ≡ Some (receipt_value key x)
+  receipt-held x k l = let h = receipt-is_held k in h.2 ∙ ap (λ (v : Said). Some (receipt_value key v)) (one_of h.0 x (lookup (is_at (kept_member_cmp member)) r) h.1 l)
 
   -- the grouping with one receipt less
   pub receipt-less : AreStored s r i o → lookup (is_at (kept_member_cmp member)) r ≡ Some said → grouping_in s less ≡ without_receipt g place

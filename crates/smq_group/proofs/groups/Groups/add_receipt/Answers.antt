@@ -1,4 +1,4 @@
-use Rattle.std.proofs.Common.{◌≡◌, None, refl, ap, ◌∙◌, arith}
+use Rattle.std.proofs.Common.{◌≡◌, None, refl, ap, ◌∙◌, arith, Some, true}
 use Rattle.std.specs.FinMap.{get}
 use Rattle.smq_group.specs.declared.changes.Added.TheVariants as put
 use Rattle.smq_group.specs.declared.member.Said.{Said}
@@ -11,7 +11,7 @@ use Rattle.smq_group.proofs.Counting.{counted}
 use Rattle.smq_group.proofs.Moving.{moves-receipt}
 use Rattle.smq_group.proofs.StoringReceipts.{receipt-more, receipt-stored, has-more}
 use Rattle.smq_group.specs.within.Walked.{member_key, vacant_of}
-use Rattle.smq_group.proofs.Vacating.{candidate-filled, counted-at, counted-vacant, member-filled}
+use Rattle.smq_group.proofs.Vacating.{candidate-put, counted-vacant, member-put}
 use Rattle.smq_group.proofs.groups.Groups.add_receipt.Goals as goal
 
 pub tell-requires-clause-counted : goal.tell-requires-clause-counted
@@ -69,11 +69,11 @@ pub returns-in-Ok-clause-touches : goal.returns-in-Ok-clause-touches
 returns-in-Ok-clause-touches c =
     let key = c.new-key.result in
     let said : Said = record { moment = c.args.moment; decides = c.args.decides } in
-    let was = counted-at key (key_on c.args.link c.args.key) c.new-key.ensures c.self.inside.submits.places c.self.inside.receipts.places c.self.inside.candidates.places in
-    let filled = member-filled key key c.args.place said c.self.inside.receipts.places c.put_receipt.new.receipts.places c.in_ok-put_receipt.ensures.places in
+    let was = counted-vacant (key_on c.args.link c.args.key) c.self.inside.submits.places c.self.inside.receipts.places c.self.inside.candidates.places in
+    let filled = member-put key (key_on c.args.link c.args.key) c.args.place (Some said) c.self.inside.receipts.places c.put_receipt.new.receipts.places c.in_ok-put_receipt.ensures.places in
     let looked = c.outlook_of-before.ensures.touches in
     let set = c.in_ok-put_receipt.ensures.touches in
-    let told = c.in-Ok.ensures.touches in
+    let told = rw c.new-key.ensures at c.in-Ok.ensures.touches in
     rw (← c.self.view_is) (omega (arith, was, filled, looked, set, told))
 
 pub returns-in-Ok-clause-vacant : goal.returns-in-Ok-clause-vacant
@@ -82,7 +82,7 @@ returns-in-Ok-clause-vacant c = λ k.
     let said : Said = record { moment = c.args.moment; decides = c.args.decides } in
     let was = counted-vacant k c.self.inside.submits.places c.self.inside.receipts.places c.self.inside.candidates.places in
     let is = counted-vacant k c.tell.new.submits.places c.tell.new.receipts.places c.put_receipt.new.candidates.places in
-    let filled = member-filled key k c.args.place said c.self.inside.receipts.places c.tell.new.receipts.places (c.in-Ok.ensures.receipts.places ∙ c.in_ok-put_receipt.ensures.places) in
-    let candidate = candidate-filled key k c.args.place said c.args.decides c.self.inside.candidates.places c.put_receipt.new.candidates.places c.in_ok-put_receipt.ensures.candidate_places in
+    let filled = member-put key k c.args.place (Some said) c.self.inside.receipts.places c.tell.new.receipts.places (c.in-Ok.ensures.receipts.places ∙ c.in_ok-put_receipt.ensures.places) in
+    let candidate = candidate-put key k c.args.place said c.args.decides (Some true) c.self.inside.candidates.places c.put_receipt.new.candidates.places c.in_ok-put_receipt.ensures.candidate_places in
     let same = ap (vacant_of member_key k) c.in-Ok.ensures.submits.places in
     rw (← c.self.view_is) (omega (arith, was, is, filled, candidate, same))

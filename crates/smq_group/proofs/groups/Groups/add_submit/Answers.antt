@@ -1,9 +1,9 @@
-use Rattle.std.proofs.Common.{◌≡◌, ◌+◌, None, sym, ap, ◌∙◌, subst, arith, true}
+use Rattle.std.proofs.Common.{◌≡◌, ◌+◌, None, sym, ap, ◌∙◌, subst, arith, true, Some}
 use Rattle.std.specs.FinMap.{get}
 use Rattle.smq_shelf.proofs.Changes.{lookup-insert_entry}
 use Rattle.smq_group.specs.declared.outlook.Outlook.{Outlook}
 use Rattle.smq_group.specs.Groups.{GroupsValue, key_on, with_submit}
-use Rattle.smq_group.specs.Matching.{Grouping, matches}
+use Rattle.smq_group.specs.Matching.{Grouping}
 use Rattle.smq_group.specs.declared.changes.Added.TheVariants as put
 use Rattle.smq_group.specs.within.Outlooks.{an_outlook, outlook_at}
 use Rattle.smq_group.specs.within.Stored.{grouping_in, member_of, outlook_in}
@@ -12,19 +12,20 @@ use Rattle.smq_group.proofs.Changing.{Moves}
 use Rattle.smq_group.proofs.Counting.{counted-add}
 use Rattle.smq_group.proofs.Moving.{moves-submit}
 use Rattle.smq_group.proofs.Placing.{members_total}
-use Rattle.smq_group.proofs.Storing.{absent, grouping-more, matches-fit, submit-stored}
+use Rattle.smq_group.proofs.Storing.{absent, grouping-more, submit-stored}
+use Rattle.smq_group.proofs.Walking.{members-fit}
 use Rattle.smq_group.specs.within.Walked.{member_key, vacant_of}
-use Rattle.smq_group.proofs.Vacating.{counted-at, counted-vacant, member-filled}
+use Rattle.smq_group.proofs.Vacating.{counted-vacant, member-put}
 use Rattle.smq_group.proofs.groups.Groups.add_submit.Goals as goal
 
 pub overflow_add-after : goal.overflow_add-after
 overflow_add-after c =
     let none : get (grouping_in c.self.inside.submits.content c.self.inside.receipts.content).submits c.args.place ≡ None = ap (λ (v : GroupsValue). get v.members.submits c.args.place) c.self.view_is ∙ c.requires.absent in
-    let count : c.outlook_of-before.result.matches ≡ matches (grouping_in c.self.inside.submits.content c.self.inside.receipts.content) c.new-key.result =
-    ap (λ (o : Outlook). o.matches) (c.outlook_of-before.ensures.value ∙ c.self.invariant.0.indexed.outlook c.new-key.result) in
-    let fit = matches-fit c.self.inside.submits.content c.self.inside.receipts.content c.new-key.result c.args.place c.set.new.self.places c.place_count-places.result none
-    (rw (← c.copy.ensures) (sym c.in_ok-set.ensures.content) ∙ c.place_count-places.ensures.content) c.place_count-places.ensures.count in
-    omega (arith, fit, count)
+    let more = counted-add c.self.inside.submits.content c.self.inside.receipts.content c.self.inside.candidates.content c.self.inside.outlooks.content c.new-key.result c.outlook_of-before.result
+    c.self.invariant.0 c.outlook_of-before.ensures.value c.args.place c.set.new.self.content none (rw (← c.copy.ensures) c.in_ok-set.ensures.content) in
+    let fit = members-fit c.new-key.result c.set.new.self.places c.set.new.self.content c.place_count-places.ensures.content in
+    let count = c.place_count-places.ensures.count in
+    omega (arith, more, fit, count)
 
 pub tell-requires-clause-counted : goal.tell-requires-clause-counted
 tell-requires-clause-counted c =
@@ -68,17 +69,17 @@ returns-in-Ok-clause-changes c =
 pub returns-in-Ok-clause-touches : goal.returns-in-Ok-clause-touches
 returns-in-Ok-clause-touches c =
     let key = c.new-key.result in
-    let was = counted-at key (key_on c.args.link c.args.key) c.new-key.ensures c.self.inside.submits.places c.self.inside.receipts.places c.self.inside.candidates.places in
-    let filled = member-filled key key c.args.place true c.self.inside.submits.places c.set.new.self.places (rw (← c.copy.ensures) c.in_ok-set.ensures.places) in
+    let was = counted-vacant (key_on c.args.link c.args.key) c.self.inside.submits.places c.self.inside.receipts.places c.self.inside.candidates.places in
+    let filled = member-put key (key_on c.args.link c.args.key) c.args.place (Some true) c.self.inside.submits.places c.set.new.self.places (rw (← c.copy.ensures) c.in_ok-set.ensures.places) in
     let looked = c.outlook_of-before.ensures.touches in
     let set = c.in_ok-set.ensures.touches in
-    let told = c.in-Ok.ensures.touches in
+    let told = rw c.new-key.ensures at c.in-Ok.ensures.touches in
     rw (← c.self.view_is) (omega (arith, was, filled, looked, set, told))
 
 pub returns-in-Ok-clause-vacant : goal.returns-in-Ok-clause-vacant
 returns-in-Ok-clause-vacant c = λ k.
     let was = counted-vacant k c.self.inside.submits.places c.self.inside.receipts.places c.self.inside.candidates.places in
     let is = counted-vacant k c.tell.new.submits.places c.tell.new.receipts.places c.self.inside.candidates.places in
-    let filled = member-filled c.new-key.result k c.args.place true c.self.inside.submits.places c.tell.new.submits.places (rw (← c.copy.ensures) (c.in-Ok.ensures.submits.places ∙ c.in_ok-set.ensures.places)) in
+    let filled = member-put c.new-key.result k c.args.place (Some true) c.self.inside.submits.places c.tell.new.submits.places (rw (← c.copy.ensures) (c.in-Ok.ensures.submits.places ∙ c.in_ok-set.ensures.places)) in
     let same = ap (vacant_of member_key k) c.in-Ok.ensures.receipts.places in
     rw (← c.self.view_is) (omega (arith, was, is, filled, same))

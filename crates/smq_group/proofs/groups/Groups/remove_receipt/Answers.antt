@@ -1,4 +1,4 @@
-use Rattle.std.proofs.Common.{Some, None, refl, sym, ap, ◌∙◌, arith}
+use Rattle.std.proofs.Common.{ℕ, Some, None, refl, sym, ap, ◌∙◌, arith, cond}
 use Rattle.std.specs.Prelude.{◌&&◌, false, is_some, option_map}
 use Rattle.std.specs.FinMap.{get}
 use Rattle.smq_group.specs.declared.changes.Added.TheVariants as put
@@ -15,7 +15,8 @@ use Rattle.smq_kit.specs.LinkKeys.{same_key}
 use Rattle.smq_group.specs.within.Orders.{kept_member_cmp}
 use Rattle.smq_group.specs.within.Stored.{member_of}
 use Rattle.smq_group.specs.within.Walked.{member_key, vacant_of}
-use Rattle.smq_group.proofs.Vacating.{at_most_one, candidate-emptied, counted-at, counted-vacant, member-emptied, one-at, twice}
+use Rattle.smq_group.proofs.Vacating.{at_most_one, candidate-put, counted-vacant, member-put, twice}
+use Rattle.smq_kit.specs.declared.link_key.LinkKey.{LinkKey}
 use Rattle.smq_group.proofs.groups.Groups.remove_receipt.Goals as goal
 
 pub out_receipt-requires-clause-there : goal.out_receipt-requires-clause-there
@@ -119,15 +120,15 @@ pub returns-in-Ok-clause-touches : goal.returns-in-Ok-clause-touches
 returns-in-Ok-clause-touches c =
     let key = c.key_of_link-key.result in
     let said = c.in-Some.said in
-    let was = counted-at key (key_on c.args.link c.args.key.now) c.key_of_link-key.ensures c.self.inside.submits.places c.self.inside.receipts.places c.self.inside.candidates.places in
-    let emptied = member-emptied key key c.args.place c.self.inside.receipts.places c.out_receipt.new.receipts.places (c.in_ok-out_receipt.ensures.places ∙ ap (λ ps. insert_entry kept_member_cmp ps (member_of key c.args.place) None) c.said_at-found.ensures.read.places) in
-    let candidate = candidate-emptied key key c.args.place said said.decides c.self.inside.candidates.places c.out_receipt.new.candidates.places c.in_ok-out_receipt.ensures.candidate_places in
-    let one = at_most_one (same_key key key) in
+    let was = counted-vacant (key_on c.args.link c.args.key.now) c.self.inside.submits.places c.self.inside.receipts.places c.self.inside.candidates.places in
+    let emptied = member-put key (key_on c.args.link c.args.key.now) c.args.place None c.self.inside.receipts.places c.out_receipt.new.receipts.places (c.in_ok-out_receipt.ensures.places ∙ ap (λ ps. insert_entry kept_member_cmp ps (member_of key c.args.place) None) c.said_at-found.ensures.read.places) in
+    let candidate = candidate-put key (key_on c.args.link c.args.key.now) c.args.place said said.decides None c.self.inside.candidates.places c.out_receipt.new.candidates.places c.in_ok-out_receipt.ensures.candidate_places in
+    let one = at_most_one (same_key (key_on c.args.link c.args.key.now) key) in
     let looked = c.outlook_of-before.ensures.touches in
     let read = c.said_at-found.ensures.read.touches in
     let out = c.in_ok-out_receipt.ensures.touches in
-    let next = c.decider_without-decider.ensures.touches in
-    let told = c.in-Ok.ensures.touches in
+    let next = rw c.key_of_link-key.ensures at c.decider_without-decider.ensures.touches in
+    let told = rw c.key_of_link-key.ensures at c.in-Ok.ensures.touches in
     rw (← c.self.view_is) (omega (arith, was, emptied, candidate, one, looked, read, out, next, told))
 
 pub returns-in-Ok-clause-vacant : goal.returns-in-Ok-clause-vacant
@@ -136,10 +137,10 @@ returns-in-Ok-clause-vacant c = λ k.
     let said = c.in-Some.said in
     let was = counted-vacant k c.self.inside.submits.places c.self.inside.receipts.places c.self.inside.candidates.places in
     let is = counted-vacant k c.tell.new.submits.places c.tell.new.receipts.places c.decider_without-decider.new.candidates.places in
-    let emptied = member-emptied key k c.args.place c.self.inside.receipts.places c.tell.new.receipts.places
+    let emptied = member-put key k c.args.place None c.self.inside.receipts.places c.tell.new.receipts.places
     (c.in-Ok.ensures.receipts.places ∙ c.in_ok-out_receipt.ensures.places ∙ ap (λ ps. insert_entry kept_member_cmp ps (member_of key c.args.place) None) c.said_at-found.ensures.read.places) in
-    let candidate = candidate-emptied key k c.args.place said said.decides c.self.inside.candidates.places c.decider_without-decider.new.candidates.places (c.decider_without-decider.ensures.read.places ∙ c.in_ok-out_receipt.ensures.candidate_places) in
+    let candidate = candidate-put key k c.args.place said said.decides None c.self.inside.candidates.places c.decider_without-decider.new.candidates.places (c.decider_without-decider.ensures.read.places ∙ c.in_ok-out_receipt.ensures.candidate_places) in
     let two = twice (same_key k (key_on c.args.link c.args.key.now)) in
-    let share = one-at k key (key_on c.args.link c.args.key.now) c.key_of_link-key.ensures in
+    let share = ap {B = ℕ} (λ (l : LinkKey). cond (same_key k l) 1 0) c.key_of_link-key.ensures in
     let same = ap (vacant_of member_key k) c.in-Ok.ensures.submits.places in
     rw (← c.self.view_is) (omega (arith, was, is, emptied, candidate, two, share, same))

@@ -1,4 +1,4 @@
-use Rattle.std.proofs.Common.{◌≡◌, ◌-◌, Some, refl, sym, ap, ◌∙◌, subst, arith}
+use Rattle.std.proofs.Common.{ℕ, ◌≡◌, ◌-◌, Some, refl, sym, ap, ◌∙◌, subst, arith, None, cond}
 use Rattle.std.specs.FinMap.{get}
 use Rattle.smq_group.specs.declared.outlook.Outlook.{Outlook}
 use Rattle.smq_group.specs.Groups.{GroupsValue, key_on}
@@ -7,13 +7,14 @@ use Rattle.smq_group.specs.declared.changes.Added.TheVariants as put
 use Rattle.smq_group.specs.within.Outlooks.{an_outlook, outlook_at}
 use Rattle.smq_group.specs.within.Stored.{grouping_in, outlook_in}
 use Rattle.smq_group.proofs.Calling.{tells-call}
-use Rattle.smq_group.proofs.Changing.{Moves}
+use Rattle.smq_group.proofs.Changing.{Moves, submit-counts}
 use Rattle.smq_group.proofs.Counting.{counted-remove}
 use Rattle.smq_group.proofs.Moving.{moves-no_submit}
-use Rattle.smq_group.proofs.Storing.{grouping-less, some-match, submit-taken, is_held}
+use Rattle.smq_group.proofs.Storing.{grouping-less, submit-taken, is_held}
 use Rattle.smq_kit.specs.LinkKeys.{same_key}
 use Rattle.smq_group.specs.within.Walked.{member_key, vacant_of}
-use Rattle.smq_group.proofs.Vacating.{at_most_one, counted-at, counted-vacant, member-emptied, one-at}
+use Rattle.smq_group.proofs.Vacating.{at_most_one, counted-vacant, member-put}
+use Rattle.smq_kit.specs.declared.link_key.LinkKey.{LinkKey}
 use Rattle.smq_group.proofs.groups.Groups.remove_submit.Goals as goal
 
 pub overflow_sub-after : goal.overflow_sub-after
@@ -21,7 +22,7 @@ overflow_sub-after c =
     let there : get (grouping_in c.self.inside.submits.content c.self.inside.receipts.content).submits c.args.place ≡ Some (key_on c.args.link c.args.key.now) = ap (λ (v : GroupsValue). get v.members.submits c.args.place) c.self.view_is ∙ c.requires.there in
     let count : c.outlook_of-before.result.matches ≡ matches (grouping_in c.self.inside.submits.content c.self.inside.receipts.content) (key_on c.args.link c.args.key.now) =
     ap (λ (o : Outlook). o.matches) (c.outlook_of-before.ensures.value ∙ ap (λ k. outlook_at k c.self.inside.outlooks.content) c.key_of_link-key.ensures ∙ c.self.invariant.0.indexed.outlook (key_on c.args.link c.args.key.now)) in
-    let some = some-match c.self.inside.submits.content c.self.inside.receipts.content (key_on c.args.link c.args.key.now) c.args.place there in
+    let some = submit-counts (grouping_in c.self.inside.submits.content c.self.inside.receipts.content) (key_on c.args.link c.args.key.now) c.args.place there in
     omega (arith, some, count)
 
 pub tell-requires-clause-counted : goal.tell-requires-clause-counted
@@ -80,12 +81,12 @@ returns-in-Ok-clause-touches c =
     let key = c.key_of_link-key.result in
     let there : get (grouping_in c.self.inside.submits.content c.self.inside.receipts.content).submits c.args.place ≡ Some key = ap (λ (v : GroupsValue). get v.members.submits c.args.place) c.self.view_is ∙ c.requires.there ∙ ap Some (sym c.key_of_link-key.ensures) in
     let held = is_held c.self.inside.submits.content c.self.inside.receipts.content key c.args.place there in
-    let was = counted-at key (key_on c.args.link c.args.key.now) c.key_of_link-key.ensures c.self.inside.submits.places c.self.inside.receipts.places c.self.inside.candidates.places in
-    let emptied = member-emptied key key c.args.place c.self.inside.submits.places c.remove.new.self.places (rw (← c.copy.ensures) (c.in_ok-remove.ensures.places (rw c.copy.ensures held))) in
-    let one = at_most_one (same_key key key) in
+    let was = counted-vacant (key_on c.args.link c.args.key.now) c.self.inside.submits.places c.self.inside.receipts.places c.self.inside.candidates.places in
+    let emptied = member-put key (key_on c.args.link c.args.key.now) c.args.place None c.self.inside.submits.places c.remove.new.self.places (rw (← c.copy.ensures) (c.in_ok-remove.ensures.places (rw c.copy.ensures held))) in
+    let one = at_most_one (same_key (key_on c.args.link c.args.key.now) key) in
     let looked = c.outlook_of-before.ensures.touches in
     let removed = c.in_ok-remove.ensures.touches in
-    let told = c.in-Ok.ensures.touches in
+    let told = rw c.key_of_link-key.ensures at c.in-Ok.ensures.touches in
     rw (← c.self.view_is) (omega (arith, was, emptied, one, looked, removed, told))
 
 pub returns-in-Ok-clause-vacant : goal.returns-in-Ok-clause-vacant
@@ -95,7 +96,7 @@ returns-in-Ok-clause-vacant c = λ k.
     let held = is_held c.self.inside.submits.content c.self.inside.receipts.content key c.args.place there in
     let was = counted-vacant k c.self.inside.submits.places c.self.inside.receipts.places c.self.inside.candidates.places in
     let is = counted-vacant k c.tell.new.submits.places c.tell.new.receipts.places c.self.inside.candidates.places in
-    let emptied = member-emptied key k c.args.place c.self.inside.submits.places c.tell.new.submits.places (c.in-Ok.ensures.submits.places ∙ rw (← c.copy.ensures) (c.in_ok-remove.ensures.places (rw c.copy.ensures held))) in
+    let emptied = member-put key k c.args.place None c.self.inside.submits.places c.tell.new.submits.places (c.in-Ok.ensures.submits.places ∙ rw (← c.copy.ensures) (c.in_ok-remove.ensures.places (rw c.copy.ensures held))) in
     let same = ap (vacant_of member_key k) c.in-Ok.ensures.receipts.places in
-    let share = one-at k key (key_on c.args.link c.args.key.now) c.key_of_link-key.ensures in
+    let share = ap {B = ℕ} (λ (l : LinkKey). cond (same_key k l) 1 0) c.key_of_link-key.ensures in
     rw (← c.self.view_is) (omega (arith, was, is, emptied, same, share))

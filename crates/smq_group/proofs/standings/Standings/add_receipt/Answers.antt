@@ -3,7 +3,7 @@ use Rattle.std.specs.FinMap as fin
 use Rattle.smq_kit.specs.declared.link_key.LinkKey.{LinkKey}
 use Rattle.smq_group.specs.declared.change.Change.{Change}
 use Rattle.smq_group.specs.Changes.{TellsChanges}
-use Rattle.smq_group.specs.Groups.{GroupsValue, vacancies, key_on, receipt_with}
+use Rattle.smq_group.specs.Groups.{GroupsValue, vacancies, receipt_with}
 use Rattle.smq_group.specs.Matching.{Grouping}
 use Rattle.smq_group.specs.within.Standing.{standings_in, with_changes}
 use Rattle.smq_group.proofs.Keeping.{receipt-kept}

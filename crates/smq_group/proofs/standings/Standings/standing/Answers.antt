@@ -1,4 +1,4 @@
-use Rattle.std.proofs.Common.{◌≡◌, sym, ap, ◌∙◌}
+use Rattle.std.proofs.Common.{sym, ap, ◌∙◌}
 use Rattle.smq_group.specs.Groups.{GroupsValue}
 use Rattle.smq_group.specs.Standings.{standing_at}
 use Rattle.smq_kit.proofs.PlaceOrders.{place-order, places_total, places_exact}
