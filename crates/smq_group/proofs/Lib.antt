@@ -18,6 +18,4 @@ pub mod Lawful
 pub mod KnownGroups
 pub mod Keeping
 pub mod SortedKeys
-pub mod LinkFinding
-pub mod LinkWalking
 pub mod Linked

@@ -67,20 +67,17 @@ module _ {K V : Type 0} (key_of : K → LinkKey) where
       ap (λ (fs : List (K × Option V)). map (λ (e : K × Option V). key_of e.0) (filter (λ e. not (is_some e.1)) fs)) is
       ∙ ap (map (λ (e : K × Option V). key_of e.0)) (none_vacant content)
 
-  abbrev counts_of : LinkKey → K × Option V → Bool
-  counts_of k e = same_key k (key_of e.0) && not (is_some e.1)
-
-  keys_at : (k : LinkKey) (m : K) (x : Option V) (es : List (K × Option V)) → count_by (same_key k) (vacant_keys key_of es) ≡ vacant_of key_of k es
-      → count_by (same_key k) (vacant_keys key_of ((m, x) ∷ es)) ≡ vacant_of key_of k ((m, x) ∷ es)
-  keys_at k m None es h =
-      let n = put_first {E = K × Option V} {V = V} (same_key k (key_of m)) None (m, None) (filter (counts_of k) es) in
-      let s = sum_by-cons (λ y. cond (same_key k y) 1 0) (key_of m) (vacant_keys key_of es) in
+  keys_at : (p : LinkKey → Bool) (m : K) (x : Option V) (es : List (K × Option V)) → count_by p (vacant_keys key_of es) ≡ length (filter (λ e. p (key_of e.0) && not (is_some e.1)) es)
+      → count_by p (vacant_keys key_of ((m, x) ∷ es)) ≡ length (filter (λ (e : K × Option V). p (key_of e.0) && not (is_some e.1)) ((m, x) ∷ es))
+  keys_at p m None es h =
+      let n = put_first {E = K × Option V} {V = V} (p (key_of m)) None (m, None) (filter (λ e. p (key_of e.0) && not (is_some e.1)) es) in
+      let s = sum_by-cons (λ y. cond (p y) 1 0) (key_of m) (vacant_keys key_of es) in
       omega (arith, n, s, h)
-  keys_at k m (Some v) es h = let n = put_first {E = K × Option V} (same_key k (key_of m)) (Some v) (m, Some v) (filter (counts_of k) es) in omega (arith, n, h)
+  keys_at p m (Some v) es h = let n = put_first {E = K × Option V} (p (key_of m)) (Some v) (m, Some v) (filter (λ e. p (key_of e.0) && not (is_some e.1)) es) in omega (arith, n, h)
 
-  pub keys-counted : (k : LinkKey) (es : List (K × Option V)) → count_by (same_key k) (vacant_keys key_of es) ≡ vacant_of key_of k es
-  keys-counted k [] = refl
-  keys-counted k (e ∷ es) = keys_at k e.0 e.1 es (keys-counted k es)
+  pub keys-counted : (p : LinkKey → Bool) (es : List (K × Option V)) → count_by p (vacant_keys key_of es) ≡ length (filter (λ e. p (key_of e.0) && not (is_some e.1)) es)
+  keys-counted p [] = refl
+  keys-counted p (e ∷ es) = keys_at p e.0 e.1 es (keys-counted p es)
 
 -- the vacant places of a key in three maps
 pub counted-vacant : (k : LinkKey) (s : List (Member × Option Bool)) (r : List (Member × Option Said)) (i : List (Candidate × Option Bool))
@@ -89,9 +86,9 @@ pub counted-vacant : (k : LinkKey) (s : List (Member × Option Bool)) (r : List 
 counted-vacant k s r i =
     let all = sum_by-append (λ x. cond (same_key k x) 1 0) (vacant_keys member_key s) (vacant_keys member_key r ++ vacant_keys candidate_key i) in
     let rest = sum_by-append (λ x. cond (same_key k x) 1 0) (vacant_keys member_key r) (vacant_keys candidate_key i) in
-    let a = keys-counted member_key k s in
-    let b = keys-counted member_key k r in
-    let c = keys-counted candidate_key k i in
+    let a = keys-counted member_key (same_key k) s in
+    let b = keys-counted member_key (same_key k) r in
+    let c = keys-counted candidate_key (same_key k) i in
     omega (arith, all, rest, a, b, c)
 
 -- ---- in each map, at a member of a key

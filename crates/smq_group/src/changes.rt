@@ -171,7 +171,7 @@ fn tell_submits(
                 push_new_submit(changes, after, added)?;
                 return Ok(());
             }
-            let members = members_of(alloc, submits, key, after.matches)?;
+            let members = members_of(alloc, submits, key, false, after.matches)?;
             push_submits(changes, &members, after)?;
         }
         Turn::Newcomer => push_new_submit(changes, after, added)?,
@@ -215,7 +215,7 @@ fn tell_receipts(
     match turn {
         Turn::Each => {
             let most = receipts.place_count() as u64;
-            let members = members_of(alloc, receipts, key, most)?;
+            let members = members_of(alloc, receipts, key, false, most)?;
             push_receipts(changes, &members, after)?;
         }
         Turn::Deciders => push_deciders(changes, rival_of(before, added), after.decider_place())?,

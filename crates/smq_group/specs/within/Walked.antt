@@ -1,6 +1,5 @@
 -- What a walk over the members of a key meets.
-use Rattle.std.specs.Prelude.{ℕ, Bool, ◌&&◌, not, length, List, [], ◌∷◌, map, filter, Option, Some, None, option_map, is_some, find}
-use Rattle.smq_kit.specs.Orders.{place_cmp}
+use Rattle.std.specs.Prelude.{ℕ, Bool, true, false, ◌==◌, ◌&&◌, not, length, List, [], ◌∷◌, map, filter, Option, Some, None, option_map, is_some, find}
 use Rattle.std.specs.Ordering.{is_lt}
 use Rattle.smq_kit.specs.declared.place.Place.{Place}
 use Rattle.smq_kit.specs.declared.link_key.LinkKey.{LinkKey}
@@ -18,14 +17,18 @@ of_key key e = same_key key e.0.key
 abbrev pub placed : {V : Type 0} → Member × V → Place × V
 placed e = (e.0.place, e.1)
 
--- whether a member is of a key, and past a place
-abbrev pub is_past : {V : Type 0} → LinkKey → Place → Member × V → Bool
-is_past key place e = same_key key e.0.key && is_lt (place_cmp place e.0.place)
+-- whether a second key is of the link of a first, or is that key
+abbrev pub is_like : Bool → LinkKey → LinkKey → Bool
+is_like true key other = other.link.0 == key.link.0
+is_like false key other = same_key key other
 
--- what is left of a walk: the place that was found, and those of the key past it
-abbrev pub left_after : {V : Type 0} → LinkKey → List (Member × Option V) → Option (Place × Option V) → List (Place × Option V)
-left_after key places None = []
-left_after key places (Some found) = found ∷ map placed (filter (is_past key found.0) places)
+-- whether a member is of a key's link, or of the key
+abbrev pub of_part : {V : Type 0} → Bool → LinkKey → Member × V → Bool
+of_part by_link key e = is_like by_link key e.0.key
+
+-- how many of their places are vacant
+abbrev pub vacant_part : {V : Type 0} → Bool → LinkKey → List (Member × Option V) → ℕ
+vacant_part by_link key places = length (filter (λ e. of_part by_link key e && not (is_some e.1)) places)
 
 -- the moment and place of a candidate
 abbrev pub earliest_of : {V : Type 0} → Candidate × V → Earliest

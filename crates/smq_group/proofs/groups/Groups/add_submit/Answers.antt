@@ -1,4 +1,4 @@
-use Rattle.std.proofs.Common.{◌≡◌, ◌+◌, None, sym, ap, ◌∙◌, subst, arith, true, Some}
+use Rattle.std.proofs.Common.{false, ◌≡◌, ◌+◌, None, sym, ap, ◌∙◌, subst, arith, true, Some}
 use Rattle.std.specs.FinMap.{get}
 use Rattle.smq_shelf.proofs.Changes.{lookup-insert_entry}
 use Rattle.smq_group.specs.declared.outlook.Outlook.{Outlook}
@@ -23,7 +23,7 @@ overflow_add-after c =
     let none : get (grouping_in c.self.inside.submits.content c.self.inside.receipts.content).submits c.args.place ≡ None = ap (λ (v : GroupsValue). get v.members.submits c.args.place) c.self.view_is ∙ c.requires.absent in
     let more = counted-add c.self.inside.submits.content c.self.inside.receipts.content c.self.inside.candidates.content c.self.inside.outlooks.content c.new-key.result c.outlook_of-before.result
     c.self.invariant.0 c.outlook_of-before.ensures.value c.args.place c.set.new.self.content none (rw (← c.copy.ensures) c.in_ok-set.ensures.content) in
-    let fit = members-fit c.new-key.result c.set.new.self.places c.set.new.self.content c.place_count-places.ensures.content in
+    let fit = members-fit false c.new-key.result c.set.new.self.places c.set.new.self.content c.place_count-places.ensures.content in
     let count = c.place_count-places.ensures.count in
     omega (arith, more, fit, count)
 
