@@ -129,9 +129,7 @@ module _ (key : LinkKey) (es : List (Candidate × Option Bool)) (so : IsStrictly
   bound_at from c None vs ws true true e h = omega arith
   bound_at from c None vs ws true false e h = omega arith
   bound_at from c (Some v) vs ws true true e h = h
-  bound_at from c (Some v) vs ws true false e h = h
-  bound_at from c None vs ws false t e h = h
-  bound_at from c (Some v) vs ws false t e h = h
+  bound_at from c _ vs ws _ _ e h = h
 
   bound : (from : Earliest) (xs : List (Candidate × Option Bool)) → vacant_left (map met (filter (is_after key from) xs)) ≤ vacant_of candidate_key key xs
   bound from [] = omega arith

@@ -88,14 +88,12 @@ module _ {V W : Type 0} (value : LinkKey → V → W) (key_of : W → LinkKey) (
 -- whether the submit that is put in stands at a place
 abbrev pub is_new_submit : Added → Place → Bool
 is_new_submit (put.Submit p) q = eq_by_cmp place_cmp q p
-is_new_submit (put.Receipt _ _) q = false
-is_new_submit put.Nothing q = false
+is_new_submit _ q = false
 
 -- whether the receipt that is put in can decide, at its place
 abbrev pub new_receipt : Added → Place → Option Bool
-new_receipt (put.Submit _) q = None
 new_receipt (put.Receipt p can) q = cond (eq_by_cmp place_cmp q p) (Some can) None
-new_receipt put.Nothing q = None
+new_receipt _ q = None
 
 -- at a place a submit of the key comes, or what stood there stays or goes
 abbrev pub SubmitMove : LinkKey → Bool → Option LinkKey → Option LinkKey → Type 0
@@ -141,9 +139,8 @@ decider-can g key q t = by (reduce earlier (candidates g key)) refl t
     }
 
 rival_was : (b : Outlook) (added : Added) (q : Place) → is_at_place (rival b added) q ≡ true → is_at_place (decider_of b) q ≡ true
-rival_was b (put.Submit _) q h = absurd (false≢true h)
 rival_was b (put.Receipt _ _) q h = h
-rival_was b put.Nothing q h = absurd (false≢true h)
+rival_was b _ q h = absurd (false≢true h)
 
 -- ---- submits
 
@@ -207,8 +204,7 @@ module _ (g h : Grouping) (key : LinkKey) (added : Added) (moves : Moves g h key
 
   newcomer_at : (a : Added) → told_at q (newcomer_submit after a) ≡ cond (is_new_submit a q) (Some submit_now) None
   newcomer_at (put.Submit p) = refl
-  newcomer_at (put.Receipt _ _) = refl
-  newcomer_at put.Nothing = refl
+  newcomer_at _ = refl
 
   -- ---- receipts
 
@@ -272,13 +268,12 @@ module _ (g h : Grouping) (key : LinkKey) (added : Added) (moves : Moves g h key
       by false s = sym (other_receipt r s)
 
   newcomer_receipt_at : (a : Added) → told_at q (newcomer_receipt after a) ≡ of_newcomer (new_receipt a q)
-  newcomer_receipt_at (put.Submit _) = refl
   newcomer_receipt_at (put.Receipt p can) = by (eq_by_cmp place_cmp q p) refl
     where
       by : (b : Bool) → eq_by_cmp place_cmp q p ≡ b → cond b (Some (receipt_standing_of after p can)) None ≡ of_newcomer (cond b (Some can) None)
       by true t = ap (λ (x : Place). Some (receipt_standing_of after x can)) (sym (same_place q p t))
       by false t = refl
-  newcomer_receipt_at put.Nothing = refl
+  newcomer_receipt_at _ = refl
 
   -- ---- receipts, where another decides
 
@@ -373,15 +368,13 @@ deciders_tell q (Some v) (Some d) h =
         (λ a b. false≢true (sym (h v d refl refl) ∙ own_place v d (sym (same_place q v a) ∙ same_place q d b)))
 
 rival_apart : (b a : Outlook) (added : Added) → same_decider b a ≡ false → (v d : Place) → rival b added ≡ Some v → decider_of a ≡ Some d → eq_by_cmp place_cmp v d ≡ false
-rival_apart b a (put.Submit _) n v d r e = absurd cc
 rival_apart b a (put.Receipt _ _) n v d r e = sym (λ i. same_option (eq_by_cmp place_cmp) (r i) (e i)) ∙ n
-rival_apart b a put.Nothing n v d r e = absurd cc
+rival_apart b a _ n v d r e = absurd cc
 
 -- ---- in the order of places
 
 deciders_sorted : (rival now : Option Place) → ((v d : Place) → rival ≡ Some v → now ≡ Some d → eq_by_cmp place_cmp v d ≡ false) → IsStrictlySortedBy place_cmp (map (λ (c : Change). c.place) (decider_changes rival now))
-deciders_sorted None None h = sorted_none
-deciders_sorted (Some v) None h = sorted_none
+deciders_sorted _ None h = sorted_none
 deciders_sorted None (Some d) h = sorted_one d
 deciders_sorted (Some v) (Some d) h = by (place_cmp d v) refl
   where
@@ -457,14 +450,12 @@ module _ (g : Grouping) (s : List (Member × Bool)) (r : List (Member × Said)) 
   change_places standing (m ∷ ms) = ap (λ (ps : List Place). m.0 ∷ ps) (change_places standing ms)
 
   submits_sorted : (t : Turn) → SubmitsByPlace t (members_in key s) → IsStrictlySortedBy place_cmp (map (λ (c : Change). c.place) (told_submits t a added (members_in key s)))
-  submits_sorted Each so = subst (IsStrictlySortedBy place_cmp) (sym (change_places (λ m. submit_standing_of a) (members_in key s))) so
-  submits_sorted Deciders so = subst (IsStrictlySortedBy place_cmp) (sym (change_places (λ m. submit_standing_of a) (members_in key s))) so
   submits_sorted Newcomer so = by added
     where
       by : (x : Added) → IsStrictlySortedBy place_cmp (map (λ (c : Change). c.place) (newcomer_submit a x))
       by (put.Submit p) = sorted_one p
-      by (put.Receipt _ _) = sorted_none
-      by put.Nothing = sorted_none
+      by _ = sorted_none
+  submits_sorted _ so = subst (IsStrictlySortedBy place_cmp) (sym (change_places (λ m. submit_standing_of a) (members_in key s))) so
 
   receipts_sorted : (t : Turn) → turn_between b a ≡ t → ReceiptsByPlace t (members_in key r) → IsStrictlySortedBy place_cmp (map (λ (c : Change). c.place) (told_receipts t b a added (members_in key r)))
   receipts_sorted Each t so = subst (IsStrictlySortedBy place_cmp) (sym (change_places (λ m. receipt_standing_of a m.0 m.1.decides) (members_in key r))) so
@@ -472,9 +463,8 @@ module _ (g : Grouping) (s : List (Member × Bool)) (r : List (Member × Said)) 
   receipts_sorted Newcomer t so = by added
     where
       by : (x : Added) → IsStrictlySortedBy place_cmp (map (λ (c : Change). c.place) (newcomer_receipt a x))
-      by (put.Submit _) = sorted_none
       by (put.Receipt p _) = sorted_one p
-      by put.Nothing = sorted_none
+      by _ = sorted_none
 
   abbrev told_by : Outlook → Outlook → List Change
   told_by x y = told_submits (turn_between x y) y added (members_in key s) ++ told_receipts (turn_between x y) x y added (members_in key r)

@@ -15,7 +15,7 @@ use Rattle.smq_kit.proofs.PlaceOrders.{places_total}
 use Rattle.smq_group.specs.declared.changes.Added.{Added}
 use Rattle.smq_group.specs.declared.changes.Added.TheVariants as put
 use Rattle.smq_group.specs.declared.changes.Turn.{Turn}
-use Rattle.smq_group.specs.declared.changes.Turn.TheVariants.{Each, Deciders, Newcomer}
+use Rattle.smq_group.specs.declared.changes.Turn.TheVariants.{Newcomer}
 use Rattle.smq_group.specs.declared.member.Member.{Member}
 use Rattle.smq_group.specs.declared.member.Candidate.{Candidate}
 use Rattle.smq_group.specs.declared.member.Said.{Said}
@@ -81,21 +81,17 @@ module _ (t : Turn) (key : LinkKey) (after : Outlook) (es : List (Member × Bool
   alone-told (put.Submit place) there one = by t
     where
       by : (t : Turn) → newcomer_submit after (put.Submit place) ≡ told_submits t after (put.Submit place) (members_in key es)
-      by Each = sym (ap (submit_changes after) (alone place there one))
-      by Deciders = sym (ap (submit_changes after) (alone place there one))
       by Newcomer = refl
-  alone-told (put.Receipt _ _) there one = absurd (false≢true one)
-  alone-told put.Nothing there one = absurd (false≢true one)
+      by _ = sym (ap (submit_changes after) (alone place there one))
+  alone-told _ there one = absurd (false≢true one)
 
   pub alone-by_place : (added : Added) → HoldsAdded key added es → is_alone after added ≡ true → SubmitsByPlace t (members_in key es)
   alone-by_place (put.Submit place) there one = subst (SubmitsByPlace t) (sym (alone place there one)) (by t)
     where
       by : (t : Turn) → SubmitsByPlace t ((place, true) ∷ [])
-      by Each = sorted_one place
-      by Deciders = sorted_one place
       by Newcomer = tt
-  alone-by_place (put.Receipt _ _) there one = absurd (false≢true one)
-  alone-by_place put.Nothing there one = absurd (false≢true one)
+      by _ = sorted_one place
+  alone-by_place _ there one = absurd (false≢true one)
 
 -- ---- how many submits a key has
 

@@ -37,8 +37,7 @@ key_less Greater s h e = absurd (false≢true h)
 
 pub le_of_lt : (r : Ordering) → is_lt r ≡ true → is_le r ≡ true
 le_of_lt Less h = refl
-le_of_lt Equal h = absurd (false≢true h)
-le_of_lt Greater h = absurd (false≢true h)
+le_of_lt _ h = absurd (false≢true h)
 
 less_on : (a b c : LinkKey) (r s : Ordering) → hashed_key_cmp b c ≡ r → hashed_key_cmp a b ≡ Less → ordering_then r s ≡ Less → hashed_key_cmp a c ≡ Less
 less_on a b c Less s e l h = hashed_keys_total.trans a b c l e
@@ -59,9 +58,8 @@ rises_at : (m n : ℕ) (r s : Ordering) → is_le (ordering_then (ordering_then 
 rises_at m n r s h = by (nat_cmp m n) refl
   where
     by : (o : Ordering) → nat_cmp m n ≡ o → m ≤ n
-    by Less e = let f = ranked m n Less (sym e) in omega (arith, f)
-    by Equal e = let f = ranked m n Equal (sym e) in omega (arith, f)
     by Greater e = absurd (false≢true (sym (ap (λ o. is_le (ordering_then (ordering_then o r) s)) e) ∙ h))
+    by o e = let f = ranked m n o (sym e) in omega (arith, f)
 
 link-rises : (k j : Member) → is_le (kept_member_cmp k j) ≡ true → k.key.link.0 ≤ j.key.link.0
 link-rises k j h = rises_at k.key.link.0 j.key.link.0 (ordering_then (nat_cmp (hash_of k.key.key) (hash_of j.key.key)) ((key_ord.ghosts).cmp k.key.key j.key.key)) (kept_place_cmp k.place j.place) h

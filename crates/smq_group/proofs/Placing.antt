@@ -58,9 +58,7 @@ sorted_two p q l = ((l, tt), (tt, tt))
 -- of two tests that don't both pass, either may be asked first
 pub swapped : {A : Type 0} (a b : Bool) (x y z : Option A) → (a ≡ true → b ≡ true → ⊥) → cond a x (cond b y z) ≡ cond b y (cond a x z)
 swapped true true x y z h = absurd (h refl refl)
-swapped true false x y z h = refl
-swapped false true x y z h = refl
-swapped false false x y z h = refl
+swapped _ _ x y z h = refl
 
 -- the order by which maps of std compare places
 pub kept_places_total : IsTotalOrder kept_place_cmp

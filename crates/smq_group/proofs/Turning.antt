@@ -44,11 +44,8 @@ abbrev pub by_tests : Bool → Bool → Bool → Bool → Standing
 by_tests none one decides can = cond none Stray (cond (not one) Shared (cond decides Deciding (cond can Extra Noted)))
 
 told_tests : (z u d c : Bool) → told_of_receipt (cond z m.Stray (cond (not u) m.KeyShared (cond d m.Deciding (cond c m.Extra m.Noted)))) ≡ by_tests z u d c
-told_tests true u d c = refl
-told_tests false false d c = refl
-told_tests false true true c = refl
 told_tests false true false true = refl
-told_tests false true false false = refl
+told_tests _ _ _ _ = refl
 
 pub told-receipt : (g : Grouping) (place : Place) (r : GroupedReceipt) → told_of_receipt (receipt_standing g place r) ≡ receipt_standing_of (outlook_in g r.key) place r.decides
 told-receipt g place r =

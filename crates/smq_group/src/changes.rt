@@ -73,39 +73,6 @@ pub(crate) fn tell(
     ensures settled { outlooks.new.settled ≡ outlooks.old.settled }
     ensures counted { outlooks.old.touches ≤ outlooks.new.touches }
 {
-    let changes = changes_of_key(alloc, submits, receipts, key, before, after, added)?;
-    keep_outlook(outlooks, key, after.matches, after.decider)?;
-    Ok(changes)
-}
-
-// The changes of a key's members: those of submits, then those of receipts.
-fn changes_of_key(
-    alloc: Global,
-    submits: &mut Kept<Member, bool>,
-    receipts: &mut Kept<Member, Said>,
-    key: &HashedKey,
-    before: &Outlook,
-    after: &Outlook,
-    added: Added,
-) -> Result<Vec<Change>, AllocError>
-    requires counted { after.now.matches ≡ length (members_in key.now submits.old.content) }
-    requires added { HoldsAdded key.now added submits.old.content }
-    ensures submits { Stays submits.old submits.new }
-    ensures receipts { Stays receipts.old receipts.new }
-    ensures told { IfOk result (λ changes. changes.items
-        ≡ told_submits (turn_between before.now after.now) after.now added
-        (members_in key.now submits.old.content)
-        ++ told_receipts (turn_between before.now after.now) before.now after.now added
-        (members_in key.now receipts.old.content)) }
-    ensures submits_by_place { OnOk result (SubmitsByPlace (turn_between before.now after.now)
-        (members_in key.now submits.old.content)) }
-    ensures receipts_by_place { OnOk result (ReceiptsByPlace (turn_between before.now after.now)
-        (members_in key.now receipts.old.content)) }
-    ensures touches { IfOk result (λ changes. submits.new.touches + receipts.new.touches
-        ≤ submits.old.touches + receipts.old.touches + 2
-        + vacant_of member_key key.now submits.old.places
-        + vacant_of member_key key.now receipts.old.places + length changes.items) }
-{
     let turn = turn_of(before, after);
     let mut changes = Vec::new(alloc);
     tell_submits(&mut changes, alloc, submits, key, after, turn, added)?;
@@ -119,6 +86,7 @@ fn changes_of_key(
         turn,
         added,
     )?;
+    keep_outlook(outlooks, key, after.matches, after.decider)?;
     Ok(changes)
 }
 
@@ -185,8 +153,7 @@ fn is_alone(after: &Outlook, added: Added) -> bool
 {
     match added {
         Added::Submit(_) => after.matches == 1,
-        Added::Receipt(_, _) => false,
-        Added::Nothing => false,
+        _ => false,
     }
 }
 

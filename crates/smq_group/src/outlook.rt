@@ -72,10 +72,7 @@ impl Outlook {
         if self.matches != 1 {
             return Standing::Shared;
         }
-        match &self.decider {
-            Some(earliest) => Standing::Single(Some(earliest.place)),
-            None => Standing::Single(None),
-        }
+        Standing::Single(self.decider_place())
     }
 
     /// The standing of a receipt of the group.

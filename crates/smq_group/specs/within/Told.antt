@@ -53,32 +53,27 @@ receipt_changes o members = map (λ m. change_at m.0 (receipt_standing_of o m.0 
 -- the change of the submit that is put in, if one is
 abbrev pub newcomer_submit : Outlook → Added → List Change
 newcomer_submit o (put.Submit place) = change_at place (submit_standing_of o) ∷ []
-newcomer_submit o (put.Receipt _ _) = []
-newcomer_submit o put.Nothing = []
+newcomer_submit o _ = []
 
 -- the submit that is put in, if one is, is a member of the key
 abbrev pub HoldsAdded : LinkKey → Added → List (Member × Bool) → Type 0
 HoldsAdded key (put.Submit place) es = lookup (is_at (kept_member_cmp (member_of key place))) es ≡ Some true
-HoldsAdded key (put.Receipt _ _) es = ⊤
-HoldsAdded key put.Nothing es = ⊤
+HoldsAdded key _ es = ⊤
 
 -- whether a submit is put in, and is the only one
 abbrev pub is_alone : Outlook → Added → Bool
 is_alone after (put.Submit _) = after.matches == 1
-is_alone after (put.Receipt _ _) = false
-is_alone after put.Nothing = false
+is_alone after _ = false
 
 -- the change of the receipt that is put in, if one is
 abbrev pub newcomer_receipt : Outlook → Added → List Change
-newcomer_receipt o (put.Submit _) = []
 newcomer_receipt o (put.Receipt place decides) = change_at place (receipt_standing_of o place decides) ∷ []
-newcomer_receipt o put.Nothing = []
+newcomer_receipt o _ = []
 
 -- the receipt that decided, where it is there still: where another is put in
 abbrev pub rival : Outlook → Added → Option Place
-rival before (put.Submit _) = None
 rival before (put.Receipt _ _) = decider_of before
-rival before put.Nothing = None
+rival before _ = None
 
 -- the receipt that decided, where it is there still, and the one that decides, by place
 abbrev pub decider_changes : Option Place → Option Place → List Change
@@ -89,9 +84,8 @@ decider_changes (Some r) (Some d) =
 
 -- the changes that are told of submits
 abbrev pub told_submits : Turn → Outlook → Added → List (Place × Bool) → List Change
-told_submits Each after added members = submit_changes after members
-told_submits Deciders after added members = submit_changes after members
 told_submits Newcomer after added members = newcomer_submit after added
+told_submits _ after added members = submit_changes after members
 
 -- the changes that are told of receipts
 abbrev pub told_receipts : Turn → Outlook → Outlook → Added → List (Place × Said) → List Change
@@ -101,12 +95,10 @@ told_receipts Newcomer before after added members = newcomer_receipt after added
 
 -- the submits that are told stand by place, where each is told
 abbrev pub SubmitsByPlace : Turn → List (Place × Bool) → Type 0
-SubmitsByPlace Each members = IsStrictlySortedBy place_cmp (keys_of members)
-SubmitsByPlace Deciders members = IsStrictlySortedBy place_cmp (keys_of members)
 SubmitsByPlace Newcomer members = ⊤
+SubmitsByPlace _ members = IsStrictlySortedBy place_cmp (keys_of members)
 
 -- and so do the receipts
 abbrev pub ReceiptsByPlace : Turn → List (Place × Said) → Type 0
 ReceiptsByPlace Each members = IsStrictlySortedBy place_cmp (keys_of members)
-ReceiptsByPlace Deciders members = ⊤
-ReceiptsByPlace Newcomer members = ⊤
+ReceiptsByPlace _ members = ⊤
