@@ -25,6 +25,7 @@ use Rattle.smq_kit.proofs.PlaceOrders.{place-order, places_total, places_exact}
 use Rattle.smq_kit.proofs.LinkKeyOrders.{link_keys_total, link_keys_exact}
 use Rattle.smq_kit.proofs.Comparisons.{is_equal, then_first, then_second}
 use Rattle.smq_kit.proofs.MapLemmas as maps
+use Rattle.smq_shelf.specs.Walks.{stands_after}
 use Rattle.smq_shelf.proofs.Walks.{both, found-passes, less}
 use Rattle.smq_group.specs.Matching as m
 use Rattle.smq_group.specs.Matching.{Grouping, GroupedReceipt, CanDecide, candidates, candidate_cmp, earlier}
@@ -34,7 +35,7 @@ use Rattle.smq_group.specs.within.KeyLaws.{one_candidate}
 use Rattle.smq_group.specs.within.Orders.{kept_candidate_cmp}
 use Rattle.smq_group.specs.within.Outlooks.{is_before}
 use Rattle.smq_group.specs.within.Stored.{earliest_at, is_candidate}
-use Rattle.smq_group.specs.within.Walked.{earliest_of, is_after, first_candidate_after}
+use Rattle.smq_group.specs.within.Walked.{candidate_at, earliest_of, first_candidate_after, of_candidate}
 use Rattle.smq_group.proofs.CandidateWalks.{candidates_total}
 use Rattle.smq_group.proofs.Least.{least-found, reduce-all}
 use Rattle.smq_kit.proofs.HashedKeyOrders.{hashed_keys_total}
@@ -274,16 +275,21 @@ module _ (g h : Grouping) (place : Place) (r : GroupedReceipt) (less : HasLess g
       less_of Equal n e = absurd (e refl)
       less_of Greater n e = absurd (false≢true (sym n))
 
+      abbrev following : Candidate × Bool → Bool
+      following e = stands_after kept_candidate_cmp (of_candidate key) (candidate_at key from) e
+
       -- each that can decide comes after the one that did
-      comes_after : (moment : ℕ) (p : Place) → CanDecide h key moment p → is_lt (candidate_cmp (r.moment, place) (moment, p)) ≡ true
+      comes_after : (moment : ℕ) (p : Place) → CanDecide h key moment p → is_lt (kept_candidate_cmp (candidate_at key from) (in_index key (moment, p))) ≡ true
       comes_after moment p c =
           let before = left_can moment p (eq_by_cmp place_cmp p place) refl c in
-          less_of (candidate_cmp (r.moment, place) (moment, p)) (f.1 moment p before.0)
+          ap (λ o. is_lt (ordering_then o (ordering_then (nat_cmp r.moment moment) (kept_place_cmp place p)))) (tied_itself hashed_keys_total key)
+          ∙ (λ i. is_lt (ordering_then (nat_cmp r.moment moment) (place-order i place p)))
+          ∙ less_of (candidate_cmp (r.moment, place) (moment, p)) (f.1 moment p before.0)
           (λ e. false≢true (sym before.1 ∙ own_place p place (sym (ap (λ (x : m.Candidate). x.1) (pairs_exact (r.moment, place) (moment, p) e)))))
 
-      later : (moment : ℕ) (p : Place) → CanDecide h key moment p → FindsUpTo candidates_total (is_after key from) index (in_index key (moment, p))
-      later moment p c = finds candidates_total one_candidate (is_after key from) index (in_index key (moment, p)) true so (in_indexed moment p c)
-          ((λ i. own_key key i && comes_after moment p c i))
+      later : (moment : ℕ) (p : Place) → CanDecide h key moment p → FindsUpTo candidates_total following index (in_index key (moment, p))
+      later moment p c = finds candidates_total one_candidate following index (in_index key (moment, p)) true so (in_indexed moment p c)
+          ((λ i. comes_after moment p c i && own_key key i))
 
       by_pair : (c : Candidate) (moment : ℕ) (p : Place) → same_key key c.key ≡ true → is_gt (kept_candidate_cmp c (in_index key (moment, p))) ≡ false → is_gt (candidate_cmp (c.moment, c.place) (moment, p)) ≡ false
       by_pair c moment p s n =
@@ -291,19 +297,19 @@ module _ (g h : Grouping) (place : Place) (r : GroupedReceipt) (less : HasLess g
           let tied : hashed_key_cmp c.key key ≡ Equal = ap (hashed_key_cmp c.key) same ∙ tied_itself hashed_keys_total c.key in
           sym (ap (λ o. is_gt (ordering_then o (ordering_then (nat_cmp c.moment moment) (kept_place_cmp c.place p)))) tied ∙ (λ i. is_gt (ordering_then (nat_cmp c.moment moment) (place-order i c.place p)))) ∙ n
 
-      next_by : (y : Option (Candidate × Bool)) → find (is_after key from) index ≡ y → IsFirst h key (option_map pair_of (option_map earliest_of y))
-      next_by None e = λ moment p c. (let at = later moment p c in not_none at.at (find (is_after key from) index) e at.is)
+      next_by : (y : Option (Candidate × Bool)) → find following index ≡ y → IsFirst h key (option_map pair_of (option_map earliest_of y))
+      next_by None e = λ moment p c. (let at = later moment p c in not_none at.at (find following index) e at.is)
       next_by (Some x) e =
-          let own : same_key key x.0.key ≡ true = (both (same_key key x.0.key) (is_lt (candidate_cmp (r.moment, place) (x.0.moment, x.0.place))) (found-passes (is_after key from) index x e)).0 in (
-            from_index x.0 (get h.receipts x.0.place) x.1 own refl (sym (indexed x.0) ∙ found-there candidates_total (is_after key from) index x so e),
+          let own : same_key key x.0.key ≡ true = (both (is_lt (kept_candidate_cmp (candidate_at key from) x.0)) (same_key key x.0.key) (found-passes following index x e)).1 in (
+            from_index x.0 (get h.receipts x.0.place) x.1 own refl (sym (indexed x.0) ∙ found-there candidates_total following index x so e),
             λ moment p c. (let at = later moment p c in
-                let same : at.at ≡ x = one_of at.at x (find (is_after key from) index) at.is e in
+                let same : at.at ≡ x = one_of at.at x (find following index) at.is e in
                 by_pair x.0 moment p own (ap (λ (z : Candidate × Bool). is_gt (kept_candidate_cmp z.0 (in_index key (moment, p)))) (sym same) ∙ at.up_to)),
           )
 
       -- after the one that decided is taken out, the next candidate of the index is the earliest
       pub less-next : IsFirst h key (option_map pair_of (first_candidate_after key from index))
-      less-next = next_by (find (is_after key from) index) refl
+      less-next = next_by (find following index) refl
 
 -- ---- the deciding receipt of each key's outlook
 

@@ -1,13 +1,13 @@
 -- What a walk over the members of a key meets.
-use Rattle.std.specs.Prelude.{ℕ, Bool, true, false, ◌==◌, ◌&&◌, not, length, List, [], ◌∷◌, map, filter, Option, Some, None, option_map, is_some, find}
-use Rattle.std.specs.Ordering.{is_lt}
+use Rattle.std.specs.Prelude.{ℕ, Bool, true, false, ◌==◌, ◌&&◌, not, length, List, map, filter, Option, option_map, is_some, find}
 use Rattle.smq_kit.specs.declared.place.Place.{Place}
 use Rattle.smq_kit.specs.declared.link_key.LinkKey.{LinkKey}
 use Rattle.smq_kit.specs.LinkKeys.{same_key}
+use Rattle.smq_shelf.specs.Walks.{stands_after}
 use Rattle.smq_group.specs.declared.member.Member.{Member}
 use Rattle.smq_group.specs.declared.member.Candidate.{Candidate}
 use Rattle.smq_group.specs.declared.outlook.Earliest.{Earliest}
-use Rattle.smq_group.specs.Matching.{candidate_cmp}
+use Rattle.smq_group.specs.within.Orders.{kept_candidate_cmp}
 
 -- whether a member is of a key
 abbrev pub of_key : {V : Type 0} → LinkKey → Member × V → Bool
@@ -34,26 +34,21 @@ vacant_part by_link key places = length (filter (λ e. of_part by_link key e && 
 abbrev pub earliest_of : {V : Type 0} → Candidate × V → Earliest
 earliest_of e = record { moment = e.0.moment; place = e.0.place }
 
--- a candidate's place, as a walk meets it: its moment and place, and whether it isn't vacant
-abbrev pub met : Candidate × Option Bool → Earliest × Bool
-met e = (earliest_of e, is_some e.1)
+-- whether a candidate is of a key
+abbrev pub of_candidate : {V : Type 0} → LinkKey → Candidate × V → Bool
+of_candidate key e = same_key key e.0.key
 
--- whether a candidate is of a key, and after a moment and place
-abbrev pub is_after : {V : Type 0} → LinkKey → Earliest → Candidate × V → Bool
-is_after key from e = same_key key e.0.key && is_lt (candidate_cmp (from.moment, from.place) (e.0.moment, e.0.place))
+-- a candidate of a key, by its moment and place
+abbrev pub candidate_at : LinkKey → Earliest → Candidate
+candidate_at key from = record { key = key; moment = from.moment; place = from.place }
 
 -- the first candidate of a key after a moment and place
 abbrev pub first_candidate_after : LinkKey → Earliest → List (Candidate × Bool) → Option Earliest
-first_candidate_after key from es = option_map earliest_of (find (is_after key from) es)
+first_candidate_after key from es = option_map earliest_of (find (stands_after kept_candidate_cmp (of_candidate key) (candidate_at key from)) es)
 
--- the places that a walk has left: the one that was found, and those of the key after it
-abbrev pub candidates_left : LinkKey → List (Candidate × Option Bool) → Option (Earliest × Bool) → List (Earliest × Bool)
-candidates_left key places None = []
-candidates_left key places (Some found) = found ∷ map met (filter (is_after key found.0) places)
-
--- the first of them that isn't vacant
-abbrev pub first_there : List (Earliest × Bool) → Option Earliest
-first_there left = option_map (λ m. m.0) (find (λ m. m.1) left)
+-- the first of the places that a walk has left that isn't vacant
+abbrev pub first_there : List (Candidate × Option Bool) → Option Earliest
+first_there left = option_map earliest_of (find (λ e. is_some e.1) left)
 
 -- how many places of a key are vacant
 abbrev pub vacant_of : {K V : Type 0} → (K → LinkKey) → LinkKey → List (K × Option V) → ℕ
@@ -71,5 +66,5 @@ abbrev pub candidate_key : Candidate → LinkKey
 candidate_key c = c.key
 
 -- how many of the places that a walk has left are vacant
-abbrev pub vacant_left : List (Earliest × Bool) → ℕ
-vacant_left left = length (filter (λ m. not m.1) left)
+abbrev pub vacant_left : List (Candidate × Option Bool) → ℕ
+vacant_left left = length (filter (λ e. not (is_some e.1)) left)

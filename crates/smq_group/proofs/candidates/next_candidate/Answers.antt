@@ -1,22 +1,35 @@
-use Rattle.std.proofs.Common.{sym, ap, ◌∙◌, arith, find}
-use Rattle.std.specs.Prelude.{Bool, Option, option_map}
+use Rattle.std.proofs.Common.{◌≡◌, true, sym, ap, ◌∙◌, arith, find, subst}
+use Rattle.std.specs.Prelude.{IfSome}
+use Rattle.smq_kit.specs.declared.link_key.LinkKey.{LinkKey}
+use Rattle.smq_kit.specs.LinkKeys.{same_key}
+use Rattle.smq_shelf.specs.Walks.{left_above, stands_after}
 use Rattle.smq_shelf.proofs.Changes.{content_ordered}
-use Rattle.smq_group.specs.declared.outlook.Earliest.{Earliest}
-use Rattle.smq_group.specs.within.Walked.{candidates_left, first_candidate_after, first_there, is_after, met}
-use Rattle.smq_group.proofs.CandidateWalks.{candidates_total, left-start, left-more, left-there, left-shorter, left-vacant, left-bound}
+use Rattle.smq_shelf.proofs.Walks.{step-length}
+use Rattle.smq_group.specs.within.Orders.{kept_candidate_cmp}
+use Rattle.smq_group.specs.within.Walked.{candidate_at, first_candidate_after, first_there, of_candidate}
+use Rattle.smq_group.proofs.CandidateWalks.{candidates_total, found-own, left-start, left-more, left-there, left-vacant, left-bound}
+use Rattle.smq_group.proofs.Earliest.{own_key}
 use Rattle.smq_group.proofs.candidates.next_candidate.Goals as goal
+
+pub place_after-next-requires : goal.place_after-next-requires
+place_after-next-requires c = ap (λ (k : LinkKey). same_key c.args.key.now k) c.copy.ensures ∙ own_key c.args.key.now
+
+pub place_after-next-requires-in-Some : goal.place_after-next-requires-in-Some
+place_after-next-requires-in-Some c = subst (λ o. IfSome o (λ e. same_key c.args.key.now e.0.key ≡ true)) c.in-Some.is c.loop-next.invariant.own
 
 pub loop-next-init : goal.loop-next-init
 loop-next-init c =
     let key = c.args.key.now in
     let places = c.args.candidates.now.places in
     let so = c.place_after-next.ensures.ordered in
-    let vacant = left-bound key places so c.args.from c.place_after-next.result c.place_after-next.ensures.value in
+    let value = c.place_after-next.ensures.value ∙ ap (λ (k : LinkKey). find (stands_after kept_candidate_cmp (of_candidate key) (candidate_at k c.args.from)) places) c.copy.ensures in
+    let vacant = left-bound key places so (candidate_at key c.args.from) c.place_after-next.result value in
     let touches = c.place_after-next.ensures.touches in
     record {
       read = c.place_after-next.ensures.read;
-      left = ap (first_candidate_after key c.args.from) c.place_after-next.ensures.content ∙ left-start key places so c.args.from c.place_after-next.result c.place_after-next.ensures.value;
+      left = ap (first_candidate_after key c.args.from) c.place_after-next.ensures.content ∙ left-start key places so c.args.from c.place_after-next.result value;
       touches = omega (arith, vacant, touches);
+      own = found-own key (candidate_at key c.args.from) places c.place_after-next.result value;
     }
 
 pub loop-next-preserved : goal.loop-next-preserved
@@ -24,8 +37,9 @@ loop-next-preserved c =
     let key = c.args.key.now in
     let places = c.args.candidates.now.places in
     let so = c.place_after-next.ensures.ordered in
-    let value = c.place_after-next-in-Some.ensures.value ∙ ap (λ es. option_map met (find (is_after key c.in-Some.earliest) es)) c.loop-next.invariant.read.places in
-    let vacant = left-vacant key places so c.in-Some.earliest c.in-Some.is_there c.loop-next.next c.place_after-next-in-Some.result c.in-Some.is c.if-is_there.false value in
+    let value = c.place_after-next-in-Some.ensures.value ∙ ap (λ es. find (stands_after kept_candidate_cmp (of_candidate key) c.in-Some.candidate) es) c.loop-next.invariant.read.places in
+    let none = sym c.is_some.ensures ∙ c.if-is_some.false in
+    let vacant = left-vacant key places so c.in-Some.candidate c.in-Some.value c.loop-next.next c.place_after-next-in-Some.result c.in-Some.is none value in
     let touches = c.place_after-next-in-Some.ensures.touches in
     let before = c.loop-next.invariant.touches in
     record {
@@ -37,24 +51,26 @@ loop-next-preserved c =
         pending = c.place_after-next-in-Some.ensures.read.pending ∙ c.loop-next.invariant.read.pending;
         counted = (let a = c.place_after-next-in-Some.ensures.read.counted in let b = c.loop-next.invariant.read.counted in omega (arith, a, b));
       };
-      left = left-more key places so (first_candidate_after key c.args.from c.args.candidates.now.content) c.in-Some.earliest c.in-Some.is_there c.loop-next.next c.place_after-next-in-Some.result
-          c.loop-next.invariant.left c.in-Some.is c.if-is_there.false value;
+      left = left-more key places so (first_candidate_after key c.args.from c.args.candidates.now.content) c.in-Some.candidate c.in-Some.value c.loop-next.next c.place_after-next-in-Some.result
+          c.loop-next.invariant.left c.in-Some.is none value;
       touches = omega (arith, vacant, touches, before);
+      own = found-own key c.in-Some.candidate places c.place_after-next-in-Some.result value;
     }
 
 pub loop-next-smaller : goal.loop-next-smaller
 loop-next-smaller c =
-    let key = c.args.key.now in
-    let value = c.place_after-next-in-Some.ensures.value ∙ ap (λ es. option_map met (find (is_after key c.in-Some.earliest) es)) c.loop-next.invariant.read.places in
-    left-shorter key c.args.candidates.now.places c.place_after-next.ensures.ordered c.in-Some.earliest c.in-Some.is_there c.loop-next.next c.place_after-next-in-Some.result c.in-Some.is value
+    let of = of_candidate c.args.key.now in
+    let value = c.place_after-next-in-Some.ensures.value ∙ ap (λ es. find (stands_after kept_candidate_cmp of c.in-Some.candidate) es) c.loop-next.invariant.read.places in
+    let left = step-length candidates_total of c.args.candidates.now.places c.place_after-next.ensures.ordered (c.in-Some.candidate, c.in-Some.value) c.loop-next.next c.place_after-next-in-Some.result c.in-Some.is value in
+    omega (arith, left)
 
-pub returns-then-is_there-clause-value : goal.returns-then-is_there-clause-value
-returns-then-is_there-clause-value c =
+pub returns-then-is_some-clause-value : goal.returns-then-is_some-clause-value
+returns-then-is_some-clause-value c =
     sym (left-there c.args.key.now c.args.candidates.now.places c.place_after-next.ensures.ordered (first_candidate_after c.args.key.now c.args.from c.args.candidates.now.content)
-    c.in-Some.earliest c.in-Some.is_there c.loop-next.next c.loop-next.invariant.left c.in-Some.is c.if-is_there.true)
+    c.in-Some.candidate c.in-Some.value c.loop-next.next c.loop-next.invariant.left c.in-Some.is (sym c.is_some.ensures ∙ c.if-is_some.true))
 
-pub returns-then-is_there-clause-ordered : goal.returns-then-is_there-clause-ordered
-returns-then-is_there-clause-ordered c =
+pub returns-then-is_some-clause-ordered : goal.returns-then-is_some-clause-ordered
+returns-then-is_some-clause-ordered c =
     rw c.place_after-next.ensures.content (content_ordered candidates_total c.args.candidates.now.places c.place_after-next.ensures.ordered)
 
 pub returns-clause-ordered : goal.returns-clause-ordered
@@ -63,4 +79,4 @@ returns-clause-ordered c =
 
 pub returns-clause-value : goal.returns-clause-value
 returns-clause-value c =
-    sym (c.loop-next.invariant.left ∙ ap (λ (n : Option (Earliest × Bool)). first_there (candidates_left c.args.key.now c.args.candidates.now.places n)) c.in_default.is)
+    sym (c.loop-next.invariant.left ∙ ap (λ n. first_there (left_above kept_candidate_cmp (of_candidate c.args.key.now) c.args.candidates.now.places n)) c.in_default.is)
