@@ -1,6 +1,6 @@
 -- The candidates of a key: a look-up of the next place, and a walk to the first that isn't vacant.
 use Rattle.std.proofs.Common.{◌≡◌, ◌≤◌, ◌+◌, arith, length, Bool, true, false, cond, List, [], ◌∷◌, Option, Some, None, refl, sym, ap, ◌∙◌, filter, find}
-use Rattle.std.specs.Prelude.{◌&&◌, not, option_map, is_some, IfSome}
+use Rattle.std.specs.Prelude.{◌&&◌, not, option_map, is_some}
 use Rattle.std.specs.Ordering.{is_lt, nat_cmp, ordering_then}
 use Rattle.std.specs.Cmp.{IsTotalOrder}
 use Rattle.std.proofs.lemmas.Cmp.{on_total, then_total, nat_cmp_total}
@@ -14,7 +14,7 @@ use Rattle.smq_shelf.specs.Places.{content_of, with_place}
 use Rattle.smq_shelf.specs.Walks.{left_above, stands_after}
 use Rattle.smq_shelf.proofs.Finds.{filter_same}
 use mathlib.Core.Bool.{and_comm}
-use Rattle.smq_shelf.proofs.Walks.{Narrows, after-rises, both, found-passes, left-found}
+use Rattle.smq_shelf.proofs.Walks.{Narrows, after-rises, left-found}
 use Rattle.smq_kit.specs.Orders.{kept_place_cmp}
 use Rattle.smq_group.specs.declared.member.Candidate.{Candidate}
 use Rattle.smq_group.specs.declared.outlook.Earliest.{Earliest}
@@ -38,11 +38,6 @@ module _ {V : Type 0} (key : LinkKey) where
             (ordering_then (nat_cmp after.moment e.0.moment) (kept_place_cmp after.place e.0.place)) (ordering_then (nat_cmp e.0.moment f.0.moment) (kept_place_cmp e.0.place f.0.place))
             (le_of_lt (kept_candidate_cmp after e.0) h) (ap (λ (k : LinkKey). same_key k e.0.key) (sym same) ∙ n) l;
       }
-
-  -- what a walk finds is of the key
-  pub found-own : (after : Candidate) (es : List (Candidate × V)) (next : Option (Candidate × V)) → next ≡ find (stands_after kept_candidate_cmp (of_candidate key) after) es → IfSome next (λ e. same_key key e.0.key ≡ true)
-  found-own after es None h = tt
-  found-own after es (Some e) h = (both (is_lt (kept_candidate_cmp after e.0)) (same_key key e.0.key) (found-passes (stands_after kept_candidate_cmp (of_candidate key) after) es e (sym h))).1
 
 -- ---- the walk
 

@@ -4,7 +4,7 @@ use Rattle.std.specs.Prelude.{◌==◌, IfSome}
 use Rattle.std.specs.declared.cmp.Ordering.{Ordering}
 use Rattle.std.specs.declared.cmp.Ordering.TheVariants.{Less, Equal, Greater}
 use Rattle.std.specs.Ordering.{is_lt, is_le, is_eq, nat_cmp, ordering_then}
-use Rattle.std.specs.Cmp.{nat_cmp_is, ranked, tied_itself}
+use Rattle.std.specs.Cmp.{IsTotalOrder, nat_cmp_is, ranked, tied_itself}
 use Rattle.std.proofs.lemmas.Bool.{false≢true, eq-eqb, eqb-true}
 use Rattle.std.proofs.lemmas.Bool.Decides.{nat_tests}
 use Rattle.smq_kit.specs.declared.form.Key.{Key}
@@ -26,7 +26,6 @@ use Rattle.smq_shelf.proofs.Walks.{Narrows, Rises, found-passes, with_first}
 use Rattle.smq_group.specs.declared.member.Member.{Member}
 use Rattle.smq_group.specs.within.Orders.{kept_member_cmp}
 use Rattle.smq_group.specs.within.Walked.{is_like, of_part}
-use Rattle.smq_group.proofs.Placing.{members_total}
 
 -- ---- keys
 
@@ -121,7 +120,7 @@ module _ {V : Type 0} (by_link : Bool) (key : LinkKey) where
     up = λ e f g n l. past key by_link after e.0 f.0 own (le_of_lt (kept_member_cmp after e.0) g) n l;
   }
 
-  -- what a walk finds is one of them
-  pub found-like : (q : Member × Option V → Bool) (es : List (Member × Option V)) (next : Option (Member × Option V)) → Rises members_total of q → next ≡ find q es → IfSome next (λ e. is_like by_link key e.0.key ≡ true)
-  found-like q es None r h = tt
-  found-like q es (Some e) r h = r.within e (found-passes q es e (sym h))
+-- what a walk finds is one of those that it is of
+pub found-of : {K X : Type 0} {R : K → K → Ordering} (o : IsTotalOrder R) (of q : K × X → Bool) (es : List (K × X)) (next : Option (K × X)) → Rises o of q → next ≡ find q es → IfSome next (λ e. of e ≡ true)
+found-of o of q es None r h = tt
+found-of o of q es (Some e) r h = r.within e (found-passes q es e (sym h))

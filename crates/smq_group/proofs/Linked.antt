@@ -19,7 +19,7 @@ use Rattle.smq_kit.proofs.Comparisons.{or_first, or_second}
 use Rattle.smq_kit.proofs.MapLemmas.{get-chosen}
 use Rattle.smq_kit.proofs.PlaceOrders.{place-order, places_total, places_exact}
 use Rattle.smq_group.specs.declared.member.Member.{Member}
-use Rattle.smq_group.specs.within.LinkWalks.{link_places, on_link}
+use Rattle.smq_group.specs.within.Walked.{link_places, on_link}
 use Rattle.smq_group.specs.within.Stored.{StandsOnce, by_place}
 use Rattle.smq_group.proofs.Placing.{none_head, rest_none, same_place}
 use Rattle.smq_group.proofs.SortedKeys.{sorted-keys, sorted-strictly}

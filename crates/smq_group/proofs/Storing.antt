@@ -12,22 +12,21 @@ use Rattle.smq_kit.specs.declared.link_key.LinkKey.{LinkKey}
 use Rattle.smq_kit.specs.Orders.{place_cmp}
 use Rattle.smq_kit.specs.Maps.{number_of, share}
 use Rattle.smq_kit.specs.HashedKeys.{hashed_key_cmp}
-use Rattle.smq_kit.specs.LinkKeys.{same_key, link_key_cmp}
+use Rattle.smq_kit.specs.LinkKeys.{same_key}
 use Rattle.smq_kit.proofs.PlaceOrders.{places_total, places_exact}
 use Rattle.smq_kit.proofs.HashedKeyOrders.{hashed-same}
-use Rattle.smq_kit.proofs.LinkKeyOrders.{link_keys_exact}
-use Rattle.smq_kit.proofs.Comparisons.{is_equal}
 use Rattle.smq_kit.proofs.MapLemmas as maps
 use Rattle.smq_group.specs.declared.member.Member.{Member}
 use Rattle.smq_group.specs.declared.member.Candidate.{Candidate}
 use Rattle.smq_group.specs.declared.member.Said.{Said}
 use Rattle.smq_group.specs.declared.outlook.Outlook.{Outlook}
 use Rattle.smq_group.specs.declared.outlook.Earliest.{Earliest}
-use Rattle.smq_group.specs.Matching.{GroupedReceipt, matches, candidates, earlier}
+use Rattle.smq_group.specs.Matching.{Grouping, GroupedReceipt, matches, candidates, earlier}
 use Rattle.smq_group.specs.Groups.{with_submit, without_submit}
 use Rattle.smq_group.specs.within.Orders.{kept_member_cmp}
 use Rattle.smq_group.specs.within.Outlooks.{an_outlook, outlook_at, no_outlook}
 use Rattle.smq_group.specs.within.Stored.{grouping_in, submit_value, is_candidate, earliest_at, outlook_in, AreStored, by_place}
+use Rattle.smq_group.proofs.Earliest.{one_key, own_key}
 use Rattle.smq_group.proofs.Placing.{at, found, with-member, without-member, once-insert, once-remove}
 
 -- ---- nothing
@@ -61,6 +60,15 @@ share_of k key b e = sum_by-cons (λ x. cond (same_key k x) 1 0) key [] ∙ ap (
     one : (b : Bool) → cond b 1 0 + 0 ≡ cond b 1 0
     one true = refl
     one false = refl
+
+-- outlooks of which that of one key alone is kept anew are those of a grouping that changed at that key alone
+pub outlooks-anew : (g h : Grouping) (o o' : List (LinkKey × Outlook)) (key : LinkKey) → ((k : LinkKey) → outlook_at k o ≡ outlook_in g k) → ((k : LinkKey) → same_key k key ≡ false → outlook_in h k ≡ outlook_in g k)
+    → outlook_at key o' ≡ outlook_in h key → ((other : LinkKey) → is_at (hashed_key_cmp other) key ≡ false → outlook_at other o' ≡ outlook_at other o) → (k : LinkKey) → outlook_at k o' ≡ outlook_in h k
+outlooks-anew g h o o' key was stays here elsewhere k = by (same_key k key) refl
+  where
+    by : (b : Bool) → same_key k key ≡ b → outlook_at k o' ≡ outlook_in h k
+    by true t = let same : k ≡ key = one_key k key t in ap (λ (x : LinkKey). outlook_at x o') same ∙ here ∙ sym (ap (outlook_in h) same)
+    by false t = elsewhere k (hashed-same k key ∙ t) ∙ was k ∙ sym (stays k t)
 
 -- ---- a submit more
 
@@ -107,19 +115,12 @@ module _ (s : List (Member × Bool)) (r : List (Member × Said)) (i : List (Cand
     receipts_once = st.receipts_once;
     indexed = record {
       candidates = st.indexed.candidates;
-      outlook = λ k. by_key k (same_key k key) refl;
+      outlook = outlooks-anew (grouping_in s r) (grouping_in more r) o o' key st.indexed.outlook
+          (λ k t. let n = counted-more none k false t in let same : matches (grouping_in more r) k ≡ matches (grouping_in s r) k = omega (arith, n) in λ j. an_outlook (same j) (earliest k))
+          (here ∙ ap (λ (x : Outlook). an_outlook (x.matches + 1) x.decider) (st.indexed.outlook key) ∙ (λ j. an_outlook (sym (counted-more none key true (own_key key)) j) (earliest key)))
+          elsewhere;
     };
   }
-    where
-      by_key : (k : LinkKey) (b : Bool) → same_key k key ≡ b → outlook_at k o' ≡ outlook_in (grouping_in more r) k
-      by_key k true t =
-          let same : k ≡ key = link_keys_exact k key (is_equal (link_key_cmp k key) t) in
-          let number : matches (grouping_in s r) key + 1 ≡ matches (grouping_in more r) k = ap (λ (x : LinkKey). matches (grouping_in s r) x + 1) (sym same) ∙ sym (counted-more none k true t) in
-          ap (λ (x : LinkKey). outlook_at x o') same ∙ here ∙ ap (λ (x : Outlook). an_outlook (x.matches + 1) x.decider) (st.indexed.outlook key)
-          ∙ (λ j. an_outlook (number j) (earliest (sym same j)))
-      by_key k false t =
-          let number : matches (grouping_in s r) k ≡ matches (grouping_in more r) k = (let z : matches (grouping_in s r) k ≡ matches (grouping_in s r) k + 0 = omega arith in z) ∙ sym (counted-more none k false t) in
-          elsewhere k (hashed-same k key ∙ t) ∙ st.indexed.outlook k ∙ (λ j. an_outlook (number j) (earliest k))
 
   -- a submit that is there is a member
   held : get (grouping_in s r).submits place ≡ Some key → (v : Bool) × (lookup (is_at (kept_member_cmp member)) s ≡ Some v)
@@ -146,22 +147,15 @@ module _ (s : List (Member × Bool)) (r : List (Member × Said)) (i : List (Cand
     receipts_once = st.receipts_once;
     indexed = record {
       candidates = st.indexed.candidates;
-      outlook = λ k. by_key k (same_key k key) refl;
+      outlook = outlooks-anew (grouping_in s r) (grouping_in less r) o o' key st.indexed.outlook
+          (λ k t. let n = counted-less there st k false t in let same : matches (grouping_in less r) k ≡ matches (grouping_in s r) k = omega (arith, n) in λ j. an_outlook (same j) (earliest k))
+          (here ∙ ap (λ (x : Outlook). an_outlook (x.matches - 1) x.decider) (st.indexed.outlook key) ∙ (λ j. an_outlook (one_less j) (earliest key)))
+          elsewhere;
     };
   }
     where
-      by_key : (k : LinkKey) (b : Bool) → same_key k key ≡ b → outlook_at k o' ≡ outlook_in (grouping_in less r) k
-      by_key k true t =
-          let same : k ≡ key = link_keys_exact k key (is_equal (link_key_cmp k key) t) in
-          let one = counted-less there st k true t in
-          let here_too : matches (grouping_in s r) k ≡ matches (grouping_in s r) key = ap (matches (grouping_in s r)) same in
-          let number : matches (grouping_in s r) key - 1 ≡ matches (grouping_in less r) k = omega (arith, one, here_too) in
-          ap (λ (x : LinkKey). outlook_at x o') same ∙ here ∙ ap (λ (x : Outlook). an_outlook (x.matches - 1) x.decider) (st.indexed.outlook key)
-          ∙ (λ j. an_outlook (number j) (earliest (sym same j)))
-      by_key k false t =
-          let one = counted-less there st k false t in
-          let number : matches (grouping_in s r) k ≡ matches (grouping_in less r) k = omega (arith, one) in
-          elsewhere k (hashed-same k key ∙ t) ∙ st.indexed.outlook k ∙ (λ j. an_outlook (number j) (earliest k))
+      one_less : matches (grouping_in s r) key - 1 ≡ matches (grouping_in less r) key
+      one_less = let n = counted-less there st key true (own_key key) in omega (arith, n)
 
 pub from-cons : {X : Type 0} (e : Place × X) (es : List (Place × X)) → from_entries {R = place_cmp} (e ∷ es) ≡ insert (from_entries es) e.0 e.1
 from-cons e es = same_map places_total places_exact _ _ (λ q.

@@ -27,12 +27,12 @@ use Rattle.smq_group.specs.Groups.{with_receipt, without_receipt}
 use Rattle.smq_group.specs.within.KeyLaws.{one_candidate}
 use Rattle.smq_group.specs.within.Orders.{kept_member_cmp, kept_candidate_cmp}
 use Rattle.smq_group.specs.within.Outlooks.{an_outlook, outlook_at, outlook_with}
-use Rattle.smq_group.specs.within.Stored.{grouping_in, receipt_value, is_candidate, earliest_at, outlook_in, AreStored, by_place, member_of, candidate_of}
+use Rattle.smq_group.specs.within.Stored.{grouping_in, receipt_value, is_candidate, earliest_at, AreStored, by_place, member_of, candidate_of}
 use Rattle.smq_group.specs.within.Walked.{first_candidate_after}
 use Rattle.smq_group.proofs.CandidateWalks.{candidates_total}
 use Rattle.smq_group.proofs.Earliest.{HasMore, HasLess, decider_in, is_decided, decider-more, decider-elsewhere, decider-stays, decider-next, own_key, one_key}
 use Rattle.smq_group.proofs.Placing.{at, found, one_of, same_place, own_place, with-member, without-member, once-insert, once-remove}
-use Rattle.smq_kit.proofs.HashedKeyOrders.{hashed-same}
+use Rattle.smq_group.proofs.Storing.{outlooks-anew}
 
 module _ (key : LinkKey) (place : Place) (said : Said) where
   abbrev new_one : Candidate
@@ -151,19 +151,13 @@ module _ (s : List (Member × Bool)) (r : List (Member × Said)) (i i' : List (C
           ∙ joined (own key place said c && said.decides) (is_candidate c (get g.receipts c.place))
           ∙ sym (ap (λ b. cond b (Some true) None) (marked-more key place said (get g.receipts c.place) (get (grouping_in s more).receipts c.place) c (eq_by_cmp place_cmp c.place place) refl
           (λ t. ap (get g.receipts) (same_place c.place place t) ∙ none) ((has-more none).each c.place)));
-      outlook = λ k. by_key k (same_key k key) refl;
+      outlook = outlooks-anew g (grouping_in s more) o o' key st.indexed.outlook
+          (λ k t. ap (an_outlook (matches g k)) (decider-more g (grouping_in s more) place value (has-more none) k false said.decides t refl))
+          (here ∙ ap (λ (x : Outlook). outlook_with x (earliest_at (said.moment, place)) said.decides) (st.indexed.outlook key)
+          ∙ sym (ap (an_outlook (matches g key)) (decider-more g (grouping_in s more) place value (has-more none) key true said.decides (own_key key) refl)))
+          elsewhere;
     };
   }
-    where
-      by_key : (k : LinkKey) (b : Bool) → same_key k key ≡ b → outlook_at k o' ≡ outlook_in (grouping_in s more) k
-      by_key k true t =
-          let same : k ≡ key = one_key k key t in
-          let new = decider-more g (grouping_in s more) place value (has-more none) key true said.decides (own_key key) refl in
-          ap (λ (x : LinkKey). outlook_at x o') same ∙ here ∙ ap (λ (x : Outlook). outlook_with x (earliest_at (said.moment, place)) said.decides) (st.indexed.outlook key)
-          ∙ sym (ap (outlook_in (grouping_in s more)) same ∙ ap (an_outlook (matches g key)) new)
-      by_key k false t =
-          elsewhere k (hashed-same k key ∙ t) ∙ st.indexed.outlook k
-          ∙ sym (ap (an_outlook (matches g k)) (decider-more g (grouping_in s more) place value (has-more none) k false said.decides t refl))
 
   -- ---- one less
 
@@ -239,7 +233,10 @@ module _ (s : List (Member × Bool)) (r : List (Member × Said)) (i i' : List (C
     receipts_once = once-remove receipt_value (is_at (kept_member_cmp member)) r st.receipts_once;
     indexed = record {
       candidates = indexed;
-      outlook = λ k. by_key k (same_key k key) refl;
+      outlook = outlooks-anew g (grouping_in s less) o o' key st.indexed.outlook
+          (λ k t. ap (an_outlook (matches g k)) (decider-elsewhere g (grouping_in s less) place value (has-less st there l) k t))
+          (n.here ∙ ap (λ (x : Outlook). an_outlook x.matches next) (st.indexed.outlook key) ∙ sym (ap (an_outlook (matches g key)) (new did_decide refl)))
+          elsewhere;
     };
   }
     where
@@ -261,12 +258,3 @@ module _ (s : List (Member × Bool)) (r : List (Member × Said)) (i i' : List (C
       new false w =
           decider-stays g (grouping_in s less) place value (has-less st there l) (sym (ap (λ (x : Outlook). said.decides && is_decided x.decider place) (st.indexed.outlook key)) ∙ w)
           ∙ sym (ap (λ (x : Outlook). x.decider) (st.indexed.outlook key)) ∙ sym (n.stays w)
-
-      by_key : (k : LinkKey) (b : Bool) → same_key k key ≡ b → outlook_at k o' ≡ outlook_in (grouping_in s less) k
-      by_key k true t =
-          let same : k ≡ key = one_key k key t in
-          ap (λ (x : LinkKey). outlook_at x o') same ∙ n.here ∙ ap (λ (x : Outlook). an_outlook x.matches next) (st.indexed.outlook key)
-          ∙ sym (ap (outlook_in (grouping_in s less)) same ∙ ap (an_outlook (matches g key)) (new did_decide refl))
-      by_key k false t =
-          elsewhere k (hashed-same k key ∙ t) ∙ st.indexed.outlook k
-          ∙ sym (ap (an_outlook (matches g k)) (decider-elsewhere g (grouping_in s less) place value (has-less st there l) k t))

@@ -3,7 +3,6 @@ pub mod Orders
 pub mod KeyLaws
 pub mod Outlooks
 pub mod Walked
-pub mod LinkWalks
 pub mod Stored
 pub mod Told
 pub mod Standing

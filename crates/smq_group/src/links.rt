@@ -3,8 +3,7 @@ ghost use Rattle.std.specs.Prelude.{◌≡◌, ◌≤◌, ◌+◌, [], filter, l
 ghost use Rattle.std.specs.List.Sorted.{IsPermutation, IsSorted};
 ghost use Rattle.smq_kit.specs.Orders.{kept_place_cmp};
 ghost use Rattle.smq_shelf.specs.Walks.{IsWalked};
-ghost use Rattle.smq_group.specs.within.LinkWalks.{link_places, on_link};
-ghost use Rattle.smq_group.specs.within.Walked.{member_key, vacant_keys};
+ghost use Rattle.smq_group.specs.within.Walked.{link_places, member_key, on_link, vacant_keys};
 
 use crate::member::Member;
 use crate::walks::members_of;

@@ -8,7 +8,7 @@ ghost use Rattle.smq_shelf.specs.Places.{content_of};
 ghost use Rattle.smq_shelf.specs.Walks.{Stays};
 ghost use Rattle.smq_group.specs.within.Orders.{kept_candidate_cmp, kept_member_cmp};
 ghost use Rattle.smq_group.specs.within.Outlooks.{is_decided_by};
-ghost use Rattle.smq_group.specs.within.Stored.{CanTakeBack, candidate_of, earliest_of_said, member_of};
+ghost use Rattle.smq_group.specs.within.Stored.{CanTakeBack, candidate_of, earliest_at, member_of};
 ghost use Rattle.smq_group.specs.within.Walked.{candidate_key, first_candidate_after, vacant_of};
 
 use crate::candidates::next_candidate;
@@ -46,7 +46,7 @@ pub(crate) fn decider_without(
     ensures stays { (said.decides && is_decided_by before.now place) ≡ false
         → result ≡ before.now.decider }
     ensures follows { (said.decides && is_decided_by before.now place) ≡ true
-        → result ≡ first_candidate_after key.now (earliest_of_said said place)
+        → result ≡ first_candidate_after key.now (earliest_at (said.moment, place))
         candidates.old.content }
     ensures ordered { (said.decides && is_decided_by before.now place) ≡ true
         → IsStrictlySortedBy kept_candidate_cmp (keys_of candidates.old.content) }

@@ -1,12 +1,9 @@
 -- Keys of members that compare equal are one.
-use Rattle.std.specs.Prelude.{◌≡◌, ℕ}
-use Rattle.std.proofs.Common.{ap, ◌∙◌}
+use Rattle.std.specs.Prelude.{◌≡◌}
 use Rattle.std.specs.Ordering.{nat_cmp, ordering_then}
 use Rattle.std.specs.declared.cmp.Ordering.{Ordering}
 use Rattle.std.specs.declared.cmp.Ordering.TheVariants.{Equal}
 use Rattle.std.specs.FinMap.{nat_cmp-IsAntisymmetric}
-use Rattle.smq_kit.specs.declared.place.Place.{Place}
-use Rattle.smq_kit.specs.declared.link_key.LinkKey.{LinkKey}
 use Rattle.smq_kit.specs.HashedKeys.{hashed_key_cmp}
 use Rattle.smq_kit.specs.Orders.{kept_place_cmp}
 use Rattle.smq_kit.proofs.Comparisons.{then_first, then_second}
@@ -20,8 +17,7 @@ pub one_member : (x y : Member) → kept_member_cmp x y ≡ Equal → x ≡ y
 one_member x y h =
     let keys : Ordering = hashed_key_cmp x.key y.key in
     let places : Ordering = kept_place_cmp x.place y.place in
-    ap (λ (p : Place). let k : Member = record { key = x.key; place = p } in k) (one_place x.place y.place (then_second keys places h))
-    ∙ ap (λ (l : LinkKey). let k : Member = record { key = l; place = y.place } in k) (one_hashed_key x.key y.key (then_first keys places h))
+    λ i. record { key = one_hashed_key x.key y.key (then_first keys places h) i; place = one_place x.place y.place (then_second keys places h) i }
 
 pub one_candidate : (x y : Candidate) → kept_candidate_cmp x y ≡ Equal → x ≡ y
 one_candidate x y h =
@@ -29,6 +25,8 @@ one_candidate x y h =
     let moments : Ordering = nat_cmp x.moment y.moment in
     let places : Ordering = kept_place_cmp x.place y.place in
     let later : ordering_then moments places ≡ Equal = then_second keys (ordering_then moments places) h in
-    ap (λ (p : Place). let k : Candidate = record { key = x.key; moment = x.moment; place = p } in k) (one_place x.place y.place (then_second moments places later))
-    ∙ ap (λ (n : ℕ). let k : Candidate = record { key = x.key; moment = n; place = y.place } in k) (nat_cmp-IsAntisymmetric x.moment y.moment (then_first moments places later))
-    ∙ ap (λ (l : LinkKey). let k : Candidate = record { key = l; moment = y.moment; place = y.place } in k) (one_hashed_key x.key y.key (then_first keys (ordering_then moments places) h))
+    λ i. record {
+      key = one_hashed_key x.key y.key (then_first keys (ordering_then moments places) h) i;
+      moment = nat_cmp-IsAntisymmetric x.moment y.moment (then_first moments places later) i;
+      place = one_place x.place y.place (then_second moments places later) i;
+    }

@@ -53,10 +53,6 @@ member_of key place = record { key = key; place = place }
 abbrev pub candidate_of : LinkKey → Place → Said → Candidate
 candidate_of key place said = record { key = key; moment = said.moment; place = place }
 
--- its moment and place
-abbrev pub earliest_of_said : Said → Place → Earliest
-earliest_of_said said place = record { moment = said.moment; place = place }
-
 -- whether what stands at a place is a receipt of a key and moment that can decide
 abbrev pub is_candidate : Candidate → Option GroupedReceipt → Bool
 is_candidate c None = false

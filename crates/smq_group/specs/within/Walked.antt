@@ -1,5 +1,6 @@
 -- What a walk over the members of a key meets.
 use Rattle.std.specs.Prelude.{ℕ, Bool, true, false, ◌==◌, ◌&&◌, not, length, List, map, filter, Option, option_map, is_some, find}
+use Rattle.smq_kit.specs.declared.names.LinkId.{LinkId}
 use Rattle.smq_kit.specs.declared.place.Place.{Place}
 use Rattle.smq_kit.specs.declared.link_key.LinkKey.{LinkKey}
 use Rattle.smq_kit.specs.LinkKeys.{same_key}
@@ -29,6 +30,14 @@ of_part by_link key e = is_like by_link key e.0.key
 -- how many of their places are vacant
 abbrev pub vacant_part : {V : Type 0} → Bool → LinkKey → List (Member × Option V) → ℕ
 vacant_part by_link key places = length (filter (λ e. of_part by_link key e && not (is_some e.1)) places)
+
+-- whether a member is of a link
+abbrev pub on_link : {V : Type 0} → LinkId → Member × V → Bool
+on_link link e = e.0.key.link.0 == link.0
+
+-- the places of a link's members, by key, then by place
+abbrev pub link_places : {V : Type 0} → LinkId → List (Member × V) → List Place
+link_places link es = map (λ e. e.0.place) (filter (on_link link) es)
 
 -- the moment and place of a candidate
 abbrev pub earliest_of : {V : Type 0} → Candidate × V → Earliest

@@ -4,11 +4,12 @@ use Rattle.smq_kit.specs.declared.link_key.LinkKey.{LinkKey}
 use Rattle.smq_kit.specs.LinkKeys.{same_key}
 use Rattle.smq_shelf.specs.Walks.{left_above, stands_after}
 use Rattle.smq_shelf.proofs.Changes.{content_ordered}
-use Rattle.smq_shelf.proofs.Walks.{step-length}
+use Rattle.smq_shelf.proofs.Walks.{after-rises, step-length}
 use Rattle.smq_group.specs.within.Orders.{kept_candidate_cmp}
 use Rattle.smq_group.specs.within.Walked.{candidate_at, first_candidate_after, first_there, of_candidate}
-use Rattle.smq_group.proofs.CandidateWalks.{candidates_total, found-own, left-start, left-more, left-there, left-vacant, left-bound}
+use Rattle.smq_group.proofs.CandidateWalks.{candidates_total, left-start, left-more, left-there, left-vacant, left-bound}
 use Rattle.smq_group.proofs.Earliest.{own_key}
+use Rattle.smq_group.proofs.Finding.{found-of}
 use Rattle.smq_group.proofs.candidates.next_candidate.Goals as goal
 
 pub place_after-next-requires : goal.place_after-next-requires
@@ -29,7 +30,7 @@ loop-next-init c =
       read = c.place_after-next.ensures.read;
       left = ap (first_candidate_after key c.args.from) c.place_after-next.ensures.content ∙ left-start key places so c.args.from c.place_after-next.result value;
       touches = omega (arith, vacant, touches);
-      own = found-own key (candidate_at key c.args.from) places c.place_after-next.result value;
+      own = found-of candidates_total (of_candidate key) (stands_after kept_candidate_cmp (of_candidate key) (candidate_at key c.args.from)) places c.place_after-next.result (after-rises candidates_total (of_candidate key) (candidate_at key c.args.from)) value;
     }
 
 pub loop-next-preserved : goal.loop-next-preserved
@@ -54,7 +55,7 @@ loop-next-preserved c =
       left = left-more key places so (first_candidate_after key c.args.from c.args.candidates.now.content) c.in-Some.candidate c.in-Some.value c.loop-next.next c.place_after-next-in-Some.result
           c.loop-next.invariant.left c.in-Some.is none value;
       touches = omega (arith, vacant, touches, before);
-      own = found-own key c.in-Some.candidate places c.place_after-next-in-Some.result value;
+      own = found-of candidates_total (of_candidate key) (stands_after kept_candidate_cmp (of_candidate key) c.in-Some.candidate) places c.place_after-next-in-Some.result (after-rises candidates_total (of_candidate key) c.in-Some.candidate) value;
     }
 
 pub loop-next-smaller : goal.loop-next-smaller

@@ -5,7 +5,7 @@ use Rattle.smq_shelf.specs.Walks.{stands_after}
 use Rattle.smq_shelf.proofs.Walks.{after-rises, left-found, of-rises, step-length, walked-more, walked-on}
 use Rattle.smq_group.specs.within.Orders.{kept_member_cmp}
 use Rattle.smq_group.specs.within.Walked.{is_like, of_part, placed}
-use Rattle.smq_group.proofs.Finding.{found-like}
+use Rattle.smq_group.proofs.Finding.{found-of}
 use Rattle.smq_group.proofs.Placing.{members_total, sorted_none}
 use Rattle.smq_group.proofs.Walking.{members-by_place, step-gathered, end-gathered, full-gathered, places-parted}
 use Rattle.smq_group.proofs.walks.members_of.Goals as goal
@@ -24,7 +24,7 @@ loop-next-init g c =
       walked = walked-more 1 _ walked (omega arith);
       touches = omega (arith, left, touches);
       gathered = rw c.new-members.ensures.items (ap (λ xs. map placed (content_of xs)) first);
-      like = found-like c.args.by_link c.args.key.now of c.args.kept.now.places c.first_of-next.result (of-rises members_total of) c.first_of-next.ensures.value;
+      like = found-of members_total of of c.args.kept.now.places c.first_of-next.result (of-rises members_total of) c.first_of-next.ensures.value;
     }
 
 pub next_of-next-requires : goal.next_of-next-requires
@@ -50,7 +50,7 @@ loop-next-preserved g c =
       touches = omega (arith, touches, bound, left);
       gathered = step-gathered c.args.by_link c.args.key.now c.args.kept.now.places c.first_of-next.ensures.ordered c.in-Some.member c.in-Some.value c.loop-next.next c.next_of-next.result
           c.loop-next.members.items c.push_there.new.members.items _ c.in-Some.is value c.loop-next.invariant.gathered c.in_ok-push_there.ensures;
-      like = found-like c.args.by_link c.args.key.now (stands_after kept_member_cmp of c.in-Some.member) c.args.kept.now.places c.next_of-next.result (after-rises members_total of c.in-Some.member) value;
+      like = found-of members_total of (stands_after kept_member_cmp of c.in-Some.member) c.args.kept.now.places c.next_of-next.result (after-rises members_total of c.in-Some.member) value;
     }
 
 pub returns-clause-value : goal.returns-clause-value

@@ -5,7 +5,7 @@ use Rattle.smq_group.specs.declared.member.Said.{Said}
 use Rattle.smq_group.specs.declared.outlook.Outlook.{Outlook}
 use Rattle.smq_group.specs.Groups.{GroupsValue, key_on}
 use Rattle.smq_group.specs.within.Outlooks.{outlook_at, outlook_with}
-use Rattle.smq_group.specs.within.Stored.{earliest_of_said, grouping_in}
+use Rattle.smq_group.specs.within.Stored.{earliest_at, grouping_in}
 use Rattle.smq_group.proofs.Calling.{tells-call, receipts-back, candidates-back}
 use Rattle.smq_group.proofs.Counting.{counted}
 use Rattle.smq_group.proofs.Moving.{moves-receipt}
@@ -28,7 +28,7 @@ invariant_of-self-in-Ok c =
       rw (c.in-Ok.ensures.submits.content, c.in-Ok.ensures.receipts.content, c.in_ok-put_receipt.ensures.receipts)
           (receipt-stored c.self.inside.submits.content c.self.inside.receipts.content c.self.inside.candidates.content c.put_receipt.new.candidates.content c.self.inside.outlooks.content c.tell.new.outlooks.content key c.args.place said
           none c.self.invariant.0 c.in_ok-put_receipt.ensures.candidates
-          (c.in-Ok.ensures.here ∙ c.with_receipt-after.ensures ∙ ap (λ (o : Outlook). outlook_with o (earliest_of_said said c.args.place) c.args.decides) c.outlook_of-before.ensures.value)
+          (c.in-Ok.ensures.here ∙ c.with_receipt-after.ensures ∙ ap (λ (o : Outlook). outlook_with o (earliest_at (c.args.moment, c.args.place)) c.args.decides) c.outlook_of-before.ensures.value)
           (λ other h. c.in-Ok.ensures.elsewhere other h ∙ ap (outlook_at other) c.outlook_of-before.ensures.content)),
       rw (c.in-Ok.ensures.submits.settled, c.in-Ok.ensures.receipts.settled, c.in_ok-put_receipt.ensures.settled, c.in_ok-put_receipt.ensures.settled_candidates, c.in-Ok.ensures.settled, c.outlook_of-before.ensures.settled) c.self.invariant.1,
     )
