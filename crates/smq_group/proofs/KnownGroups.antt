@@ -7,8 +7,7 @@ use Rattle.std.specs.List.Sorted.{IsStrictlySortedBy}
 use Rattle.std.specs.FinMap.{entries, find, from_entries, get-from_entries, is_sorted, keys}
 use Rattle.smq_kit.specs.declared.place.Place.{Place}
 use Rattle.smq_kit.specs.declared.link_key.LinkKey.{LinkKey}
-use Rattle.smq_kit.specs.declared.names.LinkId.{LinkId}
-use Rattle.smq_kit.specs.Maps.{kept_of, same_option}
+use Rattle.smq_kit.specs.Maps.{chosen, kept_of, same_option}
 use Rattle.smq_kit.specs.Orders.{place_cmp}
 use Rattle.smq_kit.specs.LinkKeys.{same_key}
 use Rattle.smq_kit.proofs.PlaceOrders.{places_total, places_exact}
@@ -17,7 +16,6 @@ use Rattle.smq_group.specs.declared.change.Change.{Change}
 use Rattle.smq_group.specs.declared.change.Standing.{Standing}
 use Rattle.smq_group.specs.Changes.{TellsChanges, changed, receipt_at, submit_at, told_at, told_of_receipt, told_of_submit}
 use Rattle.smq_group.specs.Known.{grouped}
-use Rattle.smq_group.specs.Links.{receipts_on, submits_on}
 use Rattle.smq_group.specs.Matching as m
 use Rattle.smq_group.specs.Matching.{GroupedReceipt, earlier}
 use Rattle.smq_group.proofs.Placing.{same_place}
@@ -51,19 +49,9 @@ module _ (es : List (Place × LinkKey)) (rs : List (Place × GroupedReceipt)) (s
   pub receipt-listed : (q : Place) → receipt_at (grouped es rs) q ≡ option_map (received es rs q) (find place_cmp q rs)
   receipt-listed q = λ i. option_map (received (is_es i) (is_rs i) q) (get-from_entries places_total rs q i)
 
-  -- of a link
-
-  abbrev submit_on : LinkId → Place → LinkKey → Option LinkKey
-  submit_on link place key = cond (key.link.0 == link.0) (Some key) None
-
-  pub submits-linked : (link : LinkId) → keys (submits_on link (grouped es rs)) ≡ map (λ e. e.0) (flat_map (kept_of (submit_on link)) es)
-  submits-linked link = ap (map (λ e. e.0)) (entries-chosen places_total places_exact (submit_on link) (from_entries es) ∙ ap (flat_map (kept_of (submit_on link))) is_es)
-
-  abbrev receipt_on : LinkId → Place → GroupedReceipt → Option GroupedReceipt
-  receipt_on link place r = cond (r.key.link.0 == link.0) (Some r) None
-
-  pub receipts-linked : (link : LinkId) → keys (receipts_on link (grouped es rs)) ≡ map (λ e. e.0) (flat_map (kept_of (receipt_on link)) rs)
-  receipts-linked link = ap (map (λ e. e.0)) (entries-chosen places_total places_exact (receipt_on link) (from_entries rs) ∙ ap (flat_map (kept_of (receipt_on link))) is_rs)
+-- what is chosen of entries
+pub chosen-listed : {X Y : Type 0} (f : Place → X → Option Y) (es : List (Place × X)) → T (is_sorted place_cmp es) → keys (chosen f (from_entries {R = place_cmp} es)) ≡ map (λ e. e.0) (flat_map (kept_of f) es)
+chosen-listed f es so = ap (map (λ e. e.0)) (entries-chosen places_total places_exact f (from_entries es) ∙ ap (flat_map (kept_of f)) (entries-from_entries places_total places_exact es so))
 
 -- ---- what is told of them
 

@@ -16,7 +16,7 @@ use Rattle.smq_group.specs.declared.change.Change.{Change}
 use Rattle.smq_group.specs.declared.change.Standing.{Standing}
 use Rattle.smq_group.specs.Changes.{changed, receipt_at, submit_at, told_at, told_of_submit}
 use Rattle.smq_group.specs.Groups.{with_submit}
-use Rattle.smq_group.specs.Laws.{IsToldOneWay, OrderOfReceiptsIsIdle, OrderOfSidesIsIdle, OrderOfSubmitsIsIdle, ReceiptsLeaveNoTrace, SubmitsLeaveNoTrace, SubmitsLeaveOtherKeys, TellsNothingOfTheSame}
+use Rattle.smq_group.specs.Laws.{IsToldOneWay, SubmitsLeaveOtherKeys, TellsNothingOfTheSame}
 use Rattle.smq_group.specs.Matching.{submit_standing}
 use Rattle.smq_group.specs.within.Outlooks.{submit_standing_of}
 use Rattle.smq_group.proofs.Turning.{standing-itself, told-submit}
@@ -39,21 +39,6 @@ module _ {X : Type 0} (m : FinMap place_cmp X) where
       get-insert places_total (insert m p v) q w x ∙ ap (cond (eq_by_cmp place_cmp x q) (Some w)) (get-insert places_total m p v x)
       ∙ swapped (eq_by_cmp place_cmp x q) (eq_by_cmp place_cmp x p) (Some w) (Some v) (get m x) (λ a b. ne (sym (same_place x p b) ∙ same_place x q a))
       ∙ sym (get-insert places_total (insert m q w) p v x ∙ ap (cond (eq_by_cmp place_cmp x p) (Some v)) (get-insert places_total m q w x)))
-
-pub submits-no-trace : SubmitsLeaveNoTrace
-submits-no-trace g key place none = λ i. record { submits = inserted-removed g.submits place key none i; receipts = g.receipts }
-
-pub receipts-no-trace : ReceiptsLeaveNoTrace
-receipts-no-trace g place r none = λ i. record { submits = g.submits; receipts = inserted-removed g.receipts place r none i }
-
-pub submits-in-any-order : OrderOfSubmitsIsIdle
-submits-in-any-order g k l p q ne = λ i. record { submits = inserted-swapped g.submits p q k l ne i; receipts = g.receipts }
-
-pub receipts-in-any-order : OrderOfReceiptsIsIdle
-receipts-in-any-order g r s p q ne = λ i. record { submits = g.submits; receipts = inserted-swapped g.receipts p q r s ne i }
-
-pub sides-in-any-order : OrderOfSidesIsIdle
-sides-in-any-order g key r p q = refl
 
 -- ---- changes are told in one way
 

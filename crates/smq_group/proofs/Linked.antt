@@ -5,7 +5,7 @@ use Rattle.std.specs.declared.result.Result.{Result}
 use Rattle.std.specs.declared.result.Result.TheVariants.{Ok, Err}
 use Rattle.std.proofs.lemmas.Bool.{false_from_ne_true}
 use Rattle.std.specs.Ordering.{eq_by_cmp}
-use Rattle.std.specs.FinMap.{find, from_entries, get-from_entries, keys}
+use Rattle.std.specs.FinMap.{from_entries, get-from_entries, keys}
 use Rattle.std.specs.List.{AllByRecursion, IsDistinct, list_any}
 use Rattle.std.specs.List.Sorted.{IsPermutation, IsSorted}
 use Rattle.std.proofs.lemmas.List.Sorted.{list_any-IsPermutation}
@@ -21,7 +21,7 @@ use Rattle.smq_kit.proofs.PlaceOrders.{place-order, places_total, places_exact}
 use Rattle.smq_group.specs.declared.member.Member.{Member}
 use Rattle.smq_group.specs.within.Walked.{link_places, on_link}
 use Rattle.smq_group.specs.within.Stored.{StandsOnce, by_place}
-use Rattle.smq_group.proofs.Placing.{none_head, rest_none, same_place}
+use Rattle.smq_group.proofs.Placing.{at, none_head, rest_none, same_place}
 use Rattle.smq_group.proofs.SortedKeys.{sorted-keys, sorted-strictly}
 
 none_there : IsDistinct (eq_by_cmp place_cmp) []
@@ -41,36 +41,33 @@ module _ {V W : Type 0} (value : LinkKey → V → W) (key_of : W → LinkKey) (
   abbrev of_link : Place → W → Option W
   of_link place w = cond ((key_of w).link.0 == link.0) (Some w) None
 
-  abbrev at : Place → List (Member × V) → Option W
-  at q es = find place_cmp q (map (by_place value) es)
-
   none_at : (q : Place) (e : Member × V) (es : List (Member × V)) (b : Bool) → eq_by_cmp place_cmp q e.0.place ≡ false → list_any (eq_by_cmp place_cmp q) (link_places link es) ≡ false
       → list_any (eq_by_cmp place_cmp q) (map (λ f. f.0.place) (cond b (e ∷ filter on es) (filter on es))) ≡ false
   none_at q e es true s r = ap (λ c. c || list_any (eq_by_cmp place_cmp q) (link_places link es)) s ∙ r
   none_at q e es false s r = r
 
   -- where nothing stands at a place, no member of the link does
-  none-on : (q : Place) (es : List (Member × V)) → at q es ≡ None → list_any (eq_by_cmp place_cmp q) (link_places link es) ≡ false
+  none-on : (q : Place) (es : List (Member × V)) → at value q es ≡ None → list_any (eq_by_cmp place_cmp q) (link_places link es) ≡ false
   none-on q [] h = refl
   none-on q (e ∷ es) h = none_at q e es (on e)
-      (false_from_ne_true (eq_by_cmp place_cmp q e.0.place) (λ t. none_head (eq_by_cmp place_cmp q e.0.place) (value e.0.key e.1) (at q es) t h))
-      (none-on q es (rest_none (eq_by_cmp place_cmp q e.0.place) (value e.0.key e.1) (at q es) h))
+      (false_from_ne_true (eq_by_cmp place_cmp q e.0.place) (λ t. none_head (eq_by_cmp place_cmp q e.0.place) (value e.0.key e.1) (at value q es) t h))
+      (none-on q es (rest_none (eq_by_cmp place_cmp q e.0.place) (value e.0.key e.1) (at value q es) h))
 
-  there_at : (q : Place) (e : Member × V) (es : List (Member × V)) (a b : Bool) → eq_by_cmp place_cmp q e.0.place ≡ a → on e ≡ b → at e.0.place es ≡ None
-      → is_some (option_and_then (of_link q) (at q es)) ≡ list_any (eq_by_cmp place_cmp q) (link_places link es)
-      → is_some (option_and_then (of_link q) (cond a (Some (value e.0.key e.1)) (at q es)))
+  there_at : (q : Place) (e : Member × V) (es : List (Member × V)) (a b : Bool) → eq_by_cmp place_cmp q e.0.place ≡ a → on e ≡ b → at value e.0.place es ≡ None
+      → is_some (option_and_then (of_link q) (at value q es)) ≡ list_any (eq_by_cmp place_cmp q) (link_places link es)
+      → is_some (option_and_then (of_link q) (cond a (Some (value e.0.key e.1)) (at value q es)))
       ≡ list_any (eq_by_cmp place_cmp q) (map (λ f. f.0.place) (cond b (e ∷ filter on es) (filter on es)))
   there_at q e es true true t s n ih =
       ap (λ (k : LinkKey). is_some (cond (k.link.0 == link.0) (Some (value e.0.key e.1)) None)) (keyed e.0.key e.1) ∙ ap (λ c. is_some (cond c (Some (value e.0.key e.1)) None)) s
       ∙ sym (ap (λ c. c || list_any (eq_by_cmp place_cmp q) (link_places link es)) t)
   there_at q e es true false t s n ih =
       ap (λ (k : LinkKey). is_some (cond (k.link.0 == link.0) (Some (value e.0.key e.1)) None)) (keyed e.0.key e.1) ∙ ap (λ c. is_some (cond c (Some (value e.0.key e.1)) None)) s
-      ∙ sym (none-on q es (ap (λ (p : Place). at p es) (same_place q e.0.place t) ∙ n))
+      ∙ sym (none-on q es (ap (λ (p : Place). at value p es) (same_place q e.0.place t) ∙ n))
   there_at q e es false true t s n ih = ih ∙ sym (ap (λ c. c || list_any (eq_by_cmp place_cmp q) (link_places link es)) t)
   there_at q e es false false t s n ih = ih
 
   -- the link has something at a place exactly where a member of it stands there
-  there : (q : Place) (es : List (Member × V)) → StandsOnce value es → is_some (option_and_then (of_link q) (at q es)) ≡ list_any (eq_by_cmp place_cmp q) (link_places link es)
+  there : (q : Place) (es : List (Member × V)) → StandsOnce value es → is_some (option_and_then (of_link q) (at value q es)) ≡ list_any (eq_by_cmp place_cmp q) (link_places link es)
   there q [] o = refl
   there q (e ∷ es) o = there_at q e es (eq_by_cmp place_cmp q e.0.place) (on e) refl refl o.0 (there q es o.1)
 

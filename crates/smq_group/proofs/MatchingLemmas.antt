@@ -20,13 +20,6 @@ use Rattle.smq_group.proofs.Placing.{not_none, own_place, same_place}
 -- ---- numbers of a map by place
 
 module _ {X : Type 0} (test : X → Bool) where
-  -- the number without a place, and what stands there, is the number
-  without : (m : FinMap place_cmp X) (q : Place) → number_of test (remove m q) + share test (get m q) ≡ number_of test m
-  without m q = let all = maps.count-set places_total places_exact test m q None in omega (arith, all)
-
-  share-passed : (v : X) → test v ≡ true → share test (Some v) ≡ 1
-  share-passed v e = sum_by-cons (λ x. cond (test x) 1 0) v [] ∙ ap (λ b. cond b 1 0 + count_by test []) e
-
   -- where none passes, the number is 0
   none-passes : (es : List (Place × X)) → AllByRecursion (λ e. test e.1 ≡ false) es → count_by test (map (λ e. e.1) es) ≡ 0
   none-passes [] h = refl
@@ -45,8 +38,9 @@ module _ {X : Type 0} (test : X → Bool) where
   pub number-some : (m : FinMap place_cmp X) (q : Place) (v : X) → get m q ≡ Some v → test v ≡ true
       → number_of test m ≡ number_of test (remove m q) + 1
   number-some m q v e h =
-      let one : share test (get m q) ≡ 1 = ap (share test) e ∙ share-passed v h in
-      omega (arith, without m q, one)
+      let all = maps.count-set places_total places_exact test m q None in
+      let one : share test (get m q) ≡ 1 = ap (share test) e ∙ sum_by-cons (λ x. cond (test x) 1 0) v [] ∙ ap (λ b. cond b 1 0 + count_by test []) h in
+      omega (arith, all, one)
 
 -- ---- places
 

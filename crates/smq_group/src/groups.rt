@@ -228,13 +228,8 @@ impl Groups {
     {
         let key = HashedKey::new(link, key);
         let before = outlook_of(&mut self.outlooks, &key);
-        put_receipt(
-            &mut self.receipts,
-            &mut self.candidates,
-            &key,
-            place,
-            Said { moment, decides },
-        )?;
+        let said = Said { moment, decides };
+        put_receipt(&mut self.receipts, &mut self.candidates, &key, place, said)?;
         let after = before.with_receipt(Earliest { moment, place }, decides);
         match tell(
             self.alloc,
@@ -283,20 +278,10 @@ impl Groups {
         };
         let moment = said.moment;
         let decides = said.decides;
-        out_receipt(
-            &mut self.receipts,
-            &mut self.candidates,
-            &key,
-            place,
-            Said { moment, decides },
-        )?;
-        let decider = decider_without(
-            &mut self.candidates,
-            &key,
-            &before,
-            place,
-            Said { moment, decides },
-        );
+        let gone = Said { moment, decides };
+        out_receipt(&mut self.receipts, &mut self.candidates, &key, place, gone)?;
+        let gone = Said { moment, decides };
+        let decider = decider_without(&mut self.candidates, &key, &before, place, gone);
         let after = Outlook {
             matches: before.matches,
             decider,
