@@ -1,5 +1,5 @@
 -- Each call moves one member: the grouping after it, and what it tells.
-use Rattle.std.proofs.Common.{◌≡◌, ◌⊎◌, inl, inr, Bool, true, false, cond, Option, Some, None, refl, sym, ap, ◌∙◌, subst, arith}
+use Rattle.std.proofs.Common.{◌≡◌, ◌⊎◌, inl, inr, Bool, true, false, cond, Option, Some, None, refl, sym, ap, ◌∙◌, arith}
 use Rattle.std.specs.Prelude.{◌&&◌, is_some, option_map}
 use Rattle.std.specs.Ordering.{eq_by_cmp}
 use Rattle.std.specs.Cmp.{eq_by_cmp_equiv}
@@ -34,12 +34,21 @@ flipped a b n = (eq_by_cmp_equiv link_keys_total).symm b a ∙ n
 same_deciders : (b a : Outlook) → a.decider ≡ b.decider → same_decider b a ≡ true
 same_deciders b a e = ap (λ (d : Option Earliest). same_option (eq_by_cmp place_cmp) (decider_of b) (option_map (λ x. x.place) d)) e ∙ same_self (decider_of b)
 
+-- a place that is emptied, or another
+emptied : {X : Type 0} (b : Bool) (x y : Option X) → y ≡ cond b None x → (y ≡ x) ⊎ (y ≡ None)
+emptied true x y e = inr e
+emptied false x y e = inl e
+
 -- ---- a submit
+
+submit_put : (key : LinkKey) (b : Bool) (x y : Option LinkKey) → (b ≡ true → x ≡ None) → y ≡ cond b (Some key) x → SubmitMove key b x y
+submit_put key true x y none e = (none refl, e)
+submit_put key false x y none e = inl e
 
 -- one submit more
 pub moves-submit : (g : Grouping) (key : LinkKey) (place : Place) → get g.submits place ≡ None → Moves g (with_submit g key place) key (put.Submit place)
 moves-submit g key place none = record {
-  submit = λ q. by q (eq_by_cmp place_cmp q place) refl;
+  submit = λ q. submit_put key (eq_by_cmp place_cmp q place) (get g.submits q) (get (insert g.submits place key) q) (λ t. ap (get g.submits) (same_place q place t) ∙ none) (get-insert places_total g.submits place key q);
   receipt = λ q. inl refl;
   elsewhere = λ k n.
       let more = number-more g.submits key k place false none (flipped key k n) in
@@ -47,17 +56,11 @@ moves-submit g key place none = record {
       λ i. an_outlook (same i) (decider_in g k);
   anew = λ n. absurd (false≢true (sym n ∙ same_deciders (outlook_in g key) (outlook_in (with_submit g key place) key) refl));
 }
-  where
-    by : (q : Place) (b : Bool) → eq_by_cmp place_cmp q place ≡ b → SubmitMove key (eq_by_cmp place_cmp q place) (get g.submits q) (get (insert g.submits place key) q)
-    by q true t = subst (λ b. SubmitMove key b (get g.submits q) (get (insert g.submits place key) q)) (sym t)
-        (ap (get g.submits) (same_place q place t) ∙ none, get-insert places_total g.submits place key q ∙ ap (λ b. cond b (Some key) (get g.submits q)) t)
-    by q false t = subst (λ b. SubmitMove key b (get g.submits q) (get (insert g.submits place key) q)) (sym t)
-        (inl (get-insert places_total g.submits place key q ∙ ap (λ b. cond b (Some key) (get g.submits q)) t))
 
 -- one submit less
 pub moves-no_submit : (g : Grouping) (key : LinkKey) (place : Place) → get g.submits place ≡ Some key → Moves g (without_submit g place) key put.Nothing
 moves-no_submit g key place there = record {
-  submit = λ q. by q (eq_by_cmp place_cmp q place) refl;
+  submit = λ q. emptied (eq_by_cmp place_cmp q place) (get g.submits q) (get (remove g.submits place) q) (get-remove places_total g.submits place q);
   receipt = λ q. inl refl;
   elsewhere = λ k n.
       let less = number-less g.submits key k place false there (flipped key k n) in
@@ -65,12 +68,12 @@ moves-no_submit g key place there = record {
       λ i. an_outlook (same i) (decider_in g k);
   anew = λ n. absurd (false≢true (sym n ∙ same_deciders (outlook_in g key) (outlook_in (without_submit g place) key) refl));
 }
-  where
-    by : (q : Place) (b : Bool) → eq_by_cmp place_cmp q place ≡ b → (get (remove g.submits place) q ≡ get g.submits q) ⊎ (get (remove g.submits place) q ≡ None)
-    by q true t = inr (get-remove places_total g.submits place q ∙ ap (λ b. cond b None (get g.submits q)) t)
-    by q false t = inl (get-remove places_total g.submits place q ∙ ap (λ b. cond b None (get g.submits q)) t)
 
 -- ---- a receipt
+
+receipt_put : (r : GroupedReceipt) (b : Bool) (x y : Option GroupedReceipt) → (b ≡ true → x ≡ None) → y ≡ cond b (Some r) x → ReceiptMove r.key (cond b (Some r.decides) None) x y
+receipt_put r true x y none e = (none refl, record { r = r; is = e; own = refl; decides = refl })
+receipt_put r false x y none e = inl e
 
 module _ (g h : Grouping) (place : Place) (r : GroupedReceipt) (same : h.submits ≡ g.submits) where
   same_matches : (k : LinkKey) → matches h k ≡ matches g k
@@ -80,7 +83,7 @@ module _ (g h : Grouping) (place : Place) (r : GroupedReceipt) (same : h.submits
   pub moves-receipt : HasMore g h place r → Moves g h r.key (put.Receipt place r.decides)
   moves-receipt more = record {
     submit = λ q. inl (ap (λ (m : FinMap place_cmp LinkKey). get m q) same);
-    receipt = λ q. by q (eq_by_cmp place_cmp q place) refl;
+    receipt = λ q. receipt_put r (eq_by_cmp place_cmp q place) (get g.receipts q) (get h.receipts q) (λ t. ap (get g.receipts) (same_place q place t) ∙ more.absent) (more.each q);
     elsewhere = λ k n. λ i. an_outlook (same_matches k i) (decider-more g h place r more k false r.decides (flipped r.key k n) refl i);
     anew = λ n. let new = chosen n (r.decides && is_before (earliest_at (r.moment, place)) (decider_in g r.key)) refl in record {
       new = λ q can e. ap (λ (d : Option Earliest). is_at_place (option_map (λ x. x.place) d) q) new ∙ here q (eq_by_cmp place_cmp q place) refl can e;
@@ -90,13 +93,6 @@ module _ (g h : Grouping) (place : Place) (r : GroupedReceipt) (same : h.submits
     };
   }
     where
-      by : (q : Place) (b : Bool) → eq_by_cmp place_cmp q place ≡ b → ReceiptMove r.key (cond (eq_by_cmp place_cmp q place) (Some r.decides) None) (get g.receipts q) (get h.receipts q)
-      by q true t = subst (λ b. ReceiptMove r.key (cond b (Some r.decides) None) (get g.receipts q) (get h.receipts q)) (sym t) (
-        ap (get g.receipts) (same_place q place t) ∙ more.absent,
-        record { r = r; is = more.each q ∙ ap (λ b. cond b (Some r) (get g.receipts q)) t; own = refl; decides = refl },
-      )
-      by q false t = subst (λ b. ReceiptMove r.key (cond b (Some r.decides) None) (get g.receipts q) (get h.receipts q)) (sym t) (inl (more.each q ∙ ap (λ b. cond b (Some r) (get g.receipts q)) t))
-
       chosen : same_decider (outlook_in g r.key) (outlook_in h r.key) ≡ false → (b : Bool) → (r.decides && is_before (earliest_at (r.moment, place)) (decider_in g r.key)) ≡ b → decider_in h r.key ≡ Some (earliest_at (r.moment, place))
       chosen n true t = decider-more g h place r more r.key true r.decides (own_key r.key) refl ∙ ap (λ b. cond b (Some (earliest_at (r.moment, place))) (decider_in g r.key)) t
       chosen n false t = absurd (false≢true (sym n ∙ same_deciders (outlook_in g r.key) (outlook_in h r.key)
@@ -110,7 +106,7 @@ module _ (g h : Grouping) (place : Place) (r : GroupedReceipt) (same : h.submits
   pub moves-no_receipt : HasLess g h place r → Moves g h r.key put.Nothing
   moves-no_receipt less = record {
     submit = λ q. inl (ap (λ (m : FinMap place_cmp LinkKey). get m q) same);
-    receipt = λ q. by q (eq_by_cmp place_cmp q place) refl;
+    receipt = λ q. emptied (eq_by_cmp place_cmp q place) (get g.receipts q) (get h.receipts q) (less.each q);
     elsewhere = λ k n. λ i. an_outlook (same_matches k i) (decider-elsewhere g h place r less k (flipped r.key k n) i);
     anew = λ n. record {
       new = λ q can e. absurd (not_none can None refl e);
@@ -119,10 +115,6 @@ module _ (g h : Grouping) (place : Place) (r : GroupedReceipt) (same : h.submits
     };
   }
     where
-      by : (q : Place) (b : Bool) → eq_by_cmp place_cmp q place ≡ b → (get h.receipts q ≡ get g.receipts q) ⊎ (get h.receipts q ≡ None)
-      by q true t = inr (less.each q ∙ ap (λ b. cond b None (get g.receipts q)) t)
-      by q false t = inl (less.each q ∙ ap (λ b. cond b None (get g.receipts q)) t)
-
       at_one : (o : Option Place) (p q : Place) → is_at_place o p ≡ true → is_at_place o q ≡ true → eq_by_cmp place_cmp q p ≡ true
       at_one None p q s t = absurd (false≢true s)
       at_one (Some x) p q s t = own_place q p (sym (same_place x q t) ∙ same_place x p s)

@@ -25,7 +25,7 @@ use Rattle.smq_group.specs.Matching.{Grouping, GroupedReceipt, matches, candidat
 use Rattle.smq_group.specs.Groups.{with_submit, without_submit}
 use Rattle.smq_group.specs.within.Orders.{kept_member_cmp}
 use Rattle.smq_group.specs.within.Outlooks.{an_outlook, outlook_at, no_outlook}
-use Rattle.smq_group.specs.within.Stored.{grouping_in, submit_value, is_candidate, earliest_at, outlook_in, AreStored, by_place}
+use Rattle.smq_group.specs.within.Stored.{grouping_in, submit_value, is_candidate, earliest_at, outlook_in, AreStored, by_place, member_of}
 use Rattle.smq_group.proofs.Earliest.{one_key, own_key}
 use Rattle.smq_group.proofs.Placing.{at, found, with-member, without-member, once-insert, once-remove}
 
@@ -88,21 +88,18 @@ number-less m key k place b there e =
     omega (arith, all, here)
 
 module _ (s : List (Member × Bool)) (r : List (Member × Said)) (i : List (Candidate × Bool)) (o o' : List (LinkKey × Outlook)) (key : LinkKey) (place : Place) where
-  abbrev member : Member
-  member = record { key = key; place = place }
-
   abbrev more : List (Member × Bool)
-  more = insert_entry kept_member_cmp s member true
+  more = insert_entry kept_member_cmp s (member_of key place) true
 
   abbrev less : List (Member × Bool)
-  less = remove_entry (is_at (kept_member_cmp member)) s
+  less = remove_entry (is_at (kept_member_cmp (member_of key place))) s
 
   abbrev earliest : LinkKey → Option Earliest
   earliest k = option_map earliest_at (reduce earlier (candidates (grouping_in s r) k))
 
   pub counted-more : at submit_value place s ≡ None → (k : LinkKey) (b : Bool) → same_key k key ≡ b → matches (grouping_in more r) k ≡ matches (grouping_in s r) k + cond b 1 0
   counted-more none k b e =
-      ap (number_of (same_key k)) (with-member submit_value member true s none)
+      ap (number_of (same_key k)) (with-member submit_value (member_of key place) true s none)
       ∙ number-more (grouping_in s r).submits key k place b (get-from_entries places_total (map (by_place submit_value) s) place ∙ none) e
 
   -- with one submit more, where its key's outlook counts it and the others stay
@@ -111,7 +108,7 @@ module _ (s : List (Member × Bool)) (r : List (Member × Said)) (i : List (Cand
       → ((other : LinkKey) → is_at (hashed_key_cmp other) key ≡ false → outlook_at other o' ≡ outlook_at other o)
       → AreStored more r i o'
   submit-stored none st here elsewhere = record {
-    submits_once = once-insert submit_value member true s none st.submits_once;
+    submits_once = once-insert submit_value (member_of key place) true s none st.submits_once;
     receipts_once = st.receipts_once;
     indexed = record {
       candidates = st.indexed.candidates;
@@ -123,7 +120,7 @@ module _ (s : List (Member × Bool)) (r : List (Member × Said)) (i : List (Cand
   }
 
   -- a submit that is there is a member
-  held : get (grouping_in s r).submits place ≡ Some key → (v : Bool) × (lookup (is_at (kept_member_cmp member)) s ≡ Some v)
+  held : get (grouping_in s r).submits place ≡ Some key → (v : Bool) × (lookup (is_at (kept_member_cmp (member_of key place))) s ≡ Some v)
   held there =
       let f = found submit_value place key s (sym (get-from_entries places_total (map (by_place submit_value) s) place) ∙ there) in
       (f.v, ap (λ (k : LinkKey). lookup (is_at (kept_member_cmp (record { key = k; place = place }))) s) (sym f.is) ∙ f.there)
@@ -131,11 +128,8 @@ module _ (s : List (Member × Bool)) (r : List (Member × Said)) (i : List (Cand
   pub counted-less : get (grouping_in s r).submits place ≡ Some key → AreStored s r i o → (k : LinkKey) (b : Bool) → same_key k key ≡ b
       → matches (grouping_in less r) k + cond b 1 0 ≡ matches (grouping_in s r) k
   counted-less there st k b e =
-      ap (λ (m : FinMap place_cmp LinkKey). number_of (same_key k) m + cond b 1 0) (taken there st)
+      ap (λ (m : FinMap place_cmp LinkKey). number_of (same_key k) m + cond b 1 0) (without-member submit_value (member_of key place) (held there).0 s st.submits_once (held there).1)
       ∙ number-less (grouping_in s r).submits key k place b there e
-    where
-      taken : get (grouping_in s r).submits place ≡ Some key → AreStored s r i o → (grouping_in less r).submits ≡ remove (grouping_in s r).submits place
-      taken there st = without-member submit_value member (held there).0 s st.submits_once (held there).1
 
   -- with one submit less, where its key's outlook counts it no more and the others stay
   pub submit-taken : get (grouping_in s r).submits place ≡ Some key → AreStored s r i o
@@ -143,7 +137,7 @@ module _ (s : List (Member × Bool)) (r : List (Member × Said)) (i : List (Cand
       → ((other : LinkKey) → is_at (hashed_key_cmp other) key ≡ false → outlook_at other o' ≡ outlook_at other o)
       → AreStored less r i o'
   submit-taken there st here elsewhere = record {
-    submits_once = once-remove submit_value (is_at (kept_member_cmp member)) s st.submits_once;
+    submits_once = once-remove submit_value (is_at (kept_member_cmp (member_of key place))) s st.submits_once;
     receipts_once = st.receipts_once;
     indexed = record {
       candidates = st.indexed.candidates;
@@ -162,23 +156,20 @@ from-cons e es = same_map places_total places_exact _ _ (λ q.
     get-from_entries places_total (e ∷ es) q ∙ ap (cond (eq_by_cmp place_cmp q e.0) (Some e.1)) (sym (get-from_entries places_total es q)) ∙ sym (get-insert places_total (from_entries es) e.0 e.1 q))
 
 module _ (s : List (Member × Bool)) (r : List (Member × Said)) (key : LinkKey) (place : Place) where
-  abbrev the_member : Member
-  the_member = record { key = key; place = place }
-
   pub absent : get (grouping_in s r).submits place ≡ None → at submit_value place s ≡ None
   absent none = sym (get-from_entries places_total (map (by_place submit_value) s) place) ∙ none
 
   -- the grouping with one submit more
-  pub grouping-more : get (grouping_in s r).submits place ≡ None → grouping_in (insert_entry kept_member_cmp s the_member true) r ≡ with_submit (grouping_in s r) key place
-  grouping-more none = λ i. record { submits = with-member submit_value the_member true s (absent none) i; receipts = (grouping_in s r).receipts }
+  pub grouping-more : get (grouping_in s r).submits place ≡ None → grouping_in (insert_entry kept_member_cmp s (member_of key place) true) r ≡ with_submit (grouping_in s r) key place
+  grouping-more none = λ i. record { submits = with-member submit_value (member_of key place) true s (absent none) i; receipts = (grouping_in s r).receipts }
 
   -- the grouping with one submit less
   pub grouping-less : (i : List (Candidate × Bool)) (o : List (LinkKey × Outlook)) → AreStored s r i o → get (grouping_in s r).submits place ≡ Some key
-      → grouping_in (remove_entry (is_at (kept_member_cmp the_member)) s) r ≡ without_submit (grouping_in s r) place
+      → grouping_in (remove_entry (is_at (kept_member_cmp (member_of key place))) s) r ≡ without_submit (grouping_in s r) place
   grouping-less i o st there =
       let h = held s r i o o key place there in
-      λ j. record { submits = without-member submit_value the_member h.0 s st.submits_once h.1 j; receipts = (grouping_in s r).receipts }
+      λ j. record { submits = without-member submit_value (member_of key place) h.0 s st.submits_once h.1 j; receipts = (grouping_in s r).receipts }
 
   -- a submit that is there is found by its key and place
-  pub is_held : get (grouping_in s r).submits place ≡ Some key → IsSome (lookup (is_at (kept_member_cmp the_member)) s)
+  pub is_held : get (grouping_in s r).submits place ≡ Some key → IsSome (lookup (is_at (kept_member_cmp (member_of key place))) s)
   is_held there = ap is_some (held s r [] [] [] key place there).1

@@ -60,9 +60,8 @@ loop-next-preserved c =
 
 pub loop-next-smaller : goal.loop-next-smaller
 loop-next-smaller c =
-    let of = of_candidate c.args.key.now in
-    let value = c.place_after-next-in-Some.ensures.value ∙ ap (λ es. find (stands_after kept_candidate_cmp of c.in-Some.candidate) es) c.loop-next.invariant.read.places in
-    let left = step-length candidates_total of c.args.candidates.now.places c.place_after-next.ensures.ordered (c.in-Some.candidate, c.in-Some.value) c.loop-next.next c.place_after-next-in-Some.result c.in-Some.is value in
+    let value = c.place_after-next-in-Some.ensures.value ∙ ap (λ es. find (stands_after kept_candidate_cmp (of_candidate c.args.key.now) c.in-Some.candidate) es) c.loop-next.invariant.read.places in
+    let left = step-length candidates_total (of_candidate c.args.key.now) c.args.candidates.now.places c.place_after-next.ensures.ordered (c.in-Some.candidate, c.in-Some.value) c.loop-next.next c.place_after-next-in-Some.result c.in-Some.is value in
     omega (arith, left)
 
 pub returns-then-is_some-clause-value : goal.returns-then-is_some-clause-value

@@ -1,4 +1,4 @@
-use Rattle.std.proofs.Common.{◌≡◌, true, ap, ◌∙◌, arith, find, map, length, subst}
+use Rattle.std.proofs.Common.{◌+◌, filter, ◌≡◌, true, ap, ◌∙◌, arith, find, map, length, subst}
 use Rattle.std.specs.Prelude.{IfSome}
 use Rattle.smq_shelf.specs.Places.{content_of}
 use Rattle.smq_shelf.specs.Walks.{stands_after}
@@ -15,16 +15,15 @@ returns-then-most-eq0-clause-by_place g c = λ _. rw c.new-members.ensures.items
 
 pub loop-next-init : goal.loop-next-init
 loop-next-init g c =
-    let of = of_part c.args.by_link c.args.key.now in
-    let first = left-found members_total of c.args.kept.now.places c.first_of-next.ensures.ordered of c.first_of-next.result (of-rises members_total of) c.first_of-next.ensures.value in
+    let first = left-found members_total (of_part c.args.by_link c.args.key.now) c.args.kept.now.places c.first_of-next.ensures.ordered (of_part c.args.by_link c.args.key.now) c.first_of-next.result (of-rises members_total (of_part c.args.by_link c.args.key.now)) c.first_of-next.ensures.value in
     let left = ap length first in
     let walked = c.first_of-next.ensures.walked in
     let touches = walked.touches in
     record {
-      walked = walked-more 1 _ walked (omega arith);
+      walked = walked-more 1 (1 + length (filter (of_part c.args.by_link c.args.key.now) c.args.kept.now.places)) walked (omega arith);
       touches = omega (arith, left, touches);
       gathered = rw c.new-members.ensures.items (ap (λ xs. map placed (content_of xs)) first);
-      like = found-of members_total of of c.args.kept.now.places c.first_of-next.result (of-rises members_total of) c.first_of-next.ensures.value;
+      like = found-of members_total (of_part c.args.by_link c.args.key.now) (of_part c.args.by_link c.args.key.now) c.args.kept.now.places c.first_of-next.result (of-rises members_total (of_part c.args.by_link c.args.key.now)) c.first_of-next.ensures.value;
     }
 
 pub next_of-next-requires : goal.next_of-next-requires
@@ -32,25 +31,24 @@ next_of-next-requires g c = subst (λ o. IfSome o (λ e. is_like c.args.by_link 
 
 pub loop-next-smaller : goal.loop-next-smaller
 loop-next-smaller g c =
-    let of = of_part c.args.by_link c.args.key.now in
-    let value = c.next_of-next.ensures.value ∙ ap (λ es. find (stands_after kept_member_cmp of c.in-Some.member) es) c.loop-next.invariant.walked.places in
-    let left = step-length members_total of c.args.kept.now.places c.first_of-next.ensures.ordered (c.in-Some.member, c.in-Some.value) c.loop-next.next c.next_of-next.result c.in-Some.is value in
+    let value = c.next_of-next.ensures.value ∙ ap (λ es. find (stands_after kept_member_cmp (of_part c.args.by_link c.args.key.now) c.in-Some.member) es) c.loop-next.invariant.walked.places in
+    let left = step-length members_total (of_part c.args.by_link c.args.key.now) c.args.kept.now.places c.first_of-next.ensures.ordered (c.in-Some.member, c.in-Some.value) c.loop-next.next c.next_of-next.result c.in-Some.is value in
     omega (arith, left)
 
 pub loop-next-preserved : goal.loop-next-preserved
 loop-next-preserved g c =
-    let of = of_part c.args.by_link c.args.key.now in
-    let value = c.next_of-next.ensures.value ∙ ap (λ es. find (stands_after kept_member_cmp of c.in-Some.member) es) c.loop-next.invariant.walked.places in
-    let left = step-length members_total of c.args.kept.now.places c.first_of-next.ensures.ordered (c.in-Some.member, c.in-Some.value) c.loop-next.next c.next_of-next.result c.in-Some.is value in
+    let value = c.next_of-next.ensures.value ∙ ap (λ es. find (stands_after kept_member_cmp (of_part c.args.by_link c.args.key.now) c.in-Some.member) es) c.loop-next.invariant.walked.places in
+    let left = step-length members_total (of_part c.args.by_link c.args.key.now) c.args.kept.now.places c.first_of-next.ensures.ordered (c.in-Some.member, c.in-Some.value) c.loop-next.next c.next_of-next.result c.in-Some.is value in
     let walked = c.next_of-next.ensures.walked in
     let touches = walked.touches in
     let bound = c.loop-next.invariant.touches in
     record {
-      walked = walked-on _ 1 _ c.loop-next.invariant.walked walked (omega (arith, touches, bound, left));
+      walked = walked-on (1 + length (filter (of_part c.args.by_link c.args.key.now) c.args.kept.now.places)) 1 (1 + length (filter (of_part c.args.by_link c.args.key.now) c.args.kept.now.places)) c.loop-next.invariant.walked walked (omega (arith, touches, bound, left));
       touches = omega (arith, touches, bound, left);
       gathered = step-gathered c.args.by_link c.args.key.now c.args.kept.now.places c.first_of-next.ensures.ordered c.in-Some.member c.in-Some.value c.loop-next.next c.next_of-next.result
-          c.loop-next.members.items c.push_there.new.members.items _ c.in-Some.is value c.loop-next.invariant.gathered c.in_ok-push_there.ensures;
-      like = found-of members_total of (stands_after kept_member_cmp of c.in-Some.member) c.args.kept.now.places c.next_of-next.result (after-rises members_total of c.in-Some.member) value;
+          c.loop-next.members.items c.push_there.new.members.items
+          (map placed (content_of (filter (of_part c.args.by_link c.args.key.now) c.args.kept.now.places))) c.in-Some.is value c.loop-next.invariant.gathered c.in_ok-push_there.ensures;
+      like = found-of members_total (of_part c.args.by_link c.args.key.now) (stands_after kept_member_cmp (of_part c.args.by_link c.args.key.now) c.in-Some.member) c.args.kept.now.places c.next_of-next.result (after-rises members_total (of_part c.args.by_link c.args.key.now) c.in-Some.member) value;
     }
 
 pub returns-clause-value : goal.returns-clause-value

@@ -34,15 +34,8 @@ out_receipt-requires-clause-candidate c =
     let there = receipt-held s r i i o o key c.args.place c.in-Some.said c.in-Some.said k (sym c.said_at-found.ensures.value ∙ c.in-Some.is) in
     λ d. in-index s r i i o o key c.args.place c.in-Some.said c.self.invariant.0 there d
 
-pub returns-in_default-clause-ok : goal.returns-in_default-clause-ok
-returns-in_default-clause-ok c =
-    let key = c.key_of_link-key.result in
-    let k = ap (λ (v : GroupsValue). option_map (λ x. x.key) (get v.members.receipts c.args.place)) c.self.view_is ∙ c.requires.there ∙ ap Some (sym c.key_of_link-key.ensures) in
-    let held = receipt-is_held c.self.inside.submits.content c.self.inside.receipts.content c.self.inside.candidates.content c.self.inside.candidates.content c.self.inside.outlooks.content c.self.inside.outlooks.content key c.args.place (record { moment = 0; decides = false }) k in
-    absurd (c.in_default.not-Some held.0 (c.said_at-found.ensures.value ∙ held.1))
-
-pub returns-in_default-clause-changes : goal.returns-in_default-clause-changes
-returns-in_default-clause-changes c =
+pub returns-in_default : goal.returns-in_default
+returns-in_default c =
     let key = c.key_of_link-key.result in
     let k = ap (λ (v : GroupsValue). option_map (λ x. x.key) (get v.members.receipts c.args.place)) c.self.view_is ∙ c.requires.there ∙ ap Some (sym c.key_of_link-key.ensures) in
     let held = receipt-is_held c.self.inside.submits.content c.self.inside.receipts.content c.self.inside.candidates.content c.self.inside.candidates.content c.self.inside.outlooks.content c.self.inside.outlooks.content key c.args.place (record { moment = 0; decides = false }) k in
