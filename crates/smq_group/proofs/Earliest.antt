@@ -157,16 +157,16 @@ pub record HasMore (g h : Grouping) (place : Place) (r : GroupedReceipt) : Type 
 abbrev AfterNone : m.Candidate → ℕ → Place → Type 0
 AfterNone c moment place = is_gt (candidate_cmp c (moment, place)) ≡ false
 
-abbrev a_candidate : LinkKey → ℕ → GroupedReceipt
+abbrev pub a_candidate : LinkKey → ℕ → GroupedReceipt
 a_candidate key moment = record { key = key; moment = moment; decides = true }
 
 module _ (g h : Grouping) (place : Place) (r : GroupedReceipt) (more : HasMore g h place r) (key : LinkKey) where
-  kept_can : (moment : ℕ) (p : Place) (b : Bool) → eq_by_cmp place_cmp p place ≡ b → CanDecide g key moment p → CanDecide h key moment p
+  pub kept_can : (moment : ℕ) (p : Place) (b : Bool) → eq_by_cmp place_cmp p place ≡ b → CanDecide g key moment p → CanDecide h key moment p
   kept_can moment p true t c = absurd (not_none (a_candidate key moment) (get g.receipts p) (ap (λ (x : Place). get g.receipts x) (same_place p place t) ∙ more.absent) c.stands)
   kept_can moment p false t c = record { stands = more.each p ∙ ap (λ b. cond b (Some r) (get g.receipts p)) t ∙ c.stands }
 
   -- what can decide then is the new one, or could before
-  each_can : (P : ℕ → Place → Type 0) → ((moment : ℕ) (p : Place) → (p ≡ place) × (r ≡ a_candidate key moment) → P moment p) → ((moment : ℕ) (p : Place) → CanDecide g key moment p → P moment p)
+  pub each_can : (P : ℕ → Place → Type 0) → ((moment : ℕ) (p : Place) → (p ≡ place) × (r ≡ a_candidate key moment) → P moment p) → ((moment : ℕ) (p : Place) → CanDecide g key moment p → P moment p)
       → (moment : ℕ) (p : Place) → CanDecide h key moment p → P moment p
   each_can P new old moment p c = by (eq_by_cmp place_cmp p place) refl
     where
@@ -174,7 +174,7 @@ module _ (g h : Grouping) (place : Place) (r : GroupedReceipt) (more : HasMore g
       by true t = new moment p (same_place p place t, one_of r (a_candidate key moment) (get h.receipts p) (more.each p ∙ ap (λ b. cond b (Some r) (get g.receipts p)) t) c.stands)
       by false t = old moment p (record { stands = sym (more.each p ∙ ap (λ b. cond b (Some r) (get g.receipts p)) t) ∙ c.stands })
 
-  new_here : same_key key r.key ≡ true → r.decides ≡ true → CanDecide h key r.moment place
+  pub new_here : same_key key r.key ≡ true → r.decides ≡ true → CanDecide h key r.moment place
   new_here s d = record {
     stands = more.each place ∙ ap (λ b. cond b (Some r) (get g.receipts place)) (own_place place place refl) ∙ (λ i. Some (record { key = sym (one_key key r.key s) i; moment = r.moment; decides = d i }));
   }
@@ -229,14 +229,14 @@ abbrev in_index : LinkKey → m.Candidate → Candidate
 in_index key c = record { key = key; moment = c.0; place = c.1 }
 
 module _ (g h : Grouping) (place : Place) (r : GroupedReceipt) (less : HasLess g h place r) (key : LinkKey) where
-  left_can : (moment : ℕ) (p : Place) (b : Bool) → eq_by_cmp place_cmp p place ≡ b → CanDecide h key moment p → CanDecide g key moment p × (eq_by_cmp place_cmp p place ≡ false)
+  pub left_can : (moment : ℕ) (p : Place) (b : Bool) → eq_by_cmp place_cmp p place ≡ b → CanDecide h key moment p → CanDecide g key moment p × (eq_by_cmp place_cmp p place ≡ false)
   left_can moment p true t c = absurd (not_none (a_candidate key moment) (get h.receipts p) (less.each p ∙ ap (λ b. cond b None (get g.receipts p)) t) c.stands)
   left_can moment p false t c = (record { stands = sym (less.each p ∙ ap (λ b. cond b None (get g.receipts p)) t) ∙ c.stands }, t)
 
-  stay_can : (moment : ℕ) (p : Place) → eq_by_cmp place_cmp p place ≡ false → CanDecide g key moment p → CanDecide h key moment p
+  pub stay_can : (moment : ℕ) (p : Place) → eq_by_cmp place_cmp p place ≡ false → CanDecide g key moment p → CanDecide h key moment p
   stay_can moment p t c = record { stands = less.each p ∙ ap (λ b. cond b None (get g.receipts p)) t ∙ c.stands }
 
-  was_there : (e : m.Candidate) → CanDecide g key e.0 e.1 → eq_by_cmp place_cmp e.1 place ≡ true → r ≡ a_candidate key e.0
+  pub was_there : (e : m.Candidate) → CanDecide g key e.0 e.1 → eq_by_cmp place_cmp e.1 place ≡ true → r ≡ a_candidate key e.0
   was_there e c t = one_of r (a_candidate key e.0) (get g.receipts place) less.there (ap (λ (x : Place). get g.receipts x) (sym (same_place e.1 place t)) ∙ c.stands)
 
   -- where another receipt was the earliest, it still is
@@ -251,10 +251,10 @@ module _ (g h : Grouping) (place : Place) (r : GroupedReceipt) (less : HasLess g
       (λ t. false≢true (sym n ∙ ap (λ (y : GroupedReceipt). same_key key y.key && y.decides) (was_there d f.0 t) ∙ ap (λ b. b && true) (own_key key))))) f
 
   module _ (index : List (Candidate × Bool)) (so : IsStrictlySortedBy kept_candidate_cmp (keys_of index))
-      (indexed : (c : Candidate) → lookup (is_at (kept_candidate_cmp c)) index ≡ cond (is_candidate c (get h.receipts c.place)) (Some true) None) where
+      (indexed : (c : Candidate) → same_key key c.key ≡ true → lookup (is_at (kept_candidate_cmp c)) index ≡ cond (is_candidate c (get h.receipts c.place)) (Some true) None) where
     in_indexed : (moment : ℕ) (p : Place) → CanDecide h key moment p → lookup (is_at (kept_candidate_cmp (in_index key (moment, p)))) index ≡ Some true
     in_indexed moment p c =
-        indexed (in_index key (moment, p)) ∙ ap (λ (x : Option GroupedReceipt). cond (is_candidate (in_index key (moment, p)) x) (Some true) None) c.stands
+        indexed (in_index key (moment, p)) (own_key key) ∙ ap (λ (x : Option GroupedReceipt). cond (is_candidate (in_index key (moment, p)) x) (Some true) None) c.stands
         ∙ (λ i. cond ((own_key key i && (eq-eqb moment moment refl) i) && true) (Some true) None)
 
     from_index : (c : Candidate) (x : Option GroupedReceipt) (v : Bool) → same_key key c.key ≡ true → get h.receipts c.place ≡ x → cond (is_candidate c x) (Some true) None ≡ Some v → CanDecide h key c.moment c.place
@@ -301,7 +301,7 @@ module _ (g h : Grouping) (place : Place) (r : GroupedReceipt) (less : HasLess g
       next_by None e = λ moment p c. (let at = later moment p c in not_none at.at (find following index) e at.is)
       next_by (Some x) e =
           let own : same_key key x.0.key ≡ true = (both (is_lt (kept_candidate_cmp (candidate_at key from) x.0)) (same_key key x.0.key) (found-passes following index x e)).1 in (
-            from_index x.0 (get h.receipts x.0.place) x.1 own refl (sym (indexed x.0) ∙ found-there candidates_total following index x so e),
+            from_index x.0 (get h.receipts x.0.place) x.1 own refl (sym (indexed x.0 own) ∙ found-there candidates_total following index x so e),
             λ moment p c. (let at = later moment p c in
                 let same : at.at ≡ x = one_of at.at x (find following index) at.is e in
                 by_pair x.0 moment p own (ap (λ (z : Candidate × Bool). is_gt (kept_candidate_cmp z.0 (in_index key (moment, p)))) (sym same) ∙ at.up_to)),
@@ -358,7 +358,7 @@ decider-stays g h place r less n = stays_first g h r.key (λ o t f. less-other g
 
 -- with one receipt less that decided: the next candidate
 pub decider-next : (g h : Grouping) (place : Place) (r : GroupedReceipt) → HasLess g h place r → (index : List (Candidate × Bool)) → IsStrictlySortedBy kept_candidate_cmp (keys_of index)
-    → ((c : Candidate) → lookup (is_at (kept_candidate_cmp c)) index ≡ cond (is_candidate c (get h.receipts c.place)) (Some true) None)
+    → ((c : Candidate) → same_key r.key c.key ≡ true → lookup (is_at (kept_candidate_cmp c)) index ≡ cond (is_candidate c (get h.receipts c.place)) (Some true) None)
     → (r.decides && is_decided (decider_in g r.key) place) ≡ true → decider_in h r.key ≡ first_candidate_after r.key (earliest_at (r.moment, place)) index
 decider-next g h place r less index so indexed was = by (reduce earlier (candidates g r.key)) refl
   where

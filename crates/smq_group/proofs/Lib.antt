@@ -6,6 +6,7 @@ pub mod Walking
 pub mod CandidateWalks
 pub mod Least
 pub mod Earliest
+pub mod Waiting
 pub mod MatchingLemmas
 pub mod StoringReceipts
 pub mod Turning

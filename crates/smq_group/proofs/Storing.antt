@@ -1,6 +1,6 @@
 -- The four maps hold a grouping: none at first, and with one submit more or less.
 use Rattle.std.proofs.Common.{◌≡◌, ◌+◌, ◌-◌, Bool, true, false, cond, List, [], ◌∷◌, Option, Some, None, refl, sym, ap, ◌∙◌, arith}
-use Rattle.std.specs.Prelude.{map, filter, count_by, option_map, ◌&&◌, IsSome, is_some}
+use Rattle.std.specs.Prelude.{map, filter, count_by, option_map, ◌&&◌, not, IsSome, is_some}
 use Rattle.std.specs.List.{reduce}
 use Rattle.std.specs.Ordering.{eq_by_cmp}
 use Rattle.std.specs.Map.{lookup, remove_entry}
@@ -24,8 +24,8 @@ use Rattle.smq_group.specs.declared.outlook.Earliest.{Earliest}
 use Rattle.smq_group.specs.Matching.{Grouping, GroupedReceipt, matches, candidates, earlier}
 use Rattle.smq_group.specs.Groups.{with_submit, without_submit}
 use Rattle.smq_group.specs.within.Orders.{kept_member_cmp}
-use Rattle.smq_group.specs.within.Outlooks.{an_outlook, outlook_at, no_outlook}
-use Rattle.smq_group.specs.within.Stored.{grouping_in, submit_value, is_candidate, earliest_at, outlook_in, AreStored, by_place, member_of}
+use Rattle.smq_group.specs.within.Outlooks.{an_outlook, is_decided_by, outlook_at, no_outlook}
+use Rattle.smq_group.specs.within.Stored.{grouping_in, submit_value, is_candidate, earliest_at, outlook_in, AreStored, by_place, member_of, waits}
 use Rattle.smq_group.proofs.Earliest.{one_key, own_key}
 use Rattle.smq_group.proofs.Placing.{at, found, with-member, without-member, once-insert, once-remove}
 
@@ -34,8 +34,10 @@ use Rattle.smq_group.proofs.Placing.{at, found, with-member, without-member, onc
 pub empty_entries : {X : Type 0} → entries (from_entries {X = X} {R = place_cmp} []) ≡ []
 empty_entries = maps.entries-from_entries places_total places_exact [] tt
 
-none_candidate : (c : Candidate) → cond (is_candidate c (get (from_entries {R = place_cmp} []) c.place)) (Some true) None ≡ None
-none_candidate c = ap (λ (r : Option GroupedReceipt). cond (is_candidate c r) (Some true) None) (get-from_entries places_total [] c.place)
+none_candidate : (c : Candidate) → cond (waits (grouping_in [] []) c) (Some true) None ≡ None
+none_candidate c =
+    ap (λ (r : Option GroupedReceipt). cond (is_candidate c r && not (is_decided_by (outlook_in (grouping_in [] []) c.key) c.place)) (Some true) None)
+    (get-from_entries places_total [] c.place)
 
 pub none-stored : AreStored [] [] [] []
 none-stored = record {

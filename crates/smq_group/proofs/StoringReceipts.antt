@@ -1,22 +1,17 @@
 -- The four maps hold a grouping with one receipt more or less.
 use Rattle.std.proofs.Common.{◌≡◌, Bool, true, false, cond, List, Option, Some, None, refl, sym, ap, ◌∙◌}
-use Rattle.std.specs.Prelude.{◌&&◌, ◌||◌, ◌==◌, not, map, option_map, IsSome, is_some}
-use Rattle.std.specs.Ordering.{eq_by_cmp, is_eq}
-use Rattle.std.specs.Cmp.{both_ways, tied_itself}
+use Rattle.std.specs.Prelude.{◌&&◌, ◌||◌, not, map, option_map, IsSome, is_some}
 use Rattle.std.specs.Map.{keys_of, lookup, remove_entry}
 use Rattle.std.specs.BTreeMap.{is_at, insert_entry}
 use Rattle.std.specs.FinMap.{get, get-from_entries, get-insert, get-remove}
 use Rattle.std.specs.List.Sorted.{IsStrictlySortedBy}
-use Rattle.std.proofs.lemmas.Bool.{false≢true, false_from_ne_true, eqb-true, eq-eqb}
+use Rattle.std.proofs.lemmas.Bool.{false≢true}
 use Rattle.smq_kit.specs.declared.place.Place.{Place}
 use Rattle.smq_kit.specs.declared.link_key.LinkKey.{LinkKey}
-use Rattle.smq_kit.specs.Orders.{place_cmp}
 use Rattle.smq_kit.specs.HashedKeys.{hashed_key_cmp}
-use Rattle.smq_kit.specs.LinkKeys.{same_key}
 use Rattle.smq_kit.proofs.PlaceOrders.{places_total}
 use Rattle.smq_kit.proofs.Comparisons.{is_equal}
 use Rattle.smq_shelf.proofs.Changes.{lookup-insert_entry, lookup-insert_other, lookup-removed, lookup-remove_other}
-use Rattle.smq_shelf.proofs.Walks.{both}
 use Rattle.smq_group.specs.declared.member.Member.{Member}
 use Rattle.smq_group.specs.declared.member.Candidate.{Candidate}
 use Rattle.smq_group.specs.declared.member.Said.{Said}
@@ -26,69 +21,17 @@ use Rattle.smq_group.specs.Matching.{Grouping, GroupedReceipt, matches}
 use Rattle.smq_group.specs.Groups.{with_receipt, without_receipt}
 use Rattle.smq_group.specs.within.KeyLaws.{one_candidate}
 use Rattle.smq_group.specs.within.Orders.{kept_member_cmp, kept_candidate_cmp}
-use Rattle.smq_group.specs.within.Outlooks.{an_outlook, outlook_at, outlook_with}
-use Rattle.smq_group.specs.within.Stored.{grouping_in, receipt_value, is_candidate, earliest_at, AreStored, by_place, member_of, candidate_of}
-use Rattle.smq_group.specs.within.Walked.{first_candidate_after}
+use Rattle.smq_group.specs.within.Outlooks.{an_outlook, later_of, outlook_at, outlook_with}
+use Rattle.smq_group.specs.within.Stored.{grouping_in, receipt_value, earliest_at, gone_of, AreStored, by_place, member_of, waits, with_waiting, without_waiting}
+use Rattle.smq_group.specs.within.Walked.{candidate_at, first_candidate_after}
 use Rattle.smq_group.proofs.CandidateWalks.{candidates_total}
-use Rattle.smq_group.proofs.Earliest.{HasMore, HasLess, decider_in, is_decided, decider-more, decider-elsewhere, decider-stays, decider-next, own_key, one_key}
-use Rattle.smq_group.proofs.Placing.{at, found, one_of, same_place, own_place, with-member, without-member, once-insert, once-remove}
+use Rattle.smq_group.proofs.Earliest.{HasMore, HasLess, decider_in, is_decided, decider-more, decider-elsewhere, decider-stays, decider-next, own_key}
+use Rattle.smq_group.proofs.Waiting.{decided-own, gone-waited, is_the, waits-decided, waits-less, waits-more}
+use Rattle.smq_group.proofs.Placing.{at, found, one_of, with-member, without-member, once-insert, once-remove}
 use Rattle.smq_group.proofs.Storing.{outlooks-anew}
 
-module _ (key : LinkKey) (place : Place) (said : Said) where
-  abbrev new_one : Candidate
-  new_one = candidate_of key place said
-
-  abbrev own : Candidate → Bool
-  own c = is_eq (kept_candidate_cmp c new_one)
-
-  itself : own new_one ≡ true
-  itself = ap is_eq (tied_itself candidates_total new_one)
-
-  is_it : (c : Candidate) → own c ≡ true → c ≡ new_one
-  is_it c e = one_candidate c new_one (is_equal (kept_candidate_cmp c new_one) e)
-
-  -- at its place a candidate is the one of this receipt where key and moment are
-  own_at : (c : Candidate) → c.place ≡ place → own c ≡ (same_key c.key key && (said.moment == c.moment))
-  own_at c p = both_ways (own c) (same_key c.key key && (said.moment == c.moment)) there back
-    where
-      there : own c ≡ true → (same_key c.key key && (said.moment == c.moment)) ≡ true
-      there e = let s = is_it c e in ap (λ (x : Candidate). same_key x.key key && (said.moment == x.moment)) s ∙ (λ i. own_key key i && (eq-eqb said.moment said.moment refl) i)
-
-      back : (same_key c.key key && (said.moment == c.moment)) ≡ true → own c ≡ true
-      back e =
-          let parts = both (same_key c.key key) (said.moment == c.moment) e in
-          let s : c ≡ new_one = λ i. record { key = one_key c.key key parts.0 i; moment = sym (eqb-true said.moment c.moment parts.1) i; place = p i } in
-          ap own s ∙ itself
-
-  elsewhere : (c : Candidate) → eq_by_cmp place_cmp c.place place ≡ false → own c ≡ false
-  elsewhere c n = false_from_ne_true (own c) (λ e. false≢true (sym n ∙ own_place c.place place (ap (λ (x : Candidate). x.place) (is_it c e))))
-
-  -- whether one is a candidate, with this receipt more
-  marked-more : (before after : Option GroupedReceipt) (c : Candidate) (b : Bool) → eq_by_cmp place_cmp c.place place ≡ b
-      → (b ≡ true → before ≡ None) → after ≡ cond b (Some (receipt_value key said)) before
-      → is_candidate c after ≡ ((own c && said.decides) || is_candidate c before)
-  marked-more before after c true t none a =
-      ap (is_candidate c) a ∙ ap (λ b. b && said.decides) (sym (own_at c (same_place c.place place t)))
-      ∙ sym (or_none (own c && said.decides)) ∙ ap (λ (x : Option GroupedReceipt). (own c && said.decides) || is_candidate c x) (sym (none refl))
-    where
-      or_none : (b : Bool) → (b || false) ≡ b
-      or_none true = refl
-      or_none false = refl
-  marked-more before after c false t none a = ap (is_candidate c) a ∙ sym (ap (λ b. (b && said.decides) || is_candidate c before) (elsewhere c t))
-
-  -- and with this receipt less
-  marked-less : (before after : Option GroupedReceipt) (c : Candidate) (b : Bool) → eq_by_cmp place_cmp c.place place ≡ b
-      → (b ≡ true → before ≡ Some (receipt_value key said)) → after ≡ cond b None before
-      → is_candidate c after ≡ (not (own c && said.decides) && is_candidate c before)
-  marked-less before after c true t there a =
-      ap (is_candidate c) a
-      ∙ sym (ap (λ (x : Option GroupedReceipt). not (own c && said.decides) && is_candidate c x) (there refl)
-      ∙ ap (λ b. not (own c && said.decides) && (b && said.decides)) (sym (own_at c (same_place c.place place t))) ∙ never (own c && said.decides))
-    where
-      never : (b : Bool) → (not b && b) ≡ false
-      never true = refl
-      never false = refl
-  marked-less before after c false t there a = ap (is_candidate c) a ∙ sym (ap (λ b. not (b && said.decides) && is_candidate c before) (elsewhere c t))
+abbrev own : Place → Said → Earliest
+own place said = earliest_at (said.moment, place)
 
 module _ (s : List (Member × Bool)) (r : List (Member × Said)) (i i' : List (Candidate × Bool)) (o o' : List (LinkKey × Outlook)) (key : LinkKey) (place : Place) (said : Said) where
   abbrev member : Member
@@ -121,15 +64,15 @@ module _ (s : List (Member × Bool)) (r : List (Member × Said)) (i i' : List (C
     each = λ q. ap (λ (h : Grouping). get h.receipts q) (receipt-more none) ∙ get-insert places_total g.receipts place value q;
   }
 
-  indexed_more : (d : Bool) → said.decides ≡ d → i' ≡ cond d (insert_entry kept_candidate_cmp i (candidate_of key place said) true) i → (c : Candidate) (b : Bool) → is_at (kept_candidate_cmp c) (candidate_of key place said) ≡ b
-      → lookup (is_at (kept_candidate_cmp c)) i' ≡ cond (b && d) (Some true) (lookup (is_at (kept_candidate_cmp c)) i)
-  indexed_more true d put c true t =
+  indexed_more : (w : Option Earliest) → i' ≡ with_waiting key w true i → (c : Candidate) (b : Bool) → is_the key w c ≡ b
+      → lookup (is_at (kept_candidate_cmp c)) i' ≡ cond b (Some true) (lookup (is_at (kept_candidate_cmp c)) i)
+  indexed_more None put c true t = absurd (false≢true t)
+  indexed_more None put c false t = ap (lookup (is_at (kept_candidate_cmp c))) put
+  indexed_more (Some e) put c true t =
       ap (lookup (is_at (kept_candidate_cmp c))) put
-      ∙ ap (λ (x : Candidate). lookup (is_at (kept_candidate_cmp x)) (insert_entry kept_candidate_cmp i (candidate_of key place said) true)) (one_candidate c (candidate_of key place said) (is_equal (kept_candidate_cmp c (candidate_of key place said)) t))
-      ∙ lookup-insert_entry candidates_total (candidate_of key place said) true i
-  indexed_more true d put c false t = ap (lookup (is_at (kept_candidate_cmp c))) put ∙ lookup-insert_other candidates_total (candidate_of key place said) c true i t
-  indexed_more false d put c true t = ap (lookup (is_at (kept_candidate_cmp c))) put
-  indexed_more false d put c false t = ap (lookup (is_at (kept_candidate_cmp c))) put
+      ∙ ap (λ (x : Candidate). lookup (is_at (kept_candidate_cmp x)) (insert_entry kept_candidate_cmp i (candidate_at key e) true)) (one_candidate c (candidate_at key e) (is_equal (kept_candidate_cmp c (candidate_at key e)) t))
+      ∙ lookup-insert_entry candidates_total (candidate_at key e) true i
+  indexed_more (Some e) put c false t = ap (lookup (is_at (kept_candidate_cmp c))) put ∙ lookup-insert_other candidates_total (candidate_at key e) c true i t
 
   joined : (a b : Bool) → cond a (Some true) (cond b (Some true) None) ≡ cond (a || b) (Some true) None
   joined true b = refl
@@ -137,7 +80,7 @@ module _ (s : List (Member × Bool)) (r : List (Member × Said)) (i i' : List (C
 
   -- with one receipt more, where its key's outlook has it and the others stay
   pub receipt-stored : get g.receipts place ≡ None → AreStored s r i o
-      → i' ≡ cond said.decides (insert_entry kept_candidate_cmp i (candidate_of key place said) true) i
+      → i' ≡ with_waiting key (later_of (outlook_at key o).decider (own place said) said.decides) true i
       → outlook_at key o' ≡ outlook_with (outlook_at key o) (earliest_at (said.moment, place)) said.decides
       → ((other : LinkKey) → is_at (hashed_key_cmp other) key ≡ false → outlook_at other o' ≡ outlook_at other o)
       → AreStored s more i' o'
@@ -146,11 +89,9 @@ module _ (s : List (Member × Bool)) (r : List (Member × Said)) (i i' : List (C
     receipts_once = once-insert receipt_value member said r (not_there none) st.receipts_once;
     indexed = record {
       candidates = λ c.
-          indexed_more said.decides refl put c (own key place said c) refl
-          ∙ ap (cond (own key place said c && said.decides) (Some true)) (st.indexed.candidates c)
-          ∙ joined (own key place said c && said.decides) (is_candidate c (get g.receipts c.place))
-          ∙ sym (ap (λ b. cond b (Some true) None) (marked-more key place said (get g.receipts c.place) (get (grouping_in s more).receipts c.place) c (eq_by_cmp place_cmp c.place place) refl
-          (λ t. ap (get g.receipts) (same_place c.place place t) ∙ none) ((has-more none).each c.place)));
+          indexed_more w (put ∙ ap (λ (x : Outlook). with_waiting key (later_of x.decider (own place said) said.decides) true i) (st.indexed.outlook key)) c (is_the key w c) refl
+          ∙ ap (cond (is_the key w c) (Some true)) (st.indexed.candidates c) ∙ joined (is_the key w c) (waits g c)
+          ∙ ap (λ b. cond b (Some true) None) (waits-more g (grouping_in s more) place value (has-more none) c);
       outlook = outlooks-anew g (grouping_in s more) o o' key st.indexed.outlook
           (λ k t. ap (an_outlook (matches g k)) (decider-more g (grouping_in s more) place value (has-more none) k false said.decides t refl))
           (here ∙ ap (λ (x : Outlook). outlook_with x (earliest_at (said.moment, place)) said.decides) (st.indexed.outlook key)
@@ -158,6 +99,9 @@ module _ (s : List (Member × Bool)) (r : List (Member × Said)) (i i' : List (C
           elsewhere;
     };
   }
+    where
+      w : Option Earliest
+      w = later_of (decider_in g key) (own place said) said.decides
 
   -- ---- one less
 
@@ -191,22 +135,15 @@ module _ (s : List (Member × Bool)) (r : List (Member × Said)) (i i' : List (C
     each = λ q. ap (λ (h : Grouping). get h.receipts q) (receipt-less st l) ∙ get-remove places_total g.receipts place q;
   }
 
-  -- one that can decide is in the index
-  pub in-index : AreStored s r i o → get g.receipts place ≡ Some value → said.decides ≡ true → IsSome (lookup (is_at (kept_candidate_cmp (candidate_of key place said))) i)
-  in-index st there d =
-      ap is_some (st.indexed.candidates (candidate_of key place said) ∙ ap (λ (x : Option GroupedReceipt). cond (is_candidate (candidate_of key place said) x) (Some true) None) there
-      ∙ (λ j. cond ((own_key key j && (eq-eqb said.moment said.moment refl) j) && d j) (Some true) None))
-
-  indexed_less : (d : Bool) → said.decides ≡ d → i' ≡ cond d (remove_entry (is_at (kept_candidate_cmp (candidate_of key place said))) i) i → (d ≡ true → IsStrictlySortedBy kept_candidate_cmp (keys_of i))
-      → (c : Candidate) (b : Bool) → is_at (kept_candidate_cmp c) (candidate_of key place said) ≡ b
-      → lookup (is_at (kept_candidate_cmp c)) i' ≡ cond (not (b && d)) (lookup (is_at (kept_candidate_cmp c)) i) None
-  indexed_less true d out so c true t =
+  indexed_less : (w : Option Earliest) → i' ≡ without_waiting key w i → (IsSome w → IsStrictlySortedBy kept_candidate_cmp (keys_of i)) → (c : Candidate) (b : Bool) → is_the key w c ≡ b
+      → lookup (is_at (kept_candidate_cmp c)) i' ≡ cond (not b) (lookup (is_at (kept_candidate_cmp c)) i) None
+  indexed_less None out so c true t = absurd (false≢true t)
+  indexed_less None out so c false t = ap (lookup (is_at (kept_candidate_cmp c))) out
+  indexed_less (Some e) out so c true t =
       ap (lookup (is_at (kept_candidate_cmp c))) out
-      ∙ ap (λ (x : Candidate). lookup (is_at (kept_candidate_cmp x)) (remove_entry (is_at (kept_candidate_cmp (candidate_of key place said))) i)) (one_candidate c (candidate_of key place said) (is_equal (kept_candidate_cmp c (candidate_of key place said)) t))
-      ∙ lookup-removed candidates_total (candidate_of key place said) i (so refl)
-  indexed_less true d out so c false t = ap (lookup (is_at (kept_candidate_cmp c))) out ∙ lookup-remove_other candidates_total (candidate_of key place said) c i t
-  indexed_less false d out so c true t = ap (lookup (is_at (kept_candidate_cmp c))) out
-  indexed_less false d out so c false t = ap (lookup (is_at (kept_candidate_cmp c))) out
+      ∙ ap (λ (x : Candidate). lookup (is_at (kept_candidate_cmp x)) (remove_entry (is_at (kept_candidate_cmp (candidate_at key e))) i)) (one_candidate c (candidate_at key e) (is_equal (kept_candidate_cmp c (candidate_at key e)) t))
+      ∙ lookup-removed candidates_total (candidate_at key e) i (so refl)
+  indexed_less (Some e) out so c false t = ap (lookup (is_at (kept_candidate_cmp c))) out ∙ lookup-remove_other candidates_total (candidate_at key e) c i t
 
   parted : (a b : Bool) → cond a (cond b (Some true) None) None ≡ cond (a && b) (Some true) None
   parted true b = refl
@@ -216,45 +153,69 @@ module _ (s : List (Member × Bool)) (r : List (Member × Said)) (i i' : List (C
   abbrev pub did_decide : Bool
   did_decide = said.decides && is_decided (outlook_at key o).decider place
 
-  -- What is kept of the key once a receipt is taken out: where it decided, the next of the index does.
+  -- What decides once a receipt is taken out: where that decided, the next of the index.
   pub record HasNext (next : Option Earliest) : Type 0 where
-    pub here : outlook_at key o' ≡ an_outlook (outlook_at key o).matches next
     pub stays : did_decide ≡ false → next ≡ (outlook_at key o).decider
-    pub follows : did_decide ≡ true → next ≡ first_candidate_after key (earliest_at (said.moment, place)) i'
-    pub ordered : did_decide ≡ true → IsStrictlySortedBy kept_candidate_cmp (keys_of i')
+    pub follows : did_decide ≡ true → next ≡ first_candidate_after key (own place said) i
+    pub ordered : did_decide ≡ true → IsStrictlySortedBy kept_candidate_cmp (keys_of i)
 
-  pub receipt-taken : AreStored s r i o → get g.receipts place ≡ Some value → lookup (is_at (kept_member_cmp member)) r ≡ Some said
-      → i' ≡ cond said.decides (remove_entry (is_at (kept_candidate_cmp (candidate_of key place said))) i) i → (said.decides ≡ true → IsStrictlySortedBy kept_candidate_cmp (keys_of i))
-      → (next : Option Earliest) → HasNext next
-      → ((other : LinkKey) → is_at (hashed_key_cmp other) key ≡ false → outlook_at other o' ≡ outlook_at other o)
-      → AreStored s less i' o'
-  receipt-taken st there l out so next n elsewhere = record {
-    submits_once = st.submits_once;
-    receipts_once = once-remove receipt_value (is_at (kept_member_cmp member)) r st.receipts_once;
-    indexed = record {
-      candidates = indexed;
-      outlook = outlooks-anew g (grouping_in s less) o o' key st.indexed.outlook
-          (λ k t. ap (an_outlook (matches g k)) (decider-elsewhere g (grouping_in s less) place value (has-less st there l) k t))
-          (n.here ∙ ap (λ (x : Outlook). an_outlook x.matches next) (st.indexed.outlook key) ∙ sym (ap (an_outlook (matches g key)) (new did_decide refl)))
-          elsewhere;
-    };
-  }
-    where
-      h : Grouping
-      h = grouping_in s less
+  pub has-next : (next : Option Earliest) (before : Outlook) → before ≡ outlook_at key o
+      → ((said.decides && is_decided before.decider place) ≡ false → next ≡ before.decider)
+      → ((said.decides && is_decided before.decider place) ≡ true → next ≡ first_candidate_after key (own place said) i)
+      → ((said.decides && is_decided before.decider place) ≡ true → IsStrictlySortedBy kept_candidate_cmp (keys_of i)) → HasNext next
+  has-next next before is stays follows ordered =
+      let decides = ap (λ (x : Outlook). said.decides && is_decided x.decider place) is in
+      record {
+        stays = λ e. stays (decides ∙ e) ∙ ap (λ (x : Outlook). x.decider) is;
+        follows = λ e. follows (decides ∙ e);
+        ordered = λ e. ordered (decides ∙ e);
+      }
 
-      indexed : (c : Candidate) → lookup (is_at (kept_candidate_cmp c)) i' ≡ cond (is_candidate c (get (grouping_in s less).receipts c.place)) (Some true) None
-      indexed c =
-          indexed_less said.decides refl out so c (own key place said c) refl
-          ∙ ap (λ (x : Option Bool). cond (not (own key place said c && said.decides)) x None) (st.indexed.candidates c)
-          ∙ parted (not (own key place said c && said.decides)) (is_candidate c (get g.receipts c.place))
-          ∙ sym (ap (λ b. cond b (Some true) None) (marked-less key place said (get g.receipts c.place) (get (grouping_in s less).receipts c.place) c (eq_by_cmp place_cmp c.place place) refl
-          (λ t. ap (get g.receipts) (same_place c.place place t) ∙ there) ((has-less st there l).each c.place)))
+  module _ (st : AreStored s r i o) (there : get g.receipts place ≡ Some value) (l : lookup (is_at (kept_member_cmp member)) r ≡ Some said) (next : Option Earliest) (n : HasNext next) where
+    abbrev h : Grouping
+    h = grouping_in s less
 
-      new : (b : Bool) → did_decide ≡ b → decider_in (grouping_in s less) key ≡ next
-      new true w =
-          decider-next g (grouping_in s less) place value (has-less st there l) i' (n.ordered w) indexed
-          (sym (ap (λ (x : Outlook). said.decides && is_decided x.decider place) (st.indexed.outlook key)) ∙ w) ∙ sym (n.follows w)
-      new false w =
-          decider-stays g (grouping_in s less) place value (has-less st there l) (sym (ap (λ (x : Outlook). said.decides && is_decided x.decider place) (st.indexed.outlook key)) ∙ w)
-          ∙ sym (ap (λ (x : Outlook). x.decider) (st.indexed.outlook key)) ∙ sym (n.stays w)
+    decided_before : did_decide ≡ (said.decides && is_decided (decider_in g key) place)
+    decided_before = ap (λ (x : Outlook). said.decides && is_decided x.decider place) (st.indexed.outlook key)
+
+    new : (b : Bool) → did_decide ≡ b → decider_in h key ≡ next
+    new true w =
+        let was = sym decided_before ∙ w in
+        decider-next g h place value (has-less st there l) i (n.ordered w)
+        (λ c t. st.indexed.candidates c ∙ ap (λ b. cond b (Some true) None) (waits-decided g h place value (has-less st there l) (decided-own g h place value (has-less st there l) was) c t))
+        was ∙ sym (n.follows w)
+    new false w = decider-stays g h place value (has-less st there l) (sym decided_before ∙ w) ∙ sym (ap (λ (x : Outlook). x.decider) (st.indexed.outlook key)) ∙ sym (n.stays w)
+
+    abbrev w : Option Earliest
+    w = gone_of said.decides (is_decided (outlook_at key o).decider place) next (own place said)
+
+    -- what goes, by the grouping
+    goes : w ≡ gone_of said.decides (is_decided (decider_in g key) place) (decider_in h key) (own place said)
+    goes = λ j. gone_of said.decides (is_decided (st.indexed.outlook key j).decider place) (sym (new did_decide refl) j) (own place said)
+
+    -- and it is in the index
+    pub gone-there : (e : Earliest) → w ≡ Some e → IsSome (lookup (is_at (kept_candidate_cmp (candidate_at key e))) i)
+    gone-there e is =
+        ap is_some (st.indexed.candidates (candidate_at key e)
+        ∙ ap (λ b. cond b (Some true) None) (gone-waited g h place value (has-less st there l) did_decide (sym decided_before) e (sym goes ∙ is)))
+
+    pub receipt-taken : i' ≡ without_waiting key w i → (IsSome w → IsStrictlySortedBy kept_candidate_cmp (keys_of i))
+        → outlook_at key o' ≡ an_outlook (outlook_at key o).matches next
+        → ((other : LinkKey) → is_at (hashed_key_cmp other) key ≡ false → outlook_at other o' ≡ outlook_at other o)
+        → AreStored s less i' o'
+    receipt-taken out so here elsewhere = record {
+      submits_once = st.submits_once;
+      receipts_once = once-remove receipt_value (is_at (kept_member_cmp member)) r st.receipts_once;
+      indexed = record {
+        candidates = λ c.
+            indexed_less w out so c (is_the key w c) refl
+            ∙ ap (λ (x : Option Bool). cond (not (is_the key w c)) x None) (st.indexed.candidates c)
+            ∙ parted (not (is_the key w c)) (waits g c)
+            ∙ ap (λ (x : Option Earliest). cond (not (is_the key x c) && waits g c) (Some true) None) goes
+            ∙ ap (λ b. cond b (Some true) None) (waits-less g h place value (has-less st there l) did_decide (sym decided_before) c);
+        outlook = outlooks-anew g h o o' key st.indexed.outlook
+            (λ k t. ap (an_outlook (matches g k)) (decider-elsewhere g h place value (has-less st there l) k t))
+            (here ∙ ap (λ (x : Outlook). an_outlook x.matches next) (st.indexed.outlook key) ∙ sym (ap (an_outlook (matches g key)) (new did_decide refl)))
+            elsewhere;
+      };
+    }

@@ -13,10 +13,11 @@ use Rattle.smq_kit.specs.LinkKeys.{same_key}
 use Rattle.smq_group.specs.declared.member.Member.{Member}
 use Rattle.smq_group.specs.declared.member.Candidate.{Candidate}
 use Rattle.smq_group.specs.declared.member.Said.{Said}
+use Rattle.smq_group.specs.declared.outlook.Earliest.{Earliest}
 use Rattle.smq_group.specs.within.KeyLaws.{one_member, one_candidate}
 use Rattle.smq_group.specs.within.Orders.{kept_member_cmp, kept_candidate_cmp}
-use Rattle.smq_group.specs.within.Stored.{member_of, candidate_of}
-use Rattle.smq_group.specs.within.Walked.{candidate_key, member_key, vacant_keys, vacant_of}
+use Rattle.smq_group.specs.within.Stored.{member_of, with_waiting}
+use Rattle.smq_group.specs.within.Walked.{candidate_at, candidate_key, member_key, vacant_keys, vacant_of}
 
 -- ---- a list with one more in front, where a test passes
 
@@ -109,10 +110,10 @@ module _ (key k : LinkKey) (place : Place) where
       let same = ap (vacant_of member_key k) e in
       omega (arith, h, same)
 
-  pub candidate-put : (said : Said) (d : Bool) (x : Option Bool) (old new : List (Candidate × Option Bool)) → new ≡ cond d (insert_entry kept_candidate_cmp old (candidate_of key place said) x) old
+  pub candidate-put : (w : Option Earliest) (x : Option Bool) (old new : List (Candidate × Option Bool)) → new ≡ with_waiting key w x old
       → vacant_of candidate_key k new ≤ vacant_of candidate_key k old + vacated x (same_key k key)
-  candidate-put said true x old new e =
-      let h = vacant-put kept_candidate_cmp one_candidate candidate_key k (candidate_of key place said) x old in
+  candidate-put None x old new e = let same = ap (vacant_of candidate_key k) e in omega (arith, same)
+  candidate-put (Some w) x old new e =
+      let h = vacant-put kept_candidate_cmp one_candidate candidate_key k (candidate_at key w) x old in
       let same = ap (vacant_of candidate_key k) e in
       omega (arith, h, same)
-  candidate-put said false x old new e = let same = ap (vacant_of candidate_key k) e in omega (arith, same)

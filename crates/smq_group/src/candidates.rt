@@ -1,4 +1,4 @@
-//! The receipts of a key that can decide, the earliest first.
+//! The receipts of a key that wait behind the one that decides, the earliest first.
 ghost use Rattle.std.specs.Prelude.{◌≡◌, ◌+◌, ◌≤◌, true, find};
 ghost use Rattle.std.specs.List.Sorted.{IsStrictlySortedBy};
 ghost use Rattle.std.specs.Map.{keys_of};
@@ -14,7 +14,7 @@ use crate::walks::is_one_key;
 use smq_kit::HashedKey;
 use smq_shelf::{Kept, ShelfKey};
 
-/// The earliest receipt of a key that can decide after this moment and place.
+/// The earliest receipt of a key that waits after this moment and place.
 pub(crate) fn next_candidate(
     candidates: &mut Kept<Candidate, bool>,
     key: &HashedKey,

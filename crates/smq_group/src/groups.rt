@@ -12,7 +12,9 @@ use crate::changes::{Added, tell};
 use crate::links::places_on;
 use crate::member::{Candidate, Member, Said};
 use crate::outlook::{Earliest, Outlook, outlook_of};
-use crate::receipts::{decider_without, out_receipt, put_receipt, said_at, take_back_receipt};
+use crate::receipts::{
+    decider_without, gone, out_receipt, put_receipt, said_at, take_back_receipt,
+};
 use smq_kit::{HashedKey, Key, LinkId, Moment, Place};
 use smq_shelf::{Kept, ShelfKey};
 use std::alloc::{AllocError, Global};
@@ -28,6 +30,7 @@ pub struct Groups {
     alloc: Global,
     submits: Kept<Member, bool>,
     receipts: Kept<Member, Said>,
+    /// The receipts that can decide, but for the earliest of each key, which its outlook has.
     candidates: Kept<Candidate, bool>,
     outlooks: Kept<HashedKey, Outlook>,
 }
@@ -228,8 +231,16 @@ impl Groups {
     {
         let key = HashedKey::new(link, key);
         let before = outlook_of(&mut self.outlooks, &key);
+        let waits = before.later_of(Earliest { moment, place }, decides);
         let said = Said { moment, decides };
-        put_receipt(&mut self.receipts, &mut self.candidates, &key, place, said)?;
+        put_receipt(
+            &mut self.receipts,
+            &mut self.candidates,
+            &key,
+            place,
+            said,
+            &waits,
+        )?;
         let after = before.with_receipt(Earliest { moment, place }, decides);
         match tell(
             self.alloc,
@@ -243,7 +254,7 @@ impl Groups {
         ) {
             Ok(changes) => Ok(changes),
             Err(error) => {
-                take_back_receipt(&mut self.receipts, &mut self.candidates, decides);
+                take_back_receipt(&mut self.receipts, &mut self.candidates, &waits);
                 Err(error)
             }
         }
@@ -278,10 +289,10 @@ impl Groups {
         };
         let moment = said.moment;
         let decides = said.decides;
-        let gone = Said { moment, decides };
-        out_receipt(&mut self.receipts, &mut self.candidates, &key, place, gone)?;
-        let gone = Said { moment, decides };
-        let decider = decider_without(&mut self.candidates, &key, &before, place, gone);
+        let taken = Said { moment, decides };
+        let decider = decider_without(&mut self.candidates, &key, &before, place, taken);
+        let gone = gone(&before, &decider, place, Said { moment, decides });
+        out_receipt(&mut self.receipts, &mut self.candidates, &key, place, &gone)?;
         let after = Outlook {
             matches: before.matches,
             decider,
@@ -298,7 +309,7 @@ impl Groups {
         ) {
             Ok(changes) => Ok(changes),
             Err(error) => {
-                take_back_receipt(&mut self.receipts, &mut self.candidates, decides);
+                take_back_receipt(&mut self.receipts, &mut self.candidates, &gone);
                 Err(error)
             }
         }

@@ -24,8 +24,8 @@ impl ShelfKey for Member {
     }
 }
 
-/// A receipt that can decide: the group's key, and the receipt's moment and place. Those of a group stand together, the
-/// earliest first.
+/// A receipt that waits, since it can decide and an earlier one does: the group's key, and the receipt's moment and place.
+/// Those of a group stand together, the earliest first.
 #[derive(Debug, PartialEq, Eq, PartialOrd, Ord, Drop)]
 pub(crate) struct Candidate {
     pub(crate) key: HashedKey,

@@ -4,7 +4,7 @@ ghost use Rattle.std.specs.Map.{lookup};
 ghost use Rattle.std.specs.BTreeMap.{is_at};
 ghost use Rattle.smq_kit.specs.HashedKeys.{hashed_key_cmp};
 ghost use Rattle.smq_kit.specs.declared.link_key.LinkKey.{LinkKey};
-ghost use Rattle.smq_group.specs.within.Outlooks.{an_outlook, no_outlook, outlook_at, outlook_with, decider_of, is_decided_by, submit_standing_of, receipt_standing_of};
+ghost use Rattle.smq_group.specs.within.Outlooks.{later_of, an_outlook, no_outlook, outlook_at, outlook_with, decider_of, is_decided_by, submit_standing_of, receipt_standing_of};
 
 use crate::Standing;
 use smq_kit::{HashedKey, Moment, Place};
@@ -62,6 +62,23 @@ impl Outlook {
         Outlook {
             matches: self.matches,
             decider,
+        }
+    }
+
+    /// The later of a receipt and the earliest that can decide, where both can.
+    pub(crate) fn later_of(&self, receipt: Earliest, decides: bool) -> Option<Earliest>
+        ensures { result ≡ later_of self.now.decider receipt decides }
+    {
+        if !decides {
+            return None;
+        }
+        match &self.decider {
+            Some(earliest) => Some(if receipt < *earliest {
+                *earliest
+            } else {
+                receipt
+            }),
+            None => None,
         }
     }
 

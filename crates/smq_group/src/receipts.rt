@@ -1,5 +1,5 @@
 //! A receipt put among the kept ones, or taken out, and taken back.
-ghost use Rattle.std.specs.Prelude.{◌≡◌, ◌+◌, ◌≤◌, ◌&&◌, Bool, true, false, if◌then◌else◌, List, ◌∷◌, Option, None, Some, IsSome, OnOk, OnErr};
+ghost use Rattle.std.specs.Prelude.{◌≡◌, ◌+◌, ◌≤◌, ◌&&◌, Bool, true, false, if◌then◌else◌, List, ◌∷◌, Option, None, Some, IfSome, IsSome, OnOk, OnErr, is_some};
 ghost use Rattle.std.specs.List.Sorted.{IsStrictlySortedBy};
 ghost use Rattle.std.specs.Map.{keys_of, lookup, remove_entry};
 ghost use Rattle.std.specs.BTreeMap.{insert_entry, is_at};
@@ -8,8 +8,8 @@ ghost use Rattle.smq_shelf.specs.Places.{content_of};
 ghost use Rattle.smq_shelf.specs.Walks.{Stays};
 ghost use Rattle.smq_group.specs.within.Orders.{kept_candidate_cmp, kept_member_cmp};
 ghost use Rattle.smq_group.specs.within.Outlooks.{is_decided_by};
-ghost use Rattle.smq_group.specs.within.Stored.{CanTakeBack, candidate_of, earliest_at, member_of};
-ghost use Rattle.smq_group.specs.within.Walked.{candidate_key, first_candidate_after, vacant_of};
+ghost use Rattle.smq_group.specs.within.Stored.{CanTakeBack, earliest_at, gone_of, member_of, with_waiting, without_waiting};
+ghost use Rattle.smq_group.specs.within.Walked.{candidate_at, candidate_key, first_candidate_after, vacant_of};
 
 use crate::candidates::next_candidate;
 use crate::member::{Candidate, Member, Said};
@@ -35,7 +35,7 @@ pub(crate) fn said_at(
     receipts.get(&member).copied()
 }
 
-/// The earliest candidate of a key once a receipt is taken out: where that decided, the next one.
+/// The earliest receipt of a key that can decide once one is taken out: where that decided, the next one that waits.
 pub(crate) fn decider_without(
     candidates: &mut Kept<Candidate, bool>,
     key: &HashedKey,
@@ -61,33 +61,50 @@ pub(crate) fn decider_without(
     before.decider
 }
 
-/// Puts a receipt in, and among the candidates where it can decide. An error changes nothing.
+/// What waits no more once a receipt is taken out: where that decided, the one that does then, and else itself, where it can.
+pub(crate) fn gone(
+    before: &Outlook,
+    next: &Option<Earliest>,
+    place: Place,
+    said: Said,
+) -> Option<Earliest>
+    ensures { result ≡ gone_of said.decides (is_decided_by before.now place) next.now
+        (earliest_at (said.moment, place)) }
+{
+    let Said { moment, decides } = said;
+    if !decides {
+        return None;
+    }
+    if before.is_decided_by(place) {
+        return *next;
+    }
+    Some(Earliest { moment, place })
+}
+
+/// Puts a receipt in, and among the candidates what waits then, if anything. An error changes nothing.
 pub(crate) fn put_receipt(
     receipts: &mut Kept<Member, Said>,
     candidates: &mut Kept<Candidate, bool>,
     key: &HashedKey,
     place: Place,
     said: Said,
+    waits: &Option<Earliest>,
 ) -> Result<(), AllocError>
     ensures receipts { OnOk result (receipts.new.content
         ≡ insert_entry kept_member_cmp receipts.old.content (member_of key.now place) said) }
-    ensures candidates { OnOk result (candidates.new.content ≡ if said.decides
-        then insert_entry kept_candidate_cmp candidates.old.content
-        (candidate_of key.now place said) true
-        else candidates.old.content) }
+    ensures candidates { OnOk result (candidates.new.content
+        ≡ with_waiting key.now waits.now true candidates.old.content) }
     ensures places { OnOk result (receipts.new.places
         ≡ insert_entry kept_member_cmp receipts.old.places (member_of key.now place)
         (Some said)) }
-    ensures candidate_places { OnOk result (candidates.new.places ≡ if said.decides
-        then insert_entry kept_candidate_cmp candidates.old.places
-        (candidate_of key.now place said) (Some true)
-        else candidates.old.places) }
+    ensures candidate_places { OnOk result (candidates.new.places
+        ≡ with_waiting key.now waits.now (Some true) candidates.old.places) }
     ensures touches { OnOk result (receipts.new.touches + candidates.new.touches
         ≤ receipts.old.touches + candidates.old.touches + 2) }
     ensures pending { OnOk result (receipts.new.pending + candidates.new.pending
         ≤ receipts.old.pending + candidates.old.pending + 2) }
     ensures back { OnOk result
-        (CanTakeBack said.decides receipts.old candidates.old receipts.new candidates.new) }
+        (CanTakeBack (is_some waits.now) receipts.old candidates.old receipts.new candidates.new) }
     ensures err { OnErr result (receipts.new.content ≡ receipts.old.content) }
     ensures err_candidates { OnErr result (candidates.new.content ≡ candidates.old.content) }
     ensures settled { receipts.new.settled ≡ receipts.old.settled }
@@ -99,15 +116,14 @@ pub(crate) fn put_receipt(
         key: key.copy(),
         place,
     };
-    let Said { moment, decides } = said;
-    receipts.set(member, Said { moment, decides })?;
-    if !decides {
+    receipts.set(member, said)?;
+    let Some(earliest) = waits else {
         return Ok(());
-    }
+    };
     let candidate = Candidate {
         key: key.copy(),
-        moment,
-        place,
+        moment: earliest.moment,
+        place: earliest.place,
     };
     match candidates.set(candidate, true) {
         Ok(()) => Ok(()),
@@ -118,38 +134,34 @@ pub(crate) fn put_receipt(
     }
 }
 
-/// Takes a receipt out, and from the candidates where it could decide. An error changes nothing.
+/// Takes a receipt out, and from the candidates what waits no more, if anything. An error changes nothing.
 pub(crate) fn out_receipt(
     receipts: &mut Kept<Member, Said>,
     candidates: &mut Kept<Candidate, bool>,
     key: &HashedKey,
     place: Place,
-    said: Said,
+    gone: &Option<Earliest>,
 ) -> Result<(), AllocError>
     requires there { IsSome (lookup (is_at (kept_member_cmp (member_of key.now place)))
         receipts.old.content) }
-    requires candidate { said.decides ≡ true → IsSome (lookup
-        (is_at (kept_candidate_cmp (candidate_of key.now place said))) candidates.old.content) }
+    requires candidate { IfSome gone.now (λ e. IsSome (lookup
+        (is_at (kept_candidate_cmp (candidate_at key.now e))) candidates.old.content)) }
     ensures receipts { OnOk result (receipts.new.content
         ≡ remove_entry (is_at (kept_member_cmp (member_of key.now place))) receipts.old.content) }
-    ensures candidates { OnOk result (candidates.new.content ≡ if said.decides
-        then remove_entry (is_at (kept_candidate_cmp (candidate_of key.now place said)))
-        candidates.old.content
-        else candidates.old.content) }
-    ensures ordered { OnOk result (said.decides ≡ true
+    ensures candidates { OnOk result (candidates.new.content
+        ≡ without_waiting key.now gone.now candidates.old.content) }
+    ensures ordered { OnOk result (IsSome gone.now
         → IsStrictlySortedBy kept_candidate_cmp (keys_of candidates.old.content)) }
     ensures places { OnOk result (receipts.new.places
         ≡ insert_entry kept_member_cmp receipts.old.places (member_of key.now place) None) }
-    ensures candidate_places { OnOk result (candidates.new.places ≡ if said.decides
-        then insert_entry kept_candidate_cmp candidates.old.places
-        (candidate_of key.now place said) None
-        else candidates.old.places) }
+    ensures candidate_places { OnOk result (candidates.new.places
+        ≡ with_waiting key.now gone.now None candidates.old.places) }
     ensures touches { OnOk result (receipts.new.touches + candidates.new.touches
         ≤ receipts.old.touches + candidates.old.touches + 4) }
     ensures pending { OnOk result (receipts.new.pending + candidates.new.pending
         ≤ receipts.old.pending + candidates.old.pending + 2) }
     ensures back { OnOk result
-        (CanTakeBack said.decides receipts.old candidates.old receipts.new candidates.new) }
+        (CanTakeBack (is_some gone.now) receipts.old candidates.old receipts.new candidates.new) }
     ensures err { OnErr result (receipts.new.content ≡ receipts.old.content) }
     ensures err_candidates { OnErr result (candidates.new.content ≡ candidates.old.content) }
     ensures settled { receipts.new.settled ≡ receipts.old.settled }
@@ -162,13 +174,13 @@ pub(crate) fn out_receipt(
         place,
     };
     receipts.remove(&member)?;
-    if !said.decides {
+    let Some(earliest) = gone else {
         return Ok(());
-    }
+    };
     let candidate = Candidate {
         key: key.copy(),
-        moment: said.moment,
-        place,
+        moment: earliest.moment,
+        place: earliest.place,
     };
     match candidates.remove(&candidate) {
         Ok(()) => Ok(()),
@@ -183,21 +195,21 @@ pub(crate) fn out_receipt(
 pub(crate) fn take_back_receipt(
     receipts: &mut Kept<Member, Said>,
     candidates: &mut Kept<Candidate, bool>,
-    decides: bool,
+    candidate: &Option<Earliest>,
 )
     ensures receipts { (p : List (Member × Option Said)) (ps : List (List (Member × Option Said)))
         → receipts.old.past ≡ p ∷ ps → receipts.new.content ≡ content_of p }
     ensures candidates { (p : List (Candidate × Option Bool))
-        (ps : List (List (Candidate × Option Bool))) → decides ≡ true
+        (ps : List (List (Candidate × Option Bool))) → is_some candidate.now ≡ true
         → candidates.old.past ≡ p ∷ ps → candidates.new.content ≡ content_of p }
-    ensures unchanged { decides ≡ false → candidates.new.content ≡ candidates.old.content }
+    ensures unchanged { is_some candidate.now ≡ false → candidates.new.content ≡ candidates.old.content }
     ensures settled { receipts.new.settled ≡ receipts.old.settled }
     ensures settled_candidates { candidates.new.settled ≡ candidates.old.settled }
     ensures counted { receipts.old.touches ≤ receipts.new.touches }
     ensures counted_candidates { candidates.old.touches ≤ candidates.new.touches }
 {
     receipts.take_back();
-    if decides {
+    if candidate.is_some() {
         candidates.take_back();
     }
 }

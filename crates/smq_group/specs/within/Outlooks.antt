@@ -51,6 +51,10 @@ is_before receipt (Some earliest) = is_lt (candidate_cmp (receipt.moment, receip
 abbrev pub outlook_with : Outlook → Earliest → Bool → Outlook
 outlook_with o receipt decides = record { matches = o.matches; decider = if decides && is_before receipt o.decider then Some receipt else o.decider }
 
+-- the later of a receipt and the one that decides, where both can decide
+abbrev pub later_of : Option Earliest → Earliest → Bool → Option Earliest
+later_of decider receipt decides = if decides then option_map (λ e. if is_before receipt (Some e) then e else receipt) decider else None
+
 -- whether the receipt at a place decides
 abbrev pub is_decided_by : Outlook → Place → Bool
 is_decided_by o place = same_option (eq_by_cmp place_cmp) (decider_of o) (Some place)

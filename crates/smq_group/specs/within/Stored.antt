@@ -1,10 +1,10 @@
 -- The members as the code keeps them: by key and place in four maps, from which the grouping by place follows.
-use Rattle.std.specs.Prelude.{◌≡◌, ◌==◌, ◌&&◌, Bool, true, false, if◌then◌else◌, List, [], ◌∷◌, map, Option, Some, None, option_map, ⊤}
+use Rattle.std.specs.Prelude.{◌≡◌, ◌==◌, ◌&&◌, not, Bool, true, false, if◌then◌else◌, List, [], ◌∷◌, map, Option, Some, None, option_map, ⊤}
 use Rattle.std.specs.List.{reduce}
 use Rattle.std.specs.FinMap as fin
 use Rattle.std.specs.FinMap.{find}
-use Rattle.std.specs.Map.{lookup}
-use Rattle.std.specs.BTreeMap.{is_at}
+use Rattle.std.specs.Map.{lookup, remove_entry}
+use Rattle.std.specs.BTreeMap.{insert_entry, is_at}
 use Rattle.smq_kit.specs.declared.place.Place.{Place}
 use Rattle.smq_kit.specs.declared.link_key.LinkKey.{LinkKey}
 use Rattle.smq_kit.specs.Orders.{place_cmp}
@@ -19,7 +19,8 @@ use Rattle.smq_group.specs.declared.outlook.Earliest.{Earliest}
 use Rattle.smq_group.specs.Matching as m
 use Rattle.smq_group.specs.Matching.{Grouping, GroupedReceipt, matches, candidates, earlier}
 use Rattle.smq_group.specs.within.Orders.{kept_candidate_cmp}
-use Rattle.smq_group.specs.within.Outlooks.{outlook_at}
+use Rattle.smq_group.specs.within.Walked.{candidate_at}
+use Rattle.smq_group.specs.within.Outlooks.{is_decided_by, outlook_at}
 
 -- a member of a map by key and place, as an entry by place
 abbrev pub by_place : {V W : Type 0} → (LinkKey → V → W) → Member × V → Place × W
@@ -49,9 +50,15 @@ StandsOnce value (e ∷ es) = (find place_cmp e.0.place (map (by_place value) es
 abbrev pub member_of : LinkKey → Place → Member
 member_of key place = record { key = key; place = place }
 
--- the key of a receipt that can decide, as it is kept
-abbrev pub candidate_of : LinkKey → Place → Said → Candidate
-candidate_of key place said = record { key = key; moment = said.moment; place = place }
+-- with a receipt more that waits, if one is given
+abbrev pub with_waiting : {V : Type 0} → LinkKey → Option Earliest → V → List (Candidate × V) → List (Candidate × V)
+with_waiting key None v es = es
+with_waiting key (Some e) v es = insert_entry kept_candidate_cmp es (candidate_at key e) v
+
+-- without a receipt that waited, if one is given
+abbrev pub without_waiting : LinkKey → Option Earliest → List (Candidate × Bool) → List (Candidate × Bool)
+without_waiting key None es = es
+without_waiting key (Some e) es = remove_entry (is_at (kept_candidate_cmp (candidate_at key e))) es
 
 -- whether what stands at a place is a receipt of a key and moment that can decide
 abbrev pub is_candidate : Candidate → Option GroupedReceipt → Bool
@@ -66,9 +73,17 @@ earliest_at c = record { moment = c.0; place = c.1 }
 abbrev pub outlook_in : Grouping → LinkKey → Outlook
 outlook_in g key = record { matches = matches g key; decider = option_map earliest_at (reduce earlier (candidates g key)) }
 
--- The index of candidates, and the outlooks by key, are those of a grouping.
+-- whether a receipt of a key waits: it can decide, and another does
+abbrev pub waits : Grouping → Candidate → Bool
+waits g c = is_candidate c (fin.get g.receipts c.place) && not (is_decided_by (outlook_in g c.key) c.place)
+
+-- what waits no more once a receipt is taken out: where that decided, the one that does then, and else itself, where it can
+abbrev pub gone_of : Bool → Bool → Option Earliest → Earliest → Option Earliest
+gone_of decides decided next own = if decides then (if decided then next else Some own) else None
+
+-- The index of candidates that wait, and the outlooks by key, are those of a grouping.
 pub record IsIndexed (g : Grouping) (index : List (Candidate × Bool)) (outlooks : List (LinkKey × Outlook)) : Type 0 where
-  pub candidates : (c : Candidate) → lookup (is_at (kept_candidate_cmp c)) index ≡ (if is_candidate c (fin.get g.receipts c.place) then Some true else None)
+  pub candidates : (c : Candidate) → lookup (is_at (kept_candidate_cmp c)) index ≡ (if waits g c then Some true else None)
   pub outlook : (key : LinkKey) → outlook_at key outlooks ≡ outlook_in g key
 
 -- The four maps hold a grouping.

@@ -1,11 +1,12 @@
 use Rattle.std.proofs.Common.{◌≡◌, None, refl, ap, ◌∙◌, arith, Some, true}
+use Rattle.std.specs.Prelude.{is_some}
 use Rattle.std.specs.FinMap.{get}
 use Rattle.smq_group.specs.declared.changes.Added.TheVariants as put
 use Rattle.smq_group.specs.declared.member.Said.{Said}
 use Rattle.smq_group.specs.declared.outlook.Outlook.{Outlook}
 use Rattle.smq_group.specs.Groups.{GroupsValue, key_on}
-use Rattle.smq_group.specs.within.Outlooks.{outlook_at, outlook_with}
-use Rattle.smq_group.specs.within.Stored.{earliest_at, grouping_in}
+use Rattle.smq_group.specs.within.Outlooks.{later_of, outlook_at, outlook_with}
+use Rattle.smq_group.specs.within.Stored.{earliest_at, grouping_in, with_waiting}
 use Rattle.smq_group.proofs.Calling.{tells-call, receipts-back, candidates-back}
 use Rattle.smq_group.proofs.Counting.{counted}
 use Rattle.smq_group.proofs.Moving.{moves-receipt}
@@ -27,7 +28,7 @@ invariant_of-self-in-Ok c =
     let none : get (grouping_in c.self.inside.submits.content c.self.inside.receipts.content).receipts c.args.place ≡ None = ap (λ (v : GroupsValue). get v.members.receipts c.args.place) c.self.view_is ∙ c.requires.absent in (
       rw (c.in-Ok.ensures.submits.content, c.in-Ok.ensures.receipts.content, c.in_ok-put_receipt.ensures.receipts)
           (receipt-stored c.self.inside.submits.content c.self.inside.receipts.content c.self.inside.candidates.content c.put_receipt.new.candidates.content c.self.inside.outlooks.content c.tell.new.outlooks.content key c.args.place said
-          none c.self.invariant.0 c.in_ok-put_receipt.ensures.candidates
+          none c.self.invariant.0 (c.in_ok-put_receipt.ensures.candidates ∙ ap (λ w. with_waiting key w true c.self.inside.candidates.content) (c.later_of-waits.ensures ∙ ap (λ (o : Outlook). later_of o.decider (earliest_at (c.args.moment, c.args.place)) c.args.decides) c.outlook_of-before.ensures.value))
           (c.in-Ok.ensures.here ∙ c.with_receipt-after.ensures ∙ ap (λ (o : Outlook). outlook_with o (earliest_at (c.args.moment, c.args.place)) c.args.decides) c.outlook_of-before.ensures.value)
           (λ other h. c.in-Ok.ensures.elsewhere other h ∙ ap (outlook_at other) c.outlook_of-before.ensures.content)),
       rw (c.in-Ok.ensures.submits.settled, c.in-Ok.ensures.receipts.settled, c.in_ok-put_receipt.ensures.settled, c.in_ok-put_receipt.ensures.settled_candidates, c.in-Ok.ensures.settled, c.outlook_of-before.ensures.settled) c.self.invariant.1,
@@ -59,8 +60,8 @@ returns-in-Ok-clause-changes c =
 
 pub invariant_of-self-in-Err : goal.invariant_of-self-in-Err
 invariant_of-self-in-Err c =
-    let receipts = receipts-back c.args.decides c.self.inside.receipts c.put_receipt.new.receipts c.tell.new.receipts c.self.inside.candidates c.put_receipt.new.candidates c.take_back_receipt.new.receipts.content c.in_ok-put_receipt.ensures.back c.in-Err.ensures.receipts.past c.take_back_receipt.ensures.receipts in
-    let candidates = candidates-back c.args.decides c.self.inside.receipts c.put_receipt.new.receipts c.self.inside.candidates c.put_receipt.new.candidates c.put_receipt.new.candidates c.take_back_receipt.new.candidates.content c.in_ok-put_receipt.ensures.back refl refl c.take_back_receipt.ensures.candidates c.take_back_receipt.ensures.unchanged in (
+    let receipts = receipts-back (is_some c.later_of-waits.result) c.self.inside.receipts c.put_receipt.new.receipts c.tell.new.receipts c.self.inside.candidates c.put_receipt.new.candidates c.take_back_receipt.new.receipts.content c.in_ok-put_receipt.ensures.back c.in-Err.ensures.receipts.past c.take_back_receipt.ensures.receipts in
+    let candidates = candidates-back (is_some c.later_of-waits.result) c.self.inside.receipts c.put_receipt.new.receipts c.self.inside.candidates c.put_receipt.new.candidates c.put_receipt.new.candidates c.take_back_receipt.new.candidates.content c.in_ok-put_receipt.ensures.back refl refl c.take_back_receipt.ensures.candidates c.take_back_receipt.ensures.unchanged in (
       rw (c.in-Err.ensures.submits.content, receipts, candidates, c.in-Err.ensures.err, c.outlook_of-before.ensures.content) c.self.invariant.0,
       rw (c.in-Err.ensures.submits.settled, c.take_back_receipt.ensures.settled, c.in-Err.ensures.receipts.settled, c.in_ok-put_receipt.ensures.settled, c.take_back_receipt.ensures.settled_candidates, c.in_ok-put_receipt.ensures.settled_candidates, c.in-Err.ensures.settled, c.outlook_of-before.ensures.settled) c.self.invariant.1,
     )
@@ -83,6 +84,6 @@ returns-in-Ok-clause-vacant c = λ k.
     let was = counted-vacant k c.self.inside.submits.places c.self.inside.receipts.places c.self.inside.candidates.places in
     let is = counted-vacant k c.tell.new.submits.places c.tell.new.receipts.places c.put_receipt.new.candidates.places in
     let filled = member-put key k c.args.place (Some said) c.self.inside.receipts.places c.tell.new.receipts.places (c.in-Ok.ensures.receipts.places ∙ c.in_ok-put_receipt.ensures.places) in
-    let candidate = candidate-put key k c.args.place said c.args.decides (Some true) c.self.inside.candidates.places c.put_receipt.new.candidates.places c.in_ok-put_receipt.ensures.candidate_places in
+    let candidate = candidate-put key k c.args.place c.later_of-waits.result (Some true) c.self.inside.candidates.places c.put_receipt.new.candidates.places c.in_ok-put_receipt.ensures.candidate_places in
     let same = ap (vacant_of member_key k) c.in-Ok.ensures.submits.places in
     rw (← c.self.view_is) (omega (arith, was, is, filled, candidate, same))

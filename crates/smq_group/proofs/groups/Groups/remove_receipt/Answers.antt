@@ -1,18 +1,21 @@
-use Rattle.std.proofs.Common.{ℕ, Some, None, refl, sym, ap, ◌∙◌, arith, cond}
-use Rattle.std.specs.Prelude.{◌&&◌, false, is_some, option_map}
+use Rattle.std.proofs.Common.{◌≡◌, ℕ, Bool, List, Option, Some, None, subst, refl, sym, ap, ◌∙◌, arith, cond}
+use Rattle.std.specs.Prelude.{false, IfSome, is_some, option_map}
+use Rattle.std.specs.List.Sorted.{IsStrictlySortedBy}
+use Rattle.std.specs.Map.{keys_of}
 use Rattle.std.specs.FinMap.{get}
 use Rattle.smq_group.specs.declared.changes.Added.TheVariants as put
+use Rattle.smq_group.specs.declared.member.Candidate.{Candidate}
 use Rattle.smq_group.specs.declared.outlook.Outlook.{Outlook}
 use Rattle.smq_group.specs.Groups.{GroupsValue, key_on}
 use Rattle.smq_group.specs.within.Outlooks.{an_outlook, outlook_at, is_decided_by}
-use Rattle.smq_group.specs.within.Stored.{grouping_in, receipt_value}
+use Rattle.smq_group.specs.within.Stored.{earliest_at, gone_of, grouping_in, receipt_value, with_waiting, without_waiting}
 use Rattle.smq_group.proofs.Calling.{tells-call, receipts-back, candidates-back}
 use Rattle.smq_group.proofs.Counting.{counted}
 use Rattle.smq_group.proofs.Moving.{moves-no_receipt}
-use Rattle.smq_group.proofs.StoringReceipts.{receipt-held, receipt-is_held, receipt-less, receipt-taken, has-less, in-index}
+use Rattle.smq_group.proofs.StoringReceipts.{gone-there, has-less, has-next, receipt-held, receipt-is_held, receipt-less, receipt-taken}
 use Rattle.std.specs.BTreeMap.{insert_entry}
 use Rattle.smq_kit.specs.LinkKeys.{same_key}
-use Rattle.smq_group.specs.within.Orders.{kept_member_cmp}
+use Rattle.smq_group.specs.within.Orders.{kept_candidate_cmp, kept_member_cmp}
 use Rattle.smq_group.specs.within.Stored.{member_of}
 use Rattle.smq_group.specs.within.Walked.{member_key, vacant_of}
 use Rattle.smq_group.proofs.Vacating.{at_most_one, candidate-put, counted-vacant, member-put, twice}
@@ -23,16 +26,23 @@ pub out_receipt-requires-clause-there : goal.out_receipt-requires-clause-there
 out_receipt-requires-clause-there c =
     rw c.said_at-found.ensures.read.content (ap is_some (sym c.said_at-found.ensures.value ∙ c.in-Some.is))
 
+if-some : {A : Type 0} (x : Option A) (P : A → Type 0) → ((e : A) → x ≡ Some e → P e) → IfSome x P
+if-some None P f = tt
+if-some (Some e) P f = f e refl
+
 pub out_receipt-requires-clause-candidate : goal.out_receipt-requires-clause-candidate
 out_receipt-requires-clause-candidate c =
     let key = c.key_of_link-key.result in
+    let said = c.in-Some.said in
     let s = c.self.inside.submits.content in
     let r = c.self.inside.receipts.content in
     let i = c.self.inside.candidates.content in
     let o = c.self.inside.outlooks.content in
     let k = ap (λ (v : GroupsValue). option_map (λ x. x.key) (get v.members.receipts c.args.place)) c.self.view_is ∙ c.requires.there ∙ ap Some (sym c.key_of_link-key.ensures) in
-    let there = receipt-held s r i i o o key c.args.place c.in-Some.said c.in-Some.said k (sym c.said_at-found.ensures.value ∙ c.in-Some.is) in
-    λ d. in-index s r i i o o key c.args.place c.in-Some.said c.self.invariant.0 there d
+    let found = sym c.said_at-found.ensures.value ∙ c.in-Some.is in
+    let there = receipt-held s r i i o o key c.args.place said said k found in
+    let is = c.gone-gone.ensures ∙ ap (λ (x : Outlook). gone_of said.decides (is_decided_by x c.args.place) c.decider_without-decider.result (earliest_at (said.moment, c.args.place))) c.outlook_of-before.ensures.value in
+    if-some c.gone-gone.result _ (λ e h. rw c.decider_without-decider.ensures.read.content (gone-there s r i i o o key c.args.place said c.self.invariant.0 there found c.decider_without-decider.result (has-next s r i i o o key c.args.place said c.decider_without-decider.result c.outlook_of-before.result c.outlook_of-before.ensures.value c.decider_without-decider.ensures.stays c.decider_without-decider.ensures.follows c.decider_without-decider.ensures.ordered) e (sym is ∙ h)))
 
 pub returns-in_default : goal.returns-in_default
 returns-in_default c =
@@ -58,17 +68,17 @@ invariant_of-self-in-Ok c =
     let k = ap (λ (v : GroupsValue). option_map (λ x. x.key) (get v.members.receipts c.args.place)) c.self.view_is ∙ c.requires.there ∙ ap Some (sym c.key_of_link-key.ensures) in
     let found = sym c.said_at-found.ensures.value ∙ c.in-Some.is in
     let there = receipt-held s r i i o o key place said said k found in
-    let before = c.outlook_of-before.ensures.value in (
-      rw (c.in-Ok.ensures.submits.content, c.in-Ok.ensures.receipts.content, c.in_ok-out_receipt.ensures.receipts, c.said_at-found.ensures.read.content, c.decider_without-decider.ensures.read.content)
-          (receipt-taken s r i c.out_receipt.new.candidates.content o c.tell.new.outlooks.content key place said c.self.invariant.0 there found c.in_ok-out_receipt.ensures.candidates c.in_ok-out_receipt.ensures.ordered c.decider_without-decider.result
-          (record {
-            here = c.in-Ok.ensures.here ∙ ap (λ (x : Outlook). an_outlook x.matches c.decider_without-decider.result) before;
-            stays = λ e. c.decider_without-decider.ensures.stays (ap (λ (x : Outlook). said.decides && is_decided_by x place) before ∙ e) ∙ ap (λ (x : Outlook). x.decider) before;
-            follows = λ e. c.decider_without-decider.ensures.follows (ap (λ (x : Outlook). said.decides && is_decided_by x place) before ∙ e);
-            ordered = λ e. c.decider_without-decider.ensures.ordered (ap (λ (x : Outlook). said.decides && is_decided_by x place) before ∙ e);
-          })
+    let before = c.outlook_of-before.ensures.value in
+    let is = c.gone-gone.ensures ∙ ap (λ (x : Outlook). gone_of said.decides (is_decided_by x place) c.decider_without-decider.result (earliest_at (said.moment, place))) before in (
+      rw (c.in-Ok.ensures.submits.content, c.in-Ok.ensures.receipts.content, c.in_ok-out_receipt.ensures.receipts, c.said_at-found.ensures.read.content)
+          (receipt-taken s r i c.out_receipt.new.candidates.content o c.tell.new.outlooks.content key place said c.self.invariant.0 there found c.decider_without-decider.result
+          (has-next s r i c.out_receipt.new.candidates.content o c.tell.new.outlooks.content key place said c.decider_without-decider.result c.outlook_of-before.result before
+          c.decider_without-decider.ensures.stays c.decider_without-decider.ensures.follows c.decider_without-decider.ensures.ordered)
+          (c.in_ok-out_receipt.ensures.candidates ∙ (λ j. without_waiting key (is j) (c.decider_without-decider.ensures.read.content j)))
+          (λ e. subst (λ (es : List (Candidate × Bool)). IsStrictlySortedBy kept_candidate_cmp (keys_of es)) c.decider_without-decider.ensures.read.content (c.in_ok-out_receipt.ensures.ordered (ap is_some is ∙ e)))
+          (c.in-Ok.ensures.here ∙ ap (λ (x : Outlook). an_outlook x.matches c.decider_without-decider.result) before)
           (λ other h. c.in-Ok.ensures.elsewhere other h ∙ ap (outlook_at other) c.outlook_of-before.ensures.content)),
-      rw (c.in-Ok.ensures.submits.settled, c.in-Ok.ensures.receipts.settled, c.in_ok-out_receipt.ensures.settled, c.said_at-found.ensures.read.settled, c.decider_without-decider.ensures.read.settled, c.in_ok-out_receipt.ensures.settled_candidates, c.in-Ok.ensures.settled, c.outlook_of-before.ensures.settled) c.self.invariant.1,
+      rw (c.in-Ok.ensures.submits.settled, c.in-Ok.ensures.receipts.settled, c.in_ok-out_receipt.ensures.settled, c.said_at-found.ensures.read.settled, c.in_ok-out_receipt.ensures.settled_candidates, c.decider_without-decider.ensures.read.settled, c.in-Ok.ensures.settled, c.outlook_of-before.ensures.settled) c.self.invariant.1,
     )
 
 pub returns-in-Ok-clause-ok : goal.returns-in-Ok-clause-ok
@@ -92,7 +102,7 @@ returns-in-Ok-clause-changes c =
     let there = receipt-held s r i i o o key place said said k found in
     let less = has-less s r i i o o key place said c.self.invariant.0 there found in
     rw (← c.self.view_is, c.in-Ok.ensures.submits.content)
-    (tells-call (grouping_in s r) s s c.tell.new.receipts.content c.out_receipt.new.receipts.content c.decider_without-decider.new.candidates.content c.tell.new.outlooks.content key put.Nothing
+    (tells-call (grouping_in s r) s s c.tell.new.receipts.content c.out_receipt.new.receipts.content c.out_receipt.new.candidates.content c.tell.new.outlooks.content key put.Nothing
     c.outlook_of-before.result (an_outlook c.outlook_of-before.result.matches c.decider_without-decider.result) c.in-Ok.changes.items
     refl c.in-Ok.ensures.receipts.content
     (rw (c.in-Ok.ensures.receipts.content, c.in_ok-out_receipt.ensures.receipts, c.said_at-found.ensures.read.content) (moves-no_receipt (grouping_in s r) _ place (receipt_value key said) refl less))
@@ -101,12 +111,12 @@ returns-in-Ok-clause-changes c =
 
 pub invariant_of-self-in-Err : goal.invariant_of-self-in-Err
 invariant_of-self-in-Err c =
-    let d = c.in-Some.said.decides in
-    let receipts = receipts-back d c.said_at-found.new.receipts c.out_receipt.new.receipts c.tell.new.receipts c.self.inside.candidates c.out_receipt.new.candidates c.take_back_receipt.new.receipts.content c.in_ok-out_receipt.ensures.back c.in-Err.ensures.receipts.past c.take_back_receipt.ensures.receipts ∙ c.said_at-found.ensures.read.content in
-    let candidates = candidates-back d c.said_at-found.new.receipts c.out_receipt.new.receipts c.self.inside.candidates c.out_receipt.new.candidates c.decider_without-decider.new.candidates c.take_back_receipt.new.candidates.content c.in_ok-out_receipt.ensures.back
-    c.decider_without-decider.ensures.read.past c.decider_without-decider.ensures.read.content c.take_back_receipt.ensures.candidates c.take_back_receipt.ensures.unchanged in (
+    let d = is_some c.gone-gone.result in
+    let receipts = receipts-back d c.said_at-found.new.receipts c.out_receipt.new.receipts c.tell.new.receipts c.decider_without-decider.new.candidates c.out_receipt.new.candidates c.take_back_receipt.new.receipts.content c.in_ok-out_receipt.ensures.back c.in-Err.ensures.receipts.past c.take_back_receipt.ensures.receipts ∙ c.said_at-found.ensures.read.content in
+    let candidates = candidates-back d c.said_at-found.new.receipts c.out_receipt.new.receipts c.decider_without-decider.new.candidates c.out_receipt.new.candidates c.out_receipt.new.candidates c.take_back_receipt.new.candidates.content c.in_ok-out_receipt.ensures.back
+    refl refl c.take_back_receipt.ensures.candidates c.take_back_receipt.ensures.unchanged ∙ c.decider_without-decider.ensures.read.content in (
       rw (c.in-Err.ensures.submits.content, receipts, candidates, c.in-Err.ensures.err, c.outlook_of-before.ensures.content) c.self.invariant.0,
-      rw (c.in-Err.ensures.submits.settled, c.take_back_receipt.ensures.settled, c.in-Err.ensures.receipts.settled, c.in_ok-out_receipt.ensures.settled, c.said_at-found.ensures.read.settled, c.take_back_receipt.ensures.settled_candidates, c.decider_without-decider.ensures.read.settled, c.in_ok-out_receipt.ensures.settled_candidates, c.in-Err.ensures.settled, c.outlook_of-before.ensures.settled) c.self.invariant.1,
+      rw (c.in-Err.ensures.submits.settled, c.take_back_receipt.ensures.settled, c.in-Err.ensures.receipts.settled, c.in_ok-out_receipt.ensures.settled, c.said_at-found.ensures.read.settled, c.take_back_receipt.ensures.settled_candidates, c.in_ok-out_receipt.ensures.settled_candidates, c.decider_without-decider.ensures.read.settled, c.in-Err.ensures.settled, c.outlook_of-before.ensures.settled) c.self.invariant.1,
     )
 
 pub returns-in-Ok-clause-touches : goal.returns-in-Ok-clause-touches
@@ -115,24 +125,23 @@ returns-in-Ok-clause-touches c =
     let said = c.in-Some.said in
     let was = counted-vacant (key_on c.args.link c.args.key.now) c.self.inside.submits.places c.self.inside.receipts.places c.self.inside.candidates.places in
     let emptied = member-put key (key_on c.args.link c.args.key.now) c.args.place None c.self.inside.receipts.places c.out_receipt.new.receipts.places (c.in_ok-out_receipt.ensures.places ∙ ap (λ ps. insert_entry kept_member_cmp ps (member_of key c.args.place) None) c.said_at-found.ensures.read.places) in
-    let candidate = candidate-put key (key_on c.args.link c.args.key.now) c.args.place said said.decides None c.self.inside.candidates.places c.out_receipt.new.candidates.places c.in_ok-out_receipt.ensures.candidate_places in
     let one = at_most_one (same_key (key_on c.args.link c.args.key.now) key) in
     let looked = c.outlook_of-before.ensures.touches in
     let read = c.said_at-found.ensures.read.touches in
     let out = c.in_ok-out_receipt.ensures.touches in
     let next = rw c.key_of_link-key.ensures at c.decider_without-decider.ensures.touches in
     let told = rw c.key_of_link-key.ensures at c.in-Ok.ensures.touches in
-    rw (← c.self.view_is) (omega (arith, was, emptied, candidate, one, looked, read, out, next, told))
+    rw (← c.self.view_is) (omega (arith, was, emptied, one, looked, read, out, next, told))
 
 pub returns-in-Ok-clause-vacant : goal.returns-in-Ok-clause-vacant
 returns-in-Ok-clause-vacant c = λ k.
     let key = c.key_of_link-key.result in
     let said = c.in-Some.said in
     let was = counted-vacant k c.self.inside.submits.places c.self.inside.receipts.places c.self.inside.candidates.places in
-    let is = counted-vacant k c.tell.new.submits.places c.tell.new.receipts.places c.decider_without-decider.new.candidates.places in
+    let is = counted-vacant k c.tell.new.submits.places c.tell.new.receipts.places c.out_receipt.new.candidates.places in
     let emptied = member-put key k c.args.place None c.self.inside.receipts.places c.tell.new.receipts.places
     (c.in-Ok.ensures.receipts.places ∙ c.in_ok-out_receipt.ensures.places ∙ ap (λ ps. insert_entry kept_member_cmp ps (member_of key c.args.place) None) c.said_at-found.ensures.read.places) in
-    let candidate = candidate-put key k c.args.place said said.decides None c.self.inside.candidates.places c.decider_without-decider.new.candidates.places (c.decider_without-decider.ensures.read.places ∙ c.in_ok-out_receipt.ensures.candidate_places) in
+    let candidate = candidate-put key k c.args.place c.gone-gone.result None c.self.inside.candidates.places c.out_receipt.new.candidates.places (c.in_ok-out_receipt.ensures.candidate_places ∙ ap (with_waiting key c.gone-gone.result None) c.decider_without-decider.ensures.read.places) in
     let two = twice (same_key k (key_on c.args.link c.args.key.now)) in
     let share = ap {B = ℕ} (λ (l : LinkKey). cond (same_key k l) 1 0) c.key_of_link-key.ensures in
     let same = ap (vacant_of member_key k) c.in-Ok.ensures.submits.places in
