@@ -1,4 +1,4 @@
--- How what is kept of a PDU's body is stored: its message id, its delivery receipt and what a data_sm says
+-- How what is kept of a PDU's body is stored: what a submit_sm or data_sm says, its message id and its delivery receipt
 -- may have other owners.
 use Rattle.std.specs.Prelude.{option_map}
 use Rattle.std.specs.Arc.{arc_value}
@@ -20,7 +20,7 @@ reading_kept s.NotReceipt = r.NotReceipt
 
 -- the content that a kept body is
 abbrev pub content_kept : KeptBody → Content
-content_kept (k.Submit submit) = c.Submit submit
+content_kept (k.Submit submit) = c.Submit (arc_value submit)
 content_kept (k.SubmitAnswer id) = c.SubmitAnswer (option_map arc_value id)
 content_kept (k.Deliver reading) = c.Deliver (reading_kept reading)
 content_kept (k.DataSm both) = c.DataSm (arc_value both).submit (reading_kept (arc_value both).reading)

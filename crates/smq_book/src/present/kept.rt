@@ -36,7 +36,7 @@ struct KeptDataSm {
 #[derive(Drop)]
 enum KeptBody {
     /// A submit_sm, as it was decoded (SMPP 3.4, 4.4.1).
-    Submit(Submit),
+    Submit(Arc<Submit, Global>),
     /// A submit_sm_resp or data_sm_resp, with its message_id, where that has 1 to 64 octets.
     SubmitAnswer {
         message_id: Option<Arc<MessageId, Global>>,
@@ -150,7 +150,7 @@ impl KeptBody {
         ensures { IfOk result (λ kept. content_kept kept ≡ content_of_body (body_view body.entry)) }
     {
         match body {
-            Body::Submit(submit) => Ok(KeptBody::Submit(submit)),
+            Body::Submit(submit) => Ok(KeptBody::Submit(Arc::new(alloc, submit)?)),
             Body::SubmitAnswer(answer) => Ok(KeptBody::SubmitAnswer {
                 message_id: kept_id(alloc, answer.message_id)?,
             }),
@@ -174,7 +174,7 @@ impl KeptBody {
         ensures { IfOk result (λ kept. content_kept kept ≡ content_kept self.now) }
     {
         match self {
-            KeptBody::Submit(submit) => Ok(KeptBody::Submit(submit.copy())),
+            KeptBody::Submit(submit) => Ok(KeptBody::Submit(Arc::try_clone(submit)?)),
             KeptBody::SubmitAnswer { message_id } => Ok(KeptBody::SubmitAnswer {
                 message_id: shared(message_id)?,
             }),
@@ -260,7 +260,7 @@ impl Content {
         }
     }
 
-    /// An equal content, which shares the message id or the receipt. It takes no memory.
+    /// An equal content, which shares what stands behind an `Arc`. It takes no memory.
     fn copy(&self) -> Result<Content, AllocError>
         ensures { IfOk result (λ content. content ≡ self.now) }
     {
@@ -281,7 +281,7 @@ impl Content {
 }
 
 impl KeptPdu {
-    /// An equal value, which shares the message id or the receipt. It takes no memory.
+    /// An equal value, which shares what stands behind an `Arc`. It takes no memory.
     fn copy(&self) -> Result<KeptPdu, AllocError>
         ensures { IfOk result (λ pdu. pdu ≡ self.now) }
     {
