@@ -23,6 +23,6 @@ abbrev pub content_kept : KeptBody → Content
 content_kept (k.Submit submit) = c.Submit (arc_value submit)
 content_kept (k.SubmitAnswer id) = c.SubmitAnswer (option_map arc_value id)
 content_kept (k.Deliver reading) = c.Deliver (reading_kept reading)
-content_kept (k.DataSm both) = c.DataSm (arc_value both).submit (reading_kept (arc_value both).reading)
+content_kept (k.DataSm both) = c.DataSm (arc_value (arc_value both).submit) (reading_kept (arc_value both).reading)
 content_kept k.Other = c.Other
 content_kept k.Undecodable = c.Undecodable

@@ -75,7 +75,7 @@ fn outcome(
             Outcome::Failed
         };
     }
-    if !message.asks_receipt {
+    if !message.asks_receipt() {
         return Outcome::Unasked;
     }
     if lapsed {

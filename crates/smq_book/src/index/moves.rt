@@ -269,7 +269,7 @@ fn put_number(
     ensures touches { numbers_cost numbers.new ≤ numbers_cost numbers.old + 3 }
     ensures counted { numbers.old.touches ≤ numbers.new.touches }
 {
-    if let Some(number) = message.number.as_ref() {
+    if let Some(number) = message.number() {
         numbers.add(number.copy(), place)?;
     }
     Ok(())
@@ -287,7 +287,7 @@ fn take_number(
     ensures touches { numbers_cost numbers.new ≤ numbers_cost numbers.old + 4 }
     ensures counted { numbers.old.touches ≤ numbers.new.touches }
 {
-    if let Some(number) = message.number.as_ref() {
+    if let Some(number) = message.number() {
         numbers.remove(number, place)?;
     }
     Ok(())

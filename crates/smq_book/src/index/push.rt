@@ -1,6 +1,7 @@
 //! One PDU more of a session: it makes a pair or waits for one, puts in the message or the delivery receipt that it is, and gives
 //! a message its response.
 ghost use Rattle.std.specs.Prelude.{◌≡◌, ◌≢◌, ◌≤◌, ◌+◌, ◌*◌, ℕ, List, [], ◌∷◌, ◌++◌, Some, None, IfOk, OnOk};
+ghost use Rattle.std.specs.Arc.{arc_value};
 ghost use Rattle.std.specs.FinMap as fin;
 ghost use Rattle.smq_kit.specs.declared.place.Dir.TheVariants.{FromClient, FromCentre};
 ghost use Rattle.smq_kit.specs.declared.names.SessionId.{SessionId as SessionIdOf};
@@ -22,12 +23,12 @@ use crate::index::notes::{note_of_centre, note_of_client};
 use crate::index::pairings::Pairings;
 use crate::index::stored::{StoredMessage, StoredReceipt, StoredResponse};
 use crate::pairing::pairs::{pdu_at, place_of};
-use crate::pairing::submits::asks_receipt;
 use crate::present::settings::Settings;
 use smq_kit::{Dir, LinkId, SessionId};
 use smq_pair::Pair;
 use smq_pdu::Submit;
-use std::alloc::AllocError;
+use std::alloc::{AllocError, Global};
+use std::sync::Arc;
 
 /// What the response of a pair says to its request.
 fn said(pair: Pair, response: &KeptPdu) -> Result<StoredResponse, AllocError>
@@ -58,20 +59,16 @@ fn said_in(centre: &[KeptPdu], made: Option<Pair>) -> Result<Option<StoredRespon
 fn message_with(
     link: LinkId,
     pdu: &KeptPdu,
-    submit: &Submit,
+    submit: Arc<Submit, Global>,
     response: Option<StoredResponse>,
 ) -> StoredMessage
     ensures { (session : SessionIdOf)
-        → result ≡ pushed.message_with (origin_at session link) pdu.now submit.now response }
+        → result ≡ pushed.message_with (origin_at session link) pdu.now (arc_value submit) response }
 {
     StoredMessage {
         link,
         moment: pdu.moment,
-        number: match &submit.number {
-            None => None,
-            Some(number) => Some(number.copy()),
-        },
-        asks_receipt: asks_receipt(submit.registered_delivery),
+        submit,
         response,
     }
 }
@@ -98,7 +95,7 @@ fn put_submit(
         + 15 * members_at index.new.standings.members
         (fin.get index.new.standings.members.submits place)) }
 {
-    let Some(submit) = pdu.content.submit() else {
+    let Some(submit) = pdu.content.shared_submit()? else {
         return Ok(());
     };
     let message = message_with(link, pdu, submit, response);
@@ -156,19 +153,18 @@ pub(crate) fn push_of_client(
 }
 
 /// A message with what its response says.
-fn with_response(message: &StoredMessage, response: StoredResponse) -> StoredMessage
-    ensures { result ≡ pushed.with_response message.now response }
+fn with_response(
+    message: &StoredMessage,
+    response: StoredResponse,
+) -> Result<StoredMessage, AllocError>
+    ensures { IfOk result (λ answered. answered ≡ pushed.with_response message.now response) }
 {
-    StoredMessage {
+    Ok(StoredMessage {
         link: message.link,
         moment: message.moment,
-        number: match &message.number {
-            None => None,
-            Some(number) => Some(number.copy()),
-        },
-        asks_receipt: message.asks_receipt,
+        submit: Arc::try_clone(&message.submit)?,
         response: Some(response),
-    }
+    })
 }
 
 /// Puts the message at the request of a pair, if one is stored there, in anew with what its response says. It had none.
@@ -195,7 +191,7 @@ fn answer(
     let Some(message) = index.messages.get(&pair.request) else {
         return Ok(());
     };
-    let answered = with_response(message, said(pair, response)?);
+    let answered = with_response(message, said(pair, response)?)?;
     index.answer_message(settings, pair.request, answered)?;
     Ok(())
 }

@@ -7,10 +7,12 @@ ghost use Rattle.smq_book.specs.join.Keyed as keyed;
 ghost use Rattle.smq_book.specs.join.Keyed.{accepted_id, accepted_key, receipt_key};
 ghost use Rattle.smq_book.specs.present.Settings.{window_in};
 
+use crate::pairing::submits::asks_receipt;
 use crate::present::kept::shared;
 use crate::present::settings::Settings;
 use crate::present::windows::Windows;
 use smq_kit::{Digits, LinkId, LinkKey, MessageId, Moment, Network, RouteId};
+use smq_pdu::Submit;
 use smq_receipt::Receipt;
 use smq_route::Routes;
 use std::alloc::{AllocError, Global};
@@ -38,27 +40,27 @@ impl Model for StoredResponse {
     ghost view = { λ r. record { agrees = r.agrees; status = r.status; id = option_map arc_value r.id } };
 }
 
-/// A message with its response, where it has one.
+/// A message with its response, where it has one. It shares the submit_sm or data_sm with what is kept of the PDU. A contract sees
+/// it as the definitions have it.
 #[derive(Drop)]
 pub(crate) struct StoredMessage {
     pub link: LinkId,
     pub moment: Moment,
-    /// The number that it is sent to, where it has one.
-    pub number: Option<Digits>,
-    pub asks_receipt: bool,
+    pub submit: Arc<Submit, Global>,
     pub response: Option<StoredResponse>,
 }
 
 impl Model for StoredMessage {
-    ghost use Rattle.smq_book.specs.pairing.Traffic.{Message};
+    ghost use Rattle.std.specs.Arc.{arc_value};
+    ghost use Rattle.smq_book.specs.pairing.Traffic.{Message, asks_receipt};
 
     ghost Value = { Message };
 
     ghost view = { λ m. record {
       link = m.link;
       moment = m.moment;
-      number = m.number;
-      asks_receipt = m.asks_receipt;
+      number = (arc_value m.submit).number;
+      asks_receipt = asks_receipt (arc_value m.submit).registered_delivery;
       response = m.response;
     } };
 }
@@ -94,23 +96,33 @@ impl StoredResponse {
 }
 
 impl StoredMessage {
-    /// An equal value, which shares the id of its response. It takes no memory.
+    /// An equal value, which shares the submit_sm or data_sm and the id of its response. It takes no memory.
     pub(crate) fn copy(&self) -> Result<StoredMessage, AllocError>
         ensures { IfOk result (λ message. message ≡ self.now) }
     {
         Ok(StoredMessage {
             link: self.link,
             moment: self.moment,
-            number: match &self.number {
-                None => None,
-                Some(number) => Some(number.copy()),
-            },
-            asks_receipt: self.asks_receipt,
+            submit: Arc::try_clone(&self.submit)?,
             response: match &self.response {
                 None => None,
                 Some(response) => Some(response.copy()?),
             },
         })
+    }
+
+    /// The number that it is sent to, where it has one.
+    pub(crate) fn number(&self) -> Option<&Digits>
+        ensures { option_copied result ≡ self.now.number }
+    {
+        self.submit.number.as_ref()
+    }
+
+    /// Whether it asks for a delivery receipt.
+    pub(crate) fn asks_receipt(&self) -> bool
+        ensures { result ≡ self.now.asks_receipt }
+    {
+        asks_receipt(self.submit.registered_delivery)
     }
 
     /// The id with which it is accepted, where it is.
@@ -140,7 +152,7 @@ impl StoredMessage {
     pub(crate) fn route(&self, routes: &Routes) -> Option<(RouteId, Network)>
         ensures { result ≡ route_in routes.now.versions self.now }
     {
-        let number = self.number.as_ref()?;
+        let number = self.number()?;
         routes.at(number, self.moment)
     }
 

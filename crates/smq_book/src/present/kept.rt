@@ -28,7 +28,7 @@ enum KeptReading {
 /// What is kept of a data_sm, which may be a message of a client or what a centre hands to one (SMPP 3.4, 4.7.1).
 #[derive(Drop)]
 struct KeptDataSm {
-    submit: Submit,
+    submit: Arc<Submit, Global>,
     reading: KeptReading,
 }
 
@@ -159,7 +159,7 @@ impl KeptBody {
             }),
             Body::DataSm(message) => {
                 let both = KeptDataSm {
-                    submit: message.submit(),
+                    submit: Arc::new(alloc, message.submit())?,
                     reading: KeptReading::of(alloc, read(&message.deliver()))?,
                 };
                 Ok(KeptBody::DataSm(Arc::new(alloc, both)?))
@@ -197,6 +197,17 @@ impl Content {
             KeptBody::Submit(submit) => Some(submit),
             KeptBody::DataSm(both) => Some(&both.submit),
             _ => None,
+        }
+    }
+
+    /// The same submit_sm or data_sm, with one owner more. It takes no memory.
+    pub(crate) fn shared_submit(&self) -> Result<Option<Arc<Submit, Global>>, AllocError>
+        ensures { IfOk result (λ submit. option_map arc_value submit ≡ submit_in self.now) }
+    {
+        match &self.body {
+            KeptBody::Submit(submit) => Ok(Some(Arc::try_clone(submit)?)),
+            KeptBody::DataSm(both) => Ok(Some(Arc::try_clone(&both.submit)?)),
+            _ => Ok(None),
         }
     }
 

@@ -42,7 +42,7 @@ answer_message-requires-clause-unanswered c =
     sym (some ∙ c.get.ensures ∙ stored-at c.args.index.now.messages.content c.args.pair.request) in
     there
     ∙ ap (λ r. Some (record m { response = r })) (c.requires.waits m there)
-    ∙ sym (ap (λ x. Some (without_response x)) c.with_response-answered.ensures)
+    ∙ sym (ap (λ x. Some (without_response x)) c.in_ok-answered.ensures)
 
 pub returns-clause-held : goal.returns-clause-held
 returns-clause-held c =
@@ -51,13 +51,13 @@ returns-clause-held c =
     let put = held_now c.answer_message.new.self in
     let q = c.args.pair.request in
     let m = c.in-Some.message.now in
-    let n = c.with_response-answered.result in
+    let n = c.in_ok-answered.answered in
     let some : ◌≡◌ {A = Option Message} (Some m) (option_copied c.get.result) = search rules in
     let there : get g.messages q ≡ Some m = sym (some ∙ c.get.ensures ∙ stored-at c.args.index.now.messages.content q) in
     let one = after-one s g put (PutMessage (q, n)) c.requires.held (c.requires.held.traffic.messages q m there)
     (c.in_ok-answer_message.ensures.held (traffic_held g) c.requires.held.traffic c.requires.held.held) in
     after-same s g put (TakeMessage q ∷ PutMessage (q, n) ∷ []) (answer_moves g.messages (Some c.args.pair) c.args.response.now)
-    (answer-one g.messages c.args.response.now c.args.pair m n there (c.with_response-answered.ensures ∙ ap (with_response m) c.in_ok-said.ensures))
+    (answer-one g.messages c.args.response.now c.args.pair m n there (c.in_ok-answered.ensures ∙ ap (with_response m) c.in_ok-said.ensures))
     (after-over s g put q n one)
 
 pub returns-clause-came : goal.returns-clause-came
@@ -68,7 +68,7 @@ returns-clause-came c =
     let h = c.answer_message.new.self.standings in
     let q = c.args.pair.request in
     let m = c.in-Some.message.now in
-    let n = c.with_response-answered.result in
+    let n = c.in_ok-answered.answered in
     let were = ap (λ (x : Holding). x.members) c.requires.held.held in
     let are = ap (λ (x : Holding). x.members) (c.in_ok-answer_message.ensures.held t c.requires.held.traffic c.requires.held.held) in
     let some : ◌≡◌ {A = Option Message} (Some m) (option_copied c.get.result) = search rules in
@@ -85,7 +85,7 @@ returns-clause-touches c = λ full.
     let h = c.answer_message.new.self.standings in
     let q = c.args.pair.request in
     let m = c.in-Some.message.now in
-    let n = c.with_response-answered.result in
+    let n = c.in_ok-answered.answered in
     let were = ap (λ (x : Holding). x.members) c.requires.held.held in
     let are = ap (λ (x : Holding). x.members) (c.in_ok-answer_message.ensures.held t c.requires.held.traffic c.requires.held.held) in
     let some : ◌≡◌ {A = Option Message} (Some m) (option_copied c.get.result) = search rules in

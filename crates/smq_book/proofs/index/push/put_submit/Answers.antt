@@ -1,6 +1,7 @@
 use Rattle.std.proofs.Common.{◌≡◌, [], ◌∷◌, Option, Some, None, refl, ap, ◌∙◌, rules, arith}
 use Rattle.std.specs.FinMap.{get}
-use Rattle.std.specs.Option.{option_copied}
+use Rattle.std.specs.Option.{option_map}
+use Rattle.std.specs.Arc.{arc_value}
 use Rattle.smq_kit.specs.declared.place.Place.{Place}
 use Rattle.smq_pdu.specs.declared.body.Submit.{Submit}
 use Rattle.smq_group.specs.Matching.{Grouping}
@@ -24,11 +25,11 @@ returns-clause-held c =
     let origin = origin_at c.args.session c.args.link in
     let q = c.place_of.result in
     let m = c.message_with-message.result in
-    let submit = c.in-Some.submit.now in
-    let some : ◌≡◌ {A = Option Submit} (Some submit) (option_copied c.submit.result) = search rules in
+    let submit = arc_value c.in-Some.submit in
+    let some : ◌≡◌ {A = Option Submit} (Some submit) (option_map arc_value c.in_ok-submit.field-0) = search rules in
     after-same s g h (PutMessage (q, m) ∷ []) (submit_moves origin c.args.pdu.now c.args.response)
     (submit-one origin c.args.pdu.now c.args.response submit q m c.place_of.ensures (c.message_with-message.ensures c.args.session)
-    (some ∙ c.submit.ensures))
+    (some ∙ c.in_ok-submit.ensures))
     (after-one s g h (PutMessage (q, m)) c.requires.held (ap (λ (q : Place). q.dir) c.place_of.ensures)
     (c.in_ok-put_message.ensures.held (traffic_held g) c.requires.held.traffic c.requires.held.held))
 
