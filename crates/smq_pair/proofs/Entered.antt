@@ -1,8 +1,7 @@
 -- Counts, partners and turns without one, with one PDU more.
 use Rattle.std.proofs.Common.{◌≡◌, ◌≢◌, ℕ, ◌+◌, Bool, true, false, cond, List, [], ◌∷◌, ◌++◌, length, Option, Some, None, refl, sym, ap, ◌∙◌, arith}
 use Rattle.std.specs.Prelude.{count_by, option_and_then, slice_get, is_none}
-use Rattle.std.specs.BTreeMap.{is_at}
-use Rattle.std.proofs.lemmas.List.Sums.{sum_by-cons, sum_by-append}
+use Rattle.std.proofs.lemmas.List.Sums.{sum_by_push}
 use Rattle.smq_kit.specs.declared.place.Dir.{Dir}
 use Rattle.smq_pdu.specs.Header.{Header}
 use Rattle.smq_pair.specs.declared.entry.Series.{Series}
@@ -10,9 +9,8 @@ use Rattle.smq_pair.specs.declared.entry.Turn.{Turn}
 use Rattle.smq_pair.specs.Pairing.{PlacedHeader, PairingValue, pdus_from, opposite, headers}
 use Rattle.smq_pair.specs.Growth.{pushed}
 use Rattle.smq_pair.specs.within.Turns.{is_of, headers_from, count_in, index_at, unpaired_at, partner, series_of, turn_of, partner_of}
-use Rattle.smq_pair.specs.within.Orders.{turn_cmp}
 use Rattle.smq_pair.specs.within.Maps.{unpaired_after}
-use Rattle.smq_pair.proofs.Keys.{turn-same, turn-other}
+use Rattle.smq_pair.proofs.Keys.{at_turn}
 use Rattle.smq_pair.proofs.Lists.{some-is, one_of}
 use Rattle.smq_pair.proofs.Turned
 use Rattle.smq_pair.proofs.Turned.{by_dir, partner-back, partner-apart, pushed-apart, headers-by, series-of, turn-stands, next_turn, next-dir, index-free, index-next, index-others, turn-stays, turn-last}
@@ -20,7 +18,7 @@ use Rattle.smq_pair.proofs.Turned.{by_dir, partner-back, partner-apart, pushed-a
 -- ---- counts
 
 pub count-last : {X : Type 0} (p : X → Bool) (xs : List X) (x : X) → count_by p (xs ++ x ∷ []) ≡ count_by p xs + cond (p x) 1 0
-count-last p xs x = omega (arith, sum_by-append (λ y. cond (p y) 1 0) xs (x ∷ []), sum_by-cons (λ y. cond (p y) 1 0) x [])
+count-last p xs x = sum_by_push (λ y. cond (p y) 1 0) xs x
 
 module _ (v : PairingValue) (p : PlacedHeader) where
   pub count_by_dir : (s : Series) → s.dir ≡ p.place.dir → count_in (pushed v p) s ≡ count_in v s + cond (is_of s.side s.seq p.header) 1 0
@@ -103,13 +101,14 @@ module _ (v : PairingValue) (p : PlacedHeader) (t : Turn) (next : next_turn v p 
       ∙ ap (λ o. cond (is_none o) (index_at v (partner t)) None) (index-free v p t next)
 
   -- turns that aren't the new one's or its partner's are as before
-  pub unpaired-others : (u : Turn) → u ≢ t → u ≢ partner t → unpaired_at (pushed v p) u ≡ unpaired_at v u
-  unpaired-others u h k = unpaired_by _ _ _ _
-      (index-others v p (partner u) (no_other (partner u) (λ e. k (sym (partner-back u) ∙ ap partner e))))
-      (index-others v p u (no_other u h))
+  unpaired-others : (u : Turn) → t ≢ u → partner t ≢ u → unpaired_at v u ≡ unpaired_at (pushed v p) u
+  unpaired-others u h k = sym (unpaired_by _ _ _ _
+      (index-others v p (partner u) (no_other (partner u) (λ e. k (ap partner (sym e) ∙ partner-back u))))
+      (index-others v p u (no_other u (λ e. h (sym e)))))
 
-  pub unpaired-own : unpaired_at (pushed v p) t ≡ cond (is_none (index_at v (partner t))) (Some (length (pdus_from p.place.dir v))) None
-  unpaired-own = unpaired_by _ _ _ _ (index-others v p (partner t) (no_other (partner t) (partner-apart t))) (index-next v p t next)
+  own_is : (o : Option ℕ) → index_at v (partner t) ≡ o
+      → unpaired_at (pushed v p) t ≡ cond (is_none o) (Some (length (pdus_from p.place.dir v))) None
+  own_is o e = unpaired_by _ _ _ _ (index-others v p (partner t) (no_other (partner t) (partner-apart t)) ∙ e) (index-next v p t next)
 
   pub unpaired-met : unpaired_at (pushed v p) (partner t) ≡ None
   unpaired-met =
@@ -118,34 +117,16 @@ module _ (v : PairingValue) (p : PlacedHeader) (t : Turn) (next : next_turn v p 
 
   pub unpaired_next : (o : Option ℕ) → index_at v (partner t) ≡ o
       → (u : Turn) → unpaired_after o (unpaired_at v) t (length (pdus_from p.place.dir v)) u ≡ unpaired_at (pushed v p) u
-  unpaired_next None e u = elim (is_at (turn_cmp t) u) as (λ b. is_at (turn_cmp t) u ≡ b
-      → cond b (Some (length (pdus_from p.place.dir v))) (unpaired_at v u) ≡ unpaired_at (pushed v p) u) [
-        | true ↦ λ here.
-            sym (ap (unpaired_at (pushed v p)) (sym (turn-same t u here)) ∙ unpaired-own
-            ∙ ap (λ o. cond (is_none o) (Some (length (pdus_from p.place.dir v))) None) e)
-        | false ↦ λ other. by_partner u (λ same. turn-other t u other (sym same))
-      ] refl
-    where
-      by_partner : (u : Turn) → u ≢ t → unpaired_at v u ≡ unpaired_at (pushed v p) u
-      by_partner u h = elim (is_at (turn_cmp (partner t)) u) as (λ b. is_at (turn_cmp (partner t)) u ≡ b
-          → unpaired_at v u ≡ unpaired_at (pushed v p) u) [
-            | true ↦ λ here.
-                let same : partner t ≡ u = turn-same (partner t) u here in
-                ap (unpaired_at v) (sym same) ∙ unpaired-partner ∙ e ∙ sym unpaired-met ∙ ap (unpaired_at (pushed v p)) same
-            | false ↦ λ other. sym (unpaired-others u h (λ same. turn-other (partner t) u other (sym same)))
-          ] refl
-  unpaired_next (Some j) e u = elim (is_at (turn_cmp (partner t)) u) as (λ b. is_at (turn_cmp (partner t)) u ≡ b
-      → cond b None (unpaired_at v u) ≡ unpaired_at (pushed v p) u) [
-        | true ↦ λ here. sym (ap (unpaired_at (pushed v p)) (sym (turn-same (partner t) u here)) ∙ unpaired-met)
-        | false ↦ λ other. by_own u (λ same. turn-other (partner t) u other (sym same))
-      ] refl
-    where
-      by_own : (u : Turn) → u ≢ partner t → unpaired_at v u ≡ unpaired_at (pushed v p) u
-      by_own u h = elim (is_at (turn_cmp t) u) as (λ b. is_at (turn_cmp t) u ≡ b → unpaired_at v u ≡ unpaired_at (pushed v p) u) [
-        | true ↦ λ here.
-            let same : t ≡ u = turn-same t u here in
-            ap (unpaired_at v) (sym same) ∙ unpaired-free
-            ∙ sym (ap (λ o. cond (is_none o) (Some (length (pdus_from p.place.dir v))) None) e) ∙ sym unpaired-own
-            ∙ ap (unpaired_at (pushed v p)) same
-        | false ↦ λ other. sym (unpaired-others u (λ same. turn-other t u other (sym same)) h)
-      ] refl
+  unpaired_next None e u =
+      at_turn t u (λ b. cond b (Some (length (pdus_from p.place.dir v))) (unpaired_at v u) ≡ unpaired_at (pushed v p) u)
+      (λ same. sym (own_is None e) ∙ ap (unpaired_at (pushed v p)) same)
+      (λ apart. at_turn (partner t) u (λ b. unpaired_at v u ≡ unpaired_at (pushed v p) u)
+      (λ same. ap (unpaired_at v) (sym same) ∙ unpaired-partner ∙ e ∙ sym unpaired-met ∙ ap (unpaired_at (pushed v p)) same)
+      (unpaired-others u apart))
+  unpaired_next (Some j) e u =
+      at_turn (partner t) u (λ b. cond b None (unpaired_at v u) ≡ unpaired_at (pushed v p) u)
+      (λ same. sym unpaired-met ∙ ap (unpaired_at (pushed v p)) same)
+      (λ apart. at_turn t u (λ b. unpaired_at v u ≡ unpaired_at (pushed v p) u)
+      (λ same. ap (unpaired_at v) (sym same) ∙ unpaired-free
+      ∙ sym (own_is (Some j) e) ∙ ap (unpaired_at (pushed v p)) same)
+      (λ other. unpaired-others u other apart))

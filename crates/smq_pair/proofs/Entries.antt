@@ -5,7 +5,7 @@ use Rattle.std.proofs.lemmas.List.{map-append, length-map}
 use Rattle.std.proofs.lemmas.List.Folds.{list_all-append}
 use Rattle.std.proofs.lemmas.Option.{slice_get-map}
 use Rattle.std.proofs.lemmas.Cmp.{tied_itself, nat_cmp_total}
-use Rattle.std.proofs.lemmas.Bool.{false≢true}
+use Rattle.std.proofs.lemmas.Bool.{and_parts, eqb-true, false≢true}
 use Rattle.std.proofs.lemmas.Map.Entries.{place_from_lookup}
 use Rattle.std.proofs.lemmas.Map.Keys.{sorted_head, sorted_tail}
 use Rattle.std.specs.declared.cmp.Ordering.TheVariants.{Less, Equal, Greater}
@@ -15,11 +15,13 @@ use Rattle.std.specs.List.{AllByRecursion, list_all}
 use Rattle.std.specs.List.Sorted.{IsStrictlySortedBy}
 use Rattle.std.specs.Map.{keys_of}
 use Rattle.std.specs.BTreeMap.{insert_entry, is_at}
+use Rattle.std.specs.FinMap.{nat_cmp-IsAntisymmetric}
 use Rattle.smq_kit.specs.declared.names.SessionId.{SessionId}
 use Rattle.smq_kit.specs.declared.place.Dir.{Dir}
 use Rattle.smq_kit.specs.declared.place.Dir.TheVariants.{FromClient, FromCentre}
 use Rattle.smq_kit.specs.declared.place.Place.{Place}
 use Rattle.smq_kit.specs.Orders.{place_cmp}
+use Rattle.smq_kit.proofs.Comparisons.{is_equal}
 use Rattle.smq_shelf.specs.Values.{with_value}
 use Rattle.smq_pair.specs.declared.entry.Entry.{Entry}
 use Rattle.smq_pair.specs.Pairing.{PlacedHeader, pdus_from, opposite}
@@ -27,9 +29,8 @@ use Rattle.smq_pair.specs.Growth.{AreInOrder, pushed_in}
 use Rattle.smq_pair.specs.within.Turns.{headers_from}
 use Rattle.smq_pair.specs.within.Kept.{Entries, Held, are_of_session, at_offset, entries_from, header_of, held_at, joined, linked, placed, pdus_in, with_partner}
 use Rattle.smq_pair.specs.within.Maps.{Holds, HoldsOf, Matching}
-use Rattle.smq_pair.proofs.Keys.{dir_itself, offset-same, offset-itself}
+use Rattle.smq_pair.proofs.Keys.{dir_itself}
 use Rattle.smq_pair.proofs.Lists.{some-is, get-either}
-use Rattle.smq_pair.proofs.Turned.{and_first, and_second, equal_is}
 use Rattle.smq_pair.proofs.Standing.{all-at, dir-ascends}
 
 -- one more in a direction, the last
@@ -113,16 +114,17 @@ one-session s t same = ap (λ n. let session : SessionId = record { 0 = n } in s
 said : (s t : SessionId) (d : Dir) (xs : List Held) → list_all (λ (p : PlacedHeader). p.place.session.0 == t.0) (map (placed s d) xs) ≡ true
     → map (placed t d) xs ≡ map (placed s d) xs
 said s t d [] h = refl
-said s t d (x ∷ xs) h = ap (λ (r : SessionId). map (placed r d) (x ∷ xs)) (sym (one-session s t (equal_is s.0 t.0 (and_first _ _ h))))
+said s t d (x ∷ xs) h =
+    ap (λ (r : SessionId). map (placed r d) (x ∷ xs)) (sym (one-session s t (eqb-true s.0 t.0 (and_parts (s.0 == t.0) _ h).0)))
 
 pub of_session-pdus : (session : SessionId) (es : Entries) → are_of_session session (pdus_in es) ≡ true → pdus_in (of_session session es) ≡ pdus_in es
 of_session-pdus session es all =
     let is_its : PlacedHeader → Bool = λ p. p.place.session.0 == session.0 in
     let client : List PlacedHeader = (pdus_in es).client in
-    let both = sym (list_all-append is_its client (pdus_in es).centre) ∙ all in
+    let both = and_parts (list_all is_its client) _ (sym (list_all-append is_its client (pdus_in es).centre) ∙ all) in
     λ i. record {
-      client = said es.session session FromClient es.client (and_first _ _ both) i;
-      centre = said es.session session FromCentre es.centre (and_second (list_all is_its client) _ both) i;
+      client = said es.session session FromClient es.client both.0 i;
+      centre = said es.session session FromCentre es.centre both.1 i;
     }
 
 pub of_session-holds : (m : Matching) (session : SessionId) (es : Entries) → are_of_session session (pdus_in es) ≡ true → Holds m es
@@ -237,7 +239,7 @@ found-kept [] j e s at = absurd cc
 found-kept (x ∷ xs) zero e s at =
     let same : x ≡ e = some-is x e at in
     ap (λ (y : Held). cond (is_at (nat_cmp y.0) x.0) (Some x.1) (held_at y.0 xs)) (sym same)
-    ∙ ap (λ b. cond b (Some x.1) (held_at x.0 xs)) (offset-itself x.0)
+    ∙ ap (λ b. cond b (Some x.1) (held_at x.0 xs)) (ap is_eq (tied_itself nat_cmp_total x.0))
     ∙ ap (λ (y : Held). Some y.1) same
 found-kept (x ∷ xs) (suc j) e s at =
     ap (λ r. cond (is_eq r) (Some x.1) (held_at e.0 xs)) (greater x.0 e.0 (above-head x xs j e s at))
@@ -259,7 +261,7 @@ set-kept (x ∷ xs) (suc j) e w s at =
 pub stands-kept : (es : List Held) (q : ℕ) (x : Entry) → held_at q es ≡ Some x → (i : ℕ) × (slice_get es i ≡ Some (q, x))
 stands-kept es q x h =
     let there = place_from_lookup (is_at (nat_cmp q)) es x h in
-    (there.0, there.2 ∙ ap (λ (p : ℕ). Some (p, x)) (sym (offset-same q there.1 there.3)))
+    (there.0, there.2 ∙ ap (λ (p : ℕ). Some (p, x)) (sym (nat_cmp-IsAntisymmetric q there.1 (is_equal _ there.3))))
 
 pub none-kept : (es : List Held) (q : ℕ) → held_at q es ≡ None → (i : ℕ) (e : Held) → slice_get es i ≡ Some e → e.0 ≢ q
 none-kept [] q h i e at same = absurd cc
@@ -270,7 +272,7 @@ none-kept (x ∷ xs) q h i e at same = by_test (is_at (nat_cmp q) x.0) refl h i 
     by_test true is h i at rest = absurd cc
     by_test false is h zero at rest =
         let here : x.0 ≡ q = ap (λ (y : Held). y.0) (some-is x e at) ∙ same in
-        absurd (false≢true (sym is ∙ ap (λ (p : ℕ). is_at (nat_cmp q) p) here ∙ offset-itself q))
+        absurd (false≢true (sym is ∙ ap (λ (p : ℕ). is_at (nat_cmp q) p) here ∙ ap is_eq (tied_itself nat_cmp_total q)))
     by_test false is h (suc i) at rest = rest h i e at same
 
 -- one more in a direction, above those that are there, without a partner

@@ -3,15 +3,16 @@ use Rattle.std.proofs.Common.{◌≡◌, ◌≢◌, ℕ, suc, ◌⊎◌, inl, in
 use Rattle.std.specs.Prelude.{◌&&◌, not, map, filter, option_map, slice_get, is_none}
 use Rattle.std.specs.List.{list_any}
 use Rattle.std.specs.Ordering.{eq_by_cmp}
-use Rattle.std.proofs.lemmas.Bool.{false≢true}
-use Rattle.std.proofs.lemmas.List.{map-append}
-use Rattle.std.proofs.lemmas.List.Elements.{filter-append}
+use Rattle.std.proofs.lemmas.Bool.{and_parts, false≢true, false_from_ne_true, or_cases}
 use Rattle.std.proofs.lemmas.List.Folds.{list_any-append}
 use Rattle.std.proofs.lemmas.Map.Views.{any-filter_same}
 use Rattle.smq_kit.specs.declared.place.Dir.{Dir}
 use Rattle.smq_kit.specs.declared.place.Dir.TheVariants.{FromClient, FromCentre}
 use Rattle.smq_kit.specs.declared.place.Place.{Place}
 use Rattle.smq_kit.specs.Orders.{place_cmp}
+use Rattle.smq_kit.proofs.Comparisons.{or_first, or_second}
+use Rattle.smq_shelf.proofs.Finds.{and_true}
+use Rattle.smq_shelf.proofs.Walks.{and_false}
 use Rattle.smq_pdu.specs.Header.{Header}
 use Rattle.smq_pdu.specs.Pairing.{is_request, is_response}
 use Rattle.smq_pair.specs.declared.pairing.Pair.{Pair}
@@ -19,12 +20,12 @@ use Rattle.smq_pair.specs.declared.entry.Turn.{Turn}
 use Rattle.smq_pair.specs.Pairing.{PlacedHeader, PairingValue, pdus_from, opposite, pair_of, pair_at, places_of, waiting, strays, with_earlier}
 use Rattle.smq_pair.specs.Growth.{AreInOrder, IsNext, pushed, pushed_in, touched, is_among, made_by, is_request_in, is_response_in, is_alone_at, StandsWith, GrowsByOne, GrowsByOnePair, OrderIsIdle}
 use Rattle.smq_pair.specs.within.Turns.{index_at, partner, partner_of, turn_of}
-use Rattle.smq_pair.proofs.Lists.{some-is, get-last, get-front, get-either, one_of}
+use Rattle.smq_pair.proofs.Lists.{some-is, get-last, get-either, one_of}
 use Rattle.smq_pair.proofs.Turned.{by_dir, opposite-back, partner-back, pushed-apart, pushed-by, turn-found, next_turn, next-dir, not-request}
 use Rattle.smq_pair.proofs.Standing.{IsNowhere, there-or-not, same-place, here-place, other-place, pair_with, pair_either, pair-here, pair-nowhere, standing-here, dir-of, dir-ascends}
 use Rattle.smq_pair.proofs.Order.{in-order-next, next-is-free, get-append}
 use Rattle.smq_pair.proofs.Entered.{partner-stays, partner-next}
-use Rattle.smq_pair.proofs.Placed.{partner-pdu}
+use Rattle.smq_pair.proofs.Placed.{get_after, partner-pdu}
 use Rattle.smq_pair.proofs.Ranked.{finds-pairs, has-two-places, header-at}
 
 -- two PDUs at one place are one
@@ -38,18 +39,6 @@ unique-at v d f i j x y o at to same =
     (ap (λ (q : Place). slice_get (filter (λ e. eq_by_cmp place_cmp q e.1.place) (with_earlier [] (pdus_from d v))) 0) same
     ∙ standing-here [] (pdus_from d v) j y (dir-ascends v d o) there))
 
-or_false : (a : Bool) → (a || false) ≡ a
-or_false true = refl
-or_false false = refl
-
-or_first : (a b : Bool) → (a || b) ≡ false → a ≡ false
-or_first true b e = absurd (false≢true (sym e))
-or_first false b e = refl
-
-or_second : (a b : Bool) → (a || b) ≡ false → b ≡ false
-or_second true b e = absurd (false≢true (sym e))
-or_second false b e = e
-
 not-here : (p q : Place) → eq_by_cmp place_cmp p q ≡ false → p ≢ q
 not-here p q e same = false≢true (sym e ∙ here-place p q same)
 
@@ -62,11 +51,6 @@ module _ (v : PairingValue) (p : PlacedHeader) (o : AreInOrder v) (n : IsNext v 
 
   after-order : AreInOrder after
   after-order = in-order-next v p o n
-
-  get-after : (d : Dir) (i : ℕ) (x : PlacedHeader) → slice_get (pdus_from d v) i ≡ Some x → slice_get (pdus_from d after) i ≡ Some x
-  get-after d i x at = by_dir d p.place.dir
-      (λ same. ap (λ ps. slice_get ps i) (pushed-by d v p same) ∙ get-front (pdus_from d v) (p ∷ []) i x at)
-      (λ apart. ap (λ ps. slice_get ps i) (pushed-apart d p.place.dir v p apart) ∙ at)
 
   get-before : {A : Type 0} (d : Dir) (i : ℕ) (x : PlacedHeader) → slice_get (pdus_from d after) i ≡ Some x
       → (slice_get (pdus_from d v) i ≡ Some x → A) → (d ≡ p.place.dir → x ≡ p → A) → A
@@ -91,7 +75,7 @@ module _ (v : PairingValue) (p : PlacedHeader) (o : AreInOrder v) (n : IsNext v 
       let dir : opposite p.place.dir ≡ d = ap opposite (sym (next-dir v p (partner u) next)) ∙ opposite-back u.series.dir ∙ there.0 in
       pair-here after p.place.dir (length (pdus_from p.place.dir v)) p after-order own-at
       ∙ ap (pair_with after p.place.dir p) (partner-next v p (partner u) next ∙ ap (index_at v) (partner-back u) ∙ there.1)
-      ∙ ap (option_map (pair_either p)) (ap (λ (e : Dir). slice_get (pdus_from e after) i) dir ∙ get-after d i x at)
+      ∙ ap (option_map (pair_either p)) (ap (λ (e : Dir). slice_get (pdus_from e after) i) dir ∙ get_after v p d i x at)
 
   among_made : (q : Place) (m : Option Pair) → is_among q (touched p.place m) ≡ false → (pair : Pair) → m ≡ Some pair
       → (q ≢ pair.request) × (q ≢ pair.response)
@@ -123,12 +107,12 @@ module _ (v : PairingValue) (p : PlacedHeader) (o : AreInOrder v) (n : IsNext v 
   with-stays d x i None e = refl
   with-stays d x i (Some j) e =
       let r = partner-pdu v d i x.header j e in
-      ap (option_map (pair_either x)) (get-after (opposite d) j r.0 r.1 ∙ sym r.1)
+      ap (option_map (pair_either x)) (get_after v p (opposite d) j r.0 r.1 ∙ sym r.1)
 
   here-stays : (d : Dir) (i : ℕ) (x : PlacedHeader) → slice_get (pdus_from d v) i ≡ Some x → is_among x.place (touched p.place made)
       ≡ false → pair_at after x.place ≡ pair_at v x.place
   here-stays d i x at h =
-      pair-here after d i x after-order (get-after d i x at)
+      pair-here after d i x after-order (get_after v p d i x at)
       ∙ ap (pair_with after d x) (partner-stays v p d i x.header (header-at (pdus_from d v) i x at) (λ u turn next.
       let made-is = touched-by d i x u at turn next in
       let both = among_made x.place made h (pair_either p x) made-is in
@@ -151,122 +135,114 @@ module _ (v : PairingValue) (p : PlacedHeader) (o : AreInOrder v) (n : IsNext v 
   -- ---- those that stand alone
 
   module _ (test : Header → Bool) where
-    -- whether a place is that of a PDU which passes
-    abbrev any_in : Place → List PlacedHeader → Bool
-    any_in q ps = list_any (eq_by_cmp place_cmp q) (map (λ (x : PlacedHeader). x.place) (filter (λ (x : PlacedHeader). test x.header) ps))
+    -- whether a PDU passes and stands at a place
+    abbrev passes_at : Place → PlacedHeader → Bool
+    passes_at q x = test x.header && eq_by_cmp place_cmp q x.place
 
-    any-append : (q : Place) (xs ys : List PlacedHeader) → any_in q (xs ++ ys) ≡ (any_in q xs || any_in q ys)
-    any-append q xs ys =
-        ap (λ zs. list_any (eq_by_cmp place_cmp q) (map (λ (x : PlacedHeader). x.place) zs))
-        (filter-append (λ (x : PlacedHeader). test x.header) xs ys)
-        ∙ ap (list_any (eq_by_cmp place_cmp q)) (map-append (λ (x : PlacedHeader). x.place)
-        (filter (λ (x : PlacedHeader). test x.header) xs) (filter (λ (x : PlacedHeader). test x.header) ys))
-        ∙ list_any-append (eq_by_cmp place_cmp q) _ _
+    abbrev any_in : Place → PairingValue → Bool
+    any_in q w = list_any (passes_at q) (w.client ++ w.centre)
 
-    any_own : (q : Place) (b : Bool) → test p.header ≡ b → any_in q (p ∷ []) ≡ (eq_by_cmp place_cmp q p.place && b)
-    any_own q true e = ap (λ b. list_any (eq_by_cmp place_cmp q) (map (λ (x : PlacedHeader). x.place) (cond b (p ∷ []) []))) e
-        ∙ by_test (eq_by_cmp place_cmp q p.place)
-      where
-        by_test : (b : Bool) → (b || false) ≡ (b && true)
-        by_test true = refl
-        by_test false = refl
-    any_own q false e = ap (λ b. list_any (eq_by_cmp place_cmp q) (map (λ (x : PlacedHeader). x.place) (cond b (p ∷ []) []))) e
-        ∙ by_test (eq_by_cmp place_cmp q p.place)
-      where
-        by_test : (b : Bool) → false ≡ (b && false)
-        by_test true = refl
-        by_test false = refl
+    any-among : (q : Place) (ps : List PlacedHeader) → list_any (eq_by_cmp place_cmp q)
+        (map (λ (x : PlacedHeader). x.place) (filter (λ (x : PlacedHeader). test x.header) ps)) ≡ list_any (passes_at q) ps
+    any-among q [] = refl
+    any-among q (x ∷ xs) =
+        let rest = filter (λ (x : PlacedHeader). test x.header) xs in
+        elim (test x.header) as (λ b. list_any (eq_by_cmp place_cmp q) (map (λ (x : PlacedHeader). x.place) (cond b (x ∷ rest) rest))
+        ≡ ((b && eq_by_cmp place_cmp q x.place) || list_any (passes_at q) xs)) [
+          | true ↦ ap (λ b. eq_by_cmp place_cmp q x.place || b) (any-among q xs)
+          | false ↦ any-among q xs
+        ]
 
-    between : (a b c : Bool) → ((a || c) || b) ≡ ((a || b) || c)
+    between : (a b c : Bool) → ((a || (b || false)) || c) ≡ ((a || c) || b)
     between true b c = refl
     between false true true = refl
     between false true false = refl
     between false false true = refl
     between false false false = refl
 
-    assoc : (a b c : Bool) → (a || (b || c)) ≡ ((a || b) || c)
-    assoc true b c = refl
-    assoc false b c = refl
+    last : (a b c : Bool) → (a || (c || (b || false))) ≡ ((a || c) || b)
+    last true b c = refl
+    last false true true = refl
+    last false true false = refl
+    last false false true = refl
+    last false false false = refl
 
-    any_in_dir : (d : Dir) (q : Place) → any_in q ((pushed_in d v p).client ++ (pushed_in d v p).centre)
-        ≡ (any_in q (v.client ++ v.centre) || any_in q (p ∷ []))
+    any_in_dir : (d : Dir) (q : Place) → any_in q (pushed_in d v p) ≡ (any_in q v || passes_at q p)
     any_in_dir FromClient q =
-        any-append q (v.client ++ p ∷ []) v.centre ∙ ap (λ b. b || any_in q v.centre) (any-append q v.client (p ∷ []))
-        ∙ between (any_in q v.client) (any_in q v.centre) (any_in q (p ∷ []))
-        ∙ ap (λ b. b || any_in q (p ∷ [])) (sym (any-append q v.client v.centre))
+        let t = passes_at q in
+        list_any-append t (v.client ++ p ∷ []) v.centre ∙ ap (λ b. b || list_any t v.centre) (list_any-append t v.client (p ∷ []))
+        ∙ between (list_any t v.client) (t p) (list_any t v.centre) ∙ ap (λ b. b || t p) (sym (list_any-append t v.client v.centre))
     any_in_dir FromCentre q =
-        any-append q v.client (v.centre ++ p ∷ []) ∙ ap (λ b. any_in q v.client || b) (any-append q v.centre (p ∷ []))
-        ∙ assoc (any_in q v.client) (any_in q v.centre) (any_in q (p ∷ []))
-        ∙ ap (λ b. b || any_in q (p ∷ [])) (sym (any-append q v.client v.centre))
+        let t = passes_at q in
+        list_any-append t v.client (v.centre ++ p ∷ []) ∙ ap (λ b. list_any t v.client || b) (list_any-append t v.centre (p ∷ []))
+        ∙ last (list_any t v.client) (t p) (list_any t v.centre) ∙ ap (λ b. b || t p) (sym (list_any-append t v.client v.centre))
 
     abbrev alone : PairingValue → List Place
     alone w = filter (λ q. is_none (pair_at w q)) (places_of test w)
 
-    alone-among : (w : PairingValue) (q : Place) → is_among q (alone w) ≡ (is_none (pair_at w q) && any_in q (w.client ++ w.centre))
+    alone-among : (w : PairingValue) (q : Place) → is_among q (alone w) ≡ (is_none (pair_at w q) && any_in q w)
     alone-among w q =
         any-filter_same (eq_by_cmp place_cmp q) (λ r. is_none (pair_at w r)) (is_none (pair_at w q))
         (λ r h. ap (λ r. is_none (pair_at w r)) (sym (same-place q r h))) (places_of test w)
+        ∙ ap (λ b. is_none (pair_at w q) && b) (any-among q (w.client ++ w.centre))
 
     -- what passes at a place
-    any-there : (q : Place) (ps : List PlacedHeader) → any_in q ps ≡ true → (i : ℕ) × (x : PlacedHeader) × (slice_get ps i ≡ Some x)
-        × (x.place ≡ q) × (test x.header ≡ true)
-    any-there q [] h = absurd (false≢true h)
-    any-there q (x ∷ xs) h = by_test (test x.header) (eq_by_cmp place_cmp q x.place) refl refl (any-there q xs) h
-      where
-        by_test : (a b : Bool) → test x.header ≡ a → eq_by_cmp place_cmp q x.place ≡ b
-            → (any_in q xs ≡ true → (i : ℕ) × (y : PlacedHeader) × (slice_get xs i ≡ Some y) × (y.place ≡ q) × (test y.header ≡ true))
-            → list_any (eq_by_cmp place_cmp q) (map (λ (x : PlacedHeader). x.place)
-            (cond a (x ∷ filter (λ (x : PlacedHeader). test x.header) xs) (filter (λ (x : PlacedHeader). test x.header) xs)))
-            ≡ true
-            → (i : ℕ) × (y : PlacedHeader) × (slice_get (x ∷ xs) i ≡ Some y) × (y.place ≡ q) × (test y.header ≡ true)
-        by_test true true e f more h = (0, x, refl, sym (same-place q x.place f), e)
-        by_test true false e f more h = let r = more (ap (λ b. b || any_in q xs) (sym f) ∙ h) in (suc r.0, r.1, r.2, r.3, r.4)
-        by_test false b e f more h = let r = more h in (suc r.0, r.1, r.2, r.3, r.4)
+    any-there : (t : PlacedHeader → Bool) (ps : List PlacedHeader) → list_any t ps ≡ true
+        → (i : ℕ) × (x : PlacedHeader) × (slice_get ps i ≡ Some x) × (t x ≡ true)
+    any-there t [] h = absurd (false≢true h)
+    any-there t (x ∷ xs) h = elim (or_cases (t x) (list_any t xs) h) [
+      | inl e ↦ (0, x, refl, e)
+      | inr e ↦ let r = any-there t xs e in (suc r.0, r.1, r.2, r.3)
+    ]
 
-    any-of-two : (q : Place) → any_in q (v.client ++ v.centre) ≡ true → (d : Dir) × (i : ℕ) × (x : PlacedHeader)
+    any-of-two : (q : Place) → any_in q v ≡ true → (d : Dir) × (i : ℕ) × (x : PlacedHeader)
         × (slice_get (pdus_from d v) i ≡ Some x) × (x.place ≡ q) × (test x.header ≡ true)
     any-of-two q h =
-        let r = any-there q (v.client ++ v.centre) h in
+        let r = any-there (passes_at q) (v.client ++ v.centre) h in
+        let both = and_parts (test r.1.header) (eq_by_cmp place_cmp q r.1.place) r.3 in
+        let same : r.1.place ≡ q = sym (same-place q r.1.place both.1) in
         elim (get-append v.client v.centre r.0 r.1 r.2) [
-          | inl at ↦ (FromClient, r.0, r.1, at, r.3, r.4)
-          | inr at ↦ (FromCentre, at.0, r.1, at.1, r.3, r.4)
+          | inl at ↦ (FromClient, r.0, r.1, at, same, both.0)
+          | inr at ↦ (FromCentre, at.0, r.1, at.1, same, both.0)
         ]
 
     -- the new PDU's place is that of none before
-    own-is-new : (q : Place) → eq_by_cmp place_cmp q p.place ≡ true → any_in q (v.client ++ v.centre) ≡ false
-    own-is-new q e = by_test (any_in q (v.client ++ v.centre)) refl
+    own-is-new : (q : Place) → eq_by_cmp place_cmp q p.place ≡ true → any_in q v ≡ false
+    own-is-new q e = false_from_ne_true (any_in q v) (λ h.
+        let r = any-of-two q h in
+        let same : r.2.place ≡ p.place = r.4 ∙ same-place q p.place e in
+        let dir : p.place.dir ≡ r.0 = ap (λ (x : Place). x.dir) (sym same) ∙ dir-of v r.0 r.1 r.2 o r.3 in
+        next-is-free v p o n r.1 r.2 (ap (λ (d : Dir). slice_get (pdus_from d v) r.1) dir ∙ r.3) same)
+
+    -- what is alone after and before, at the new PDU's place and elsewhere
+    by_place : (k' k r m t e a : Bool) → (e ≡ true → (a ≡ false) × (k' ≡ m)) → (e ≡ false → a ≡ true → k' ≡ (k && r))
+        → (k' && (a || (t && e))) ≡ (((k && a) && r) || (e && (t && m)))
+    by_place k' k r m t true a own other = let h = own refl in rw (h.0, h.1) (own_case k r m t)
       where
-        by_test : (b : Bool) → any_in q (v.client ++ v.centre) ≡ b → b ≡ false
-        by_test false h = refl
-        by_test true h =
-            let r = any-of-two q h in
-            let same : r.2.place ≡ p.place = r.4 ∙ same-place q p.place e in
-            let dir : p.place.dir ≡ r.0 = ap (λ (x : Place). x.dir) (sym same) ∙ dir-of v r.0 r.1 r.2 o r.3 in
-            absurd (next-is-free v p o n r.1 r.2 (ap (λ (d : Dir). slice_get (pdus_from d v) r.1) dir ∙ r.3) same)
-
-    own_case : (m t k r : Bool) → (m && (false || (true && t))) ≡ (((k && false) && r) || (true && (t && m)))
-    own_case true true true r = refl
-    own_case true true false r = refl
-    own_case true false true r = refl
-    own_case true false false r = refl
-    own_case false true true r = refl
-    own_case false true false r = refl
-    own_case false false true r = refl
-    own_case false false false r = refl
-
-    absent_case : (k' t k r m : Bool) → (k' && (false || (false && t))) ≡ (((k && false) && r) || (false && (t && m)))
-    absent_case true t true r m = refl
-    absent_case true t false r m = refl
-    absent_case false t true r m = refl
-    absent_case false t false r m = refl
-
-    there_case : (k' t k r m : Bool) → k' ≡ (k && r) → (k' && (true || (false && t))) ≡ (((k && true) && r) || (false && (t && m)))
-    there_case true t true true m e = refl
-    there_case true t true false m e = e
-    there_case true t false r m e = e
-    there_case false t true true m e = e
-    there_case false t true false m e = refl
-    there_case false t false r m e = refl
+        own_case : (k r m t : Bool) → (m && (false || (t && true))) ≡ (((k && false) && r) || (t && m))
+        own_case true r true true = refl
+        own_case true r true false = refl
+        own_case true r false true = refl
+        own_case true r false false = refl
+        own_case false r true true = refl
+        own_case false r true false = refl
+        own_case false r false true = refl
+        own_case false r false false = refl
+    by_place k' k r m t false false own other = absent_case k' k t
+      where
+        absent_case : (k' k t : Bool) → (k' && (false || (t && false))) ≡ (((k && false) && r) || false)
+        absent_case true true true = refl
+        absent_case true true false = refl
+        absent_case true false true = refl
+        absent_case true false false = refl
+        absent_case false true t = refl
+        absent_case false false t = refl
+    by_place k' k r m t false true own other = rw (other refl refl) (there_case k r)
+      where
+        there_case : (k r : Bool) → ((k && r) && true) ≡ (((k && true) && r) || false)
+        there_case true true = refl
+        there_case true false = refl
+        there_case false r = refl
 
     module _ (part : Pair → Place) (q : Place) (is_part : Option Pair → Bool) (no_part : is_part None ≡ false)
         (some_part : (pair : Pair) → is_part (Some pair) ≡ eq_by_cmp place_cmp q (part pair))
@@ -284,11 +260,11 @@ module _ (v : PairingValue) (p : PlacedHeader) (o : AreInOrder v) (n : IsNext v 
       own_first true h = refl
       own_first false h = h
 
-      either_place : (pair : Pair) (a b : Bool) → eq_by_cmp place_cmp q pair.request ≡ a → eq_by_cmp place_cmp q pair.response ≡ b
-          → (a || (b || false)) ≡ true → (q ≡ pair.request) ⊎ (q ≡ pair.response)
-      either_place pair true b e f h = inl (same-place q pair.request e)
-      either_place pair false true e f h = inr (same-place q pair.response f)
-      either_place pair false false e f h = absurd (false≢true h)
+      either_place : (pair : Pair) → is_among q (pair.request ∷ pair.response ∷ []) ≡ true → (q ≡ pair.request) ⊎ (q ≡ pair.response)
+      either_place pair h = elim (or_cases (eq_by_cmp place_cmp q pair.request) _ h) [
+        | inl e ↦ inl (same-place q pair.request e)
+        | inr e ↦ inr (same-place q pair.response (own_first _ e))
+      ]
 
       -- where there was one that passes, it stands alone as before, if it isn't the pair's part
       there-alone : (m : Option Pair) → made ≡ m → eq_by_cmp place_cmp q p.place ≡ false → (d : Dir) (i : ℕ) (x : PlacedHeader)
@@ -296,53 +272,28 @@ module _ (v : PairingValue) (p : PlacedHeader) (o : AreInOrder v) (n : IsNext v 
           → (b : Bool) → is_among q (touched p.place m) ≡ b → is_none (pair_at after q) ≡ (is_none (pair_at v q) && not (is_part m))
       there-alone m e h d i x at is passes false out =
           ap is_none (others-stay q (ap (λ m. is_among q (touched p.place m)) e ∙ out))
-          ∙ and_true (is_none (pair_at v q)) ∙ ap (λ b. is_none (pair_at v q) && not b) (sym (part-apart m e out))
-        where
-          and_true : (b : Bool) → b ≡ (b && true)
-          and_true true = refl
-          and_true false = refl
+          ∙ sym (and_true (is_none (pair_at v q))) ∙ ap (λ b. is_none (pair_at v q) && not b) (sym (part-apart m e out))
       there-alone None e h d i x at is passes true in' = absurd (false≢true (sym h ∙ own_first _ in'))
       there-alone (Some pair) e h d i x at is passes true in' =
-          let where' = either_place pair (eq_by_cmp place_cmp q pair.request) (eq_by_cmp place_cmp q pair.response) refl refl in' in
+          let where' = either_place pair in' in
           let part_is : q ≡ part pair = part-is pair e d i x at passes is where' in
           let stands = makes pair e in
           let here : pair_at after q ≡ Some pair = elim where' [
             | inl r ↦ ap (pair_at after) r ∙ stands.at_request
             | inr r ↦ ap (pair_at after) r ∙ stands.at_response
           ] in
-          ap is_none here ∙ nothing (is_none (pair_at v q))
+          ap is_none here ∙ sym (and_false (is_none (pair_at v q)))
           ∙ ap (λ b. is_none (pair_at v q) && not b) (sym (some_part pair ∙ here-place q (part pair) part_is))
-        where
-          nothing : (b : Bool) → false ≡ (b && false)
-          nothing true = refl
-          nothing false = refl
-
-      by_place : (b a : Bool) → eq_by_cmp place_cmp q p.place ≡ b → any_in q (v.client ++ v.centre) ≡ a
-          → (is_none (pair_at after q) && (any_in q (v.client ++ v.centre) || (eq_by_cmp place_cmp q p.place && test p.header)))
-          ≡ (((is_none (pair_at v q) && any_in q (v.client ++ v.centre)) && not (is_part made)) ||
-          (eq_by_cmp place_cmp q p.place && (test p.header && is_none made)))
-      by_place true a e h =
-          let none = own-is-new q e in
-          (λ i. is_none (pair_at after (same-place q p.place e i)) && (none i || (e i && test p.header)))
-          ∙ own_case (is_none made) (test p.header) (is_none (pair_at v q)) (not (is_part made))
-          ∙ (λ i. ((is_none (pair_at v q) && sym none i) && not (is_part made)) || (sym e i && (test p.header && is_none made)))
-      by_place false false e h =
-          (λ i. is_none (pair_at after q) && (h i || (e i && test p.header)))
-          ∙ absent_case (is_none (pair_at after q)) (test p.header) (is_none (pair_at v q)) (not (is_part made)) (is_none made)
-          ∙ (λ i. ((is_none (pair_at v q) && sym h i) && not (is_part made)) || (sym e i && (test p.header && is_none made)))
-      by_place false true e h =
-          let r = any-of-two q h in
-          (λ i. is_none (pair_at after q) && (h i || (e i && test p.header)))
-          ∙ there_case (is_none (pair_at after q)) (test p.header) (is_none (pair_at v q)) (not (is_part made)) (is_none made)
-          (there-alone made refl e r.0 r.1 r.2 r.3 r.4 r.5 (is_among q (touched p.place made)) refl)
-          ∙ (λ i. ((is_none (pair_at v q) && sym h i) && not (is_part made)) || (sym e i && (test p.header && is_none made)))
 
       alone-grows : is_among q (alone after) ≡ ((is_among q (alone v) && not (is_part made)) || is_alone_at test q p made)
       alone-grows =
           alone-among after q
-          ∙ ap (λ b. is_none (pair_at after q) && b) (any_in_dir p.place.dir q
-          ∙ ap (λ b. any_in q (v.client ++ v.centre) || b) (any_own q (test p.header) refl))
-          ∙ by_place (eq_by_cmp place_cmp q p.place) (any_in q (v.client ++ v.centre)) refl refl
+          ∙ ap (λ b. is_none (pair_at after q) && b) (any_in_dir p.place.dir q)
+          ∙ by_place (is_none (pair_at after q)) (is_none (pair_at v q)) (not (is_part made)) (is_none made) (test p.header)
+          (eq_by_cmp place_cmp q p.place) (any_in q v)
+          (λ own. (own-is-new q own, ap (λ q. is_none (pair_at after q)) (same-place q p.place own)))
+          (λ apart there. let r = any-of-two q there in
+          there-alone made refl apart r.0 r.1 r.2 r.3 r.4 r.5 (is_among q (touched p.place made)) refl)
           ∙ ap (λ b. (b && not (is_part made)) || is_alone_at test q p made) (sym (alone-among v q))
 
   -- a request is no response of the pair that is made, and the other way round
@@ -350,7 +301,7 @@ module _ (v : PairingValue) (p : PlacedHeader) (o : AreInOrder v) (n : IsNext v 
       → is_request x.header ≡ true → x.place ≢ pair.response
   part-request pair e d i x at passes same =
       let f = finds-pairs after p.place pair after-order e in
-      let one : x ≡ f.response = unique-at after d (opposite f.dir) i f.j x f.response after-order (get-after d i x at)
+      let one : x ≡ f.response = unique-at after d (opposite f.dir) i f.j x f.response after-order (get_after v p d i x at)
       f.by_rank.response_at (same ∙ ap (λ (y : Pair). y.response) f.is) in
       absurd (false≢true (sym (not-request f.response.header f.by_rank.by_rank.is_response)
       ∙ ap (λ (y : PlacedHeader). is_request y.header) (sym one) ∙ passes))
@@ -359,7 +310,7 @@ module _ (v : PairingValue) (p : PlacedHeader) (o : AreInOrder v) (n : IsNext v 
       → is_response x.header ≡ true → x.place ≢ pair.request
   part-response pair e d i x at passes same =
       let f = finds-pairs after p.place pair after-order e in
-      let one : x ≡ f.request = unique-at after d f.dir i f.i x f.request after-order (get-after d i x at) f.by_rank.request_at
+      let one : x ≡ f.request = unique-at after d f.dir i f.i x f.request after-order (get_after v p d i x at) f.by_rank.request_at
       (same ∙ ap (λ (y : Pair). y.request) f.is) in
       absurd (false≢true (sym (not-request f.request.header (ap (λ (y : PlacedHeader). is_response y.header) (sym one) ∙ passes))
       ∙ f.by_rank.by_rank.is_request))

@@ -1,17 +1,18 @@
 -- The orders of keys are total, and keys that compare equal are one.
-use Rattle.std.proofs.Common.{◌≡◌, ◌≢◌, ℕ, true, false, refl, sym, ap, ◌∙◌, subst}
+use Rattle.std.proofs.Common.{◌≡◌, ◌≢◌, Bool, true, false, cond, List, Some, refl, sym, ap, ◌∙◌, subst}
 use Rattle.std.proofs.lemmas.Bool.{false≢true}
 use Rattle.std.specs.declared.cmp.Ordering.{Ordering}
 use Rattle.std.specs.declared.cmp.Ordering.TheVariants.{Equal}
-use Rattle.std.specs.Ordering.{is_eq, nat_cmp}
+use Rattle.std.specs.Ordering.{is_eq}
 use Rattle.std.specs.Cmp.{IsTotalOrder}
 use Rattle.std.proofs.lemmas.Cmp.{tied_itself, nat_cmp_total, on_total, then_total}
-use Rattle.std.specs.BTreeMap.{is_at}
-use Rattle.std.specs.FinMap.{nat_cmp-IsAntisymmetric}
+use Rattle.std.specs.Map.{lookup}
+use Rattle.std.specs.BTreeMap.{insert_entry, is_at}
 use Rattle.smq_kit.specs.declared.place.Dir.{Dir}
 use Rattle.smq_kit.specs.declared.place.Dir.TheVariants.{FromClient, FromCentre}
 use Rattle.smq_kit.specs.Orders.{dir_cmp}
 use Rattle.smq_kit.proofs.Comparisons.{is_equal}
+use Rattle.smq_shelf.proofs.Changes.{lookup-insert_entry, lookup-insert_other}
 use Rattle.smq_pair.specs.declared.entry.Series.{Series}
 use Rattle.smq_pair.specs.declared.entry.Turn.{Turn}
 use Rattle.smq_pair.specs.within.Orders.{series_cmp, turn_cmp}
@@ -40,41 +41,32 @@ turns_total = then_total (on_total (λ (t : Turn). t.series) series_total) (on_t
 -- ---- tests at keys
 
 module _ {K : Type 0} (cmp : K → K → Ordering) (exact : (a b : K) → cmp a b ≡ Equal → a ≡ b) (total : IsTotalOrder cmp) where
-  at_same : (k q : K) → is_at (cmp k) q ≡ true → k ≡ q
-  at_same k q e = exact k q (is_equal (cmp k q) e)
-
-  at_other : (k q : K) → is_at (cmp k) q ≡ false → k ≢ q
-  at_other k q e same = false≢true (sym e ∙ ap (λ x. is_eq (cmp k x)) (sym same) ∙ ap is_eq (tied_itself total k))
-
-  at_itself : (k : K) → is_at (cmp k) k ≡ true
-  at_itself k = ap is_eq (tied_itself total k)
-
-  at_apart : (k q : K) → k ≢ q → is_at (cmp k) q ≡ false
-  at_apart k q h = elim (is_at (cmp k) q) as (λ b. is_at (cmp k) q ≡ b → b ≡ false) [
-    | true ↦ λ e. absurd (h (at_same k q e))
-    | false ↦ λ e. refl
+  -- a test passes at its own key alone
+  at_key : (k q : K) (P : Bool → Type 0) → (k ≡ q → P true) → (k ≢ q → P false) → P (is_at (cmp k) q)
+  at_key k q P own other = elim (is_at (cmp k) q) as (λ b. is_at (cmp k) q ≡ b → P b) [
+    | true ↦ λ e. own (exact k q (is_equal (cmp k q) e))
+    | false ↦ λ e. other (λ same. false≢true (sym e ∙ ap (λ x. is_eq (cmp k x)) (sym same) ∙ ap is_eq (tied_itself total k)))
   ] refl
 
-pub turn-same : (k q : Turn) → is_at (turn_cmp k) q ≡ true → k ≡ q
-turn-same = at_same turn_cmp one_turn turns_total
+  -- what is looked up where an entry is put in
+  lookup_put : {X : Type 0} (k q : K) (w : X) (es : List (K × X))
+      → lookup (is_at (cmp q)) (insert_entry cmp es k w) ≡ cond (is_at (cmp k) q) (Some w) (lookup (is_at (cmp q)) es)
+  lookup_put k q w es =
+      at_key k q (λ b. lookup (is_at (cmp q)) (insert_entry cmp es k w) ≡ cond b (Some w) (lookup (is_at (cmp q)) es))
+      (λ same. ap (λ p. lookup (is_at (cmp p)) (insert_entry cmp es k w)) (sym same) ∙ lookup-insert_entry total k w es)
+      (λ apart. lookup-insert_other total k q w es (at_key q k (λ b. b ≡ false) (λ same. absurd (apart (sym same))) (λ _. refl)))
 
-pub turn-other : (k q : Turn) → is_at (turn_cmp k) q ≡ false → k ≢ q
-turn-other = at_other turn_cmp one_turn turns_total
+pub at_turn : (k q : Turn) (P : Bool → Type 0) → (k ≡ q → P true) → (k ≢ q → P false) → P (is_at (turn_cmp k) q)
+at_turn = at_key turn_cmp one_turn turns_total
 
-pub turn-apart : (k q : Turn) → k ≢ q → is_at (turn_cmp k) q ≡ false
-turn-apart = at_apart turn_cmp one_turn turns_total
+pub at_series : (k q : Series) (P : Bool → Type 0) → (k ≡ q → P true) → (k ≢ q → P false) → P (is_at (series_cmp k) q)
+at_series = at_key series_cmp one_series series_total
 
-pub series-same : (k q : Series) → is_at (series_cmp k) q ≡ true → k ≡ q
-series-same = at_same series_cmp one_series series_total
+pub put_turn : {X : Type 0} (k q : Turn) (w : X) (es : List (Turn × X))
+    → lookup (is_at (turn_cmp q)) (insert_entry turn_cmp es k w) ≡ cond (is_at (turn_cmp k) q) (Some w) (lookup (is_at (turn_cmp q)) es)
+put_turn = lookup_put turn_cmp one_turn turns_total
 
-pub series-other : (k q : Series) → is_at (series_cmp k) q ≡ false → k ≢ q
-series-other = at_other series_cmp one_series series_total
-
-pub series-apart : (k q : Series) → k ≢ q → is_at (series_cmp k) q ≡ false
-series-apart = at_apart series_cmp one_series series_total
-
-pub offset-same : (k q : ℕ) → is_at (nat_cmp k) q ≡ true → k ≡ q
-offset-same = at_same nat_cmp nat_cmp-IsAntisymmetric nat_cmp_total
-
-pub offset-itself : (k : ℕ) → is_at (nat_cmp k) k ≡ true
-offset-itself = at_itself nat_cmp nat_cmp-IsAntisymmetric nat_cmp_total
+pub put_series : {X : Type 0} (k q : Series) (w : X) (es : List (Series × X))
+    → lookup (is_at (series_cmp q)) (insert_entry series_cmp es k w)
+    ≡ cond (is_at (series_cmp k) q) (Some w) (lookup (is_at (series_cmp q)) es)
+put_series = lookup_put series_cmp one_series series_total

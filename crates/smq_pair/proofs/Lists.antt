@@ -1,5 +1,5 @@
 -- The index of the element of a rank, with one element more at the end.
-use Rattle.std.proofs.Common.{◌≡◌, ℕ, zero, suc, ◌+◌, Bool, true, false, cond, List, [], ◌∷◌, ◌++◌, length, take, Option, Some, None, refl, sym, ap, ◌∙◌, arith, zero-add}
+use Rattle.std.proofs.Common.{◌≡◌, ℕ, zero, suc, ◌+◌, Bool, true, false, cond, List, [], ◌∷◌, ◌++◌, length, Option, Some, None, refl, sym, ap, ◌∙◌, arith, zero-add}
 use Rattle.std.specs.Prelude.{◌==◌, ◌&&◌, count_by, option_map, slice_get}
 use Rattle.std.proofs.lemmas.Bool.Decides.{nat_tests}
 use Rattle.std.proofs.lemmas.List.Sums.{sum_by-cons}
@@ -108,17 +108,6 @@ module _ {X : Type 0} where
   get-either [] y (suc i) x h f g = absurd cc
   get-either (z ∷ xs) y zero x h f g = f h
   get-either (z ∷ xs) y (suc i) x h f g = get-either xs y i x h f (λ e. g (ap suc e))
-
-  -- those before an element are not touched by what comes after
-  pub take-front : (xs ys : List X) (i : ℕ) (x : X) → slice_get xs i ≡ Some x → take i (xs ++ ys) ≡ take i xs
-  take-front [] ys i x h = absurd cc
-  take-front (z ∷ xs) ys zero x h = refl
-  take-front (z ∷ xs) ys (suc i) x h = ap (λ zs. z ∷ zs) (take-front xs ys i x h)
-
-  pub take-all : (xs ys : List X) → take (length xs) (xs ++ ys) ≡ xs
-  take-all [] [] = refl
-  take-all [] (y ∷ ys) = refl
-  take-all (x ∷ xs) ys = ap (λ zs. x ∷ zs) (take-all xs ys)
 
   pub one_of : (o : Option X) (x y : X) → o ≡ Some x → o ≡ Some y → x ≡ y
   one_of o x y e f = cc

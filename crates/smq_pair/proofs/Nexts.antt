@@ -16,7 +16,7 @@ use Rattle.smq_kit.specs.declared.place.Place.{Place}
 use Rattle.smq_pair.specs.Pairing.{PlacedHeader}
 use Rattle.smq_pair.specs.within.Kept.{Entries, Held, are_below, are_of_session, entries_from, pdus_in, placed}
 use Rattle.smq_pair.proofs.Lists.{get-last}
-use Rattle.smq_pair.proofs.Turned.{and_both}
+use Rattle.std.proofs.lemmas.Bool.{and_from}
 use Rattle.smq_pair.proofs.Entries.{Ascend, above-head, pdus-kept}
 
 -- what is below the last is below what the last is below
@@ -42,7 +42,7 @@ below-by-last es place front b s last =
 all-said : (s t : SessionId) (d : Dir) (xs : List Held) → (s.0 == t.0) ≡ true
     → list_all (λ (p : PlacedHeader). p.place.session.0 == t.0) (map (placed s d) xs) ≡ true
 all-said s t d [] same = refl
-all-said s t d (x ∷ xs) same = and_both _ _ same (all-said s t d xs same)
+all-said s t d (x ∷ xs) same = and_from _ _ same (all-said s t d xs same)
 
 -- PDUs are of the session that is kept
 pub of-session : (es : Entries) (session : SessionId) → es.session.0 ≡ session.0
@@ -51,4 +51,4 @@ of-session es session one =
     let same : (es.session.0 == session.0) ≡ true = grind (arith, nat_tests, one) in
     same
     ∙ sym (list_all-append (λ (p : PlacedHeader). p.place.session.0 == session.0) (pdus_in es).client (pdus_in es).centre
-    ∙ and_both _ _ (all-said es.session session FromClient es.client same) (all-said es.session session FromCentre es.centre same))
+    ∙ and_from _ _ (all-said es.session session FromClient es.client same) (all-said es.session session FromCentre es.centre same))

@@ -6,6 +6,7 @@ use Rattle.std.specs.List.Sorted.{IsStrictlySortedBy}
 use Rattle.std.specs.declared.cmp.Ordering.TheVariants.{Less, Equal}
 use Rattle.std.specs.Ordering.{nat_cmp, ordering_then, is_eq, eq_by_cmp}
 use Rattle.std.specs.Cmp.{nat_cmp_is}
+use Rattle.std.proofs.lemmas.Bool.{and_from, and_parts}
 use Rattle.std.proofs.lemmas.Bool.Decides.{nat_tests}
 use Rattle.std.proofs.lemmas.List.{append-nil, append_assoc}
 use Rattle.std.proofs.lemmas.List.Folds.{list_all-append}
@@ -16,7 +17,6 @@ use Rattle.smq_kit.specs.Orders.{dir_cmp, place_cmp}
 use Rattle.smq_pair.specs.Pairing.{PlacedHeader, PairingValue, pdus_from}
 use Rattle.smq_pair.specs.Growth.{AreInOrder, IsNext, pushed, pushed_in, is_from}
 use Rattle.smq_pair.proofs.Keys.{dir_itself}
-use Rattle.smq_pair.proofs.Turned.{and_both, and_first, and_second}
 use Rattle.smq_pair.proofs.Standing.{IsNowhere, all-test, ascend-between, dir-of}
 
 pub less_offset : (a b : Place) → a.session.0 ≡ b.session.0 → a.dir ≡ b.dir → a.offset < b.offset → place_cmp a b ≡ Less
@@ -31,7 +31,7 @@ less_dir a b s d e =
     ∙ (λ i. ordering_then (sym (nat_cmp_is b.session.0 b.session.0 Equal refl) i) Less)
 
 one_all : {X : Type 0} (test : X → Bool) (xs : List X) (x : X) → list_all test xs ≡ true → test x ≡ true → list_all test (xs ++ x ∷ []) ≡ true
-one_all test xs x h k = list_all-append test xs (x ∷ []) ∙ and_both (list_all test xs) (list_all test (x ∷ [])) h (and_both (test x) true k refl)
+one_all test xs x h k = list_all-append test xs (x ∷ []) ∙ and_from _ _ h (and_from (test x) true k refl)
 
 -- what stands in two lists stands in one of them
 pub get-append : {X : Type 0} (xs ys : List X) (i : ℕ) (x : X) → slice_get (xs ++ ys) i ≡ Some x
@@ -45,11 +45,10 @@ Ascends xs = IsStrictlySortedBy place_cmp (map (λ (x : PlacedHeader). x.place) 
 
 module _ (v : PairingValue) (p : PlacedHeader) (o : AreInOrder v) (n : IsNext v p.place) where
   sessions_of : (d : Dir) → list_all (λ (x : PlacedHeader). x.place.session.0 == p.place.session.0) (pdus_from d v) ≡ true
-  sessions_of FromClient = and_first _ _ (sym (list_all-append (λ (x : PlacedHeader). x.place.session.0 == p.place.session.0) v.client
-      v.centre) ∙ n.session)
-  sessions_of FromCentre =
-      and_second (list_all (λ (x : PlacedHeader). x.place.session.0 == p.place.session.0) v.client) _
-      (sym (list_all-append (λ (x : PlacedHeader). x.place.session.0 == p.place.session.0) v.client v.centre) ∙ n.session)
+  sessions_of d =
+      let is_its : PlacedHeader → Bool = λ x. x.place.session.0 == p.place.session.0 in
+      let both = and_parts (list_all is_its v.client) _ (sym (list_all-append is_its v.client v.centre) ∙ n.session) in
+      elim d as (λ d. list_all is_its (pdus_from d v) ≡ true) [ FromClient ↦ both.0 | FromCentre ↦ both.1 ]
 
   session_of : (d : Dir) (i : ℕ) (x : PlacedHeader) → slice_get (pdus_from d v) i ≡ Some x → x.place.session.0 ≡ p.place.session.0
   session_of d i x at =

@@ -11,7 +11,7 @@ use Rattle.smq_pair.specs.Growth.{pushed}
 use Rattle.smq_pair.specs.within.Turns.{headers_from, index_at, unpaired_at, partner, partner_of, series_of, turn_after}
 use Rattle.smq_pair.specs.within.Orders.{turn_cmp}
 use Rattle.smq_pair.specs.within.Maps.{offset_at, unpaired_after}
-use Rattle.smq_pair.proofs.Keys.{turn-same}
+use Rattle.smq_pair.proofs.Keys.{at_turn}
 use Rattle.smq_pair.proofs.Lists.{some-is, get-last, get-front}
 use Rattle.smq_pair.proofs.Turned.{by_dir, pushed-apart, pushed-by, series-has, turn-stands, next_turn, next-dir}
 use Rattle.smq_pair.proofs.Entered.{unpaired_next}
@@ -65,7 +65,8 @@ pub offset-there : (v : PairingValue) (d : Dir) (i : ℕ) (p : PlacedHeader) →
 offset-there v d i p at = ap (option_map (λ (x : PlacedHeader). x.place.offset)) at
 
 module _ (v : PairingValue) (p : PlacedHeader) where
-  get_after : (d : Dir) (i : ℕ) (x : PlacedHeader) → slice_get (pdus_from d v) i ≡ Some x → slice_get (pdus_from d (pushed v p)) i ≡ Some x
+  pub get_after : (d : Dir) (i : ℕ) (x : PlacedHeader) → slice_get (pdus_from d v) i ≡ Some x
+      → slice_get (pdus_from d (pushed v p)) i ≡ Some x
   get_after d i x at = by_dir d p.place.dir
       (λ same. ap (λ ps. slice_get ps i) (pushed-by d v p same) ∙ get-front (pdus_from d v) (p ∷ []) i x at)
       (λ apart. ap (λ ps. slice_get ps i) (pushed-apart d p.place.dir v p apart) ∙ at)
@@ -94,13 +95,11 @@ module _ (v : PairingValue) (p : PlacedHeader) where
     after_offsets : (o : Option ℕ) (u : Turn) → StandsBy v (opposite p.place.dir) o
         → unpaired_after (offset_at v (opposite p.place.dir) o) k t p.place.offset u
         ≡ offset_at (pushed v p) u.series.dir (unpaired_after o (unpaired_at v) t own u)
-    after_offsets None u stands = elim (is_at (turn_cmp t) u) as (λ b. is_at (turn_cmp t) u ≡ b
-        → cond b (Some p.place.offset) (k u) ≡ offset_at (pushed v p) u.series.dir (cond b (Some own) (unpaired_at v u))) [
-          | true ↦ λ here.
-              sym (ap (λ (d : Dir). offset_at (pushed v p) d (Some own)) (ap (λ (x : Turn). x.series.dir) (sym (turn-same t u here)) ∙ next-dir v p t next)
-              ∙ offset-last)
-          | false ↦ λ other. stays u
-        ] refl
+    after_offsets None u stands =
+        at_turn t u (λ b. cond b (Some p.place.offset) (k u) ≡ offset_at (pushed v p) u.series.dir (cond b (Some own) (unpaired_at v u)))
+        (λ same. sym (ap (λ (d : Dir). offset_at (pushed v p) d (Some own))
+        (ap (λ (x : Turn). x.series.dir) (sym same) ∙ next-dir v p t next) ∙ offset-last))
+        (λ _. stays u)
     after_offsets (Some j) u stands =
         let x = stands j refl in
         ap (λ (o : Option ℕ). unpaired_after o k t p.place.offset u) (offset-there v (opposite p.place.dir) j x.0 x.1)

@@ -1,50 +1,26 @@
 -- The pairs that are found are those by rank, each at both of its places.
-use Rattle.std.proofs.Common.{◌≡◌, ℕ, inl, inr, Bool, true, false, cond, List, take, Option, Some, None, refl, sym, ap, ◌∙◌, subst, arith}
-use Rattle.std.specs.Prelude.{◌==◌, option_map, option_and_then, slice_get}
-use Rattle.std.proofs.lemmas.Bool.Decides.{nat_tests}
+use Rattle.std.proofs.Common.{◌≡◌, ℕ, inl, inr, Bool, true, false, cond, List, Option, Some, None, refl, sym, ap, ◌∙◌, subst}
+use Rattle.std.specs.Prelude.{◌==◌, option_map, slice_get}
+use Rattle.std.proofs.lemmas.Bool.{and_from, and_parts, eq-eqb, eqb-true}
 use Rattle.std.proofs.lemmas.Option.{slice_get-map}
 use Rattle.smq_kit.specs.declared.place.Dir.{Dir}
 use Rattle.smq_kit.specs.declared.place.Place.{Place}
 use Rattle.smq_pdu.specs.Header.{Header}
-use Rattle.smq_pdu.specs.Pairing.{IsPair, is_request, is_response, is_request_of, nth_index, request_rank, response_rank, response_index}
+use Rattle.smq_pdu.specs.Pairing.{IsPair, is_request, is_response, is_request_of, nth_index, request_rank, response_rank}
 use Rattle.smq_pdu.proofs.Pairs.{stands, found, finds_pairs, finds_each}
 use Rattle.smq_pair.specs.declared.pairing.Pair.{Pair}
-use Rattle.smq_pair.specs.declared.entry.Side.TheVariants.{Request, Response}
 use Rattle.smq_pair.specs.Pairing.{PlacedHeader, PairingValue, pdus_from, opposite, headers, pair_of, pair_at}
 use Rattle.smq_pair.specs.Growth.{AreInOrder}
 use Rattle.smq_pair.specs.Laws.{IsPairByRank, IsFoundByRank, FindsPairs, FindsEachPair, HasTwoPlaces}
-use Rattle.smq_pair.specs.within.Turns.{headers_from, index_at, partner, partner_of, turn_after}
+use Rattle.smq_pair.specs.within.Turns.{headers_from, partner_of}
 use Rattle.smq_pair.proofs.Lists.{some-is, never, one_of}
-use Rattle.smq_pair.proofs.Turned.{opposite-back, side-request, side-response, not-request, and_first, and_second, and_both, equal_is}
-use Rattle.smq_pair.proofs.Standing.{there-or-not, pair_with, pair_either, pair-here, pair-nowhere}
+use Rattle.smq_pair.proofs.Turned.{opposite-back, not-request}
+use Rattle.smq_pair.proofs.Standing.{there-or-not, partner-request, partner-response, partner-neither, pair_with, pair_either, pair-here, pair-nowhere}
 
 -- ---- partners by rank
 
 pub header-at : (ps : List PlacedHeader) (i : ℕ) (p : PlacedHeader) → slice_get ps i ≡ Some p → slice_get (headers ps) i ≡ Some p.header
 header-at ps i p at = slice_get-map (λ (p : PlacedHeader). p.header) ps i ∙ ap (option_map (λ (p : PlacedHeader). p.header)) at
-
--- the index of a request's partner is that of its response
-pub partner-request : (v : PairingValue) (d : Dir) (i : ℕ) (h : Header) → is_request h ≡ true
-    → partner_of v d i h ≡ response_index (headers_from (opposite d) v) h.seq (request_rank (headers_from d v) i h.seq)
-partner-request v d i h e =
-    ap (λ s. option_and_then (λ t. index_at v (partner t))
-    (option_map (turn_after (take i (headers_from d v))) (option_map (λ side. record { dir = d; side = side; seq = h.seq }) s)))
-    (side-request h e)
-
--- and the index of a response's is that of its request
-pub partner-response : (v : PairingValue) (d : Dir) (i : ℕ) (h : Header) → is_response h ≡ true
-    → partner_of v d i h ≡ nth_index (is_request_of h.seq) (headers_from (opposite d) v) (response_rank (headers_from d v) i h.seq)
-partner-response v d i h e =
-    ap (λ s. option_and_then (λ t. index_at v (partner t))
-    (option_map (turn_after (take i (headers_from d v))) (option_map (λ side. record { dir = d; side = side; seq = h.seq }) s)))
-    (side-response h e)
-
--- what is neither has none
-partner-neither : (v : PairingValue) (d : Dir) (i : ℕ) (h : Header) → is_request h ≡ false → is_response h ≡ false → partner_of v d i h ≡ None
-partner-neither v d i h e f =
-    (λ x. option_and_then (λ t. index_at v (partner t))
-    (option_map (turn_after (take i (headers_from d v))) (option_map (λ side. record { dir = d; side = side; seq = h.seq })
-    (cond (e x) (Some Request) (cond (f x) (Some Response) None)))))
 
 -- ---- each pair by rank is found
 
@@ -62,10 +38,10 @@ module _ (v : PairingValue) (d : Dir) (i j : ℕ) (request response : PlacedHead
       (response_rank (headers_from (opposite d) v) j response.header.seq) ≡ Some i
   request_found =
       let same : request.header.seq ≡ response.header.seq = by.by_rank.seq in
-      let itself : (request.header.seq == request.header.seq) ≡ true = grind (arith, nat_tests) in
       ap (λ n. nth_index (is_request_of response.header.seq) (headers_from d v) n) (sym by.by_rank.rank)
       ∙ ap (λ n. nth_index (is_request_of n) (headers_from d v) (request_rank (headers_from d v) i request.header.seq)) (sym same)
-      ∙ found (is_request_of request.header.seq) (headers_from d v) i request.header by.by_rank.request_at (and_both _ _ by.by_rank.is_request itself)
+      ∙ found (is_request_of request.header.seq) (headers_from d v) i request.header
+      by.by_rank.request_at (and_from _ _ by.by_rank.is_request (eq-eqb _ _ refl))
 
   at-response : pair_at v response.place ≡ Some (pair_of request response)
   at-response =
@@ -109,7 +85,8 @@ module _ (v : PairingValue) (d : Dir) (i : ℕ) (p : PlacedHeader) (at : slice_g
       let same : s.element ≡ r.header = one_of (slice_get (headers_from (opposite d) v) j) s.element r.header s.there
       (header-at (pdus_from (opposite d) v) j r there) in
       let passes : is_request_of p.header.seq r.header ≡ true = ap (is_request_of p.header.seq) (sym same) ∙ s.passes in
-      let seq : r.header.seq ≡ p.header.seq = equal_is r.header.seq p.header.seq (and_second (is_request r.header) _ passes) in
+      let both = and_parts (is_request r.header) (r.header.seq == p.header.seq) passes in
+      let seq : r.header.seq ≡ p.header.seq = eqb-true r.header.seq p.header.seq both.1 in
       let back : slice_get (pdus_from (opposite (opposite d)) v) i ≡ Some p =
       ap (λ (d' : Dir). slice_get (pdus_from d' v) i) (opposite-back d) ∙ at in
       record {
@@ -118,7 +95,7 @@ module _ (v : PairingValue) (d : Dir) (i : ℕ) (p : PlacedHeader) (at : slice_g
         by_rank = record {
           request_at = header-at (pdus_from (opposite d) v) j r there;
           response_at = header-at (pdus_from (opposite (opposite d)) v) i p back;
-          is_request = and_first _ _ passes;
+          is_request = both.0;
           is_response = e;
           seq = seq;
           rank =

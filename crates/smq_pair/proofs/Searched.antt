@@ -23,7 +23,7 @@ use Rattle.smq_pair.specs.within.Turns.{is_of, is_on, headers_from, index_at, un
 use Rattle.smq_pair.specs.within.Kept.{Entries, Held, alone_from, at_offset, entries_from, header_of, held_at, is_alone, kept_at, pair_found, partner_kept, pdus_in, placed, places_alone}
 use Rattle.smq_pair.specs.within.Maps.{Holds, Matching, offset_at}
 use Rattle.smq_pair.proofs.Lists.{some-is}
-use Rattle.smq_pair.proofs.Turned.{equal_is}
+use Rattle.std.proofs.lemmas.Bool.{eqb-true}
 use Rattle.smq_pair.proofs.Standing.{pair_with, pair_either, pair-here, pair-nowhere, ascend-filter, IsNowhere}
 use Rattle.smq_pair.proofs.Entries.{pdu-kept, entry-at, one-session, stands-kept, none-kept}
 use Rattle.smq_pair.proofs.Placed.{partner-pdu, offset-there}
@@ -60,7 +60,7 @@ found-at m es v q x h view is =
         → pair_found q x (partner_kept q.dir x es) ≡ pair_at (pdus_in es) q
     by_session true same there =
         subst (λ (s : SessionId). pair_found (at_offset s q.dir q.offset) x (partner_kept q.dir x es) ≡ pair_at (pdus_in es) (at_offset s q.dir q.offset))
-        (sym (one-session q.session es.session (equal_is q.session.0 es.session.0 same))) (found-by m es q.dir q.offset x h there)
+        (sym (one-session q.session es.session (eqb-true q.session.0 es.session.0 same))) (found-by m es q.dir q.offset x h there)
     by_session false same there = absurd cc
 
 -- ---- a pairing of no PDUs

@@ -1,12 +1,12 @@
 -- The pair of the PDU at a place, by its index, and the order of places.
 use Rattle.std.proofs.Common.{◌≡◌, ◌≢◌, ℕ, zero, suc, ◌⊎◌, inl, inr, Bool, true, false, cond, List, [], ◌∷◌, ◌++◌, take, Option, Some, None, refl, sym, ap, ◌∙◌, subst}
-use Rattle.std.specs.Prelude.{◌&&◌, count_by, map, filter, option_map, option_and_then, slice_get}
+use Rattle.std.specs.Prelude.{count_by, map, filter, option_map, option_and_then, slice_get}
 use Rattle.std.specs.List.{list_all, AllByRecursion}
 use Rattle.std.specs.List.Sorted.{IsStrictlySortedBy}
 use Rattle.std.specs.declared.cmp.Ordering.TheVariants.{Less, Equal}
 use Rattle.std.specs.Ordering.{is_eq, eq_by_cmp}
 use Rattle.std.specs.Cmp.{tied_itself}
-use Rattle.std.proofs.lemmas.Bool.{false≢true}
+use Rattle.std.proofs.lemmas.Bool.{and_parts, false_from_ne_true, false≢true}
 use Rattle.std.proofs.lemmas.List.{append-nil, append_assoc, take-map}
 use Rattle.std.proofs.lemmas.Map.Keys.{sorted_head, sorted_tail}
 use Rattle.smq_kit.specs.declared.place.Dir.{Dir}
@@ -16,13 +16,13 @@ use Rattle.smq_kit.specs.Orders.{place_cmp}
 use Rattle.smq_kit.proofs.Comparisons.{is_equal}
 use Rattle.smq_kit.proofs.PlaceOrders.{places_total, places_exact}
 use Rattle.smq_pdu.specs.Header.{Header}
-use Rattle.smq_pdu.specs.Pairing.{is_request, is_response, is_request_of, is_response_of, nth_index}
+use Rattle.smq_pdu.specs.Pairing.{is_request, is_response, is_request_of, is_response_of, nth_index, request_rank, response_rank, response_index}
 use Rattle.smq_pdu.proofs.Pairs.{in_turn, nth_index-map}
 use Rattle.smq_pair.specs.declared.pairing.Pair.{Pair}
 use Rattle.smq_pair.specs.declared.entry.Side.TheVariants.{Request, Response}
 use Rattle.smq_pair.specs.Pairing.{PlacedHeader, PairingValue, pdus_from, opposite, headers, pair_of, pair_after, response_to, request_of, with_earlier, standing_at, pair_at}
 use Rattle.smq_pair.specs.Growth.{AreInOrder, is_from}
-use Rattle.smq_pair.specs.within.Turns.{partner_of, side_of, turn_after, index_at, partner}
+use Rattle.smq_pair.specs.within.Turns.{headers_from, partner_of, turn_after, index_at, partner}
 use Rattle.smq_pair.proofs.Keys.{same_dir}
 use Rattle.smq_pair.proofs.Lists.{some-is}
 use Rattle.smq_pair.proofs.Turned.{side-request, side-response}
@@ -31,16 +31,8 @@ use Rattle.smq_pair.proofs.Turned.{side-request, side-response}
 
 pub all-test : {X : Type 0} (test : X → Bool) (xs : List X) (i : ℕ) (x : X) → list_all test xs ≡ true → slice_get xs i ≡ Some x → test x ≡ true
 all-test test [] i x h at = absurd cc
-all-test test (y ∷ ys) zero x h at = ap test (sym (some-is y x at)) ∙ left (test y) (list_all test ys) h
-  where
-    left : (a b : Bool) → (a && b) ≡ true → a ≡ true
-    left true b e = refl
-    left false b e = absurd (false≢true e)
-all-test test (y ∷ ys) (suc i) x h at = all-test test ys i x (right (test y) (list_all test ys) h) at
-  where
-    right : (a b : Bool) → (a && b) ≡ true → b ≡ true
-    right true b e = e
-    right false b e = absurd (false≢true e)
+all-test test (y ∷ ys) zero x h at = ap test (sym (some-is y x at)) ∙ (and_parts (test y) (list_all test ys) h).0
+all-test test (y ∷ ys) (suc i) x h at = all-test test ys i x (and_parts (test y) (list_all test ys) h).1 at
 
 pub all-at : {X Y : Type 0} (P : Y → Type 0) (f : X → Y) (xs : List X) (i : ℕ) (x : X) → AllByRecursion P (map f xs)
     → slice_get xs i ≡ Some x → P (f x)
@@ -108,10 +100,7 @@ module _ {X : Type 0} (f : X → Place) where
 -- ---- places
 
 not-less : (q : Place) → place_cmp q q ≢ Less
-not-less q e = less_equal (sym e ∙ tied_itself places_total q)
-  where
-    less_equal : Less ≡ Equal → ⊥
-    less_equal h = absurd cc
+not-less q e = let h : Less ≡ Equal = sym e ∙ tied_itself places_total q in cc
 
 pub same-place : (p q : Place) → eq_by_cmp place_cmp p q ≡ true → p ≡ q
 same-place p q e = places_exact p q (is_equal (place_cmp p q) e)
@@ -120,8 +109,7 @@ pub here-place : (p q : Place) → p ≡ q → eq_by_cmp place_cmp p q ≡ true
 here-place p q e = ap (λ x. eq_by_cmp place_cmp p x) (sym e) ∙ ap is_eq (tied_itself places_total p)
 
 pub other-place : (p q : Place) → (p ≡ q → ⊥) → eq_by_cmp place_cmp p q ≡ false
-other-place p q h = elim (eq_by_cmp place_cmp p q) as (λ b. eq_by_cmp place_cmp p q ≡ b
-    → b ≡ false) [ true ↦ λ e. absurd (h (same-place p q e)) | false ↦ λ e. refl ] refl
+other-place p q h = false_from_ne_true (eq_by_cmp place_cmp p q) (λ e. h (same-place p q e))
 
 -- ---- the PDU at a place
 
@@ -181,6 +169,29 @@ standing-nowhere earlier (x ∷ xs) q h =
 
 -- ---- its pair
 
+-- the index of a request's partner is that of its response
+pub partner-request : (v : PairingValue) (d : Dir) (i : ℕ) (h : Header) → is_request h ≡ true
+    → partner_of v d i h ≡ response_index (headers_from (opposite d) v) h.seq (request_rank (headers_from d v) i h.seq)
+partner-request v d i h e =
+    ap (λ s. option_and_then (λ t. index_at v (partner t))
+    (option_map (turn_after (take i (headers_from d v))) (option_map (λ side. record { dir = d; side = side; seq = h.seq }) s)))
+    (side-request h e)
+
+-- and the index of a response's is that of its request
+pub partner-response : (v : PairingValue) (d : Dir) (i : ℕ) (h : Header) → is_response h ≡ true
+    → partner_of v d i h ≡ nth_index (is_request_of h.seq) (headers_from (opposite d) v) (response_rank (headers_from d v) i h.seq)
+partner-response v d i h e =
+    ap (λ s. option_and_then (λ t. index_at v (partner t))
+    (option_map (turn_after (take i (headers_from d v))) (option_map (λ side. record { dir = d; side = side; seq = h.seq }) s)))
+    (side-response h e)
+
+-- what is neither has none
+pub partner-neither : (v : PairingValue) (d : Dir) (i : ℕ) (h : Header) → is_request h ≡ false → is_response h ≡ false → partner_of v d i h ≡ None
+partner-neither v d i h e f =
+    (λ x. option_and_then (λ t. index_at v (partner t))
+    (option_map (turn_after (take i (headers_from d v))) (option_map (λ side. record { dir = d; side = side; seq = h.seq })
+    (cond (e x) (Some Request) (cond (f x) (Some Response) None)))))
+
 -- the pair of a PDU and another
 abbrev pub pair_either : PlacedHeader → PlacedHeader → Pair
 pair_either p r = cond (is_request p.header) (pair_of p r) (pair_of r p)
@@ -211,11 +222,7 @@ module _ (v : PairingValue) (d : Dir) (i : ℕ) (p : PlacedHeader) where
   by_kind : (a b : Bool) → is_request p.header ≡ a → is_response p.header ≡ b → pair_after other (take i mine) p
       ≡ pair_with v d p (partner_of v d i p.header)
   by_kind true b e f =
-      let at : partner_of v d i p.header ≡ nth_index (is_response_of p.header.seq) (headers other)
-      (count_by (is_request_of p.header.seq) (take i (headers mine))) =
-      ap (λ s. option_and_then (λ t. index_at v (partner t))
-      (option_map (turn_after (take i (headers mine))) (option_map (λ side. record { dir = d; side = side; seq = p.header.seq })
-      s))) (side-request p.header e) in
+      let at = partner-request v d i p.header e in
       ap (λ c. cond c (option_map (λ r. pair_of p r) (response_to other (take i mine) p))
       (cond (is_response p.header) (option_map (λ r. pair_of r p) (request_of other (take i mine) p)) None)) e
       ∙ ap (option_map (λ r. pair_of p r)) (by_rank (is_response_of p.header.seq) (is_request_of p.header.seq))
@@ -223,11 +230,7 @@ module _ (v : PairingValue) (d : Dir) (i : ℕ) (p : PlacedHeader) where
       (count_by (is_request_of p.header.seq) (take i (headers mine))))
       ∙ (λ x. option_and_then (λ j. option_map (λ r. cond (sym e x) (pair_of p r) (pair_of r p)) (slice_get other j)) (sym at x))
   by_kind false true e f =
-      let at : partner_of v d i p.header ≡ nth_index (is_request_of p.header.seq) (headers other)
-      (count_by (is_response_of p.header.seq) (take i (headers mine))) =
-      ap (λ s. option_and_then (λ t. index_at v (partner t))
-      (option_map (turn_after (take i (headers mine))) (option_map (λ side. record { dir = d; side = side; seq = p.header.seq })
-      s))) (side-response p.header f) in
+      let at = partner-response v d i p.header f in
       ap (λ c. cond c (option_map (λ r. pair_of p r) (response_to other (take i mine) p))
       (cond (is_response p.header) (option_map (λ r. pair_of r p) (request_of other (take i mine) p)) None)) e
       ∙ ap (λ c. cond c (option_map (λ r. pair_of r p) (request_of other (take i mine) p)) None) f
@@ -236,12 +239,9 @@ module _ (v : PairingValue) (d : Dir) (i : ℕ) (p : PlacedHeader) where
       (count_by (is_response_of p.header.seq) (take i (headers mine))))
       ∙ (λ x. option_and_then (λ j. option_map (λ r. cond (sym e x) (pair_of p r) (pair_of r p)) (slice_get other j)) (sym at x))
   by_kind false false e f =
-      let none : side_of p.header ≡ None = (λ x. cond (e x) (Some Request) (cond (f x) (Some Response) None)) in
       (λ x. cond (e x) (option_map (λ r. pair_of p r) (response_to other (take i mine) p))
       (cond (f x) (option_map (λ r. pair_of r p) (request_of other (take i mine) p)) None))
-      ∙ sym (ap (λ s. pair_with v d p (option_and_then (λ t. index_at v (partner t))
-      (option_map (turn_after (take i (headers mine))) (option_map (λ side. record { dir = d; side = side; seq = p.header.seq })
-      s)))) none)
+      ∙ sym (ap (pair_with v d p) (partner-neither v d i p.header e f))
 
 -- ---- directions in order
 

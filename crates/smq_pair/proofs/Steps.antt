@@ -1,5 +1,5 @@
 -- What the code keeps, with one PDU more.
-use Rattle.std.proofs.Common.{◌≡◌, ◌≢◌, ℕ, ◌+◌, ◌≤◌, true, false, cond, length, Option, Some, None, refl, sym, ap, ◌∙◌, subst, arith}
+use Rattle.std.proofs.Common.{◌≡◌, ◌≢◌, ℕ, ◌+◌, ◌≤◌, true, cond, length, Option, Some, None, refl, sym, ap, ◌∙◌, subst, arith}
 use Rattle.std.specs.Prelude.{IfSome, count_by, option_map, option_and_then, slice_get}
 use Rattle.std.specs.BTreeMap.{is_at}
 use Rattle.std.specs.declared.cmp.Ordering.TheVariants.{Less}
@@ -20,7 +20,7 @@ use Rattle.smq_pair.specs.within.Turns.{is_of, headers_from, count_in, index_at,
 use Rattle.smq_pair.specs.within.Orders.{series_cmp}
 use Rattle.smq_pair.specs.within.Kept.{Entries, Held, are_of_session, at_offset, entries_from, header_of, held_at, joined, pair_found, partner_kept, placed, placed_at, pdus_in}
 use Rattle.smq_pair.specs.within.Maps.{Enters, Holds, HoldsOf, IsEntered, Matching, count_kept, next_kept, offset_at, unpaired_kept}
-use Rattle.smq_pair.proofs.Keys.{series-same, series-other}
+use Rattle.smq_pair.proofs.Keys.{at_series}
 use Rattle.smq_pair.proofs.Lists.{some-is, get-last, never}
 use Rattle.smq_pair.proofs.Turned
 use Rattle.smq_pair.proofs.Turned.{opposite-apart, opposite-back, partner-back, pushed-apart, pushed-by, turn-found, next_turn, next-dir, index-others}
@@ -91,12 +91,9 @@ module _ (m n : Matching) (es : Entries) (d : Dir) (e : Held) (h : Holds m es) (
       → (q : Series) → count_kept n q ≡ count_in after q
   counted s is put q =
       put q
-      ∙ elim (is_at (series_cmp s) q) as (λ b. is_at (series_cmp s) q ≡ b → cond b (count_kept m s + 1) (count_kept m q) ≡ count_in after q) [
-        | true ↦ λ here.
-            ap (λ n. n + 1) (h.counts s) ∙ sym (count-next before new s is) ∙ ap (count_in after) (series-same s q here)
-        | false ↦ λ other.
-            h.counts q ∙ sym (count-others before new q (λ same. series-other s q other (some-is s q (sym is ∙ same))))
-      ] refl
+      ∙ at_series s q (λ b. cond b (count_kept m s + 1) (count_kept m q) ≡ count_in after q)
+      (λ same. ap (λ n. n + 1) (h.counts s) ∙ sym (count-next before new s is) ∙ ap (count_in after) same)
+      (λ apart. h.counts q ∙ sym (count-others before new q (λ same. apart (some-is s q (sym is ∙ same)))))
 
   pub next-is : (s : Series) → series_of d (header_of e.1) ≡ Some s → next_turn before new ≡ Some (next_kept m s)
   next-is s is =

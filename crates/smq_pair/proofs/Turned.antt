@@ -1,9 +1,9 @@
 -- The turns of PDUs, and the index of the PDU of a turn, with one PDU more.
 use Rattle.std.proofs.Common.{◌≡◌, ◌≢◌, ℕ, Bool, true, false, cond, List, [], ◌∷◌, ◌++◌, length, take, Option, Some, None, refl, sym, ap, ◌∙◌, subst, arith}
 use Rattle.std.specs.Prelude.{◌==◌, ◌&&◌, not, count_by, option_map, slice_get}
-use Rattle.std.proofs.lemmas.Bool.{false≢true}
-use Rattle.std.proofs.lemmas.Bool.Decides.{nat_tests}
-use Rattle.std.proofs.lemmas.List.{map-append, length-map}
+use Rattle.std.proofs.lemmas.Bool.{and_from, and_parts, eq-eqb, eqb-true}
+use Rattle.std.proofs.lemmas.List.{map-append, length-map, take-append-le, take_at}
+use Rattle.std.proofs.lemmas.Option.{slice_get_within}
 use Rattle.smq_kit.specs.declared.place.Dir.{Dir}
 use Rattle.smq_kit.specs.declared.place.Dir.TheVariants.{FromClient, FromCentre}
 use Rattle.smq_pdu.specs.Header.{Header}
@@ -16,7 +16,7 @@ use Rattle.smq_pair.specs.declared.entry.Turn.{Turn}
 use Rattle.smq_pair.specs.Pairing.{PlacedHeader, PairingValue, pdus_from, opposite, headers}
 use Rattle.smq_pair.specs.Growth.{pushed, pushed_in}
 use Rattle.smq_pair.specs.within.Turns.{other_side, is_of, headers_from, count_in, index_at, partner, side_of, series_of, turn_after, turn_of}
-use Rattle.smq_pair.proofs.Lists.{place-last, place-none, some-is, take-front, take-all}
+use Rattle.smq_pair.proofs.Lists.{place-last, place-none, some-is}
 
 -- ---- directions and sides
 
@@ -65,23 +65,6 @@ headers-by d v p e = ap headers (pushed-by d v p e) ∙ map-append (λ (x : Plac
 
 -- ---- the series of a header
 
-pub and_first : (a b : Bool) → (a && b) ≡ true → a ≡ true
-and_first true b e = refl
-and_first false b e = absurd (false≢true e)
-
-pub and_second : (a b : Bool) → (a && b) ≡ true → b ≡ true
-and_second true b e = e
-and_second false b e = absurd (false≢true e)
-
-pub and_both : (a b : Bool) → a ≡ true → b ≡ true → (a && b) ≡ true
-and_both a b e f = rw (e, f) refl
-
-pub equal_is : (m n : ℕ) → (m == n) ≡ true → m ≡ n
-equal_is m n e = grind (arith, nat_tests, e)
-
-equal_itself : (n : ℕ) → (n == n) ≡ true
-equal_itself n = grind (arith, nat_tests)
-
 -- a response is no request
 pub not-request : (h : Header) → is_response h ≡ true → is_request h ≡ false
 not-request h e = ap (λ b. (not b && not (h.command == 0x0000_000b)) && not (h.command == 0x0000_0102)) e
@@ -102,8 +85,10 @@ side-response h e =
 -- a header of a side and a sequence number is of that series
 pub series-of : (d : Dir) (side : Side) (seq : ℕ) (h : Header) → is_of side seq h ≡ true
     → series_of d h ≡ Some (record { dir = d; side = side; seq = seq })
-series-of d Request seq h e = series_by d h Request (side-request h (and_first _ _ e)) seq (equal_is h.seq seq (and_second (is_request h) _ e))
-series-of d Response seq h e = series_by d h Response (side-response h (and_first _ _ e)) seq (equal_is h.seq seq (and_second (is_response h) _ e))
+series-of d Request seq h e =
+    let both = and_parts (is_request h) (h.seq == seq) e in series_by d h Request (side-request h both.0) seq (eqb-true h.seq seq both.1)
+series-of d Response seq h e =
+    let both = and_parts (is_response h) (h.seq == seq) e in series_by d h Response (side-response h both.0) seq (eqb-true h.seq seq both.1)
 
 -- The other way round: a series is that of a header.
 pub record IsOfSeries (d : Dir) (h : Header) (s : Series) : Type 0 where
@@ -113,8 +98,8 @@ pub record IsOfSeries (d : Dir) (h : Header) (s : Series) : Type 0 where
 sided : (d : Dir) (h : Header) (a b : Bool) → is_request h ≡ a → is_response h ≡ b → (s : Series)
     → option_map (λ side. record { dir = d; side = side; seq = h.seq }) (cond a (Some Request) (cond b (Some Response) None))
     ≡ Some s → IsOfSeries d h s
-sided d h true b e f s is = subst (IsOfSeries d h) (some-is _ s is) (record { dir = refl; passes = and_both _ _ e (equal_itself h.seq) })
-sided d h false true e f s is = subst (IsOfSeries d h) (some-is _ s is) (record { dir = refl; passes = and_both _ _ f (equal_itself h.seq) })
+sided d h true b e f s is = subst (IsOfSeries d h) (some-is _ s is) (record { dir = refl; passes = and_from _ _ e (eq-eqb _ _ refl) })
+sided d h false true e f s is = subst (IsOfSeries d h) (some-is _ s is) (record { dir = refl; passes = and_from _ _ f (eq-eqb _ _ refl) })
 sided d h false false e f s is = absurd cc
 
 pub series-has : (d : Dir) (h : Header) (s : Series) → series_of d h ≡ Some s → IsOfSeries d h s
@@ -168,9 +153,6 @@ module _ (v : PairingValue) (p : PlacedHeader) where
   abbrev pub next_turn : Option Turn
   next_turn = option_map (turn_after (headers_from p.place.dir v)) (series_of p.place.dir p.header)
 
-  by_test : (t : Turn) (b : Bool) (last : ℕ) → cond b (Some last) (index_at v t) ≡ cond b (Some last) (index_at v t)
-  by_test t b last = refl
-
   -- where there is one more in a direction, the index of a turn is as before or is the new one's
   index_by : (t : Turn) → t.series.dir ≡ p.place.dir
       → index_at (pushed v p) t ≡ cond (is_of t.series.side t.series.seq p.header && t.rank == count_in v t.series)
@@ -201,9 +183,8 @@ module _ (v : PairingValue) (p : PlacedHeader) where
   pub index-next : (t : Turn) → next_turn ≡ Some t → index_at (pushed v p) t ≡ Some (length (pdus_from p.place.dir v))
   index-next t e =
       let parts = next_parts t e in
-      let same : (t.rank == count_in v t.series) ≡ true = grind (arith, nat_tests, parts.1) in
       index_by t parts.0.dir
-      ∙ ap (λ b. cond b (Some (length (headers_from t.series.dir v))) (index_at v t)) (and_both _ _ parts.0.passes same)
+      ∙ ap (λ b. cond b (Some (length (headers_from t.series.dir v))) (index_at v t)) (and_from _ _ parts.0.passes (eq-eqb _ _ parts.1))
       ∙ ap (λ (d : Dir). Some (length (headers_from d v))) parts.0.dir
       ∙ ap Some (length-map (pdus_from p.place.dir v) (λ (x : PlacedHeader). x.header))
 
@@ -217,19 +198,21 @@ module _ (v : PairingValue) (p : PlacedHeader) where
           → cond b (Some (length (headers_from u.series.dir v))) (index_at v u) ≡ index_at v u
       left same false e = refl
       left same true e =
-          let rank : u.rank ≡ count_in v u.series = equal_is _ _ (and_second (is_of u.series.side u.series.seq p.header) _ e) in
+          let both = and_parts (is_of u.series.side u.series.seq p.header) (u.rank == count_in v u.series) e in
           absurd (h (
-          ap (option_map (turn_after (headers_from p.place.dir v))) (series-of p.place.dir u.series.side u.series.seq p.header (and_first _ _ e))
+          ap (option_map (turn_after (headers_from p.place.dir v))) (series-of p.place.dir u.series.side u.series.seq p.header both.0)
           ∙ (λ i. Some (record {
             series = record { dir = sym same i; side = u.series.side; seq = u.series.seq };
-            rank = (ap (λ (d : Dir). count_by (is_of u.series.side u.series.seq) (headers_from d v)) (sym same) ∙ sym rank) i;
+            rank = (ap (λ (d : Dir). count_by (is_of u.series.side u.series.seq) (headers_from d v)) (sym same)
+                ∙ sym (eqb-true _ _ both.1)) i;
           }))))
 
   -- the turn of a PDU that was there stays
   pub turn-stays : (d : Dir) (i : ℕ) (h : Header) → slice_get (headers_from d v) i ≡ Some h → turn_of (pushed v p) d i h ≡ turn_of v d i h
   turn-stays d i h at = by_dir d p.place.dir
       (λ same. ap (λ hs. option_map (turn_after (take i hs)) (series_of d h)) (headers-by d v p same)
-      ∙ ap (λ hs. option_map (turn_after hs) (series_of d h)) (take-front (headers_from d v) (p.header ∷ []) i h at))
+      ∙ ap (λ hs. option_map (turn_after hs) (series_of d h)) (take-append-le i (headers_from d v) (p.header ∷ [])
+      (let within = slice_get_within (headers_from d v) i h at in omega (arith, within))))
       (λ apart. ap (λ ps. option_map (turn_after (take i (headers ps))) (series_of d h)) (pushed-apart d p.place.dir v p apart))
 
   -- and the new one has the next
@@ -239,4 +222,4 @@ module _ (v : PairingValue) (p : PlacedHeader) where
       ap (λ n. option_map (turn_after (take n (headers_from p.place.dir (pushed v p)))) (series_of p.place.dir p.header))
       (sym (length-map (pdus_from p.place.dir v) (λ (x : PlacedHeader). x.header)))
       ∙ ap (λ hs'. option_map (turn_after (take (length hs) hs')) (series_of p.place.dir p.header)) (headers-by p.place.dir v p refl)
-      ∙ ap (λ hs'. option_map (turn_after hs') (series_of p.place.dir p.header)) (take-all hs (p.header ∷ []))
+      ∙ ap (λ hs'. option_map (turn_after hs') (series_of p.place.dir p.header)) (take_at hs (p.header ∷ []) (length hs) refl)

@@ -5,15 +5,13 @@ use Rattle.smq_pdu.specs.Pairing.{is_request}
 use Rattle.smq_pair.specs.declared.entry.Side.TheVariants.{Request}
 use Rattle.smq_pair.specs.Paired.{PairedValue}
 use Rattle.smq_pair.specs.Pairing.{waiting}
-use Rattle.smq_pair.specs.within.Kept.{entries_in}
-use Rattle.smq_pair.specs.within.Maps.{matching_in}
 use Rattle.smq_pair.proofs.Searched.{alone-places, alone-ascend}
 use Rattle.smq_pair.proofs.pairing.Pairing.waiting.Goals as goal
 
 pub returns-clause-places : goal.returns-clause-places
 returns-clause-places c =
     c.alone.ensures
-    ∙ alone-places (matching_in c.self.inside.turns) (entries_in c.self.inside.streams) Request c.self.invariant.0
+    ∙ alone-places _ _ Request c.self.invariant.0
     ∙ ap (λ (v : PairedValue). waiting v.pdus) c.self.view_is
 
 pub returns-clause-in_order : goal.returns-clause-in_order
