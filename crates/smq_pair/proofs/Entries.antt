@@ -1,16 +1,18 @@
 -- Entries and what they say, with one more, and with one that is given its partner.
-use Rattle.std.proofs.Common.{◌≡◌, ◌≢◌, ℕ, zero, suc, ◌+◌, ◌<◌, ◌≤◌, Bool, true, false, cond, List, [], ◌∷◌, ◌++◌, length, Option, Some, None, refl, sym, ap, ◌∙◌, subst, arith}
+use Rattle.std.proofs.Common.{◌≡◌, ◌≢◌, ℕ, zero, suc, ◌<◌, ◌≤◌, Bool, true, List, [], ◌∷◌, ◌++◌, length, get_or, Option, Some, None, refl, sym, ap, ◌∙◌, subst, arith}
 use Rattle.std.specs.Prelude.{◌==◌, map, option_map, slice_get, slice_set}
 use Rattle.std.proofs.lemmas.List.{map-append, length-map}
+use Rattle.std.proofs.lemmas.List.Elements.{All-map}
 use Rattle.std.proofs.lemmas.List.Folds.{list_all-append}
-use Rattle.std.proofs.lemmas.Option.{slice_get-map}
-use Rattle.std.proofs.lemmas.Cmp.{tied_itself, nat_cmp_total}
-use Rattle.std.proofs.lemmas.Bool.{and_parts, eqb-true, false≢true}
-use Rattle.std.proofs.lemmas.Map.Entries.{place_from_lookup}
-use Rattle.std.proofs.lemmas.Map.Keys.{sorted_head, sorted_tail}
+use Rattle.std.proofs.lemmas.Option.{slice_get-get_or, slice_get-map}
+use Rattle.std.proofs.lemmas.Cmp.{eq_by_cmp_equiv, tied_itself, nat_cmp_total}
+use Rattle.std.proofs.lemmas.Bool.{and_parts, eqb-true}
+use Rattle.std.proofs.lemmas.Map.Entries.{length-keys_of, lookup_from_place, place_from_lookup}
+use Rattle.std.proofs.lemmas.Map.Keys.{IsDistinct-from_sorted, sorted_head, sorted_tail}
+use Rattle.std.proofs.lemmas.Map.Views.{length-le_from_below}
 use Rattle.std.specs.declared.cmp.Ordering.TheVariants.{Less, Equal, Greater}
-use Rattle.std.specs.Ordering.{is_eq, match_ordering, nat_cmp, ordering_reverse, ordering_then}
-use Rattle.std.specs.Cmp.{nat_cmp_is, ranked}
+use Rattle.std.specs.Ordering.{match_ordering, nat_cmp, ordering_reverse, ordering_then}
+use Rattle.std.specs.Cmp.{nat_cmp_is}
 use Rattle.std.specs.List.{AllByRecursion, list_all}
 use Rattle.std.specs.List.Sorted.{IsStrictlySortedBy}
 use Rattle.std.specs.Map.{keys_of}
@@ -30,7 +32,7 @@ use Rattle.smq_pair.specs.within.Turns.{headers_from}
 use Rattle.smq_pair.specs.within.Kept.{Entries, Held, are_of_session, at_offset, entries_from, header_of, held_at, joined, linked, placed, pdus_in, with_partner}
 use Rattle.smq_pair.specs.within.Maps.{Holds, HoldsOf, Matching}
 use Rattle.smq_pair.proofs.Keys.{dir_itself}
-use Rattle.smq_pair.proofs.Lists.{some-is, get-either}
+use Rattle.smq_pair.proofs.Lists.{some-is, get-either, never}
 use Rattle.smq_pair.proofs.Standing.{all-at, dir-ascends}
 
 -- one more in a direction, the last
@@ -81,14 +83,8 @@ entry-at d es i p at = by_list (entries_from d es) i (ap (λ ps. slice_get ps i)
     by_list (x ∷ xs) (suc i) h = by_list xs i h
 
 pub appended-in : (d : Dir) (e : Held) (es : Entries) → pdus_in (appended d e es) ≡ pushed_in d (pdus_in es) (placed es.session d e)
-appended-in FromClient e es = λ i. record {
-  client = map-append (placed es.session FromClient) es.client (e ∷ []) i;
-  centre = map (placed es.session FromCentre) es.centre;
-}
-appended-in FromCentre e es = λ i. record {
-  client = map (placed es.session FromClient) es.client;
-  centre = map-append (placed es.session FromCentre) es.centre (e ∷ []) i;
-}
+appended-in FromClient e es = ap (λ ps. record (pdus_in es) { client = ps }) (map-append (placed es.session FromClient) es.client (e ∷ []))
+appended-in FromCentre e es = ap (λ ps. record (pdus_in es) { centre = ps }) (map-append (placed es.session FromCentre) es.centre (e ∷ []))
 
 pub length-kept : (d : Dir) (es : Entries) → length (pdus_from d (pdus_in es)) ≡ length (entries_from d es)
 length-kept d es = ap length (pdus-kept d es) ∙ length-map (entries_from d es) (placed es.session d)
@@ -164,14 +160,8 @@ set_in-session FromCentre j e es = refl
 
 pub linked-pdus : (d : Dir) (j k : ℕ) (e : Held) (es : Entries) → slice_get (entries_from d es) j ≡ Some e
     → pdus_in (set_in d j (linked_to k e) es) ≡ pdus_in es
-linked-pdus FromClient j k e es at = λ i. record {
-  client = placed-set es.session FromClient es.client j k e at i;
-  centre = map (placed es.session FromCentre) es.centre;
-}
-linked-pdus FromCentre j k e es at = λ i. record {
-  client = map (placed es.session FromClient) es.client;
-  centre = placed-set es.session FromCentre es.centre j k e at i;
-}
+linked-pdus FromClient j k e es at = ap (λ ps. record (pdus_in es) { client = ps }) (placed-set es.session FromClient es.client j k e at)
+linked-pdus FromCentre j k e es at = ap (λ ps. record (pdus_in es) { centre = ps }) (placed-set es.session FromCentre es.centre j k e at)
 
 -- an entry after that is as before, or is the one that is set
 pub linked-get : {A : Type 0} (d : Dir) (j : ℕ) (y : Held) (es : Entries) (f : Dir) (i : ℕ) (x : Held)
@@ -221,29 +211,14 @@ insert-last (e ∷ es) q x below =
     ∙ ap (λ (ys : List Held). e ∷ ys) (insert-last es q x (λ i. below (suc i)))
 
 -- entries are no more than offsets for them
-pub few : (xs : List Held) (low high : ℕ) → low ≤ high → Ascend xs → ((i : ℕ) (x : Held) → slice_get xs i ≡ Some x → (low ≤ x.0) × (x.0 < high))
-    → low + length xs ≤ high
-few [] low high le s h = omega (arith, le)
-few (x ∷ xs) low high le s h =
-    let own = h 0 x refl in
-    let from = own.0 in
-    let below = own.1 in
-    let rest = few xs (x.0 + 1) high (omega (arith, below)) (sorted_tail nat_cmp x.0 (keys_of xs) s) (λ i y at.
-    let more = ranked x.0 y.0 Less (sym (above-head x xs i y s at)) in
-    (omega (arith, more), (h (suc i) y at).1)) in
-    omega (arith, from, rest)
+pub few : (xs : List Held) (high : ℕ) → Ascend xs → ((i : ℕ) (x : Held) → slice_get xs i ≡ Some x → x.0 < high) → length xs ≤ high
+few xs high s below =
+    let fit = All-map (λ k. k < high) (λ (x : Held). x.0) xs (λ k d within. below k (get_or xs k d) (slice_get-get_or xs k d within)) in
+    subst (λ n. n ≤ high) (length-keys_of xs) (length-le_from_below high (keys_of xs) s fit)
 
 -- the one at an index is found by its offset, and is set there
 pub found-kept : (es : List Held) (j : ℕ) (e : Held) → Ascend es → slice_get es j ≡ Some e → held_at e.0 es ≡ Some e.1
-found-kept [] j e s at = absurd cc
-found-kept (x ∷ xs) zero e s at =
-    let same : x ≡ e = some-is x e at in
-    ap (λ (y : Held). cond (is_at (nat_cmp y.0) x.0) (Some x.1) (held_at y.0 xs)) (sym same)
-    ∙ ap (λ b. cond b (Some x.1) (held_at x.0 xs)) (ap is_eq (tied_itself nat_cmp_total x.0))
-    ∙ ap (λ (y : Held). Some y.1) same
-found-kept (x ∷ xs) (suc j) e s at =
-    ap (λ r. cond (is_eq r) (Some x.1) (held_at e.0 xs)) (greater x.0 e.0 (above-head x xs j e s at))
-    ∙ found-kept xs j e (sorted_tail nat_cmp x.0 (keys_of xs) s) at
+found-kept es j e s at = lookup_from_place (eq_by_cmp_equiv nat_cmp_total) es j e.0 e.1 (IsDistinct-from_sorted nat_cmp (keys_of es) s) at
 
 set-kept : (es : List Held) (j : ℕ) (e : Held) (w : Entry) → Ascend es → slice_get es j ≡ Some e
     → insert_entry nat_cmp es e.0 w ≡ slice_set es j (e.0, w)
@@ -263,32 +238,15 @@ stands-kept es q x h =
     let there = place_from_lookup (is_at (nat_cmp q)) es x h in
     (there.0, there.2 ∙ ap (λ (p : ℕ). Some (p, x)) (sym (nat_cmp-IsAntisymmetric q there.1 (is_equal _ there.3))))
 
-pub none-kept : (es : List Held) (q : ℕ) → held_at q es ≡ None → (i : ℕ) (e : Held) → slice_get es i ≡ Some e → e.0 ≢ q
-none-kept [] q h i e at same = absurd cc
-none-kept (x ∷ xs) q h i e at same = by_test (is_at (nat_cmp q) x.0) refl h i at (λ none. none-kept xs q none)
-  where
-    by_test : (b : Bool) → is_at (nat_cmp q) x.0 ≡ b → cond b (Some x.1) (held_at q xs) ≡ None → (i : ℕ) → slice_get (x ∷ xs) i ≡ Some e
-        → (held_at q xs ≡ None → (j : ℕ) (f : Held) → slice_get xs j ≡ Some f → f.0 ≢ q) → ⊥
-    by_test true is h i at rest = absurd cc
-    by_test false is h zero at rest =
-        let here : x.0 ≡ q = ap (λ (y : Held). y.0) (some-is x e at) ∙ same in
-        absurd (false≢true (sym is ∙ ap (λ (p : ℕ). is_at (nat_cmp q) p) here ∙ ap is_eq (tied_itself nat_cmp_total q)))
-    by_test false is h (suc i) at rest = rest h i e at same
+pub none-kept : (es : List Held) (q : ℕ) → Ascend es → held_at q es ≡ None → (i : ℕ) (e : Held) → slice_get es i ≡ Some e → e.0 ≢ q
+none-kept es q s none i e at same = never (held_at q es) e.1 none (ap (λ p. held_at p es) (sym same) ∙ found-kept es i e s at)
 
 -- one more in a direction, above those that are there, without a partner
 pub joined-alone : (d : Dir) (e : Held) (es : Entries)
     → ((i : ℕ) (x : Held) → slice_get (entries_from d es) i ≡ Some x → nat_cmp x.0 e.0 ≡ Less) → e.1.partner ≡ None
     → joined d (at_offset es.session d e.0) e.1 es ≡ appended d e es
-joined-alone FromClient e es below none = λ i. record {
-  session = es.session;
-  client = insert-last es.client e.0 e.1 below i;
-  centre = ap (λ (o : Option ℕ). linked o e.0 es.centre) none i;
-}
-joined-alone FromCentre e es below none = λ i. record {
-  session = es.session;
-  client = ap (λ (o : Option ℕ). linked o e.0 es.client) none i;
-  centre = insert-last es.centre e.0 e.1 below i;
-}
+joined-alone FromClient e es below none = rw (insert-last es.client e.0 e.1 below, none) refl
+joined-alone FromCentre e es below none = rw (insert-last es.centre e.0 e.1 below, none) refl
 
 linked-kept : (o : Option ℕ) (q : ℕ) (es : List Held) (j : ℕ) (y : Held) → o ≡ Some y.0 → Ascend es → slice_get es j ≡ Some y
     → linked o q es ≡ slice_set es j (linked_to q y)
@@ -302,13 +260,7 @@ pub joined-linked : (d : Dir) (e : Held) (es : Entries)
     → ((i : ℕ) (x : Held) → slice_get (entries_from d es) i ≡ Some x → nat_cmp x.0 e.0 ≡ Less)
     → (j : ℕ) (y : Held) → e.1.partner ≡ Some y.0 → Ascend (entries_from (opposite d) es) → slice_get (entries_from (opposite d) es) j ≡ Some y
     → joined d (at_offset es.session d e.0) e.1 es ≡ appended d e (set_in (opposite d) j (linked_to e.0 y) es)
-joined-linked FromClient e es below j y some s at = λ i. record {
-  session = es.session;
-  client = insert-last es.client e.0 e.1 below i;
-  centre = linked-kept e.1.partner e.0 es.centre j y some s at i;
-}
-joined-linked FromCentre e es below j y some s at = λ i. record {
-  session = es.session;
-  client = linked-kept e.1.partner e.0 es.client j y some s at i;
-  centre = insert-last es.centre e.0 e.1 below i;
-}
+joined-linked FromClient e es below j y some s at =
+    rw (insert-last es.client e.0 e.1 below, linked-kept e.1.partner e.0 es.centre j y some s at) refl
+joined-linked FromCentre e es below j y some s at =
+    rw (insert-last es.centre e.0 e.1 below, linked-kept e.1.partner e.0 es.client j y some s at) refl

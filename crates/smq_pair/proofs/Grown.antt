@@ -3,6 +3,7 @@ use Rattle.std.proofs.Common.{◌≡◌, ◌≢◌, ℕ, suc, ◌⊎◌, inl, in
 use Rattle.std.specs.Prelude.{◌&&◌, not, map, filter, option_map, slice_get, is_none}
 use Rattle.std.specs.List.{list_any}
 use Rattle.std.specs.Ordering.{eq_by_cmp}
+use mathlib.Core.Bool.{and-false, and-true, and_comm, or-false, or_assoc, or_comm}
 use Rattle.std.proofs.lemmas.Bool.{and_parts, false≢true, false_from_ne_true, or_cases}
 use Rattle.std.proofs.lemmas.List.Folds.{list_any-append}
 use Rattle.std.proofs.lemmas.Map.Views.{any-filter_same}
@@ -11,8 +12,6 @@ use Rattle.smq_kit.specs.declared.place.Dir.TheVariants.{FromClient, FromCentre}
 use Rattle.smq_kit.specs.declared.place.Place.{Place}
 use Rattle.smq_kit.specs.Orders.{place_cmp}
 use Rattle.smq_kit.proofs.Comparisons.{or_first, or_second}
-use Rattle.smq_shelf.proofs.Finds.{and_true}
-use Rattle.smq_shelf.proofs.Walks.{and_false}
 use Rattle.smq_pdu.specs.Header.{Header}
 use Rattle.smq_pdu.specs.Pairing.{is_request, is_response}
 use Rattle.smq_pair.specs.declared.pairing.Pair.{Pair}
@@ -153,29 +152,18 @@ module _ (v : PairingValue) (p : PlacedHeader) (o : AreInOrder v) (n : IsNext v 
           | false ↦ any-among q xs
         ]
 
-    between : (a b c : Bool) → ((a || (b || false)) || c) ≡ ((a || c) || b)
-    between true b c = refl
-    between false true true = refl
-    between false true false = refl
-    between false false true = refl
-    between false false false = refl
-
-    last : (a b c : Bool) → (a || (c || (b || false))) ≡ ((a || c) || b)
-    last true b c = refl
-    last false true true = refl
-    last false true false = refl
-    last false false true = refl
-    last false false false = refl
-
     any_in_dir : (d : Dir) (q : Place) → any_in q (pushed_in d v p) ≡ (any_in q v || passes_at q p)
     any_in_dir FromClient q =
         let t = passes_at q in
         list_any-append t (v.client ++ p ∷ []) v.centre ∙ ap (λ b. b || list_any t v.centre) (list_any-append t v.client (p ∷ []))
-        ∙ between (list_any t v.client) (t p) (list_any t v.centre) ∙ ap (λ b. b || t p) (sym (list_any-append t v.client v.centre))
+        ∙ rw (or-false (t p)) (or_assoc (list_any t v.client) (t p) _
+        ∙ ap (λ b. list_any t v.client || b) (or_comm (t p) (list_any t v.centre)) ∙ sym (or_assoc (list_any t v.client) _ (t p)))
+        ∙ ap (λ b. b || t p) (sym (list_any-append t v.client v.centre))
     any_in_dir FromCentre q =
         let t = passes_at q in
         list_any-append t v.client (v.centre ++ p ∷ []) ∙ ap (λ b. list_any t v.client || b) (list_any-append t v.centre (p ∷ []))
-        ∙ last (list_any t v.client) (t p) (list_any t v.centre) ∙ ap (λ b. b || t p) (sym (list_any-append t v.client v.centre))
+        ∙ rw (or-false (t p)) (sym (or_assoc (list_any t v.client) (list_any t v.centre) (t p)))
+        ∙ ap (λ b. b || t p) (sym (list_any-append t v.client v.centre))
 
     abbrev alone : PairingValue → List Place
     alone w = filter (λ q. is_none (pair_at w q)) (places_of test w)
@@ -217,32 +205,9 @@ module _ (v : PairingValue) (p : PlacedHeader) (o : AreInOrder v) (n : IsNext v 
     -- what is alone after and before, at the new PDU's place and elsewhere
     by_place : (k' k r m t e a : Bool) → (e ≡ true → (a ≡ false) × (k' ≡ m)) → (e ≡ false → a ≡ true → k' ≡ (k && r))
         → (k' && (a || (t && e))) ≡ (((k && a) && r) || (e && (t && m)))
-    by_place k' k r m t true a own other = let h = own refl in rw (h.0, h.1) (own_case k r m t)
-      where
-        own_case : (k r m t : Bool) → (m && (false || (t && true))) ≡ (((k && false) && r) || (t && m))
-        own_case true r true true = refl
-        own_case true r true false = refl
-        own_case true r false true = refl
-        own_case true r false false = refl
-        own_case false r true true = refl
-        own_case false r true false = refl
-        own_case false r false true = refl
-        own_case false r false false = refl
-    by_place k' k r m t false false own other = absent_case k' k t
-      where
-        absent_case : (k' k t : Bool) → (k' && (false || (t && false))) ≡ (((k && false) && r) || false)
-        absent_case true true true = refl
-        absent_case true true false = refl
-        absent_case true false true = refl
-        absent_case true false false = refl
-        absent_case false true t = refl
-        absent_case false false t = refl
-    by_place k' k r m t false true own other = rw (other refl refl) (there_case k r)
-      where
-        there_case : (k r : Bool) → ((k && r) && true) ≡ (((k && true) && r) || false)
-        there_case true true = refl
-        there_case true false = refl
-        there_case false r = refl
+    by_place k' k r m t true a own other = let h = own refl in rw (h.0, h.1, and-false k, and-true t) (and_comm m t)
+    by_place k' k r m t false false own other = rw (and-false t, and-false k', and-false k) refl
+    by_place k' k r m t false true own other = rw (other refl refl, and-true (k && r), and-true k, or-false (k && r)) refl
 
     module _ (part : Pair → Place) (q : Place) (is_part : Option Pair → Bool) (no_part : is_part None ≡ false)
         (some_part : (pair : Pair) → is_part (Some pair) ≡ eq_by_cmp place_cmp q (part pair))
@@ -256,14 +221,10 @@ module _ (v : PairingValue) (p : PlacedHeader) (o : AreInOrder v) (n : IsNext v 
           let both = among_made q (Some pair) h pair refl in
           some_part pair ∙ other-place q (part pair) (part-among pair both.0 both.1)
 
-      own_first : (a : Bool) → (a || false) ≡ true → a ≡ true
-      own_first true h = refl
-      own_first false h = h
-
       either_place : (pair : Pair) → is_among q (pair.request ∷ pair.response ∷ []) ≡ true → (q ≡ pair.request) ⊎ (q ≡ pair.response)
       either_place pair h = elim (or_cases (eq_by_cmp place_cmp q pair.request) _ h) [
         | inl e ↦ inl (same-place q pair.request e)
-        | inr e ↦ inr (same-place q pair.response (own_first _ e))
+        | inr e ↦ inr (same-place q pair.response (sym (or-false _) ∙ e))
       ]
 
       -- where there was one that passes, it stands alone as before, if it isn't the pair's part
@@ -272,8 +233,8 @@ module _ (v : PairingValue) (p : PlacedHeader) (o : AreInOrder v) (n : IsNext v 
           → (b : Bool) → is_among q (touched p.place m) ≡ b → is_none (pair_at after q) ≡ (is_none (pair_at v q) && not (is_part m))
       there-alone m e h d i x at is passes false out =
           ap is_none (others-stay q (ap (λ m. is_among q (touched p.place m)) e ∙ out))
-          ∙ sym (and_true (is_none (pair_at v q))) ∙ ap (λ b. is_none (pair_at v q) && not b) (sym (part-apart m e out))
-      there-alone None e h d i x at is passes true in' = absurd (false≢true (sym h ∙ own_first _ in'))
+          ∙ sym (and-true (is_none (pair_at v q))) ∙ ap (λ b. is_none (pair_at v q) && not b) (sym (part-apart m e out))
+      there-alone None e h d i x at is passes true in' = absurd (false≢true (sym h ∙ sym (or-false _) ∙ in'))
       there-alone (Some pair) e h d i x at is passes true in' =
           let where' = either_place pair in' in
           let part_is : q ≡ part pair = part-is pair e d i x at passes is where' in
@@ -282,7 +243,7 @@ module _ (v : PairingValue) (p : PlacedHeader) (o : AreInOrder v) (n : IsNext v 
             | inl r ↦ ap (pair_at after) r ∙ stands.at_request
             | inr r ↦ ap (pair_at after) r ∙ stands.at_response
           ] in
-          ap is_none here ∙ sym (and_false (is_none (pair_at v q)))
+          ap is_none here ∙ sym (and-false (is_none (pair_at v q)))
           ∙ ap (λ b. is_none (pair_at v q) && not b) (sym (some_part pair ∙ here-place q (part pair) part_is))
 
       alone-grows : is_among q (alone after) ≡ ((is_among q (alone v) && not (is_part made)) || is_alone_at test q p made)

@@ -1,15 +1,12 @@
 -- The index of the element of a rank, with one element more at the end.
 use Rattle.std.proofs.Common.{◌≡◌, ℕ, zero, suc, ◌+◌, Bool, true, false, cond, List, [], ◌∷◌, ◌++◌, length, Option, Some, None, refl, sym, ap, ◌∙◌, arith, zero-add}
 use Rattle.std.specs.Prelude.{◌==◌, ◌&&◌, count_by, option_map, slice_get}
+use mathlib.Core.Bool.{and-false}
 use Rattle.std.proofs.lemmas.Bool.Decides.{nat_tests}
 use Rattle.std.proofs.lemmas.List.Sums.{sum_by-cons}
 use Rattle.smq_pdu.specs.Pairing.{nth_index}
 
 -- ---- the element that passes a test and before which so many pass it
-
-and-false : (a : Bool) → (a && false) ≡ false
-and-false true = refl
-and-false false = refl
 
 mapped : (b : Bool) (n : ℕ) (o : Option ℕ) → option_map suc (cond b (Some n) o) ≡ cond b (Some (suc n)) (option_map suc o)
 mapped true n o = refl
@@ -27,44 +24,9 @@ module _ {X : Type 0} (p : X → Bool) where
   first-last x (suc rank) true e = let other : (suc rank == 0) ≡ false = grind (arith, nat_tests) in rw other refl
   first-last x (suc rank) false e = refl
 
-  zero-last : (b a : Bool) (n c : ℕ) (all found : Option ℕ) → all ≡ with_last a 0 c n found
-      → cond b (Some 0) (option_map suc all) ≡ with_last a 0 (cond b 1 0 + c) (suc n) (cond b (Some 0) (option_map suc found))
-  zero-last true a n c all found ih =
-      let other : (0 == 1 + c) ≡ false = grind (arith, nat_tests) in
-      ap (λ t. cond t (Some (suc n)) (Some 0)) (sym (ap (λ t. a && t) other ∙ and-false a))
-  zero-last false a n c all found ih =
-      let same : (0 == c) ≡ (0 == 0 + c) = ap (λ m. 0 == m) (sym (zero-add c)) in
-      ap (option_map suc) ih ∙ mapped (a && 0 == c) n found ∙ ap (λ t. cond (a && t) (Some (suc n)) (option_map suc found)) same
-
-  suc-last : (b a : Bool) (rank n c : ℕ) (xs ys : List X) → ((r : ℕ) → nth_index p ys r ≡ with_last a r c n (nth_index p xs r))
-      → option_map suc (nth_index p ys (cond b rank (suc rank)))
-      ≡ with_last a (suc rank) (cond b 1 0 + c) (suc n) (option_map suc (nth_index p xs (cond b rank (suc rank))))
-  suc-last true a rank n c xs ys ih =
-      let same : (rank == c) ≡ (suc rank == 1 + c) = grind (arith, nat_tests) in
-      ap (option_map suc) (ih rank) ∙ mapped (a && rank == c) n (nth_index p xs rank)
-      ∙ ap (λ t. cond (a && t) (Some (suc n)) (option_map suc (nth_index p xs rank))) same
-  suc-last false a rank n c xs ys ih =
-      let same : (suc rank == c) ≡ (suc rank == 0 + c) = ap (λ m. suc rank == m) (sym (zero-add c)) in
-      ap (option_map suc) (ih (suc rank)) ∙ mapped (a && suc rank == c) n (nth_index p xs (suc rank))
-      ∙ ap (λ t. cond (a && t) (Some (suc n)) (option_map suc (nth_index p xs (suc rank)))) same
-
   count-cons : (x : X) (xs : List X) → count_by p (x ∷ xs) ≡ cond (p x) 1 0 + count_by p xs
   count-cons x xs = sum_by-cons (λ y. cond (p y) 1 0) x xs
 
-  -- one element more at the end adds its own place alone, at the rank that so many before it make
-  pub place-last : (xs : List X) (x : X) (rank : ℕ) → nth_index p (xs ++ x ∷ []) rank
-      ≡ with_last (p x) rank (count_by p xs) (length xs) (nth_index p xs rank)
-  unfolding nth_index
-  place-last [] x rank = first-last x rank (p x) refl
-  place-last (y ∷ ys) x zero =
-      zero-last (p y) (p x) (length ys) (count_by p ys) (nth_index p (ys ++ x ∷ []) 0) (nth_index p ys 0) (place-last ys x 0)
-      ∙ ap (λ n. with_last (p x) 0 n (suc (length ys)) (cond (p y) (Some 0) (option_map suc (nth_index p ys 0)))) (sym (count-cons y ys))
-  place-last (y ∷ ys) x (suc rank) =
-      suc-last (p y) (p x) rank (length ys) (count_by p ys) ys (ys ++ x ∷ []) (λ r. place-last ys x r)
-      ∙ ap (λ n. with_last (p x) (suc rank) n (suc (length ys)) (option_map suc (nth_index p ys (cond (p y) rank (suc rank)))))
-      (sym (count-cons y ys))
-
-  -- no element has the rank that is next
   skipped : (x : X) (xs : List X) (k : ℕ) → p x ≡ false → nth_index p (x ∷ xs) k ≡ option_map suc (nth_index p xs k)
   unfolding nth_index
   skipped x xs zero e = rw e refl
@@ -74,6 +36,28 @@ module _ {X : Type 0} (p : X → Bool) where
   unfolding nth_index
   taken x xs k e = rw e refl
 
+  more : (y : X) (ys : List X) (x : X) (rank : ℕ) (b : Bool) → p y ≡ b
+      → ((r : ℕ) → nth_index p (ys ++ x ∷ []) r ≡ with_last (p x) r (count_by p ys) (length ys) (nth_index p ys r))
+      → nth_index p (y ∷ (ys ++ x ∷ [])) rank
+      ≡ with_last (p x) rank (cond b 1 0 + count_by p ys) (suc (length ys)) (nth_index p (y ∷ ys) rank)
+  unfolding nth_index
+  more y ys x rank false e ih = rw (skipped y (ys ++ x ∷ []) rank e, ih rank, skipped y ys rank e, zero-add (count_by p ys))
+      (mapped (p x && rank == count_by p ys) (length ys) (nth_index p ys rank))
+  more y ys x zero true e ih =
+      let other : (0 == 1 + count_by p ys) ≡ false = grind (arith, nat_tests) in rw (e, other, and-false (p x)) refl
+  more y ys x (suc rank) true e ih =
+      let same : (rank == count_by p ys) ≡ (suc rank == 1 + count_by p ys) = grind (arith, nat_tests) in
+      rw (taken y (ys ++ x ∷ []) rank e, ih rank, taken y ys rank e, ← same)
+      (mapped (p x && rank == count_by p ys) (length ys) (nth_index p ys rank))
+
+  -- one element more at the end adds its own place alone, at the rank that so many before it make
+  pub place-last : (xs : List X) (x : X) (rank : ℕ) → nth_index p (xs ++ x ∷ []) rank
+      ≡ with_last (p x) rank (count_by p xs) (length xs) (nth_index p xs rank)
+  unfolding nth_index
+  place-last [] x rank = first-last x rank (p x) refl
+  place-last (y ∷ ys) x rank = rw (count-cons y ys) (more y ys x rank (p y) refl (place-last ys x))
+
+  -- no element has the rank that is next
   none_by : (x : X) (xs : List X) (b : Bool) → p x ≡ b → nth_index p xs (count_by p xs) ≡ None
       → nth_index p (x ∷ xs) (cond b 1 0 + count_by p xs) ≡ None
   none_by x xs true e h =

@@ -1,6 +1,6 @@
 -- What is found among entries, and what is alone among them.
 use Rattle.std.proofs.Common.{◌≡◌, ◌≢◌, ℕ, suc, Bool, true, false, cond, List, [], ◌∷◌, ◌++◌, Option, Some, None, refl, sym, ap, ◌∙◌, subst, arith}
-use Rattle.std.specs.Prelude.{◌==◌, ◌&&◌, map, filter, slice_get, option_map, is_none, count_by}
+use Rattle.std.specs.Prelude.{◌==◌, ◌&&◌, map, filter, slice_get, option_and_then, option_map, is_none, count_by}
 use Rattle.std.specs.List.Sorted.{IsStrictlySortedBy}
 use Rattle.std.proofs.lemmas.Bool.Decides.{nat_tests}
 use Rattle.std.proofs.lemmas.List.{map-append}
@@ -24,9 +24,8 @@ use Rattle.smq_pair.specs.within.Kept.{Entries, Held, alone_from, at_offset, ent
 use Rattle.smq_pair.specs.within.Maps.{Holds, Matching, offset_at}
 use Rattle.smq_pair.proofs.Lists.{some-is}
 use Rattle.std.proofs.lemmas.Bool.{eqb-true}
-use Rattle.smq_pair.proofs.Standing.{pair_with, pair_either, pair-here, pair-nowhere, ascend-filter, IsNowhere}
-use Rattle.smq_pair.proofs.Entries.{pdu-kept, entry-at, one-session, stands-kept, none-kept}
-use Rattle.smq_pair.proofs.Placed.{partner-pdu, offset-there}
+use Rattle.smq_pair.proofs.Standing.{pair_either, pair-here, pair-nowhere, ascend-filter, IsNowhere}
+use Rattle.smq_pair.proofs.Entries.{entries-ascend, pdu-kept, entry-at, one-session, stands-kept, none-kept}
 use Rattle.smq_pair.proofs.Steps.{pair-found}
 
 -- ---- the pair at a place
@@ -37,19 +36,21 @@ found-by : (m : Matching) (es : Entries) (d : Dir) (offset : ℕ) (x : Entry) �
 found-by m es d offset x h is = let there = stands-kept (entries_from d es) offset x is in pair-found m es d there.0 (offset, x) h there.1
 
 -- and where nothing is kept nothing stands
-nowhere-kept : (es : Entries) (q : Place) → kept_at q es ≡ None → IsNowhere (pdus_from q.dir (pdus_in es)) q
-nowhere-kept es q none i p at same =
+nowhere-kept : (es : Entries) (q : Place) → AreInOrder (pdus_in es) → kept_at q es ≡ None → IsNowhere (pdus_from q.dir (pdus_in es)) q
+nowhere-kept es q order none i p at same =
     let e = entry-at q.dir es i p at in
     let is : placed es.session q.dir e.0 ≡ p = some-is _ _ (sym (pdu-kept q.dir es i e.0 e.1) ∙ at) in
     let place : at_offset es.session q.dir e.0.0 ≡ q = ap (λ (y : PlacedHeader). y.place) is ∙ same in
     let session : es.session.0 ≡ q.session.0 = ap (λ (r : Place). r.session.0) place in
     let its : (q.session.0 == es.session.0) ≡ true = grind (arith, nat_tests, session) in
-    none-kept (entries_from q.dir es) q.offset (ap (λ b. cond b (held_at q.offset (entries_from q.dir es)) None) (sym its) ∙ none) i e.0 e.1
+    none-kept (entries_from q.dir es) q.offset (entries-ascend es q.dir order)
+    (ap (λ b. cond b (held_at q.offset (entries_from q.dir es)) None) (sym its) ∙ none) i e.0 e.1
     (ap (λ (r : Place). r.offset) place)
 
-pub none-at : (es : Entries) (v : PairingValue) (q : Place) → pdus_in es ≡ v → None ≡ kept_at q es → None ≡ pair_at v q
-none-at es v q view is =
-    sym (pair-nowhere (pdus_in es) q (nowhere-kept es q (sym is))) ∙ ap (λ (w : PairingValue). pair_at w q) view
+pub none-at : (es : Entries) (v : PairingValue) (q : Place) → AreInOrder (pdus_in es) → pdus_in es ≡ v → None ≡ kept_at q es
+    → None ≡ pair_at v q
+none-at es v q order view is =
+    sym (pair-nowhere (pdus_in es) q (nowhere-kept es q order (sym is))) ∙ ap (λ (w : PairingValue). pair_at w q) view
 
 pub found-at : (m : Matching) (es : Entries) (v : PairingValue) (q : Place) (x : Entry) → Holds m es → pdus_in es ≡ v
     → Some x ≡ kept_at q es → pair_found q x (partner_kept q.dir x es) ≡ pair_at v q
@@ -96,37 +97,20 @@ holds-none m es matching client centre =
 
 -- ---- what is alone
 
+none_both : {X Y Z : Type 0} (f : X → Y) (g : X → Z) (xs : List X) (o : Option ℕ)
+    → is_none (option_and_then (λ i. option_map f (slice_get xs i)) o) ≡ is_none (option_and_then (λ i. option_map g (slice_get xs i)) o)
+none_both f g xs None = refl
+none_both f g xs (Some i) =
+    elim (slice_get xs i) as (λ x. is_none (option_map f x) ≡ is_none (option_map g x)) [ None ↦ refl | Some x ↦ refl ]
+
 -- an entry has no partner where there is no pair at its place
 pub alone-is : (m : Matching) (es : Entries) (d : Dir) (i : ℕ) (e : Held) → Holds m es → slice_get (entries_from d es) i ≡ Some e
     → is_none e.1.partner ≡ is_none (pair_at (pdus_in es) (at_offset es.session d e.0))
 alone-is m es d i e h at =
-    by_partner (partner_of (pdus_in es) d i (header_of e.1)) refl
-  where
-    by_partner : (o : Option ℕ) → partner_of (pdus_in es) d i (header_of e.1) ≡ o
-        → is_none e.1.partner ≡ is_none (pair_at (pdus_in es) (at_offset es.session d e.0))
-    by_partner None is =
-        ap is_none (h.partners d i e at ∙ ap (offset_at (pdus_in es) (opposite d)) is)
-        ∙ sym (ap is_none (pair-here (pdus_in es) d i (placed es.session d e) h.in_order (pdu-kept d es i e at) ∙ ap (pair_with (pdus_in es) d (placed es.session d e)) is))
-    by_partner (Some j) is =
-        let there = partner-pdu (pdus_in es) d i (header_of e.1) j is in
-        ap is_none (h.partners d i e at ∙ ap (offset_at (pdus_in es) (opposite d)) is ∙ offset-there (pdus_in es) (opposite d) j there.0 there.1)
-        ∙ sym (ap is_none (pair-here (pdus_in es) d i (placed es.session d e) h.in_order (pdu-kept d es i e at) ∙ ap (pair_with (pdus_in es) d (placed es.session d e)) is
-        ∙ ap (option_map (pair_either (placed es.session d e))) there.1))
-
--- one side's entries without a partner are its PDUs without a pair
-one-among : (test : Place → Bool) (a b : Bool) (s : SessionId) (d : Dir) (x : Held) (xs : List Held) (kept : List PlacedHeader)
-    → b ≡ test (at_offset s d x.0)
-    → map (λ (e : Held). at_offset s d e.0) xs ≡ filter test (map (λ (p : PlacedHeader). p.place) kept)
-    → map (λ (e : Held). at_offset s d e.0) (cond (a && b) (x ∷ xs) xs)
-    ≡ filter test (map (λ (p : PlacedHeader). p.place) (cond a (placed s d x ∷ kept) kept))
-one-among test true true s d x xs kept e rest =
-    ap (λ ps. at_offset s d x.0 ∷ ps) rest
-    ∙ ap (λ b. cond b (at_offset s d x.0 ∷ filter test (map (λ (p : PlacedHeader). p.place) kept))
-    (filter test (map (λ (p : PlacedHeader). p.place) kept))) e
-one-among test true false s d x xs kept e rest =
-    rest ∙ ap (λ b. cond b (at_offset s d x.0 ∷ filter test (map (λ (p : PlacedHeader). p.place) kept))
-    (filter test (map (λ (p : PlacedHeader). p.place) kept))) e
-one-among test false b s d x xs kept e rest = rest
+    ap is_none (h.partners d i e at)
+    ∙ none_both (λ p. p.place.offset) (pair_either (placed es.session d e)) (pdus_from (opposite d) (pdus_in es))
+    (partner_of (pdus_in es) d i (header_of e.1))
+    ∙ sym (ap is_none (pair-here (pdus_in es) d i (placed es.session d e) h.in_order (pdu-kept d es i e at)))
 
 module _ (m : Matching) (es : Entries) (side : Side) (h : Holds m es) where
   abbrev is_free : Place → Bool
@@ -141,9 +125,17 @@ module _ (m : Matching) (es : Entries) (side : Side) (h : Holds m es) where
       → alone_from side es.session d xs ≡ filter is_free (places_on (map (placed es.session d) xs))
   alone-among d [] h = refl
   alone-among d (x ∷ xs) h =
-      one-among is_free (is_on side (header_of x.1)) (is_none x.1.partner) es.session d x (filter (λ (e : Held). is_alone side e.1) xs)
-      (filter (λ (p : PlacedHeader). is_on side p.header) (map (placed es.session d) xs))
-      (h 0 x refl) (alone-among d xs (λ i. h (suc i)))
+      let f : Held → Place = λ e. at_offset es.session d e.0 in
+      let alone = filter (λ (e : Held). is_alone side e.1) xs in
+      let kept = filter (λ (p : PlacedHeader). is_on side p.header) (map (placed es.session d) xs) in
+      let free = filter is_free (map (λ (p : PlacedHeader). p.place) kept) in
+      let later = alone-among d xs (λ i. h (suc i)) in
+      elim (is_on side (header_of x.1)) as (λ a. map f (cond (a && is_none x.1.partner) (x ∷ alone) alone)
+      ≡ filter is_free (map (λ (p : PlacedHeader). p.place) (cond a (placed es.session d x ∷ kept) kept))) [
+        | true ↦ ap (λ b. map f (cond b (x ∷ alone) alone)) (h 0 x refl) ∙ elim (is_free (f x)) as
+            (λ b. map f (cond b (x ∷ alone) alone) ≡ cond b (f x ∷ free) free) [ true ↦ ap (λ qs. f x ∷ qs) later | false ↦ later ]
+        | false ↦ later
+      ]
 
   pub alone-places : places_alone side es ≡ filter is_free (places_of (is_on side) (pdus_in es))
   alone-places =

@@ -6,7 +6,7 @@ use Rattle.std.specs.List.Sorted.{IsStrictlySortedBy}
 use Rattle.std.specs.declared.cmp.Ordering.TheVariants.{Less, Equal}
 use Rattle.std.specs.Ordering.{is_eq, eq_by_cmp}
 use Rattle.std.specs.Cmp.{tied_itself}
-use Rattle.std.proofs.lemmas.Bool.{and_parts, false_from_ne_true, false≢true}
+use Rattle.std.proofs.lemmas.Bool.{and_parts, cond-false, cond-true, false_from_ne_true, false≢true}
 use Rattle.std.proofs.lemmas.List.{append-nil, append_assoc, take-map}
 use Rattle.std.proofs.lemmas.Map.Keys.{sorted_head, sorted_tail}
 use Rattle.smq_kit.specs.declared.place.Dir.{Dir}
@@ -20,7 +20,7 @@ use Rattle.smq_pdu.specs.Pairing.{is_request, is_response, is_request_of, is_res
 use Rattle.smq_pdu.proofs.Pairs.{in_turn, nth_index-map}
 use Rattle.smq_pair.specs.declared.pairing.Pair.{Pair}
 use Rattle.smq_pair.specs.declared.entry.Side.TheVariants.{Request, Response}
-use Rattle.smq_pair.specs.Pairing.{PlacedHeader, PairingValue, pdus_from, opposite, headers, pair_of, pair_after, response_to, request_of, with_earlier, standing_at, pair_at}
+use Rattle.smq_pair.specs.Pairing.{PlacedHeader, PairingValue, pdus_from, opposite, headers, pair_of, pair_after, with_earlier, standing_at, pair_at}
 use Rattle.smq_pair.specs.Growth.{AreInOrder, is_from}
 use Rattle.smq_pair.specs.within.Turns.{headers_from, partner_of, turn_after, index_at, partner}
 use Rattle.smq_pair.proofs.Keys.{same_dir}
@@ -125,17 +125,16 @@ IsNowhere ps q = (i : ℕ) (p : PlacedHeader) → slice_get ps i ≡ Some p → 
 -- a place is that of a PDU, or of none
 pub there-or-not : (ps : List PlacedHeader) (q : Place) → IsThere ps q ⊎ IsNowhere ps q
 there-or-not [] q = inr (λ i p at. absurd cc)
-there-or-not (x ∷ xs) q = elim (eq_by_cmp place_cmp x.place q) as (λ b. eq_by_cmp place_cmp x.place q ≡ b
-    → IsThere (x ∷ xs) q ⊎ IsNowhere (x ∷ xs) q) [
-      | true ↦ λ e. inl (record { index = 0; pdu = x; at = refl; is = same-place x.place q e })
-      | false ↦ λ e. elim (there-or-not xs q) [
-        | inl t ↦ inl (record { index = suc t.index; pdu = t.pdu; at = t.at; is = t.is })
-        | inr h ↦ inr (λ i. elim i as (λ k. (p : PlacedHeader) → slice_get (x ∷ xs) k ≡ Some p → p.place ≢ q) [
-          | zero ↦ λ p at same. false≢true (sym e ∙ here-place x.place q (ap (λ (y : PlacedHeader). y.place) (some-is x p at) ∙ same))
-          | suc k ↦ λ p at same. h k p at same
-        ])
-      ]
-    ] refl
+there-or-not (x ∷ xs) q = by_test (eq_by_cmp place_cmp x.place q) refl (there-or-not xs q)
+  where
+    nowhere : eq_by_cmp place_cmp x.place q ≡ false → IsNowhere xs q → IsNowhere (x ∷ xs) q
+    nowhere e h zero p at same = false≢true (sym e ∙ here-place x.place q (ap (λ (y : PlacedHeader). y.place) (some-is x p at) ∙ same))
+    nowhere e h (suc k) p at same = h k p at same
+
+    by_test : (b : Bool) → eq_by_cmp place_cmp x.place q ≡ b → IsThere xs q ⊎ IsNowhere xs q → IsThere (x ∷ xs) q ⊎ IsNowhere (x ∷ xs) q
+    by_test true e r = inl (record { index = 0; pdu = x; at = refl; is = same-place x.place q e })
+    by_test false e (inl t) = inl (record { index = suc t.index; pdu = t.pdu; at = t.at; is = t.is })
+    by_test false e (inr h) = inr (nowhere e h)
 
 pub standing-here : (earlier ps : List PlacedHeader) (i : ℕ) (p : PlacedHeader)
     → IsStrictlySortedBy place_cmp (map (λ (x : PlacedHeader). x.place) ps) → slice_get ps i ≡ Some p
@@ -143,18 +142,14 @@ pub standing-here : (earlier ps : List PlacedHeader) (i : ℕ) (p : PlacedHeader
 standing-here earlier [] i p s at = absurd cc
 standing-here earlier (x ∷ xs) zero p s at =
     let same : x ≡ p = some-is x p at in
-    ap (λ b. slice_get (cond b ((earlier, x)
-    ∷ filter (λ e. eq_by_cmp place_cmp p.place e.1.place) (with_earlier (earlier ++ x ∷ []) xs))
-    (filter (λ e. eq_by_cmp place_cmp p.place e.1.place) (with_earlier (earlier ++ x ∷ []) xs))) 0)
-    (here-place p.place x.place (ap (λ (y : PlacedHeader). y.place) (sym same)))
+    ap (λ (es : List (List PlacedHeader × PlacedHeader)). slice_get es 0) (cond-true (eq_by_cmp place_cmp p.place x.place) _ _
+    (here-place p.place x.place (ap (λ (y : PlacedHeader). y.place) (sym same))))
     ∙ (λ i. Some (sym (append-nil earlier) i, same i))
 standing-here earlier (x ∷ xs) (suc i) p s at =
     let less : place_cmp x.place p.place ≡ Less = all-at (λ y. place_cmp x.place y ≡ Less) (λ (y : PlacedHeader). y.place) xs i p
     (sorted_head place_cmp x.place (map (λ (y : PlacedHeader). y.place) xs) s) at in
-    ap (λ b. slice_get (cond b ((earlier, x)
-    ∷ filter (λ e. eq_by_cmp place_cmp p.place e.1.place) (with_earlier (earlier ++ x ∷ []) xs))
-    (filter (λ e. eq_by_cmp place_cmp p.place e.1.place) (with_earlier (earlier ++ x ∷ []) xs))) 0)
-    (other-place p.place x.place (λ e. not-less p.place (ap (λ y. place_cmp y p.place) e ∙ less)))
+    ap (λ (es : List (List PlacedHeader × PlacedHeader)). slice_get es 0) (cond-false (eq_by_cmp place_cmp p.place x.place) _ _
+    (other-place p.place x.place (λ e. not-less p.place (ap (λ y. place_cmp y p.place) e ∙ less))))
     ∙ standing-here (earlier ++ x ∷ []) xs i p (sorted_tail place_cmp x.place (map (λ (y : PlacedHeader). y.place) xs) s) at
     ∙ ap (λ ys. Some (ys, p)) (append_assoc earlier (x ∷ []) (take i xs))
 
@@ -162,9 +157,8 @@ standing-nowhere : (earlier ps : List PlacedHeader) (q : Place) → IsNowhere ps
     → slice_get (filter (λ e. eq_by_cmp place_cmp q e.1.place) (with_earlier earlier ps)) 0 ≡ None
 standing-nowhere earlier [] q h = refl
 standing-nowhere earlier (x ∷ xs) q h =
-    ap (λ b. slice_get (cond b ((earlier, x) ∷ filter (λ e. eq_by_cmp place_cmp q e.1.place) (with_earlier (earlier ++ x ∷ []) xs))
-    (filter (λ e. eq_by_cmp place_cmp q e.1.place) (with_earlier (earlier ++ x ∷ []) xs))) 0)
-    (other-place q x.place (λ e. h 0 x refl (sym e)))
+    ap (λ (es : List (List PlacedHeader × PlacedHeader)). slice_get es 0)
+    (cond-false (eq_by_cmp place_cmp q x.place) _ _ (other-place q x.place (λ e. h 0 x refl (sym e))))
     ∙ standing-nowhere (earlier ++ x ∷ []) xs q (λ i. h (suc i))
 
 -- ---- its pair
@@ -223,24 +217,20 @@ module _ (v : PairingValue) (d : Dir) (i : ℕ) (p : PlacedHeader) where
       ≡ pair_with v d p (partner_of v d i p.header)
   by_kind true b e f =
       let at = partner-request v d i p.header e in
-      ap (λ c. cond c (option_map (λ r. pair_of p r) (response_to other (take i mine) p))
-      (cond (is_response p.header) (option_map (λ r. pair_of r p) (request_of other (take i mine) p)) None)) e
+      cond-true (is_request p.header) _ _ e
       ∙ ap (option_map (λ r. pair_of p r)) (by_rank (is_response_of p.header.seq) (is_request_of p.header.seq))
       ∙ joined (λ r. pair_of p r) other (nth_index (is_response_of p.header.seq) (headers other)
       (count_by (is_request_of p.header.seq) (take i (headers mine))))
       ∙ (λ x. option_and_then (λ j. option_map (λ r. cond (sym e x) (pair_of p r) (pair_of r p)) (slice_get other j)) (sym at x))
   by_kind false true e f =
       let at = partner-response v d i p.header f in
-      ap (λ c. cond c (option_map (λ r. pair_of p r) (response_to other (take i mine) p))
-      (cond (is_response p.header) (option_map (λ r. pair_of r p) (request_of other (take i mine) p)) None)) e
-      ∙ ap (λ c. cond c (option_map (λ r. pair_of r p) (request_of other (take i mine) p)) None) f
+      cond-false (is_request p.header) _ _ e ∙ cond-true (is_response p.header) _ _ f
       ∙ ap (option_map (λ r. pair_of r p)) (by_rank (is_request_of p.header.seq) (is_response_of p.header.seq))
       ∙ joined (λ r. pair_of r p) other (nth_index (is_request_of p.header.seq) (headers other)
       (count_by (is_response_of p.header.seq) (take i (headers mine))))
       ∙ (λ x. option_and_then (λ j. option_map (λ r. cond (sym e x) (pair_of p r) (pair_of r p)) (slice_get other j)) (sym at x))
   by_kind false false e f =
-      (λ x. cond (e x) (option_map (λ r. pair_of p r) (response_to other (take i mine) p))
-      (cond (f x) (option_map (λ r. pair_of r p) (request_of other (take i mine) p)) None))
+      cond-false (is_request p.header) _ _ e ∙ cond-false (is_response p.header) _ _ f
       ∙ sym (ap (pair_with v d p) (partner-neither v d i p.header e f))
 
 -- ---- directions in order

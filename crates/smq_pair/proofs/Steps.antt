@@ -40,24 +40,19 @@ pair_by_offset es d e o = option_and_then (λ q. option_map (λ x. pair_either (
 pair_same : (d : Dir) (es : Entries) (e : Held) (o : Option ℕ) → AreInOrder (pdus_in es)
     → pair_by_offset es d e (offset_at (pdus_in es) (opposite d) o) ≡ pair_with (pdus_in es) d (placed es.session d e) o
 pair_same d es e None order = refl
-pair_same d es e (Some j) order = by_entry (slice_get (entries_from (opposite d) es) j) refl
+pair_same d es e (Some j) order =
+    ap (λ o. pair_by_offset es d e (option_map (λ (p : PlacedHeader). p.place.offset) o)) pdu
+    ∙ by_entry (slice_get (entries_from (opposite d) es) j) refl ∙ sym (ap (option_map (pair_either (placed es.session d e))) pdu)
   where
     pdu : slice_get (pdus_from (opposite d) (pdus_in es)) j ≡ option_map (placed es.session (opposite d)) (slice_get (entries_from (opposite d) es) j)
     pdu = ap (λ ps. slice_get ps j) (pdus-kept (opposite d) es) ∙ slice_get-map (placed es.session (opposite d)) (entries_from (opposite d) es) j
 
     by_entry : (x : Option Held) → slice_get (entries_from (opposite d) es) j ≡ x
-        → pair_by_offset es d e (option_map (λ (p : PlacedHeader). p.place.offset) (slice_get (pdus_from (opposite d) (pdus_in es)) j))
-        ≡ option_map (pair_either (placed es.session d e)) (slice_get (pdus_from (opposite d) (pdus_in es)) j)
-    by_entry None at =
-        let none = pdu ∙ ap (option_map (placed es.session (opposite d))) at in
-        ap (λ o. pair_by_offset es d e (option_map (λ (p : PlacedHeader). p.place.offset) o)) none
-        ∙ sym (ap (option_map (pair_either (placed es.session d e))) none)
-    by_entry (Some x) at =
-        let some = pdu ∙ ap (option_map (placed es.session (opposite d))) at in
-        ap (λ o. pair_by_offset es d e (option_map (λ (p : PlacedHeader). p.place.offset) o)) some
-        ∙ ap (option_map (λ y. pair_either (placed es.session d e) (placed es.session (opposite d) (x.0, y))))
+        → pair_by_offset es d e (option_map (λ (p : PlacedHeader). p.place.offset) (option_map (placed es.session (opposite d)) x))
+        ≡ option_map (pair_either (placed es.session d e)) (option_map (placed es.session (opposite d)) x)
+    by_entry None at = refl
+    by_entry (Some x) at = ap (option_map (λ y. pair_either (placed es.session d e) (placed es.session (opposite d) (x.0, y))))
         (found-kept (entries_from (opposite d) es) j x (entries-ascend es (opposite d) order) at)
-        ∙ sym (ap (option_map (pair_either (placed es.session d e))) some)
 
 -- what an entry says is its pair is the pair at its place
 pub pair-found : (m : Matching) (es : Entries) (d : Dir) (i : ℕ) (e : Held) → Holds m es → slice_get (entries_from d es) i ≡ Some e
@@ -264,11 +259,9 @@ room m es v q x (Some s) h view next is =
     let long : length (headers_from s.dir v') ≡ length (entries_from q.dir es) =
     ap (λ (d : Dir). length (headers_from d v')) (Turned.series-has q.dir (header_of x) s (sym is)).dir
     ∙ length-map (pdus_from q.dir v') (λ (p : PlacedHeader). p.header) ∙ length-kept q.dir es in
-    let bound' = few (entries_from q.dir es) 0 q.offset (omega arith) (entries-ascend es q.dir h.in_order) (λ i y at. (
-      omega arith,
-      below-next v' (placed_at q x) h.in_order (subst (λ (v : PairingValue). IsNext v q) (sym view) next) i
-          (placed es.session q.dir y) (pdu-kept q.dir es i y at),
-    )) in
+    let bound' = few (entries_from q.dir es) q.offset (entries-ascend es q.dir h.in_order) (λ i y at.
+    below-next v' (placed_at q x) h.in_order (subst (λ (v : PairingValue). IsNext v q) (sym view) next) i
+    (placed es.session q.dir y) (pdu-kept q.dir es i y at)) in
     rw (h.counts s) (omega (arith, bound, long, bound'))
 
 -- ---- a call of add, by what its steps say

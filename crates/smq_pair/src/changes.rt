@@ -13,10 +13,10 @@ pub(crate) struct NextRank;
 pub(crate) struct Partner(pub u64);
 
 impl Change<u64> for NextRank {
-    ghost use Rattle.std.specs.Prelude.{Some};
-    ghost use Rattle.smq_pair.specs.within.Maps.{kept_rank};
+    ghost use Rattle.std.specs.Prelude.{◌^◌, ◌-◌, Some, min};
+    ghost use Rattle.smq_pair.specs.within.Maps.{next_rank};
 
-    ghost after = { λ _ last. Some (kept_rank last) };
+    ghost after = { λ _ last. Some (min (next_rank last) (2 ^ 64 - 1)) };
 
     fn after(&self, last: Option<&u64>) -> Option<u64> {
         match last {

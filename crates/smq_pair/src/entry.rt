@@ -1,5 +1,6 @@
 //! What is kept of a PDU, and where it stands among the PDUs of its kind.
 ghost use Rattle.std.specs.Prelude.{◌≡◌};
+ghost use Rattle.smq_pair.specs.Pairing as pairing;
 ghost use Rattle.smq_pair.specs.within.Turns as defined;
 ghost use Rattle.smq_pair.specs.within.Kept.{series_of_entry, is_alone};
 
@@ -111,7 +112,7 @@ impl Turn {
 
 /// The other direction.
 pub(crate) fn opposite(dir: Dir) -> Dir
-    ensures { result ≡ defined.opposite dir }
+    ensures { result ≡ pairing.opposite dir }
 {
     match dir {
         Dir::FromClient => Dir::FromCentre,

@@ -1,6 +1,5 @@
 -- Series and turns that compare equal are one.
-use Rattle.std.specs.Prelude.{◌≡◌, ℕ, zero, suc, refl}
-use Rattle.std.proofs.Common.{ap, sym, ◌∙◌}
+use Rattle.std.specs.Prelude.{◌≡◌, ℕ, refl}
 use Rattle.std.specs.Ordering.{nat_cmp, ordering_then}
 use Rattle.std.specs.declared.cmp.Ordering.{Ordering}
 use Rattle.std.specs.declared.cmp.Ordering.TheVariants.{Equal}
@@ -25,27 +24,17 @@ abbrev pub side_number : Side → ℕ
 side_number Request = 0
 side_number Response = 1
 
-abbrev pub numbered_dir : ℕ → Dir
-numbered_dir zero = FromClient
-numbered_dir (suc n) = FromCentre
+one_dir : (x y : Dir) → (dir_ord.ghosts).cmp x y ≡ Equal → x ≡ y
+one_dir FromClient FromClient h = refl
+one_dir FromClient FromCentre h = absurd cc
+one_dir FromCentre FromClient h = absurd cc
+one_dir FromCentre FromCentre h = refl
 
-abbrev pub numbered_side : ℕ → Side
-numbered_side zero = Request
-numbered_side (suc n) = Response
-
-dir_back : (d : Dir) → d ≡ numbered_dir (dir_number d)
-dir_back FromClient = refl
-dir_back FromCentre = refl
-
-side_back : (s : Side) → s ≡ numbered_side (side_number s)
-side_back Request = refl
-side_back Response = refl
-
-pub one_dir : (x y : Dir) → dir_number x ≡ dir_number y → x ≡ y
-one_dir x y h = dir_back x ∙ ap numbered_dir h ∙ sym (dir_back y)
-
-pub one_side : (x y : Side) → side_number x ≡ side_number y → x ≡ y
-one_side x y h = side_back x ∙ ap numbered_side h ∙ sym (side_back y)
+one_side : (x y : Side) → (side_ord.ghosts).cmp x y ≡ Equal → x ≡ y
+one_side Request Request h = refl
+one_side Request Response h = absurd cc
+one_side Response Request h = absurd cc
+one_side Response Response h = refl
 
 pub dir_order : (x y : Dir) → (dir_ord.ghosts).cmp x y ≡ nat_cmp (dir_number x) (dir_number y)
 dir_order FromClient FromClient = refl
@@ -71,14 +60,13 @@ series_order x y = λ i. ordering_then (nat_cmp x.seq y.seq) (ordering_then (dir
 pub one_series : (x y : Series) → series_cmp x y ≡ Equal → x ≡ y
 one_series x y h =
     let seqs : Ordering = nat_cmp x.seq y.seq in
-    let dirs : Ordering = nat_cmp (dir_number x.dir) (dir_number y.dir) in
-    let sides : Ordering = nat_cmp (side_number x.side) (side_number y.side) in
-    let all : ordering_then seqs (ordering_then dirs sides) ≡ Equal = sym (series_order x y) ∙ h in
-    let later : ordering_then dirs sides ≡ Equal = then_second seqs (ordering_then dirs sides) all in
+    let dirs : Ordering = (dir_ord.ghosts).cmp x.dir y.dir in
+    let sides : Ordering = (side_ord.ghosts).cmp x.side y.side in
+    let later : ordering_then dirs sides ≡ Equal = then_second seqs (ordering_then dirs sides) h in
     λ i. record {
-      seq = nat_cmp-IsAntisymmetric x.seq y.seq (then_first seqs (ordering_then dirs sides) all) i;
-      dir = one_dir x.dir y.dir (nat_cmp-IsAntisymmetric (dir_number x.dir) (dir_number y.dir) (then_first dirs sides later)) i;
-      side = one_side x.side y.side (nat_cmp-IsAntisymmetric (side_number x.side) (side_number y.side) (then_second dirs sides later)) i;
+      seq = nat_cmp-IsAntisymmetric x.seq y.seq (then_first seqs (ordering_then dirs sides) h) i;
+      dir = one_dir x.dir y.dir (then_first dirs sides later) i;
+      side = one_side x.side y.side (then_second dirs sides later) i;
     }
 
 pub one_turn : (x y : Turn) → turn_cmp x y ≡ Equal → x ≡ y

@@ -1,5 +1,5 @@
 -- What the maps of a pairing hold.
-use Rattle.std.specs.Prelude.{◌≡◌, ◌+◌, ◌-◌, ◌^◌, min, ℕ, cond, List, ◌∷◌, Option, Some, None, option_map, option_and_then, slice_get}
+use Rattle.std.specs.Prelude.{◌≡◌, ◌+◌, ℕ, cond, List, ◌∷◌, Option, Some, None, option_map, option_and_then, slice_get}
 use Rattle.std.specs.Map.{lookup, remove_entry}
 use Rattle.std.specs.BTreeMap.{insert_entry, is_at}
 use Rattle.smq_kit.specs.declared.place.Dir.{Dir}
@@ -7,9 +7,9 @@ use Rattle.smq_shelf.specs.Places.{content_of}
 use Rattle.smq_pair.specs.declared.entry.Series.{Series}
 use Rattle.smq_pair.specs.declared.entry.Turn.{Turn}
 use Rattle.smq_pair.specs.declared.turns.Turns.{Turns}
-use Rattle.smq_pair.specs.Pairing.{PairingValue, pdus_from}
+use Rattle.smq_pair.specs.Pairing.{PairingValue, opposite, pdus_from}
 use Rattle.smq_pair.specs.Growth.{AreInOrder}
-use Rattle.smq_pair.specs.within.Turns.{count_in, unpaired_at, partner, partner_of, opposite}
+use Rattle.smq_pair.specs.within.Turns.{count_in, unpaired_at, partner, partner_of}
 use Rattle.smq_pair.specs.within.Orders.{series_cmp, turn_cmp}
 use Rattle.smq_pair.specs.within.Kept.{Entries, Held, entries_from, header_of, pdus_in}
 
@@ -35,10 +35,6 @@ pending_in t = t.lasts.pending + t.unpaired.pending
 abbrev pub next_rank : Option ℕ → ℕ
 next_rank None = 0
 next_rank (Some last) = last + 1
-
--- the same as a u64 has it
-abbrev pub kept_rank : Option ℕ → ℕ
-kept_rank last = min (next_rank last) (2 ^ 64 - 1)
 
 -- how many PDUs a series has
 abbrev pub count_kept : Matching → Series → ℕ

@@ -10,10 +10,7 @@ use Rattle.smq_pair.specs.declared.entry.Series.{Series}
 use Rattle.smq_pair.specs.declared.entry.Turn.{Turn}
 use Rattle.smq_pair.specs.Pairing as value
 
--- the other direction, and the other side
-abbrev pub opposite : Dir → Dir
-opposite dir = value.opposite dir
-
+-- the other side
 abbrev pub other_side : Side → Side
 other_side Request = Response
 other_side Response = Request
@@ -42,7 +39,7 @@ index_at v t = nth_index (is_of t.series.side t.series.seq) (headers_from t.seri
 -- the turn of what makes a pair with the PDU of this turn
 abbrev pub partner : Turn → Turn
 partner t = record {
-  series = record { dir = opposite t.series.dir; side = other_side t.series.side; seq = t.series.seq };
+  series = record { dir = value.opposite t.series.dir; side = other_side t.series.side; seq = t.series.seq };
   rank = t.rank;
 }
 
