@@ -32,7 +32,7 @@ use Rattle.smq_pair.specs.within.Turns.{headers_from}
 use Rattle.smq_pair.specs.within.Kept.{Entries, Held, are_of_session, at_offset, entries_from, header_of, held_at, joined, linked, placed, pdus_in, with_partner}
 use Rattle.smq_pair.specs.within.Maps.{Holds, HoldsOf, Matching}
 use Rattle.smq_pair.proofs.Keys.{dir_itself}
-use Rattle.smq_pair.proofs.Lists.{some-is, get-either, never}
+use Rattle.smq_pair.proofs.Lists.{some-is, get-either, get-mapped, never}
 use Rattle.smq_pair.proofs.Standing.{all-at, dir-ascends}
 
 -- one more in a direction, the last
@@ -74,13 +74,7 @@ header-kept d es i e at =
 -- where a PDU stands, an entry does
 pub entry-at : (d : Dir) (es : Entries) (i : ℕ) (p : PlacedHeader) → slice_get (pdus_from d (pdus_in es)) i ≡ Some p
     → (e : Held) × (slice_get (entries_from d es) i ≡ Some e)
-entry-at d es i p at = by_list (entries_from d es) i (ap (λ ps. slice_get ps i) (sym (pdus-kept d es)) ∙ at)
-  where
-    by_list : (xs : List Held) (i : ℕ) → slice_get (map (placed es.session d) xs) i ≡ Some p
-        → (e : Held) × (slice_get xs i ≡ Some e)
-    by_list [] i h = absurd cc
-    by_list (x ∷ xs) zero h = (x, refl)
-    by_list (x ∷ xs) (suc i) h = by_list xs i h
+entry-at d es i p at = get-mapped (placed es.session d) (entries_from d es) i p (ap (λ ps. slice_get ps i) (sym (pdus-kept d es)) ∙ at)
 
 pub appended-in : (d : Dir) (e : Held) (es : Entries) → pdus_in (appended d e es) ≡ pushed_in d (pdus_in es) (placed es.session d e)
 appended-in FromClient e es = ap (λ ps. record (pdus_in es) { client = ps }) (map-append (placed es.session FromClient) es.client (e ∷ []))

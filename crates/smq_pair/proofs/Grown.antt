@@ -19,12 +19,12 @@ use Rattle.smq_pair.specs.declared.entry.Turn.{Turn}
 use Rattle.smq_pair.specs.Pairing.{PlacedHeader, PairingValue, pdus_from, opposite, pair_of, pair_at, places_of, waiting, strays, with_earlier}
 use Rattle.smq_pair.specs.Growth.{AreInOrder, IsNext, pushed, pushed_in, touched, is_among, made_by, is_request_in, is_response_in, is_alone_at, StandsWith, GrowsByOne, GrowsByOnePair, OrderIsIdle}
 use Rattle.smq_pair.specs.within.Turns.{index_at, partner, partner_of, turn_of}
-use Rattle.smq_pair.proofs.Lists.{some-is, get-last, get-either, one_of}
+use Rattle.smq_pair.proofs.Lists.{some-is, get-either, one_of}
 use Rattle.smq_pair.proofs.Turned.{by_dir, opposite-back, partner-back, pushed-apart, pushed-by, turn-found, next_turn, next-dir, not-request}
 use Rattle.smq_pair.proofs.Standing.{IsNowhere, there-or-not, same-place, here-place, other-place, pair_with, pair_either, pair-here, pair-nowhere, standing-here, dir-of, dir-ascends}
 use Rattle.smq_pair.proofs.Order.{in-order-next, next-is-free, get-append}
 use Rattle.smq_pair.proofs.Entered.{partner-stays, partner-next}
-use Rattle.smq_pair.proofs.Placed.{get_after, partner-pdu}
+use Rattle.smq_pair.proofs.Placed.{get_after, own-at, partner-pdu}
 use Rattle.smq_pair.proofs.Ranked.{finds-pairs, has-two-places, header-at}
 
 -- two PDUs at one place are one
@@ -57,9 +57,6 @@ module _ (v : PairingValue) (p : PlacedHeader) (o : AreInOrder v) (n : IsNext v 
       (λ same. get-either (pdus_from d v) p i x (ap (λ ps. slice_get ps i) (sym (pushed-by d v p same)) ∙ at) old (λ last. new same))
       (λ apart. old (ap (λ ps. slice_get ps i) (sym (pushed-apart d p.place.dir v p apart)) ∙ at))
 
-  own-at : slice_get (pdus_from p.place.dir after) (length (pdus_from p.place.dir v)) ≡ Some p
-  own-at = ap (λ ps. slice_get ps (length (pdus_from p.place.dir v))) (pushed-by p.place.dir v p refl) ∙ get-last (pdus_from p.place.dir v) p
-
   -- ---- the pair that is made
 
   pub makes : (pair : Pair) → made ≡ Some pair → StandsWith after p.place pair
@@ -72,7 +69,7 @@ module _ (v : PairingValue) (p : PlacedHeader) (o : AreInOrder v) (n : IsNext v 
   touched-by d i x u at turn next =
       let there = turn-found v d i x.header u (header-at (pdus_from d v) i x at) turn in
       let dir : opposite p.place.dir ≡ d = ap opposite (sym (next-dir v p (partner u) next)) ∙ opposite-back u.series.dir ∙ there.0 in
-      pair-here after p.place.dir (length (pdus_from p.place.dir v)) p after-order own-at
+      pair-here after p.place.dir (length (pdus_from p.place.dir v)) p after-order (own-at v p)
       ∙ ap (pair_with after p.place.dir p) (partner-next v p (partner u) next ∙ ap (index_at v) (partner-back u) ∙ there.1)
       ∙ ap (option_map (pair_either p)) (ap (λ (e : Dir). slice_get (pdus_from e after) i) dir ∙ get_after v p d i x at)
 

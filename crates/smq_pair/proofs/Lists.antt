@@ -1,6 +1,6 @@
 -- The index of the element of a rank, with one element more at the end.
 use Rattle.std.proofs.Common.{◌≡◌, ℕ, zero, suc, ◌+◌, Bool, true, false, cond, List, [], ◌∷◌, ◌++◌, length, Option, Some, None, refl, sym, ap, ◌∙◌, arith, zero-add}
-use Rattle.std.specs.Prelude.{◌==◌, ◌&&◌, count_by, option_map, slice_get}
+use Rattle.std.specs.Prelude.{◌==◌, ◌&&◌, count_by, map, option_map, slice_get}
 use mathlib.Core.Bool.{and-false}
 use Rattle.std.proofs.lemmas.Bool.Decides.{nat_tests}
 use Rattle.std.proofs.lemmas.List.Sums.{sum_by-cons}
@@ -84,6 +84,13 @@ module _ {X : Type 0} where
   get-front [] ys i x h = absurd cc
   get-front (z ∷ xs) ys zero x h = h
   get-front (z ∷ xs) ys (suc i) x h = get-front xs ys i x h
+
+  -- where what is made of an element stands, the element does
+  pub get-mapped : {Y : Type 0} (f : X → Y) (xs : List X) (i : ℕ) (y : Y) → slice_get (map f xs) i ≡ Some y
+      → (x : X) × (slice_get xs i ≡ Some x)
+  get-mapped f [] i y h = absurd cc
+  get-mapped f (x ∷ xs) zero y h = (x, refl)
+  get-mapped f (x ∷ xs) (suc i) y h = get-mapped f xs i y h
 
   -- what stands in a list with one more at the end
   pub get-either : {A : Type 0} (xs : List X) (y : X) (i : ℕ) (x : X) → slice_get (xs ++ y ∷ []) i ≡ Some x

@@ -1,56 +1,34 @@
 -- The offsets of PDUs by their indexes.
-use Rattle.std.proofs.Common.{◌≡◌, ℕ, zero, suc, Bool, true, false, cond, List, [], ◌∷◌, length, take, Option, Some, None, refl, sym, ap, ◌∙◌, subst}
-use Rattle.std.specs.Prelude.{option_map, option_and_then, slice_get, is_none}
+use Rattle.std.proofs.Common.{◌≡◌, ℕ, Bool, true, false, cond, [], ◌∷◌, length, take, Option, Some, None, refl, sym, ap, ◌∙◌, subst}
+use Rattle.std.specs.Prelude.{option_map, slice_get, is_none}
 use Rattle.std.specs.BTreeMap.{is_at}
+use Rattle.std.proofs.lemmas.Option.{option_and_then_some}
 use Rattle.smq_kit.specs.declared.place.Dir.{Dir}
 use Rattle.smq_pdu.specs.Header.{Header}
-use Rattle.smq_pair.specs.declared.entry.Series.{Series}
 use Rattle.smq_pair.specs.declared.entry.Turn.{Turn}
-use Rattle.smq_pair.specs.Pairing.{PlacedHeader, PairingValue, pdus_from, opposite, headers}
+use Rattle.smq_pair.specs.Pairing.{PlacedHeader, PairingValue, pdus_from, opposite}
 use Rattle.smq_pair.specs.Growth.{pushed}
-use Rattle.smq_pair.specs.within.Turns.{headers_from, index_at, unpaired_at, partner, partner_of, series_of, turn_after}
+use Rattle.smq_pair.specs.within.Turns.{headers_from, index_at, unpaired_at, partner, partner_of, series_of, turn_of}
 use Rattle.smq_pair.specs.within.Orders.{turn_cmp}
 use Rattle.smq_pair.specs.within.Maps.{offset_at, unpaired_after}
 use Rattle.smq_pair.proofs.Keys.{at_turn}
-use Rattle.smq_pair.proofs.Lists.{some-is, get-last, get-front}
-use Rattle.smq_pair.proofs.Turned.{by_dir, pushed-apart, pushed-by, series-has, turn-stands, next_turn, next-dir}
+use Rattle.smq_pair.proofs.Lists.{get-last, get-front, get-mapped}
+use Rattle.smq_pair.proofs.Turned.{by_dir, pushed-apart, pushed-by, series-has, turn_parts, turn-stands, next_turn, next-dir}
 use Rattle.smq_pair.proofs.Entered.{unpaired_next}
 
 -- ---- an index that is found is that of a PDU
-
-stands_by : (v : PairingValue) (d : Dir) (earlier : List Header) (h : Header) (o : Option Series) → ((s : Series) → o ≡ Some s → s.dir ≡ d) → (j : ℕ)
-    → option_and_then (λ t. index_at v (partner t)) (option_map (turn_after earlier) o) ≡ Some j
-    → (k : Header) × (slice_get (headers_from (opposite d) v) j ≡ Some k)
-stands_by v d earlier h None dir j e = absurd cc
-stands_by v d earlier h (Some s) dir j e =
-    let there = turn-stands v (partner (turn_after earlier s)) j e in
-    (there.header, ap (λ (d' : Dir). slice_get (headers_from (opposite d') v) j) (sym (dir s refl)) ∙ there.at)
-
-partner-stands : (v : PairingValue) (d : Dir) (i : ℕ) (h : Header) (j : ℕ) → partner_of v d i h ≡ Some j
-    → (k : Header) × (slice_get (headers_from (opposite d) v) j ≡ Some k)
-partner-stands v d i h j e = stands_by v d (take i (headers_from d v)) h (series_of d h) (λ s is. (series-has d h s is).dir) j e
-
-pdu_of : (ps : List PlacedHeader) (j : ℕ) (h : Header) → slice_get (headers ps) j ≡ Some h
-    → (p : PlacedHeader) × (slice_get ps j ≡ Some p) × (p.header ≡ h)
-pdu_of [] j h at = absurd cc
-pdu_of (x ∷ xs) zero h at = (x, refl, some-is x.header h at)
-pdu_of (x ∷ xs) (suc j) h at = pdu_of xs j h at
 
 -- where an index is, a PDU stands there
 abbrev pub StandsBy : PairingValue → Dir → Option ℕ → Type 0
 StandsBy v d o = (j : ℕ) → o ≡ Some j → (p : PlacedHeader) × (slice_get (pdus_from d v) j ≡ Some p)
 
-pub partner-pdu : (v : PairingValue) (d : Dir) (i : ℕ) (h : Header) → StandsBy v (opposite d) (partner_of v d i h)
-partner-pdu v d i h j e =
-    let k = partner-stands v d i h j e in
-    let p = pdu_of (pdus_from (opposite d) v) j k.0 k.1 in
-    (p.0, p.1)
-
 pub index-pdu : (v : PairingValue) (t : Turn) → StandsBy v t.series.dir (index_at v t)
-index-pdu v t j e =
-    let s = turn-stands v t j e in
-    let p = pdu_of (pdus_from t.series.dir v) j s.header s.at in
-    (p.0, p.1)
+index-pdu v t j e = let s = turn-stands v t j e in get-mapped (λ (p : PlacedHeader). p.header) (pdus_from t.series.dir v) j s.header s.at
+
+pub partner-pdu : (v : PairingValue) (d : Dir) (i : ℕ) (h : Header) → StandsBy v (opposite d) (partner_of v d i h)
+partner-pdu v d i h j e = option_and_then_some (λ t. index_at v (partner t)) (turn_of v d i h) j e (λ t is at.
+    let has = series-has d h t.series (turn_parts (take i (headers_from d v)) (series_of d h) t is).0 in
+    subst (λ (d' : Dir). (p : PlacedHeader) × (slice_get (pdus_from (opposite d') v) j ≡ Some p)) has.dir (index-pdu v (partner t) j at))
 
 pub unpaired-pdu : (v : PairingValue) (t : Turn) → StandsBy v t.series.dir (unpaired_at v t)
 unpaired-pdu v t j e = index-pdu v t j (is (is_none (index_at v (partner t))) (index_at v t) e)
@@ -71,6 +49,10 @@ module _ (v : PairingValue) (p : PlacedHeader) where
       (λ same. ap (λ ps. slice_get ps i) (pushed-by d v p same) ∙ get-front (pdus_from d v) (p ∷ []) i x at)
       (λ apart. ap (λ ps. slice_get ps i) (pushed-apart d p.place.dir v p apart) ∙ at)
 
+  pub own-at : slice_get (pdus_from p.place.dir (pushed v p)) (length (pdus_from p.place.dir v)) ≡ Some p
+  own-at =
+      ap (λ ps. slice_get ps (length (pdus_from p.place.dir v))) (pushed-by p.place.dir v p refl) ∙ get-last (pdus_from p.place.dir v) p
+
   -- what stood before one PDU more keeps its offset
   pub offset-stays : (d : Dir) (o : Option ℕ) → StandsBy v d o → offset_at (pushed v p) d o ≡ offset_at v d o
   offset-stays d None stands = refl
@@ -80,8 +62,7 @@ module _ (v : PairingValue) (p : PlacedHeader) where
 
   -- and it has its own, the last of its direction
   pub offset-last : offset_at (pushed v p) p.place.dir (Some (length (pdus_from p.place.dir v))) ≡ Some p.place.offset
-  offset-last = offset-there (pushed v p) p.place.dir (length (pdus_from p.place.dir v)) p
-      (ap (λ ps. slice_get ps (length (pdus_from p.place.dir v))) (pushed-by p.place.dir v p refl) ∙ get-last (pdus_from p.place.dir v) p)
+  offset-last = offset-there (pushed v p) p.place.dir (length (pdus_from p.place.dir v)) p own-at
 
   module _ (t : Turn) (next : next_turn v p ≡ Some t) (k : Turn → Option ℕ)
       (kept : (u : Turn) → k u ≡ offset_at v u.series.dir (unpaired_at v u)) where

@@ -21,14 +21,14 @@ use Rattle.smq_pair.specs.within.Orders.{series_cmp}
 use Rattle.smq_pair.specs.within.Kept.{Entries, Held, are_of_session, at_offset, entries_from, header_of, held_at, joined, pair_found, partner_kept, placed, placed_at, pdus_in}
 use Rattle.smq_pair.specs.within.Maps.{Enters, Holds, HoldsOf, IsEntered, Matching, count_kept, next_kept, offset_at, unpaired_kept}
 use Rattle.smq_pair.proofs.Keys.{at_series}
-use Rattle.smq_pair.proofs.Lists.{some-is, get-last, never}
+use Rattle.smq_pair.proofs.Lists.{some-is, never}
 use Rattle.smq_pair.proofs.Turned
 use Rattle.smq_pair.proofs.Turned.{opposite-apart, opposite-back, partner-back, pushed-apart, pushed-by, turn-found, next_turn, next-dir, index-others}
 use Rattle.smq_pair.proofs.Standing.{pair_either, pair_with, pair-here}
 use Rattle.smq_pair.proofs.Order.{in-order-next, below-next}
 use Rattle.smq_pair.proofs.Entries.{appended, set_in, set_in-session, linked_to, of_session, of_session-from, of_session-pdus, of_session-holds, of_session-joined, pdus-kept, header-kept, pdu-kept, entry-at, entries-ascend, few, appended-in, length-kept, appended-get, linked-pdus, linked-get, found-kept, joined-alone, joined-linked}
 use Rattle.smq_pair.proofs.Entered.{count-next, count-others, partner-stays, partner-next, partner-none, partner-linked, unpaired_by, unpaired-partner}
-use Rattle.smq_pair.proofs.Placed.{StandsBy, partner-pdu, index-pdu, unpaired-pdu, offset-there, offset-stays, offset-last, offsets-next}
+use Rattle.smq_pair.proofs.Placed.{StandsBy, partner-pdu, index-pdu, unpaired-pdu, offset-there, offset-stays, offset-last, offsets-next, own-at}
 
 -- ---- a pair, by the entries
 
@@ -246,8 +246,7 @@ module _ (m n : Matching) (es : Entries) (d : Dir) (e : Held) (h : Holds m es) (
       ∙ ap (λ ps. option_and_then (λ j. option_map (pair_either new) (slice_get ps j)) its.index)
       (sym (pushed-apart (opposite d) d before new (opposite-apart d)))
       ∙ ap (pair_with after d new) (sym its.found)
-      ∙ sym (pair-here after d last new (in-order-next before new h.in_order next)
-      (ap (λ ps. slice_get ps last) (pushed-by d before new refl) ∙ get-last (pdus_from d before) new))
+      ∙ sym (pair-here after d last new (in-order-next before new h.in_order next) (own-at before new))
 
 -- there is room for the rank: the PDUs of a direction are no more than their offsets
 pub room : (m : Matching) (es : Entries) (v : PairingValue) (q : Place) (x : Entry) (o : Option Series) → Holds m es → pdus_in es ≡ v → IsNext v q

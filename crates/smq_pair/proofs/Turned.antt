@@ -105,7 +105,7 @@ sided d h false false e f s is = absurd cc
 pub series-has : (d : Dir) (h : Header) (s : Series) → series_of d h ≡ Some s → IsOfSeries d h s
 series-has d h s e = sided d h (is_request h) (is_response h) refl refl s e
 
-turn_parts : (earlier : List Header) (o : Option Series) (t : Turn) → option_map (turn_after earlier) o ≡ Some t
+pub turn_parts : (earlier : List Header) (o : Option Series) (t : Turn) → option_map (turn_after earlier) o ≡ Some t
     → (o ≡ Some t.series) × (t.rank ≡ count_by (is_of t.series.side t.series.seq) earlier)
 turn_parts earlier None t e = absurd cc
 turn_parts earlier (Some s) t e =
