@@ -63,6 +63,20 @@ pushed-by d v p e = subst (λ (d : Dir). pdus_from d (pushed v p) ≡ pdus_from 
 pub headers-by : (d : Dir) (v : PairingValue) (p : PlacedHeader) → d ≡ p.place.dir → headers_from d (pushed v p) ≡ headers_from d v ++ p.header ∷ []
 headers-by d v p e = ap headers (pushed-by d v p e) ∙ map-append (λ (x : PlacedHeader). x.header) (pdus_from d v) (p ∷ [])
 
+-- ---- tests, as lemmas of smq_book name them
+
+pub and_first : (a b : Bool) → (a && b) ≡ true → a ≡ true
+and_first a b e = (and_parts a b e).0
+
+pub and_second : (a b : Bool) → (a && b) ≡ true → b ≡ true
+and_second a b e = (and_parts a b e).1
+
+pub and_both : (a b : Bool) → a ≡ true → b ≡ true → (a && b) ≡ true
+and_both = and_from
+
+pub equal_is : (m n : ℕ) → (m == n) ≡ true → m ≡ n
+equal_is = eqb-true
+
 -- ---- the series of a header
 
 -- a response is no request
