@@ -1,8 +1,11 @@
 -- What sessions say, one after the other.
-use Rattle.std.proofs.Common.{◌≡◌, List, [], ◌∷◌, ◌++◌, map, Ok, Err, IfOk, MatchResult, refl, ap, ◌∙◌, subst}
+use Rattle.std.proofs.Common.{◌≡◌, ℕ, ◌≤◌, List, [], ◌∷◌, ◌++◌, drop, length, map, Ok, Err, IfOk, MatchResult, refl, sym, ap, ◌∙◌, subst}
 use Rattle.std.specs.Prelude.{Result}
 use Rattle.std.specs.FinMap.{entries}
 use Rattle.std.specs.List.{AllZip, Contains, flat_map}
+use Rattle.std.proofs.lemmas.List.{append-nil, drop_all}
+use Rattle.std.proofs.lemmas.List.Elements.{same_from_all_zip}
+use Rattle.std.proofs.lemmas.List.Folds.{flat_map-map}
 use denote.Bor.{Bor}
 use Rattle.rayon.proofs.ToStd.{slice-AllZip}
 use Rattle.smq_book.specs.present.Present.{PresentValue}
@@ -11,55 +14,34 @@ use Rattle.smq_scratch.specs.declared.traffic.Traffic.{Traffic}
 use Rattle.smq_scratch.specs.Said.{Says}
 use Rattle.smq_scratch.specs.Sourced.{SourcedSession, sourced_by, sourced_of, submits_in, receipts_in, notes_in}
 
--- a list over what is made of each is that over each
-pub flat_map-of : {A B C : Type 0} (f : A → B) (g : B → List C) (xs : List A) → flat_map g (map f xs) ≡ flat_map (λ x. g (f x)) xs
-flat_map-of f g [] = refl
-flat_map-of f g (x ∷ xs) = ap (λ ys. g (f x) ++ ys) (flat_map-of f g xs)
+-- what is made of each, where none is left, is what is made of all
+pub all-mapped : {A B : Type 0} (f : A → B) (made all : List B) (xs : List A) (i : ℕ) → length xs ≤ i
+    → made ++ map f (drop i xs) ≡ all → made ≡ all
+all-mapped f made all xs i h e = sym (append-nil made) ∙ ap (λ ys. made ++ map f ys) (sym (drop_all i xs h)) ∙ e
 
--- one more of each of two lists
-pub zip-push : {A B : Type 0} (R : A → B → Type 0) (xs : List A) (ys : List B) (x : A) (y : B) → AllZip R xs ys → R x y
-    → AllZip R (xs ++ x ∷ []) (ys ++ y ∷ [])
-zip-push R [] [] x y h r = (r, h)
-zip-push R [] (b ∷ ys) x y h r = elim h [ ]
-zip-push R (a ∷ xs) [] x y h r = elim h [ ]
-zip-push R (a ∷ xs) (b ∷ ys) x y h r = (h.0, zip-push R xs ys x y h.1 r)
+-- what is said of each is what is said of all
+flat-said : {X Y C : Type 0} (R : X → Y → Type 0) (f : X → List C) (g : Y → List C) → ((x : X) (y : Y) → R x y → g y ≡ f x)
+    → (xs : List X) (ys : List Y) → AllZip R xs ys → flat_map g ys ≡ flat_map f xs
+flat-said R f g e [] [] h = refl
+flat-said R f g e [] (y ∷ ys) h = elim h [ ]
+flat-said R f g e (x ∷ xs) [] h = elim h [ ]
+flat-said R f g e (x ∷ xs) (y ∷ ys) h = λ i. e x y h.0 i ++ flat-said R f g e xs ys h.1 i
 
--- messages read of each session are those of all
-pub submits-said : (xs : List SourcedSession) (ts : List Traffic) → AllZip Says xs ts
-    → flat_map (λ (t : Traffic). t.submits.items) ts ≡ flat_map submits_in xs
-submits-said [] [] h = refl
-submits-said [] (t ∷ ts) h = elim h [ ]
-submits-said (x ∷ xs) [] h = elim h [ ]
-submits-said (x ∷ xs) (t ∷ ts) h = λ i. h.0.0 i ++ submits-said xs ts h.1 i
-
--- and so are notes
-pub notes-said : (xs : List SourcedSession) (ts : List Traffic) → AllZip Says xs ts
-    → flat_map (λ (t : Traffic). t.notes.items) ts ≡ flat_map notes_in xs
-notes-said [] [] h = refl
-notes-said [] (t ∷ ts) h = elim h [ ]
-notes-said (x ∷ xs) [] h = elim h [ ]
-notes-said (x ∷ xs) (t ∷ ts) h = λ i. h.0.1 i ++ notes-said xs ts h.1 i
-
--- what is present says that too
+-- messages read of each session are those of what is present, and so are notes
 pub submits-present : (p : PresentValue) (xs : List SourcedSession) (ts : List Traffic) → xs ≡ sourced_of p → AllZip Says xs ts
     → flat_map (λ (t : Traffic). t.submits.items) ts ≡ submits_of p
 submits-present p xs ts is h =
-    submits-said xs ts h ∙ ap (λ ys. flat_map submits_in ys) is ∙ flat_map-of (sourced_by p.settings) submits_in (entries p.sessions)
+    flat-said Says submits_in (λ (t : Traffic). t.submits.items) (λ x t s. s.0) xs ts h ∙ ap (flat_map submits_in) is
+    ∙ flat_map-map submits_in (sourced_by p.settings) (entries p.sessions)
 
 pub notes-present : (p : PresentValue) (xs : List SourcedSession) (ts : List Traffic) → xs ≡ sourced_of p → AllZip Says xs ts
     → flat_map (λ (t : Traffic). t.notes.items) ts ≡ notes_of p
 notes-present p xs ts is h =
-    notes-said xs ts h ∙ ap (λ ys. flat_map notes_in ys) is ∙ flat_map-of (sourced_by p.settings) notes_in (entries p.sessions)
+    flat-said Says notes_in (λ (t : Traffic). t.notes.items) (λ x t s. s.1) xs ts h ∙ ap (flat_map notes_in) is
+    ∙ flat_map-map notes_in (sourced_by p.settings) (entries p.sessions)
 
 pub receipts-present : (p : PresentValue) (xs : List SourcedSession) → xs ≡ sourced_of p → flat_map receipts_in xs ≡ receipts_of p
-receipts-present p xs is = ap (λ ys. flat_map receipts_in ys) is ∙ flat_map-of (sourced_by p.settings) receipts_in (entries p.sessions)
-
--- a list each item of which equals that of another is the other
-pub all-same : {A : Type 0} (xs ys : List A) → AllZip (λ x y. y ≡ x) xs ys → ys ≡ xs
-all-same [] [] h = refl
-all-same [] (y ∷ ys) h = elim h [ ]
-all-same (x ∷ xs) [] h = elim h [ ]
-all-same (x ∷ xs) (y ∷ ys) h = λ i. h.0 i ∷ all-same xs ys h.1 i
+receipts-present p xs is = ap (λ ys. flat_map receipts_in ys) is ∙ flat_map-map receipts_in (sourced_by p.settings) (entries p.sessions)
 
 -- ---- what a parallel map whose closure may fail collects
 
@@ -83,7 +65,8 @@ collects R items s refs x (Err q) e zip m = tt
 pub collects-same : {S E V : Type 0} (items : V → List S) (s : List S) (refs : List (Bor S)) (x : List (Result S E)) (r : Result V E)
     → map (λ (b : Bor S). b.now) refs ≡ s → AllZip (λ (b : Bor S) (q : Result S E). IfOk q (λ f. f ≡ b.now)) refs x
     → MatchResult r (λ c. (ys : List S) × (x ≡ map Ok ys) × (items c ≡ ys)) (λ e. Contains x (Err e)) → IfOk r (λ v. items v ≡ s)
-collects-same items s refs x (Ok v) e zip m = all-same s (items v) (collects (λ a b. b ≡ a) items s refs x (Ok v) e zip m)
+collects-same items s refs x (Ok v) e zip m =
+    same_from_all_zip (λ a b. b ≡ a) s (items v) (collects (λ a b. b ≡ a) items s refs x (Ok v) e zip m) (λ a b same. same)
 collects-same items s refs x (Err q) e zip m = tt
 
 -- and what one collects whose closure can't fail

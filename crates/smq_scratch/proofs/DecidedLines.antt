@@ -3,6 +3,7 @@ use Rattle.std.proofs.Common.{◌≡◌, ℕ, Bool, true, false, List, [], ◌�
 use Rattle.std.specs.Prelude.{◌==◌, is_some, map, not, option_map}
 use Rattle.std.specs.FinMap.{entries}
 use Rattle.std.specs.List.{enumerate_from, flat_map}
+use mathlib.Core.List.{map-map}
 use Rattle.std.proofs.lemmas.List.{map-append}
 use Rattle.smq_kit.specs.LinkKeys.{link_key}
 use Rattle.smq_kit.specs.declared.link_key.LinkKey.{LinkKey}
@@ -25,7 +26,6 @@ use Rattle.smq_book.specs.within.Messages.{SubmittedMessage, message_of, respons
 use Rattle.smq_book.specs.within.Outcomes.{message_from, received, standing_of}
 use Rattle.smq_book.specs.within.Receipts.{KeyedReceipt, PlacedReceipt, candidates, least_receipt}
 use Rattle.smq_scratch.specs.Lines.{deciding_receipt, message_line, message_lines}
-use Rattle.smq_scratch.proofs.LineLaws.{map-twice}
 
 abbrev names : MessageLineValue → Bool
 names line = is_some line.receipt
@@ -110,6 +110,6 @@ module _ (p : PresentValue) where
   pub lines-decided : map (λ line. is_some line.receipt) (message_lines p) ≡ map (λ line. is_decided line.fact.outcome) (message_lines p)
   unfolding Decided
   lines-decided =
-      map-twice names (message_line p.settings (submits_of p) (receipts_of p)) (submits_of p)
+      map-map names (message_line p.settings (submits_of p) (receipts_of p)) (submits_of p)
       ∙ flat-decided p.settings (submits_of p) (receipts_of p) (session_submits p.settings) (entries p.sessions) session-decided
-      ∙ sym (map-twice says (message_line p.settings (submits_of p) (receipts_of p)) (submits_of p))
+      ∙ sym (map-map says (message_line p.settings (submits_of p) (receipts_of p)) (submits_of p))

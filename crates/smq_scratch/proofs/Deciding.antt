@@ -1,12 +1,12 @@
 -- The deciding receipts by their keys, one receipt at a time.
-use Rattle.std.proofs.Common.{◌≡◌, ℕ, ◌+◌, ◌<◌, Bool, true, false, cond, ◌&&◌, List, [], ◌∷◌, ◌++◌, take, get_or, length, Option, Some, None, refl, sym, ap, ◌∙◌}
+use Rattle.std.proofs.Common.{◌≡◌, ℕ, ◌+◌, ◌<◌, Bool, true, false, cond, ◌&&◌, List, [], ◌∷◌, ◌++◌, take, get_or, length, Option, Some, refl, sym, ap, ◌∙◌}
 use Rattle.std.specs.Prelude.{map, filter, option_to_list}
 use Rattle.std.specs.Ordering.{is_gt, min_by_ordering}
 use Rattle.std.specs.declared.cmp.Ordering.{Ordering}
 use Rattle.std.specs.declared.cmp.Ordering.TheVariants.{Less, Equal, Greater}
 use Rattle.std.specs.BTreeMap.{BTreeMap}
 use Rattle.std.specs.FinMap.{FinMap, get, insert, get-insert}
-use Rattle.std.proofs.lemmas.List.{take_more, map-append, append_assoc}
+use Rattle.std.proofs.lemmas.List.{take_more, map-append, append-nil, append_assoc}
 use Rattle.std.proofs.lemmas.List.Elements.{filter-append}
 use Rattle.std.proofs.lemmas.List.Sums.{fold-append}
 use Rattle.std.proofs.lemmas.Grind.{flat_map-append}
@@ -51,10 +51,6 @@ more-is q k r true true s d = rw (s, d) refl
 more-is q k r true false s d = rw (s, d) refl
 more-is q k r false b s d = rw s refl
 
-append_none : {X : Type 0} (xs : List X) → xs ++ [] ≡ xs
-append_none [] = refl
-append_none (x ∷ xs) = ap (λ (ys : List _). x ∷ ys) (append_none xs)
-
 -- a receipt that can't decide changes nothing
 pub deciders-skip : (kept : BTreeMap LinkKey PlacedReceipt) (receipts : List KeyedReceipt) (k : LinkKey) (r : PlacedReceipt)
     → can_decide r.receipt ≡ false → HasDeciders kept receipts → HasDeciders kept (receipts ++ (k, r) ∷ [])
@@ -62,7 +58,7 @@ deciders-skip kept receipts k r never h = record {
   at = λ q.
       h.at q ∙ ap least_receipt (sym (candidates-last q k receipts r
       ∙ ap (λ (ys : List PlacedReceipt). candidates q receipts ++ ys) (none q (same_key q k) refl)
-      ∙ append_none (candidates q receipts)));
+      ∙ append-nil (candidates q receipts)));
 }
   where
     none : (q : LinkKey) (a : Bool) → same_key q k ≡ a → one_more q k r ≡ []
@@ -82,7 +78,7 @@ decides_at old receipts k q r true s d h =
 decides_at old receipts k q r false s d h =
     h.at q ∙ ap least_receipt (sym (candidates-last q k receipts r
     ∙ ap (λ (ys : List PlacedReceipt). candidates q receipts ++ ys) (more-is q k r false true s d)
-    ∙ append_none (candidates q receipts)))
+    ∙ append-nil (candidates q receipts)))
 
 -- a receipt that can decide is put in where it is the least
 pub deciders-add : (old new : BTreeMap LinkKey PlacedReceipt) (receipts : List KeyedReceipt) (k : LinkKey) (r : PlacedReceipt)
@@ -96,9 +92,6 @@ deciders-add old new receipts k r d put h = record {
 }
 
 -- ---- the receipt that stays at a key
-
-pub none-before : (o : Option PlacedReceipt) (r : PlacedReceipt) → o ≡ None → decider_with o r ≡ r
-none-before o r e = ap (λ (p : Option PlacedReceipt). decider_with p r) e
 
 by_order : (o : Ordering) (d r : PlacedReceipt) (b : Bool) → is_gt o ≡ b → min_by_ordering o d r ≡ cond b r d
 by_order Less d r b e = ap (λ (c : Bool). cond c r d) e
@@ -118,30 +111,14 @@ receipts-next source centre i x h is =
     ap (receipts_among source) (take_more centre i x h)
     ∙ flat_map-append (λ (p : KeptPdu). receipt_by (receipt_in p.content) source p) (take i centre) (get_or centre i x ∷ [])
     ∙ ap (λ (y : KeptPdu). receipts_among source (take i centre) ++ receipts_among source (y ∷ [])) (sym is)
-    ∙ ap (λ (ys : List KeyedReceipt). receipts_among source (take i centre) ++ ys) (append_none (receipt_by (receipt_in x.content) source x))
+    ∙ ap (λ (ys : List KeyedReceipt). receipts_among source (take i centre) ++ ys) (append-nil (receipt_by (receipt_in x.content) source x))
 
-list-of : (o : Option KeyedReceipt) (k : LinkKey) (r : PlacedReceipt) (ys : List KeyedReceipt) → o ≡ Some (k, r)
-    → option_to_list o ≡ ys → ys ≡ (k, r) ∷ []
-list-of o k r ys e h = sym h ∙ ap option_to_list e
-
--- the receipts up to a PDU that is a receipt
-pub receipts-more : (source : Source) (centre : List KeptPdu) (i : ℕ) (x : KeptPdu) (o : Option KeyedReceipt) (k : LinkKey)
-    (r : PlacedReceipt) (receipts : List KeyedReceipt) → i < length centre → x ≡ get_or centre i x
-    → o ≡ Some (k, r) → option_to_list o ≡ receipt_by (receipt_in x.content) source x
-    → (receipts ++ receipts_among source (take i centre)) ++ (k, r) ∷ [] ≡ receipts ++ receipts_among source (take (i + 1) centre)
-receipts-more source centre i x o k r receipts h is found by =
-    append_assoc receipts (receipts_among source (take i centre)) ((k, r) ∷ [])
-    ∙ ap (λ (ys : List KeyedReceipt). receipts ++ (receipts_among source (take i centre) ++ ys))
-    (sym (list-of o k r (receipt_by (receipt_in x.content) source x) found by))
-    ∙ ap (λ (ys : List KeyedReceipt). receipts ++ ys) (sym (receipts-next source centre i x h is))
-
--- the receipts up to a PDU that is none
-pub receipts-same : (source : Source) (centre : List KeptPdu) (i : ℕ) (x : KeptPdu) (o : Option KeyedReceipt)
+-- the receipts up to a PDU, which is one or none
+pub receipts-more : (source : Source) (centre : List KeptPdu) (i : ℕ) (x : KeptPdu) (o : Option KeyedReceipt)
     (receipts : List KeyedReceipt) → i < length centre → x ≡ get_or centre i x
-    → o ≡ None → option_to_list o ≡ receipt_by (receipt_in x.content) source x
-    → receipts ++ receipts_among source (take i centre) ≡ receipts ++ receipts_among source (take (i + 1) centre)
-receipts-same source centre i x o receipts h is missed by =
-    ap (λ (ys : List KeyedReceipt). receipts ++ ys)
-    (sym (receipts-next source centre i x h is
-    ∙ ap (λ (ys : List KeyedReceipt). receipts_among source (take i centre) ++ ys) (sym by ∙ ap option_to_list missed)
-    ∙ append_none (receipts_among source (take i centre))))
+    → option_to_list o ≡ receipt_by (receipt_in x.content) source x
+    → (receipts ++ receipts_among source (take i centre)) ++ option_to_list o ≡ receipts ++ receipts_among source (take (i + 1) centre)
+receipts-more source centre i x o receipts h is by =
+    append_assoc receipts (receipts_among source (take i centre)) (option_to_list o)
+    ∙ ap (λ (ys : List KeyedReceipt). receipts ++ (receipts_among source (take i centre) ++ ys)) by
+    ∙ ap (λ (ys : List KeyedReceipt). receipts ++ ys) (sym (receipts-next source centre i x h is))

@@ -17,15 +17,17 @@ use Rattle.smq_book.specs.join.Facts.{facts_of}
 use Rattle.smq_book.specs.whole.Scratch.{scratch}
 use Rattle.smq_book.specs.within.Accepted.{HasDeciders, HasNumbers}
 use Rattle.smq_book.specs.within.Listings.{note_kept, notes_kept}
-use Rattle.smq_book.specs.within.Lists.{notes_of, receipt_notes_listed}
+use Rattle.smq_book.specs.within.Lists.{notes_of, receipt_notes_listed, receipts_of, submits_of}
 use Rattle.smq_book.specs.within.Messages.{SubmittedMessage}
 use Rattle.smq_book.specs.within.Outcomes.{fact_of}
 use Rattle.smq_book.specs.within.Receipts.{KeyedReceipt, PlacedReceipt}
-use Rattle.smq_book.proofs.lemmas.whole.AgreePresent.{notes-are}
+use Rattle.smq_book.proofs.lemmas.whole.AgreePresent.{facts-are, notes-are}
 use Rattle.smq_book.proofs.lemmas.join.MoveLemmas.{fact-place}
 use Rattle.smq_book.proofs.lemmas.whole.Tallied.{facts-apart, facts-rise, made-of-entries, values-placed}
 use Rattle.smq_scratch.specs.Said.{Knows, Notes}
-use Rattle.smq_scratch.specs.Sourced.{SourcedSession, receipts_in}
+use Rattle.smq_scratch.specs.Sourced.{SourcedSession, receipts_in, sourced_of}
+use Rattle.smq_scratch.proofs.Collected.{receipts-present}
+use Rattle.smq_scratch.proofs.ReceiptNotes.{kept-notes}
 
 -- the listed receipts of each session are those of all
 pub notes-joined : (numbers : BTreeMap LinkKey ℕ) (deciders : BTreeMap LinkKey PlacedReceipt) (xs : List SourcedSession)
@@ -61,3 +63,23 @@ tables-are p fs ns is noted =
     let counted : facts_at fs ≡ facts =
     ap facts_at is ∙ ap from_entries (values-placed facts (fact-place p.settings (traffic_of p.sessions))) ∙ made-of-entries facts in
     λ i. tables_of (counted i) ((ap listed_set noted ∙ sym (notes-are p)) i)
+
+module _ (p : PresentValue) (numbers : BTreeMap LinkKey ℕ) (deciders : BTreeMap LinkKey PlacedReceipt) (ms : List SubmittedMessage)
+    (xs : List SourcedSession) (submits : ms ≡ submits_of p) (sessions : xs ≡ sourced_of p) (n : HasNumbers numbers ms)
+    (d : HasDeciders deciders (flat_map receipts_in xs)) where
+  of_all : HasNumbers numbers (submits_of p) × HasDeciders deciders (receipts_of p)
+  of_all = (subst (HasNumbers numbers) submits n, subst (HasDeciders deciders) (receipts-present p xs sessions) d)
+
+  -- what is known of each message is what is known of what is present
+  pub facts-made : (s : SettingsValue) (fs : List Fact) → s ≡ p.settings → AllZip (Knows s numbers deciders) ms fs
+      → fs ≡ values (facts_of p.settings (traffic_of p.sessions))
+  facts-made s fs settings known =
+      facts-known s numbers deciders (submits_of p) (receipts_of p) of_all.0 of_all.1 ms fs known
+      ∙ (λ i. map (fact_of (settings i) (submits_of p) (receipts_of p)) (submits i)) ∙ sym (facts-are p)
+
+  -- the notes of sessions and their listed receipts are those of what is present
+  pub notes-made : (old new : List Listed) → old ≡ notes_of p → new ≡ old ++ notes_kept numbers deciders (flat_map receipts_in xs)
+      → new ≡ notes_of p ++ receipt_notes_listed p
+  notes-made old new noted is =
+      is ∙ (λ i. noted i ++ notes_kept numbers deciders (receipts-present p xs sessions i))
+      ∙ ap (λ ys. notes_of p ++ ys) (kept-notes (submits_of p) (receipts_of p) (receipts_of p) numbers deciders of_all.0 of_all.1)

@@ -1,13 +1,11 @@
 -- A map of std from keys, seen as a finite map.
-use Rattle.std.proofs.Common.{◌≡◌, ℕ, cond, List, [], Option, Some, None, refl, sym, ap, ◌∙◌}
-use Rattle.std.specs.Prelude.{unwrap_or}
+use Rattle.std.proofs.Common.{◌≡◌, cond, List, [], Some, None, refl, sym, ap, ◌∙◌}
 use Rattle.std.specs.Map.{lookup}
 use Rattle.std.specs.BTreeMap.{BTreeMap, is_at}
 use Rattle.std.specs.FinMap.{get, insert, from_entries}
 use Rattle.smq_kit.specs.declared.link_key.LinkKey.{LinkKey}
 use Rattle.smq_kit.specs.HashedKeys.{hashed_key_cmp}
 use Rattle.smq_kit.specs.LinkKeys.{link_key_cmp, by_key, same_key}
-use Rattle.smq_book.specs.within.Accepted.{number_kept}
 use Rattle.smq_kit.proofs.HashedKeyOrders.{hashed-same}
 use Rattle.smq_kit.proofs.LinkKeyOrders.{link_keys_total, link_keys_exact}
 use Rattle.smq_kit.proofs.Ordered as ordered
@@ -36,10 +34,3 @@ module _ {X : Type 0} where
   -- an entry that is there already
   pub same-put : (kept : BTreeMap LinkKey X) (k : LinkKey) (v : X) → get (by_key kept) k ≡ Some v → by_key kept ≡ insert (by_key kept) k v
   same-put kept k v h = sym (ordered.insert-same link_keys_total link_keys_exact refl (by_key kept) k v h)
-
--- the number that a look-up gives
-pub number-found : (kept : BTreeMap LinkKey ℕ) (q : LinkKey) (n : ℕ) → Some n ≡ lookup (is_at (hashed_key_cmp q)) kept.entries → n ≡ number_kept kept q
-number-found kept q n found = ap (λ (c : Option ℕ). unwrap_or c 0) (found ∙ sym (get-key kept.entries q))
-
-pub number-missed : (kept : BTreeMap LinkKey ℕ) (q : LinkKey) → None ≡ lookup (is_at (hashed_key_cmp q)) kept.entries → 0 ≡ number_kept kept q
-number-missed kept q missed = ap (λ (c : Option ℕ). unwrap_or c 0) (missed ∙ sym (get-key kept.entries q))

@@ -1,15 +1,13 @@
 -- What the lines have in common with the tables of what is present.
-use Rattle.std.proofs.Common.{◌≡◌, ℕ, zero, suc, ◌+◌, Bool, true, false, ◌||◌, ◌⊎◌, inl, inr, cond, List, [], ◌∷◌, ◌++◌, Option, refl, sym, ap, ◌∙◌, subst}
-use Rattle.std.specs.Prelude.{◌↔◌, Contains, IsTrue, count_by, is_some, map, option_map, option_to_list}
-use Rattle.std.specs.FinMap.{contains_key, entries, values}
+use Rattle.std.proofs.Common.{◌≡◌, ℕ, zero, suc, ◌+◌, Bool, true, false, ◌⊎◌, inl, inr, cond, List, [], ◌∷◌, ◌++◌, Option, Some, None, refl, sym, ap, ◌∙◌, subst}
+use Rattle.std.specs.Prelude.{◌↔◌, Contains, IsTrue, count_by, is_some, map, option_and_then, option_map, option_to_list}
+use Rattle.std.specs.FinMap.{contains_key, contains_key-keys, get, keys, values}
 use Rattle.std.specs.List.{flat_map, list_any}
-use Rattle.std.proofs.lemmas.Bool.{false≢true}
+use mathlib.Core.List.{map-map}
+use Rattle.std.proofs.lemmas.Bool.{false≢true, or_from}
 use Rattle.std.proofs.lemmas.List.Folds.{list_any-append}
 use Rattle.std.proofs.lemmas.List.Sums.{sum_by-cons}
 use Rattle.smq_kit.specs.declared.place.Place.{Place}
-use Rattle.smq_frame.specs.Stream.{values as octets_of}
-use Rattle.smq_frame.specs.Tail.{tail_of}
-use Rattle.smq_pair.specs.Pairing.{strays, waiting}
 use Rattle.smq_tally.specs.declared.fact.CountKey.{CountKey}
 use Rattle.smq_tally.specs.declared.fact.Fact.{Fact}
 use Rattle.smq_tally.specs.declared.list.List as l
@@ -22,14 +20,13 @@ use Rattle.smq_tally.specs.Rows.{stands_in}
 use Rattle.smq_tally.specs.Tables.{listed_in}
 use Rattle.smq_tally.specs.within.Counting.{count_of}
 use Rattle.smq_tally.specs.within.ListOrder.{same_listed}
-use Rattle.smq_tally.proofs.Listings.{get-listed}
+use Rattle.smq_tally.proofs.Listings.{get-listed, marked}
 use Rattle.smq_tally.proofs.Standing.{lapsed-listed, open-listed}
 use Rattle.smq_tally.proofs.Tallies.{count-tables}
 use Rattle.smq_lines.specs.Lines.{MessageLineValue}
 use Rattle.smq_book.specs.declared.present.session.Session.{Session}
 use Rattle.smq_book.specs.present.Present.{PresentValue}
-use Rattle.smq_book.specs.pairing.Traffic.{Origin, broken, broken_notes, content_notes, mismatched, notes_among, origin_of, pairing_notes, session_notes, session_pairing, traffic_of, undecodable, unreadable}
-use Rattle.smq_book.specs.present.Kept.{kept_pdus}
+use Rattle.smq_book.specs.pairing.Traffic.{traffic_of}
 use Rattle.smq_book.specs.join.Facts.{facts_of}
 use Rattle.smq_book.specs.join.Keyed.{can_decide, grouping_of}
 use Rattle.smq_book.specs.join.Listings as listings
@@ -37,19 +34,16 @@ use Rattle.smq_book.specs.join.Listings.{receipt_notes}
 use Rattle.smq_book.specs.whole.Scratch.{scratch}
 use Rattle.smq_book.specs.within.Accepted.{number_accepted}
 use Rattle.smq_book.specs.within.Listings.{is_extra, list_by, note_of, stands_at}
-use Rattle.smq_book.specs.within.Lists.{notes_of, receipt_notes_listed, receipts_of, submits_of}
+use Rattle.smq_book.specs.within.Lists.{receipts_of, submits_of}
 use Rattle.smq_book.specs.within.Messages.{SubmittedMessage}
 use Rattle.smq_book.specs.within.Receipts.{KeyedReceipt, PlacedReceipt, candidates, least_receipt}
+use Rattle.smq_book.proofs.lemmas.edits.NotedTraffic.{said-noted, session_noted}
 use Rattle.smq_book.proofs.lemmas.pairing.Members.{has-map, map-has}
-use Rattle.smq_book.proofs.lemmas.whole.AgreePresent.{facts-are, notes-are, receipts-listed}
+use Rattle.smq_book.proofs.lemmas.whole.AgreePresent.{facts-are, receipts-listed}
 use Rattle.smq_book.proofs.lemmas.whole.Tallied.{is-marked}
 use Rattle.smq_scratch.specs.Lines.{HasLineAt, list_of, listing_of, message_line, message_lines, receipt_line, receipt_lines, standing_by}
 
 -- ---- messages
-
-pub map-twice : {A B C : Type 0} (g : B → C) (f : A → B) (xs : List A) → map g (map f xs) ≡ map (λ x. g (f x)) xs
-map-twice g f [] = refl
-map-twice g f (x ∷ xs) = ap (λ ys. g (f x) ∷ ys) (map-twice g f xs)
 
 count-map : {A B : Type 0} (test : B → Bool) (f : A → B) (xs : List A) → count_by test (map f xs) ≡ count_by (λ x. test (f x)) xs
 count-map test f [] = refl
@@ -62,7 +56,7 @@ module _ (p : PresentValue) where
   -- the facts of the lines are those by place
   pub facts-of-lines : map (λ (line : MessageLineValue). line.fact) (message_lines p) ≡ values (facts_of p.settings (traffic_of p.sessions))
   facts-of-lines =
-      map-twice (λ (line : MessageLineValue). line.fact) (message_line p.settings (submits_of p) (receipts_of p)) (submits_of p)
+      map-map (λ (line : MessageLineValue). line.fact) (message_line p.settings (submits_of p) (receipts_of p)) (submits_of p)
       ∙ sym (facts-are p)
 
   -- a count of the tables is the number of the lines whose facts stand there
@@ -100,117 +94,53 @@ receipts-of-lines p = lists-are (submits_of p) (receipts_of p) (receipts_of p) �
 
 -- ---- open and lapsed messages
 
--- the lists that aren't of messages by their outcomes
-is_note : l.List → Bool
-is_note list.Open = false
-is_note list.Lapsed = false
-is_note list.Waiting = true
-is_note list.StrayAnswers = true
-is_note list.Mismatched = true
-is_note list.StrayReceipts = true
-is_note list.AmbiguousReceipts = true
-is_note list.ExtraReceipts = true
-is_note list.Unreadable = true
-is_note list.Undecodable = true
-is_note list.Broken = true
+-- A list that has nothing that a session notes, and no receipts.
+record IsOfMessages (which : l.List) (place : Place) : Type 0 where
+  session : (n : ℕ) (s : Session) → session_noted n s (listed which place) ≡ false
+  stray : (at : Place) → same_listed (listed which place) (listed list.StrayReceipts at) ≡ false
+  ambiguous : (at : Place) → same_listed (listed which place) (listed list.AmbiguousReceipts at) ≡ false
+  extra : (at : Place) → same_listed (listed which place) (listed list.ExtraReceipts at) ≡ false
 
--- a test that nothing in these lists passes
-Never : (Listed → Bool) → Type 0
-Never test = (name : l.List) → is_note name ≡ true → (at : Place) → test (listed name at) ≡ false
+of-open : (place : Place) → IsOfMessages list.Open place
+of-open place = record { session = λ n s. refl; stray = λ at. refl; ambiguous = λ at. refl; extra = λ at. refl }
 
--- none of these passes a test
-record Misses (test : Listed → Bool) (es : List Listed) : Type 0 where
-  pub is : list_any test es ≡ false
+of-lapsed : (place : Place) → IsOfMessages list.Lapsed place
+of-lapsed place = record { session = λ n s. refl; stray = λ at. refl; ambiguous = λ at. refl; extra = λ at. refl }
 
-neither : (a b : Bool) → a ≡ false → b ≡ false → (a || b) ≡ false
-neither a b e f = rw (e, f) refl
+module _ (p : PresentValue) (which : l.List) (place : Place) (h : IsOfMessages which place) where
+  abbrev it : Listed
+  it = listed which place
 
-module _ (test : Listed → Bool) (never : Never test) where
-  append-misses : (xs ys : List Listed) → Misses test xs → Misses test ys → Misses test (xs ++ ys)
-  append-misses xs ys h k = record { is = list_any-append test xs ys ∙ neither (list_any test xs) (list_any test ys) h.is k.is }
+  receipt-none : (n : ℕ) (extra : Bool) (at : Place)
+      → list_any (same_listed it) (option_to_list (option_map (λ name. listed name at) (list_by n extra))) ≡ false
+  receipt-none zero extra at = or_from (same_listed it (listed list.StrayReceipts at)) false (h.stray at) refl
+  receipt-none (suc zero) true at = or_from (same_listed it (listed list.ExtraReceipts at)) false (h.extra at) refl
+  receipt-none (suc zero) false at = refl
+  receipt-none (suc (suc n)) extra at = or_from (same_listed it (listed list.AmbiguousReceipts at)) false (h.ambiguous at) refl
 
-  one-misses : (name : l.List) → is_note name ≡ true → (at : Place) → Misses test (listed name at ∷ [])
-  unfolding Never
-  one-misses name e at = record { is = neither (test (listed name at)) false (never name e at) refl }
+  receipts-none : (es : List KeyedReceipt) → list_any (same_listed it) (flat_map (note_of (submits_of p) (receipts_of p)) es) ≡ false
+  receipts-none [] = refl
+  receipts-none (e ∷ es) =
+      list_any-append (same_listed it) (note_of (submits_of p) (receipts_of p) e) (flat_map (note_of (submits_of p) (receipts_of p)) es)
+      ∙ or_from _ _ (receipt-none (number_accepted e.0 (submits_of p)) (is_extra (least_receipt (candidates e.0 (receipts_of p))) e.1)
+      e.1.place) (receipts-none es)
 
-  map-misses : (name : l.List) → is_note name ≡ true → (places : List Place) → Misses test (map (listed name) places)
-  map-misses name e [] = record { is = refl }
-  map-misses name e (at ∷ places) =
-      append-misses (listed name at ∷ []) (map (listed name) places) (one-misses name e at) (map-misses name e places)
+  session-none : (s : Option Session) → option_and_then (λ s. marked (session_noted place.session.0 s it)) s ≡ None
+  session-none None = refl
+  session-none (Some s) = ap marked (h.session place.session.0 s)
 
-  flat-misses : {X : Type 0} (f : X → List Listed) (xs : List X) → ((x : X) → Misses test (f x)) → Misses test (flat_map f xs)
-  flat-misses f [] h = record { is = refl }
-  flat-misses f (x ∷ xs) h = append-misses (f x) (flat_map f xs) (h x) (flat-misses f xs h)
-
-  session-misses : (e : ℕ × Session) → Misses test (session_notes e)
-  unfolding is_note
-  session-misses e =
-      let o : Origin = origin_of e in
-      let client = kept_pdus e.1.client in
-      let centre = kept_pdus e.1.centre in
-      let v = session_pairing e in
-      append-misses (notes_among o client centre) (broken_notes o (tail_of (octets_of e.1.client)) (tail_of (octets_of e.1.centre)))
-      (append-misses (pairing_notes v) (content_notes o client centre)
-      (append-misses (map (listed list.Waiting) (waiting v) ++ map (listed list.StrayAnswers) (strays v)) (map (listed list.Mismatched) (mismatched v))
-      (append-misses (map (listed list.Waiting) (waiting v)) (map (listed list.StrayAnswers) (strays v))
-      (map-misses list.Waiting refl (waiting v)) (map-misses list.StrayAnswers refl (strays v)))
-      (map-misses list.Mismatched refl (mismatched v)))
-      (append-misses (map (listed list.Unreadable) (unreadable o centre)) (map (listed list.Undecodable) (undecodable o client centre))
-      (map-misses list.Unreadable refl (unreadable o centre)) (map-misses list.Undecodable refl (undecodable o client centre))))
-      (map-misses list.Broken refl (broken o (tail_of (octets_of e.1.client)) (tail_of (octets_of e.1.centre))))
-
-  note-misses : (n : ℕ) (extra : Bool) (at : Place) → Misses test (option_to_list (option_map (λ which. listed which at) (list_by n extra)))
-  unfolding is_note
-  note-misses zero extra at = one-misses list.StrayReceipts refl at
-  note-misses (suc zero) true at = one-misses list.ExtraReceipts refl at
-  note-misses (suc zero) false at = record { is = refl }
-  note-misses (suc (suc n)) extra at = one-misses list.AmbiguousReceipts refl at
-
-  notes-miss : (p : PresentValue) → Misses test (notes_of p ++ receipt_notes_listed p)
-  notes-miss p =
-      append-misses (notes_of p) (receipt_notes_listed p) (flat-misses session_notes (entries p.sessions) session-misses)
-      (flat-misses (note_of (submits_of p) (receipts_of p)) (receipts_of p) (λ e. note-misses (number_accepted e.0 (submits_of p))
-      (is_extra (least_receipt (candidates e.0 (receipts_of p))) e.1) e.1.place))
-
-never-open : (place : Place) → Never (same_listed (listed list.Open place))
-unfolding Never is_note
-never-open place list.Open e at = absurd (false≢true e)
-never-open place list.Lapsed e at = absurd (false≢true e)
-never-open place list.Waiting e at = refl
-never-open place list.StrayAnswers e at = refl
-never-open place list.Mismatched e at = refl
-never-open place list.StrayReceipts e at = refl
-never-open place list.AmbiguousReceipts e at = refl
-never-open place list.ExtraReceipts e at = refl
-never-open place list.Unreadable e at = refl
-never-open place list.Undecodable e at = refl
-never-open place list.Broken e at = refl
-
-never-lapsed : (place : Place) → Never (same_listed (listed list.Lapsed place))
-unfolding Never is_note
-never-lapsed place list.Open e at = absurd (false≢true e)
-never-lapsed place list.Lapsed e at = absurd (false≢true e)
-never-lapsed place list.Waiting e at = refl
-never-lapsed place list.StrayAnswers e at = refl
-never-lapsed place list.Mismatched e at = refl
-never-lapsed place list.StrayReceipts e at = refl
-never-lapsed place list.AmbiguousReceipts e at = refl
-never-lapsed place list.ExtraReceipts e at = refl
-never-lapsed place list.Unreadable e at = refl
-never-lapsed place list.Undecodable e at = refl
-never-lapsed place list.Broken e at = refl
+  -- nothing is noted in it
+  unnoted : contains_key (listings.notes_of p.settings (traffic_of p.sessions)) it ≡ false
+  unnoted =
+      let notes = (traffic_of p.sessions).notes in
+      let receipts = receipt_notes (grouping_of p.settings (traffic_of p.sessions)) in
+      ap is_some (get-listed (keys notes ++ receipts) it) ∙ is-marked (list_any (same_listed it) (keys notes ++ receipts))
+      ∙ list_any-append (same_listed it) (keys notes) receipts
+      ∙ or_from _ _ (sym (contains_key-keys notes it)
+      ∙ ap is_some (said-noted p.sessions it ∙ session-none (get p.sessions place.session.0)))
+      (ap (list_any (same_listed it)) (receipts-listed p) ∙ receipts-none (receipts_of p))
 
 module _ (p : PresentValue) (place : Place) where
-  -- no such place is noted
-  unnoted : (which : l.List) → Never (same_listed (listed which place))
-      → contains_key (listings.notes_of p.settings (traffic_of p.sessions)) (listed which place) ≡ false
-  unnoted which never =
-      let es : List Listed = notes_of p ++ receipt_notes_listed p in
-      ap (λ notes. contains_key notes (listed which place)) (notes-are p)
-      ∙ ap is_some (get-listed es (listed which place))
-      ∙ is-marked (list_any (same_listed (listed which place)) es)
-      ∙ (notes-miss (same_listed (listed which place)) never p).is
-
   -- a fact there is that of a line, and that of a line is there
   line-of : (outcome : Outcome) → HasOutcomeAt (facts_of p.settings (traffic_of p.sessions)) outcome place
       → HasLineAt (message_lines p) outcome place
@@ -229,19 +159,19 @@ module _ (p : PresentValue) (place : Place) where
     h.3,
   )
 
-  lines-at : (which : l.List) (outcome : Outcome) → Never (same_listed (listed which place))
+  lines-at : (which : l.List) (outcome : Outcome) → IsOfMessages which place
       → IsTrue (contains_key (listings.notes_of p.settings (traffic_of p.sessions)) (listed which place))
       ⊎ HasOutcomeAt (facts_of p.settings (traffic_of p.sessions)) outcome place → HasLineAt (message_lines p) outcome place
-  lines-at which outcome never (inl h) = absurd (false≢true (sym (unnoted which never) ∙ h))
-  lines-at which outcome never (inr h) = line-of outcome h
+  lines-at which outcome of (inl h) = absurd (false≢true (sym (unnoted p which place of) ∙ h))
+  lines-at which outcome of (inr h) = line-of outcome h
 
   -- the open messages that are listed are those of lines
   pub open-lines : Contains (listed_in (scratch p) list.Open) place ↔ HasLineAt (message_lines p) o.Open place
   open-lines =
       let listing = open-listed (facts_of p.settings (traffic_of p.sessions)) (listings.notes_of p.settings (traffic_of p.sessions)) place in
-      (λ h. lines-at list.Open o.Open (never-open place) (listing.0 h), λ h. listing.1 (inr (fact-of o.Open h)))
+      (λ h. lines-at list.Open o.Open (of-open place) (listing.0 h), λ h. listing.1 (inr (fact-of o.Open h)))
 
   pub lapsed-lines : Contains (listed_in (scratch p) list.Lapsed) place ↔ HasLineAt (message_lines p) o.Lapsed place
   lapsed-lines =
       let listing = lapsed-listed (facts_of p.settings (traffic_of p.sessions)) (listings.notes_of p.settings (traffic_of p.sessions)) place in
-      (λ h. lines-at list.Lapsed o.Lapsed (never-lapsed place) (listing.0 h), λ h. listing.1 (inr (fact-of o.Lapsed h)))
+      (λ h. lines-at list.Lapsed o.Lapsed (of-lapsed place) (listing.0 h), λ h. listing.1 (inr (fact-of o.Lapsed h)))

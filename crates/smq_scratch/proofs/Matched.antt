@@ -74,32 +74,15 @@ module _ (submits : List SubmittedMessage) (i : ℕ) (x : SubmittedMessage) (h :
 
 -- ---- lines
 
--- the line by the messages that match is the line by their number
-line-of : (ms : List SubmittedMessage) (n : ℕ) (decider : Option PlacedReceipt) (e : KeyedReceipt) → length ms ≡ n
-    → line_by (match_of ms) decider e ≡ record {
-      link = e.1.link;
-      place = e.1.place;
-      moment = e.1.moment;
-      receipt = e.1.receipt;
-      standing = standing_by n decider e.1;
-      message = only_place ms;
-    }
-line-of ms n decider e is = by_number ms ∙ ap (with_standing ms) is
-  where
-    with_standing : List SubmittedMessage → ℕ → ReceiptLineValue
-    with_standing ms n = record {
-      link = e.1.link;
-      place = e.1.place;
-      moment = e.1.moment;
-      receipt = e.1.receipt;
-      standing = standing_by n decider e.1;
-      message = only_place ms;
-    }
+-- the line by the messages that match, where they are said to be so many
+abbrev line_with : List SubmittedMessage → ℕ → Option PlacedReceipt → KeyedReceipt → ReceiptLineValue
+line_with ms n decider e = record (line_by None decider e) { standing = standing_by n decider e.1; message = only_place ms }
 
-    by_number : (ms : List SubmittedMessage) → line_by (match_of ms) decider e ≡ with_standing ms (length ms)
-    by_number [] = refl
-    by_number (m ∷ []) = refl
-    by_number (m ∷ n ∷ ms) = refl
+line-of : (ms : List SubmittedMessage) (decider : Option PlacedReceipt) (e : KeyedReceipt)
+    → line_by (match_of ms) decider e ≡ line_with ms (length ms) decider e
+line-of [] decider e = refl
+line-of (m ∷ []) decider e = refl
+line-of (m ∷ n ∷ ms) decider e = refl
 
 -- the lines that are made by what maps have at keys are those of lists
 pub lines-kept : (submits : List SubmittedMessage) (receipts es : List KeyedReceipt) (matches : BTreeMap LinkKey Match)
@@ -107,6 +90,8 @@ pub lines-kept : (submits : List SubmittedMessage) (receipts es : List KeyedRece
     → lines_kept matches deciders es ≡ map (receipt_line submits receipts) es
 lines-kept submits receipts [] matches deciders n d = refl
 lines-kept submits receipts (e ∷ es) matches deciders n d =
-    λ i. ((λ j. line_by (n.at e.0 j) (d.at e.0 j) e)
-    ∙ line-of (accepted_among e.0 submits) _ (least_receipt (candidates e.0 receipts)) e (length-filter (accepted_with e.0) submits)) i
+    let ms = accepted_among e.0 submits in
+    let decider = least_receipt (candidates e.0 receipts) in
+    λ i. ((λ j. line_by (n.at e.0 j) (d.at e.0 j) e) ∙ line-of ms decider e
+    ∙ ap (λ n. line_with ms n decider e) (length-filter (accepted_with e.0) submits)) i
     ∷ lines-kept submits receipts es matches deciders n d i

@@ -1,13 +1,13 @@
 -- Lines for messages and lines for delivery receipts name each other.
-use Rattle.std.proofs.Common.{◌≡◌, ◌⊎◌, inl, inr, ℕ, zero, suc, Bool, true, false, ◌||◌, cond, length, List, [], ◌∷◌, Option, Some, None, refl, sym, ap, ◌∙◌, subst, arith}
+use Rattle.std.proofs.Common.{◌≡◌, ◌⊎◌, inl, inr, ℕ, zero, suc, Bool, true, false, cond, length, List, [], ◌∷◌, Option, Some, None, refl, sym, ap, ◌∙◌, subst, arith}
 use Rattle.std.specs.Prelude.{◌&&◌, Contains, filter, fold, map, option_map, option_to_list}
 use Rattle.std.specs.declared.cmp.Ordering.{Ordering}
 use Rattle.std.specs.declared.cmp.Ordering.TheVariants.{Less, Equal, Greater}
 use Rattle.std.specs.Cmp.{tied_itself}
 use Rattle.std.specs.List.{list_any}
 use Rattle.std.specs.Ordering.{is_eq, min_by_ordering}
-use Rattle.std.proofs.lemmas.Bool.{eqb-true}
-use Rattle.std.proofs.lemmas.List.Elements.{Contains-append_cases}
+use mathlib.Core.Bool.{or-false}
+use Rattle.std.proofs.lemmas.Bool.{and_parts, eqb-true}
 use Rattle.std.proofs.lemmas.List.Sums.{length-filter}
 use Rattle.smq_kit.specs.LinkKeys.{same_key}
 use Rattle.smq_kit.specs.declared.link_key.LinkKey.{LinkKey}
@@ -36,23 +36,19 @@ one-of-two Less a b = inl refl
 one-of-two Equal a b = inl refl
 one-of-two Greater a b = inr refl
 
-fold-has : (first : PlacedReceipt) (rest : List PlacedReceipt) → Contains (first ∷ rest) (fold earlier first rest)
-fold-has first [] = first-one first []
-fold-has first (next ∷ rest) =
-    let least : PlacedReceipt = fold earlier (earlier first next) rest in
-    elim (Contains-append_cases (earlier first next ∷ []) rest least (fold-has (earlier first next) rest))
-    as (λ _. Contains (first ∷ next ∷ rest) least) [
-      | inl here ↦ subst (λ r. Contains (first ∷ next ∷ rest) r) (one-is (earlier first next) least here)
-          (elim (one-of-two (receipt_cmp first next) first next) as (λ _. Contains (first ∷ next ∷ rest) (earlier first next)) [
-            | inl is ↦ subst (λ r. Contains (first ∷ next ∷ rest) r) is (first-one first (next ∷ rest))
-            | inr is ↦ subst (λ r. Contains (first ∷ next ∷ rest) r) is (later-one first (next ∷ rest) next (first-one next rest))
-          ])
-      | inr later ↦ later-one first (next ∷ rest) least (later-one next rest least later)
-    ]
+fold-has : (all : List PlacedReceipt) (first : PlacedReceipt) (rest : List PlacedReceipt) → Contains all first
+    → ((r : PlacedReceipt) → Contains rest r → Contains all r) → Contains all (fold earlier first rest)
+fold-has all first [] h more = h
+fold-has all first (next ∷ rest) h more = fold-has all (earlier first next) rest
+    (elim (one-of-two (receipt_cmp first next) first next) as (λ _. Contains all (earlier first next)) [
+      | inl is ↦ subst (λ r. Contains all r) is h
+      | inr is ↦ subst (λ r. Contains all r) is (more next (first-one next rest))
+    ]) (λ r there. more r (later-one next rest r there))
 
 least-has : (rs : List PlacedReceipt) (r : PlacedReceipt) → least_receipt rs ≡ Some r → Contains rs r
 least-has [] r e = absurd cc
-least-has (first ∷ rest) r e = let is : fold earlier first rest ≡ r = cc in subst (λ x. Contains (first ∷ rest) x) is (fold-has first rest)
+least-has (first ∷ rest) r e = let is : fold earlier first rest ≡ r = cc in
+    subst (λ x. Contains (first ∷ rest) x) is (fold-has (first ∷ rest) first rest (first-one first rest) (later-one first rest))
 
 -- ---- a receipt at a place
 
@@ -80,15 +76,7 @@ accepted-own key k is = rw (is, own_key key) refl
 
 accepted-key : (key : LinkKey) (k : Option LinkKey) → list_any (same_key key) (option_to_list k) ≡ true → k ≡ Some key
 accepted-key key None e = absurd cc
-accepted-key key (Some k) e = ap Some (sym (one_key key k (by (same_key key k) e)))
-  where
-    by : (b : Bool) → (b || false) ≡ true → b ≡ true
-    by true t = refl
-    by false t = t
-
-both-first : (a b : Bool) → (a && b) ≡ true → a ≡ true
-both-first true b t = refl
-both-first false b t = t
+accepted-key key (Some k) e = ap Some (sym (one_key key k (sym (or-false (same_key key k)) ∙ e)))
 
 -- ---- lines
 
@@ -121,7 +109,7 @@ module _ (s : SettingsValue) (ms : List SubmittedMessage) (rs : List KeyedReceip
       let (x, kept, same) = map-has (λ (e : KeyedReceipt). e.1) (filter (λ (e : KeyedReceipt). same_key key e.0 && can_decide e.1.receipt) rs) r
       (least-has (candidates key rs) r least) in
       let (among, passes) = filter-has (λ (e : KeyedReceipt). same_key key e.0 && can_decide e.1.receipt) rs x kept in
-      let own : key ≡ x.0 = one_key key x.0 (both-first (same_key key x.0) (can_decide x.1.receipt) passes) in
+      let own : key ≡ x.0 = one_key key x.0 (and_parts (same_key key x.0) (can_decide x.1.receipt) passes).0 in
       let one' : number_accepted x.0 ms ≡ 1 = subst (λ k. number_accepted k ms ≡ 1) own one in
       let least' : least_receipt (candidates x.0 rs) ≡ Some x.1 =
       subst (λ k. least_receipt (candidates k rs) ≡ Some x.1) own (least ∙ ap Some (sym same)) in

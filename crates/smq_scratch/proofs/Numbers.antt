@@ -6,9 +6,10 @@ use Rattle.smq_kit.specs.Maps.{positive}
 use Rattle.std.specs.BTreeMap.{BTreeMap}
 use Rattle.std.specs.FinMap.{FinMap, get, insert}
 use Rattle.std.proofs.lemmas.List.{take_more, length-take}
-use Rattle.std.proofs.lemmas.List.Sums.{sum_by-cons, sum_by-append, count_by-le-length}
+use Rattle.std.proofs.lemmas.List.Sums.{count_by-le-length}
 use Rattle.smq_kit.specs.declared.link_key.LinkKey.{LinkKey}
 use Rattle.smq_kit.specs.LinkKeys.{link_key_cmp, by_key, same_key}
+use Rattle.smq_pair.proofs.Entered.{count-last}
 use Rattle.smq_book.specs.within.Messages.{SubmittedMessage}
 use Rattle.smq_book.specs.within.Accepted.{HasNumbers, number_kept, number_accepted, accepted_with}
 use Rattle.smq_kit.proofs.Counted as counted
@@ -30,12 +31,7 @@ numbers-none kept e = record { at = λ q. get-none kept.entries q e }
 
 number-last : (q : LinkKey) (submits : List SubmittedMessage) (x : SubmittedMessage) → number_accepted q (submits ++ x ∷ [])
     ≡ number_accepted q submits + cond (accepted_with q x) 1 0
-number-last q submits x = omega (
-  arith,
-  sum_by-append (λ s. cond (accepted_with q s) 1 0) submits (x ∷ []),
-  sum_by-cons
-      (λ s. cond (accepted_with q s) 1 0) x [],
-)
+number-last q submits x = count-last (accepted_with q) submits x
 
 pub one_key : (q k : LinkKey) (x : SubmittedMessage) → x.key ≡ Some k → accepted_with q x ≡ same_key q k
 one_key q k x e =

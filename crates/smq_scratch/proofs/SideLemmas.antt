@@ -2,6 +2,8 @@
 use Rattle.std.proofs.Common.{◌≡◌, ℕ, ◌+◌, Bool, true, false, cond, ◌&&◌, List, [], ◌∷◌, ◌++◌, take, drop, take-append-drop, append_assoc, Option, Some, None, refl, sym, ap, ◌∙◌, subst}
 use Rattle.std.specs.Prelude.{map, filter, slice_get, count_by, option_map, option_and_then, is_none}
 use Rattle.std.specs.List.{flat_map}
+use mathlib.Core.List.{map-map}
+use Rattle.std.proofs.lemmas.Bool.{cond-false, cond-true}
 use Rattle.std.proofs.lemmas.List.{drop_more, map-append}
 use Rattle.std.proofs.lemmas.List.Elements.{filter-append}
 use Rattle.std.proofs.lemmas.Option.{slice_get_within, slice_get-map, get_or_from_slice_get}
@@ -13,7 +15,8 @@ use Rattle.smq_pdu.specs.Header.{Header}
 use Rattle.smq_pdu.specs.Pairing.{is_request, is_response, is_request_of, is_response_of}
 use Rattle.smq_pair.specs.declared.pairing.Pair.{Pair}
 use Rattle.smq_pair.specs.Pairing as pairs
-use Rattle.smq_pair.specs.Pairing.{PlacedHeader, PairingValue, headers, pair_of, pair_after, pair_at, pdus_from, places_of, standing_at}
+use Rattle.smq_pair.specs.Pairing.{PlacedHeader, headers, pair_of, pair_after, pair_at, pdus_from, places_of, standing_at}
+use Rattle.smq_pair.proofs.Turned.{not-request}
 use Rattle.smq_tally.specs.declared.list.List.{List as ListName}
 use Rattle.smq_tally.specs.declared.list.List.TheVariants as list
 use Rattle.smq_tally.specs.declared.list.Listed.{Listed}
@@ -33,8 +36,7 @@ use Rattle.smq_scratch.specs.within.Sides.{IsSide, IsPaired, pairing_in, disagre
 -- ---- the pair at a place
 
 headers-placed : (o : Origin) (d : Dir) (ps : List KeptPdu) → headers (map (placed o d) ps) ≡ headers_of ps
-headers-placed o d [] = refl
-headers-placed o d (p ∷ ps) = ap (λ hs. header_of p ∷ hs) (headers-placed o d ps)
+headers-placed o d ps = map-map (λ (p : PlacedHeader). p.header) (placed o d) ps
 
 turn-placed : (o : Origin) (d : Dir) (kind : Kind) (seq n : ℕ) (ps : List KeptPdu)
     → slice_get (filter (λ (r : PlacedHeader). is_turn kind seq r.header) (map (placed o d) ps)) n
@@ -49,9 +51,6 @@ other-from : (d : Dir) (o : Origin) (mine other : List KeptPdu)
     → pdus_from (pairs.opposite d) (pairing_in d o mine other) ≡ map (placed o (pairs.opposite d)) other
 other-from FromClient o mine other = refl
 other-from FromCentre o mine other = refl
-
-no-request : (h : Header) → is_response h ≡ true → is_request h ≡ false
-no-request h response = rw response refl
 
 and-same : (a b c : Bool) → (a ≡ true → b ≡ c) → (a && b) ≡ (a && c)
 and-same true b c h = h refl
@@ -89,8 +88,7 @@ module _ (o : Origin) (d : Dir) (mine other : List KeptPdu) (rises : Rises 0 min
       → pair ≡ option_map (λ r. pair_of here r) (option_map there (partner_after Request other (take i mine) p))
   request-pair request =
       pair-here
-      ∙ ap (λ b. cond b (option_map (λ r. pair_of here r) (pairs.response_to (map there other) earlier here))
-      (cond (is_response (header_of p)) (option_map (λ r. pair_of r here) (pairs.request_of (map there other) earlier here)) None)) request
+      ∙ cond-true (is_request (header_of p)) _ _ request
       ∙ ap (option_map (λ r. pair_of here r)) (ap (λ hs. slice_get (filter (λ (r : PlacedHeader). is_response_of p.seq r.header) (map there other))
       (count_by (is_request_of p.seq) hs)) (headers-placed o d (take i mine))
       ∙ turn-placed o (pairs.opposite d) Response p.seq (count_by (is_request_of p.seq) (headers_of (take i mine))) other)
@@ -99,8 +97,7 @@ module _ (o : Origin) (d : Dir) (mine other : List KeptPdu) (rises : Rises 0 min
       → pair ≡ option_map (λ r. pair_of r here) (option_map there (partner_after Response other (take i mine) p))
   response-pair response =
       pair-here
-      ∙ (λ k. cond (no-request (header_of p) response k) (option_map (λ r. pair_of here r) (pairs.response_to (map there other) earlier here))
-      (cond (response k) (option_map (λ r. pair_of r here) (pairs.request_of (map there other) earlier here)) None))
+      ∙ cond-false (is_request (header_of p)) _ _ (not-request (header_of p) response) ∙ cond-true (is_response (header_of p)) _ _ response
       ∙ ap (option_map (λ r. pair_of r here)) (ap (λ hs. slice_get (filter (λ (r : PlacedHeader). is_request_of p.seq r.header) (map there other))
       (count_by (is_response_of p.seq) hs)) (headers-placed o d (take i mine))
       ∙ turn-placed o (pairs.opposite d) Request p.seq (count_by (is_response_of p.seq) (headers_of (take i mine))) other)
@@ -125,18 +122,6 @@ module _ (o : Origin) (d : Dir) (mine other : List KeptPdu) (rises : Rises 0 min
   noted-same responses requests _ hr hq = refl
 
 -- ---- a side
-
--- a side is what it says of itself
-pub side-paired : (session : SessionId) (d : Dir) (mine other : List KeptPdu) (side : Side) → IsSide session d mine other side → IsPaired side
-side-paired session d mine other side is = record {
-  session = refl;
-  dir = refl;
-  pdus = refl;
-  other = refl;
-  rises = subst (λ ps. Rises 0 ps) (sym is.pdus) is.rises;
-  responses = rw (is.pdus, is.other) is.responses;
-  requests = rw (is.pdus, is.other) is.requests;
-}
 
 -- what is noted of it is what is noted of its PDUs
 pub noted-side : (l : ListName) (session : SessionId) (d : Dir) (mine other : List KeptPdu) (side : Side) → IsSide session d mine other side

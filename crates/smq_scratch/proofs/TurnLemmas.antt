@@ -1,16 +1,16 @@
 -- Where PDUs of a kind and a number stand, one PDU at a time.
-use Rattle.std.proofs.Common.{◌≡◌, ◌≢◌, ◌⊎◌, inl, inr, ℕ, zero, suc, ◌+◌, ◌<◌, ◌≤◌, Bool, true, false, cond, ◌&&◌, ◌==◌, List, [], ◌∷◌, ◌++◌, length, take, drop, get_or, Option, Some, None, refl, sym, ap, ◌∙◌, subst, arith, add-one}
+use Rattle.std.proofs.Common.{◌≡◌, ◌≢◌, ◌⊎◌, inl, inr, ℕ, zero, suc, ◌+◌, ◌<◌, ◌≤◌, Bool, true, false, cond, ◌&&◌, ◌==◌, List, [], ◌∷◌, ◌++◌, length, take, drop, get_or, Option, Some, None, refl, sym, ap, ◌∙◌, subst, arith}
 use Rattle.std.specs.Prelude.{slice_get, count_by, option_and_then, unwrap_or, slice_set}
 use Rattle.std.specs.Option.{option_flatten}
 use Rattle.std.specs.Ordering.{nat_cmp}
 use Rattle.std.specs.BTreeMap.{BTreeMap, UpdatesBy}
-use Rattle.std.proofs.lemmas.Bool.{eqb-true, cases_eq, false≢true}
+use Rattle.std.proofs.lemmas.Bool.{and_parts, eqb-true, cases_eq, false≢true}
 use Rattle.std.proofs.lemmas.Grind.{common_steps}
-use Rattle.std.proofs.lemmas.List.{drop_all, drop_more, get_or-set_same, get_or-set_other, get_or_push, take_more, map-append}
+use Rattle.std.proofs.lemmas.List.{drop_all, drop-drop, drop_more, get_or-set_same, get_or-set_other, get_or_push, take_more, map-append}
 use Rattle.std.proofs.Math.ListN.{get_or-append}
-use Rattle.std.proofs.lemmas.List.Sums.{sum_by-append, sum_by-cons}
 use Rattle.std.proofs.lemmas.Option.{slice_get_within, slice_get-get_or, unwrap_or-slice_get, get_or_from_slice_get}
 use Rattle.smq_pdu.specs.Header.{header_with}
+use Rattle.smq_pair.proofs.Entered.{count-last}
 use Rattle.smq_book.specs.declared.present.kept.KeptPdu.{KeptPdu}
 use Rattle.smq_book.specs.present.Kept.{header_of, headers_of}
 use Rattle.smq_scratch.specs.declared.turns.Kind.{Kind}
@@ -18,26 +18,10 @@ use Rattle.smq_scratch.specs.declared.turns.Kind.TheVariants.{Request, Response}
 use Rattle.smq_scratch.specs.declared.turns.Turns.{Turns}
 use Rattle.smq_scratch.specs.within.Turns.{is_kind, is_turn, turns_of, BeginsAt, first_in, next_at, advanced, HasNext, HasTurns, taken_more, partner_at, partner_after, HasPartnersTo}
 
-drop-suc : {X : Type 0} (n : ℕ) (xs : List X) → drop (suc n) xs ≡ drop 1 (drop n xs)
-drop-suc zero xs = refl
-drop-suc (suc n) [] = refl
-drop-suc (suc n) (x ∷ xs) = drop-suc n xs
-
-drop-one : {X : Type 0} (n : ℕ) (xs : List X) → drop (n + 1) xs ≡ drop 1 (drop n xs)
-drop-one n xs = rw add-one (drop-suc n xs)
-
 get-drop : {X : Type 0} (n : ℕ) (xs : List X) → slice_get xs n ≡ slice_get (drop n xs) 0
 get-drop zero xs = refl
 get-drop (suc n) [] = refl
 get-drop (suc n) (x ∷ xs) = get-drop n xs
-
-first_true : (a b : Bool) → (a && b) ≡ true → a ≡ true
-first_true true b e = refl
-first_true false b e = e
-
-second_true : (a b : Bool) → (a && b) ≡ true → b ≡ true
-second_true true b e = e
-second_true false b e = absurd (false≢true e)
 
 -- what a map has for numbers once one has changed
 pub updated : (m n : BTreeMap ℕ (Option ℕ)) (k q : ℕ) (w : Option ℕ) → UpdatesBy nat_cmp (nat_cmp k) m n (Some w)
@@ -89,9 +73,9 @@ module _ (kind : Kind) (pdus : List KeptPdu) where
   first-taken : (seq n : ℕ) (next : List (Option ℕ)) (first : Option ℕ) → HasNext kind pdus 0 next
       → BeginsAt kind seq pdus (drop n (turns_of kind seq pdus)) first
       → BeginsAt kind seq pdus (drop (n + 1) (turns_of kind seq pdus)) (advanced next first)
-  first-taken seq n next None nexts is = drop-one n (turns_of kind seq pdus) ∙ ap (drop 1) is
+  first-taken seq n next None nexts is = sym (drop-drop 1 n (turns_of kind seq pdus)) ∙ ap (drop 1) is
   first-taken seq n next (Some j) nexts is =
-      subst (λ left. BeginsAt kind seq pdus left (next_at next j)) (sym (drop-one n (turns_of kind seq pdus) ∙ ap (drop 1) is.is))
+      subst (λ left. BeginsAt kind seq pdus left (next_at next j)) (sym (ap (drop 1) is.is) ∙ drop-drop 1 n (turns_of kind seq pdus))
       (nexts j is.pdu seq (omega arith) is.at is.turn)
 
   -- the first of a number is taken
@@ -159,20 +143,21 @@ module _ (kind : Kind) (pdus : List KeptPdu) where
             let turn : is_turn kind seq (header_of x) ≡ false = rw (of_kind, e) refl in
             subst (λ ps. BeginsAt kind seq pdus ps (first_in old seq)) (sym (ap (with_it seq) turn)) (so seq)
 
+    next-here : (next : List (Option ℕ)) → HasNext kind pdus (i + 1) next → ((seq : ℕ) → is_turn kind seq (header_of x) ≡ true
+        → BeginsAt kind seq pdus (turns_of kind seq (drop (i + 1) pdus)) (next_at next i)) → HasNext kind pdus i next
+    next-here next later own = λ j p seq low at turn. elim (cases_eq j i) [
+      | inl same ↦ subst (λ k. BeginsAt kind seq pdus (turns_of kind seq (drop (k + 1) pdus)) (next_at next k)) (sym same)
+          (own seq (ap (λ (y : KeptPdu). is_turn kind seq (header_of y)) (sym (same-pdu j p same at)) ∙ turn))
+      | inr apart ↦ later j p seq (omega (arith, low, apart)) at turn
+    ]
+
     pub next-more : (old : BTreeMap ℕ (Option ℕ)) (next new : List (Option ℕ)) → HasFirst (i + 1) old → HasNext kind pdus (i + 1) next
         → next_at new i ≡ first_in old x.seq → ((j : ℕ) → j ≢ i → next_at new j ≡ next_at next j) → HasNext kind pdus i new
-    next-more old next new so nexts put stays = λ j p seq low at turn. by_index j p seq low at turn (cases_eq j i)
-      where
-        by_index : (j : ℕ) (p : KeptPdu) (seq : ℕ) → i ≤ j → slice_get pdus j ≡ Some p → is_turn kind seq (header_of p) ≡ true
-            → (j ≡ i) ⊎ (j ≢ i) → BeginsAt kind seq pdus (turns_of kind seq (drop (j + 1) pdus)) (next_at new j)
-        by_index j p seq low at turn (inl same) =
-            let number : x.seq ≡ seq = eqb-true x.seq seq (second_true (is_kind kind (header_of x)) (x.seq == seq)
-            (ap (λ (y : KeptPdu). is_turn kind seq (header_of y)) (sym (same-pdu j p same at)) ∙ turn)) in
-            subst (λ first. BeginsAt kind seq pdus (turns_of kind seq (drop (j + 1) pdus)) first)
-            (sym (ap (next_at new) same ∙ put ∙ ap (first_in old) number))
-            (subst (λ k. BeginsAt kind seq pdus (turns_of kind seq (drop (k + 1) pdus)) (first_in old seq)) (sym same) (so seq))
-        by_index j p seq low at turn (inr apart) = subst (λ first. BeginsAt kind seq pdus (turns_of kind seq (drop (j + 1) pdus)) first) (sym (stays j apart))
-            (nexts j p seq (omega (arith, low, apart)) at turn)
+    next-more old next new so nexts put stays = next-here new
+        (λ j p seq low at turn. subst (λ first. BeginsAt kind seq pdus (turns_of kind seq (drop (j + 1) pdus)) first)
+        (sym (stays j (λ same. absurd (omega (arith, low, same))))) (nexts j p seq low at turn))
+        (λ seq turn. subst (λ first. BeginsAt kind seq pdus (turns_of kind seq (drop (i + 1) pdus)) first)
+        (sym (put ∙ ap (first_in old) (eqb-true x.seq seq (and_parts (is_kind kind (header_of x)) (x.seq == seq) turn).1))) (so seq))
 
     -- it isn't
     pub first-same : (first : BTreeMap ℕ (Option ℕ)) → is_kind kind (header_of x) ≡ false → HasFirst (i + 1) first → HasFirst i first
@@ -180,14 +165,8 @@ module _ (kind : Kind) (pdus : List KeptPdu) where
         subst (λ ps. BeginsAt kind seq pdus ps (first_in first seq)) (sym (ap (turns_of kind seq) here ∙ ap (λ b. with_it seq (b && (x.seq == seq))) of_other)) (so seq)
 
     pub next-same : (next : List (Option ℕ)) → is_kind kind (header_of x) ≡ false → HasNext kind pdus (i + 1) next → HasNext kind pdus i next
-    next-same next of_other nexts = λ j p seq low at turn. by_index j p seq low at turn (cases_eq j i)
-      where
-        by_index : (j : ℕ) (p : KeptPdu) (seq : ℕ) → i ≤ j → slice_get pdus j ≡ Some p → is_turn kind seq (header_of p) ≡ true
-            → (j ≡ i) ⊎ (j ≢ i) → BeginsAt kind seq pdus (turns_of kind seq (drop (j + 1) pdus)) (next_at next j)
-        by_index j p seq low at turn (inl same) =
-            absurd (false≢true (sym of_other ∙ ap (λ (y : KeptPdu). is_kind kind (header_of y)) (sym (same-pdu j p same at))
-            ∙ first_true (is_kind kind (header_of p)) (p.seq == seq) turn))
-        by_index j p seq low at turn (inr apart) = nexts j p seq (omega (arith, low, apart)) at turn
+    next-same next of_other nexts = next-here next nexts
+        (λ seq turn. absurd (false≢true (sym of_other ∙ (and_parts (is_kind kind (header_of x)) (x.seq == seq) turn).0)))
 
 -- ---- one PDU more is given its partner
 
@@ -201,11 +180,7 @@ module _ (kind : Kind) (mine : List KeptPdu) (i : ℕ) (x : KeptPdu) (h : i < le
       ∙ ap (λ (y : KeptPdu). headers_of (take i mine) ++ header_of y ∷ []) (sym is)
 
   counted-more : (seq : ℕ) → counted kind mine (i + 1) seq ≡ counted kind mine i seq + cond (is_turn kind seq (header_of x)) 1 0
-  counted-more seq = ap (count_by (is_turn kind seq)) headers-more ∙ omega (
-    arith,
-    sum_by-append (λ y. cond (is_turn kind seq y) 1 0) (headers_of (take i mine)) (header_of x ∷ []),
-    sum_by-cons (λ y. cond (is_turn kind seq y) 1 0) (header_of x) [],
-  )
+  counted-more seq = ap (count_by (is_turn kind seq)) headers-more ∙ count-last (is_turn kind seq) (headers_of (take i mine)) (header_of x)
 
   pub counted-turn : is_kind kind (header_of x) ≡ true → (seq : ℕ) → taken_more x.seq (counted kind mine i) seq ≡ counted kind mine (i + 1) seq
   counted-turn of_kind seq = sym (counted-more seq ∙ ap (λ b. counted kind mine i seq + cond (b && (x.seq == seq)) 1 0) of_kind ∙ by_number (x.seq == seq))

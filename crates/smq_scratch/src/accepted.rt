@@ -51,10 +51,7 @@ impl Accepted {
     pub(crate) fn number(&self, key: &HashedKey) -> u64
         ensures { result ≡ number_kept self.now.numbers key.now }
     {
-        match self.numbers.get(key) {
-            Some(number) => *number,
-            None => 0,
-        }
+        self.numbers.get(key).copied().unwrap_or(0)
     }
 
     /// Whether one message is accepted with the key and no other.

@@ -1,5 +1,5 @@
 //! Of each key of each link the earliest receipt that can decide, in one map.
-ghost use Rattle.std.specs.Prelude.{◌≡◌, ◌++◌, [], List, IfOk, OnOk};
+ghost use Rattle.std.specs.Prelude.{◌≡◌, ◌++◌, List, IfOk, OnOk};
 ghost use Rattle.std.specs.Option.{option_copied};
 ghost use Rattle.std.specs.FinMap as map;
 ghost use Rattle.std.specs.List.{flat_map};
@@ -22,15 +22,6 @@ pub(crate) struct Deciders<'a> {
 }
 
 impl<'a> Deciders<'a> {
-    /// Those of no receipts.
-    pub(crate) fn new(alloc: Global) -> Deciders<'a>
-        ensures { HasDeciders result.receipts [] }
-    {
-        Deciders {
-            receipts: BTreeMap::new(alloc),
-        }
-    }
-
     /// Those of the receipts of sessions.
     pub(crate) fn of_sessions(
         alloc: Global,
@@ -39,7 +30,9 @@ impl<'a> Deciders<'a> {
         ensures { IfOk result (λ deciders.
             HasDeciders deciders.receipts (flat_map receipts_in sessions.now)) }
     {
-        let mut deciders = Deciders::new(alloc);
+        let mut deciders = Deciders {
+            receipts: BTreeMap::new(alloc),
+        };
         for sourced in sessions {
             deciders.add_session(sourced.source, sourced.session.centre.pdus())?;
         }

@@ -60,9 +60,6 @@ impl Matches {
     pub(crate) fn get(&self, key: &HashedKey) -> Option<Match>
         ensures { result ≡ match_kept self.now.messages key.now }
     {
-        match self.messages.get(key) {
-            Some(found) => Some(*found),
-            None => None,
-        }
+        self.messages.get(key).copied()
     }
 }

@@ -7,7 +7,7 @@ ghost use Rattle.smq_book.specs.join.Keyed as keyed;
 ghost use Rattle.smq_book.specs.within.Receipts.{receipt_cmp, receipt_by};
 ghost use Rattle.smq_scratch.specs.Lines.{deciding_receipt};
 
-use smq_book::{KeptPdu, Source};
+use smq_book::{KeptPdu, Source, place_of};
 use smq_kit::{Dir, HashedKey, LinkId, Moment, Place};
 use smq_lines::DecidingReceipt;
 use smq_receipt::Receipt;
@@ -71,20 +71,14 @@ pub(crate) fn receipt_at<'a>(
 ) -> Option<(HashedKey, PlacedReceipt<'a>)>
     ensures { option_to_list result ≡ receipt_by (receipt_in pdu.now.content) source pdu.now }
 {
-    match pdu.content.receipt() {
-        Some(receipt) => Some((
-            HashedKey::of(source.link, source.forms.receipt, &receipt.id),
-            PlacedReceipt {
-                link: source.link,
-                place: Place {
-                    session: source.session,
-                    dir: Dir::FromCentre,
-                    offset: pdu.offset,
-                },
-                moment: pdu.moment,
-                receipt,
-            },
-        )),
-        None => None,
-    }
+    let receipt = pdu.content.receipt()?;
+    Some((
+        HashedKey::of(source.link, source.forms.receipt, &receipt.id),
+        PlacedReceipt {
+            link: source.link,
+            place: place_of(source.session, Dir::FromCentre, pdu),
+            moment: pdu.moment,
+            receipt,
+        },
+    ))
 }

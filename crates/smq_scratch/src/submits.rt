@@ -7,7 +7,7 @@ ghost use Rattle.smq_book.specs.within.Pairs.{SubmitsAreRequests};
 ghost use Rattle.smq_scratch.specs.within.Sides.{IsPaired};
 
 use crate::sides::Side;
-use smq_book::{KeptPdu, Source, asks_receipt};
+use smq_book::{KeptPdu, Source, asks_receipt, place_of};
 use smq_kit::{Dir, Place};
 use smq_pdu::Submit;
 use std::alloc::AllocError;
@@ -37,11 +37,7 @@ impl<'a> SubmittedMessage<'a> {
     pub(crate) fn place(&self) -> Place
         ensures { result ≡ self.now.place }
     {
-        Place {
-            session: self.source.session,
-            dir: Dir::FromClient,
-            offset: self.request.offset,
-        }
+        place_of(self.source.session, Dir::FromClient, self.request)
     }
 
     /// Whether it asks for a delivery receipt.
@@ -55,10 +51,7 @@ impl<'a> SubmittedMessage<'a> {
     pub(crate) fn response_offset(&self) -> Option<u64>
         ensures { result ≡ option_map (λ p. p.offset) self.now.response }
     {
-        match self.response {
-            Some(response) => Some(response.offset),
-            None => None,
-        }
+        Some(self.response?.offset)
     }
 }
 
@@ -95,13 +88,11 @@ fn submit_at<'a>(
     ensures { option_to_list result ≡ submit_by (submit_in pdu.now.content) source
         side.now.pdus.now side.now.other.now index pdu.now }
 {
-    match pdu.content.submit() {
-        Some(submit) => Some(SubmittedMessage {
-            source,
-            request: pdu,
-            submit,
-            response: side.response(index),
-        }),
-        None => None,
-    }
+    let submit = pdu.content.submit()?;
+    Some(SubmittedMessage {
+        source,
+        request: pdu,
+        submit,
+        response: side.response(index),
+    })
 }

@@ -81,9 +81,6 @@ fn advance(first: &mut Option<usize>, next: &[Option<usize>]) -> Option<usize>
     ensures next { first.new ≡ advanced next.now first.old }
 {
     let turn = (*first)?;
-    *first = match next.get(turn) {
-        Some(after) => *after,
-        None => None,
-    };
+    *first = next.get(turn).copied().flatten();
     Some(turn)
 }

@@ -1,5 +1,4 @@
-use Rattle.std.proofs.Common.{◌≡◌, IfOk, ap, ◌∙◌, subst}
-use Rattle.std.specs.List.{AllZip}
+use Rattle.std.proofs.Common.{◌≡◌, ap, ◌∙◌}
 use Rattle.smq_scratch.specs.Said.{Knows}
 use Rattle.smq_scratch.proofs.Collected.{collects-all}
 use Rattle.smq_scratch.proofs.parallel.know_all.Goals as goal
@@ -11,9 +10,5 @@ returns g c =
     let settings : f.0.now ≡ c.args.settings.now = ap (λ k. k.0.now) c.map.ensures.f in
     let numbers : f.1.now.numbers ≡ c.args.accepted.now.numbers = ap (λ k. k.1.now.numbers) c.map.ensures.f in
     let deciders : f.2.now.receipts ≡ c.args.deciders.now.receipts = ap (λ k. k.2.now.receipts) c.map.ensures.f in
-    let known : IfOk c.collect.result (λ v. AllZip (Knows f.0.now f.1.now.numbers f.2.now.receipts) c.args.submits.now v.items) =
-    collects-all (Knows f.0.now f.1.now.numbers f.2.now.receipts) (λ v. v.items) c.map.result.base.slice.now c.args.submits.now
-    c.collect.result slice c.collect.ensures in
-    subst (λ s. IfOk c.collect.result (λ v. AllZip (Knows s c.args.accepted.now.numbers c.args.deciders.now.receipts) c.args.submits.now v.items)) settings
-    (subst (λ n. IfOk c.collect.result (λ v. AllZip (Knows f.0.now n c.args.deciders.now.receipts) c.args.submits.now v.items)) numbers
-    (subst (λ d. IfOk c.collect.result (λ v. AllZip (Knows f.0.now f.1.now.numbers d) c.args.submits.now v.items)) deciders known))
+    rw (← settings, ← numbers, ← deciders) (collects-all (Knows f.0.now f.1.now.numbers f.2.now.receipts) (λ v. v.items)
+    c.map.result.base.slice.now c.args.submits.now c.collect.result slice c.collect.ensures)

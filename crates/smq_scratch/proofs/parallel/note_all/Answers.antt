@@ -1,5 +1,4 @@
-use Rattle.std.proofs.Common.{◌≡◌, IfOk, ap, ◌∙◌, subst}
-use Rattle.std.specs.List.{AllZip}
+use Rattle.std.proofs.Common.{◌≡◌, ap, ◌∙◌}
 use Rattle.smq_scratch.specs.Said.{Notes}
 use Rattle.smq_scratch.proofs.Collected.{collects}
 use Rattle.smq_scratch.proofs.parallel.note_all.Goals as goal
@@ -12,8 +11,5 @@ returns g c =
     ap (λ it. it.base.slice.now) c.map.ensures.base ∙ (ap (λ it. it.slice.now) c.with_min_len.ensures.base ∙ c.par_iter.ensures) in
     let numbers : f.1.now.numbers ≡ c.args.accepted.now.numbers = ap (λ k. k.1.now.numbers) c.map.ensures.f in
     let deciders : f.2.now.receipts ≡ c.args.deciders.now.receipts = ap (λ k. k.2.now.receipts) c.map.ensures.f in
-    let noted : IfOk c.in_ok-all.all (λ v. AllZip (λ x notes. Notes f.1.now.numbers f.2.now.receipts x notes.items) c.args.sessions.now v.items) =
-    collects (λ x notes. Notes f.1.now.numbers f.2.now.receipts x notes.items) (λ v. v.items) c.args.sessions.now
-    h.1.0 h.0 c.in_ok-all.all (h.1.1 ∙ slice) h.1.2 h.2 in
-    subst (λ n. IfOk c.in_ok-all.all (λ v. AllZip (λ x notes. Notes n c.args.deciders.now.receipts x notes.items) c.args.sessions.now v.items)) numbers
-    (subst (λ d. IfOk c.in_ok-all.all (λ v. AllZip (λ x notes. Notes f.1.now.numbers d x notes.items) c.args.sessions.now v.items)) deciders noted)
+    rw (← numbers, ← deciders) (collects (λ x notes. Notes f.1.now.numbers f.2.now.receipts x notes.items) (λ v. v.items)
+    c.args.sessions.now h.1.0 h.0 c.in_ok-all.all (h.1.1 ∙ slice) h.1.2 h.2)

@@ -1,13 +1,12 @@
-use Rattle.std.proofs.Common.{◌≡◌, ◌+◌, ◌≤◌, ◌++◌, [], ◌∷◌, List, length, drop, map, ap, sym, ◌∙◌, arith}
+use Rattle.std.proofs.Common.{◌≡◌, ◌+◌, ◌++◌, [], ◌∷◌, List, drop, map, ap, sym, ◌∙◌, arith}
 use Rattle.std.specs.List.{flat_map}
-use Rattle.std.proofs.lemmas.List.{append_assoc, append-nil, drop_more}
-use Rattle.std.proofs.Math.ListN.{drop_of_length-le}
+use Rattle.std.proofs.lemmas.List.{append_assoc, drop_more}
 use Rattle.smq_lines.specs.Lines.{MessageLineValue}
 use Rattle.smq_book.specs.present.Settings.{SettingsValue}
 use Rattle.smq_book.specs.within.Messages.{SubmittedMessage}
 use Rattle.smq_scratch.specs.Lines.{message_line}
 use Rattle.smq_scratch.specs.Sourced.{receipts_in}
-use Rattle.smq_scratch.proofs.Collected.{receipts-present}
+use Rattle.smq_scratch.proofs.Collected.{all-mapped, receipts-present}
 use Rattle.smq_scratch.proofs.submitted.lines_of_submits.Goals as goal
 
 pub loop-submit-preserved : goal.loop-submit-preserved
@@ -32,15 +31,8 @@ loop-submit-preserved c =
 
 pub returns : goal.returns
 returns c =
-    let settings = c.args.present.now.settings in
-    let submits = c.args.submits.now in
-    let receipts = flat_map receipts_in c.args.sessions.now in
-    let all : length submits ≤ c.loop-submit.submit-index = omega (arith, c.loop-submit-test.false) in
-    let made : c.loop-submit.made.items ≡ map (message_line settings submits receipts) submits =
-    sym (append-nil c.loop-submit.made.items)
-    ∙ ap (λ (xs : List SubmittedMessage). c.loop-submit.made.items ++ map (message_line settings submits receipts) xs)
-    (sym (drop_of_length-le submits all))
-    ∙ c.loop-submit.invariant in
-    made
-    ∙ (λ i. map (message_line settings (c.requires.submits i) (receipts-present c.args.present.now c.args.sessions.now c.requires.sessions i))
+    let line = message_line c.args.present.now.settings in
+    all-mapped (line c.args.submits.now (flat_map receipts_in c.args.sessions.now)) c.loop-submit.made.items _ c.args.submits.now
+    c.loop-submit.submit-index (omega (arith, c.loop-submit-test.false)) c.loop-submit.invariant
+    ∙ (λ i. map (line (c.requires.submits i) (receipts-present c.args.present.now c.args.sessions.now c.requires.sessions i))
     (c.requires.submits i))

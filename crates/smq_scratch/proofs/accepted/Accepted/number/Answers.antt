@@ -1,8 +1,8 @@
-use Rattle.smq_scratch.proofs.KeyMaps.{number-found, number-missed}
+use Rattle.std.proofs.Common.{ℕ, Option, ap, sym, ◌∙◌}
+use Rattle.std.specs.Prelude.{unwrap_or}
+use Rattle.smq_scratch.proofs.KeyMaps.{get-key}
 use Rattle.smq_scratch.proofs.accepted.Accepted.number.Goals as goal
 
-pub returns-in-Some : goal.returns-in-Some
-returns-in-Some c = number-found c.args.self.now.numbers c.args.key.now c.in-Some.number.now c.in-Some.ensures.value
-
-pub returns-in-None : goal.returns-in-None
-returns-in-None c = number-missed c.args.self.now.numbers c.args.key.now c.in-None.ensures.value
+pub returns : goal.returns
+returns c = c.unwrap_or.ensures ∙ ap (λ (o : Option ℕ). unwrap_or o 0)
+    (c.copied.ensures ∙ c.get.ensures.value ∙ sym (get-key c.args.self.now.numbers.entries c.args.key.now))

@@ -1,10 +1,14 @@
-use Rattle.std.proofs.Common.{◌≡◌, ◌+◌, ◌++◌, ◌∷◌, List, ap, sym, ◌∙◌, drop}
+use Rattle.std.proofs.Common.{◌≡◌, ◌+◌, ◌++◌, [], ◌∷◌, List, refl, ap, sym, ◌∙◌, drop}
 use Rattle.std.specs.List.{flat_map}
 use Rattle.std.proofs.lemmas.List.{append_assoc, drop_more}
 use Rattle.smq_book.specs.declared.present.kept.KeptPdu.{KeptPdu}
 use Rattle.smq_book.specs.within.Receipts.{KeyedReceipt, receipts_among}
 use Rattle.smq_scratch.specs.Sourced.{SourcedSession, receipts_in}
+use Rattle.smq_scratch.proofs.Deciding.{deciders-none}
 use Rattle.smq_scratch.proofs.deciders.Deciders.of_sessions.Goals as goal
+
+pub loop-sourced-init : goal.loop-sourced-init
+loop-sourced-init c = ([], deciders-none c.new.result c.new.ensures.empty, refl)
 
 pub loop-sourced-preserved : goal.loop-sourced-preserved
 loop-sourced-preserved c =
