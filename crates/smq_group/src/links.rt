@@ -43,5 +43,9 @@ fn places_of<V: Copy + Drop>(
 ) -> Result<Vec<Place>, AllocError>
     ensures { IfOk result (λ places. places.items ≡ map (λ m. m.0) members.now) }
 {
-    members.iter().map(|m| m.0).collect(alloc)
+    let mut places = Vec::new(alloc);
+    for (place, _) in members {
+        places.push(*place)?;
+    }
+    Ok(places)
 }
