@@ -1,5 +1,5 @@
 //! What is kept of each PDU, and the only readers that know the cases of its content.
-ghost use Rattle.std.specs.Prelude.{◌≡◌, ◌++◌, ◌+◌, ◌≤◌, IfOk, OnOk, OnErr, length, map, option_copied, option_map, take, vec_capacity, vec_len};
+ghost use Rattle.std.specs.Prelude.{◌≡◌, ◌++◌, ◌+◌, ◌<◌, ◌≤◌, IfOk, OnOk, OnErr, length, map, option_copied, option_map, take, vec_capacity, vec_len};
 ghost use Rattle.std.specs.Arc.{arc_value};
 ghost use Rattle.smq_pdu.specs.Decoded.{body_view};
 ghost use Rattle.smq_pdu.specs.Placed.{placed_pdu};
@@ -386,11 +386,12 @@ fn push_each(to: &mut Vec<KeptPdu>, pdus: &[KeptPdu]) -> Result<(), AllocError>
 }
 
 /// Makes room for so many more: where there is none, for an eighth of what is there at least. What is kept of a session stays for
-/// long, so little of its room is to be empty. An error changes nothing.
+/// long, so little of its room is to be empty. It fails only where room is wanting, and changes nothing then.
 pub(crate) fn make_room<T: Drop>(items: &mut Vec<T>, more: usize) -> Result<(), AllocError>
     ensures items { items.new.items ≡ items.old.items }
     ensures len { vec_len items.new ≡ vec_len items.old }
     ensures ok { OnOk result (vec_len items.new + more ≤ vec_capacity items.new) }
+    ensures err { OnErr result (vec_capacity items.old < vec_len items.old + more) }
 {
     if more <= items.capacity() - items.len() {
         return Ok(());
