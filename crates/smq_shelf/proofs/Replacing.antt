@@ -36,10 +36,3 @@ module _ {K : Type 0} {R : K → K → Ordering} (o : IsTotalOrder R) where
   set_value-insert_entry k w [] s h = absurd (false≢true h)
   set_value-insert_entry k w (e ∷ es) s h =
       there_at k w e es (set_value (is_at (R k)) es w) (insert_entry R es k w) s (set_value-insert_entry k w es (sorted_tail R e.0 (keys_of es) s)) (R k e.0) refl h
-
-  -- to replace the value of a key, if it is there, is to put that value in, or nothing
-  pub set_value-either : {V : Type 0} (k : K) (es : List (K × Option V)) (w : Option V) (before : Option (Option V)) (has : Bool)
-      → IsStrictlySortedBy R (keys_of es) → before ≡ lookup (is_at (R k)) es → has ≡ (is_some before && is_some w)
-      → set_value (is_at (R k)) es w ≡ (if is_some before || has then insert_entry R es k w else es)
-  set_value-either k es w None has s there h = rw h (set_value-none _ _ _ (sym there))
-  set_value-either k es w (Some v) has s there h = set_value-insert_entry k w es s (rw (← there) refl)

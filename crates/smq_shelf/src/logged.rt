@@ -155,11 +155,7 @@ pub(crate) fn clear_vacant<K: ShelfKey, V: Drop>(
     let (key, Some(Some(_))) = change else {
         return false;
     };
-    let is_vacant = matches!(shelf.get(&key), Some(None));
-    if is_vacant {
-        shelf.remove(&key);
-    }
-    is_vacant
+    shelf.clear(key)
 }
 
 // Gives back the room of an emptied log that had many changes.

@@ -1,5 +1,5 @@
 //! An ordered map that counts its calls.
-ghost use Rattle.std.specs.Prelude.{◌≡◌, ◌&&◌, ◌||◌, ◌≤◌, ◌<◌, ◌+◌, ◌-◌, [], IfOk, OnOk, IfErr, OnErr, None, Some, is_some, find, if◌then◌else◌};
+ghost use Rattle.std.specs.Prelude.{◌≡◌, ◌&&◌, ◌||◌, ◌≤◌, ◌<◌, ◌+◌, ◌-◌, [], IfOk, OnOk, IfErr, OnErr, None, Some, IsSome, IsOk, ◌↔◌, is_some, find, if◌then◌else◌};
 ghost use Rattle.std.specs.Ordering.{is_le, is_lt};
 ghost use Rattle.std.specs.Option.{option_copied, option_map};
 ghost use Rattle.std.specs.Map.Iter.{deref_pair};
@@ -7,7 +7,7 @@ ghost use Rattle.std.specs.Map.{keys_of, lookup, remove_entry, set_value};
 ghost use Rattle.std.specs.BTreeMap.{is_at, insert_entry};
 ghost use Rattle.std.specs.List.Sorted.{IsStrictlySortedBy};
 ghost use Rattle.smq_shelf.specs.Shown.{touched};
-ghost use Rattle.smq_shelf.specs.within.Undoing.{flatten};
+ghost use Rattle.smq_shelf.specs.within.Undoing.{flatten, cleared, is_vacant};
 
 use crate::Change;
 use std::alloc::{AllocError, Global};
@@ -140,11 +140,31 @@ impl<K: Ord, V: Drop> Shelf<K, Option<V>> {
         ensures was_ordered { IsStrictlySortedBy K.cmp (keys_of self.old.entries) }
     {
         self.count = self.count.saturating_add(1);
-        let nothing: Option<V> = None;
-        match change.after(nothing.as_ref()) {
-            Some(value) => begin_or_change(&mut self.map, key, value, change),
-            None => Ok(change_there(&mut self.map, &key, change)),
+        match self.map.entry(key) {
+            Ok(Entry::Occupied(place)) => {
+                let (before, has) = change_at(place.into_mut(), change);
+                Ok((Some(before), has))
+            }
+            Ok(vacant) => match vacant.or_try_insert_with(|| begun(change)) {
+                Ok(_) => Ok((None, true)),
+                Err(AllocError) => Ok((None, false)),
+            },
+            Err(_) => Err(AllocError),
         }
+    }
+
+    // Takes the place of a key out where it is vacant, and tells whether it was. It needs no memory. One touch.
+    pub(crate) fn clear(&mut self, key: K) -> bool
+    where
+        K: Drop,
+        ensures touches { self.new.touches ≡ touched self.old.touches }
+        ensures counted { self.old.touches ≤ self.new.touches }
+        ensures was_vacant { result ≡ is_vacant (lookup (is_at (K.cmp key)) self.old.entries) }
+        ensures entries { self.new.entries ≡ cleared K.cmp key self.old.entries }
+        ensures ordered { IsStrictlySortedBy K.cmp (keys_of self.new.entries) }
+    {
+        self.count = self.count.saturating_add(1);
+        clear_at(&mut self.map, key)
     }
 }
 
@@ -183,53 +203,39 @@ impl<K: Ord, V> Shelf<K, V> {
     }
 }
 
-// Makes of the place of a key what a change makes of its value. A key that has no place gets one for this value.
-fn begin_or_change<K: Ord + Drop, V: Drop, C: Change<V>>(
-    map: &mut BTreeMap<K, Option<V>>,
-    key: K,
-    value: V,
-    change: &C,
-) -> Result<(Option<Option<V>>, bool), AllocError>
-    requires { C.after change.now None ≡ Some value }
-    ensures old { IfOk result (λ r. r.0 ≡ lookup (is_at (K.cmp key)) map.old.entries) }
-    ensures has { IfOk result (λ r. r.1 ≡ is_some (C.after change.now (flatten r.0))) }
-    ensures entries { IfOk result (λ r. map.new.entries
-        ≡ insert_entry K.cmp map.old.entries key (C.after change.now (flatten r.0))) }
-    ensures err { OnErr result (map.new.entries ≡ map.old.entries) }
+// Takes the place of a key out where it is vacant, and tells whether it was. Where the key has no place, room may be made for
+// one, which stays unused; where that is refused nothing changes.
+fn clear_at<K: Ord + Drop, V: Drop>(map: &mut BTreeMap<K, Option<V>>, key: K) -> bool
+    ensures was_vacant { result ≡ is_vacant (lookup (is_at (K.cmp key)) map.old.entries) }
+    ensures entries { map.new.entries ≡ cleared K.cmp key map.old.entries }
     ensures ordered { IsStrictlySortedBy K.cmp (keys_of map.new.entries) }
-    ensures was_ordered { IsStrictlySortedBy K.cmp (keys_of map.old.entries) }
 {
     match map.entry(key) {
         Ok(Entry::Occupied(place)) => {
-            let (before, has) = change_at(place.into_mut(), change);
-            Ok((Some(before), has))
+            let is_vacant = place.get().is_none();
+            if is_vacant {
+                place.remove();
+            }
+            is_vacant
         }
-        Ok(Entry::Vacant(place)) => {
-            place.insert(Some(value));
-            Ok((None, true))
-        }
-        Err(_) => Err(AllocError),
+        Ok(vacant) => match vacant.or_try_insert_with(|| Err(AllocError)) {
+            Ok(_) => false,
+            Err(AllocError) => false,
+        },
+        Err(_) => false,
     }
 }
 
-// Makes of the place of a key, if it has one, what a change makes of its value.
-fn change_there<K: Ord, V: Drop, C: Change<V>>(
-    map: &mut BTreeMap<K, Option<V>>,
-    key: &K,
-    change: &C,
-) -> (Option<Option<V>>, bool)
-    ensures old { result.0 ≡ lookup (is_at (K.cmp key.now)) map.old.entries }
-    ensures has { result.1 ≡ (is_some result.0 && is_some (C.after change.now (flatten result.0))) }
-    ensures entries { map.new.entries ≡ set_value (is_at (K.cmp key.now)) map.old.entries
-        (C.after change.now (flatten result.0)) }
-    ensures ordered { IsStrictlySortedBy K.cmp (keys_of map.new.entries) }
-    ensures was_ordered { IsStrictlySortedBy K.cmp (keys_of map.old.entries) }
+// The place that a change begins for a key that has none, where it makes a value.
+fn begun<V: Drop, C: Change<V>>(change: &C) -> Result<Option<V>, AllocError>
+    ensures ok { IfOk result (λ place. place ≡ C.after change.now None) }
+    ensures some { IsOk result ↔ IsSome (C.after change.now None) }
 {
-    let Some(place) = map.get_mut(key) else {
-        return (None, false);
-    };
-    let (before, has) = change_at(place, change);
-    (Some(before), has)
+    let nothing: Option<V> = None;
+    match change.after(nothing.as_ref()) {
+        Some(value) => Ok(Some(value)),
+        None => Err(AllocError),
+    }
 }
 
 // Makes of a place what a change makes of its value, and gives what was there, and whether there is a value now.
