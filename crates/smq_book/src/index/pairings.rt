@@ -1,5 +1,5 @@
 //! The pairs of each session that is present.
-ghost use Rattle.std.specs.Prelude.{◌≡◌, ◌≢◌, ◌≤◌, ◌++◌, ◌+◌, ◌-◌, ℕ, IfOk, IsSome, OnOk};
+ghost use Rattle.std.specs.Prelude.{◌≡◌, ◌≢◌, ◌≤◌, ◌++◌, ◌+◌, ◌*◌, ◌-◌, ℕ, IfOk, IsSome, OnOk};
 ghost use Rattle.smq_pair.specs.Growth.{IsNext, pushed};
 ghost use Rattle.smq_pair.specs.Paired.{no_pdus};
 ghost use Rattle.smq_pair.specs.Pairing.{pair_at, placed_header};
@@ -60,16 +60,13 @@ impl Pairings {
             → pairs_pending self.new number ≡ pairs_pending self.old number }
         ensures counted { self.old.touches ≤ self.new.touches }
     {
-        self.ensure(session)?;
-        match self.by_session.get_mut(&session.0) {
-            Some(pairing) => {
-                let before = pairing.touches();
-                let made = pairing.add(place, seq, command, status);
-                count(&mut self.touches, before, pairing.touches());
-                made
-            }
-            None => Ok(None),
+        if let Some(pairing) = self.by_session.get_mut(&session.0) {
+            return add_to(&mut self.touches, pairing, place, seq, command, status);
         }
+        let mut first = Pairing::new(self.alloc);
+        let made = add_to(&mut self.touches, &mut first, place, seq, command, status)?;
+        self.by_session.insert(session.0, first)?;
+        Ok(made)
     }
 
     /// Makes room for the pairs of a session, where there is none. It changes no pair.
@@ -176,6 +173,30 @@ impl Pairings {
             None => Ok(()),
         }
     }
+}
+
+/// Takes the next PDU of a direction of a session into its pairs, and adds the touches that this takes.
+fn add_to(
+    touches: &mut u64,
+    pairing: &mut Pairing,
+    place: Place,
+    seq: u32,
+    command: u32,
+    status: u32,
+) -> Result<Option<Pair>, AllocError>
+    requires next { IsNext pairing.old.pdus place }
+    ensures added { OnOk result
+        (pairing.new.pdus ≡ pushed pairing.old.pdus (placed_header place command status seq)) }
+    ensures made { IfOk result (λ made. made ≡ pair_at pairing.new.pdus place) }
+    ensures settled { pairing.new.settled ≡ pairing.old.settled }
+    ensures touches { touches.new + 2 * pairing.new.pending
+        ≤ touches.old + 2 * pairing.old.pending + 11 }
+    ensures counted { touches.old ≤ touches.new }
+{
+    let before = pairing.touches();
+    let made = pairing.add(place, seq, command, status);
+    count(touches, before, pairing.touches());
+    made
 }
 
 /// Adds the touches of a pairing from one number to another.
