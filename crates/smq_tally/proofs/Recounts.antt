@@ -1,14 +1,13 @@
 -- Counts that move from the keys of one fact to those of another, view by view.
 use Rattle.std.proofs.Common.{◌≡◌, ℕ, ◌+◌, ◌-◌, ◌<◌, ◌≤◌, ◌^◌, List, [], ◌∷◌, Option, Some, None, suc, refl, ap, ◌∙◌, arith, rules}
 use Rattle.std.proofs.lemmas.List.{drop_all}
-use Rattle.std.specs.Prelude.{drop, option_map, option_to_list, slice_get, unwrap_or}
+use Rattle.std.specs.Prelude.{drop, option_to_list, slice_get}
 use Rattle.smq_tally.specs.declared.counts.Step.TheVariants as s
 use Rattle.smq_tally.specs.declared.fact.CountKey.{CountKey}
 use Rattle.smq_tally.specs.declared.fact.Fact.{Fact}
-use Rattle.smq_tally.specs.declared.value.Value.{Value}
 use Rattle.smq_tally.specs.declared.view.View.{View}
 use Rattle.smq_tally.specs.declared.view.View.TheVariants as v
-use Rattle.smq_tally.specs.Rows.{views, view_rank, value_in, count_key, key_in, same_count_key, stands_in}
+use Rattle.smq_tally.specs.Rows.{views, view_rank, key_in, same_count_key, stands_in}
 use Rattle.smq_tally.specs.within.Counting.{Counts, count_in, steps, keys_left, key_in_if, times, AreCounted, HaveRoom, IsMoved}
 use Rattle.smq_tally.proofs.Tallies.{Has, has-one, has-same, has-more, has-less, once, one_most, keys_in, count-append}
 use Rattle.smq_tally.proofs.Runs.{next_rank, past-length}
@@ -97,12 +96,3 @@ moved-last view m u before after e first q =
     split : (f : Option Fact) → times q (keys_left view f) ≡ times q (option_to_list (key_in_if view f))
     split f = let all = times-split view f q in
         let none : times q (keys_after view f) ≡ 0 = ap (times q) (after-last view f e) in omega (arith, all, none)
-
--- where a fact is counted in a view is of the view
-pub key-view : (view : View) (f : Option Fact) (k : CountKey) → Some k ≡ key_in_if view f → k.view ≡ view
-key-view view None k e = absurd cc
-key-view view (Some f) k e = of_value (value_in view f) e
-  where
-    of_value : (x : Option Value) → Some k ≡ option_map (λ value. count_key view value f.outcome) x → k.view ≡ view
-    of_value None e = absurd cc
-    of_value (Some x) e = ap (λ (o : Option CountKey). unwrap_or (option_map (λ z. z.view) o) view) e

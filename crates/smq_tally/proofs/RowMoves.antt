@@ -1,13 +1,12 @@
 -- A change of a row moves counts of its keys alone.
-use Rattle.std.proofs.Common.{◌≡◌, ℕ, ◌+◌, ◌-◌, ◌<◌, ◌≤◌, ◌^◌, Bool, true, false, cond, List, [], ◌∷◌, Option, Some, None, refl, sym, ap, ◌∙◌, arith, rules}
-use Rattle.std.specs.Prelude.{◌&&◌, not, min}
+use Rattle.std.proofs.Common.{◌≡◌, ℕ, ◌+◌, ◌-◌, ◌<◌, ◌≤◌, ◌^◌, Bool, true, false, cond, List, Option, Some, None, refl, sym, ap, ◌∙◌, arith, rules}
+use Rattle.std.specs.Prelude.{◌&&◌, min, option_map, option_to_list, unwrap_or}
 use Rattle.std.specs.Bool.{Decides}
 use Rattle.std.specs.BTreeMap.{is_at}
 use Rattle.std.specs.List.Sorted.{IsStrictlySortedBy}
 use Rattle.std.specs.Map.{keys_of, lookup}
 use Rattle.std.specs.FinMap.{get}
 use Rattle.std.proofs.Math.Nat.{min-eq_left}
-use Rattle.std.proofs.lemmas.Bool.{not-false}
 use Rattle.smq_kit.specs.Maps.{set_at}
 use Rattle.smq_kit.proofs.MapLemmas as maps
 use Rattle.smq_shelf.specs.Values.{with_value}
@@ -17,15 +16,15 @@ use Rattle.smq_tally.specs.declared.fact.CountKey.{CountKey}
 use Rattle.smq_tally.specs.declared.fact.RowKey.{RowKey}
 use Rattle.smq_tally.specs.declared.outcome.Outcome.{Outcome}
 use Rattle.smq_tally.specs.declared.outcome_counts.OutcomeCounts.{OutcomeCounts}
+use Rattle.smq_tally.specs.declared.fact.Fact.{Fact}
 use Rattle.smq_tally.specs.declared.value.Value.{Value}
-use Rattle.smq_tally.specs.contracts.value.ValuePartialEq.TheImpl as value_eq
+use Rattle.smq_tally.specs.declared.view.View.{View}
 use Rattle.smq_tally.specs.contracts.outcome_counts.OutcomeCountsPartialEq.TheImpl as counts_eq
-use Rattle.smq_tally.specs.Rows.{same_count_key}
+use Rattle.smq_tally.specs.Rows.{same_count_key, count_key, key_in, value_in}
 use Rattle.smq_tally.specs.within.Counting.{Counts, count_in, times, AreCounted, HaveRoom, IsMoved}
 use Rattle.smq_tally.specs.within.CountOrder.{kept_row_cmp, rows_total}
-use Rattle.smq_tally.specs.within.Keys.{values}
 use Rattle.smq_tally.specs.within.Kept.{counts_in}
-use Rattle.smq_tally.specs.within.RowCounts.{no_counts, count_under, with_count_under, row_step, row_step_if, counts_or_none, as_row, row_after, row_of, Rows, rows_in, keys_at}
+use Rattle.smq_tally.specs.within.RowCounts.{no_counts, count_under, with_count_under, row_step, row_step_if, counts_or_none, as_row, row_after, row_of, Rows, rows_in, keys_at, keys_with}
 use Rattle.smq_tally.proofs.CountOrders.{rows_exact, row_key-order}
 use Rattle.smq_tally.proofs.RowCounts.{Row, is_row, is_outcome, key_at, same_key-row, number_of_row, count-rows, one_outcome}
 use Rattle.smq_tally.proofs.Tallies.{count-one}
@@ -49,8 +48,9 @@ under-with c o p n = search rules
 counts_same : (c d : OutcomeCounts) → Decides ((counts_eq.ghosts).eq c d) (c ≡ d)
 counts_same c d = search rules
 
-under-row : (c : OutcomeCounts) (p : Outcome) → count_under (counts_or_none (as_row c)) p ≡ count_under c p
-under-row c p = elim ((counts_eq.ghosts).eq c no_counts) as (λ b. (counts_eq.ghosts).eq c no_counts ≡ b
+under-row : (more : Option Outcome) (c : OutcomeCounts) (p : Outcome) → count_under (counts_or_none (as_row more c)) p ≡ count_under c p
+under-row (Some o) c p = refl
+under-row None c p = elim ((counts_eq.ghosts).eq c no_counts) as (λ b. (counts_eq.ghosts).eq c no_counts ≡ b
     → count_under (counts_or_none (cond b None (Some c))) p ≡ count_under c p) [
       | true ↦ λ e. ap (λ (x : OutcomeCounts). count_under x p) (sym ((counts_same c no_counts).0 e))
       | false ↦ λ e. refl
@@ -120,7 +120,7 @@ module _ (es fs : List Row) (row : RowKey) (less more : Option Outcome)
       let enough = few q in
       let gone = less-under c less q.outcome (omega (arith, was, a, enough)) in
       let come = more-under (row_step_if s.Less c less) more q.outcome (λ some. let space = room q (omega (arith, b, some)) in omega (arith, was, b, space, gone)) in
-      let now = under-row (row_step_if s.More (row_step_if s.Less c less) more) q.outcome in
+      let now = under-row more (row_step_if s.More (row_step_if s.Less c less) more) q.outcome in
       omega (arith, was, a, b, gone, come, now)
 
   pub row-moved : IsMoved (keys_at row less) (keys_at row more) (counts_in es) (counts_in fs)
@@ -143,20 +143,15 @@ row-set es fs row less more sorted put =
     stored None = seen.removed rows_total rows_exact row_key-order es row sorted
     stored (Some v) = seen.inserted rows_total rows_exact row_key-order es row v
 
--- ---- keys of one row
+-- ---- keys of one row, and of a fact in a view
 
-pub in-row : (key : CountKey) (row : RowKey) → row ≡ row_of key → keys_at row (Some key.outcome) ≡ key ∷ []
-in-row key row same = ap (λ (r : RowKey). keys_at r (Some key.outcome)) same
+pub in_value : (view : View) (x : Option Value) (row : RowKey) (o : Option Outcome) → Some row ≡ option_map (λ value. record { view = view; value = value }) x
+    → keys_at row o ≡ keys_with x view o
+in_value view x row None e = refl
+in_value view None row (Some o) e = absurd cc
+in_value view (Some value) row (Some o) e = ap (λ (r : Option RowKey). keys_at (unwrap_or r row) (Some o)) e
 
-pub beside : (from to : CountKey) (row : RowKey) → row ≡ row_of from → from.view ≡ to.view → from.value ≡ to.value
-    → keys_at row (Some to.outcome) ≡ to ∷ []
-beside from to row same view value = in-row to row (same ∙ (λ i. record { view = view i; value = value i }))
-
-pub same_value : (a b : Value) (r : Bool) → r ≡ not ((value_eq.ghosts).eq a b) → r ≡ false → a ≡ b
-same_value a b r told e = (values a b).0 (not-false _ (sym told ∙ e))
-
-pub moved-nowhere : (m : Counts) (from to : CountKey) → from.view ≡ to.view → from.value ≡ to.value → from.outcome ≡ to.outcome
-    → IsMoved (from ∷ []) (to ∷ []) m m
-moved-nowhere m from to view value outcome q =
-    let same : from ≡ to = λ i. record { view = view i; value = value i; outcome = outcome i } in
-    ap (λ (k : CountKey). count_in m q + times q (k ∷ [])) same
+pub moved-nowhere : (m : Counts) (view : View) (f g : Fact) → value_in view f ≡ value_in view g → f.outcome ≡ g.outcome
+    → IsMoved (option_to_list (key_in view f)) (option_to_list (key_in view g)) m m
+moved-nowhere m view f g value outcome q =
+    λ i. count_in m q + times q (option_to_list (option_map (λ x. count_key view x (outcome i)) (value i)))

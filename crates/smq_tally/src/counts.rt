@@ -1,11 +1,12 @@
 //! Counts of facts in rows by view and value, in one ordered map that can be undone, in which no row is of no messages. A
 //! fact that is put in the place of another moves its counts: one look-up in each view where both have one value.
-ghost use Rattle.std.specs.Prelude.{◌≡◌, ◌<◌, IfOk, OnOk, OnErr, [], ◌∷◌, option_copied, option_to_list};
+ghost use Rattle.std.specs.Prelude.{◌≡◌, ◌<◌, IfOk, OnOk, OnErr, [], option_copied, option_to_list};
 ghost use Rattle.smq_tally.specs.within.Counting.{keys_left, key_in_if, count_in, steps, IsMoved, AreCounted, HaveRoom};
 ghost use Rattle.smq_tally.specs.within.Kept.{counts_in, IsLogged, AreLogged};
-ghost use Rattle.smq_tally.specs.within.RowCounts.{keys_at};
+ghost use Rattle.smq_tally.specs.within.RowCounts.{keys_with};
+ghost use Rattle.smq_tally.specs.Rows.{key_in, value_in};
 
-use crate::fact::{RowKey, key_of};
+use crate::fact::{RowKey, have_same_value, row_in};
 use crate::outcome_counts::{OutcomeCounts, RowChange};
 use crate::taking_back::{take_back, take_back_both};
 use crate::{CountKey, Fact, Outcome, View};
@@ -86,72 +87,77 @@ fn recount_in_view(
     ensures settled { counts.new.settled ≡ counts.old.settled }
     ensures err { OnErr result (counts.new ≡ counts.old) }
 {
-    let to = key_of_any(view, after);
-    let Some(from) = key_of_any(view, before) else {
-        let is_logged = count_more(counts, to)?;
+    let Some(before) = before else {
+        let Some(after) = after else {
+            return Ok((false, false));
+        };
+        let is_logged = change_in_view(counts, view, after, None, Some(after.outcome))?;
         return Ok((false, is_logged));
     };
-    match to {
-        Some(to) => move_between(counts, from, to),
+    match after {
+        Some(after) => count_instead(counts, view, before, after),
         None => {
-            let is_logged = count_less(counts, from)?;
+            let is_logged = change_in_view(counts, view, before, Some(before.outcome), None)?;
             Ok((is_logged, false))
         }
     }
 }
 
-/// Where a message is counted in a view, if it is one and has a value there.
-fn key_of_any(view: View, fact: Option<&Fact>) -> Option<CountKey>
-    ensures { result ≡ key_in_if view (option_copied fact.entry) }
-{
-    match fact {
-        Some(fact) => key_of(view, fact),
-        None => None,
-    }
-}
-
-/// One fewer at a key and one more at another of its view: nothing where they are one, and one look-up in one row.
-fn move_between(
+/// One message fewer in a view and another in its place: nothing where they are counted alike, and one look-up where they
+/// have one value.
+fn count_instead(
     counts: &mut KeptMap<RowKey, OutcomeCounts>,
-    from: CountKey,
-    to: CountKey,
+    view: View,
+    before: &Fact,
+    after: &Fact,
 ) -> Result<(bool, bool), AllocError>
-    requires one_view { from.view ≡ to.view }
-    requires counted { AreCounted (from ∷ []) (counts_in counts.old.content) }
-    requires room { HaveRoom (to ∷ []) (counts_in counts.old.content) }
-    ensures ok { OnOk result (IsMoved (from ∷ []) (to ∷ [])
+    requires counted { AreCounted (option_to_list (key_in view before.now))
+        (counts_in counts.old.content) }
+    requires room { HaveRoom (option_to_list (key_in view after.now))
+        (counts_in counts.old.content) }
+    ensures ok { OnOk result (IsMoved (option_to_list (key_in view before.now))
+        (option_to_list (key_in view after.now))
         (counts_in counts.old.content) (counts_in counts.new.content)) }
     ensures logged { IfOk result (λ are_logged. AreLogged are_logged counts.old counts.new) }
     ensures settled { counts.new.settled ≡ counts.old.settled }
     ensures err { OnErr result (counts.new ≡ counts.old) }
 {
-    if from.value != to.value {
-        return move_apart(counts, from, to);
+    if !have_same_value(view, before, after) {
+        return move_apart(counts, view, before, after);
     }
-    if from.outcome == to.outcome {
+    if before.outcome == after.outcome {
         return Ok((false, false));
     }
-    let less = Some(from.outcome);
-    let is_logged = change_row(counts, from.into_row(), less, Some(to.outcome))?;
+    let is_logged = change_in_view(
+        counts,
+        view,
+        after,
+        Some(before.outcome),
+        Some(after.outcome),
+    )?;
     Ok((false, is_logged))
 }
 
-/// One fewer at a key and one more at another, by two look-ups.
+/// One message fewer in a view and another in its place, by two look-ups.
 fn move_apart(
     counts: &mut KeptMap<RowKey, OutcomeCounts>,
-    from: CountKey,
-    to: CountKey,
+    view: View,
+    before: &Fact,
+    after: &Fact,
 ) -> Result<(bool, bool), AllocError>
-    requires counted { AreCounted (from ∷ []) (counts_in counts.old.content) }
-    requires room { HaveRoom (to ∷ []) (counts_in counts.old.content) }
-    ensures ok { OnOk result (IsMoved (from ∷ []) (to ∷ [])
+    requires counted { AreCounted (option_to_list (key_in view before.now))
+        (counts_in counts.old.content) }
+    requires room { HaveRoom (option_to_list (key_in view after.now))
+        (counts_in counts.old.content) }
+    ensures ok { OnOk result (IsMoved (option_to_list (key_in view before.now))
+        (option_to_list (key_in view after.now))
         (counts_in counts.old.content) (counts_in counts.new.content)) }
     ensures logged { IfOk result (λ are_logged. AreLogged are_logged counts.old counts.new) }
     ensures settled { counts.new.settled ≡ counts.old.settled }
     ensures err { OnErr result (counts.new ≡ counts.old) }
 {
-    let was_logged = count_less(counts, from)?;
-    match count_more(counts, Some(to)) {
+    let was_logged = change_in_view(counts, view, before, Some(before.outcome), None)?;
+    match change_in_view(counts, view, after, None, Some(after.outcome)) {
         Ok(is_logged) => Ok((was_logged, is_logged)),
         Err(error) => {
             take_back(counts, was_logged);
@@ -160,57 +166,29 @@ fn move_apart(
     }
 }
 
-/// One fewer at a key.
-fn count_less(
+/// In the row of a message in a view, if it has a value there, one fewer under an outcome and one more under another.
+fn change_in_view(
     counts: &mut KeptMap<RowKey, OutcomeCounts>,
-    key: CountKey,
-) -> Result<bool, AllocError>
-    requires counted { AreCounted (key ∷ []) (counts_in counts.old.content) }
-    ensures ok { OnOk result (IsMoved (key ∷ []) []
-        (counts_in counts.old.content) (counts_in counts.new.content)) }
-    ensures logged { IfOk result (λ is_logged. IsLogged is_logged counts.old counts.new) }
-    ensures settled { counts.new.settled ≡ counts.old.settled }
-    ensures err { OnErr result (counts.new ≡ counts.old) }
-{
-    let less = Some(key.outcome);
-    change_row(counts, key.into_row(), less, None)
-}
-
-/// One more at a key, where there is one.
-fn count_more(
-    counts: &mut KeptMap<RowKey, OutcomeCounts>,
-    key: Option<CountKey>,
-) -> Result<bool, AllocError>
-    requires room { HaveRoom (option_to_list key) (counts_in counts.old.content) }
-    ensures ok { OnOk result (IsMoved [] (option_to_list key)
-        (counts_in counts.old.content) (counts_in counts.new.content)) }
-    ensures logged { IfOk result (λ is_logged. IsLogged is_logged counts.old counts.new) }
-    ensures settled { counts.new.settled ≡ counts.old.settled }
-    ensures err { OnErr result (counts.new ≡ counts.old) }
-{
-    let Some(key) = key else {
-        return Ok(false);
-    };
-    let more = Some(key.outcome);
-    change_row(counts, key.into_row(), None, more)
-}
-
-/// One fewer in a row under an outcome, and one more under another, where there are such.
-fn change_row(
-    counts: &mut KeptMap<RowKey, OutcomeCounts>,
-    row: RowKey,
+    view: View,
+    fact: &Fact,
     less: Option<Outcome>,
     more: Option<Outcome>,
 ) -> Result<bool, AllocError>
-    requires counted { AreCounted (keys_at row less) (counts_in counts.old.content) }
-    requires room { HaveRoom (keys_at row more) (counts_in counts.old.content) }
-    ensures ok { OnOk result (IsMoved (keys_at row less) (keys_at row more)
+    requires counted { AreCounted (keys_with (value_in view fact.now) view less)
+        (counts_in counts.old.content) }
+    requires room { HaveRoom (keys_with (value_in view fact.now) view more)
+        (counts_in counts.old.content) }
+    ensures ok { OnOk result (IsMoved (keys_with (value_in view fact.now) view less)
+        (keys_with (value_in view fact.now) view more)
         (counts_in counts.old.content) (counts_in counts.new.content)) }
     ensures logged { IfOk result (λ is_logged. IsLogged is_logged counts.old counts.new) }
     ensures settled { counts.new.settled ≡ counts.old.settled }
     ensures err { OnErr result (counts.new ≡ counts.old) }
 {
-    counts.change(row, &RowChange { less, more })
+    match row_in(view, fact) {
+        Some(row) => counts.change(row, &RowChange { less, more }),
+        None => Ok(false),
+    }
 }
 
 /// The count at a key, 0 where none stands.

@@ -1,7 +1,8 @@
 //! What is known of a message, and where it is counted.
-ghost use Rattle.std.specs.Prelude.{◌≡◌, option_to_list, option_copied};
+ghost use Rattle.std.specs.Prelude.{◌≡◌, ◌↔◌, IsTrue, option_to_list, option_copied};
 ghost use Rattle.smq_tally.specs.Rows as rows;
-ghost use Rattle.smq_tally.specs.Rows.{key_in, value_in};
+ghost use Rattle.smq_tally.specs.Rows.{value_in};
+ghost use Rattle.smq_tally.specs.within.RowCounts as by_row;
 
 use crate::{Band, List, Listed, Outcome, SubmitError, Value, View};
 use smq_kit::{LinkId, Network, Place, RouteId};
@@ -119,31 +120,40 @@ impl ShelfKey for RowKey {
     }
 }
 
-/// Where a message is counted in a view, if it has a value there.
-pub(crate) fn key_of(view: View, fact: &Fact) -> Option<CountKey>
-    ensures { result ≡ key_in view fact.now }
+/// The row in which a message is counted in a view, if it has a value there.
+pub(crate) fn row_in(view: View, fact: &Fact) -> Option<RowKey>
+    ensures { result ≡ by_row.row_in view fact.now }
 {
-    match value_of(view, fact) {
-        Some(value) => Some(CountKey {
-            view,
-            value,
-            outcome: fact.outcome,
-        }),
-        None => None,
-    }
+    let value = match view {
+        View::Link => Value::Link(fact.link),
+        View::Route => route_value(fact.route.as_ref()),
+        View::Network => network_value(fact.route.as_ref()),
+        View::Error => Value::Error(fact.error.as_ref()?.copy()),
+        View::LinkDelay => Value::Band(fact.link_delay?),
+        View::CentreDelay => Value::Band(fact.centre_delay?),
+    };
+    Some(RowKey { view, value })
 }
 
-/// What a message is counted by in a view, if it has a value there.
-fn value_of(view: View, fact: &Fact) -> Option<Value>
-    ensures { result ≡ value_in view fact.now }
+/// Whether two messages have one value in a view, or neither has one. Nothing is copied.
+pub(crate) fn have_same_value(view: View, before: &Fact, after: &Fact) -> bool
+    ensures { IsTrue result ↔ (value_in view before.now ≡ value_in view after.now) }
 {
     match view {
-        View::Link => Some(Value::Link(fact.link)),
-        View::Route => Some(route_value(fact.route.as_ref())),
-        View::Network => Some(network_value(fact.route.as_ref())),
-        View::Error => fact.error.as_ref().map(|error| Value::Error(error.copy())),
-        View::LinkDelay => fact.link_delay.map(Value::Band),
-        View::CentreDelay => fact.centre_delay.map(Value::Band),
+        View::Link => before.link == after.link,
+        View::Route => match (&before.route, &after.route) {
+            (Some((route, _)), Some((other, _))) => *route == *other,
+            (None, None) => true,
+            _ => false,
+        },
+        View::Network => match (&before.route, &after.route) {
+            (Some((_, network)), Some((_, other))) => *network == *other,
+            (None, None) => true,
+            _ => false,
+        },
+        View::Error => before.error == after.error,
+        View::LinkDelay => before.link_delay == after.link_delay,
+        View::CentreDelay => before.centre_delay == after.centre_delay,
     }
 }
 

@@ -96,7 +96,7 @@ impl OutcomeCounts {
 impl Change<OutcomeCounts> for RowChange {
     ghost after = { row_after };
 
-    // A row of no messages is none.
+    // A row of no messages is none: it can only be where no message came.
     fn after(&self, before: Option<&OutcomeCounts>) -> Option<OutcomeCounts> {
         let mut counts = match before {
             Some(counts) => *counts,
@@ -107,6 +107,7 @@ impl Change<OutcomeCounts> for RowChange {
         }
         if let Some(outcome) = self.more {
             counts.step(Step::More, outcome);
+            return Some(counts);
         }
         if counts == OutcomeCounts::none() {
             return None;

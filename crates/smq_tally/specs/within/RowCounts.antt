@@ -14,7 +14,10 @@ use Rattle.smq_tally.specs.declared.outcome.Outcome.TheVariants as o
 use Rattle.smq_tally.specs.declared.outcome_counts.OutcomeCounts.{OutcomeCounts}
 use Rattle.smq_tally.specs.declared.outcome_counts.RowChange.{RowChange}
 use Rattle.smq_tally.specs.contracts.outcome_counts.OutcomeCountsPartialEq.TheImpl as counts_eq
-use Rattle.smq_tally.specs.Rows.{view_rank, value_cmp, count_key}
+use Rattle.smq_tally.specs.declared.fact.Fact.{Fact}
+use Rattle.smq_tally.specs.declared.value.Value.{Value}
+use Rattle.smq_tally.specs.declared.view.View.{View}
+use Rattle.smq_tally.specs.Rows.{view_rank, value_cmp, value_in, count_key}
 use Rattle.smq_tally.specs.Tables.{ShownRow}
 use Rattle.smq_tally.specs.within.Counting.{Counts}
 
@@ -88,13 +91,14 @@ row_step_if step c (Some outcome) = row_step step c outcome
 abbrev pub counts_or_none : Option OutcomeCounts → OutcomeCounts
 counts_or_none row = unwrap_or row no_counts
 
--- counts as a row: none where they are of no messages
-abbrev pub as_row : OutcomeCounts → Option OutcomeCounts
-as_row c = cond ((counts_eq.ghosts).eq c no_counts) None (Some c)
+-- counts as a row after a message came, or none did: none where they are of no messages
+abbrev pub as_row : Option Outcome → OutcomeCounts → Option OutcomeCounts
+as_row (Some outcome) c = Some c
+as_row None c = cond ((counts_eq.ghosts).eq c no_counts) None (Some c)
 
 -- what a change makes of a row, or of none
 abbrev pub row_after : RowChange → Option OutcomeCounts → Option OutcomeCounts
-row_after change before = as_row (row_step_if s.More (row_step_if s.Less (counts_or_none before) change.less) change.more)
+row_after change before = as_row change.more (row_step_if s.More (row_step_if s.Less (counts_or_none before) change.less) change.more)
 
 -- ---- rows by their keys
 
@@ -105,6 +109,15 @@ row_of key = record { view = key.view; value = key.value }
 -- the keys of a row with an outcome, where there is one
 abbrev pub keys_at : RowKey → Option Outcome → List CountKey
 keys_at row outcome = option_to_list (option_map (λ x. count_key row.view row.value x) outcome)
+
+-- the row in which a message is counted in a view, if it has a value there
+abbrev pub row_in : View → Fact → Option RowKey
+row_in view f = option_map (λ value. record { view = view; value = value }) (value_in view f)
+
+-- the keys of a view with a value and an outcome, where there are both
+abbrev pub keys_with : Option Value → View → Option Outcome → List CountKey
+keys_with value view None = []
+keys_with value view (Some outcome) = option_to_list (option_map (λ x. count_key view x outcome) value)
 
 -- the order of rows: by view, then by value
 abbrev pub row_cmp : RowKey → RowKey → Ordering

@@ -1,9 +1,16 @@
-use Rattle.std.proofs.Common.{◌∙◌, sym}
+use Rattle.std.proofs.Common.{Option, Some, Bor, subst, sym}
+use Rattle.std.specs.Prelude.{OnOk, option_to_list}
 use Rattle.std.specs.Option.{option_copied}
-use Rattle.smq_tally.proofs.Recounts.{key-view}
+use Rattle.smq_tally.specs.declared.fact.Fact.{Fact}
+use Rattle.smq_tally.specs.within.Counting.{key_in_if, IsMoved}
+use Rattle.smq_tally.specs.within.Kept.{counts_in}
 use Rattle.smq_tally.proofs.counts.recount_in_view.Goals as goal
 
-pub move_between-requires-clause-one_view : goal.move_between-requires-clause-one_view
-move_between-requires-clause-one_view c =
-    key-view c.args.view (option_copied c.args.before) c.in-Some.from (sym c.in-Some.is ∙ c.key_of_any.ensures)
-    ∙ sym (key-view c.args.view (option_copied c.args.after) c.in-Some-to.to (sym c.in-Some-to.is ∙ c.key_of_any-to.ensures))
+pub returns-in-Some-after-2-clause-ok : goal.returns-in-Some-after-2-clause-ok
+returns-in-Some-after-2-clause-ok c =
+    let m = counts_in c.args.counts.now.content in
+    let u = counts_in c.count_instead.new.counts.content in
+    subst (λ (x : Option (Bor Fact)). OnOk c.count_instead.result (IsMoved (option_to_list (key_in_if c.args.view (option_copied x)))
+    (option_to_list (key_in_if c.args.view (option_copied c.args.after))) m u)) (sym c.in-Some.is)
+    (subst (λ (x : Option (Bor Fact)). OnOk c.count_instead.result (IsMoved (option_to_list (key_in_if c.args.view (Some c.in-Some.before.now)))
+    (option_to_list (key_in_if c.args.view (option_copied x))) m u)) (sym c.in-Some-after-2.is) c.count_instead.ensures.ok)
