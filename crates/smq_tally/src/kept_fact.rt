@@ -38,9 +38,9 @@ impl Model for KeptFact {
 }
 
 impl KeptFact {
-    /// What is kept of a fact.
-    pub(crate) fn of(alloc: Global, fact: &Fact) -> Result<KeptFact, AllocError>
-        ensures { IfOk result (λ kept. kept ≡ fact.now) }
+    /// What is kept of a fact, which is moved and not copied.
+    pub(crate) fn of(alloc: Global, fact: Fact) -> Result<KeptFact, AllocError>
+        ensures { IfOk result (λ kept. kept ≡ fact) }
     {
         let Fact {
             place,
@@ -50,7 +50,7 @@ impl KeptFact {
             error,
             link_delay,
             centre_delay,
-        } = fact.copy();
+        } = fact;
         let error = match error {
             Some(error) => Some(Box::new(alloc, error)?),
             None => None,

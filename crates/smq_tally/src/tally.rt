@@ -86,7 +86,7 @@ impl Tally {
         ensures touched { OnOk result (touched self.old.touches ≤ self.new.touches) }
         ensures counted { self.old.touches ≤ self.new.touches }
     {
-        let kept = KeptFact::of(self.alloc, &fact)?;
+        let kept = KeptFact::of(self.alloc, fact.copy())?;
         // There are fewer places than addresses.
         let _ = self.facts.place_count();
         self.facts.set(fact.place, kept)?;
@@ -177,7 +177,7 @@ impl Tally {
         if is_same(before, &fact) {
             return Ok(());
         }
-        if let Err(error) = put(self.alloc, &mut self.facts, &mut self.tables, before, &fact) {
+        if let Err(error) = put(self.alloc, &mut self.facts, &mut self.tables, before, fact) {
             undo_all(&mut self.facts, &mut self.tables);
             return Err(error);
         }
@@ -275,13 +275,13 @@ fn fact_at(facts: &mut Kept<Place, KeptFact>, place: &Place) -> Option<Fact>
     }
 }
 
-// Whether the fact that is there, if one is, is this one.
+// Whether the fact that is there, if one is, is this one. Most that are not differ in their outcome.
 #[tactic(auto, using(crate::proofs::FactEquals::facts_decide))]
 fn is_same(there: &Option<Fact>, fact: &Fact) -> bool
     ensures { IsTrue result → there.now ≡ Some fact.now }
 {
     match there {
-        Some(there) => *there == *fact,
+        Some(there) => there.outcome == fact.outcome && *there == *fact,
         None => false,
     }
 }
@@ -294,14 +294,14 @@ fn put(
     facts: &mut Kept<Place, KeptFact>,
     tables: &mut NotedTables,
     before: &Option<Fact>,
-    fact: &Fact,
+    fact: Fact,
 ) -> Result<(), AllocError>
-    requires there { before.now ≡ fin.get (facts_in facts.old.content) fact.now.place }
+    requires there { before.now ≡ fin.get (facts_in facts.old.content) fact.place }
     requires places { StandAtTheirPlaces (facts_in facts.old.content) }
     requires shown { tables.old.shown
         ≡ tables_of (facts_in facts.old.content) tables.old.notes }
     ensures ok { OnOk result (facts_in facts.new.content
-        ≡ fin.insert (facts_in facts.old.content) fact.now.place fact.now) }
+        ≡ fin.insert (facts_in facts.old.content) fact.place fact) }
     ensures shown { OnOk result (tables.new.shown
         ≡ tables_of (facts_in facts.new.content) tables.new.notes) }
     ensures notes { OnOk result (tables.new.notes ≡ tables.old.notes) }
@@ -313,15 +313,18 @@ fn put(
     ensures touches { facts.new.touches ≤ facts.old.touches + 1 }
     ensures counted { facts.old.touches ≤ facts.new.touches }
 {
-    let kept = KeptFact::of(alloc, fact)?;
     // There are fewer places than addresses.
     let _ = facts.place_count();
-    facts.set(fact.place, kept)?;
     match before {
-        Some(before) => tables.replace_fact(before, fact)?,
-        None => tables.add_fact(fact)?,
+        Some(before) => {
+            tables.replace_fact(before, &fact)?;
+            facts.set(fact.place, KeptFact::of(alloc, fact)?)
+        }
+        None => {
+            tables.add_fact(&fact)?;
+            facts.set(fact.place, KeptFact::of(alloc, fact)?)
+        }
     }
-    Ok(())
 }
 
 // Brings back what was last settled, in each. It takes no memory.

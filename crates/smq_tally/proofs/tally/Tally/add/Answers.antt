@@ -17,7 +17,7 @@ add_fact-requires c = record {
 -- the facts with the new one
 put : (c : goal.In_default) → facts_in c.set.new.self.content ≡ insert (facts_in c.self.inside.facts.content) c.args.fact.place c.args.fact
 put c =
-    kept_put c.self.inside.facts.content c.set.new.self.content c.args.fact c.in_ok-kept.kept c.in_ok-kept.ensures c.in_ok-set.ensures.content
+    kept_put c.self.inside.facts.content c.set.new.self.content c.args.fact c.in_ok-kept.kept (c.in_ok-kept.ensures ∙ c.copy.ensures) c.in_ok-set.ensures.content
 
 pub invariant_of-self-in_default : goal.invariant_of-self-in_default
 invariant_of-self-in_default c =
