@@ -1,48 +1,37 @@
 -- Entries and what they say, with one more, and with one that is given its partner.
-use Rattle.std.proofs.Common.{◌≡◌, ◌≢◌, ℕ, zero, suc, ◌<◌, ◌≤◌, Bool, true, List, [], ◌∷◌, ◌++◌, length, get_or, Option, Some, None, refl, sym, ap, ◌∙◌, subst, arith}
+use Rattle.std.proofs.Common.{◌≡◌, ◌≢◌, ℕ, zero, suc, Bool, true, List, [], ◌∷◌, ◌++◌, length, Some, None, refl, sym, ap, ◌∙◌, subst, arith}
 use Rattle.std.specs.Prelude.{◌==◌, map, option_map, slice_get, slice_set}
 use Rattle.std.proofs.lemmas.List.{map-append, length-map}
-use Rattle.std.proofs.lemmas.List.Elements.{All-map}
 use Rattle.std.proofs.lemmas.List.Folds.{list_all-append}
-use Rattle.std.proofs.lemmas.Option.{slice_get-get_or, slice_get-map}
-use Rattle.std.proofs.lemmas.Cmp.{eq_by_cmp_equiv, tied_itself, nat_cmp_total}
+use Rattle.std.proofs.lemmas.Option.{slice_get-map}
 use Rattle.std.proofs.lemmas.Bool.{and_parts, eqb-true}
-use Rattle.std.proofs.lemmas.Map.Entries.{length-keys_of, lookup_from_place, place_from_lookup}
-use Rattle.std.proofs.lemmas.Map.Keys.{IsDistinct-from_sorted, sorted_head, sorted_tail}
-use Rattle.std.proofs.lemmas.Map.Views.{length-le_from_below}
-use Rattle.std.specs.declared.cmp.Ordering.TheVariants.{Less, Equal, Greater}
-use Rattle.std.specs.Ordering.{match_ordering, nat_cmp, ordering_reverse, ordering_then}
+use Rattle.std.specs.declared.cmp.Ordering.TheVariants.{Less, Equal}
+use Rattle.std.specs.Ordering.{nat_cmp, ordering_then}
 use Rattle.std.specs.Cmp.{nat_cmp_is}
 use Rattle.std.specs.List.{AllByRecursion, list_all}
 use Rattle.std.specs.List.Sorted.{IsStrictlySortedBy}
 use Rattle.std.specs.Map.{keys_of}
-use Rattle.std.specs.BTreeMap.{insert_entry, is_at}
-use Rattle.std.specs.FinMap.{nat_cmp-IsAntisymmetric}
 use Rattle.smq_kit.specs.declared.names.SessionId.{SessionId}
 use Rattle.smq_kit.specs.declared.place.Dir.{Dir}
 use Rattle.smq_kit.specs.declared.place.Dir.TheVariants.{FromClient, FromCentre}
 use Rattle.smq_kit.specs.declared.place.Place.{Place}
 use Rattle.smq_kit.specs.Orders.{place_cmp}
-use Rattle.smq_kit.proofs.Comparisons.{is_equal}
-use Rattle.smq_shelf.specs.Values.{with_value}
 use Rattle.smq_pair.specs.declared.entry.Entry.{Entry}
 use Rattle.smq_pair.specs.Pairing.{PlacedHeader, pdus_from, opposite}
 use Rattle.smq_pair.specs.Growth.{AreInOrder, pushed_in}
 use Rattle.smq_pair.specs.within.Turns.{headers_from}
-use Rattle.smq_pair.specs.within.Kept.{Entries, Held, are_of_session, at_offset, entries_from, header_of, held_at, joined, linked, placed, pdus_in, with_partner}
+use Rattle.smq_pair.specs.within.Stream.{Ascend, Held}
+use Rattle.smq_pair.specs.within.Kept.{Entries, are_of_session, at_offset, entries_from, header_of, joined, placed, pdus_in}
 use Rattle.smq_pair.specs.within.Maps.{Holds, HoldsOf, Matching}
 use Rattle.smq_pair.proofs.Keys.{dir_itself}
-use Rattle.smq_pair.proofs.Lists.{some-is, get-either, get-mapped, never}
-use Rattle.smq_pair.proofs.Standing.{all-at, dir-ascends}
+use Rattle.smq_pair.proofs.Lists.{some-is, get-either, get-mapped}
+use Rattle.smq_pair.proofs.Standing.{dir-ascends}
+use Rattle.smq_pair.proofs.Held.{linked_to, linked-kept}
 
 -- one more in a direction, the last
 abbrev pub appended : Dir → Held → Entries → Entries
 appended FromClient e es = record es { client = es.client ++ e ∷ [] }
 appended FromCentre e es = record es { centre = es.centre ++ e ∷ [] }
-
--- an entry with its partner's offset
-abbrev pub linked_to : ℕ → Held → Held
-linked_to q e = (e.0, record e.1 { partner = Some q })
 
 -- entries of which the one at an index of a direction is this
 abbrev pub set_in : Dir → ℕ → Held → Entries → Entries
@@ -168,9 +157,6 @@ linked-get FromCentre j y es FromCentre i x h old new = set-get es.centre j y i 
 
 -- ---- entries that stand in order
 
-abbrev pub Ascend : List Held → Type 0
-Ascend es = IsStrictlySortedBy nat_cmp (keys_of es)
-
 place-order : (s : SessionId) (d : Dir) (a b : ℕ) → place_cmp (at_offset s d a) (at_offset s d b) ≡ nat_cmp a b
 place-order s d a b = λ i. ordering_then (sym (nat_cmp_is s.0 s.0 Equal refl) i) (ordering_then (dir_itself d i) (nat_cmp a b))
 
@@ -190,71 +176,14 @@ entries-ascend es d o =
     by_list [] h = tt
     by_list (x ∷ xs) h = (above x.0 xs h.0, by_list xs h.1)
 
-pub above-head : (x : Held) (xs : List Held) (j : ℕ) (e : Held) → Ascend (x ∷ xs) → slice_get xs j ≡ Some e → nat_cmp x.0 e.0 ≡ Less
-above-head x xs j e s at = all-at (λ y. nat_cmp x.0 y ≡ Less) (λ (y : Held). y.0) xs j e (sorted_head nat_cmp x.0 (keys_of xs) s) at
-
-greater : (p q : ℕ) → nat_cmp p q ≡ Less → nat_cmp q p ≡ Greater
-greater p q h = nat_cmp_total.antisymm q p ∙ ap ordering_reverse h
-
--- what is above all is the last
-pub insert-last : (es : List Held) (q : ℕ) (x : Entry) → ((i : ℕ) (e : Held) → slice_get es i ≡ Some e → nat_cmp e.0 q ≡ Less)
-    → insert_entry nat_cmp es q x ≡ es ++ (q, x) ∷ []
-insert-last [] q x below = refl
-insert-last (e ∷ es) q x below =
-    ap (λ r. match_ordering r ((q, x) ∷ e ∷ es) ((e.0, x) ∷ es) (e ∷ insert_entry nat_cmp es q x)) (greater e.0 q (below 0 e refl))
-    ∙ ap (λ (ys : List Held). e ∷ ys) (insert-last es q x (λ i. below (suc i)))
-
--- entries are no more than offsets for them
-pub few : (xs : List Held) (high : ℕ) → Ascend xs → ((i : ℕ) (x : Held) → slice_get xs i ≡ Some x → x.0 < high) → length xs ≤ high
-few xs high s below =
-    let fit = All-map (λ k. k < high) (λ (x : Held). x.0) xs (λ k d within. below k (get_or xs k d) (slice_get-get_or xs k d within)) in
-    subst (λ n. n ≤ high) (length-keys_of xs) (length-le_from_below high (keys_of xs) s fit)
-
--- the one at an index is found by its offset, and is set there
-pub found-kept : (es : List Held) (j : ℕ) (e : Held) → Ascend es → slice_get es j ≡ Some e → held_at e.0 es ≡ Some e.1
-found-kept es j e s at = lookup_from_place (eq_by_cmp_equiv nat_cmp_total) es j e.0 e.1 (IsDistinct-from_sorted nat_cmp (keys_of es) s) at
-
-set-kept : (es : List Held) (j : ℕ) (e : Held) (w : Entry) → Ascend es → slice_get es j ≡ Some e
-    → insert_entry nat_cmp es e.0 w ≡ slice_set es j (e.0, w)
-set-kept [] j e w s at = absurd cc
-set-kept (x ∷ xs) zero e w s at =
-    let same : x ≡ e = some-is x e at in
-    ap (λ r. match_ordering r ((e.0, w) ∷ x ∷ xs) ((x.0, w) ∷ xs) (x ∷ insert_entry nat_cmp xs e.0 w))
-    (ap (λ (y : Held). nat_cmp e.0 y.0) same ∙ tied_itself nat_cmp_total e.0)
-    ∙ ap (λ (y : Held). (y.0, w) ∷ xs) same
-set-kept (x ∷ xs) (suc j) e w s at =
-    ap (λ r. match_ordering r ((e.0, w) ∷ x ∷ xs) ((x.0, w) ∷ xs) (x ∷ insert_entry nat_cmp xs e.0 w)) (greater x.0 e.0 (above-head x xs j e s at))
-    ∙ ap (λ (ys : List Held). x ∷ ys) (set-kept xs j e w (sorted_tail nat_cmp x.0 (keys_of xs) s) at)
-
--- what is found stands at an index, and where nothing is found nothing stands
-pub stands-kept : (es : List Held) (q : ℕ) (x : Entry) → held_at q es ≡ Some x → (i : ℕ) × (slice_get es i ≡ Some (q, x))
-stands-kept es q x h =
-    let there = place_from_lookup (is_at (nat_cmp q)) es x h in
-    (there.0, there.2 ∙ ap (λ (p : ℕ). Some (p, x)) (sym (nat_cmp-IsAntisymmetric q there.1 (is_equal _ there.3))))
-
-pub none-kept : (es : List Held) (q : ℕ) → Ascend es → held_at q es ≡ None → (i : ℕ) (e : Held) → slice_get es i ≡ Some e → e.0 ≢ q
-none-kept es q s none i e at same = never (held_at q es) e.1 none (ap (λ p. held_at p es) (sym same) ∙ found-kept es i e s at)
-
--- one more in a direction, above those that are there, without a partner
-pub joined-alone : (d : Dir) (e : Held) (es : Entries)
-    → ((i : ℕ) (x : Held) → slice_get (entries_from d es) i ≡ Some x → nat_cmp x.0 e.0 ≡ Less) → e.1.partner ≡ None
-    → joined d (at_offset es.session d e.0) e.1 es ≡ appended d e es
-joined-alone FromClient e es below none = rw (insert-last es.client e.0 e.1 below, none) refl
-joined-alone FromCentre e es below none = rw (insert-last es.centre e.0 e.1 below, none) refl
-
-linked-kept : (o : Option ℕ) (q : ℕ) (es : List Held) (j : ℕ) (y : Held) → o ≡ Some y.0 → Ascend es → slice_get es j ≡ Some y
-    → linked o q es ≡ slice_set es j (linked_to q y)
-linked-kept o q es j y some s at =
-    ap (λ (o : Option ℕ). linked o q es) some
-    ∙ ap (λ (x : Option Entry). with_value nat_cmp y.0 (with_partner q x) es) (found-kept es j y s at)
-    ∙ set-kept es j y (record y.1 { partner = Some q }) s at
+-- one more in a direction, without a partner
+pub joined-alone : (d : Dir) (e : Held) (es : Entries) → e.1.partner ≡ None → joined d (at_offset es.session d e.0) e.1 es ≡ appended d e es
+joined-alone FromClient e es none = rw none refl
+joined-alone FromCentre e es none = rw none refl
 
 -- and with one
-pub joined-linked : (d : Dir) (e : Held) (es : Entries)
-    → ((i : ℕ) (x : Held) → slice_get (entries_from d es) i ≡ Some x → nat_cmp x.0 e.0 ≡ Less)
-    → (j : ℕ) (y : Held) → e.1.partner ≡ Some y.0 → Ascend (entries_from (opposite d) es) → slice_get (entries_from (opposite d) es) j ≡ Some y
+pub joined-linked : (d : Dir) (e : Held) (es : Entries) (j : ℕ) (y : Held) → e.1.partner ≡ Some y.0
+    → Ascend (entries_from (opposite d) es) → slice_get (entries_from (opposite d) es) j ≡ Some y
     → joined d (at_offset es.session d e.0) e.1 es ≡ appended d e (set_in (opposite d) j (linked_to e.0 y) es)
-joined-linked FromClient e es below j y some s at =
-    rw (insert-last es.client e.0 e.1 below, linked-kept e.1.partner e.0 es.centre j y some s at) refl
-joined-linked FromCentre e es below j y some s at =
-    rw (insert-last es.centre e.0 e.1 below, linked-kept e.1.partner e.0 es.client j y some s at) refl
+joined-linked FromClient e es j y some s at = rw (linked-kept e.1.partner e.0 es.centre j y some s at) refl
+joined-linked FromCentre e es j y some s at = rw (linked-kept e.1.partner e.0 es.client j y some s at) refl

@@ -3,6 +3,7 @@ pub mod Lists
 pub mod Turned
 pub mod Standing
 pub mod Order
+pub mod Held
 pub mod Entries
 pub mod Entered
 pub mod Placed

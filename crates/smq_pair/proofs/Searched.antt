@@ -20,12 +20,14 @@ use Rattle.smq_pair.specs.Paired.{no_pdus}
 use Rattle.smq_pair.specs.Pairing.{PlacedHeader, PairingValue, pdus_from, opposite, pair_at, places_of}
 use Rattle.smq_pair.specs.Growth.{AreInOrder}
 use Rattle.smq_pair.specs.within.Turns.{is_of, is_on, headers_from, index_at, unpaired_at, partner, partner_of}
-use Rattle.smq_pair.specs.within.Kept.{Entries, Held, alone_from, at_offset, entries_from, header_of, held_at, is_alone, kept_at, pair_found, partner_kept, pdus_in, placed, places_alone}
+use Rattle.smq_pair.specs.within.Stream.{Held}
+use Rattle.smq_pair.specs.within.Kept.{Entries, alone_from, at_offset, entries_from, header_of, held_at, is_alone, kept_at, pair_found, partner_kept, pdus_in, placed, places_alone}
 use Rattle.smq_pair.specs.within.Maps.{Holds, Matching, offset_at}
 use Rattle.smq_pair.proofs.Lists.{some-is}
 use Rattle.std.proofs.lemmas.Bool.{eqb-true}
 use Rattle.smq_pair.proofs.Standing.{pair_either, pair-here, pair-nowhere, ascend-filter, IsNowhere}
-use Rattle.smq_pair.proofs.Entries.{entries-ascend, pdu-kept, entry-at, one-session, stands-kept, none-kept}
+use Rattle.smq_pair.proofs.Held.{stands-kept, none-kept}
+use Rattle.smq_pair.proofs.Entries.{entries-ascend, pdu-kept, entry-at, one-session}
 use Rattle.smq_pair.proofs.Steps.{pair-found}
 
 -- ---- the pair at a place

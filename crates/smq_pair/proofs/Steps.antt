@@ -2,9 +2,6 @@
 use Rattle.std.proofs.Common.{◌≡◌, ◌≢◌, ℕ, ◌+◌, ◌≤◌, true, cond, length, Option, Some, None, refl, sym, ap, ◌∙◌, subst, arith}
 use Rattle.std.specs.Prelude.{IfSome, count_by, option_map, option_and_then, slice_get}
 use Rattle.std.specs.BTreeMap.{is_at}
-use Rattle.std.specs.declared.cmp.Ordering.TheVariants.{Less}
-use Rattle.std.specs.Cmp.{nat_cmp_is}
-use Rattle.std.specs.Ordering.{nat_cmp}
 use Rattle.std.proofs.lemmas.List.{length-map}
 use Rattle.std.proofs.lemmas.List.Sums.{count_by-le-length}
 use Rattle.std.proofs.lemmas.Option.{slice_get-map}
@@ -18,7 +15,8 @@ use Rattle.smq_pair.specs.Pairing.{PlacedHeader, PairingValue, pdus_from, opposi
 use Rattle.smq_pair.specs.Growth.{AreInOrder, IsNext, pushed}
 use Rattle.smq_pair.specs.within.Turns.{is_of, headers_from, count_in, index_at, unpaired_at, partner, series_of, turn_after, partner_of}
 use Rattle.smq_pair.specs.within.Orders.{series_cmp}
-use Rattle.smq_pair.specs.within.Kept.{Entries, Held, are_of_session, at_offset, entries_from, header_of, held_at, joined, pair_found, partner_kept, placed, placed_at, pdus_in}
+use Rattle.smq_pair.specs.within.Stream.{Held}
+use Rattle.smq_pair.specs.within.Kept.{Entries, are_of_session, at_offset, entries_from, header_of, held_at, joined, pair_found, partner_kept, placed, placed_at, pdus_in}
 use Rattle.smq_pair.specs.within.Maps.{Enters, Holds, HoldsOf, IsEntered, Matching, count_kept, next_kept, offset_at, unpaired_kept}
 use Rattle.smq_pair.proofs.Keys.{at_series}
 use Rattle.smq_pair.proofs.Lists.{some-is, never}
@@ -26,7 +24,8 @@ use Rattle.smq_pair.proofs.Turned
 use Rattle.smq_pair.proofs.Turned.{opposite-apart, opposite-back, partner-back, pushed-apart, pushed-by, turn-found, next_turn, next-dir, index-others}
 use Rattle.smq_pair.proofs.Standing.{pair_either, pair_with, pair-here}
 use Rattle.smq_pair.proofs.Order.{in-order-next, below-next}
-use Rattle.smq_pair.proofs.Entries.{appended, set_in, set_in-session, linked_to, of_session, of_session-from, of_session-pdus, of_session-holds, of_session-joined, pdus-kept, header-kept, pdu-kept, entry-at, entries-ascend, few, appended-in, length-kept, appended-get, linked-pdus, linked-get, found-kept, joined-alone, joined-linked}
+use Rattle.smq_pair.proofs.Held.{linked_to, few, found-kept}
+use Rattle.smq_pair.proofs.Entries.{appended, set_in, set_in-session, of_session, of_session-from, of_session-pdus, of_session-holds, of_session-joined, pdus-kept, header-kept, pdu-kept, entry-at, entries-ascend, appended-in, length-kept, appended-get, linked-pdus, linked-get, joined-alone, joined-linked}
 use Rattle.smq_pair.proofs.Entered.{count-next, count-others, partner-stays, partner-next, partner-none, partner-linked, unpaired_by, unpaired-partner}
 use Rattle.smq_pair.proofs.Placed.{StandsBy, partner-pdu, index-pdu, unpaired-pdu, offset-there, offset-stays, offset-last, offsets-next, own-at}
 
@@ -77,9 +76,6 @@ module _ (m n : Matching) (es : Entries) (d : Dir) (e : Held) (h : Holds m es) (
   -- where it stands
   abbrev last : ℕ
   last = length (pdus_from d before)
-
-  below : (i : ℕ) (x : Held) → slice_get (entries_from d es) i ≡ Some x → nat_cmp x.0 e.0 ≡ Less
-  below i x at = sym (nat_cmp_is x.0 e.0 Less (below-next before new h.in_order next i (placed es.session d x) (pdu-kept d es i x at)))
 
   counted : (s : Series) → series_of d (header_of e.1) ≡ Some s
       → ((q : Series) → count_kept n q ≡ cond (is_at (series_cmp s) q) (count_kept m s + 1) (count_kept m q))
@@ -211,7 +207,7 @@ module _ (m n : Matching) (es : Entries) (d : Dir) (e : Held) (h : Holds m es) (
     in-met : (o : Option ℕ) → met ≡ o → IsIn n (joined d new.place e.1 es)
     unfolding finds-met
     in-met None none =
-        subst (IsIn n) (sym (joined-alone d e es below (finds-met.is ∙ ap (offset_at before (opposite d)) none)))
+        subst (IsIn n) (sym (joined-alone d e es (finds-met.is ∙ ap (offset_at before (opposite d)) none)))
         (in-by es refl refl (λ f i x at. kept-partner f i x at (λ dir same. never met i none (sym same))))
     in-met (Some j) some =
         let p = finds-met.stands j some in
@@ -219,7 +215,7 @@ module _ (m n : Matching) (es : Entries) (d : Dir) (e : Held) (h : Holds m es) (
         let partner_is : e.1.partner ≡ Some y.0.0 =
         finds-met.is ∙ ap (offset_at before (opposite d)) some
         ∙ offset-there before (opposite d) j (placed es.session (opposite d) y.0) (pdu-kept (opposite d) es j y.0 y.1) in
-        subst (IsIn n) (sym (joined-linked d e es below j y.0 partner_is (entries-ascend es (opposite d) h.in_order) y.1))
+        subst (IsIn n) (sym (joined-linked d e es j y.0 partner_is (entries-ascend es (opposite d) h.in_order) y.1))
         (in-by (set_in (opposite d) j (linked_to e.0 y.0) es) (set_in-session (opposite d) j (linked_to e.0 y.0) es)
         (linked-pdus (opposite d) j e.0 y.0 es y.1)
         (λ f i x at. linked-get (opposite d) j (linked_to e.0 y.0) es f i x at
@@ -231,7 +227,7 @@ module _ (m n : Matching) (es : Entries) (d : Dir) (e : Held) (h : Holds m es) (
   is-in : (o : Option Series) → series_of d (header_of e.1) ≡ o → Enters m n o e.0 e.1.partner → IsIn n (joined d new.place e.1 es)
   is-in None none put =
       subst (λ (k : Matching). IsIn k (joined d new.place e.1 es)) (sym put.0)
-      (subst (IsIn m) (sym (joined-alone d e es below put.1)) (in-passed none put.1))
+      (subst (IsIn m) (sym (joined-alone d e es put.1)) (in-passed none put.1))
   is-in (Some s) is put = in-met s is put (index_at before (partner (next_kept m s))) refl
 
   finds : (o : Option Series) → series_of d (header_of e.1) ≡ o → Enters m n o e.0 e.1.partner → FindsPartner

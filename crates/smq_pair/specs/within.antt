@@ -2,5 +2,6 @@
 pub mod Turns
 pub mod Orders
 pub mod KeyLaws
+pub mod Stream
 pub mod Kept
 pub mod Maps

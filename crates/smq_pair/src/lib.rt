@@ -6,6 +6,7 @@ mod entry;
 mod laws;
 mod pairing;
 mod places;
+mod stream;
 mod streams;
 mod turns;
 

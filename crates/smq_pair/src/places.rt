@@ -5,16 +5,16 @@ ghost use Rattle.smq_pair.specs.within.Kept.{at_offset};
 
 use crate::entry::{Entry, Side};
 use smq_kit::{Dir, Place, SessionId};
-use smq_shelf::Entries;
 use std::marker::Model;
+use std::slice::Iter;
 
 /// The places that are still to come. A contract sees their list.
 #[derive(Drop)]
 pub struct Places<'a> {
     pub(crate) side: Side,
     pub(crate) session: SessionId,
-    pub(crate) client: Entries<'a, u64, Entry>,
-    pub(crate) centre: Entries<'a, u64, Entry>,
+    pub(crate) client: Iter<'a, (u64, Entry)>,
+    pub(crate) centre: Iter<'a, (u64, Entry)>,
 }
 
 impl<'a> Model for Places<'a> {
@@ -23,10 +23,11 @@ impl<'a> Model for Places<'a> {
 
     ghost Value = { List Place };
 
+    ghost use Rattle.std.specs.Slice.Iter.{iter_rest};
     ghost use Rattle.smq_pair.specs.within.Kept.{places_alone};
 
     ghost view = { λ p. places_alone p.side
-        (record { session = p.session; client = p.client; centre = p.centre }) };
+        (record { session = p.session; client = iter_rest p.client; centre = iter_rest p.centre }) };
 }
 
 impl<'a> Iterator for Places<'a> {
@@ -39,14 +40,14 @@ impl<'a> Iterator for Places<'a> {
     fn next(&mut self) -> Option<Place> {
         let side = self.side;
         let session = self.session;
-        while let Some((offset, entry)) = self.client.next() {
-            if entry.is_alone(side) {
-                return Some(at(session, Dir::FromClient, *offset));
+        while let Some(held) = self.client.next() {
+            if held.1.is_alone(side) {
+                return Some(at(session, Dir::FromClient, held.0));
             }
         }
-        while let Some((offset, entry)) = self.centre.next() {
-            if entry.is_alone(side) {
-                return Some(at(session, Dir::FromCentre, *offset));
+        while let Some(held) = self.centre.next() {
+            if held.1.is_alone(side) {
+                return Some(at(session, Dir::FromCentre, held.0));
             }
         }
         None

@@ -1,27 +1,25 @@
 //! The PDUs of both directions, as they are kept.
-ghost use Rattle.std.specs.Prelude.{◌≡◌, [], IfOk, OnOk, OnErr, option_and_then};
-ghost use Rattle.std.specs.Ordering.{nat_cmp};
-ghost use Rattle.std.specs.BTreeMap.{insert_entry};
+ghost use Rattle.std.specs.Prelude.{◌≡◌, ◌<◌, ◌++◌, ◌∷◌, [], true, IfOk, OnOk, OnErr, option_and_then};
+ghost use Rattle.std.specs.List.{All};
 ghost use Rattle.smq_pair.specs.Pairing.{pair_of};
 ghost use Rattle.smq_pair.specs.within.Kept.{are_below, are_of_session, entries_from, entries_in, held_at, joined, kept_at, linked, pair_found, partner_kept, pdus_in, placed_at, places_alone, settled_entries};
 
-use crate::changes::Partner;
 use crate::entry::{Entry, Side, opposite};
 use crate::pairing::Pair;
 use crate::places::{Places, at};
+use crate::stream::Stream;
 use smq_kit::{Dir, Place, SessionId};
 use smq_pdu::{agrees, is_request};
-use smq_shelf::KeptMap;
 use std::alloc::{AllocError, Global};
 
-/// The PDUs of each direction, by offset, and those that can be brought back, each with their session. Where there are
-/// no PDUs it says nothing.
+/// The PDUs of each direction, and those that can be brought back, each with their session. Where there are no PDUs it says
+/// nothing.
 #[derive(Drop)]
 pub(crate) struct Streams {
     pub session: SessionId,
     pub settled_session: SessionId,
-    pub client: KeptMap<u64, Entry>,
-    pub centre: KeptMap<u64, Entry>,
+    pub client: Stream,
+    pub centre: Stream,
 }
 
 impl Streams {
@@ -34,8 +32,8 @@ impl Streams {
         Streams {
             session: SessionId(0),
             settled_session: SessionId(0),
-            client: KeptMap::new(alloc),
-            centre: KeptMap::new(alloc),
+            client: Stream::new(alloc),
+            centre: Stream::new(alloc),
         }
     }
 
@@ -46,12 +44,13 @@ impl Streams {
         if place.session.0 != self.session.0 {
             return None;
         }
-        self.from(place.dir).get(&place.offset).copied()
+        self.from(place.dir).get(place.offset)
     }
 
-    /// Puts a PDU at a place, makes it the partner of its own, and gives the pair that they are. An error changes
-    /// nothing.
+    /// Puts a PDU at a place above those of its direction, makes it the partner of its own, and gives the pair that they
+    /// are. An error changes nothing.
     pub(crate) fn add(&mut self, place: Place, entry: Entry) -> Result<Option<Pair>, AllocError>
+        requires { are_below place (pdus_in (entries_in self.old)) ≡ true }
         ensures added { OnOk result
             (entries_in self.new ≡ joined place.dir place entry (entries_in self.old)) }
         ensures made { IfOk result (λ made. made
@@ -92,15 +91,15 @@ impl Streams {
         ensures { result ≡ are_of_session session (pdus_in (entries_in self.now)) }
     {
         self.session.0 == session.0
-            || (self.client.iter().next().is_none() && self.centre.iter().next().is_none())
+            || (self.client.entries().is_empty() && self.centre.entries().is_empty())
     }
 
     /// Whether the PDUs of a place's direction are all below it: the last is.
     pub(crate) fn are_below(&self, place: Place) -> bool
         ensures { result ≡ are_below place (pdus_in (entries_in self.now)) }
     {
-        match self.from(place.dir).iter().next_back() {
-            Some((last, _)) => *last < place.offset,
+        match self.from(place.dir).entries().last() {
+            Some(last) => last.0 < place.offset,
             None => true,
         }
     }
@@ -112,8 +111,8 @@ impl Streams {
         Places {
             side,
             session: self.session,
-            client: self.client.iter(),
-            centre: self.centre.iter(),
+            client: self.client.entries().iter(),
+            centre: self.centre.entries().iter(),
         }
     }
 
@@ -123,12 +122,12 @@ impl Streams {
             ≡ pair_found place entry (partner_kept place.dir entry (entries_in self.now)) }
     {
         let partner = entry.partner?;
-        let found = self.from(opposite(place.dir)).get(&partner).copied();
+        let found = self.from(opposite(place.dir)).get(partner);
         pair(place, entry, found)
     }
 
     /// The PDUs of a direction.
-    fn from(&self, dir: Dir) -> &KeptMap<u64, Entry>
+    fn from(&self, dir: Dir) -> &Stream
         ensures { result.now.content ≡ entries_from dir (entries_in self.now) }
     {
         match dir {
@@ -141,13 +140,13 @@ impl Streams {
 /// Puts a PDU at an offset of its direction, makes it the partner of its own in the other, and gives what was kept of
 /// that. An error changes nothing.
 fn join(
-    own: &mut KeptMap<u64, Entry>,
-    other: &mut KeptMap<u64, Entry>,
+    own: &mut Stream,
+    other: &mut Stream,
     offset: u64,
     entry: Entry,
 ) -> Result<Option<Entry>, AllocError>
-    ensures own { OnOk result
-        (own.new.content ≡ insert_entry nat_cmp own.old.content offset entry) }
+    requires { All (λ e. e.0 < offset) own.old.content }
+    ensures own { OnOk result (own.new.content ≡ own.old.content ++ (offset, entry) ∷ []) }
     ensures other { OnOk result (other.new.content ≡ linked entry.partner offset other.old.content) }
     ensures found { IfOk result (λ found. found
         ≡ option_and_then (λ q. held_at q other.old.content) entry.partner) }
@@ -156,33 +155,13 @@ fn join(
     ensures settled { own.new.settled ≡ own.old.settled }
     ensures settled_other { other.new.settled ≡ other.old.settled }
 {
-    own.set(offset, entry)?;
-    match link(other, entry.partner, offset) {
-        Ok(found) => Ok(found),
-        Err(error) => {
-            own.take_back();
-            Err(error)
-        }
-    }
-}
-
-/// Gives the PDU at one offset, if that is given, its partner's offset, and tells what was kept of it. An error changes
-/// nothing.
-fn link(
-    map: &mut KeptMap<u64, Entry>,
-    at: Option<u64>,
-    partner: u64,
-) -> Result<Option<Entry>, AllocError>
-    ensures ok { OnOk result (map.new.content ≡ linked at partner map.old.content) }
-    ensures found { IfOk result (λ found. found
-        ≡ option_and_then (λ q. held_at q map.old.content) at) }
-    ensures err { OnErr result (map.new.content ≡ map.old.content) }
-    ensures settled { map.new.settled ≡ map.old.settled }
-{
-    let Some(at) = at else {
-        return Ok(None);
+    own.make_room()?;
+    let found = match entry.partner {
+        Some(partner) => other.link(partner, offset)?,
+        None => None,
     };
-    map.exchange(at, &Partner(partner))
+    own.push(offset, entry);
+    Ok(found)
 }
 
 /// The pair of a PDU at a place with its partner, of which this is kept.

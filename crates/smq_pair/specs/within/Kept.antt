@@ -1,9 +1,9 @@
--- The PDUs of both directions, as maps keep them by offset.
-use Rattle.std.specs.Prelude.{◌==◌, ◌&&◌, ℕ, Bool, if◌then◌else◌, List, ◌++◌, map, filter, Option, Some, None, option_map, option_and_then, is_none, nat_lt}
+-- The PDUs of both directions, as they are kept.
+use Rattle.std.specs.Prelude.{◌==◌, ◌&&◌, ℕ, Bool, if◌then◌else◌, List, [], ◌∷◌, ◌++◌, map, filter, Option, Some, None, option_map, option_and_then, is_none, nat_lt}
 use Rattle.std.specs.List.{list_all}
 use Rattle.std.specs.Ordering.{nat_cmp}
 use Rattle.std.specs.Map.{lookup}
-use Rattle.std.specs.BTreeMap.{insert_entry, is_at}
+use Rattle.std.specs.BTreeMap.{is_at}
 use Rattle.smq_kit.specs.declared.names.SessionId.{SessionId}
 use Rattle.smq_kit.specs.declared.place.Dir.{Dir}
 use Rattle.smq_kit.specs.declared.place.Dir.TheVariants.{FromClient, FromCentre}
@@ -18,10 +18,7 @@ use Rattle.smq_pair.specs.declared.streams.Streams.{Streams}
 use Rattle.smq_pair.specs.declared.pairing.Pair.{Pair}
 use Rattle.smq_pair.specs.Pairing.{PlacedHeader, PairingValue, pdus_from, opposite, pair_of}
 use Rattle.smq_pair.specs.within.Turns.{is_on, series_of}
-
--- an entry at its offset
-abbrev pub Held : Type 0
-Held = ℕ × Entry
+use Rattle.smq_pair.specs.within.Stream.{Held}
 
 -- the entries of each direction of a session, by offset
 pub record Entries : Type 0 where
@@ -112,13 +109,13 @@ linked (Some at) q es = with_value nat_cmp at (with_partner q (held_at at es)) e
 abbrev pub joined : Dir → Place → Entry → Entries → Entries
 joined FromClient place e es = record {
   session = place.session;
-  client = insert_entry nat_cmp es.client place.offset e;
+  client = es.client ++ (place.offset, e) ∷ [];
   centre = linked e.partner place.offset es.centre;
 }
 joined FromCentre place e es = record {
   session = place.session;
   client = linked e.partner place.offset es.client;
-  centre = insert_entry nat_cmp es.centre place.offset e;
+  centre = es.centre ++ (place.offset, e) ∷ [];
 }
 
 -- the pair of two PDUs, whichever of them is the request

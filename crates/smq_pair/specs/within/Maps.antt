@@ -11,7 +11,8 @@ use Rattle.smq_pair.specs.Pairing.{PairingValue, opposite, pdus_from}
 use Rattle.smq_pair.specs.Growth.{AreInOrder}
 use Rattle.smq_pair.specs.within.Turns.{count_in, unpaired_at, partner, partner_of}
 use Rattle.smq_pair.specs.within.Orders.{series_cmp, turn_cmp}
-use Rattle.smq_pair.specs.within.Kept.{Entries, Held, entries_from, header_of, pdus_in}
+use Rattle.smq_pair.specs.within.Stream.{Held}
+use Rattle.smq_pair.specs.within.Kept.{Entries, entries_from, header_of, pdus_in}
 
 -- the rank of the last PDU of each series, and the offset of the PDU of each turn that has no partner
 pub record Matching : Type 0 where
