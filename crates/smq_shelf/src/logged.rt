@@ -34,7 +34,7 @@ pub(crate) fn put<K: ShelfKey, V: Drop>(
     log.reserve(1)?;
     match shelf.insert(key, place) {
         Ok(before) => {
-            log.push((logged, before))?;
+            log.push_reserved((logged, before));
             Ok(())
         }
         Err(_) => Err(AllocError),
@@ -64,7 +64,7 @@ pub(crate) fn vacate<K: ShelfKey, V: Drop>(
     log.reserve(1)?;
     match shelf.replace(key, None) {
         Some(Some(value)) => {
-            log.push((key.copy(), Some(Some(value))))?;
+            log.push_reserved((key.copy(), Some(Some(value))));
             Ok(true)
         }
         Some(None) => Ok(false),
@@ -103,7 +103,7 @@ pub(crate) fn alter<K: ShelfKey, V: Drop, C: Change<V>>(
     let (before, has) = shelf.change(key, change)?;
     let had = holds(&before);
     if had || has {
-        log.push((logged, before))?;
+        log.push_reserved((logged, before));
     }
     Ok((had, has))
 }

@@ -3,8 +3,8 @@ use Rattle.std.proofs.lemmas.Map.Steps.{set_value_same}
 use Rattle.smq_shelf.proofs.Replacing.{set_value-none, set_value-insert_entry}
 use Rattle.smq_shelf.proofs.logged.vacate.Goals as goal
 
-pub returns-in_ok-push-in-Some-Some-clause-entries : goal.returns-in_ok-push-in-Some-Some-clause-entries
-returns-in_ok-push-in-Some-Some-clause-entries g c =
+pub returns-in-Some-Some-clause-entries : goal.returns-in-Some-Some-clause-entries
+returns-in-Some-Some-clause-entries g c =
     c.replace.ensures.entries ∙ set_value-insert_entry g.met.K.Ord.total _ _ _ c.replace.ensures.was_ordered (rw (← c.in-Some-Some.ensures.old) refl)
 
 pub returns-in-Some-None-clause-entries : goal.returns-in-Some-None-clause-entries
