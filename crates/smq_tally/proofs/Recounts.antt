@@ -8,7 +8,7 @@ use Rattle.smq_tally.specs.declared.fact.Fact.{Fact}
 use Rattle.smq_tally.specs.declared.view.View.{View}
 use Rattle.smq_tally.specs.declared.view.View.TheVariants as v
 use Rattle.smq_tally.specs.Rows.{views, view_rank, key_in, same_count_key, stands_in}
-use Rattle.smq_tally.specs.within.Counting.{Counts, count_in, steps, keys_left, key_in_if, times, AreCounted, HaveRoom, IsMoved}
+use Rattle.smq_tally.specs.within.Counting.{Counts, count_in, steps, keys_left, keys_after, key_in_if, times, AreCounted, HaveRoom, IsMoved}
 use Rattle.smq_tally.proofs.Tallies.{Has, has-one, has-same, has-more, has-less, once, one_most, keys_in, count-append}
 use Rattle.smq_tally.proofs.Runs.{next_rank, past-length}
 use Rattle.smq_tally.proofs.ViewRanges.{view_parts}
@@ -36,11 +36,6 @@ room-for m f room q some = let one = once_at_most f q in let few = room q in ome
 
 dropped : (view : View) → drop (view_rank view) views ≡ view ∷ drop (suc (view_rank view)) views
 dropped view = search rules
-
--- where a fact is counted in the views after one
-abbrev pub keys_after : View → Option Fact → List CountKey
-keys_after view None = []
-keys_after view (Some f) = keys_in f (drop (suc (view_rank view)) views)
 
 pub times-split : (view : View) (f : Option Fact) (q : CountKey) → times q (keys_left view f) ≡ times q (option_to_list (key_in_if view f)) + times q (keys_after view f)
 times-split view None q = refl
@@ -88,11 +83,10 @@ module _ (view next : View) (m mid : Counts) (before after : Option Fact) (few :
   moved-on u rest q =
       let b = split before q in let a = split after q in let one = first q in let two = rest q in omega (arith, a, b, one, two)
 
-pub moved-last : (view : View) (m u : Counts) (before after : Option Fact) → None ≡ slice_get views (view_rank view + 1)
+pub moved-last : (view : View) (m u : Counts) (before after : Option Fact) → keys_after view before ≡ [] → keys_after view after ≡ []
     → IsMoved (option_to_list (key_in_if view before)) (option_to_list (key_in_if view after)) m u → IsMoved (keys_left view before) (keys_left view after) m u
-moved-last view m u before after e first q =
-    let b = split before in let a = split after in let one = first q in omega (arith, a, b, one)
+moved-last view m u before after none last first q =
+    let b = split before none in let a = split after last in let one = first q in omega (arith, a, b, one)
   where
-    split : (f : Option Fact) → times q (keys_left view f) ≡ times q (option_to_list (key_in_if view f))
-    split f = let all = times-split view f q in
-        let none : times q (keys_after view f) ≡ 0 = ap (times q) (after-last view f e) in omega (arith, all, none)
+    split : (f : Option Fact) → keys_after view f ≡ [] → times q (keys_left view f) ≡ times q (option_to_list (key_in_if view f))
+    split f e = let all = times-split view f q in let none : times q (keys_after view f) ≡ 0 = ap (times q) e in omega (arith, all, none)

@@ -1,10 +1,10 @@
 //! Counts of facts in rows by view and value, in one ordered map that can be undone, in which no row is of no messages. A
 //! fact that is put in the place of another moves its counts: one look-up in each view where both have one value.
-ghost use Rattle.std.specs.Prelude.{◌≡◌, ◌<◌, IfOk, OnOk, OnErr, [], option_copied, option_to_list};
-ghost use Rattle.smq_tally.specs.within.Counting.{keys_left, key_in_if, count_in, steps, IsMoved, AreCounted, HaveRoom};
+ghost use Rattle.std.specs.Prelude.{◌≡◌, ◌<◌, ◌+◌, IsTrue, IfSome, IfOk, OnOk, OnErr, None, Some, [], option_copied, option_to_list, slice_get};
+ghost use Rattle.smq_tally.specs.within.Counting.{keys_left, keys_after, key_in_if, count_in, steps, IsMoved, AreCounted, HaveRoom};
 ghost use Rattle.smq_tally.specs.within.Kept.{counts_in, IsLogged, AreLogged};
 ghost use Rattle.smq_tally.specs.within.RowCounts.{keys_with};
-ghost use Rattle.smq_tally.specs.Rows.{key_in, value_in};
+ghost use Rattle.smq_tally.specs.Rows.{key_in, value_in, views, view_rank};
 
 use crate::fact::{RowKey, have_same_value, row_in};
 use crate::outcome_counts::{OutcomeCounts, RowChange};
@@ -58,7 +58,7 @@ fn recount_from(
     ensures err { OnErr result (counts.new ≡ counts.old) }
 {
     let are_logged = recount_in_view(counts, view, before, after)?;
-    let Some(next) = view.next() else {
+    let Some(next) = next_view(view, before, after) else {
         return Ok(());
     };
     if let Err(error) = recount_from(counts, next, before, after) {
@@ -66,6 +66,30 @@ fn recount_from(
         return Err(error);
     }
     Ok(())
+}
+
+/// The view after one, unless neither has a value in any that is left: those of errors and delays come last.
+fn next_view(view: View, before: Option<&Fact>, after: Option<&Fact>) -> Option<View>
+    ensures next { IfSome result (λ next. Some next ≡ slice_get views (view_rank view + 1)) }
+    ensures last { result ≡ None → keys_after view (option_copied before.entry) ≡ [] }
+    ensures last_after { result ≡ None → keys_after view (option_copied after.entry) ≡ [] }
+{
+    match view {
+        View::Network if is_counted_last(before) && is_counted_last(after) => None,
+        _ => view.next(),
+    }
+}
+
+/// Whether a message has no value in the views after that of networks.
+fn is_counted_last(fact: Option<&Fact>) -> bool
+    ensures { IsTrue result → keys_after View.Network (option_copied fact.entry) ≡ [] }
+{
+    match fact {
+        Some(fact) => {
+            fact.error.is_none() && fact.link_delay.is_none() && fact.centre_delay.is_none()
+        }
+        None => true,
+    }
 }
 
 /// The same in one view. It says which of two changes it left to take back.
@@ -103,8 +127,8 @@ fn recount_in_view(
     }
 }
 
-/// One message fewer in a view and another in its place: nothing where they are counted alike, and one look-up where they
-/// have one value.
+/// One message fewer in a view and another in its place: nothing where they are counted alike, one look-up where they have
+/// one value, and else two.
 fn count_instead(
     counts: &mut KeptMap<RowKey, OutcomeCounts>,
     view: View,
@@ -122,40 +146,14 @@ fn count_instead(
     ensures settled { counts.new.settled ≡ counts.old.settled }
     ensures err { OnErr result (counts.new ≡ counts.old) }
 {
-    if !have_same_value(view, before, after) {
-        return move_apart(counts, view, before, after);
+    if have_same_value(view, before, after) {
+        if before.outcome == after.outcome {
+            return Ok((false, false));
+        }
+        let less = Some(before.outcome);
+        let is_logged = change_in_view(counts, view, after, less, Some(after.outcome))?;
+        return Ok((false, is_logged));
     }
-    if before.outcome == after.outcome {
-        return Ok((false, false));
-    }
-    let is_logged = change_in_view(
-        counts,
-        view,
-        after,
-        Some(before.outcome),
-        Some(after.outcome),
-    )?;
-    Ok((false, is_logged))
-}
-
-/// One message fewer in a view and another in its place, by two look-ups.
-fn move_apart(
-    counts: &mut KeptMap<RowKey, OutcomeCounts>,
-    view: View,
-    before: &Fact,
-    after: &Fact,
-) -> Result<(bool, bool), AllocError>
-    requires counted { AreCounted (option_to_list (key_in view before.now))
-        (counts_in counts.old.content) }
-    requires room { HaveRoom (option_to_list (key_in view after.now))
-        (counts_in counts.old.content) }
-    ensures ok { OnOk result (IsMoved (option_to_list (key_in view before.now))
-        (option_to_list (key_in view after.now))
-        (counts_in counts.old.content) (counts_in counts.new.content)) }
-    ensures logged { IfOk result (λ are_logged. AreLogged are_logged counts.old counts.new) }
-    ensures settled { counts.new.settled ≡ counts.old.settled }
-    ensures err { OnErr result (counts.new ≡ counts.old) }
-{
     let was_logged = change_in_view(counts, view, before, Some(before.outcome), None)?;
     match change_in_view(counts, view, after, None, Some(after.outcome)) {
         Ok(is_logged) => Ok((was_logged, is_logged)),

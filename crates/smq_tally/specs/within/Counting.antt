@@ -1,5 +1,5 @@
 -- Counts and listed places after one fact or one listed place more, or less.
-use Rattle.std.specs.Prelude.{◌≡◌, ℕ, ◌+◌, ◌-◌, ◌<◌, ◌≤◌, ◌^◌, Bool, cond, List, [], ◌∷◌, count_by, drop, Option, Some, None, option_and_then, option_to_list, unwrap_or}
+use Rattle.std.specs.Prelude.{◌≡◌, ℕ, suc, ◌+◌, ◌-◌, ◌<◌, ◌≤◌, ◌^◌, Bool, cond, List, [], ◌∷◌, count_by, drop, Option, Some, None, option_and_then, option_to_list, unwrap_or}
 use Rattle.std.specs.List.{flat_map}
 use Rattle.std.specs.FinMap as fin
 use Rattle.std.specs.FinSet.{FinSet}
@@ -50,6 +50,11 @@ key_in_if view fact = option_and_then (key_in view) fact
 abbrev pub keys_left : View → Option Fact → List CountKey
 keys_left view None = []
 keys_left view (Some f) = flat_map (λ v. option_to_list (key_in v f)) (drop (view_rank view) views)
+
+-- the same in the views after one
+abbrev pub keys_after : View → Option Fact → List CountKey
+keys_after view None = []
+keys_after view (Some f) = flat_map (λ v. option_to_list (key_in v f)) (drop (suc (view_rank view)) views)
 
 -- how many of these keys are one
 abbrev pub times : CountKey → List CountKey → ℕ

@@ -1,4 +1,4 @@
-use Rattle.std.proofs.Common.{arith, ap, subst, sym, ◌∙◌}
+use Rattle.std.proofs.Common.{arith, refl, ap, subst, sym, ◌∙◌}
 use Rattle.std.specs.Option.{option_copied}
 use Rattle.smq_tally.specs.within.Kept.{counts_in, AreLogged}
 use Rattle.smq_tally.proofs.Recounts.{room-here, counted-later, room-later, moved-on, moved-last}
@@ -16,12 +16,12 @@ recount_from-requires t c =
     let mid = counts_in c.recount_in_view.new.counts.content in
     let before = option_copied c.args.before in
     let after = option_copied c.args.after in (
-      omega (arith, c.decreases, fewer_left view_parts c.args.view c.in-Some.next c.in-Some.ensures),
+      omega (arith, c.decreases, fewer_left view_parts c.args.view c.in-Some.next c.in-Some.ensures.next),
       (
         counted-later c.args.view c.in-Some.next m mid before after c.requires.counted c.requires.room c.in_ok-are_logged.ensures.ok
-            c.in-Some.ensures,
+            c.in-Some.ensures.next,
         room-later c.args.view c.in-Some.next m mid before after c.requires.counted c.requires.room c.in_ok-are_logged.ensures.ok
-            c.in-Some.ensures,
+            c.in-Some.ensures.next,
       ),
     )
 
@@ -29,12 +29,12 @@ pub returns-clause-ok : goal.returns-clause-ok
 returns-clause-ok t c =
     moved-on c.args.view c.in-Some.next (counts_in c.args.counts.now.content) (counts_in c.recount_in_view.new.counts.content)
     (option_copied c.args.before) (option_copied c.args.after) c.requires.counted c.requires.room c.in_ok-are_logged.ensures.ok
-    c.in-Some.ensures (counts_in c.recount_from.new.counts.content) c.in_default-recount_from.ensures.ok
+    c.in-Some.ensures.next (counts_in c.recount_from.new.counts.content) c.in_default-recount_from.ensures.ok
 
 pub returns-in_default-clause-ok : goal.returns-in_default-clause-ok
 returns-in_default-clause-ok t c =
     moved-last c.args.view (counts_in c.args.counts.now.content) (counts_in c.recount_in_view.new.counts.content) (option_copied c.args.before)
-    (option_copied c.args.after) c.in_default.ensures c.in_ok-are_logged.ensures.ok
+    (option_copied c.args.after) (c.in_default.ensures.last refl) (c.in_default.ensures.last_after refl) c.in_ok-are_logged.ensures.ok
 
 pub returns-in-Err-clause-err : goal.returns-in-Err-clause-err
 returns-in-Err-clause-err t c =
