@@ -7,6 +7,7 @@ use Rattle.std.specs.List.{AllByRecursion}
 use Rattle.std.specs.Cmp.Lexicographic.{bytes_decides, pointwise}
 use Rattle.std.specs.FinMap.{entries, get, insert, get-entries}
 use Rattle.smq_kit.proofs.MapLemmas as maps
+use Rattle.smq_shelf.proofs.Walks.{both}
 use Rattle.smq_kit.specs.Numbers.{IsDigits}
 use Rattle.smq_kit.specs.declared.names.RouteId.{RouteId}
 use Rattle.smq_kit.specs.declared.refusal.Refusal.{Refusal}
@@ -19,6 +20,8 @@ use Rattle.smq_route.specs.Routes.{RoutesValue}
 use Rattle.smq_route.specs.within.Kept.{NoneHolds}
 use Rattle.smq_route.specs.Edits.{add_refusals, end_refusals, correct_refusals, added, changed, changed_where, ending, corrected}
 use Rattle.smq_route.proofs.VersionOrders.{versions_total, versions_exact}
+use Rattle.smq_route.specs.Laws.{IsAccepted}
+use Rattle.smq_route.proofs.Edited.{reply-keeps}
 use Rattle.smq_route.proofs.Lookups.{at-insert}
 use Rattle.smq_route.proofs.Least.{Entry, AllPassing, least-found, least-none, none-pass}
 
@@ -48,14 +51,11 @@ some-of o v e = subst IsSome (sym e) refl
 pub none-holds : (m : Versions) (p : List ℕ) (t f : ℕ) (v : Version) → AreApart m → f ≤ t → version_of m p f ≡ Some v
     → ((g : ℕ) → g ≤ t → IsSome (version_of m p g) → g ≤ f) → lasts_past t v.until ≡ false → NoneHolds m p t
 none-holds m p t f v a below there most over g w w_there g_below =
-    elim (nat_lt g f) as (λ b. nat_lt g f ≡ b → lasts_past t w.until ≡ false) [
-      | true ↦ λ e. ended-then f t w.until (a.apart p g f w v w_there there (grind (arith, nat_tests, e))) below
-      | false ↦ λ e.
-          let most_g = most g g_below (some-of (version_of m p g) w w_there) in
-          let same : g ≡ f = grind (arith, nat_tests, e, most_g) in
-          let one : v ≡ w = same-value v w (version_of m p g) (ap (version_of m p) same ∙ there) w_there in
-          ap (λ (x : Version). lasts_past t x.until) (sym one) ∙ over
-    ] refl
+    let before = λ (less : g < f). ended-then f t w.until (a.apart p g f w v w_there there less) below in
+    let at = λ (same : g ≡ f).
+    let one : v ≡ w = same-value v w (version_of m p g) (ap (version_of m p) same ∙ there) w_there in
+    ap (λ (x : Version). lasts_past t x.until) (sym one) ∙ over in
+    grind (arith, before, at, most g g_below (some-of (version_of m p g) w w_there))
 
 -- there is none up to a moment
 pub none-there : (m : Versions) (p : List ℕ) (t : ℕ) → ((g : ℕ) → g ≤ t → version_of m p g ≡ None) → NoneHolds m p t
@@ -77,11 +77,8 @@ fails-at p t f v h = ap (λ (b : Bool). b && lasts_past t v.until) (sym (same-oc
 
 passing : (p : List ℕ) (t : ℕ) (e : Entry) → passes p t e ≡ true → (e.0.prefix ≡ p) × (lasts_past t e.1.until ≡ true)
 passing p t e h =
-    elim (pointwise Rattle.std.specs.Prelude.nat_eq e.0.prefix p) as (λ b. pointwise Rattle.std.specs.Prelude.nat_eq e.0.prefix p
-    ≡ b → (b && lasts_past t e.1.until) ≡ true → (e.0.prefix ≡ p) × (lasts_past t e.1.until ≡ true)) [
-      | true ↦ λ same g. ((bytes_decides e.0.prefix p).0 same, g)
-      | false ↦ λ same g. absurd (false≢true g)
-    ] refl h
+    let parts = both (pointwise Rattle.std.specs.Prelude.nat_eq e.0.prefix p) (lasts_past t e.1.until) h in
+    ((bytes_decides e.0.prefix p).0 parts.0, parts.1)
 
 -- what is so of each version of the prefix that is open or ends later is so of each entry that passes
 all-passing : (m : Versions) (p : List ℕ) (t : ℕ) (P : ℕ → Type 0)
@@ -126,17 +123,10 @@ pub overlap-holding : (m : Versions) (p : List ℕ) (t f : ℕ) (v : Version) �
     → lasts_past t v.until ≡ true → overlap m p t ≡ Some f
 overlap-holding m p t f v a below there lasts =
     overlap-found m p t f v there lasts (λ g w w_there w_lasts.
-    elim (nat_lt g f) as (λ b. nat_lt g f ≡ b → f ≤ g) [
-      | true ↦ λ e. absurd (false≢true (sym (ended-then f t w.until (a.apart p g f w v w_there there (grind (arith, nat_tests, e))) below) ∙ w_lasts))
-      | false ↦ λ e. grind (arith, nat_tests, e)
-    ] refl)
+    let over = λ (less : g < f). ended-then f t w.until (a.apart p g f w v w_there there less) below in grind (arith, over, w_lasts))
 
 later : (m : Versions) (p : List ℕ) (t g : ℕ) (w : Version) → NoneHolds m p t → version_of m p g ≡ Some w → lasts_past t w.until ≡ true → t ≤ g
-later m p t g w none there lasts =
-    elim (nat_le g t) as (λ b. nat_le g t ≡ b → t ≤ g) [
-      | true ↦ λ e. absurd (false≢true (sym (none g w there (grind (arith, nat_tests, e))) ∙ lasts))
-      | false ↦ λ e. grind (arith, nat_tests, e)
-    ] refl
+later m p t g w none there lasts = grind (arith, none g w there, lasts)
 
 -- where none holds, the first version from then on is the least overlap
 pub overlap-first : (m : Versions) (p : List ℕ) (t : ℕ) (r : Option ℕ) → AreApart m → NoneHolds m p t
@@ -229,18 +219,15 @@ added-apart m p f route network a digits none =
     (λ g w there more. absurd (false≢true (sym (all-ended m p f none g w there)
     ∙ lasts-before g f w.until (a.forward p g w there) (omega (arith, more)))))
 
+pub no-overlap : (o : Option ℕ) → IsAccepted (option_map Overlap o ∷ []) → o ≡ None
+no-overlap None a = refl
+no-overlap (Some f) a = absurd cc
+
 pub add-apart : {T : Type 0} (m n : Versions) (p : List ℕ) (f : ℕ) (route : RouteId) (network : List ℕ) (r : Result T Refusal)
     → AreApart m → IsDigits p
     → IsReply (first_of (add_refusals m p f)) r (n ≡ added m p f route network) (n ≡ m) → AreApart n
-add-apart {T} m n p f route network r a digits h =
-    by (overlap m p f) r refl h
-  where
-    by : (o : Option ℕ) (s : Result T Refusal) → overlap m p f ≡ o
-        → IsReply (first_of (option_map Overlap o ∷ [])) s (n ≡ added m p f route network) (n ≡ m) → AreApart n
-    by None (Ok x) e g = subst AreApart (sym g) (added-apart m p f route network a digits e)
-    by None (Err x) e g = subst AreApart (sym g.1) a
-    by (Some y) (Ok x) e g = absurd g
-    by (Some y) (Err x) e g = subst AreApart (sym g.1) a
+add-apart m n p f route network r a digits h =
+    reply-keeps AreApart _ r m n _ a (λ none. added-apart m p f route network a digits (no-overlap (overlap m p f) none)) h
 
 -- a version's end is set
 ending-apart : (m : Versions) (p : List ℕ) (f until : ℕ) (v : Version) → AreApart m → version_of m p f ≡ Some v → v.until ≡ None
@@ -250,40 +237,36 @@ ending-apart m p f until v a there is_open forward =
     (λ g w w_there less. a.apart p g f w v w_there there less)
     (λ g w w_there more. absurd (subst (λ (o : Option ℕ). EndsBy g o) is_open (a.apart p f g v w there w_there more)))
 
+pub open-then-after : (o : Option ℕ) (b : Bool) → IsAccepted (None ∷ option_map Ended o ∷ cond b (Some BadEnd) None ∷ []) → (o ≡ None) × (b ≡ false)
+open-then-after None true a = absurd cc
+open-then-after None false a = (refl, refl)
+open-then-after (Some u) b a = absurd cc
+
+pub ends-apart : (m : Versions) (p : List ℕ) (f until : ℕ) → AreApart m → IsAccepted (end_refusals (version_of m p f) f until)
+    → AreApart (changed m p f (ending until))
+ends-apart m p f until a accept = by (version_of m p f) refl accept
+  where
+    by : (o : Option Version) → version_of m p f ≡ o → IsAccepted (end_refusals o f until) → AreApart (changed_where o m p f (ending until))
+    by None e x = absurd cc
+    by (Some v) e x =
+        let is = open-then-after v.until (nat_le until f) x in
+        let late = is.1 in ending-apart m p f until v a e is.0 (grind (arith, nat_tests, late))
+
 pub end-apart : {T : Type 0} (m n : Versions) (p : List ℕ) (f until : ℕ) (r : Result T Refusal) → AreApart m
     → IsReply (first_of (end_refusals (version_of m p f) f until)) r (n ≡ changed m p f (ending until)) (n ≡ m) → AreApart n
-end-apart {T} m n p f until r a h =
-    by (version_of m p f) r refl h
-  where
-    ends : (v : Version) (o : Option ℕ) (b : Bool) (s : Result T Refusal) → version_of m p f ≡ Some v → v.until ≡ o → nat_le until f ≡ b
-        → IsReply (first_of (None ∷ option_map Ended o ∷ cond b (Some BadEnd) None ∷ [])) s (n
-        ≡ insert m (key_at p f) (ending until v)) (n ≡ m) → AreApart n
-    ends v None true (Ok x) e u c g = absurd g
-    ends v None true (Err x) e u c g = subst AreApart (sym g.1) a
-    ends v None false (Ok x) e u c g = subst AreApart (sym g) (ending-apart m p f until v a e u (grind (arith, nat_tests, c)))
-    ends v None false (Err x) e u c g = subst AreApart (sym g.1) a
-    ends v (Some t) b (Ok x) e u c g = absurd g
-    ends v (Some t) b (Err x) e u c g = subst AreApart (sym g.1) a
-
-    by : (o : Option Version) (s : Result T Refusal) → version_of m p f ≡ o
-        → IsReply (first_of (end_refusals o f until)) s (n ≡ changed_where o m p f (ending until)) (n ≡ m) → AreApart n
-    by None (Ok x) e g = absurd g
-    by None (Err x) e g = subst AreApart (sym g.1) a
-    by (Some v) s e g = ends v v.until (nat_le until f) s e refl refl g
+end-apart m n p f until r a h = reply-keeps AreApart _ r m n _ a (ends-apart m p f until a) h
 
 -- a version is corrected
+pub corrects-apart : (m : Versions) (p : List ℕ) (f : ℕ) (r : RouteId) (n : List ℕ) → AreApart m → AreApart (changed m p f (corrected r n))
+corrects-apart m p f r n a = by (version_of m p f) refl
+  where
+    by : (o : Option Version) → version_of m p f ≡ o → AreApart (changed_where o m p f (corrected r n))
+    by None e = a
+    by (Some v) e =
+        put-apart m p f (corrected r n v) a (a.digits p f v e) (a.forward p f v e)
+        (λ q w there less. a.apart p q f w v there e less)
+        (λ q w there more. a.apart p f q v w e there more)
+
 pub correct-apart : {T : Type 0} (m n : Versions) (p : List ℕ) (f : ℕ) (route : RouteId) (network : List ℕ) (r : Result T Refusal) → AreApart m
     → IsReply (first_of (correct_refusals (version_of m p f))) r (n ≡ changed m p f (corrected route network)) (n ≡ m) → AreApart n
-correct-apart {T} m n p f route network r a h =
-    by (version_of m p f) r refl h
-  where
-    by : (o : Option Version) (s : Result T Refusal) → version_of m p f ≡ o
-        → IsReply (first_of (correct_refusals o)) s (n ≡ changed_where o m p f (corrected route network)) (n ≡ m)
-        → AreApart n
-    by None (Ok x) e g = absurd g
-    by None (Err x) e g = subst AreApart (sym g.1) a
-    by (Some v) (Ok x) e g =
-        subst AreApart (sym g) (put-apart m p f (corrected route network v) a (a.digits p f v e) (a.forward p f v e)
-        (λ q w there less. a.apart p q f w v there e less)
-        (λ q w there more. a.apart p f q v w e there more))
-    by (Some v) (Err x) e g = subst AreApart (sym g.1) a
+correct-apart m n p f route network r a h = reply-keeps AreApart _ r m n _ a (λ _. corrects-apart m p f route network a) h

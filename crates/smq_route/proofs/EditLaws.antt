@@ -1,17 +1,16 @@
 -- What edits that are accepted leave: versions that are apart, hold up to their ends, keep their dates, and are one set
 -- in whatever order they were added.
-use Rattle.std.proofs.Common.{◌≡◌, ◌≢◌, ◌<◌, ◌≤◌, ℕ, Bool, true, false, cond, inl, inr, List, [], ◌∷◌, Option, Some, None, Ok, subst, refl, sym, ap, ◌∙◌, arith}
+use Rattle.std.proofs.Common.{◌≡◌, ◌≢◌, ◌<◌, ◌≤◌, ℕ, Bool, true, false, cond, inl, inr, List, [], ◌∷◌, Option, Some, None, subst, refl, sym, ap, ◌∙◌, arith}
 use Rattle.std.proofs.lemmas.Bool.Decides.{nat_tests}
 use Rattle.std.proofs.lemmas.Bool.{false≢true}
-use Rattle.std.specs.Prelude.{⊤, ◌&&◌, nat_lt, nat_le, option_map}
+use Rattle.std.specs.Prelude.{◌&&◌, nat_lt, nat_le, option_map}
 use Rattle.std.specs.Ordering.{eq_by_cmp}
 use Rattle.std.specs.FinMap.{get, insert, get-insert, same_map}
 use Rattle.smq_kit.proofs.Comparisons.{is_equal}
 use Rattle.smq_kit.specs.Numbers.{IsDigits}
-use Rattle.smq_kit.specs.Replies.{IsReply, first_of}
+use Rattle.smq_kit.specs.Replies.{first_of}
 use Rattle.smq_kit.specs.declared.names.RouteId.{RouteId}
-use Rattle.smq_kit.specs.declared.refusal.Refusal.{Refusal}
-use Rattle.smq_kit.specs.declared.refusal.Refusal.TheVariants.{Overlap, Ended, BadEnd}
+use Rattle.smq_kit.specs.declared.refusal.Refusal.TheVariants.{Overlap}
 use Rattle.smq_route.specs.declared.version.VersionKey.{VersionKey}
 use Rattle.smq_route.specs.declared.version.Version.{Version}
 use Rattle.smq_route.specs.Versions.{Versions, version_cmp, key_at, version_of, lasts_past, holds, overlap, AreApart}
@@ -20,11 +19,7 @@ use Rattle.smq_route.specs.Laws.{IsAccepted}
 use Rattle.smq_route.proofs.VersionOrders.{versions_total, versions_exact}
 use Rattle.smq_route.proofs.Lookups.{at-insert}
 use Rattle.smq_route.proofs.Edited.{put-there}
-use Rattle.smq_route.proofs.Apart.{put-apart, added-apart, end-apart, overlap-none, all-ended}
-
-no-overlap : (o : Option ℕ) → IsAccepted (option_map Overlap o ∷ []) → o ≡ None
-no-overlap None a = refl
-no-overlap (Some f) a = absurd cc
+use Rattle.smq_route.proofs.Apart.{added-apart, all-ended, no-overlap, open-then-after, overlap-none}
 
 accepted : (o : Option ℕ) → o ≡ None → IsAccepted (option_map Overlap o ∷ [])
 accepted o e = ap (λ (x : Option ℕ). first_of (option_map Overlap x ∷ [])) e
@@ -35,29 +30,7 @@ pub adds-apart : (m : Versions) (p : List ℕ) (f : ℕ) (r : RouteId) (n : List
     → IsAccepted (add_refusals m p f) → AreApart (added m p f r n)
 adds-apart m p f r n a digits accept = added-apart m p f r n a digits (no-overlap (overlap m p f) accept)
 
-pub ends-apart : (m : Versions) (p : List ℕ) (f until : ℕ) → AreApart m → IsAccepted (end_refusals (version_of m p f) f until)
-    → AreApart (changed m p f (ending until))
-ends-apart m p f until a accept =
-    let new : Versions = changed m p f (ending until) in
-    end-apart {T = ⊤} m new p f until (Ok tt) a
-    (subst (λ (o : Option Refusal). IsReply {T = ⊤} o (Ok tt) (new ≡ new) (new ≡ m)) (sym accept) refl)
-
-pub corrects-apart : (m : Versions) (p : List ℕ) (f : ℕ) (r : RouteId) (n : List ℕ) → AreApart m → AreApart (changed m p f (corrected r n))
-corrects-apart m p f r n a = by (version_of m p f) refl
-  where
-    by : (o : Option Version) → version_of m p f ≡ o → AreApart (changed_where o m p f (corrected r n))
-    by None e = a
-    by (Some v) e =
-        put-apart m p f (corrected r n v) a (a.digits p f v e) (a.forward p f v e)
-        (λ q w there less. a.apart p q f w v there e less)
-        (λ q w there more. a.apart p f q v w e there more)
-
 -- ---- ends
-
-open-then-after : (o : Option ℕ) (b : Bool) → IsAccepted (None ∷ option_map Ended o ∷ cond b (Some BadEnd) None ∷ []) → (o ≡ None) × (b ≡ false)
-open-then-after None true a = absurd cc
-open-then-after None false a = (refl, refl)
-open-then-after (Some u) b a = absurd cc
 
 pub ends-first : (k : VersionKey) (v : Version) (until : ℕ) → IsAccepted (end_refusals (Some v) k.from until)
     → holds k.from (k, ending until v) ≡ true

@@ -21,6 +21,14 @@ use Rattle.smq_route.specs.within.Kept.{kept_version_cmp}
 use Rattle.smq_route.specs.Edits.{changed, changed_where}
 use Rattle.smq_route.proofs.Lookups.{seen, get-seen}
 
+-- what holds of versions, and of those that are made where none refuses, holds of those that a call leaves
+pub reply-keeps : {T : Type 0} (P : Versions → Type 0) (o : Option Refusal) (r : Result T Refusal) (m n x : Versions) → P m → (o ≡ None → P x)
+    → IsReply o r (n ≡ x) (n ≡ m) → P n
+reply-keeps P None (Ok t) m n x old made h = subst P (sym h) (made refl)
+reply-keeps P None (Err e) m n x old made h = subst P (sym h.1) old
+reply-keeps P (Some q) (Ok t) m n x old made h = absurd h
+reply-keeps P (Some q) (Err e) m n x old made h = subst P (sym h.1) old
+
 -- a version is put in, or finds no memory
 abbrev pub Puts : {T : Type 0} → Versions → Versions → List ℕ → ℕ → Version → Result T Refusal → Type 0
 Puts old new p f v r = MatchResult r (λ _. new ≡ insert old (key_at p f) v) (λ e. (e ≡ Memory) × (new ≡ old))

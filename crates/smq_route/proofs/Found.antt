@@ -43,30 +43,19 @@ pub no_longer-next : (m : Versions) (number : List ℕ) (t n : ℕ) → NoneLong
     → NoneLonger m number t n
 no_longer-next m number t n all none k v there h =
     let is = serving number t k v h in
-    let most = all k v there h in
-    elim (nat_le (length k.prefix) n) as (λ b. nat_le (length k.prefix) n ≡ b → length k.prefix ≤ n) [
-      | true ↦ λ e. grind (arith, nat_tests, e)
-      | false ↦ λ e.
-          let len : length k.prefix ≡ n + 1 = grind (arith, nat_tests, e, most) in
-          let prefix : k.prefix ≡ take (n + 1) number = is.0 ∙ ap (λ (i : ℕ). take i number) len in
-          let key : k ≡ key_at (take (n + 1) number) k.from = λ i. record { prefix = prefix i; from = k.from } in
-          absurd (false≢true (sym (none k.from v (ap (get m) (sym key) ∙ there) is.1) ∙ is.2))
-    ] refl
+    let over = λ (len : length k.prefix ≡ n + 1).
+    let prefix : k.prefix ≡ take (n + 1) number = is.0 ∙ ap (λ (i : ℕ). take i number) len in
+    let key : k ≡ key_at (take (n + 1) number) k.from = λ i. record { prefix = prefix i; from = k.from } in
+    none k.from v (ap (get m) (sym key) ∙ there) is.1 in
+    grind (arith, over, is.2, all k v there h)
 
 -- versions of one prefix that hold at one moment are one
 pub one-holds : (m : Versions) (p : List ℕ) (t f g : ℕ) (v w : Version) → AreApart m → version_of m p f ≡ Some v → version_of m p g ≡ Some w
     → f ≤ t → lasts_past t v.until ≡ true → g ≤ t → lasts_past t w.until ≡ true → f ≡ g
 one-holds m p t f g v w a there there_too f_below f_lasts g_below g_lasts =
-    elim (nat_lt f g) as (λ b. nat_lt f g ≡ b → f ≡ g) [
-      | true ↦ λ e. absurd (false≢true (sym (ended-then g t v.until
-          (a.apart p f g v w there there_too (grind (arith, nat_tests, e))) g_below) ∙ f_lasts))
-      | false ↦ λ e.
-          elim (nat_lt g f) as (λ b. nat_lt g f ≡ b → f ≡ g) [
-            | true ↦ λ d. absurd (false≢true (sym (ended-then f t w.until
-                (a.apart p g f w v there_too there (grind (arith, nat_tests, d))) f_below) ∙ g_lasts))
-            | false ↦ λ d. grind (arith, nat_tests, e, d)
-          ] refl
-    ] refl
+    let f_ends = λ (less : f < g). ended-then g t v.until (a.apart p f g v w there there_too less) g_below in
+    let g_ends = λ (less : g < f). ended-then f t w.until (a.apart p g f w v there_too there less) f_below in
+    grind (arith, f_ends, f_lasts, g_ends, g_lasts)
 
 value-is : (v w : Version) (o : Option Version) → o ≡ Some v → o ≡ Some w → v ≡ w
 value-is v w o p q = cc

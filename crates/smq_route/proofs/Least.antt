@@ -28,13 +28,7 @@ none-of-both false b e = refl
 raised : (n m : ℕ) (es : List Entry) → n ≤ m → list_all (λ o. nat_le (length o.0.prefix) n) es ≡ true
     → list_all (λ o. nat_le (length o.0.prefix) m) es ≡ true
 raised n m [] le h = refl
-raised n m (e ∷ es) le h =
-    elim (nat_le (length e.0.prefix) n) as (λ b. nat_le (length e.0.prefix) n ≡ b
-    → (b && list_all (λ o. nat_le (length o.0.prefix) n) es) ≡ true → list_all (λ o. nat_le (length o.0.prefix) m) (e ∷ es)
-    ≡ true) [
-      | true ↦ λ first rest. let yes : nat_le (length e.0.prefix) m ≡ true = grind (arith, nat_tests, first, le) in rw yes (raised n m es le rest)
-      | false ↦ λ first rest. absurd (false≢true rest)
-    ] refl h
+raised n m (e ∷ es) le h = grind (arith, nat_tests, h, le, raised n m es le)
 
 -- what is so of each entry is so of one of the longest
 one-of-longest : (P : Entry → Type 0) (e : Entry) (es : List Entry) → AllByRecursion P (e ∷ es) → (x : Entry) × P x × (is_longest (e ∷ es) x ≡ true)
@@ -53,10 +47,8 @@ one-of-longest P e (f ∷ fs) a =
 none-good : (good : Entry → Bool) (es : List Entry) → find good es ≡ None → AllByRecursion (λ e. good e ≡ false) es
 none-good good [] n = tt
 none-good good (e ∷ es) n =
-    elim (good e) as (λ b. good e ≡ b → cond b (Some e) (find good es) ≡ None → AllByRecursion (λ x. good x ≡ false) (e ∷ es)) [
-      | true ↦ λ g m. absurd cc
-      | false ↦ λ g m. (g, none-good good es m)
-    ] refl n
+    let bad : good e ≡ false = grind (arith, n) in
+    (bad, none-good good es (ap (λ b. cond b (Some e) (find good es)) (sym bad) ∙ n))
 
 -- where there is no longest, there is none
 pub no-longest : (es : List Entry) → longest es ≡ None → es ≡ []
@@ -91,11 +83,7 @@ module _ (test : Entry → Bool) where
   all-within : (n : ℕ) (es : List Entry) → AllPassing test (λ e. length e.0.prefix ≤ n) es
       → list_all (λ o. nat_le (length o.0.prefix) n) (filter test es) ≡ true
   all-within n [] a = refl
-  all-within n (e ∷ es) a =
-      elim (test e) as (λ b. test e ≡ b → list_all (λ o. nat_le (length o.0.prefix) n) (cond b (e ∷ filter test es) (filter test es)) ≡ true) [
-        | true ↦ λ t. let le = a.0 t in let yes : nat_le (length e.0.prefix) n ≡ true = grind (arith, nat_tests, le) in rw yes (all-within n es a.1)
-        | false ↦ λ t. all-within n es a.1
-      ] refl
+  all-within n (e ∷ es) a = grind (arith, nat_tests, a.0, all-within n es a.1)
 
   -- where one that passes is longer, the test says so
   one-longer : (n : ℕ) (es : List Entry) (k : VersionKey) (v : Version) → map_find version_cmp k es ≡ Some v → test (k, v) ≡ true
@@ -114,10 +102,7 @@ module _ (test : Entry → Bool) where
             rw (passes, no) refl
         | false ↦ λ other g.
             let rest = one-longer n es k v g t less in
-            elim (test e) as (λ b. list_all (λ o. nat_le (length o.0.prefix) n) (cond b (e ∷ filter test es) (filter test es)) ≡ false) [
-              | true ↦ none-of-both (nat_le (length e.0.prefix) n) _ rest
-              | false ↦ rest
-            ]
+            grind (arith, rest)
       ] refl f
 
   -- the one that is good among those that pass is found
@@ -137,14 +122,7 @@ module _ (test : Entry → Bool) where
             rw (passes, well) (ap Some (sym this))
         | false ↦ λ other h.
             let rest = first-good good es k v h t g a.1 in
-            elim (test e) as (λ b. test e ≡ b → find good (cond b (e ∷ filter test es) (filter test es)) ≡ Some (k, v)) [
-              | true ↦ λ p.
-                  elim (a.0 p) [
-                    | inl bad ↦ rw bad rest
-                    | inr is ↦ elim (good e) as (λ b. cond b (Some e) (find good (filter test es)) ≡ Some (k, v)) [ true ↦ ap Some is | false ↦ rest ]
-                  ]
-              | false ↦ λ p. rest
-            ] refl
+            grind (arith, a.0, rest)
       ] refl f
 
   pub longest-found : (es : List Entry) (k : VersionKey) (v : Version) → map_find version_cmp k es ≡ Some v → test (k, v) ≡ true
@@ -172,10 +150,7 @@ module _ (test : Entry → Bool) where
   lower-same n x (Some m) e h = let no : nat_lt m n ≡ false = grind (arith, nat_tests, e, h) in rw no e
 
   lower-other : (n x : ℕ) → x ≤ n → lower n (Some x) ≡ x
-  lower-other n x h = elim (nat_lt x n) as (λ b. nat_lt x n ≡ b → cond b x n ≡ x) [
-    | true ↦ λ e. refl
-    | false ↦ λ e. grind (arith, nat_tests, e, h)
-  ] refl
+  lower-other n x h = grind (arith, nat_tests, h)
 
   lower-more : (n x : ℕ) (o : Option ℕ) → x ≤ n → IfSome o (λ m. x ≤ m) → x ≤ lower n o
   lower-more n x None e h = e

@@ -9,7 +9,7 @@ use Rattle.std.specs.Map.{keys_of, lookup}
 use Rattle.std.specs.declared.cmp.Ordering.{Ordering}
 use Rattle.std.specs.declared.cmp.Ordering.TheVariants.{Less, Equal, Greater}
 use Rattle.std.specs.Ordering.{is_gt, is_lt, nat_cmp, ordering_then, ordering_reverse, eq_by_cmp}
-use Rattle.std.specs.Cmp.{ranked}
+use Rattle.std.proofs.lemmas.Bool.Decides.{nat_tests}
 use Rattle.std.proofs.lemmas.Cmp.{nat_list_cmp_total}
 use Rattle.std.proofs.Common.{arith}
 use Rattle.std.proofs.lemmas.Map.Keys.{le_from_not_gt, ge_from_not_lt}
@@ -57,22 +57,13 @@ same-prefix a b Equal e l g = slice_cmp-IsAntisymmetric nat_cmp-IsAntisymmetric 
 same-prefix a b Greater e l g = absurd (g refl)
 
 not-less : (q s : Ordering) → is_lt (ordering_then q s) ≡ false → q ≡ Less → ⊥
-not-less Less s h e = cc
-not-less Equal s h e = cc
-not-less Greater s h e = cc
+not-less q s h e = grind (arith, h, e)
 
 not-greater : (q s : Ordering) → is_gt (ordering_then q s) ≡ false → q ≡ Greater → ⊥
-not-greater Less s h e = cc
-not-greater Equal s h e = cc
-not-greater Greater s h e = cc
+not-greater q s h e = grind (arith, h, e)
 
 pub not-gt : (a b : ℕ) → a ≤ b → is_gt (nat_cmp a b) ≡ false
-not-gt a b h =
-    elim (nat_cmp a b) as (λ r. nat_cmp a b ≡ r → is_gt r ≡ false) [
-      | Less ↦ λ e. refl
-      | Equal ↦ λ e. refl
-      | Greater ↦ λ e. let above = ranked a b Greater (sym e) in absurd (omega (arith, above, h))
-    ] refl
+not-gt a b h = grind (arith, nat_tests, h)
 
 -- whether a key comes after another
 abbrev pub is_after : VersionKey → VersionKey → Bool

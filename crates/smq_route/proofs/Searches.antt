@@ -1,15 +1,13 @@
 -- What the greatest version at or below a number's first digits tells: the versions of the number's prefixes stand at or
 -- below it, so their prefixes begin its own, too.
-use Rattle.std.proofs.lemmas.Bool.{false≢true}
 use Rattle.std.proofs.Common.{◌≡◌, ◌<◌, ◌≤◌, ◌+◌, ◌-◌, ℕ, true, false, List, length, take, length-take, length-take-le, Some, None, subst, refl, sym, ap, ◌∙◌, arith}
-use Rattle.std.specs.Prelude.{IsSome, nat_lt}
-use Rattle.std.specs.Cmp.{ranked}
+use Rattle.std.specs.Prelude.{IsSome}
 use Rattle.std.specs.Cmp.Lexicographic.{bytes_decides}
 use Rattle.std.specs.FinMap.{get, nat_cmp-IsAntisymmetric, slice_cmp-IsAntisymmetric}
 use Rattle.std.specs.Map.{lookup}
 use Rattle.std.specs.BTreeMap.{is_at}
 use Rattle.std.specs.declared.cmp.Ordering.{Ordering}
-use Rattle.std.specs.declared.cmp.Ordering.TheVariants.{Less, Equal, Greater}
+use Rattle.std.specs.declared.cmp.Ordering.TheVariants.{Equal}
 use Rattle.std.specs.Ordering.{is_gt, is_lt, nat_cmp, ordering_reverse, ordering_then}
 use Rattle.std.proofs.lemmas.Bool.Decides.{nat_tests}
 use Rattle.std.proofs.lemmas.Cmp.{nat_list_cmp_total}
@@ -30,29 +28,19 @@ use Rattle.smq_route.proofs.VersionOrders.{in-prefix}
 -- ---- orders
 
 then-not_gt : (r s : Ordering) → is_gt r ≡ false → is_gt s ≡ false → is_gt (ordering_then r s) ≡ false
-then-not_gt Less s h k = refl
-then-not_gt Equal s h k = k
-then-not_gt Greater s h k = absurd (false≢true (sym h))
+then-not_gt r s h k = grind (arith, h, k)
 
 first-not_gt : (r s : Ordering) → is_gt (ordering_then r s) ≡ false → is_gt r ≡ false
-first-not_gt Less s h = refl
-first-not_gt Equal s h = refl
-first-not_gt Greater s h = absurd (false≢true (sym h))
+first-not_gt r s h = grind (arith, h)
 
 turned : (r : Ordering) → is_lt r ≡ is_gt (ordering_reverse r)
-turned Less = refl
-turned Equal = refl
-turned Greater = refl
+turned r = grind arith
 
 first-not_lt : (r s : Ordering) → is_lt (ordering_then r s) ≡ false → is_lt r ≡ false
-first-not_lt Less s h = h
-first-not_lt Equal s h = refl
-first-not_lt Greater s h = refl
+first-not_lt r s h = grind (arith, h)
 
 equal : (r : Ordering) → is_gt r ≡ false → is_lt r ≡ false → r ≡ Equal
-equal Less g l = absurd (false≢true (sym l))
-equal Equal g l = refl
-equal Greater g l = absurd (false≢true (sym g))
+equal r g l = grind (arith, g, l)
 
 -- what isn't below comes after or is equal
 not_above : (a b : List ℕ) → is_lt (octets_cmp a b) ≡ false → is_gt (octets_cmp b a) ≡ false
@@ -62,19 +50,10 @@ not_lt : (a b : List ℕ) → is_gt (octets_cmp a b) ≡ false → is_lt (octets
 not_lt a b h = turned (octets_cmp b a) ∙ ap is_gt (sym (nat_list_cmp_total.antisymm a b)) ∙ h
 
 pub later : (a b : ℕ) → is_lt (nat_cmp a b) ≡ true → a < b
-later a b h =
-    elim (nat_cmp a b) as (λ r. nat_cmp a b ≡ r → is_lt r ≡ true → a < b) [
-      | Less ↦ λ e l. ranked a b Less (sym e)
-      | Equal ↦ λ e l. absurd (false≢true l)
-      | Greater ↦ λ e l. absurd (false≢true l)
-    ] refl h
+later a b h = grind (arith, nat_tests, h)
 
 below-else : (c n : ℕ) → (n ≤ c → ⊥) → c < n
-below-else c n h =
-    elim (nat_lt c n) as (λ b. nat_lt c n ≡ b → c < n) [
-      | true ↦ λ d. grind (arith, nat_tests, d)
-      | false ↦ λ d. absurd (h (grind (arith, nat_tests, d)))
-    ] refl
+below-else c n h = grind (arith, h)
 
 -- ---- first digits
 
@@ -124,14 +103,10 @@ module _ (es : List (VersionKey × Version)) (number first : List ℕ) (t len : 
     begins-found : (q : VersionKey) (w : Version) → NoneLonger (seen es) number t len → get (seen es) q ≡ Some w → serves number t (q, w) ≡ true
         → begins k.prefix q.prefix ≡ true
     begins-found q w longest there h =
-        elim (begins k.prefix q.prefix) as (λ b. begins k.prefix q.prefix ≡ b → b ≡ true) [
-          | true ↦ λ e. refl
-          | false ↦ λ e.
-              let before = most q (up_to q w longest there h) (some-there es q (subst IsSome (sym there) refl)) in
-              let up = not_above k.prefix q.prefix (first-not_lt (octets_cmp k.prefix q.prefix) (nat_cmp k.from q.from) before) in
-              absurd (false≢true (sym (none_past q.prefix k.prefix first up e prefix_below)
-              ∙ begun q.prefix (serving number t q w h).0 (longest q w there h)))
-        ] refl
+        let before = most q (up_to q w longest there h) (some-there es q (subst IsSome (sym there) refl)) in
+        let up = not_above k.prefix q.prefix (first-not_lt (octets_cmp k.prefix q.prefix) (nat_cmp k.from q.from) before) in
+        let past = λ (e : begins k.prefix q.prefix ≡ false). none_past q.prefix k.prefix first up e prefix_below in
+        grind (arith, past, begun q.prefix (serving number t q w h).0 (longest q w there h))
 
     -- so none has more digits than it shares with the number
     pub shared-longest : (c : ℕ) → ((l : ℕ) → l ≤ length k.prefix → l ≤ length number → take l k.prefix ≡ take l number → l ≤ c)

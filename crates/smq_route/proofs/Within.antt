@@ -1,5 +1,5 @@
 -- How many digits the prefixes of versions have at most.
-use Rattle.std.proofs.Common.{◌≡◌, ◌≤◌, inl, inr, ℕ, List, length, Option, Some, None, Result, Ok, Err, subst, refl, sym, ◌∙◌, arith}
+use Rattle.std.proofs.Common.{◌≡◌, ◌≤◌, inl, inr, ℕ, List, length, Option, Some, None, Result, subst, refl, sym, ◌∙◌, arith}
 use Rattle.std.specs.FinMap.{get, insert}
 use Rattle.smq_kit.specs.declared.names.RouteId.{RouteId}
 use Rattle.smq_kit.specs.declared.refusal.Refusal.{Refusal}
@@ -9,6 +9,7 @@ use Rattle.smq_route.specs.declared.version.Version.{Version}
 use Rattle.smq_route.specs.Versions.{Versions, key_at, version_of}
 use Rattle.smq_route.specs.within.Kept.{AreWithin}
 use Rattle.smq_route.specs.Edits.{added, changed, changed_where}
+use Rattle.smq_route.proofs.Edited.{reply-keeps}
 use Rattle.smq_route.proofs.Lookups.{at-insert}
 
 -- no versions
@@ -27,11 +28,8 @@ put-within most m p f v within bound k w there =
 pub add-within : {T : Type 0} (most : ℕ) (m n : Versions) (p : List ℕ) (f : ℕ) (route : RouteId) (network : List ℕ)
     (o : Option Refusal) (r : Result T Refusal)
     → AreWithin most m → length p ≤ most → IsReply o r (n ≡ added m p f route network) (n ≡ m) → AreWithin most n
-add-within most m n p f route network None (Ok x) within bound h =
-    subst (AreWithin most) (sym h) (put-within most m p f (record { until = None; route = route; network = network }) within bound)
-add-within most m n p f route network None (Err e) within bound h = subst (AreWithin most) (sym h.1) within
-add-within most m n p f route network (Some q) (Ok x) within bound h = absurd h
-add-within most m n p f route network (Some q) (Err e) within bound h = subst (AreWithin most) (sym h.1) within
+add-within most m n p f route network o r within bound h =
+    reply-keeps (AreWithin most) o r m n _ within (λ _. put-within most m p f (record { until = None; route = route; network = network }) within bound) h
 
 -- a version is changed
 changed-within : (most : ℕ) (m : Versions) (p : List ℕ) (f : ℕ) (g : Version → Version) → AreWithin most m → AreWithin most (changed m p f g)
@@ -43,10 +41,7 @@ changed-within most m p f g within = by (version_of m p f) refl
 
 pub change-within : {T : Type 0} (most : ℕ) (m n : Versions) (p : List ℕ) (f : ℕ) (g : Version → Version) (o : Option Refusal) (r : Result T Refusal)
     → AreWithin most m → IsReply o r (n ≡ changed m p f g) (n ≡ m) → AreWithin most n
-change-within most m n p f g None (Ok x) within h = subst (AreWithin most) (sym h) (changed-within most m p f g within)
-change-within most m n p f g None (Err e) within h = subst (AreWithin most) (sym h.1) within
-change-within most m n p f g (Some q) (Ok x) within h = absurd h
-change-within most m n p f g (Some q) (Err e) within h = subst (AreWithin most) (sym h.1) within
+change-within most m n p f g o r within h = reply-keeps (AreWithin most) o r m n _ within (λ _. changed-within most m p f g within) h
 
 -- more digits are enough too
 pub within-more : (most more : ℕ) (m : Versions) → most ≤ more → AreWithin most m → AreWithin more m

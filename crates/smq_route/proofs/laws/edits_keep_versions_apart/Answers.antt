@@ -1,4 +1,5 @@
-use Rattle.smq_route.proofs.EditLaws.{adds-apart, ends-apart, corrects-apart}
+use Rattle.smq_route.proofs.Apart.{corrects-apart, ends-apart}
+use Rattle.smq_route.proofs.EditLaws.{adds-apart}
 use Rattle.smq_route.proofs.laws.edits_keep_versions_apart.Goals as goal
 
 pub returns : goal.returns
