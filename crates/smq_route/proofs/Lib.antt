@@ -9,6 +9,7 @@ pub mod Searches
 pub mod Elsewhere
 pub mod EditLaws
 pub mod KnownVersions
+pub mod NumberCodes
 pub mod NumberOrders
 pub mod NumberWalks
 pub mod NumberLemmas

@@ -3,6 +3,7 @@
 #![tactic(auto)]
 
 mod laws;
+mod number_key;
 mod numbers;
 mod routes;
 mod sought;

@@ -5,9 +5,10 @@ ghost use Rattle.smq_shelf.specs.Shown.{touched};
 ghost use Rattle.smq_route.specs.Numbers.{no_numbers, number_at, places_under, vacancies, with_touches};
 ghost use Rattle.smq_route.specs.Versions.{begins};
 
+use crate::number_key::{NumberKey, Prefix};
 use crate::walk::gather;
 use smq_kit::{Digits, Place};
-use smq_shelf::{Kept, ShelfKey};
+use smq_shelf::Kept;
 use std::alloc::{AllocError, Global};
 use std::marker::Model;
 
@@ -18,25 +19,12 @@ pub struct NumberAt {
     pub place: Place,
 }
 
-impl ShelfKey for NumberAt {
-    ghost use Rattle.smq_route.specs.within.NumberKeys.{one_number};
-
-    ghost exact = { one_number };
-
-    fn copy(&self) -> NumberAt {
-        NumberAt {
-            number: self.number.copy(),
-            place: self.place,
-        }
-    }
-}
-
 /// The numbers of messages with their places. A contract sees them as a set, with those that `undo` brings back and the
 /// touches of the shelf in which they are kept.
 #[derive(Drop)]
 pub struct Numbers {
     alloc: Global,
-    kept: Kept<NumberAt, ()>,
+    kept: Kept<NumberKey, ()>,
 }
 
 impl Model for Numbers {
@@ -81,7 +69,7 @@ impl Numbers {
         ensures touched { OnOk result (self.new.touches ≡ touched self.old.touches) }
         ensures counted { self.old.touches ≤ self.new.touches }
     {
-        self.kept.set(NumberAt { number, place }, ())?;
+        self.kept.set(NumberKey::new(&number, place), ())?;
         Ok(())
     }
 
@@ -98,11 +86,7 @@ impl Numbers {
         ensures touched { OnOk result (touched self.old.touches ≤ self.new.touches) }
         ensures counted { self.old.touches ≤ self.new.touches }
     {
-        let key = NumberAt {
-            number: number.copy(),
-            place,
-        };
-        self.kept.remove(&key)?;
+        self.kept.remove(&NumberKey::new(number, place))?;
         Ok(())
     }
 
@@ -116,7 +100,7 @@ impl Numbers {
             + vacancies self.old prefix.now + length (places_under self.old.numbers prefix.now) }
         ensures counted { self.old.touches ≤ self.new.touches }
     {
-        gather(self.alloc, &mut self.kept, prefix)
+        gather(self.alloc, &mut self.kept, &Prefix::of(prefix))
     }
 
     /// Brings back the numbers of the last `settle`, or of `new`. It takes no memory.

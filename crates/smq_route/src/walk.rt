@@ -5,26 +5,26 @@ ghost use Rattle.std.specs.Map.{keys_of};
 ghost use Rattle.smq_shelf.specs.Places.{content_of};
 ghost use Rattle.smq_shelf.specs.Walks.{IsWalked};
 ghost use Rattle.smq_route.specs.Versions.{begins};
-ghost use Rattle.smq_route.specs.within.NumberKeys.{kept_number_cmp};
+ghost use Rattle.smq_route.specs.Numbers.{number_cmp};
 ghost use Rattle.smq_route.specs.within.NumberWalks.{filled, is_past, is_under};
 
-use crate::NumberAt;
-use smq_kit::{Digits, LEAST_PLACE, Place};
+use crate::number_key::{NumberKey, Prefix};
+use smq_kit::Place;
 use smq_shelf::{Kept, ShelfKey};
 use std::alloc::{AllocError, Global};
 
 /// The places of the numbers that begin with a prefix.
 pub(crate) fn gather(
     alloc: Global,
-    kept: &mut Kept<NumberAt, ()>,
-    prefix: &Digits,
+    kept: &mut Kept<NumberKey, ()>,
+    prefix: &Prefix,
 ) -> Result<Vec<Place>, AllocError>
     ensures value { IfOk result (λ places.
         places.items ≡ filled (filter (is_under prefix.now) kept.old.places)) }
     ensures walked { IsWalked (1 + length (filter (is_under prefix.now) kept.old.places))
         kept.old kept.new }
     ensures content { kept.old.content ≡ content_of kept.old.places }
-    ensures ordered { IsStrictlySortedBy kept_number_cmp (keys_of kept.old.places) }
+    ensures ordered { IsStrictlySortedBy number_cmp (keys_of kept.old.places) }
 {
     let mut places = Vec::new(alloc);
     let mut next = first_under(kept, prefix);
@@ -38,7 +38,7 @@ pub(crate) fn gather(
 // Puts a place at the end, unless it is vacant.
 fn push_there(
     places: &mut Vec<Place>,
-    found: &NumberAt,
+    found: &NumberKey,
     value: Option<()>,
 ) -> Result<(), AllocError>
     ensures { OnOk result (places.new.items
@@ -51,19 +51,15 @@ fn push_there(
 }
 
 // The first place of a prefix, vacant or not.
-fn first_under(kept: &mut Kept<NumberAt, ()>, prefix: &Digits) -> Option<(NumberAt, Option<()>)>
+fn first_under(kept: &mut Kept<NumberKey, ()>, prefix: &Prefix) -> Option<(NumberKey, Option<()>)>
     ensures value { result ≡ find (is_under prefix.now) kept.old.places }
     ensures walked { IsWalked 1 kept.old kept.new }
     ensures content { kept.old.content ≡ content_of kept.old.places }
-    ensures ordered { IsStrictlySortedBy kept_number_cmp (keys_of kept.old.places) }
+    ensures ordered { IsStrictlySortedBy number_cmp (keys_of kept.old.places) }
 {
-    let from = NumberAt {
-        number: prefix.copy(),
-        place: LEAST_PLACE,
-    };
-    match kept.first_from(&from) {
+    match kept.first_from(&prefix.least_key()) {
         Some((found, value)) => {
-            if is_prefix_of(prefix, &found.number) {
+            if prefix.begins(found) {
                 Some((found.copy(), value.copied()))
             } else {
                 None
@@ -75,17 +71,17 @@ fn first_under(kept: &mut Kept<NumberAt, ()>, prefix: &Digits) -> Option<(Number
 
 // The next place of a prefix after one of it, vacant or not.
 fn next_under(
-    kept: &mut Kept<NumberAt, ()>,
-    prefix: &Digits,
-    after: &NumberAt,
-) -> Option<(NumberAt, Option<()>)>
+    kept: &mut Kept<NumberKey, ()>,
+    prefix: &Prefix,
+    after: &NumberKey,
+) -> Option<(NumberKey, Option<()>)>
     requires { begins after.now.number prefix.now ≡ true }
     ensures value { result ≡ find (is_past prefix.now after.now) kept.old.places }
     ensures walked { IsWalked 1 kept.old kept.new }
 {
     match kept.first_after(after) {
         Some((found, value)) => {
-            if is_prefix_of(prefix, &found.number) {
+            if prefix.begins(found) {
                 Some((found.copy(), value.copied()))
             } else {
                 None
@@ -93,11 +89,4 @@ fn next_under(
         }
         None => None,
     }
-}
-
-// Whether a prefix begins a number.
-fn is_prefix_of(prefix: &Digits, number: &Digits) -> bool
-    ensures { result ≡ begins number.now prefix.now }
-{
-    number.as_slice().starts_with(prefix.as_slice())
 }

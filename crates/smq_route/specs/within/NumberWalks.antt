@@ -4,8 +4,8 @@ use Rattle.std.specs.Ordering.{is_lt}
 use Rattle.smq_kit.specs.declared.place.Place.{Place}
 use Rattle.smq_shelf.specs.Places.{content_of}
 use Rattle.smq_route.specs.declared.numbers.NumberAt.{NumberAt}
+use Rattle.smq_route.specs.Numbers.{number_cmp}
 use Rattle.smq_route.specs.Versions.{begins}
-use Rattle.smq_route.specs.within.NumberKeys.{kept_number_cmp}
 
 -- a place of a shelf of numbers: vacant, or not
 abbrev pub Spot : Type 0
@@ -17,7 +17,7 @@ is_under prefix e = begins e.0.number prefix
 
 -- whether it does, and comes after a number at a place
 abbrev pub is_past : {X : Type 0} → List ℕ → NumberAt → NumberAt × X → Bool
-is_past prefix after e = is_lt (kept_number_cmp after e.0) && begins e.0.number prefix
+is_past prefix after e = is_lt (number_cmp after e.0) && begins e.0.number prefix
 
 -- the places of entries
 abbrev pub placed : {X : Type 0} → List (NumberAt × X) → List Place

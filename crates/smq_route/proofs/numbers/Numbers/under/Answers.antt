@@ -13,15 +13,15 @@ if_ok (Err e) P Q f h = tt
 
 pub returns-clause-value : goal.returns-clause-value
 returns-clause-value c =
-    let prefix = c.args.prefix.now in
+    let prefix = c.of.result in
     let told = filled-under prefix c.self.inside.kept.places c.gather.ensures.ordered ∙ sym (ap (λ es. places_under (numbers_in es) prefix) c.gather.ensures.content) in
-    rw (← c.self.view_is) (if_ok c.gather.result _ _ (λ places is. is ∙ told) c.gather.ensures.value)
+    rw (← c.self.view_is, ← c.of.ensures) (if_ok c.gather.result _ _ (λ places is. is ∙ told) c.gather.ensures.value)
 
 pub returns-clause-touches : goal.returns-clause-touches
 returns-clause-touches c =
-    let prefix = c.args.prefix.now in
+    let prefix = c.of.result in
     let spots = c.self.inside.kept.places in
     let told = ap length (filled-under prefix spots c.gather.ensures.ordered ∙ sym (ap (λ es. places_under (numbers_in es) prefix) c.gather.ensures.content)) in
     let all = parted prefix spots in
     let touches = c.gather.ensures.walked.touches in
-    rw (← c.self.view_is) (omega (arith, told, all, touches))
+    rw (← c.self.view_is, ← c.of.ensures) (omega (arith, told, all, touches))
