@@ -1,19 +1,17 @@
--- Counts, partners and turns without one, with one PDU more.
+-- Counts and what is found by turns, with one PDU more.
 use Rattle.std.proofs.Common.{◌≡◌, ◌≢◌, ℕ, ◌+◌, Bool, true, false, cond, List, [], ◌∷◌, ◌++◌, length, Option, Some, None, refl, sym, ap, ◌∙◌, arith}
-use Rattle.std.specs.Prelude.{count_by, option_and_then, slice_get, is_none}
+use Rattle.std.specs.Prelude.{count_by, option_and_then, slice_get}
 use Rattle.std.proofs.lemmas.List.Sums.{sum_by_push}
 use Rattle.smq_kit.specs.declared.place.Dir.{Dir}
 use Rattle.smq_pdu.specs.Header.{Header}
 use Rattle.smq_pair.specs.declared.entry.Series.{Series}
-use Rattle.smq_pair.specs.declared.entry.Turn.{Turn}
+use Rattle.smq_pair.specs.within.Turns.{Turn}
 use Rattle.smq_pair.specs.Pairing.{PlacedHeader, PairingValue, pdus_from, opposite, headers}
 use Rattle.smq_pair.specs.Growth.{pushed}
-use Rattle.smq_pair.specs.within.Turns.{is_of, headers_from, count_in, index_at, unpaired_at, partner, series_of, turn_of, partner_of}
-use Rattle.smq_pair.specs.within.Maps.{unpaired_after}
-use Rattle.smq_pair.proofs.Keys.{at_turn}
-use Rattle.smq_pair.proofs.Lists.{some-is, one_of}
+use Rattle.smq_pair.specs.within.Turns.{is_of, headers_from, count_in, index_at, later, next_of, partner, series_of, turn_of, partner_of}
+use Rattle.smq_pair.proofs.Lists.{none-beyond, some-is, one_of}
 use Rattle.smq_pair.proofs.Turned
-use Rattle.smq_pair.proofs.Turned.{by_dir, partner-back, partner-apart, pushed-apart, headers-by, series-of, turn-stands, next_turn, next-dir, index-free, index-next, index-others, turn-stays, turn-last}
+use Rattle.smq_pair.proofs.Turned.{by_dir, partner-back, partner-apart, pushed-apart, headers-by, series-of, turn-stands, next_turn, next-dir, index-free, index-next, index-others, next-rank, turn_parts, turn-stays, turn-last}
 
 -- ---- counts
 
@@ -41,17 +39,31 @@ module _ (v : PairingValue) (p : PlacedHeader) where
 
   -- ---- partners
 
-  -- the partner of what was there stays, where it isn't the new one
-  pub partner-stays : (d : Dir) (i : ℕ) (h : Header) → slice_get (headers_from d v) i ≡ Some h
-      → ((u : Turn) → turn_of v d i h ≡ Some u → next_turn v p ≢ Some (partner u)) → partner_of (pushed v p) d i h ≡ partner_of v d i h
-  partner-stays d i h at apart =
-      ap (option_and_then (λ t. index_at (pushed v p) (partner t))) (turn-stays v p d i h at)
+  -- what is found by the turn of what was there stays, where it isn't the new one
+  pub found-stays : (f : Turn → Turn) (d : Dir) (i : ℕ) (h : Header) → slice_get (headers_from d v) i ≡ Some h
+      → ((u : Turn) → turn_of v d i h ≡ Some u → next_turn v p ≢ Some (f u))
+      → option_and_then (λ t. index_at (pushed v p) (f t)) (turn_of (pushed v p) d i h) ≡ option_and_then (λ t. index_at v (f t)) (turn_of v d i h)
+  found-stays f d i h at apart =
+      ap (option_and_then (λ t. index_at (pushed v p) (f t))) (turn-stays v p d i h at)
       ∙ by_turn (turn_of v d i h) apart
     where
-      by_turn : (o : Option Turn) → ((u : Turn) → o ≡ Some u → next_turn v p ≢ Some (partner u))
-          → option_and_then (λ t. index_at (pushed v p) (partner t)) o ≡ option_and_then (λ t. index_at v (partner t)) o
+      by_turn : (o : Option Turn) → ((u : Turn) → o ≡ Some u → next_turn v p ≢ Some (f u))
+          → option_and_then (λ t. index_at (pushed v p) (f t)) o ≡ option_and_then (λ t. index_at v (f t)) o
       by_turn None h = refl
-      by_turn (Some u) h = index-others v p (partner u) (h u refl)
+      by_turn (Some u) h = index-others v p (f u) (h u refl)
+
+  -- none comes after the new one
+  pub later-none : (t : Turn) → next_turn v p ≡ Some t → next_of (pushed v p) p.place.dir (length (pdus_from p.place.dir v)) p.header ≡ None
+  later-none t e =
+      let s = t.series in
+      let more = count-next s (turn_parts (headers_from p.place.dir v) (series_of p.place.dir p.header) t e).0 in
+      let rank = next-rank v p t e in
+      ap (option_and_then (λ t. index_at (pushed v p) (later t))) (turn-last v p ∙ e)
+      ∙ none-beyond (is_of s.side s.seq) (headers_from s.dir (pushed v p)) (t.rank + 1) (omega (arith, more, rank))
+
+  pub nothing-found : (f : Turn → Turn) → next_turn v p ≡ None
+      → option_and_then (λ t. index_at (pushed v p) (f t)) (turn_of (pushed v p) p.place.dir (length (pdus_from p.place.dir v)) p.header) ≡ None
+  nothing-found f e = ap (option_and_then (λ t. index_at (pushed v p) (f t))) (turn-last v p ∙ e)
 
   -- the new one's is the one of its partner's turn
   pub partner-next : (t : Turn) → next_turn v p ≡ Some t
@@ -59,9 +71,6 @@ module _ (v : PairingValue) (p : PlacedHeader) where
   partner-next t e =
       ap (option_and_then (λ t. index_at (pushed v p) (partner t))) (turn-last v p ∙ e)
       ∙ index-others v p (partner t) (λ same. partner-apart t (sym (some-is t (partner t) (sym e ∙ same))))
-
-  pub partner-none : next_turn v p ≡ None → partner_of (pushed v p) p.place.dir (length (pdus_from p.place.dir v)) p.header ≡ None
-  partner-none e = ap (option_and_then (λ t. index_at (pushed v p) (partner t))) (turn-last v p ∙ e)
 
   -- and it is the partner of that one
   pub partner-linked : (t : Turn) (j : ℕ) (h : Header) → next_turn v p ≡ Some t → index_at v (partner t) ≡ Some j
@@ -78,55 +87,3 @@ module _ (v : PairingValue) (p : PlacedHeader) where
       ∙ s.turn)
       ∙ ap (index_at (pushed v p)) (partner-back t)
       ∙ index-next v p t e
-
--- ---- the maps
-
-pub unpaired_by : (a b c d : Option ℕ) → a ≡ b → c ≡ d → cond (is_none a) c None ≡ cond (is_none b) d None
-unpaired_by a b c d e f = λ i. cond (is_none (e i)) (f i) None
-
-pub nothing : (b : Bool) (o : Option ℕ) → o ≡ None → cond b o None ≡ None
-nothing true o e = e
-nothing false o e = refl
-
-module _ (v : PairingValue) (p : PlacedHeader) (t : Turn) (next : next_turn v p ≡ Some t) where
-  pub no_other : (u : Turn) → u ≢ t → next_turn v p ≢ Some u
-  no_other u h e = h (some-is u t (sym e ∙ next))
-
-  pub unpaired-free : unpaired_at v t ≡ None
-  unpaired-free = nothing (is_none (index_at v (partner t))) (index_at v t) (index-free v p t next)
-
-  -- the partner's turn has no partner yet
-  pub unpaired-partner : unpaired_at v (partner t) ≡ index_at v (partner t)
-  unpaired-partner = ap (λ (u : Turn). cond (is_none (index_at v u)) (index_at v (partner t)) None) (partner-back t)
-      ∙ ap (λ o. cond (is_none o) (index_at v (partner t)) None) (index-free v p t next)
-
-  -- turns that aren't the new one's or its partner's are as before
-  unpaired-others : (u : Turn) → t ≢ u → partner t ≢ u → unpaired_at v u ≡ unpaired_at (pushed v p) u
-  unpaired-others u h k = sym (unpaired_by _ _ _ _
-      (index-others v p (partner u) (no_other (partner u) (λ e. k (ap partner (sym e) ∙ partner-back u))))
-      (index-others v p u (no_other u (λ e. h (sym e)))))
-
-  own_is : (o : Option ℕ) → index_at v (partner t) ≡ o
-      → unpaired_at (pushed v p) t ≡ cond (is_none o) (Some (length (pdus_from p.place.dir v))) None
-  own_is o e = unpaired_by _ _ _ _ (index-others v p (partner t) (no_other (partner t) (partner-apart t)) ∙ e) (index-next v p t next)
-
-  pub unpaired-met : unpaired_at (pushed v p) (partner t) ≡ None
-  unpaired-met =
-      ap (λ (u : Turn). cond (is_none (index_at (pushed v p) u)) (index_at (pushed v p) (partner t)) None) (partner-back t)
-      ∙ ap (λ o. cond (is_none o) (index_at (pushed v p) (partner t)) None) (index-next v p t next)
-
-  pub unpaired_next : (o : Option ℕ) → index_at v (partner t) ≡ o
-      → (u : Turn) → unpaired_after o (unpaired_at v) t (length (pdus_from p.place.dir v)) u ≡ unpaired_at (pushed v p) u
-  unpaired_next None e u =
-      at_turn t u (λ b. cond b (Some (length (pdus_from p.place.dir v))) (unpaired_at v u) ≡ unpaired_at (pushed v p) u)
-      (λ same. sym (own_is None e) ∙ ap (unpaired_at (pushed v p)) same)
-      (λ apart. at_turn (partner t) u (λ b. unpaired_at v u ≡ unpaired_at (pushed v p) u)
-      (λ same. ap (unpaired_at v) (sym same) ∙ unpaired-partner ∙ e ∙ sym unpaired-met ∙ ap (unpaired_at (pushed v p)) same)
-      (unpaired-others u apart))
-  unpaired_next (Some j) e u =
-      at_turn (partner t) u (λ b. cond b None (unpaired_at v u) ≡ unpaired_at (pushed v p) u)
-      (λ same. sym unpaired-met ∙ ap (unpaired_at (pushed v p)) same)
-      (λ apart. at_turn t u (λ b. unpaired_at v u ≡ unpaired_at (pushed v p) u)
-      (λ same. ap (unpaired_at v) (sym same) ∙ unpaired-free
-      ∙ sym (own_is (Some j) e) ∙ ap (unpaired_at (pushed v p)) same)
-      (λ other. unpaired-others u other apart))

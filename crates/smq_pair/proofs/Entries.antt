@@ -1,5 +1,5 @@
 -- Entries and what they say, with one more, and with one that is given its partner.
-use Rattle.std.proofs.Common.{◌≡◌, ◌≢◌, ℕ, zero, suc, Bool, true, List, [], ◌∷◌, ◌++◌, length, Some, None, refl, sym, ap, ◌∙◌, subst, arith}
+use Rattle.std.proofs.Common.{◌≡◌, ◌≢◌, ℕ, zero, suc, Bool, true, List, [], ◌∷◌, ◌++◌, length, Option, Some, None, refl, sym, ap, ◌∙◌, subst, arith}
 use Rattle.std.specs.Prelude.{◌==◌, map, option_map, slice_get, slice_set}
 use Rattle.std.proofs.lemmas.List.{map-append, length-map}
 use Rattle.std.proofs.lemmas.List.Folds.{list_all-append}
@@ -17,12 +17,14 @@ use Rattle.smq_kit.specs.declared.place.Dir.TheVariants.{FromClient, FromCentre}
 use Rattle.smq_kit.specs.declared.place.Place.{Place}
 use Rattle.smq_kit.specs.Orders.{place_cmp}
 use Rattle.smq_pair.specs.declared.entry.Entry.{Entry}
+use Rattle.smq_pair.specs.declared.entry.Link.{Link}
+use Rattle.smq_pair.specs.declared.entry.Link.TheVariants.{Before, Partner}
 use Rattle.smq_pair.specs.Pairing.{PlacedHeader, pdus_from, opposite}
 use Rattle.smq_pair.specs.Growth.{AreInOrder, pushed_in}
 use Rattle.smq_pair.specs.within.Turns.{headers_from}
 use Rattle.smq_pair.specs.within.Stream.{Ascend, Held}
-use Rattle.smq_pair.specs.within.Kept.{Entries, are_of_session, at_offset, entries_from, header_of, joined, placed, pdus_in}
-use Rattle.smq_pair.specs.within.Maps.{Holds, HoldsOf, Matching}
+use Rattle.smq_pair.specs.within.Kept.{Entries, are_of_session, at_offset, entries_from, header_of, joined, partner_in, placed, pdus_in}
+use Rattle.smq_pair.specs.within.Waits.{Holds, HoldsOf, Waits}
 use Rattle.smq_pair.proofs.Keys.{dir_itself}
 use Rattle.smq_pair.proofs.Lists.{some-is, get-either, get-mapped}
 use Rattle.smq_pair.proofs.Standing.{dir-ascends}
@@ -106,23 +108,22 @@ of_session-pdus session es all =
       centre = said es.session session FromCentre es.centre both.1 i;
     }
 
-pub of_session-holds : (m : Matching) (session : SessionId) (es : Entries) → are_of_session session (pdus_in es) ≡ true → Holds m es
+pub of_session-holds : (m : Waits) (session : SessionId) (es : Entries) → are_of_session session (pdus_in es) ≡ true → Holds m es
     → Holds m (of_session session es)
 of_session-holds m session es all h =
     subst (λ v. HoldsOf v m (of_session session es)) (sym (of_session-pdus session es all)) (record {
       in_order = h.in_order;
-      counts = h.counts;
-      unpaired = h.unpaired;
-      partners = λ d i e at. h.partners d i e (ap (λ xs. slice_get xs i) (sym (of_session-from session d es)) ∙ at);
+      waits = h.waits;
+      links = λ d i e at. h.links d i e (ap (λ xs. slice_get xs i) (sym (of_session-from session d es)) ∙ at);
     })
 
-pub of_session-joined : (d : Dir) (q : Place) (x : Entry) (es : Entries) → joined d q x es ≡ joined d q x (of_session q.session es)
-of_session-joined FromClient q x es = refl
-of_session-joined FromCentre q x es = refl
+pub of_session-joined : (d : Dir) (q : Place) (o : Option ℕ) (x : Entry) (es : Entries) → joined d q o x es ≡ joined d q o x (of_session q.session es)
+of_session-joined FromClient q o x es = refl
+of_session-joined FromCentre q o x es = refl
 
 -- ---- an entry that is given its partner
 
-placed-set : (s : SessionId) (d : Dir) (xs : List Held) (j k : ℕ) (e : Held) → slice_get xs j ≡ Some e
+placed-set : (s : SessionId) (d : Dir) (xs : List Held) (j : ℕ) (k : Link) (e : Held) → slice_get xs j ≡ Some e
     → map (placed s d) (slice_set xs j (linked_to k e)) ≡ map (placed s d) xs
 placed-set s d [] j k e at = refl
 placed-set s d (x ∷ xs) zero k e at = ap (λ (y : Held). placed s d y ∷ map (placed s d) xs) (sym (some-is x e at))
@@ -141,7 +142,7 @@ pub set_in-session : (d : Dir) (j : ℕ) (e : Held) (es : Entries) → (set_in d
 set_in-session FromClient j e es = refl
 set_in-session FromCentre j e es = refl
 
-pub linked-pdus : (d : Dir) (j k : ℕ) (e : Held) (es : Entries) → slice_get (entries_from d es) j ≡ Some e
+pub linked-pdus : (d : Dir) (j : ℕ) (k : Link) (e : Held) (es : Entries) → slice_get (entries_from d es) j ≡ Some e
     → pdus_in (set_in d j (linked_to k e) es) ≡ pdus_in es
 linked-pdus FromClient j k e es at = ap (λ ps. record (pdus_in es) { client = ps }) (placed-set es.session FromClient es.client j k e at)
 linked-pdus FromCentre j k e es at = ap (λ ps. record (pdus_in es) { centre = ps }) (placed-set es.session FromCentre es.centre j k e at)
@@ -176,14 +177,21 @@ entries-ascend es d o =
     by_list [] h = tt
     by_list (x ∷ xs) h = (above x.0 xs h.0, by_list xs h.1)
 
--- one more in a direction, without a partner
-pub joined-alone : (d : Dir) (e : Held) (es : Entries) → e.1.partner ≡ None → joined d (at_offset es.session d e.0) e.1 es ≡ appended d e es
+-- one more in a direction, to which no other is linked
+pub joined-alone : (d : Dir) (e : Held) (es : Entries) → partner_in e.1.link ≡ None → joined d (at_offset es.session d e.0) None e.1 es ≡ appended d e es
 joined-alone FromClient e es none = rw none refl
 joined-alone FromCentre e es none = rw none refl
 
--- and with one
-pub joined-linked : (d : Dir) (e : Held) (es : Entries) (j : ℕ) (y : Held) → e.1.partner ≡ Some y.0
+-- one that has a partner
+pub joined-linked : (d : Dir) (e : Held) (es : Entries) (j : ℕ) (y : Held) → partner_in e.1.link ≡ Some y.0
     → Ascend (entries_from (opposite d) es) → slice_get (entries_from (opposite d) es) j ≡ Some y
-    → joined d (at_offset es.session d e.0) e.1 es ≡ appended d e (set_in (opposite d) j (linked_to e.0 y) es)
-joined-linked FromClient e es j y some s at = rw (linked-kept e.1.partner e.0 es.centre j y some s at) refl
-joined-linked FromCentre e es j y some s at = rw (linked-kept e.1.partner e.0 es.client j y some s at) refl
+    → joined d (at_offset es.session d e.0) None e.1 es ≡ appended d e (set_in (opposite d) j (linked_to (Partner e.0) y) es)
+joined-linked FromClient e es j y some s at = rw (linked-kept (partner_in e.1.link) (Partner e.0) es.centre j y some s at) refl
+joined-linked FromCentre e es j y some s at = rw (linked-kept (partner_in e.1.link) (Partner e.0) es.client j y some s at) refl
+
+-- and one that waits after another
+pub joined-before : (d : Dir) (e : Held) (es : Entries) (j : ℕ) (y : Held) → partner_in e.1.link ≡ None
+    → Ascend (entries_from d es) → slice_get (entries_from d es) j ≡ Some y
+    → joined d (at_offset es.session d e.0) (Some y.0) e.1 es ≡ appended d e (set_in d j (linked_to (Before e.0) y) es)
+joined-before FromClient e es j y none s at = rw (none, linked-kept (Some y.0) (Before e.0) es.client j y refl s at) refl
+joined-before FromCentre e es j y none s at = rw (none, linked-kept (Some y.0) (Before e.0) es.centre j y refl s at) refl

@@ -15,7 +15,7 @@ use Rattle.smq_kit.proofs.Comparisons.{or_first, or_second}
 use Rattle.smq_pdu.specs.Header.{Header}
 use Rattle.smq_pdu.specs.Pairing.{is_request, is_response}
 use Rattle.smq_pair.specs.declared.pairing.Pair.{Pair}
-use Rattle.smq_pair.specs.declared.entry.Turn.{Turn}
+use Rattle.smq_pair.specs.within.Turns.{Turn}
 use Rattle.smq_pair.specs.Pairing.{PlacedHeader, PairingValue, pdus_from, opposite, pair_of, pair_at, places_of, waiting, strays, with_earlier}
 use Rattle.smq_pair.specs.Growth.{AreInOrder, IsNext, pushed, pushed_in, touched, is_among, made_by, is_request_in, is_response_in, is_alone_at, StandsWith, GrowsByOne, GrowsByOnePair, OrderIsIdle}
 use Rattle.smq_pair.specs.within.Turns.{index_at, partner, partner_of, turn_of}
@@ -23,7 +23,7 @@ use Rattle.smq_pair.proofs.Lists.{some-is, get-either, one_of}
 use Rattle.smq_pair.proofs.Turned.{by_dir, opposite-back, partner-back, pushed-apart, pushed-by, turn-found, next_turn, next-dir, not-request}
 use Rattle.smq_pair.proofs.Standing.{IsNowhere, there-or-not, same-place, here-place, other-place, pair_with, pair_either, pair-here, pair-nowhere, standing-here, dir-of, dir-ascends}
 use Rattle.smq_pair.proofs.Order.{in-order-next, next-is-free, get-append}
-use Rattle.smq_pair.proofs.Entered.{partner-stays, partner-next}
+use Rattle.smq_pair.proofs.Entered.{found-stays, partner-next}
 use Rattle.smq_pair.proofs.Placed.{get_after, own-at, partner-pdu}
 use Rattle.smq_pair.proofs.Ranked.{finds-pairs, has-two-places, header-at}
 
@@ -109,7 +109,7 @@ module _ (v : PairingValue) (p : PlacedHeader) (o : AreInOrder v) (n : IsNext v 
       ≡ false → pair_at after x.place ≡ pair_at v x.place
   here-stays d i x at h =
       pair-here after d i x after-order (get_after v p d i x at)
-      ∙ ap (pair_with after d x) (partner-stays v p d i x.header (header-at (pdus_from d v) i x at) (λ u turn next.
+      ∙ ap (pair_with after d x) (found-stays v p partner d i x.header (header-at (pdus_from d v) i x at) (λ u turn next.
       let made-is = touched-by d i x u at turn next in
       let both = among_made x.place made h (pair_either p x) made-is in
       elim (places_either x) [ inl q ↦ both.0 q | inr q ↦ both.1 q ]))

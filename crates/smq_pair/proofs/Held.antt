@@ -2,12 +2,11 @@
 use Rattle.std.proofs.Common.{◌≡◌, ◌≢◌, ℕ, zero, suc, ◌<◌, ◌≤◌, ◌⊎◌, inl, inr, true, false, cond, List, [], ◌∷◌, ◌++◌, length, get_or, take, Option, Some, None, refl, sym, ap, ◌∙◌, subst, arith, length-append}
 use Rattle.std.specs.Prelude.{nat_lt, slice_get, slice_set}
 use Rattle.std.proofs.lemmas.List.{length-set, take_all, take-append-le, take-set-le}
-use Rattle.std.proofs.lemmas.List.Elements.{All-map, All-push}
+use Rattle.std.proofs.lemmas.List.Elements.{All-push, All-set}
 use Rattle.std.proofs.lemmas.Option.{slice_get-get_or, slice_get_within, get_or_from_slice_get}
 use Rattle.std.proofs.lemmas.Cmp.{eq_by_cmp_equiv, tied_itself, nat_cmp_total}
 use Rattle.std.proofs.lemmas.Map.Entries.{length-keys_of, lookup_at_gap, lookup_from_place, place_from_lookup}
 use Rattle.std.proofs.lemmas.Map.Keys.{IsDistinct-from_sorted, non_decreasing_from_sorted, sorted_head, sorted_tail}
-use Rattle.std.proofs.lemmas.Map.Views.{length-le_from_below}
 use Rattle.std.proofs.lemmas.Bool.Decides.{nat_tests}
 use Rattle.std.specs.declared.cmp.Ordering.TheVariants.{Less, Greater}
 use Rattle.std.specs.Ordering.{match_ordering, nat_cmp, ordering_index, ordering_reverse}
@@ -21,14 +20,15 @@ use Rattle.smq_kit.proofs.Comparisons.{is_equal}
 use Rattle.smq_shelf.specs.Values.{with_value}
 use Rattle.smq_shelf.proofs.Changes.{remove_entry-none}
 use Rattle.smq_pair.specs.declared.entry.Entry.{Entry}
+use Rattle.smq_pair.specs.declared.entry.Link.{Link}
 use Rattle.smq_pair.specs.within.Stream.{Ascend, Held, IsUndoable, logged, undone}
-use Rattle.smq_pair.specs.within.Kept.{held_at, linked, with_partner}
+use Rattle.smq_pair.specs.within.Kept.{held_at, linked, with_link}
 use Rattle.smq_pair.proofs.Lists.{some-is, never}
 use Rattle.smq_pair.proofs.Standing.{all-at}
 
--- an entry with its partner's offset
-abbrev pub linked_to : ℕ → Held → Held
-linked_to q e = (e.0, record e.1 { partner = Some q })
+-- an entry with a link
+abbrev pub linked_to : Link → Held → Held
+linked_to link e = (e.0, record e.1 { link = link })
 
 -- ---- what is found
 
@@ -40,12 +40,6 @@ greater p q h = nat_cmp_total.antisymm q p ∙ ap ordering_reverse h
 
 lesser : (p q : ℕ) → nat_cmp p q ≡ Greater → nat_cmp q p ≡ Less
 lesser p q h = nat_cmp_total.antisymm q p ∙ ap ordering_reverse h
-
--- entries are no more than offsets for them
-pub few : (xs : List Held) (high : ℕ) → Ascend xs → ((i : ℕ) (x : Held) → slice_get xs i ≡ Some x → x.0 < high) → length xs ≤ high
-few xs high s below =
-    let fit = All-map (λ k. k < high) (λ (x : Held). x.0) xs (λ k d within. below k (get_or xs k d) (slice_get-get_or xs k d within)) in
-    subst (λ n. n ≤ high) (length-keys_of xs) (length-le_from_below high (keys_of xs) s fit)
 
 -- the one at an index is found by its offset, and is set there
 pub found-kept : (es : List Held) (j : ℕ) (e : Held) → Ascend es → slice_get es j ≡ Some e → held_at e.0 es ≡ Some e.1
@@ -72,12 +66,12 @@ stands-kept es q x h =
 pub none-kept : (es : List Held) (q : ℕ) → Ascend es → held_at q es ≡ None → (i : ℕ) (e : Held) → slice_get es i ≡ Some e → e.0 ≢ q
 none-kept es q s none i e at same = never (held_at q es) e.1 none (ap (λ p. held_at p es) (sym same) ∙ found-kept es i e s at)
 
-pub linked-kept : (o : Option ℕ) (q : ℕ) (es : List Held) (j : ℕ) (y : Held) → o ≡ Some y.0 → Ascend es → slice_get es j ≡ Some y
-    → linked o q es ≡ slice_set es j (linked_to q y)
-linked-kept o q es j y some s at =
-    ap (λ (o : Option ℕ). linked o q es) some
-    ∙ ap (λ (x : Option Entry). with_value nat_cmp y.0 (with_partner q x) es) (found-kept es j y s at)
-    ∙ set-kept es j y (record y.1 { partner = Some q }) s at
+pub linked-kept : (o : Option ℕ) (l : Link) (es : List Held) (j : ℕ) (y : Held) → o ≡ Some y.0 → Ascend es → slice_get es j ≡ Some y
+    → linked o l es ≡ slice_set es j (linked_to l y)
+linked-kept o l es j y some s at =
+    ap (λ (o : Option ℕ). linked o l es) some
+    ∙ ap (λ (x : Option Entry). with_value nat_cmp y.0 (with_link l x) es) (found-kept es j y s at)
+    ∙ set-kept es j y (record y.1 { link = l }) s at
 
 -- ---- a search
 
@@ -121,14 +115,28 @@ search-found es xs q i e same lt at is = record {
 pub found-held : (es : List Held) (q i : ℕ) (e : Held) → Ascend es → IsFound es q i e → held_at q es ≡ Some e.1
 found-held es q i e s f = ap (λ p. held_at p es) (sym f.key) ∙ found-kept es i e s f.at
 
-pub found-linked : (es : List Held) (q i : ℕ) (e : Held) (p : ℕ) → Ascend es → IsFound es q i e → slice_set es i (linked_to p e) ≡ linked (Some q) p es
+pub found-linked : (es : List Held) (q i : ℕ) (e : Held) (p : Link) → Ascend es → IsFound es q i e → slice_set es i (linked_to p e) ≡ linked (Some q) p es
 found-linked es q i e p s f = sym (linked-kept (Some q) p es i e (ap Some (sym f.key)) s f.at)
 
 -- where none is found, none has a partner to be given
-pub absent-linked : (es xs : List Held) (q p : ℕ) → xs ≡ es → held_at q xs ≡ None → es ≡ linked (Some q) p es
+pub absent-linked : (es xs : List Held) (q : ℕ) (p : Link) → xs ≡ es → held_at q xs ≡ None → es ≡ linked (Some q) p es
 absent-linked es xs q p same none =
     let absent : held_at q es ≡ None = ap (held_at q) (sym same) ∙ none in
-    sym (ap (λ (x : Option Entry). with_value nat_cmp q (with_partner p x) es) absent ∙ remove_entry-none nat_cmp_total (is_at (nat_cmp q)) es absent)
+    sym (ap (λ (x : Option Entry). with_value nat_cmp q (with_link p x) es) absent ∙ remove_entry-none nat_cmp_total (is_at (nat_cmp q)) es absent)
+
+-- what is above all stays so
+pub linked-above : (o : Option ℕ) (l : Link) (es : List Held) (q : ℕ) → Ascend es → All (λ (e : Held). e.0 < q) es → All (λ (e : Held). e.0 < q) (linked o l es)
+linked-above None l es q s all = all
+linked-above (Some at) l es q s all = by_held (held_at at es) refl
+  where
+    by_held : (x : Option Entry) → held_at at es ≡ x → All (λ (e : Held). e.0 < q) (linked (Some at) l es)
+    by_held None none = subst (All (λ (e : Held). e.0 < q)) (absent-linked es es at l refl none) all
+    by_held (Some x) some =
+        let there = stands-kept es at x some in
+        let within = slice_get_within es there.0 (at, x) there.1 in
+        let less : at < q = subst (λ (e : Held). e.0 < q) (get_or_from_slice_get es there.0 (at, x) (at, x) there.1) (all there.0 (at, x) within) in
+        subst (All (λ (e : Held). e.0 < q)) (sym (linked-kept (Some at) l es there.0 (at, x) refl s there.1))
+        (All-set (λ (e : Held). e.0 < q) es there.0 (linked_to l (at, x)) less all)
 
 -- ---- one more
 

@@ -1,5 +1,5 @@
 -- The orders of keys are total, and keys that compare equal are one.
-use Rattle.std.proofs.Common.{◌≡◌, ◌≢◌, Bool, true, false, cond, List, Some, refl, sym, ap, ◌∙◌, subst}
+use Rattle.std.proofs.Common.{◌≡◌, ◌≢◌, Bool, true, false, cond, List, Option, None, Some, refl, sym, ap, ◌∙◌, subst}
 use Rattle.std.proofs.lemmas.Bool.{false≢true}
 use Rattle.std.specs.declared.cmp.Ordering.{Ordering}
 use Rattle.std.specs.declared.cmp.Ordering.TheVariants.{Equal}
@@ -13,10 +13,17 @@ use Rattle.smq_kit.specs.declared.place.Dir.TheVariants.{FromClient, FromCentre}
 use Rattle.smq_kit.specs.Orders.{dir_cmp}
 use Rattle.smq_kit.proofs.Comparisons.{is_equal}
 use Rattle.smq_shelf.proofs.Changes.{lookup-insert_entry, lookup-insert_other}
-use Rattle.smq_pair.specs.declared.entry.Series.{Series}
-use Rattle.smq_pair.specs.declared.entry.Turn.{Turn}
-use Rattle.smq_pair.specs.within.Orders.{series_cmp, turn_cmp}
-use Rattle.smq_pair.specs.within.KeyLaws.{dir_number, side_number, series_order, one_series, one_turn}
+use Rattle.std.proofs.lemmas.Cmp.{eq_by_cmp_equiv}
+use Rattle.std.proofs.lemmas.Map.{lookup-remove_entry}
+use Rattle.std.proofs.lemmas.Map.Keys.{IsDistinct-from_sorted}
+use Rattle.std.specs.List.Sorted.{IsStrictlySortedBy}
+use Rattle.std.specs.Map.{keys_of}
+use Rattle.smq_shelf.specs.Values.{with_value}
+use Rattle.smq_pair.specs.declared.entry.Exchange.{Exchange}
+use Rattle.smq_pair.specs.declared.entry.Waiting.{Waiting}
+use Rattle.smq_pair.specs.within.Orders.{exchange_cmp}
+use Rattle.smq_pair.specs.within.KeyLaws.{dir_number, exchange_order, one_exchange}
+use Rattle.smq_pair.specs.within.Waits.{Waits, waiting_kept}
 
 pub same_dir : (a b : Dir) → dir_cmp a b ≡ Equal → a ≡ b
 same_dir FromClient FromClient e = refl
@@ -30,13 +37,9 @@ dir_itself FromCentre = refl
 
 -- ---- the orders of maps
 
-pub series_total : IsTotalOrder series_cmp
-series_total = subst IsTotalOrder (sym (λ i a b. series_order a b i))
-    (then_total (on_total (λ (s : Series). s.seq) nat_cmp_total)
-    (then_total (on_total (λ (s : Series). dir_number s.dir) nat_cmp_total) (on_total (λ (s : Series). side_number s.side) nat_cmp_total)))
-
-pub turns_total : IsTotalOrder turn_cmp
-turns_total = then_total (on_total (λ (t : Turn). t.series) series_total) (on_total (λ (t : Turn). t.rank) nat_cmp_total)
+pub exchanges_total : IsTotalOrder exchange_cmp
+exchanges_total = subst IsTotalOrder (sym (λ i a b. exchange_order a b i))
+    (then_total (on_total (λ (x : Exchange). x.seq) nat_cmp_total) (on_total (λ (x : Exchange). dir_number x.dir) nat_cmp_total))
 
 -- ---- tests at keys
 
@@ -56,17 +59,13 @@ module _ {K : Type 0} (cmp : K → K → Ordering) (exact : (a b : K) → cmp a 
       (λ same. ap (λ p. lookup (is_at (cmp p)) (insert_entry cmp es k w)) (sym same) ∙ lookup-insert_entry total k w es)
       (λ apart. lookup-insert_other total k q w es (at_key q k (λ b. b ≡ false) (λ same. absurd (apart (sym same))) (λ _. refl)))
 
-pub at_turn : (k q : Turn) (P : Bool → Type 0) → (k ≡ q → P true) → (k ≢ q → P false) → P (is_at (turn_cmp k) q)
-at_turn = at_key turn_cmp one_turn turns_total
+pub at_exchange : (k q : Exchange) (P : Bool → Type 0) → (k ≡ q → P true) → (k ≢ q → P false) → P (is_at (exchange_cmp k) q)
+at_exchange = at_key exchange_cmp one_exchange exchanges_total
 
-pub at_series : (k q : Series) (P : Bool → Type 0) → (k ≡ q → P true) → (k ≢ q → P false) → P (is_at (series_cmp k) q)
-at_series = at_key series_cmp one_series series_total
-
-pub put_turn : {X : Type 0} (k q : Turn) (w : X) (es : List (Turn × X))
-    → lookup (is_at (turn_cmp q)) (insert_entry turn_cmp es k w) ≡ cond (is_at (turn_cmp k) q) (Some w) (lookup (is_at (turn_cmp q)) es)
-put_turn = lookup_put turn_cmp one_turn turns_total
-
-pub put_series : {X : Type 0} (k q : Series) (w : X) (es : List (Series × X))
-    → lookup (is_at (series_cmp q)) (insert_entry series_cmp es k w)
-    ≡ cond (is_at (series_cmp k) q) (Some w) (lookup (is_at (series_cmp q)) es)
-put_series = lookup_put series_cmp one_series series_total
+-- what is kept of an exchange where what waits of one is replaced
+pub kept-with : (k q : Exchange) (w : Option Waiting) (m : Waits) → IsStrictlySortedBy exchange_cmp (keys_of m)
+    → waiting_kept (with_value exchange_cmp k w m) q ≡ cond (is_at (exchange_cmp k) q) w (waiting_kept m q)
+kept-with k q None m sorted =
+    lookup-remove_entry (eq_by_cmp_equiv exchanges_total) (is_at (exchange_cmp k)) ((eq_by_cmp_equiv exchanges_total).congr k) q m
+    (IsDistinct-from_sorted exchange_cmp (keys_of m) sorted)
+kept-with k q (Some w) m sorted = lookup_put exchange_cmp one_exchange exchanges_total k q w m

@@ -7,7 +7,6 @@ pub mod Held
 pub mod Entries
 pub mod Entered
 pub mod Placed
-pub mod Meetings
 pub mod Steps
 pub mod Searched
 pub mod Ranked

@@ -1,5 +1,5 @@
 -- The index of the element of a rank, with one element more at the end.
-use Rattle.std.proofs.Common.{◌≡◌, ℕ, zero, suc, ◌+◌, Bool, true, false, cond, List, [], ◌∷◌, ◌++◌, length, Option, Some, None, refl, sym, ap, ◌∙◌, arith, zero-add}
+use Rattle.std.proofs.Common.{◌≡◌, ℕ, zero, suc, ◌+◌, ◌<◌, ◌≤◌, subst, Bool, true, false, cond, List, [], ◌∷◌, ◌++◌, length, Option, Some, None, refl, sym, ap, ◌∙◌, arith, zero-add}
 use Rattle.std.specs.Prelude.{◌==◌, ◌&&◌, count_by, map, option_map, slice_get}
 use mathlib.Core.Bool.{and-false}
 use Rattle.std.proofs.lemmas.Bool.Decides.{nat_tests}
@@ -57,18 +57,31 @@ module _ {X : Type 0} (p : X → Bool) where
   place-last [] x rank = first-last x rank (p x) refl
   place-last (y ∷ ys) x rank = rw (count-cons y ys) (more y ys x rank (p y) refl (place-last ys x))
 
-  -- no element has the rank that is next
-  none_by : (x : X) (xs : List X) (b : Bool) → p x ≡ b → nth_index p xs (count_by p xs) ≡ None
-      → nth_index p (x ∷ xs) (cond b 1 0 + count_by p xs) ≡ None
-  none_by x xs true e h =
-      let more : 1 + count_by p xs ≡ suc (count_by p xs) = omega arith in
-      ap (λ n. nth_index p (x ∷ xs) n) more ∙ taken x xs (count_by p xs) e ∙ ap (option_map suc) h
-  none_by x xs false e h = ap (λ n. nth_index p (x ∷ xs) n) (zero-add (count_by p xs)) ∙ skipped x xs (count_by p xs) e ∙ ap (option_map suc) h
+  -- elements have the ranks below so many as pass, and no others
+  none_from : (x : X) (xs : List X) (b : Bool) → p x ≡ b → ((k : ℕ) → count_by p xs ≤ k → nth_index p xs k ≡ None)
+      → (k : ℕ) → cond b 1 0 + count_by p xs ≤ k → nth_index p (x ∷ xs) k ≡ None
+  none_from x xs true e ih zero h = absurd (omega (arith, h))
+  none_from x xs true e ih (suc k) h = taken x xs k e ∙ ap (option_map suc) (ih k (omega (arith, h)))
+  none_from x xs false e ih k h = skipped x xs k e ∙ ap (option_map suc) (ih k (omega (arith, h)))
+
+  pub none-beyond : (xs : List X) (k : ℕ) → count_by p xs ≤ k → nth_index p xs k ≡ None
+  unfolding nth_index
+  none-beyond [] k h = refl
+  none-beyond (x ∷ xs) k h = none_from x xs (p x) refl (none-beyond xs) k (subst (λ n. n ≤ k) (count-cons x xs) h)
+
+  some_from : (x : X) (xs : List X) (b : Bool) → p x ≡ b → ((k : ℕ) → k < count_by p xs → (i : ℕ) × (nth_index p xs k ≡ Some i))
+      → (k : ℕ) → k < cond b 1 0 + count_by p xs → (i : ℕ) × (nth_index p (x ∷ xs) k ≡ Some i)
+  unfolding nth_index
+  some_from x xs true e ih zero h = (0, rw e refl)
+  some_from x xs true e ih (suc k) h = let r = ih k (omega (arith, h)) in (suc r.0, taken x xs k e ∙ ap (option_map suc) r.1)
+  some_from x xs false e ih k h = let r = ih k (omega (arith, h)) in (suc r.0, skipped x xs k e ∙ ap (option_map suc) r.1)
+
+  pub some-within : (xs : List X) (k : ℕ) → k < count_by p xs → (i : ℕ) × (nth_index p xs k ≡ Some i)
+  some-within [] k h = absurd (omega (arith, h))
+  some-within (x ∷ xs) k h = some_from x xs (p x) refl (some-within xs) k (subst (λ n. k < n) (count-cons x xs) h)
 
   pub place-none : (xs : List X) → nth_index p xs (count_by p xs) ≡ None
-  unfolding nth_index
-  place-none [] = refl
-  place-none (x ∷ xs) = ap (λ n. nth_index p (x ∷ xs) n) (count-cons x xs) ∙ none_by x xs (p x) refl (place-none xs)
+  place-none xs = none-beyond xs (count_by p xs) (omega arith)
 
 -- ---- lists
 

@@ -12,28 +12,28 @@ use Rattle.smq_kit.specs.declared.place.Dir.TheVariants.{FromClient, FromCentre}
 use Rattle.smq_kit.specs.declared.place.Place.{Place}
 use Rattle.smq_kit.specs.Orders.{place_cmp}
 use Rattle.smq_pdu.specs.Header.{Header}
-use Rattle.smq_pdu.specs.Pairing.{nth_index}
 use Rattle.smq_pair.specs.declared.entry.Entry.{Entry}
 use Rattle.smq_pair.specs.declared.entry.Side.{Side}
-use Rattle.smq_pair.specs.declared.entry.Turn.{Turn}
+use Rattle.smq_pair.specs.declared.entry.Side.TheVariants.{Request, Response}
+use Rattle.smq_pair.specs.declared.entry.Series.{Series}
 use Rattle.smq_pair.specs.Paired.{no_pdus}
 use Rattle.smq_pair.specs.Pairing.{PlacedHeader, PairingValue, pdus_from, opposite, pair_at, places_of}
 use Rattle.smq_pair.specs.Growth.{AreInOrder}
-use Rattle.smq_pair.specs.within.Turns.{is_of, is_on, headers_from, index_at, unpaired_at, partner, partner_of}
+use Rattle.smq_pair.specs.within.Turns.{count_in, is_of, is_on, headers_from, partner_of}
 use Rattle.smq_pair.specs.within.Stream.{Held}
-use Rattle.smq_pair.specs.within.Kept.{Entries, alone_from, at_offset, entries_from, header_of, held_at, is_alone, kept_at, pair_found, partner_kept, pdus_in, placed, places_alone}
-use Rattle.smq_pair.specs.within.Maps.{Holds, Matching, offset_at}
+use Rattle.smq_pair.specs.within.Kept.{Entries, alone_from, at_offset, entries_from, header_of, held_at, is_alone, kept_at, pair_found, partner_in, partner_kept, pdus_in, placed, places_alone}
+use Rattle.smq_pair.specs.within.Waits.{Holds, Waits, series_in}
 use Rattle.smq_pair.proofs.Lists.{some-is}
 use Rattle.std.proofs.lemmas.Bool.{eqb-true}
 use Rattle.smq_pair.proofs.Standing.{pair_either, pair-here, pair-nowhere, ascend-filter, IsNowhere}
 use Rattle.smq_pair.proofs.Held.{stands-kept, none-kept}
 use Rattle.smq_pair.proofs.Entries.{entries-ascend, pdu-kept, entry-at, one-session}
-use Rattle.smq_pair.proofs.Steps.{pair-found}
+use Rattle.smq_pair.proofs.Steps.{pair-found, partner-kept}
 
 -- ---- the pair at a place
 
 -- what is kept at a place of the session has the pair that is found there
-found-by : (m : Matching) (es : Entries) (d : Dir) (offset : ℕ) (x : Entry) → Holds m es → held_at offset (entries_from d es) ≡ Some x
+found-by : (m : Waits) (es : Entries) (d : Dir) (offset : ℕ) (x : Entry) → Holds m es → held_at offset (entries_from d es) ≡ Some x
     → pair_found (at_offset es.session d offset) x (partner_kept d x es) ≡ pair_at (pdus_in es) (at_offset es.session d offset)
 found-by m es d offset x h is = let there = stands-kept (entries_from d es) offset x is in pair-found m es d there.0 (offset, x) h there.1
 
@@ -54,7 +54,7 @@ pub none-at : (es : Entries) (v : PairingValue) (q : Place) → AreInOrder (pdus
 none-at es v q order view is =
     sym (pair-nowhere (pdus_in es) q (nowhere-kept es q order (sym is))) ∙ ap (λ (w : PairingValue). pair_at w q) view
 
-pub found-at : (m : Matching) (es : Entries) (v : PairingValue) (q : Place) (x : Entry) → Holds m es → pdus_in es ≡ v
+pub found-at : (m : Waits) (es : Entries) (v : PairingValue) (q : Place) (x : Entry) → Holds m es → pdus_in es ≡ v
     → Some x ≡ kept_at q es → pair_found q x (partner_kept q.dir x es) ≡ pair_at v q
 found-at m es v q x h view is =
     by_session (q.session.0 == es.session.0) refl (sym is) ∙ ap (λ (w : PairingValue). pair_at w q) view
@@ -72,29 +72,24 @@ no_headers : (d : Dir) → headers_from d no_pdus ≡ []
 no_headers FromClient = refl
 no_headers FromCentre = refl
 
-no_index : (t : Turn) → index_at no_pdus t ≡ None
-unfolding nth_index
-no_index t = ap (λ hs. nth_index (is_of t.series.side t.series.seq) hs t.rank) (no_headers t.series.dir)
-
-no_unpaired : (t : Turn) → unpaired_at no_pdus t ≡ None
-no_unpaired t = λ i. cond (is_none (no_index (partner t) i)) (no_index t i) None
+none_of : (s : Series) → count_in no_pdus s ≡ 0
+none_of s = ap (count_by (is_of s.side s.seq)) (no_headers s.dir)
 
 no_entries : (d : Dir) (s : SessionId) (i : ℕ) (e : Held) → slice_get (entries_from d (record { session = s; client = []; centre = [] })) i ≢ Some e
 no_entries FromClient s i e at = absurd cc
 no_entries FromCentre s i e at = absurd cc
 
-none_hold : (s : SessionId) → Holds (record { lasts = []; unpaired = [] }) (record { session = s; client = []; centre = [] })
+none_hold : (s : SessionId) → Holds [] (record { session = s; client = []; centre = [] })
 unfolding IsStrictlySortedBy
 none_hold s = record {
   in_order = record { client = refl; centre = refl; ascend = tt };
-  counts = λ s. sym (ap (count_by (is_of s.side s.seq)) (no_headers s.dir));
-  unpaired = λ t. sym (ap (offset_at no_pdus t.series.dir) (no_unpaired t));
-  partners = λ d i e at. absurd (no_entries d s i e at);
+  waits = λ x. none_of (series_in x Request) ∙ sym (none_of (series_in x Response));
+  links = λ d i e at. absurd (no_entries d s i e at);
 }
 
-pub holds-none : (m : Matching) (es : Entries) → m ≡ record { lasts = []; unpaired = [] } → es.client ≡ [] → es.centre ≡ [] → Holds m es
-holds-none m es matching client centre =
-    subst (λ (n : Matching). Holds n es) (sym matching) (subst (Holds (record { lasts = []; unpaired = [] }))
+pub holds-none : (m : Waits) (es : Entries) → m ≡ [] → es.client ≡ [] → es.centre ≡ [] → Holds m es
+holds-none m es waits client centre =
+    subst (λ (n : Waits). Holds n es) (sym waits) (subst (Holds [])
     (λ i. record { session = es.session; client = sym client i; centre = sym centre i }) (none_hold es.session))
 
 -- ---- what is alone
@@ -106,15 +101,15 @@ none_both f g xs (Some i) =
     elim (slice_get xs i) as (λ x. is_none (option_map f x) ≡ is_none (option_map g x)) [ None ↦ refl | Some x ↦ refl ]
 
 -- an entry has no partner where there is no pair at its place
-pub alone-is : (m : Matching) (es : Entries) (d : Dir) (i : ℕ) (e : Held) → Holds m es → slice_get (entries_from d es) i ≡ Some e
-    → is_none e.1.partner ≡ is_none (pair_at (pdus_in es) (at_offset es.session d e.0))
+pub alone-is : (m : Waits) (es : Entries) (d : Dir) (i : ℕ) (e : Held) → Holds m es → slice_get (entries_from d es) i ≡ Some e
+    → is_none (partner_in e.1.link) ≡ is_none (pair_at (pdus_in es) (at_offset es.session d e.0))
 alone-is m es d i e h at =
-    ap is_none (h.partners d i e at)
+    ap is_none (partner-kept m es d i e h at)
     ∙ none_both (λ p. p.place.offset) (pair_either (placed es.session d e)) (pdus_from (opposite d) (pdus_in es))
     (partner_of (pdus_in es) d i (header_of e.1))
     ∙ sym (ap is_none (pair-here (pdus_in es) d i (placed es.session d e) h.in_order (pdu-kept d es i e at)))
 
-module _ (m : Matching) (es : Entries) (side : Side) (h : Holds m es) where
+module _ (m : Waits) (es : Entries) (side : Side) (h : Holds m es) where
   abbrev is_free : Place → Bool
   is_free q = is_none (pair_at (pdus_in es) q)
 
@@ -123,7 +118,7 @@ module _ (m : Matching) (es : Entries) (side : Side) (h : Holds m es) where
   places_on ps = map (λ (p : PlacedHeader). p.place) (filter (λ (p : PlacedHeader). is_on side p.header) ps)
 
   alone-among : (d : Dir) (xs : List Held)
-      → ((i : ℕ) (e : Held) → slice_get xs i ≡ Some e → is_none e.1.partner ≡ is_free (at_offset es.session d e.0))
+      → ((i : ℕ) (e : Held) → slice_get xs i ≡ Some e → is_none (partner_in e.1.link) ≡ is_free (at_offset es.session d e.0))
       → alone_from side es.session d xs ≡ filter is_free (places_on (map (placed es.session d) xs))
   alone-among d [] h = refl
   alone-among d (x ∷ xs) h =
@@ -132,7 +127,7 @@ module _ (m : Matching) (es : Entries) (side : Side) (h : Holds m es) where
       let kept = filter (λ (p : PlacedHeader). is_on side p.header) (map (placed es.session d) xs) in
       let free = filter is_free (map (λ (p : PlacedHeader). p.place) kept) in
       let later = alone-among d xs (λ i. h (suc i)) in
-      elim (is_on side (header_of x.1)) as (λ a. map f (cond (a && is_none x.1.partner) (x ∷ alone) alone)
+      elim (is_on side (header_of x.1)) as (λ a. map f (cond (a && is_none (partner_in x.1.link)) (x ∷ alone) alone)
       ≡ filter is_free (map (λ (p : PlacedHeader). p.place) (cond a (placed es.session d x ∷ kept) kept))) [
         | true ↦ ap (λ b. map f (cond b (x ∷ alone) alone)) (h 0 x refl) ∙ elim (is_free (f x)) as
             (λ b. map f (cond b (x ∷ alone) alone) ≡ cond b (f x ∷ free) free) [ true ↦ ap (λ qs. f x ∷ qs) later | false ↦ later ]

@@ -12,7 +12,7 @@ use Rattle.smq_pdu.proofs.Pairs.{stands, found}
 use Rattle.smq_pair.specs.declared.entry.Side.{Side}
 use Rattle.smq_pair.specs.declared.entry.Side.TheVariants.{Request, Response}
 use Rattle.smq_pair.specs.declared.entry.Series.{Series}
-use Rattle.smq_pair.specs.declared.entry.Turn.{Turn}
+use Rattle.smq_pair.specs.within.Turns.{Turn}
 use Rattle.smq_pair.specs.Pairing.{PlacedHeader, PairingValue, pdus_from, opposite, headers}
 use Rattle.smq_pair.specs.Growth.{pushed, pushed_in}
 use Rattle.smq_pair.specs.within.Turns.{other_side, is_of, headers_from, count_in, index_at, partner, side_of, series_of, turn_after, turn_of}
@@ -24,7 +24,7 @@ pub opposite-back : (d : Dir) → opposite (opposite d) ≡ d
 opposite-back FromClient = refl
 opposite-back FromCentre = refl
 
-other_side-back : (s : Side) → other_side (other_side s) ≡ s
+pub other_side-back : (s : Side) → other_side (other_side s) ≡ s
 other_side-back Request = refl
 other_side-back Response = refl
 

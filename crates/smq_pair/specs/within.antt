@@ -4,4 +4,4 @@ pub mod Orders
 pub mod KeyLaws
 pub mod Stream
 pub mod Kept
-pub mod Maps
+pub mod Waits

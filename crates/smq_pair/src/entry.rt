@@ -1,65 +1,114 @@
-//! What is kept of a PDU, and where it stands among the PDUs of its kind.
+//! What is kept of a PDU, and what waits of its sequence number.
 ghost use Rattle.std.specs.Prelude.{◌≡◌};
 ghost use Rattle.smq_pair.specs.Pairing as pairing;
-ghost use Rattle.smq_pair.specs.within.Turns as defined;
-ghost use Rattle.smq_pair.specs.within.Kept.{series_of_entry, is_alone};
+ghost use Rattle.smq_pair.specs.within.Waits as defined;
+ghost use Rattle.smq_pair.specs.within.Kept.{series_of_entry, is_alone, next_in, partner_in};
 
 use smq_kit::Dir;
 use smq_pdu::{is_request, is_response};
-use smq_shelf::ShelfKey;
+use smq_shelf::{Change, ShelfKey};
 
-/// What is kept of a PDU: what its header says, and the offset of its partner in the other direction, if it has one.
+/// What is kept of a PDU: what its header says, and to which PDU it is linked.
 #[derive(Clone, Copy)]
 pub(crate) struct Entry {
     pub seq: u32,
     pub command: u32,
     pub status: u32,
-    pub partner: Option<u64>,
+    pub link: Link,
+}
+
+/// To which PDU one is linked, by offset.
+#[derive(Clone, Copy)]
+pub(crate) enum Link {
+    /// To none: it has no partner, and none waits after it.
+    Alone,
+    /// To the next of its direction that waits as it does.
+    Before(u64),
+    /// To its partner, in the other direction.
+    Partner(u64),
 }
 
 /// What a PDU is in a pair.
-#[derive(Clone, Copy, PartialEq, Eq, PartialOrd, Ord)]
+#[derive(Clone, Copy, PartialEq, Eq)]
 pub(crate) enum Side {
     Request,
     Response,
 }
 
 /// The requests of a direction, or its responses, of one sequence number.
-#[derive(Clone, Copy, PartialEq, Eq, PartialOrd, Ord)]
+#[derive(Clone, Copy)]
 pub(crate) struct Series {
     pub seq: u32,
     pub dir: Dir,
     pub side: Side,
 }
 
-/// A series, and a rank in it: how many PDUs of the series come before.
+/// The requests of a direction that have one sequence number, and the responses to them in the other.
 #[derive(Clone, Copy, PartialEq, Eq, PartialOrd, Ord)]
-pub(crate) struct Turn {
-    pub series: Series,
-    pub rank: u64,
+pub(crate) struct Exchange {
+    pub seq: u32,
+    pub dir: Dir,
 }
 
-impl ShelfKey for Series {
-    ghost use Rattle.smq_pair.specs.within.KeyLaws.{one_series};
+/// The PDUs of an exchange that have no partner, which are all of one side: the offsets of the first and the last.
+#[derive(Clone, Copy)]
+pub(crate) struct Waiting {
+    pub side: Side,
+    pub first: u64,
+    pub last: u64,
+}
 
-    ghost exact = { one_series };
+/// What a PDU makes of an exchange: what waits after it, the one before it that waits, and its own link.
+#[derive(Clone, Copy)]
+pub(crate) struct Outcome {
+    pub waiting: Option<Waiting>,
+    pub before: Option<u64>,
+    pub link: Link,
+}
 
-    fn copy(&self) -> Series {
-        *self
+/// What waits, or that nothing does, in place of what did.
+#[derive(Clone, Copy)]
+pub(crate) struct Replaced(pub Option<Waiting>);
+
+impl Change<Waiting> for Replaced {
+    ghost after = { λ replaced _. replaced.0 };
+
+    fn after(&self, _before: Option<&Waiting>) -> Option<Waiting> {
+        self.0
     }
 }
 
-impl ShelfKey for Turn {
-    ghost use Rattle.smq_pair.specs.within.KeyLaws.{one_turn};
+impl ShelfKey for Exchange {
+    ghost use Rattle.smq_pair.specs.within.KeyLaws.{one_exchange};
 
-    ghost exact = { one_turn };
+    ghost exact = { one_exchange };
 
-    fn copy(&self) -> Turn {
+    fn copy(&self) -> Exchange {
         *self
     }
 }
 
 impl Entry {
+    /// The offset of its partner, if it has one.
+    pub(crate) fn partner(&self) -> Option<u64>
+        ensures { result ≡ partner_in self.now.link }
+    {
+        match self.link {
+            Link::Partner(offset) => Some(offset),
+            _ => None,
+        }
+    }
+
+    /// The offset of the next that waits as it does, if there is one.
+    pub(crate) fn next(&self) -> Option<u64>
+        ensures { result ≡ next_in self.now.link }
+    {
+        match self.link {
+            Link::Before(offset) => Some(offset),
+            _ => None,
+        }
+    }
+
     /// The series in which it stands, if it is a request or a response of a direction.
     pub(crate) fn series(&self, dir: Dir) -> Option<Series>
         ensures { result ≡ series_of_entry dir self.now }
@@ -86,27 +135,78 @@ impl Entry {
             Side::Request => is_request(self.command),
             Side::Response => is_response(self.command),
         };
-        is_of_side && self.partner.is_none()
+        is_of_side && self.partner().is_none()
     }
 }
 
-impl Turn {
-    /// The turn of what makes a pair with the PDU of this turn.
-    pub(crate) fn partner(&self) -> Turn
-        ensures { result ≡ defined.partner self.now }
+impl Series {
+    /// The exchange of which it is a side.
+    pub(crate) fn exchange(&self) -> Exchange
+        ensures { result ≡ defined.exchange_of self.now }
     {
-        let side = match self.series.side {
-            Side::Request => Side::Response,
-            Side::Response => Side::Request,
-        };
-        Turn {
-            series: Series {
-                dir: opposite(self.series.dir),
-                side,
-                seq: self.series.seq,
-            },
-            rank: self.rank,
+        Exchange {
+            seq: self.seq,
+            dir: dir_of(self.side, self.dir),
         }
+    }
+}
+
+/// The direction of a side, where this is that of requests; and the other way round.
+pub(crate) fn dir_of(side: Side, dir: Dir) -> Dir
+    ensures { result ≡ defined.dir_of side dir }
+{
+    match side {
+        Side::Request => dir,
+        Side::Response => opposite(dir),
+    }
+}
+
+/// What the PDU at an offset, of a side, makes of an exchange, where the second of those that wait is at `next`.
+pub(crate) fn meeting(
+    waiting: Option<Waiting>,
+    side: Side,
+    offset: u64,
+    next: Option<u64>,
+) -> Outcome
+    ensures { result ≡ defined.meeting waiting side offset next }
+{
+    let Some(waiting) = waiting else {
+        let first = offset;
+        let last = offset;
+        return Outcome {
+            waiting: Some(Waiting { side, first, last }),
+            before: None,
+            link: Link::Alone,
+        };
+    };
+    if is_same(waiting.side, side) {
+        return Outcome {
+            waiting: Some(Waiting {
+                last: offset,
+                ..waiting
+            }),
+            before: Some(waiting.last),
+            link: Link::Alone,
+        };
+    }
+    Outcome {
+        waiting: match next {
+            Some(first) => Some(Waiting { first, ..waiting }),
+            None => None,
+        },
+        before: None,
+        link: Link::Partner(waiting.first),
+    }
+}
+
+/// Whether two sides are one.
+fn is_same(side: Side, other: Side) -> bool
+    ensures { result ≡ defined.is_same side other }
+{
+    match (side, other) {
+        (Side::Request, Side::Request) => true,
+        (Side::Response, Side::Response) => true,
+        _ => false,
     }
 }
 

@@ -1,14 +1,12 @@
 //! Which response belongs to which request, as the PDUs of a session come in, whichever of its directions is read first.
 #![tactic(auto)]
 
-mod changes;
 mod entry;
 mod laws;
 mod pairing;
 mod places;
 mod stream;
 mod streams;
-mod turns;
 
 pub use laws::{
     known_pairings, order_of_directions_is_idle, pairs_are_by_rank, pairs_grow_by_one,

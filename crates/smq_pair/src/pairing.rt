@@ -1,18 +1,23 @@
 //! Pairs of requests and responses, as PDUs come.
 ghost use Rattle.std.specs.Prelude.{◌≡◌, ◌↔◌, ◌≤◌, ◌+◌, ◌*◌, ◌-◌, ◌^◌, ◌||◌, true, min, IfOk, IsTrue, OnErr, OnOk};
 ghost use Rattle.std.specs.List.Sorted.{IsStrictlySortedBy};
+ghost use Rattle.std.specs.Map.{keys_of};
 ghost use Rattle.smq_kit.specs.Orders.{place_cmp};
 ghost use Rattle.smq_shelf.specs.Shown.{touched};
+ghost use Rattle.smq_shelf.specs.Values.{with_value};
 ghost use Rattle.smq_pdu.specs.Pairing.{is_request, is_response};
 ghost use Rattle.smq_pair.specs.Growth.{IsNext, pushed};
 ghost use Rattle.smq_pair.specs.Paired.{no_pdus};
 ghost use Rattle.smq_pair.specs.Pairing.{pair_at, strays, waiting, placed_header};
+ghost use Rattle.smq_pair.specs.within.Orders.{exchange_cmp};
+ghost use Rattle.smq_pair.specs.within.Waits.{exchange_of, meeting_at};
+ghost use Rattle.smq_pair.specs.within.Kept.{are_below, entries_in, joined, pair_found, partner_kept, pdus_in, settled_entries, with_its};
 
-use crate::entry::{Entry, Side};
+use crate::entry::{Entry, Exchange, Link, Replaced, Series, Side, Waiting, dir_of, meeting};
 use crate::places::Places;
 use crate::streams::Streams;
-use crate::turns::Turns;
 use smq_kit::Place;
+use smq_shelf::Kept;
 use std::alloc::{AllocError, Global};
 use std::marker::Model;
 
@@ -33,7 +38,7 @@ pub struct Pair {
 #[derive(Drop)]
 pub struct Pairing {
     streams: Streams,
-    turns: Turns,
+    waits: Kept<Exchange, Waiting>,
 }
 
 impl Model for Pairing {
@@ -42,19 +47,18 @@ impl Model for Pairing {
     ghost Value = { PairedValue };
 
     ghost use Rattle.smq_pair.specs.within.Kept.{entries_in, pdus_in, settled_entries};
-    ghost use Rattle.smq_pair.specs.within.Maps.{matching_in, pending_in, settled_matching, touches_in};
 
     ghost view = { λ a. record {
       pdus = pdus_in (entries_in a.streams);
       settled = pdus_in (settled_entries a.streams);
-      touches = touches_in a.turns;
-      pending = pending_in a.turns;
+      touches = a.waits.touches;
+      pending = a.waits.pending;
     } };
 
-    ghost use Rattle.smq_pair.specs.within.Maps.{Holds};
+    ghost use Rattle.smq_pair.specs.within.Waits.{Holds};
 
-    ghost invariant = { λ a. Holds (matching_in a.turns) (entries_in a.streams)
-        × Holds (settled_matching a.turns) (settled_entries a.streams) };
+    ghost invariant = { λ a. Holds a.waits.content (entries_in a.streams)
+        × Holds a.waits.settled (settled_entries a.streams) };
 }
 
 impl Pairing {
@@ -67,7 +71,7 @@ impl Pairing {
     {
         Pairing {
             streams: Streams::new(alloc),
-            turns: Turns::new(alloc),
+            waits: Kept::new(alloc),
         }
     }
 
@@ -105,16 +109,11 @@ impl Pairing {
             seq,
             command,
             status,
-            partner: None,
+            link: Link::Alone,
         };
-        let series = alone.series(place.dir);
-        let partner = self.turns.enter(series, place.offset)?;
-        match self.streams.add(place, Entry { partner, ..alone }) {
-            Ok(made) => Ok(made),
-            Err(error) => {
-                self.turns.leave(series);
-                Err(error)
-            }
+        match alone.series(place.dir) {
+            Some(series) => Ok(meet(&mut self.waits, &mut self.streams, series, place, alone)?),
+            None => Ok(self.streams.add(place, None, alone)?),
         }
     }
 
@@ -152,7 +151,7 @@ impl Pairing {
         ensures counted { self.old.touches ≤ self.new.touches }
     {
         self.streams.undo();
-        self.turns.undo();
+        self.waits.undo();
     }
 
     /// Makes the PDUs those that `undo` brings back. It takes no memory.
@@ -164,13 +163,64 @@ impl Pairing {
         ensures counted { self.old.touches ≤ self.new.touches }
     {
         self.streams.settle();
-        self.turns.settle();
+        self.waits.settle();
     }
 
     /// How many touches its shelves had, saturating.
     pub fn touches(&self) -> u64
         ensures { result ≡ min self.now.touches (2 ^ 64 - 1) }
     {
-        self.turns.touches()
+        self.waits.touches()
+    }
+}
+
+/// Takes the next PDU of a series: it meets the first that waits on the other side of its exchange, or waits. It gives the
+/// pair that it makes. An error changes nothing but the touches.
+fn meet(
+    waits: &mut Kept<Exchange, Waiting>,
+    streams: &mut Streams,
+    series: Series,
+    place: Place,
+    alone: Entry,
+) -> Result<Option<Pair>, AllocError>
+    requires { are_below place (pdus_in (entries_in streams.old)) ≡ true }
+    ensures waits { OnOk result (waits.new.content ≡ with_value exchange_cmp (exchange_of series)
+        (meeting_at series place.offset waits.old.content (entries_in streams.old)).waiting
+        waits.old.content) }
+    ensures ordered { OnOk result
+        (IsStrictlySortedBy exchange_cmp (keys_of waits.old.content)) }
+    ensures streams { let m = meeting_at series place.offset waits.old.content (entries_in streams.old)
+        in OnOk result (entries_in streams.new ≡ joined place.dir place m.before
+        (with_its m.link alone) (entries_in streams.old)) }
+    ensures made { let m = meeting_at series place.offset waits.old.content (entries_in streams.old)
+        in IfOk result (λ made. made ≡ pair_found place (with_its m.link alone)
+        (partner_kept place.dir (with_its m.link alone) (entries_in streams.old))) }
+    ensures err { OnErr result (waits.new.content ≡ waits.old.content) }
+    ensures err_streams { OnErr result (entries_in streams.new ≡ entries_in streams.old) }
+    ensures settled { waits.new.settled ≡ waits.old.settled }
+    ensures settled_streams { settled_entries streams.new ≡ settled_entries streams.old }
+    ensures touches { waits.new.touches ≤ waits.old.touches + 3 }
+    ensures touched { OnOk result (touched waits.old.touches ≤ waits.new.touches) }
+    ensures counted { waits.old.touches ≤ waits.new.touches }
+    ensures pending { waits.new.pending ≤ waits.old.pending + 1 }
+{
+    let exchange = series.exchange();
+    let waiting = waits.get(&exchange).copied();
+    let next = match waiting {
+        Some(waiting) => streams.next_of(dir_of(waiting.side, exchange.dir), waiting.first),
+        None => None,
+    };
+    let met = meeting(waiting, series.side, place.offset, next);
+    waits.change(exchange, &Replaced(met.waiting))?;
+    let entry = Entry {
+        link: met.link,
+        ..alone
+    };
+    match streams.add(place, met.before, entry) {
+        Ok(made) => Ok(made),
+        Err(error) => {
+            waits.take_back();
+            Err(error)
+        }
     }
 }

@@ -4,7 +4,7 @@ ghost use Rattle.std.specs.List.{All};
 ghost use Rattle.smq_pair.specs.within.Stream.{Ascend, Held, logged};
 ghost use Rattle.smq_pair.specs.within.Kept.{held_at, linked};
 
-use crate::entry::Entry;
+use crate::entry::{Entry, Link};
 use std::alloc::{AllocError, Global};
 use std::marker::Model;
 
@@ -70,6 +70,7 @@ impl Stream {
     pub(crate) fn make_room(&mut self) -> Result<(), AllocError>
         ensures room { OnOk result (0 < self.new.room) }
         ensures content { self.new.content ≡ self.old.content }
+        ensures ordered { Ascend self.new.content }
         ensures settled { self.new.settled ≡ self.old.settled }
     {
         make_room(&mut self.entries)
@@ -85,11 +86,10 @@ impl Stream {
         self.entries.push_reserved((offset, entry));
     }
 
-    /// Gives the PDU at an offset, if there is one, its partner's offset, and tells what was kept of it. An error changes
-    /// nothing.
-    pub(crate) fn link(&mut self, offset: u64, partner: u64) -> Result<Option<Entry>, AllocError>
+    /// Gives the PDU at an offset, if there is one, a link, and tells what was kept of it. An error changes nothing.
+    pub(crate) fn link(&mut self, offset: u64, link: Link) -> Result<Option<Entry>, AllocError>
         ensures content { OnOk result
-            (self.new.content ≡ linked (Some offset) partner self.old.content) }
+            (self.new.content ≡ linked (Some offset) link self.old.content) }
         ensures found { IfOk result (λ found. found ≡ held_at offset self.old.content) }
         ensures err { OnErr result (self.new.content ≡ self.old.content) }
         ensures settled { self.new.settled ≡ self.old.settled }
@@ -100,11 +100,7 @@ impl Stream {
         };
         let (at, entry) = self.entries[index];
         log_change(&mut self.log, self.settled, index, (at, entry))?;
-        let linked = Entry {
-            partner: Some(partner),
-            ..entry
-        };
-        self.entries[index] = (at, linked);
+        self.entries[index] = (at, Entry { link, ..entry });
         Ok(Some(entry))
     }
 

@@ -1,10 +1,11 @@
 //! The PDUs of both directions, as they are kept.
-ghost use Rattle.std.specs.Prelude.{◌≡◌, ◌<◌, ◌++◌, ◌∷◌, [], true, IfOk, OnOk, OnErr, option_and_then};
+ghost use Rattle.std.specs.Prelude.{◌≡◌, ◌<◌, ◌++◌, ◌∷◌, [], true, None, IfOk, IsSome, OnOk, OnErr, option_and_then};
+ghost use Rattle.smq_pair.specs.declared.entry.Link.TheVariants.{Before, Partner};
 ghost use Rattle.std.specs.List.{All};
 ghost use Rattle.smq_pair.specs.Pairing.{pair_of};
-ghost use Rattle.smq_pair.specs.within.Kept.{are_below, are_of_session, entries_from, entries_in, held_at, joined, kept_at, linked, pair_found, partner_kept, pdus_in, placed_at, places_alone, settled_entries};
+ghost use Rattle.smq_pair.specs.within.Kept.{are_below, are_of_session, entries_from, entries_in, held_at, joined, kept_at, linked, next_kept, pair_found, partner_in, partner_kept, pdus_in, placed_at, places_alone, settled_entries};
 
-use crate::entry::{Entry, Side, opposite};
+use crate::entry::{Entry, Link, Side, opposite};
 use crate::pairing::Pair;
 use crate::places::{Places, at};
 use crate::stream::Stream;
@@ -47,20 +48,38 @@ impl Streams {
         self.from(place.dir).get(place.offset)
     }
 
-    /// Puts a PDU at a place above those of its direction, makes it the partner of its own, and gives the pair that they
-    /// are. An error changes nothing.
-    pub(crate) fn add(&mut self, place: Place, entry: Entry) -> Result<Option<Pair>, AllocError>
-        requires { are_below place (pdus_in (entries_in self.old)) ≡ true }
+    /// Puts a PDU at a place above those of its direction, makes it the partner of its own and the next of the one at
+    /// `before`, not both, and gives the pair that it makes. An error changes nothing.
+    pub(crate) fn add(
+        &mut self,
+        place: Place,
+        before: Option<u64>,
+        entry: Entry,
+    ) -> Result<Option<Pair>, AllocError>
+        requires below { are_below place (pdus_in (entries_in self.old)) ≡ true }
+        requires one { IsSome before → partner_in entry.link ≡ None }
         ensures added { OnOk result
-            (entries_in self.new ≡ joined place.dir place entry (entries_in self.old)) }
+            (entries_in self.new ≡ joined place.dir place before entry (entries_in self.old)) }
         ensures made { IfOk result (λ made. made
             ≡ pair_found place entry (partner_kept place.dir entry (entries_in self.old))) }
         ensures err { OnErr result (entries_in self.new ≡ entries_in self.old) }
         ensures settled { settled_entries self.new ≡ settled_entries self.old }
     {
         let found = match place.dir {
-            Dir::FromClient => join(&mut self.client, &mut self.centre, place.offset, entry)?,
-            Dir::FromCentre => join(&mut self.centre, &mut self.client, place.offset, entry)?,
+            Dir::FromClient => join(
+                &mut self.client,
+                &mut self.centre,
+                place.offset,
+                before,
+                entry,
+            )?,
+            Dir::FromCentre => join(
+                &mut self.centre,
+                &mut self.client,
+                place.offset,
+                before,
+                entry,
+            )?,
         };
         self.session = place.session;
         Ok(pair(place, entry, found))
@@ -121,9 +140,16 @@ impl Streams {
         ensures { result
             ≡ pair_found place entry (partner_kept place.dir entry (entries_in self.now)) }
     {
-        let partner = entry.partner?;
+        let partner = entry.partner()?;
         let found = self.from(opposite(place.dir)).get(partner);
         pair(place, entry, found)
+    }
+
+    /// The offset of the next that waits as the PDU at an offset of a direction does.
+    pub(crate) fn next_of(&self, dir: Dir, offset: u64) -> Option<u64>
+        ensures { result ≡ next_kept dir offset (entries_in self.now) }
+    {
+        self.from(dir).get(offset)?.next()
     }
 
     /// The PDUs of a direction.
@@ -137,38 +163,56 @@ impl Streams {
     }
 }
 
-/// Puts a PDU at an offset of its direction, makes it the partner of its own in the other, and gives what was kept of
-/// that. An error changes nothing.
+/// Puts a PDU at an offset of its direction, makes it the partner of its own in the other and the next of the one at
+/// `before`, not both, and gives what was kept of its partner. An error changes nothing.
 fn join(
     own: &mut Stream,
     other: &mut Stream,
     offset: u64,
+    before: Option<u64>,
     entry: Entry,
 ) -> Result<Option<Entry>, AllocError>
-    requires { All (λ e. e.0 < offset) own.old.content }
-    ensures own { OnOk result (own.new.content ≡ own.old.content ++ (offset, entry) ∷ []) }
-    ensures other { OnOk result (other.new.content ≡ linked entry.partner offset other.old.content) }
+    requires above { All (λ e. e.0 < offset) own.old.content }
+    requires one { IsSome before → partner_in entry.link ≡ None }
+    ensures own { OnOk result (own.new.content
+        ≡ linked before (Before offset) own.old.content ++ (offset, entry) ∷ []) }
+    ensures other { OnOk result (other.new.content
+        ≡ linked (partner_in entry.link) (Partner offset) other.old.content) }
     ensures found { IfOk result (λ found. found
-        ≡ option_and_then (λ q. held_at q other.old.content) entry.partner) }
+        ≡ option_and_then (λ q. held_at q other.old.content) (partner_in entry.link)) }
     ensures err { OnErr result (own.new.content ≡ own.old.content) }
     ensures err_other { OnErr result (other.new.content ≡ other.old.content) }
     ensures settled { own.new.settled ≡ own.old.settled }
     ensures settled_other { other.new.settled ≡ other.old.settled }
 {
     own.make_room()?;
-    let found = match entry.partner {
-        Some(partner) => other.link(partner, offset)?,
-        None => None,
-    };
+    link(own, before, Link::Before(offset))?;
+    let found = link(other, entry.partner(), Link::Partner(offset))?;
     own.push(offset, entry);
     Ok(found)
+}
+
+/// Gives the PDU at an offset, if that is given, a link, and tells what was kept of it. An error changes nothing.
+fn link(stream: &mut Stream, at: Option<u64>, link: Link) -> Result<Option<Entry>, AllocError>
+    ensures ok { OnOk result (stream.new.content ≡ linked at link stream.old.content) }
+    ensures found { IfOk result (λ found. found
+        ≡ option_and_then (λ q. held_at q stream.old.content) at) }
+    ensures err { OnErr result (stream.new.content ≡ stream.old.content) }
+    ensures given { OnErr result (IsSome at) }
+    ensures settled { stream.new.settled ≡ stream.old.settled }
+    ensures room { stream.new.room ≡ stream.old.room }
+{
+    match at {
+        Some(at) => stream.link(at, link),
+        None => Ok(None),
+    }
 }
 
 /// The pair of a PDU at a place with its partner, of which this is kept.
 fn pair(place: Place, entry: Entry, found: Option<Entry>) -> Option<Pair>
     ensures { result ≡ pair_found place entry found }
 {
-    let partner = at(place.session, opposite(place.dir), entry.partner?);
+    let partner = at(place.session, opposite(place.dir), entry.partner()?);
     let other = found?;
     Some(if is_request(entry.command) {
         paired(place, entry, partner, other)

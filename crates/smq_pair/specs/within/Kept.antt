@@ -12,6 +12,8 @@ use Rattle.smq_shelf.specs.Values.{with_value}
 use Rattle.smq_pdu.specs.Header.{Header}
 use Rattle.smq_pdu.specs.Pairing.{is_request}
 use Rattle.smq_pair.specs.declared.entry.Entry.{Entry}
+use Rattle.smq_pair.specs.declared.entry.Link.{Link}
+use Rattle.smq_pair.specs.declared.entry.Link.TheVariants.{Alone, Before, Partner}
 use Rattle.smq_pair.specs.declared.entry.Side.{Side}
 use Rattle.smq_pair.specs.declared.entry.Series.{Series}
 use Rattle.smq_pair.specs.declared.streams.Streams.{Streams}
@@ -65,9 +67,20 @@ pdus_in es = record {
 abbrev pub series_of_entry : Dir → Entry → Option Series
 series_of_entry dir e = series_of dir (header_of e)
 
+-- the offset of a partner, and of the next that waits, by a link
+abbrev pub partner_in : Link → Option ℕ
+partner_in Alone = None
+partner_in (Before next) = None
+partner_in (Partner partner) = Some partner
+
+abbrev pub next_in : Link → Option ℕ
+next_in Alone = None
+next_in (Before next) = Some next
+next_in (Partner partner) = None
+
 -- whether an entry is of a side and has no partner
 abbrev pub is_alone : Side → Entry → Bool
-is_alone side e = is_on side (header_of e) && is_none e.partner
+is_alone side e = is_on side (header_of e) && is_none (partner_in e.link)
 
 -- the places of those in a direction
 abbrev pub alone_from : Side → SessionId → Dir → List Held → List Place
@@ -95,27 +108,34 @@ abbrev pub kept_at : Place → Entries → Option Entry
 kept_at place es =
     if place.session.0 == es.session.0 then held_at place.offset (entries_from place.dir es) else None
 
--- an entry with its partner's offset
-abbrev pub with_partner : ℕ → Option Entry → Option Entry
-with_partner q None = None
-with_partner q (Some e) = Some (record e { partner = Some q })
+-- what the one at an offset of a direction has for its next
+abbrev pub next_kept : Dir → ℕ → Entries → Option ℕ
+next_kept dir offset es = option_and_then (λ e. next_in e.link) (held_at offset (entries_from dir es))
 
--- entries of which the one at an offset, if that is given and it is there, has this partner
-abbrev pub linked : Option ℕ → ℕ → List Held → List Held
-linked None q es = es
-linked (Some at) q es = with_value nat_cmp at (with_partner q (held_at at es)) es
+-- an entry with a link
+abbrev pub with_its : Link → Entry → Entry
+with_its link e = record e { link = link }
 
--- one more in a direction at a place of it, which is the partner of its own
-abbrev pub joined : Dir → Place → Entry → Entries → Entries
-joined FromClient place e es = record {
+abbrev pub with_link : Link → Option Entry → Option Entry
+with_link link None = None
+with_link link (Some e) = Some (record e { link = link })
+
+-- entries of which the one at an offset, if that is given and it is there, has this link
+abbrev pub linked : Option ℕ → Link → List Held → List Held
+linked None link es = es
+linked (Some at) link es = with_value nat_cmp at (with_link link (held_at at es)) es
+
+-- one more in a direction at a place of it, which is the partner of its own, and the next of the one at `before`
+abbrev pub joined : Dir → Place → Option ℕ → Entry → Entries → Entries
+joined FromClient place before e es = record {
   session = place.session;
-  client = es.client ++ (place.offset, e) ∷ [];
-  centre = linked e.partner place.offset es.centre;
+  client = linked before (Before place.offset) es.client ++ (place.offset, e) ∷ [];
+  centre = linked (partner_in e.link) (Partner place.offset) es.centre;
 }
-joined FromCentre place e es = record {
+joined FromCentre place before e es = record {
   session = place.session;
-  client = linked e.partner place.offset es.client;
-  centre = es.centre ++ (place.offset, e) ∷ [];
+  client = linked (partner_in e.link) (Partner place.offset) es.client;
+  centre = linked before (Before place.offset) es.centre ++ (place.offset, e) ∷ [];
 }
 
 -- the pair of two PDUs, whichever of them is the request
@@ -124,9 +144,9 @@ pair_by p other = if is_request p.header then pair_of p other else pair_of other
 
 -- the partner of an entry of a direction
 abbrev pub partner_kept : Dir → Entry → Entries → Option Entry
-partner_kept dir e es = option_and_then (λ q. held_at q (entries_from (opposite dir) es)) e.partner
+partner_kept dir e es = option_and_then (λ q. held_at q (entries_from (opposite dir) es)) (partner_in e.link)
 
 -- the pair of an entry at a place with its partner, where that is found
 abbrev pub pair_found : Place → Entry → Option Entry → Option Pair
 pair_found place e found = option_and_then (λ q. option_map
-    (λ x. pair_by (placed_at place e) (placed place.session (opposite place.dir) (q, x))) found) e.partner
+    (λ x. pair_by (placed_at place e) (placed place.session (opposite place.dir) (q, x))) found) (partner_in e.link)

@@ -1,14 +1,18 @@
 -- The turns of requests and responses: a series, which is the requests, or the responses, of a direction that have a
 -- sequence number, and the rank in it.
-use Rattle.std.specs.Prelude.{ℕ, Bool, if◌then◌else◌, List, take, count_by, Option, Some, None, option_map, option_and_then, is_none}
+use Rattle.std.specs.Prelude.{◌+◌, ℕ, Bool, if◌then◌else◌, List, take, count_by, Option, Some, None, option_map, option_and_then}
 use Rattle.smq_kit.specs.declared.place.Dir.{Dir}
 use Rattle.smq_pdu.specs.Header.{Header}
 use Rattle.smq_pdu.specs.Pairing.{is_request, is_response, is_request_of, is_response_of, nth_index}
 use Rattle.smq_pair.specs.declared.entry.Side.{Side}
 use Rattle.smq_pair.specs.declared.entry.Side.TheVariants.{Request, Response}
 use Rattle.smq_pair.specs.declared.entry.Series.{Series}
-use Rattle.smq_pair.specs.declared.entry.Turn.{Turn}
 use Rattle.smq_pair.specs.Pairing as value
+
+-- a series, and a rank in it: how many PDUs of the series come before
+pub record Turn : Type 0 where
+  pub series : Series
+  pub rank : ℕ
 
 -- the other side
 abbrev pub other_side : Side → Side
@@ -36,16 +40,16 @@ count_in v s = count_by (is_of s.side s.seq) (headers_from s.dir v)
 abbrev pub index_at : value.PairingValue → Turn → Option ℕ
 index_at v t = nth_index (is_of t.series.side t.series.seq) (headers_from t.series.dir v) t.rank
 
--- the turn of what makes a pair with the PDU of this turn
-abbrev pub partner : Turn → Turn
-partner t = record {
-  series = record { dir = value.opposite t.series.dir; side = other_side t.series.side; seq = t.series.seq };
-  rank = t.rank;
-}
+-- the series of what makes pairs with those of this one, and the turn of what makes one with the PDU of this turn
+abbrev pub partner_series : Series → Series
+partner_series s = record { dir = value.opposite s.dir; side = other_side s.side; seq = s.seq }
 
--- the index of the PDU of a turn that has no partner
-abbrev pub unpaired_at : value.PairingValue → Turn → Option ℕ
-unpaired_at v t = if is_none (index_at v (partner t)) then index_at v t else None
+abbrev pub partner : Turn → Turn
+partner t = record { series = partner_series t.series; rank = t.rank }
+
+-- the turn after
+abbrev pub later : Turn → Turn
+later t = record { series = t.series; rank = t.rank + 1 }
 
 -- the side of a header
 abbrev pub side_of : Header → Option Side
@@ -66,3 +70,7 @@ turn_of v dir i header = option_map (turn_after (take i (headers_from dir v))) (
 -- the index of the partner of the header at an index of a direction
 abbrev pub partner_of : value.PairingValue → Dir → ℕ → Header → Option ℕ
 partner_of v dir i header = option_and_then (λ t. index_at v (partner t)) (turn_of v dir i header)
+
+-- the index of the next of its series
+abbrev pub next_of : value.PairingValue → Dir → ℕ → Header → Option ℕ
+next_of v dir i header = option_and_then (λ t. index_at v (later t)) (turn_of v dir i header)

@@ -11,11 +11,10 @@ use Rattle.smq_kit.specs.declared.place.Place.{Place}
 use Rattle.smq_kit.specs.Orders.{place_cmp}
 use Rattle.smq_pdu.specs.Header.{Header}
 use Rattle.smq_pair.specs.declared.pairing.Pair.{Pair}
-use Rattle.smq_pair.specs.declared.entry.Turn.{Turn}
 use Rattle.smq_pair.specs.Pairing.{PlacedHeader, PairingValue, pdus_from, opposite, pair_at, places_of}
 use Rattle.smq_pair.specs.Growth.{AreInOrder, IsNext, pushed, is_among, made_by}
-use Rattle.smq_pair.specs.within.Turns.{headers_from, index_at, partner, partner_of, turn_of}
-use Rattle.smq_pair.proofs.Entered.{partner-next, partner-none}
+use Rattle.smq_pair.specs.within.Turns.{Turn, headers_from, index_at, partner, partner_of, turn_of}
+use Rattle.smq_pair.proofs.Entered.{nothing-found, partner-next}
 use Rattle.smq_pair.proofs.Lists.{get-last, one_of}
 use Rattle.smq_pair.proofs.Order.{get-append, in-order-next, next-is-free}
 use Rattle.smq_pair.proofs.Ranked.{header-at}
@@ -124,7 +123,7 @@ module _ (v : PairingValue) (p : PlacedHeader) (o : AreInOrder v) (n : IsNext v 
 
       by_turn : (t : Option Turn) → next_turn v p ≡ t → IsMet v p pair
       by_turn None turn =
-          let never : None ≡ Some pair = ap (pair_with (pushed v p) p.place.dir p) (sym (partner-none v p turn)) ∙ found in
+          let never : None ≡ Some pair = ap (pair_with (pushed v p) p.place.dir p) (sym (nothing-found v p partner turn)) ∙ found in
           absurd cc
       by_turn (Some t) turn =
           by_index t turn (index_at v (partner t)) refl (ap (pair_with (pushed v p) p.place.dir p) (sym (partner-next v p t turn)) ∙ found)

@@ -1,37 +1,56 @@
-use Rattle.std.proofs.Common.{None, sym, ap, ◌∙◌, subst}
+use Rattle.std.proofs.Common.{refl, sym, ap, ◌∙◌, subst}
 use Rattle.smq_pair.specs.declared.entry.Entry.{Entry}
+use Rattle.smq_pair.specs.declared.entry.Link.TheVariants.{Alone}
 use Rattle.smq_pair.specs.Paired.{PairedValue}
-use Rattle.smq_pair.specs.within.Kept.{entries_in, settled_entries}
-use Rattle.smq_pair.specs.within.Maps.{Holds, Matching, matching_in, settled_matching}
-use Rattle.smq_pair.proofs.Steps.{room, Adds, adds}
+use Rattle.smq_pair.specs.within.Kept.{entries_in, settled_entries, with_its}
+use Rattle.smq_pair.specs.within.Waits.{Holds, Waits, meeting_at}
+use Rattle.smq_pair.proofs.Steps.{Adds, adds-alone, adds-met}
 use Rattle.smq_pair.proofs.pairing.Pairing.add.Goals as goal
 
-pub enter-requires : goal.enter-requires
-enter-requires c =
-    let alone : Entry = record { seq = c.args.seq; command = c.args.command; status = c.args.status; partner = None } in
-    room (matching_in c.self.inside.turns) (entries_in c.self.inside.streams) c.args.self.now.pdus c.args.place alone c.series-series.result
-    c.self.invariant.0 (ap (λ (v : PairedValue). v.pdus) c.self.view_is) c.requires.next c.series-series.ensures
+-- the entry that is added of a series
+abbrev met : goal.In_ok-meet-in-Some → Entry
+met c = with_its (meeting_at c.in-Some.series c.args.place.offset c.self.inside.waits.content (entries_in c.self.inside.streams)).link
+    (record { seq = c.args.seq; command = c.args.command; status = c.args.status; link = Alone })
 
--- the entry that is added
-abbrev entry : goal.In-Ok → Entry
-entry c = record { seq = c.args.seq; command = c.args.command; status = c.args.status; partner = c.in_ok-partner.partner }
+added-met : (c : goal.In_ok-meet-in-Some) → Adds c.meet.new.waits.content (entries_in c.self.inside.streams) c.args.self.now.pdus c.args.place (met c)
+    (entries_in c.meet.new.streams)
+added-met c =
+    adds-met c.self.inside.waits.content (entries_in c.self.inside.streams) c.args.self.now.pdus c.args.place (met c) c.self.invariant.0
+    (ap (λ (v : PairedValue). v.pdus) c.self.view_is) c.requires.next c.meet.new.waits.content c.in-Some.series (sym c.in-Some.ensures)
+    c.in_ok-meet-in-Some.ensures.ordered c.in_ok-meet-in-Some.ensures.waits refl (entries_in c.meet.new.streams) c.in_ok-meet-in-Some.ensures.streams
 
-added : (c : goal.In-Ok) → Adds (matching_in c.enter.new.self) (entries_in c.self.inside.streams) c.args.self.now.pdus c.args.place (entry c)
+-- and of none
+abbrev passed : goal.In_ok-add-in-None → Entry
+passed c = record { seq = c.args.seq; command = c.args.command; status = c.args.status; link = Alone }
+
+added-alone : (c : goal.In_ok-add-in-None) → Adds c.self.inside.waits.content (entries_in c.self.inside.streams) c.args.self.now.pdus c.args.place (passed c)
     (entries_in c.add.new.self)
-added c =
-    adds (matching_in c.self.inside.turns) (matching_in c.enter.new.self) (entries_in c.self.inside.streams) c.args.self.now.pdus
-    c.args.place (entry c) c.series-series.result c.self.invariant.0 (ap (λ (v : PairedValue). v.pdus) c.self.view_is) c.requires.next
-    c.series-series.ensures c.in_ok-partner.ensures.ok (entries_in c.add.new.self) c.in-Ok.ensures.added
+added-alone c =
+    adds-alone c.self.inside.waits.content (entries_in c.self.inside.streams) c.args.self.now.pdus c.args.place (passed c) c.self.invariant.0
+    (ap (λ (v : PairedValue). v.pdus) c.self.view_is) c.requires.next (sym c.in-None.ensures) refl (entries_in c.add.new.self)
+    c.in_ok-add-in-None.ensures.added
 
-pub invariant_of-self-in-Ok : goal.invariant_of-self-in-Ok
-invariant_of-self-in-Ok c = (
-  (added c).holds,
-  subst (λ (m : Matching). Holds m (settled_entries c.add.new.self)) (sym c.in_ok-partner.ensures.settled)
-      (subst (Holds (settled_matching c.self.inside.turns)) (sym c.in-Ok.ensures.settled) c.self.invariant.1),
+pub invariant_of-self-in-Some : goal.invariant_of-self-in-Some
+invariant_of-self-in-Some c = (
+  (added-met c).holds,
+  subst (λ (m : Waits). Holds m (settled_entries c.meet.new.streams)) (sym c.in_ok-meet-in-Some.ensures.settled)
+      (subst (Holds c.self.inside.waits.settled) (sym c.in_ok-meet-in-Some.ensures.settled_streams) c.self.invariant.1),
 )
 
-pub returns-in-Ok-clause-added : goal.returns-in-Ok-clause-added
-returns-in-Ok-clause-added c = (added c).pdus
+pub invariant_of-self-in-None : goal.invariant_of-self-in-None
+invariant_of-self-in-None c = (
+  (added-alone c).holds,
+  subst (Holds c.self.inside.waits.settled) (sym c.in_ok-add-in-None.ensures.settled) c.self.invariant.1,
+)
 
-pub returns-in-Ok-clause-made : goal.returns-in-Ok-clause-made
-returns-in-Ok-clause-made c = c.in-Ok.ensures.made ∙ (added c).pair
+pub returns-in_ok-meet-in-Some-clause-added : goal.returns-in_ok-meet-in-Some-clause-added
+returns-in_ok-meet-in-Some-clause-added c = (added-met c).pdus
+
+pub returns-in_ok-meet-in-Some-clause-made : goal.returns-in_ok-meet-in-Some-clause-made
+returns-in_ok-meet-in-Some-clause-made c = c.in_ok-meet-in-Some.ensures.made ∙ (added-met c).pair
+
+pub returns-in_ok-add-in-None-clause-added : goal.returns-in_ok-add-in-None-clause-added
+returns-in_ok-add-in-None-clause-added c = (added-alone c).pdus
+
+pub returns-in_ok-add-in-None-clause-made : goal.returns-in_ok-add-in-None-clause-made
+returns-in_ok-add-in-None-clause-made c = c.in_ok-add-in-None.ensures.made ∙ (added-alone c).pair
