@@ -33,8 +33,8 @@ pub struct Pair {
 
 /// The PDUs of one session and the pairs among them, which can be undone. Pairs go by sequence number and rank: the n-th
 /// request of a number in one direction and the n-th response of that number in the other are a pair, whichever of them
-/// comes first. A contract sees the PDUs, those that `undo` brings back, and the touches of the shelves that find
-/// partners.
+/// comes first. A contract sees the PDUs, those that `undo` brings back, and the touches of the shelf that has what
+/// waits.
 #[derive(Drop)]
 pub struct Pairing {
     streams: Streams,

@@ -20,7 +20,7 @@ use std::collections::BTreeMap;
 use std::marker::Model;
 
 /// An ordered map over a shelf, whose changes can be taken back. After `undo` the content is that of the last
-/// `settle`, or of `new` where there was none; after `take_back` it is that before the last change. Neither takes
+/// `settle`, or of `new` where there was none; after `take_back` it is that before the last change. Neither needs
 /// memory, nor does `settle`: for that, a key that is taken out keeps its place, vacant, until the map is settled or
 /// undone.
 #[derive(Drop)]
@@ -266,7 +266,7 @@ impl<K: ShelfKey, V: Drop> Kept<K, V> {
     }
 
     /// Makes the content the one that `undo` brings back, by at most two touches for each pending change: the newest, up to
-    /// where no more places can be vacant. It takes no memory, and leaves no place vacant.
+    /// where no more places can be vacant. It needs no memory, and leaves no place vacant.
     pub fn settle(&mut self)
         ensures content { self.new.content ≡ self.old.content }
         ensures settled { self.new.settled ≡ self.old.content }

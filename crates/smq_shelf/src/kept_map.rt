@@ -191,7 +191,7 @@ impl<K: ShelfKey, V: Drop> KeptMap<K, V> {
         self.kept.undo();
     }
 
-    /// Makes the content the one that `undo` brings back. It takes no memory, and leaves no place vacant.
+    /// Makes the content the one that `undo` brings back. It needs no memory, and leaves no place vacant.
     pub fn settle(&mut self)
         ensures content { self.new.content ≡ self.old.content }
         ensures settled { self.new.settled ≡ self.old.content }

@@ -120,7 +120,7 @@ impl<K: Ord, V> Shelf<K, V> {
 
 impl<K: Ord, V: Drop> Shelf<K, Option<V>> {
     // Makes of the place of a key what a change makes of its value, and gives what was there, and whether there is a value
-    // now. A key that has no place gets one for a value alone. One touch.
+    // now. A key that has no place gets one for a value alone, but room for it is made in any case. One touch.
     pub(crate) fn change<C: Change<V>>(
         &mut self,
         key: K,
