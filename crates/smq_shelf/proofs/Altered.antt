@@ -3,7 +3,7 @@ use Rattle.std.proofs.Common.{◌≡◌, ℕ, ◌+◌, ◌≤◌, Bool, true, fa
 use Rattle.std.specs.Prelude.{is_some, if◌then◌else◌}
 use Rattle.std.specs.Cmp.{IsTotalOrder}
 use Rattle.std.specs.List.Sorted.{IsStrictlySortedBy}
-use Rattle.std.specs.Map.{keys_of, lookup}
+use Rattle.std.specs.Map.{keys_of, lookup, set_value}
 use Rattle.std.specs.BTreeMap.{is_at, insert_entry}
 use Rattle.std.proofs.lemmas.Bool.{false≢true}
 use Rattle.std.proofs.lemmas.Map.Lookups.{CmpEqualImpliesEq}
@@ -22,14 +22,19 @@ none_there (Some v) e = absurd (false≢true (sym e))
 
 module _ {K : Type 0} {R : K → K → Ordering} (o : IsTotalOrder R) where
   -- a place that was vacant and stays so is as it was
-  pub vacant-stays : {V : Type 0} (k : K) (es : List (K × Option V)) (w : Option V) (before : Option (Option V)) (has : Bool) → IsStrictlySortedBy R (keys_of es)
-      → before ≡ lookup (is_at (R k)) es → has ≡ is_some w
-      → (if is_some before || has then insert_entry R es k w else es) ≡ (if has_value before || has then insert_entry R es k w else es)
-  vacant-stays k es w None has s there h = refl
-  vacant-stays k es w (Some (Some u)) has s there h = refl
-  vacant-stays k es (Some v) (Some None) has s there h = rw h refl
-  vacant-stays k es None (Some None) has s there h =
-      rw h (sym (set_value-insert_entry o k None es s (rw (← there) refl)) ∙ set_value_same _ _ _ (sym there))
+  vacant-stays : {V : Type 0} (k : K) (es : List (K × Option V)) (x w : Option V) → IsStrictlySortedBy R (keys_of es) → lookup (is_at (R k)) es ≡ Some x
+      → insert_entry R es k w ≡ (if is_some x || is_some w then insert_entry R es k w else es)
+  vacant-stays k es (Some u) w s there = refl
+  vacant-stays k es None (Some v) s there = refl
+  vacant-stays k es None None s there = sym (set_value-insert_entry o k None es s (rw there refl)) ∙ set_value_same _ _ _ there
+
+  -- a place that is there is changed where it stands
+  pub changed-there : {V : Type 0} (A : Option V → Option V) (k : K) (es next : List (K × Option V)) (x y : Option V) (had has : Bool)
+      → IsStrictlySortedBy R (keys_of es) → Some x ≡ lookup (is_at (R k)) es → had ≡ is_some x → has ≡ is_some (A x) → y ≡ A x
+      → next ≡ set_value (is_at (R k)) es y
+      → next ≡ (if had || has then insert_entry R es k (A (flatten (lookup (is_at (R k)) es))) else es)
+  changed-there A k es next x y had has s there was is made set =
+      set ∙ rw (made, was, is, ← there) (set_value-insert_entry o k (A x) es s (rw (← there) refl) ∙ vacant-stays k es x (A x) s (sym there))
 
   -- `next` and `after` are the entries and the log once w was made of the value at k
   pub record Alters {V : Type 0} (k : K) (had has : Bool) (w : Option V) (log : List (Logged K V)) (es : List (K × Option V)) (after : List (Logged K V)) (next : List (K × Option V)) : Type 0 where

@@ -12,7 +12,7 @@ ghost use Rattle.smq_shelf.specs.Places.{content_of, places_of};
 ghost use Rattle.smq_shelf.specs.Values.{with_value};
 ghost use Rattle.smq_shelf.specs.within.Undoing.{flatten, vacancies};
 
-use crate::logged::{alter, clear_vacant, give_back_room, put, revert, vacate};
+use crate::logged::{clear_vacant, give_back_room, revert, vacate};
 use crate::{Change, Shelf, ShelfKey};
 use std::alloc::{AllocError, Global};
 use std::cmp::Ord;
@@ -89,7 +89,7 @@ impl<K: ShelfKey, V: Drop> Kept<K, V> {
         ensures touches { self.new.touches ≤ self.old.touches + 1 }
         ensures counted { self.old.touches ≤ self.new.touches }
     {
-        put(&mut self.shelf, &mut self.log, key, Some(value))?;
+        self.shelf.put(&mut self.log, key, Some(value))?;
         Ok(())
     }
 
@@ -189,7 +189,7 @@ impl<K: ShelfKey, V: Drop> Kept<K, V> {
         ensures touches { self.new.touches ≤ self.old.touches + 1 }
         ensures counted { self.old.touches ≤ self.new.touches }
     {
-        let (had, has) = alter(&mut self.shelf, &mut self.log, key, change)?;
+        let (had, has) = self.shelf.alter(&mut self.log, key, change)?;
         self.most_vacant = most_vacant_after(self.most_vacant, had & !has, &self.shelf);
         Ok(had | has)
     }
@@ -222,7 +222,7 @@ impl<K: ShelfKey, V: Drop> Kept<K, V> {
         ensures touches { self.new.touches ≤ self.old.touches + 1 }
         ensures counted { self.old.touches ≤ self.new.touches }
     {
-        let (had, has) = alter(&mut self.shelf, &mut self.log, key, change)?;
+        let (had, has) = self.shelf.alter(&mut self.log, key, change)?;
         self.most_vacant = most_vacant_after(self.most_vacant, had & !has, &self.shelf);
         Ok(value_before(&self.log, had))
     }
@@ -276,6 +276,9 @@ impl<K: ShelfKey, V: Drop> Kept<K, V> {
         ensures touches { self.new.touches ≤ self.old.touches + 2 * self.old.pending }
         ensures counted { self.old.touches ≤ self.new.touches }
     {
+        if self.log.is_empty() {
+            return;
+        }
         while self.most_vacant > 0 {
             match self.log.pop() {
                 Some(change) => {

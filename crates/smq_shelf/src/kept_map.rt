@@ -118,8 +118,8 @@ impl<K: ShelfKey, V: Drop> KeptMap<K, V> {
     }
 
     /// Makes of the value at a key what a change makes of it. It tells whether it left something to take back: not so where
-    /// there was no value and is none. The key is looked up once. The place of a key that is taken out stays, vacant, until
-    /// the map is settled or undone. An error changes nothing.
+    /// there was no value and is none. A key that has a place is looked up once. The place of a key that is taken out stays,
+    /// vacant, until the map is settled or undone. An error changes nothing.
     pub fn change<C: Change<V>>(&mut self, key: K, change: &C) -> Result<bool, AllocError>
         ensures logged { IfOk result (λ logged. logged
             ≡ (is_some (lookup (is_at (K.cmp key)) self.old.content)

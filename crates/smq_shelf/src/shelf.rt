@@ -1,5 +1,5 @@
 //! An ordered map that counts its calls.
-ghost use Rattle.std.specs.Prelude.{◌≡◌, ◌&&◌, ◌||◌, ◌≤◌, ◌<◌, ◌+◌, ◌-◌, [], IfOk, OnOk, IfErr, OnErr, None, Some, IsSome, IsOk, ◌↔◌, is_some, find, if◌then◌else◌};
+ghost use Rattle.std.specs.Prelude.{◌≡◌, ◌≤◌, ◌<◌, ◌+◌, ◌-◌, [], IfOk, OnOk, IfErr, OnErr, None, Some, find};
 ghost use Rattle.std.specs.Ordering.{is_le, is_lt};
 ghost use Rattle.std.specs.Option.{option_copied, option_map};
 ghost use Rattle.std.specs.Map.Iter.{deref_pair};
@@ -7,9 +7,8 @@ ghost use Rattle.std.specs.Map.{keys_of, lookup, remove_entry, set_value};
 ghost use Rattle.std.specs.BTreeMap.{is_at, insert_entry};
 ghost use Rattle.std.specs.List.Sorted.{IsStrictlySortedBy};
 ghost use Rattle.smq_shelf.specs.Shown.{touched};
-ghost use Rattle.smq_shelf.specs.within.Undoing.{flatten, cleared, is_vacant};
+ghost use Rattle.smq_shelf.specs.within.Undoing.{cleared, is_vacant};
 
-use crate::Change;
 use std::alloc::{AllocError, Global};
 use std::collections::BTreeMap;
 use std::collections::btree_map::Entry;
@@ -22,8 +21,8 @@ use std::ops::Bound;
 /// u64. Nothing of the content is read but by these calls.
 #[derive(Drop)]
 pub struct Shelf<K: Ord, V> {
-    map: BTreeMap<K, V>,
-    count: u64,
+    pub(crate) map: BTreeMap<K, V>,
+    pub(crate) count: u64,
 }
 
 impl<K: Ord, V> Model for Shelf<K, V> {
@@ -119,40 +118,6 @@ impl<K: Ord, V> Shelf<K, V> {
 }
 
 impl<K: Ord, V: Drop> Shelf<K, Option<V>> {
-    // Makes of the place of a key what a change makes of its value, and gives what was there, and whether there is a value
-    // now. A key that has no place gets one for a value alone, but room for it is made in any case. One touch.
-    pub(crate) fn change<C: Change<V>>(
-        &mut self,
-        key: K,
-        change: &C,
-    ) -> Result<(Option<Option<V>>, bool), AllocError>
-    where
-        K: Drop,
-        ensures touches { self.new.touches ≡ touched self.old.touches }
-        ensures counted { self.old.touches ≤ self.new.touches }
-        ensures old { IfOk result (λ r. r.0 ≡ lookup (is_at (K.cmp key)) self.old.entries) }
-        ensures has { IfOk result (λ r. r.1 ≡ is_some (C.after change.now (flatten r.0))) }
-        ensures entries { IfOk result (λ r. self.new.entries ≡ if is_some r.0 || r.1
-            then insert_entry K.cmp self.old.entries key (C.after change.now (flatten r.0))
-            else self.old.entries) }
-        ensures err { OnErr result (self.new.entries ≡ self.old.entries) }
-        ensures ordered { IsStrictlySortedBy K.cmp (keys_of self.new.entries) }
-        ensures was_ordered { IsStrictlySortedBy K.cmp (keys_of self.old.entries) }
-    {
-        self.count = self.count.saturating_add(1);
-        match self.map.entry(key) {
-            Ok(Entry::Occupied(place)) => {
-                let (before, has) = change_at(place.into_mut(), change);
-                Ok((Some(before), has))
-            }
-            Ok(vacant) => match vacant.or_try_insert_with(|| begun(change)) {
-                Ok(_) => Ok((None, true)),
-                Err(AllocError) => Ok((None, false)),
-            },
-            Err(_) => Err(AllocError),
-        }
-    }
-
     // Takes the place of a key out where it is vacant, and tells whether it was. It needs no memory. One touch.
     pub(crate) fn clear(&mut self, key: K) -> bool
     where
@@ -224,29 +189,6 @@ fn clear_at<K: Ord + Drop, V: Drop>(map: &mut BTreeMap<K, Option<V>>, key: K) ->
         },
         Err(_) => false,
     }
-}
-
-// The place that a change begins for a key that has none, where it makes a value.
-fn begun<V: Drop, C: Change<V>>(change: &C) -> Result<Option<V>, AllocError>
-    ensures ok { IfOk result (λ place. place ≡ C.after change.now None) }
-    ensures some { IsOk result ↔ IsSome (C.after change.now None) }
-{
-    let nothing: Option<V> = None;
-    match change.after(nothing.as_ref()) {
-        Some(value) => Ok(Some(value)),
-        None => Err(AllocError),
-    }
-}
-
-// Makes of a place what a change makes of its value, and gives what was there, and whether there is a value now.
-fn change_at<V: Drop, C: Change<V>>(place: &mut Option<V>, change: &C) -> (Option<V>, bool)
-    ensures old { result.0 ≡ place.old }
-    ensures has { result.1 ≡ is_some (C.after change.now place.old) }
-    ensures new { place.new ≡ C.after change.now place.old }
-{
-    let after = change.after(place.as_ref());
-    let has = after.is_some();
-    (replace(place, after), has)
 }
 
 // The least key at or above `key`, with its value.

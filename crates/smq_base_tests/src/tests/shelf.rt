@@ -203,11 +203,13 @@ impl Change<u64> for Toggle {
 
     ghost after = { λ toggle before. if is_some before then None else Some toggle.0 };
 
-    fn after(&self, before: Option<&u64>) -> Option<u64> {
-        match before {
+    fn make(&self, place: &mut Option<u64>) -> Option<u64> {
+        let before = *place;
+        *place = match before {
             Some(_) => None,
             None => Some(self.0),
-        }
+        };
+        before
     }
 }
 
@@ -219,11 +221,13 @@ impl Change<u64> for Overwrite {
 
     ghost after = { λ overwrite before. option_map (λ _. overwrite.0) before };
 
-    fn after(&self, before: Option<&u64>) -> Option<u64> {
-        match before {
+    fn make(&self, place: &mut Option<u64>) -> Option<u64> {
+        let before = *place;
+        *place = match before {
             Some(_) => Some(self.0),
             None => None,
-        }
+        };
+        before
     }
 }
 

@@ -12,7 +12,7 @@ use Rattle.smq_shelf.proofs.kept.Kept.exchange.Goals as goal
 -- what `alter` did
 alters : (g : _) (c : goal.After-value_before g)
     → Alters g.met.K.Ord.total c.args.key c.in_ok-had.had c.in_ok-had.has (g.C.Change.after c.args.change.now (flatten (lookup (is_at (g.K.Ord.cmp c.args.key)) c.self.inside.shelf.entries)))
-    c.self.inside.log.items c.self.inside.shelf.entries c.alter.new.log.items c.alter.new.shelf.entries
+    c.self.inside.log.items c.self.inside.shelf.entries c.alter.new.log.items c.alter.new.self.entries
 alters g c = record {
   was = c.in_ok-had.ensures.had;
   is = c.in_ok-had.ensures.has;

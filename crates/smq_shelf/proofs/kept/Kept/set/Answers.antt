@@ -6,7 +6,7 @@ use Rattle.smq_shelf.proofs.kept.Kept.set.Goals as goal
 
 -- what `put` did
 puts : (g : _) (c : goal.In_ok-put g)
-    → Puts g.met.K.Ord.total c.args.key (Some c.args.value) c.self.inside.log.items c.self.inside.shelf.entries c.put.new.log.items c.put.new.shelf.entries
+    → Puts g.met.K.Ord.total c.args.key (Some c.args.value) c.self.inside.log.items c.self.inside.shelf.entries c.put.new.log.items c.put.new.self.entries
 puts g c = record {
   entries = c.in_ok-put.ensures.entries;
   ordered = c.in_ok-put.ensures.ordered;

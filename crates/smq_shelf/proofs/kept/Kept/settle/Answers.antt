@@ -49,3 +49,8 @@ pub returns-clause-places : goal.returns-clause-places
 returns-clause-places g c =
     let left : c.give_back_room.new.log.items ≡ [] = grind (arith, common_steps) in
     places-settled _ _ left (invariant_of-self g c).kept
+
+pub returns-then-is_empty-clause-places : goal.returns-then-is_empty-clause-places
+returns-then-is_empty-clause-places g c =
+    let left : c.self.inside.log.items ≡ [] = grind (arith, common_steps) in
+    rw (← c.self.view_is) (places-settled _ _ left c.self.invariant.kept)
