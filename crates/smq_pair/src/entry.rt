@@ -6,7 +6,7 @@ ghost use Rattle.smq_pair.specs.within.Kept.{series_of_entry, is_alone, next_in,
 
 use smq_kit::Dir;
 use smq_pdu::{is_request, is_response};
-use smq_shelf::{Change, ShelfKey};
+use smq_shelf::ShelfKey;
 
 /// What is kept of a PDU: what its header says, and to which PDU it is linked.
 #[derive(Clone, Copy)]
@@ -64,18 +64,6 @@ pub(crate) struct Outcome {
     pub waiting: Option<Waiting>,
     pub before: Option<u64>,
     pub link: Link,
-}
-
-/// What waits, or that nothing does, in place of what did.
-#[derive(Clone, Copy)]
-pub(crate) struct Replaced(pub Option<Waiting>);
-
-impl Change<Waiting> for Replaced {
-    ghost after = { λ replaced _. replaced.0 };
-
-    fn after(&self, _before: Option<&Waiting>) -> Option<Waiting> {
-        self.0
-    }
 }
 
 impl ShelfKey for Exchange {

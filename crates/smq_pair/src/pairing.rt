@@ -13,7 +13,7 @@ ghost use Rattle.smq_pair.specs.within.Orders.{exchange_cmp};
 ghost use Rattle.smq_pair.specs.within.Waits.{exchange_of, meeting_at};
 ghost use Rattle.smq_pair.specs.within.Kept.{are_below, entries_in, joined, pair_found, partner_kept, pdus_in, settled_entries, with_its};
 
-use crate::entry::{Entry, Exchange, Link, Replaced, Series, Side, Waiting, dir_of, meeting};
+use crate::entry::{Entry, Exchange, Link, Series, Side, Waiting, dir_of, meeting};
 use crate::places::Places;
 use crate::streams::Streams;
 use smq_kit::Place;
@@ -199,11 +199,13 @@ fn meet(
     ensures err_streams { OnErr result (entries_in streams.new ≡ entries_in streams.old) }
     ensures settled { waits.new.settled ≡ waits.old.settled }
     ensures settled_streams { settled_entries streams.new ≡ settled_entries streams.old }
-    ensures touches { waits.new.touches ≤ waits.old.touches + 3 }
+    ensures touches { waits.new.touches ≤ waits.old.touches + 4 }
     ensures touched { OnOk result (touched waits.old.touches ≤ waits.new.touches) }
     ensures counted { waits.old.touches ≤ waits.new.touches }
     ensures pending { waits.new.pending ≤ waits.old.pending + 1 }
 {
+    // Their keys ascend.
+    let _ = waits.place_count();
     let exchange = series.exchange();
     let waiting = waits.get(&exchange).copied();
     let next = match waiting {
@@ -211,7 +213,10 @@ fn meet(
         None => None,
     };
     let met = meeting(waiting, series.side, place.offset, next);
-    waits.change(exchange, &Replaced(met.waiting))?;
+    match met.waiting {
+        Some(waiting) => waits.set(exchange, waiting)?,
+        None => waits.remove(&exchange)?,
+    }
     let entry = Entry {
         link: met.link,
         ..alone

@@ -188,25 +188,14 @@ none-lists facts q own none = among (entries facts) (maps.get-entry places_total
     among [] a = refl
     among (e ∷ es) a = (λ i. passes e a.0 i || list_any (lists q) (map (λ x. x.1) es)) ∙ among es a.1
 
--- facts that stand at their places still do without one of them, and with one at its own
-pub stand-without : (facts : FinMap place_cmp Fact) (place : Place) → StandAtTheirPlaces facts → StandAtTheirPlaces (remove facts place)
+-- facts that stand at their places still do without one of them
+stand-without : (facts : FinMap place_cmp Fact) (place : Place) → StandAtTheirPlaces facts → StandAtTheirPlaces (remove facts place)
 stand-without facts place own =
     record { own = λ q f has. there q f (eq_by_cmp place_cmp q place) (sym (get-remove places_total facts place q) ∙ has) }
   where
     there : (q : Place) (f : Fact) (b : Bool) → cond b None (get facts q) ≡ Some f → f.place ≡ q
     there q f true has = absurd cc
     there q f false has = own.own q f has
-
-pub stand-with : (facts : FinMap place_cmp Fact) (f : Fact) → StandAtTheirPlaces facts → StandAtTheirPlaces (insert facts f.place f)
-stand-with facts f own =
-    record { own = λ q g has. there q g (eq_by_cmp place_cmp q f.place) refl (sym (get-insert places_total facts f.place f q) ∙ has) }
-  where
-    there : (q : Place) (g : Fact) (b : Bool) → eq_by_cmp place_cmp q f.place ≡ b → cond b (Some f) (get facts q) ≡ Some g → g.place ≡ q
-    there q g true e has = let same : f ≡ g = cc in ap (λ (x : Fact). x.place) (sym same) ∙ sym (maps.same_key places_total places_exact q f.place e)
-    there q g false e has = own.own q g has
-
-pub stand-none : StandAtTheirPlaces empty
-stand-none = record { own = λ q f has. let clash : None ≡ Some f = sym (get-empty place_cmp q) ∙ has in absurd cc }
 
 -- a place that is listed already, or is listed anew and then taken out
 listed-more : (places : FinSet listed_cmp) (e : Listed) → contains_key places e ≡ true → insert places e tt ≡ places

@@ -20,6 +20,20 @@ pub enum Step {
     Less,
 }
 
+impl Step {
+    ghost use Rattle.smq_tally.specs.within.RowCounts.{stepped_within};
+
+    /// Makes a count one more, or one fewer. It never overflows.
+    pub(crate) fn make(self, count: &mut u64)
+        ensures { count.new ≡ stepped_within self count.old }
+    {
+        *count = match self {
+            Step::More => count.saturating_add(1),
+            Step::Less => count.saturating_sub(1),
+        };
+    }
+}
+
 /// Counts a fact no more and another in its place. Either may be none. An error changes nothing.
 pub(crate) fn recount(
     counts: &mut KeptMap<RowKey, OutcomeCounts>,

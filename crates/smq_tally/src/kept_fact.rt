@@ -1,5 +1,6 @@
 //! A fact as a tally keeps it.
 ghost use Rattle.std.specs.Prelude.{◌≡◌, IfOk};
+ghost use Rattle.smq_tally.specs.within.Kept.{fact_at, known_of};
 
 use crate::{Band, Fact, Outcome, SubmitError};
 use smq_kit::{LinkId, Network, Place, RouteId};
@@ -7,11 +8,10 @@ use std::alloc::{AllocError, Global};
 use std::boxed::Box;
 use std::marker::Model;
 
-/// A fact, whose error stands in a block of its own: few messages have one, and it would be the largest part. A contract sees
-/// the fact.
+/// What a fact says but for its place, which is its key in the tally. An error stands in a block of its own: few messages have
+/// one, and it would be the largest part.
 #[derive(Drop)]
 pub(crate) struct KeptFact {
-    place: Place,
     link: LinkId,
     route: Option<(RouteId, Network)>,
     error: Option<Box<SubmitError, Global>>,
@@ -22,12 +22,11 @@ pub(crate) struct KeptFact {
 
 impl Model for KeptFact {
     ghost use Rattle.std.specs.Prelude.{option_map};
-    ghost use Rattle.smq_tally.specs.declared.fact.Fact.{Fact};
+    ghost use Rattle.smq_tally.specs.within.Kept.{Known};
 
-    ghost Value = { Fact };
+    ghost Value = { Known };
 
     ghost view = { λ f. record {
-      place = f.place;
       link = f.link;
       route = f.route;
       outcome = f.outcome;
@@ -40,10 +39,10 @@ impl Model for KeptFact {
 impl KeptFact {
     /// What is kept of a fact, which is moved and not copied.
     pub(crate) fn of(alloc: Global, fact: Fact) -> Result<KeptFact, AllocError>
-        ensures { IfOk result (λ kept. kept ≡ fact) }
+        ensures { IfOk result (λ kept. kept ≡ known_of fact) }
     {
         let Fact {
-            place,
+            place: _,
             link,
             route,
             outcome,
@@ -56,7 +55,6 @@ impl KeptFact {
             None => None,
         };
         Ok(KeptFact {
-            place,
             link,
             route,
             error,
@@ -66,12 +64,12 @@ impl KeptFact {
         })
     }
 
-    /// The fact. It takes no memory.
-    pub(crate) fn fact(&self) -> Fact
-        ensures { result ≡ self.now }
+    /// The fact of this place. It takes no memory.
+    pub(crate) fn at(&self, place: Place) -> Fact
+        ensures { result ≡ fact_at place self.now }
     {
         Fact {
-            place: self.place,
+            place,
             link: self.link,
             route: self
                 .route

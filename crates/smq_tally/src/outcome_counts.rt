@@ -1,6 +1,6 @@
 //! The counts of a row: how many of its messages have each outcome.
 ghost use Rattle.std.specs.Prelude.{◌≡◌};
-ghost use Rattle.smq_tally.specs.within.RowCounts.{count_under, with_count_under, no_counts, row_step, row_after};
+ghost use Rattle.smq_tally.specs.within.RowCounts.{count_under, no_counts, row_step, row_after};
 
 use crate::Outcome;
 use crate::counts::Step;
@@ -65,30 +65,20 @@ impl OutcomeCounts {
         }
     }
 
-    fn set(&mut self, outcome: Outcome, count: u64)
-        ensures { self.new ≡ with_count_under self.old outcome count }
-    {
-        match outcome {
-            Outcome::Waiting => self.waiting = count,
-            Outcome::Mismatched => self.mismatched = count,
-            Outcome::Refused => self.refused = count,
-            Outcome::NoId => self.no_id = count,
-            Outcome::Ambiguous => self.ambiguous = count,
-            Outcome::Delivered => self.delivered = count,
-            Outcome::Failed => self.failed = count,
-            Outcome::Unasked => self.unasked = count,
-            Outcome::Lapsed => self.lapsed = count,
-            Outcome::Open => self.open = count,
-        }
-    }
-
     fn step(&mut self, step: Step, outcome: Outcome)
         ensures { self.new ≡ row_step step self.old outcome }
     {
-        let count = self.under(outcome);
-        match step {
-            Step::More => self.set(outcome, count.saturating_add(1)),
-            Step::Less => self.set(outcome, count.saturating_sub(1)),
+        match outcome {
+            Outcome::Waiting => step.make(&mut self.waiting),
+            Outcome::Mismatched => step.make(&mut self.mismatched),
+            Outcome::Refused => step.make(&mut self.refused),
+            Outcome::NoId => step.make(&mut self.no_id),
+            Outcome::Ambiguous => step.make(&mut self.ambiguous),
+            Outcome::Delivered => step.make(&mut self.delivered),
+            Outcome::Failed => step.make(&mut self.failed),
+            Outcome::Unasked => step.make(&mut self.unasked),
+            Outcome::Lapsed => step.make(&mut self.lapsed),
+            Outcome::Open => step.make(&mut self.open),
         }
     }
 }
@@ -97,21 +87,17 @@ impl Change<OutcomeCounts> for RowChange {
     ghost after = { row_after };
 
     // A row of no messages is none: it can only be where no message came.
-    fn after(&self, before: Option<&OutcomeCounts>) -> Option<OutcomeCounts> {
-        let mut counts = match before {
-            Some(counts) => *counts,
-            None => OutcomeCounts::none(),
-        };
+    fn make(&self, place: &mut Option<OutcomeCounts>) -> Option<OutcomeCounts> {
+        let before = *place;
+        let counts = place.get_or_insert(OutcomeCounts::none());
         if let Some(outcome) = self.less {
             counts.step(Step::Less, outcome);
         }
         if let Some(outcome) = self.more {
             counts.step(Step::More, outcome);
-            return Some(counts);
+        } else if *counts == OutcomeCounts::none() {
+            *place = None;
         }
-        if counts == OutcomeCounts::none() {
-            return None;
-        }
-        Some(counts)
+        before
     }
 }

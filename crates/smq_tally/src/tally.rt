@@ -7,7 +7,7 @@ ghost use Rattle.smq_shelf.specs.Shown.{touched};
 ghost use Rattle.smq_tally.specs.Lists.{listed};
 ghost use Rattle.smq_tally.specs.Tables.{tables_of};
 ghost use Rattle.smq_tally.specs.Tally.{opening_tally, held_in};
-ghost use Rattle.smq_tally.specs.within.Kept.{facts_in, StandAtTheirPlaces};
+ghost use Rattle.smq_tally.specs.within.Kept.{facts_in};
 ghost use Rattle.smq_tally.specs.within.ListOrder.{lists, takes_facts};
 
 use crate::kept_fact::KeptFact;
@@ -270,7 +270,7 @@ fn fact_at(facts: &mut Kept<Place, KeptFact>, place: &Place) -> Option<Fact>
     ensures counted { facts.old.touches ≤ facts.new.touches }
 {
     match facts.get(place) {
-        Some(fact) => Some(fact.fact()),
+        Some(fact) => Some(fact.at(*place)),
         None => None,
     }
 }
@@ -288,7 +288,7 @@ fn is_same(there: &Option<Fact>, fact: &Fact) -> bool
 
 // Puts a fact at its place, and counts and lists it in the place of the one that is there. An error leaves what was
 // settled.
-#[tactic(auto, using(crate::proofs::Held::is_counted, crate::proofs::Held::kept_put, crate::proofs::ListedFacts::fact_covered))]
+#[tactic(auto, using(crate::proofs::Held::is_counted, crate::proofs::Held::kept_put, crate::proofs::Held::stands, crate::proofs::ListedFacts::fact_covered))]
 fn put(
     alloc: Global,
     facts: &mut Kept<Place, KeptFact>,
@@ -297,7 +297,6 @@ fn put(
     fact: Fact,
 ) -> Result<(), AllocError>
     requires there { before.now ≡ fin.get (facts_in facts.old.content) fact.place }
-    requires places { StandAtTheirPlaces (facts_in facts.old.content) }
     requires shown { tables.old.shown
         ≡ tables_of (facts_in facts.old.content) tables.old.notes }
     ensures ok { OnOk result (facts_in facts.new.content

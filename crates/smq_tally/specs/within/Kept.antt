@@ -1,23 +1,53 @@
 -- Maps that can be undone, seen as finite ones, and what a change leaves in them to be taken back.
-use Rattle.std.specs.Prelude.{◌≡◌, Bool, true, false, List, ◌∷◌, Some}
+use Rattle.std.specs.Prelude.{◌≡◌, ℕ, Bool, true, false, List, ◌∷◌, Option, Some, map}
 use Rattle.std.specs.FinMap as fin
 use Rattle.std.specs.FinSet.{FinSet}
+use Rattle.smq_kit.specs.declared.names.LinkId.{LinkId}
+use Rattle.smq_kit.specs.declared.names.RouteId.{RouteId}
 use Rattle.smq_kit.specs.declared.place.Place.{Place}
 use Rattle.smq_kit.specs.Orders.{place_cmp}
 use Rattle.smq_shelf.specs.Keeping.{KeepingMap}
 use Rattle.smq_shelf.specs.Places.{content_of}
+use Rattle.smq_tally.specs.declared.band.Band.{Band}
 use Rattle.smq_tally.specs.declared.fact.Fact.{Fact}
 use Rattle.smq_tally.specs.declared.fact.RowKey.{RowKey}
 use Rattle.smq_tally.specs.declared.list.Listed.{Listed}
+use Rattle.smq_tally.specs.declared.outcome.Outcome.{Outcome}
+use Rattle.smq_tally.specs.declared.value.SubmitError.{SubmitError}
 use Rattle.smq_tally.specs.declared.outcome_counts.OutcomeCounts.{OutcomeCounts}
 use Rattle.smq_tally.specs.Lists.{listed_cmp}
 use Rattle.smq_tally.specs.Tables.{TablesValue, tables_of}
 use Rattle.smq_tally.specs.within.Counting.{Counts}
 use Rattle.smq_tally.specs.within.RowCounts.{counts_of, rows_in}
 
--- entries of facts as a finite map
-abbrev pub facts_in : List (Place × Fact) → fin.FinMap place_cmp Fact
-facts_in es = fin.from_entries es
+-- What a fact says but for its place.
+pub record Known : Type 0 where
+  pub link : LinkId
+  pub route : Option (RouteId × List ℕ)
+  pub outcome : Outcome
+  pub error : Option SubmitError
+  pub link_delay : Option Band
+  pub centre_delay : Option Band
+
+-- a fact without its place
+abbrev pub known_of : Fact → Known
+known_of f = record { link = f.link; route = f.route; outcome = f.outcome; error = f.error; link_delay = f.link_delay; centre_delay = f.centre_delay }
+
+-- the fact of a place
+abbrev pub fact_at : Place → Known → Fact
+fact_at place k = record {
+  place = place;
+  link = k.link;
+  route = k.route;
+  outcome = k.outcome;
+  error = k.error;
+  link_delay = k.link_delay;
+  centre_delay = k.centre_delay;
+}
+
+-- entries of what is known by place as a finite map of facts
+abbrev pub facts_in : List (Place × Known) → fin.FinMap place_cmp Fact
+facts_in es = fin.from_entries (map (λ e. (e.0, fact_at e.0 e.1)) es)
 
 -- entries of rows as counts
 abbrev pub counts_in : List (RowKey × OutcomeCounts) → Counts
@@ -50,5 +80,3 @@ pub record Tallies (facts settled_facts : fin.FinMap place_cmp Fact) (notes sett
   where
     pub now : shown ≡ tables_of facts notes
     pub before : settled ≡ tables_of settled_facts settled_notes
-    pub places : StandAtTheirPlaces facts
-    pub places_before : StandAtTheirPlaces settled_facts

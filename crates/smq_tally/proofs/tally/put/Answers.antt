@@ -5,7 +5,7 @@ use Rattle.std.specs.FinMap.{contains_key}
 use Rattle.smq_tally.specs.Lists.{listings_of_fact}
 use Rattle.smq_tally.specs.Tables.{tables_of}
 use Rattle.smq_tally.specs.within.Kept.{facts_in}
-use Rattle.smq_tally.proofs.Held.{has-room, kept_put, shown-added, shown-replaced}
+use Rattle.smq_tally.proofs.Held.{has-room, kept_put, shown-added, shown-replaced, stands}
 use Rattle.smq_tally.proofs.tally.put.Goals as goal
 
 pub replace_fact-requires-clause-room : goal.replace_fact-requires-clause-room
@@ -25,7 +25,7 @@ returns-in_ok-of-in-Some-clause-shown c =
     let stays = list_any (contains_key c.args.tables.now.notes) (listings_of_fact c.in-Some.before) in
     on_ok_weaker c.set.result
     (λ set. shown-replaced (facts_in c.args.facts.now.content) c.args.tables.now.notes c.requires.shown c.in-Some.before c.args.fact stays
-    c.requires.places (sym c.requires.there ∙ c.in-Some.is) refl
+    (stands c.args.facts.now.content) (sym c.requires.there ∙ c.in-Some.is) refl
     (kept_put c.args.facts.now.content c.set.new.self.content c.args.fact c.in_ok-of-in-Some.field-0 c.in_ok-of-in-Some.ensures set)
     c.in_ok-replace_fact-in-Some.ensures.ok
     ∙ ap (tables_of (facts_in c.set.new.self.content)) (sym c.in_ok-replace_fact-in-Some.ensures.notes)) c.set.ensures.content

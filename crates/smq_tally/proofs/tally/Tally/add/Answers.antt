@@ -2,8 +2,8 @@ use Rattle.std.proofs.Common.{◌≡◌, None, sym, ap, ◌∙◌}
 use Rattle.std.specs.FinMap.{get, insert}
 use Rattle.smq_tally.specs.Tables.{tables_of}
 use Rattle.smq_tally.specs.Tally.{TallyValue}
-use Rattle.smq_tally.specs.within.Kept.{facts_in}
-use Rattle.smq_tally.proofs.Held.{has-room, kept_put, shown-added, still, stand-added}
+use Rattle.smq_tally.specs.within.Kept.{facts_in, known_of}
+use Rattle.smq_tally.proofs.Held.{has-room, kept_put, shown-added, still}
 use Rattle.smq_tally.proofs.tally.Tally.add.Goals as goal
 
 pub add_fact-requires : goal.add_fact-requires
@@ -17,7 +17,7 @@ add_fact-requires c = record {
 -- the facts with the new one
 put : (c : goal.In_default) → facts_in c.set.new.self.content ≡ insert (facts_in c.self.inside.facts.content) c.args.fact.place c.args.fact
 put c =
-    kept_put c.self.inside.facts.content c.set.new.self.content c.args.fact c.in_ok-kept.kept (c.in_ok-kept.ensures ∙ c.copy.ensures) c.in_ok-set.ensures.content
+    kept_put c.self.inside.facts.content c.set.new.self.content c.args.fact c.in_ok-kept.kept (c.in_ok-kept.ensures ∙ ap known_of c.copy.ensures) c.in_ok-set.ensures.content
 
 pub invariant_of-self-in_default : goal.invariant_of-self-in_default
 invariant_of-self-in_default c =
@@ -26,4 +26,4 @@ invariant_of-self-in_default c =
     still c.self.invariant
     (shown-added (facts_in c.self.inside.facts.content) c.self.inside.tables.notes c.self.invariant.now c.args.fact absent (put c) c.in_default.ensures.ok
     ∙ ap (tables_of (facts_in c.set.new.self.content)) (sym c.in_default.ensures.notes))
-    (stand-added c.self.invariant c.args.fact (put c)) (ap facts_in c.set.ensures.settled) c.add_fact.ensures.settled_notes c.add_fact.ensures.settled
+    (ap facts_in c.set.ensures.settled) c.add_fact.ensures.settled_notes c.add_fact.ensures.settled

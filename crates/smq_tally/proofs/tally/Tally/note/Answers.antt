@@ -9,5 +9,5 @@ invariant_of-self-2 c =
     still c.self.invariant
     (note-added c.self.invariant (listed c.args.list c.args.place) (ap (λ (t : NotedValue). t.notes) c.in_ok-note.ensures.ok)
     (ap (λ (t : NotedValue). t.shown) c.in_ok-note.ensures.ok))
-    c.self.invariant.places refl (ap (λ (t : NotedValue). t.settled_notes) c.in_ok-note.ensures.ok)
+    refl (ap (λ (t : NotedValue). t.settled_notes) c.in_ok-note.ensures.ok)
     (ap (λ (t : NotedValue). t.settled) c.in_ok-note.ensures.ok)

@@ -1,4 +1,4 @@
-use Rattle.std.proofs.Common.{◌≡◌, subst, refl, sym, ap, ◌∙◌}
+use Rattle.std.proofs.Common.{◌≡◌, refl, sym, ap, ◌∙◌}
 use Rattle.std.specs.FinMap.{remove, contains_key}
 use Rattle.smq_shelf.proofs.Steps.{content-back}
 use Rattle.smq_tally.specs.Tables.{tables_of}
@@ -6,8 +6,8 @@ use Rattle.std.specs.List.{list_any}
 use Rattle.smq_tally.specs.Lists.{listings_of_fact}
 use Rattle.smq_tally.specs.Tally.{TallyValue}
 use Rattle.smq_tally.specs.within.Noted.{NotedValue}
-use Rattle.smq_tally.specs.within.Kept.{facts_in, StandAtTheirPlaces}
-use Rattle.smq_tally.proofs.Held.{Entries, fact_taken, has-entry, still, fact-removed, stand-removed}
+use Rattle.smq_tally.specs.within.Kept.{facts_in}
+use Rattle.smq_tally.proofs.Held.{fact_taken, has-entry, still, stands, fact-removed}
 use Rattle.smq_tally.proofs.tally.Tally.remove.Goals as goal
 
 -- the facts of before
@@ -24,7 +24,6 @@ invariant_of-self-in-Err c =
     still c.self.invariant
     (ap (λ (t : NotedValue). t.shown) c.in-Err.ensures.err ∙ c.self.invariant.now
     ∙ (λ i. tables_of (facts_in (sym (back c) i)) (sym c.in-Err.ensures.err i).notes))
-    (subst (λ (es : Entries). StandAtTheirPlaces (facts_in es)) (sym (back c)) c.self.invariant.places)
     (ap facts_in (c.take_back.ensures.settled ∙ c.remove.ensures.settled ∙ c.fact_at.ensures.settled)) c.remove_fact.ensures.settled_notes c.remove_fact.ensures.settled
 
 pub returns-in-Err-clause-err : goal.returns-in-Err-clause-err
@@ -40,8 +39,8 @@ pub invariant_of-self-in_default-remove_fact : goal.invariant_of-self-in_default
 invariant_of-self-in_default-remove_fact c =
     still c.self.invariant
     (fact-removed c.self.invariant c.args.place c.in-Some.fact
-    (list_any (contains_key c.self.inside.tables.notes) (listings_of_fact c.in-Some.fact)) (sym c.in-Some.ensures.value)
+    (list_any (contains_key c.self.inside.tables.notes) (listings_of_fact c.in-Some.fact)) (stands c.self.inside.facts.content) (sym c.in-Some.ensures.value)
     refl (took c) c.in_default-remove_fact.ensures.ok
     ∙ ap (tables_of (facts_in c.remove.new.self.content)) (sym c.in_default-remove_fact.ensures.notes))
-    (stand-removed c.self.invariant c.args.place (took c)) (ap facts_in (c.remove.ensures.settled
+    (ap facts_in (c.remove.ensures.settled
     ∙ c.fact_at.ensures.settled)) c.remove_fact.ensures.settled_notes c.remove_fact.ensures.settled
