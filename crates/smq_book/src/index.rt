@@ -3,7 +3,6 @@ pub mod append;
 pub mod clock;
 pub mod due_at;
 pub mod end_at;
-pub mod fact;
 pub mod forms;
 pub mod index;
 pub mod moves;

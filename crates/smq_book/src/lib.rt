@@ -1,7 +1,9 @@
 //! One book of captured sessions: what is present, its edits and their replies, and the tables of it.
 #![tactic(auto)]
 
+mod edits;
 mod index;
+mod join;
 mod laws;
 mod pairing;
 mod present;
@@ -50,9 +52,10 @@ pub use laws::whole::{
 };
 
 // values and calls
+pub use join::fact::fact_under;
+pub use join::message::{Message, ReceivedReceipt, Response};
 pub use pairing::pairs::place_of;
 pub use pairing::source::Source;
-pub use pairing::submits::asks_receipt;
 pub use present::batch::{Batch, prepare};
 pub use present::edit::Edit;
 pub use present::forms::Forms;

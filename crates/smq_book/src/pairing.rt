@@ -2,4 +2,3 @@
 pub mod notes;
 pub mod pairs;
 pub mod source;
-pub mod submits;

@@ -4,7 +4,6 @@ pub mod edit;
 pub mod forms;
 pub mod kept;
 pub mod piece_row;
-pub mod plain;
 pub mod present;
 pub mod session;
 pub mod sessions;

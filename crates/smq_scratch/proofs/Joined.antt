@@ -5,6 +5,8 @@ use Rattle.std.specs.BTreeMap.{BTreeMap}
 use Rattle.std.specs.FinMap.{from_entries, values}
 use Rattle.std.specs.List.{AllZip, flat_map}
 use Rattle.std.proofs.lemmas.Grind.{flat_map-append}
+use Rattle.std.proofs.lemmas.Slice.Zip.{AllZip-map}
+use Rattle.rayon.proofs.ListFacts.{AllZip-weaken}
 use Rattle.smq_kit.specs.declared.link_key.LinkKey.{LinkKey}
 use Rattle.smq_tally.specs.declared.fact.Fact.{Fact}
 use Rattle.smq_tally.specs.declared.list.Listed.{Listed}
@@ -44,11 +46,9 @@ notes-joined numbers deciders (x ∷ xs) (v ∷ ns) h =
 pub facts-known : (s : SettingsValue) (numbers : BTreeMap LinkKey ℕ) (deciders : BTreeMap LinkKey PlacedReceipt)
     (submits : List SubmittedMessage) (receipts : List KeyedReceipt) → HasNumbers numbers submits → HasDeciders deciders receipts
     → (ms : List SubmittedMessage) (fs : List Fact) → AllZip (Knows s numbers deciders) ms fs → fs ≡ map (fact_of s submits receipts) ms
-facts-known s numbers deciders submits receipts n d [] [] h = refl
-facts-known s numbers deciders submits receipts n d [] (f ∷ fs) h = elim h [ ]
-facts-known s numbers deciders submits receipts n d (m ∷ ms) [] h = elim h [ ]
-facts-known s numbers deciders submits receipts n d (m ∷ ms) (f ∷ fs) h =
-    λ i. h.0 submits receipts n d i ∷ facts-known s numbers deciders submits receipts n d ms fs h.1 i
+facts-known s numbers deciders submits receipts n d ms fs h =
+    AllZip-map (fact_of s submits receipts) ms fs (AllZip-weaken (Knows s numbers deciders) (λ m f. f ≡ fact_of s submits receipts m)
+    (λ m f known. known submits receipts n d) ms fs h)
 
 -- facts of what is present are of different places
 pub apart : (p : PresentValue) (fs : List Fact) → fs ≡ values (facts_of p.settings (traffic_of p.sessions)) → AreOfDifferentPlaces fs

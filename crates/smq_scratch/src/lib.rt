@@ -6,7 +6,6 @@
 mod accepted;
 mod anew;
 mod at_once;
-mod circumstances;
 mod deciders;
 mod facts;
 mod laws;

@@ -10,7 +10,7 @@ ghost use Rattle.smq_scratch.specs.Sourced.{receipts_in, sourced_of};
 use crate::accepted::Accepted;
 use crate::at_once::{Work, both};
 use crate::deciders::Deciders;
-use crate::facts::fact_of;
+use crate::facts::known_of;
 use crate::listings::session_notes;
 use crate::sessions::{DecodedSession, SourcedSession, sourced, sourced_again};
 use crate::submits::SubmittedMessage;
@@ -218,7 +218,7 @@ fn know_all<R: Threads + Sync>(
             move |submit: &SubmittedMessage| -> Fact
                 ensures { Knows settings.entry.now accepted.entry.now.numbers
                     deciders.entry.now.receipts submit.now result }
-            { fact_of(settings, submit, accepted, deciders) },
+            { known_of(settings, submit, accepted, deciders).0 },
         )
         .collect(rt, alloc)
 }

@@ -1,5 +1,5 @@
 //! The delivery receipts of a session, each at its place.
-ghost use Rattle.std.specs.Prelude.{◌≡◌, pos, ◌-ℤ◌};
+ghost use Rattle.std.specs.Prelude.{◌≡◌};
 ghost use Rattle.std.specs.Option.{option_to_list};
 ghost use Rattle.std.specs.Ordering.{is_gt};
 ghost use Rattle.smq_book.specs.present.Kept.{receipt_in};
@@ -7,19 +7,16 @@ ghost use Rattle.smq_book.specs.join.Keyed as keyed;
 ghost use Rattle.smq_book.specs.within.Receipts.{receipt_cmp, receipt_by};
 ghost use Rattle.smq_scratch.specs.Lines.{deciding_receipt};
 
-use smq_book::{KeptPdu, Source, place_of};
-use smq_kit::{Dir, HashedKey, LinkId, Moment, Place};
+use smq_book::{KeptPdu, ReceivedReceipt, Source, place_of};
+use smq_kit::{Dir, HashedKey, Place};
 use smq_lines::DecidingReceipt;
-use smq_receipt::Receipt;
 use std::marker::Model;
 
 /// A delivery receipt that the centre sent.
 #[derive(Drop)]
 pub(crate) struct PlacedReceipt<'a> {
-    pub link: LinkId,
     pub place: Place,
-    pub moment: Moment,
-    pub receipt: &'a Receipt,
+    pub received: ReceivedReceipt<'a>,
 }
 
 impl<'a> Model for PlacedReceipt<'a> {
@@ -27,7 +24,12 @@ impl<'a> Model for PlacedReceipt<'a> {
 
     ghost Value = { PlacedReceipt };
 
-    ghost view = { λ r. record { link = r.link; place = r.place; moment = r.moment; receipt = r.receipt.now } };
+    ghost view = { λ r. record {
+      link = r.received.link;
+      place = r.place;
+      moment = r.received.moment;
+      receipt = r.received.receipt;
+    } };
 }
 
 impl<'a> PlacedReceipt<'a> {
@@ -35,14 +37,7 @@ impl<'a> PlacedReceipt<'a> {
     pub(crate) fn can_decide(&self) -> bool
         ensures { result ≡ keyed.can_decide self.now.receipt }
     {
-        self.receipt.state.is_final() && !self.receipt.interim
-    }
-
-    /// The delay in ms from a moment to its own, which is negative where it stands before it.
-    pub(crate) fn delay_after(&self, moment: Moment) -> i64
-        ensures { result ≡ (pos self.now.moment -ℤ pos moment) }
-    {
-        self.moment.milliseconds() as i64 - moment.milliseconds() as i64
+        self.received.can_decide()
     }
 
     /// What the line for a message says of it, where it decides that.
@@ -51,8 +46,8 @@ impl<'a> PlacedReceipt<'a> {
     {
         DecidingReceipt {
             place: self.place,
-            moment: self.moment,
-            centre_delay: self.receipt.centre_delay,
+            moment: self.received.moment,
+            centre_delay: self.received.receipt.centre_delay,
         }
     }
 
@@ -60,7 +55,8 @@ impl<'a> PlacedReceipt<'a> {
     pub(crate) fn is_after(&self, other: &PlacedReceipt<'_>) -> bool
         ensures { result ≡ is_gt (receipt_cmp self.now other.now) }
     {
-        self.moment > other.moment || (self.moment == other.moment && self.place > other.place)
+        let (mine, others) = (self.received.moment, other.received.moment);
+        mine > others || (mine == others && self.place > other.place)
     }
 }
 
@@ -75,10 +71,12 @@ pub(crate) fn receipt_at<'a>(
     Some((
         HashedKey::of(source.link, source.forms.receipt, &receipt.id),
         PlacedReceipt {
-            link: source.link,
             place: place_of(source.session, Dir::FromCentre, pdu),
-            moment: pdu.moment,
-            receipt,
+            received: ReceivedReceipt {
+                link: source.link,
+                moment: pdu.moment,
+                receipt,
+            },
         },
     ))
 }

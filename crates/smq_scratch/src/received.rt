@@ -85,12 +85,13 @@ fn line_at<'a>(
 {
     let (key, receipt) = receipt_at(source, pdu)?;
     let found = matches.get(&key);
+    let standing = standing(found, deciders.receipt(&key), &receipt);
     Some(ReceiptLine {
-        link: receipt.link,
+        link: receipt.received.link,
         place: receipt.place,
-        moment: receipt.moment,
-        receipt: receipt.receipt,
-        standing: standing(found, deciders.receipt(&key), &receipt),
+        moment: receipt.received.moment,
+        receipt: receipt.received.receipt,
+        standing,
         message: message_at(found),
     })
 }

@@ -1,15 +1,17 @@
 //! The submitted messages, each with its response.
 ghost use Rattle.std.specs.Prelude.{◌≡◌, ◌++◌, OnOk, Some, option_map, slice_get};
-ghost use Rattle.std.specs.Option.{option_to_list};
+ghost use Rattle.std.specs.Option.{option_copied, option_to_list};
 ghost use Rattle.smq_book.specs.present.Kept.{submit_in};
-ghost use Rattle.smq_book.specs.within.Messages.{submit_by, submits_among};
+ghost use Rattle.smq_book.specs.pairing.Traffic.{response_in};
+ghost use Rattle.smq_book.specs.within.Messages.{accepted_id, submit_by, submits_among};
+ghost use Rattle.smq_book.specs.within.Outcomes.{message_from};
 ghost use Rattle.smq_book.specs.within.Pairs.{SubmitsAreRequests};
 ghost use Rattle.smq_scratch.specs.within.Sides.{IsPaired};
 
 use crate::sides::Side;
-use smq_book::{KeptPdu, Source, asks_receipt, place_of};
-use smq_kit::{Dir, Place};
-use smq_pdu::Submit;
+use smq_book::{KeptPdu, Message, Response, Source, place_of};
+use smq_kit::{Dir, HashedKey, MessageId, Place};
+use smq_pdu::{Submit, agrees};
 use std::alloc::AllocError;
 use std::marker::Model;
 
@@ -40,11 +42,45 @@ impl<'a> SubmittedMessage<'a> {
         place_of(self.source.session, Dir::FromClient, self.request)
     }
 
-    /// Whether it asks for a delivery receipt.
-    pub(crate) fn asks_receipt(&self) -> bool
-        ensures { result ≡ self.now.asks_receipt }
+    /// What it and its response say.
+    pub(crate) fn message(&self) -> Message<'a>
+        ensures { result ≡ message_from self.now }
     {
-        asks_receipt(self.submit.registered_delivery)
+        Message {
+            link: self.source.link,
+            moment: self.request.moment,
+            submit: self.submit,
+            response: self.answer(),
+        }
+    }
+
+    /// What its response says.
+    fn answer(&self) -> Option<Response<'a>>
+        ensures { result ≡ option_map (response_in self.now.header) self.now.response }
+    {
+        let response = self.response?;
+        Some(Response {
+            agrees: agrees(self.request.command, response.command),
+            status: response.status,
+            id: response.content.message_id(),
+        })
+    }
+
+    /// The id with which it is accepted, as its response gives it.
+    pub(crate) fn id(&self) -> Option<&'a MessageId>
+        ensures { option_copied result ≡ accepted_id self.now.header self.now.response }
+    {
+        self.message().accepted_id()
+    }
+
+    /// The key of its id, where it is accepted.
+    pub(crate) fn key(&self) -> Option<HashedKey>
+        ensures { result ≡ self.now.key }
+    {
+        match self.id() {
+            Some(id) => Some(HashedKey::of(self.source.link, self.source.forms.response, id)),
+            None => None,
+        }
     }
 
     /// Where its response stands, in octets from the centre's first.

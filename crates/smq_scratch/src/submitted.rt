@@ -9,7 +9,7 @@ ghost use Rattle.smq_scratch.specs.Sourced.{sourced_of};
 
 use crate::accepted::Accepted;
 use crate::deciders::Deciders;
-use crate::facts::{decision, fact_with};
+use crate::facts::known_of;
 use crate::sessions::{SourcedSession, sourced};
 use crate::submits::SubmittedMessage;
 use crate::traffic::{joined, read_sessions};
@@ -68,9 +68,9 @@ fn message_line<'a>(
         → HasNumbers accepted.now.numbers submits → HasDeciders deciders.now.receipts receipts
         → result ≡ lines.message_line settings.now submits receipts submit.now }
 {
-    let (shared, decider) = decision(submit, accepted, deciders);
+    let (fact, decider) = known_of(settings, submit, accepted, deciders);
     MessageLine {
-        fact: fact_with(settings, submit, shared, decider),
+        fact,
         moment: submit.request.moment,
         number: submit.submit.number.as_ref(),
         id: submit.id(),

@@ -8,6 +8,7 @@ pub mod PlacedKeys
 pub mod Numbered
 pub mod Due
 pub mod Ends
+pub mod Unaccepted
 pub mod EndWalks
 pub mod Anew
 pub mod Coming

@@ -17,6 +17,11 @@ pub record Circumstances : Type 0 where
   pub route : Option (RouteId × List ℕ)
   pub lapsed : Bool
 
+-- the circumstances of a message that stands so, by its deciding receipt, its route and network, and whether it has lapsed
+abbrev pub circumstances_by : Option Standing → Option ReceivedReceipt → Option (RouteId × List ℕ) → Bool → Circumstances
+circumstances_by standing decider route lapsed =
+    record { standing = standing; decider = decider; route = route; lapsed = lapsed }
+
 -- how a message stands: not at all where it isn't accepted
 abbrev pub standing_in : Grouping → SettingsValue → Message → Option Standing
 standing_in g s m = option_map (submit_standing g) (accepted_key s m)

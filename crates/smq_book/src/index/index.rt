@@ -2,7 +2,7 @@
 //!
 //! Each call that puts a message or a receipt in, or takes one out, sets the facts and the listings of the places alone
 //! whose standings it changes.
-ghost use Rattle.std.specs.Prelude.{◌≡◌, ◌<◌, ◌≤◌, ◌+◌, ◌-◌, ◌*◌, ◌^◌, true, Option, Some, length, option_map, IsTrue, OnOk};
+ghost use Rattle.std.specs.Prelude.{◌≡◌, ◌<◌, ◌≤◌, ◌+◌, ◌-◌, ◌*◌, ◌^◌, true, false, Option, Some, None, length, option_map, IsTrue, OnOk};
 ghost use Rattle.std.specs.Option.{option_copied};
 ghost use Rattle.std.specs.FinMap as fin;
 ghost use Rattle.smq_kit.specs.Maps.{set_at};
@@ -21,14 +21,15 @@ ghost use Rattle.smq_book.specs.index.Touches.{HasNothingPending, RisesWithFacts
 ghost use Rattle.smq_book.specs.declared.index.index.RouteOf.TheVariants.{FactThere};
 ghost use Rattle.smq_book.specs.join.Circumstances.{route_in};
 ghost use Rattle.smq_book.specs.join.Facts.{facts_of};
+ghost use Rattle.smq_book.specs.join.Keyed.{accepted_key};
 ghost use Rattle.smq_book.specs.pairing.Traffic.{TrafficValue};
 ghost use Rattle.smq_book.specs.pairing.Traffic.{Message as MessageOf};
 ghost use Rattle.smq_book.specs.present.Settings.{SettingsValue};
 
 use crate::index::due_at::DueAt;
 use crate::index::end_at::EndAt;
-use crate::index::fact::fact_of;
-use crate::index::stored::{StoredMessage, StoredReceipt};
+use crate::index::stored::{StoredMessage, StoredReceipt, received_in};
+use crate::join::fact::fact_of;
 use crate::present::settings::Settings;
 use crate::present::windows::Windows;
 use crate::{Fact, List, Outcome};
@@ -387,14 +388,31 @@ fn fact_at(
         → Some result ≡ fin.get (facts_of z t) place }
     ensures place { result.place ≡ place }
 {
+    let said = message.message();
+    let lapsed = said.has_lapsed(windows, clock);
+    let decider = received_in(decider_of(receipts, standing));
     fact_of(
         place,
-        message,
+        &said,
         route,
-        message.has_lapsed(windows, clock),
+        lapsed,
         is_shared(standing),
-        decider_of(receipts, standing),
+        decider.as_ref(),
     )
+}
+
+/// What is known of a message that isn't accepted, at its place: no receipt decides it, and it doesn't lapse.
+pub(crate) fn fact_of_unaccepted(place: Place, message: &StoredMessage, routes: &Routes) -> Fact
+    ensures value { (s : SettingsValue) (t : TrafficValue) → s.versions ≡ routes.now.versions
+        → accepted_key s message.now ≡ None → fin.get t.messages place ≡ Some message.now
+        → Some result ≡ fin.get (facts_of s t) place }
+    ensures due { (s : SettingsValue) → accepted_key s message.now ≡ None
+        → is_due_fact (Some result) ≡ false }
+    ensures place { result.place ≡ place }
+{
+    let said = message.message();
+    let route = said.route(routes);
+    fact_of(place, &said, route, false, false, None)
 }
 
 /// Whether there is an outcome and it is that of a message whose receipt is due.

@@ -20,7 +20,7 @@ ghost use Rattle.smq_book.specs.present.Settings.{SettingsValue};
 use crate::List;
 use crate::index::due_at::DueAt;
 use crate::index::end_at::EndAt;
-use crate::index::index::{Index, set_due, set_end, take_fact};
+use crate::index::index::{Index, fact_of_unaccepted, set_due, set_end, take_fact};
 use crate::index::stored::{StoredMessage, StoredReceipt};
 use crate::present::settings::Settings;
 use smq_kit::Place;
@@ -41,6 +41,7 @@ impl Index {
         requires absent { fin.get (messages_in self.old.messages.content) place ≡ None }
         requires apart { fin.get (receipts_in self.old.receipts.content) place ≡ None }
         requires dir { place.dir ≡ FromClient }
+        requires unknown { fin.get self.old.tally.facts place ≡ None }
         ensures held { (t : TrafficValue) → IsTraffic t → held_now self.old ≡ held_of settings.now t
             → OnOk result
             (held_now self.new ≡ held_of settings.now (moves.put_message place message t)) }
@@ -56,11 +57,13 @@ impl Index {
     {
         let key = message.key(settings);
         put_number(&mut self.numbers, place, &message)?;
-        self.messages.set(place, message)?;
         let Some(key) = key else {
-            self.refresh(settings, place, None, None)?;
+            let fact = fact_of_unaccepted(place, &message, settings.routes());
+            self.messages.set(place, message)?;
+            self.tally.add(fact)?;
             return Ok(());
         };
+        self.messages.set(place, message)?;
         let changes = self.standings.add_submit(key.link, key.key, place)?;
         self.follow(settings, changes.as_slice(), None)?;
         Ok(())

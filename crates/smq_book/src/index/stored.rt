@@ -1,16 +1,13 @@
 //! What is stored of messages and delivery receipts: what their PDUs say, whatever is set.
-ghost use Rattle.std.specs.Prelude.{◌≡◌, pos, ◌-ℤ◌, IfOk};
+ghost use Rattle.std.specs.Prelude.{◌≡◌, IfOk};
 ghost use Rattle.std.specs.Option.{option_copied};
-ghost use Rattle.smq_book.specs.index.Due.{has_ended};
 ghost use Rattle.smq_book.specs.join.Circumstances.{route_in};
 ghost use Rattle.smq_book.specs.join.Keyed as keyed;
-ghost use Rattle.smq_book.specs.join.Keyed.{accepted_id, accepted_key, receipt_key};
-ghost use Rattle.smq_book.specs.present.Settings.{window_in};
+ghost use Rattle.smq_book.specs.join.Keyed.{accepted_key, receipt_key};
 
-use crate::pairing::submits::asks_receipt;
+use crate::join::message::{Message, ReceivedReceipt, Response};
 use crate::present::kept::shared;
 use crate::present::settings::Settings;
-use crate::present::windows::Windows;
 use smq_kit::{Digits, LinkId, LinkKey, MessageId, Moment, Network, RouteId};
 use smq_pdu::Submit;
 use smq_receipt::Receipt;
@@ -93,6 +90,20 @@ impl StoredResponse {
             id: shared(&self.id)?,
         })
     }
+
+    /// What it says.
+    fn response(&self) -> Response<'_>
+        ensures { result ≡ self.now }
+    {
+        Response {
+            agrees: self.agrees,
+            status: self.status,
+            id: match &self.id {
+                None => None,
+                Some(id) => Some(id),
+            },
+        }
+    }
 }
 
 impl StoredMessage {
@@ -118,32 +129,26 @@ impl StoredMessage {
         self.submit.number.as_ref()
     }
 
-    /// Whether it asks for a delivery receipt.
-    pub(crate) fn asks_receipt(&self) -> bool
-        ensures { result ≡ self.now.asks_receipt }
+    /// What it and its response say.
+    pub(crate) fn message(&self) -> Message<'_>
+        ensures { result ≡ self.now }
     {
-        asks_receipt(self.submit.registered_delivery)
-    }
-
-    /// The id with which it is accepted, where it is.
-    fn accepted_id(&self) -> Option<&MessageId>
-        ensures { option_copied result ≡ accepted_id self.now.response }
-    {
-        let response = self.response.as_ref()?;
-        if !response.agrees || response.status != 0 {
-            return None;
-        }
-        match &response.id {
-            None => None,
-            Some(id) => Some(id),
+        Message {
+            link: self.link,
+            moment: self.moment,
+            submit: &self.submit,
+            response: match &self.response {
+                None => None,
+                Some(response) => Some(response.response()),
+            },
         }
     }
 
-    /// The key of that id, under what is set.
+    /// The key of the id with which it is accepted, under what is set, where it is.
     pub(crate) fn key(&self, settings: &Settings) -> Option<LinkKey>
         ensures { result ≡ accepted_key settings.now self.now }
     {
-        let id = self.accepted_id()?;
+        let id = self.message().accepted_id()?;
         let forms = settings.forms_of(self.link);
         Some(LinkKey::of(self.link, forms.response, id))
     }
@@ -152,16 +157,7 @@ impl StoredMessage {
     pub(crate) fn route(&self, routes: &Routes) -> Option<(RouteId, Network)>
         ensures { result ≡ route_in routes.now.versions self.now }
     {
-        let number = self.number()?;
-        routes.at(number, self.moment)
-    }
-
-    /// Whether a clock is at the end of the window of its link, or past it.
-    pub(crate) fn has_lapsed(&self, windows: &Windows, clock: Moment) -> bool
-        ensures { result ≡ has_ended clock self.now.moment (window_in windows.now self.now.link) }
-    {
-        let window = windows.of(self.link);
-        self.moment.milliseconds() + window.milliseconds() <= clock.milliseconds()
+        self.message().route(routes)
     }
 }
 
@@ -185,17 +181,28 @@ impl StoredReceipt {
         LinkKey::of(self.link, forms.receipt, &self.receipt.id)
     }
 
+    /// What it says.
+    pub(crate) fn received(&self) -> ReceivedReceipt<'_>
+        ensures { result ≡ self.now }
+    {
+        ReceivedReceipt {
+            link: self.link,
+            moment: self.moment,
+            receipt: &self.receipt,
+        }
+    }
+
     /// Whether its state is final and it isn't an intermediate notification.
     pub(crate) fn can_decide(&self) -> bool
         ensures { result ≡ keyed.can_decide self.now.receipt }
     {
-        self.receipt.state.is_final() && !self.receipt.interim
+        self.received().can_decide()
     }
+}
 
-    /// The delay in ms from a moment to its own, which is negative where it stands before it.
-    pub(crate) fn delay_after(&self, moment: Moment) -> i64
-        ensures { result ≡ (pos self.now.moment -ℤ pos moment) }
-    {
-        self.moment.milliseconds() as i64 - moment.milliseconds() as i64
-    }
+/// What a receipt says, where there is one.
+pub(crate) fn received_in(receipt: Option<&StoredReceipt>) -> Option<ReceivedReceipt<'_>>
+    ensures { result ≡ option_copied receipt.entry }
+{
+    Some(receipt?.received())
 }

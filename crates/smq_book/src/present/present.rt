@@ -1,30 +1,13 @@
-//! The sessions by their numbers, and what is set.
-//!
-//! Who changes what an edit does tests all that refuses it first, in the order of specs/present/Replies.antt. Then what is
-//! stored takes it, which can be undone, and last what is present: so a refused edit changes nothing.
-ghost use Rattle.std.specs.Prelude.{◌≡◌, ◌≢◌, ◌≤◌, ◌+◌, ◌*◌, ℕ, [], None, Err, OnOk, option_copied};
+//! The sessions by their numbers, and what is set; and the plain change that each edit is. A refusal changes nothing.
+ghost use Rattle.std.specs.Prelude.{◌≡◌, ℕ, option_copied};
 ghost use Rattle.std.specs.FinMap as map;
 ghost use Rattle.std.specs.Map.Iter.{ShowsInOrder, deref_pair};
-ghost use Rattle.smq_book.specs.edits.Reach.{reach};
-ghost use Rattle.smq_book.specs.edits.Reached.{due_by};
-ghost use Rattle.smq_book.specs.index.Held.{IsHeld, held_now, held_settled, traffic_held};
-ghost use Rattle.smq_book.specs.declared.index.pairings.Pairings.{Pairings as PairingsOf};
-ghost use Rattle.smq_book.specs.index.Kept.{IsKept};
-ghost use Rattle.smq_book.specs.index.Pairs.{pairs_now, pairs_pending, pairs_settled};
-ghost use Rattle.smq_book.specs.index.Touches.{HasNothingPending, RisesWithFacts, index_cost, touches_in};
-ghost use Rattle.smq_book.specs.pairing.Traffic.{traffic_of};
-ghost use Rattle.smq_book.specs.within.InOrder.{sessions_in};
-ghost use Rattle.smq_book.specs.present.Present.{empty, session_of};
-ghost use Rattle.smq_kit.specs.Replies.{IsReply};
-ghost use Rattle.smq_route.specs.Versions.{AreApart};
+ghost use Rattle.smq_book.specs.present.Present.{empty, session_of, tail_in};
 ghost use Rattle.smq_book.specs.present.Replies.{reply};
 ghost use Rattle.smq_book.specs.present.Steps.{change};
+ghost use Rattle.smq_kit.specs.Replies.{IsReply, IsReplyInPlace};
+ghost use Rattle.smq_route.specs.Versions.{AreApart};
 
-use crate::index::append::append;
-use crate::index::forms::{put_link, take_link};
-use crate::index::index::Index;
-use crate::index::pairings::Pairings;
-use crate::index::withdraw::withdraw;
 use crate::present::sessions::{put_in_step, remove_session};
 use crate::present::settings::Settings;
 use crate::{Batch, Edit, Forms, Session};
@@ -120,7 +103,7 @@ impl Present {
     }
 
     /// What refuses a batch, if anything: lack of memory aside.
-    fn append_refusal(&self, alloc: Global, batch: &Batch) -> Option<Refusal>
+    pub(crate) fn append_refusal(&self, alloc: Global, batch: &Batch) -> Option<Refusal>
         ensures { result ≡ reply self.now (Edit.Append batch.now) }
     {
         match self.sessions.get(&batch.session.0) {
@@ -129,301 +112,114 @@ impl Present {
         }
     }
 
-    /// Puts a batch after its direction, in its session or in a new one, and what it says in what is kept. A refusal changes
-    /// nothing.
-    pub(crate) fn append(
-        &mut self,
-        alloc: Global,
-        index: &mut Index,
-        pairings: &mut Pairings,
-        batch: Batch,
-    ) -> Result<(), Refusal>
-        requires kept { IsKept self.old index.old pairings.old }
-        ensures reply { IsReply (reply self.old (Edit.Append batch)) result
+    /// Puts a batch after its direction, in its session or in a new one.
+    pub(crate) fn put_batch(&mut self, alloc: Global, batch: Batch) -> Result<(), Refusal>
+        ensures { IsReply (reply self.old (Edit.Append batch)) result
             (self.new ≡ change self.old (Edit.Append batch)) (self.new ≡ self.old) }
-        ensures kept { IsKept self.new index.new pairings.new }
-        ensures touches { OnOk result (index_cost index.new + pairings.new.touches
-            ≤ index_cost index.old + pairings.old.touches
-            + 64 * (1 + reach self.old (Edit.Append batch))) }
-        ensures rises { OnOk result (RisesWithFacts index.old index.new) }
-        ensures pairs_counted { OnOk result (pairings.old.touches ≤ pairings.new.touches) }
     {
-        let session = batch.session;
         if let Some(refusal) = self.append_refusal(alloc, &batch) {
             return Err(refusal);
         }
-        let Ok(()) = append(index, pairings, self, &batch) else {
-            undo(index, pairings, session);
-            return Err(Refusal::Memory);
-        };
-        match put_in_step(alloc, &mut self.sessions, batch) {
-            Ok(()) => {}
-            Err(refusal) => {
-                undo(index, pairings, session);
-                return Err(refusal);
-            }
-        }
-        index.settle();
-        pairings.settle(session);
-        Ok(())
+        self.put_batch_in_step(alloc, batch)
     }
 
-    /// Takes a session back, with both its directions and all that it says. A refusal changes nothing.
-    pub(crate) fn withdraw(
-        &mut self,
-        index: &mut Index,
-        pairings: &mut Pairings,
-        session: SessionId,
-    ) -> Result<(), Refusal>
-        requires kept { IsKept self.old index.old pairings.old }
-        ensures reply { IsReply (reply self.old (Edit.Withdraw session)) result
+    /// Puts a batch after the direction on whose tail it was prepared, in its session or in a new one.
+    pub(crate) fn put_batch_in_step(&mut self, alloc: Global, batch: Batch) -> Result<(), Refusal>
+        requires in_step { batch.tail ≡ tail_in self.old batch.session.0 batch.dir }
+        ensures { IsReply (reply self.old (Edit.Append batch)) result
+            (self.new ≡ change self.old (Edit.Append batch)) (self.new ≡ self.old) }
+    {
+        put_in_step(alloc, &mut self.sessions, batch)
+    }
+
+    /// Takes a session back, with both its directions. It takes no memory.
+    pub(crate) fn take_session(&mut self, session: SessionId) -> Result<(), Refusal>
+        ensures { IsReplyInPlace (reply self.old (Edit.Withdraw session)) result
             (self.new ≡ change self.old (Edit.Withdraw session)) (self.new ≡ self.old) }
-        ensures kept { IsKept self.new index.new pairings.new }
-        ensures touches { OnOk result (index_cost index.new + pairings.new.touches
-            ≤ index_cost index.old + pairings.old.touches
-            + 64 * (1 + reach self.old (Edit.Withdraw session))) }
-        ensures rises { OnOk result (RisesWithFacts index.old index.new) }
-        ensures pairs_counted { OnOk result (pairings.old.touches ≤ pairings.new.touches) }
     {
-        let found = match self.sessions.get(&session.0) {
-            Some(found) => found,
-            None => return Err(Refusal::NoSession),
-        };
-        let Ok(()) = withdraw(index, pairings, self, session, found) else {
-            index.undo();
-            return Err(Refusal::Memory);
-        };
-        remove_session(&mut self.sessions, session.0)?;
-        pairings.remove(session);
-        index.settle();
+        remove_session(&mut self.sessions, session.0)
+    }
+
+    /// Sets the forms of a link's message ids.
+    pub(crate) fn put_forms(&mut self, link: LinkId, forms: Forms) -> Result<(), Refusal>
+        ensures { let edit = Edit.SetForm link forms.response forms.receipt in
+            IsReply (reply self.old edit) result
+            (self.new ≡ change self.old edit) (self.new ≡ self.old) }
+    {
+        self.settings.set_forms(link, forms)?;
         Ok(())
     }
 
-    /// Sets the forms of a link's message ids, and the keys of its messages and delivery receipts anew, unless these forms are
-    /// set. A refusal changes nothing.
-    pub(crate) fn set_forms(
-        &mut self,
-        alloc: Global,
-        index: &mut Index,
-        link: LinkId,
-        forms: Forms,
-    ) -> Result<(), Refusal>
-        requires held { IsHeld self.old.settings (held_now index.old) }
-        requires traffic { traffic_held (held_now index.old) ≡ traffic_of self.old.sessions }
-        requires settled { held_settled index.old ≡ held_now index.old }
-        ensures reply { let edit = Edit.SetForm link forms.response forms.receipt in
+    /// Sets how long a message of a link waits.
+    pub(crate) fn put_window(&mut self, link: LinkId, window: Window) -> Result<(), Refusal>
+        ensures { let edit = Edit.SetWindow link window in
             IsReply (reply self.old edit) result
             (self.new ≡ change self.old edit) (self.new ≡ self.old) }
-        ensures held { IsHeld self.new.settings (held_now index.new) }
-        ensures traffic { traffic_held (held_now index.new) ≡ traffic_of self.new.sessions }
-        ensures settled { held_settled index.new ≡ held_now index.new }
-        ensures kept { (pairings : PairingsOf) → IsKept self.old index.old pairings
-            → IsKept self.new index.new pairings }
-        ensures touches { (pairings : PairingsOf) → IsKept self.old index.old pairings
-            → OnOk result (index_cost index.new ≤ index_cost index.old
-            + 64 * (1 + reach self.old (Edit.SetForm link forms.response forms.receipt))) }
-        ensures rises { OnOk result (RisesWithFacts index.old index.new) }
     {
-        if self.settings.has_forms(link, forms) {
-            return Ok(());
-        }
-        let Ok(()) = self.change_forms(alloc, index, link, forms) else {
-            index.undo();
-            return Err(Refusal::Memory);
-        };
-        index.settle();
+        self.settings.windows.set(link, window)?;
         Ok(())
     }
 
-    /// Takes all of a link out, sets its forms, and puts all of it in again. A refusal changes nothing but what is held, which
-    /// the caller undoes.
-    fn change_forms(
+    /// Puts an open version of a route in.
+    pub(crate) fn add_version(
         &mut self,
-        alloc: Global,
-        index: &mut Index,
-        link: LinkId,
-        forms: Forms,
-    ) -> Result<(), Refusal>
-        requires held { IsHeld self.old.settings (held_now index.old) }
-        requires traffic { traffic_held (held_now index.old) ≡ traffic_of self.old.sessions }
-        ensures reply { let edit = Edit.SetForm link forms.response forms.receipt in
-            IsReply (reply self.old edit) result
-            (self.new ≡ change self.old edit) (self.new ≡ self.old) }
-        ensures held { OnOk result (IsHeld self.new.settings (held_now index.new)) }
-        ensures traffic { OnOk result
-            (traffic_held (held_now index.new) ≡ traffic_held (held_now index.old)) }
-        ensures settled { held_settled index.new ≡ held_settled index.old }
-        ensures touches { (pairings : PairingsOf) → IsKept self.old index.old pairings
-            → OnOk result (index_cost index.new ≤ index_cost index.old
-            + 64 * (1 + reach self.old (Edit.SetForm link forms.response forms.receipt))) }
-        ensures rises { OnOk result (RisesWithFacts index.old index.new) }
-    {
-        let Ok(taken) = take_link(alloc, index, &self.settings, link) else {
-            return Err(Refusal::Memory);
-        };
-        let Ok(before) = self.settings.set_forms(link, forms) else {
-            return Err(Refusal::Memory);
-        };
-        let Ok(()) = put_link(index, &self.settings, taken) else {
-            self.settings.restore_forms(link, before);
-            return Err(Refusal::Memory);
-        };
-        Ok(())
-    }
-
-    /// Sets how long a message of a link waits for its receipt. A refusal changes nothing.
-    pub(crate) fn set_window(
-        &mut self,
-        alloc: Global,
-        index: &mut Index,
-        link: LinkId,
-        window: Window,
-    ) -> Result<(), Refusal>
-        requires held { IsHeld self.old.settings (held_now index.old) }
-        requires settled { held_settled index.old ≡ held_now index.old }
-        ensures reply { let edit = Edit.SetWindow link window in
-            IsReply (reply self.old edit) result
-            (self.new ≡ change self.old edit) (self.new ≡ self.old) }
-        ensures held { IsHeld self.new.settings (held_now index.new) }
-        ensures traffic { traffic_held (held_now index.new) ≡ traffic_held (held_now index.old) }
-        ensures settled { held_settled index.new ≡ held_now index.new }
-        ensures kept { (pairings : PairingsOf) → IsKept self.old index.old pairings
-            → IsKept self.new index.new pairings }
-        ensures touches { (pairings : PairingsOf) → IsKept self.old index.old pairings
-            → OnOk result (index_cost index.new ≤ index_cost index.old
-            + 64 * (1 + reach self.old (Edit.SetWindow link window))) }
-        ensures counted { touches_in index.old ≤ touches_in index.new }
-        ensures rises { OnOk result (RisesWithFacts index.old index.new) }
-    {
-        self.settings.set_window(alloc, index, link, window)
-    }
-
-    /// Puts an open version of a route in. A refusal changes nothing.
-    pub(crate) fn add_route(
-        &mut self,
-        index: &mut Index,
         prefix: Digits,
         from: Moment,
         route: RouteId,
         network: Network,
     ) -> Result<(), Refusal>
-        requires held { IsHeld self.old.settings (held_now index.old) }
-        requires settled { held_settled index.old ≡ held_now index.old }
-        ensures reply { let edit = Edit.AddRoute prefix from route network in
+        ensures { let edit = Edit.AddRoute prefix from route network in
             IsReply (reply self.old edit) result
             (self.new ≡ change self.old edit) (self.new ≡ self.old) }
-        ensures held { IsHeld self.new.settings (held_now index.new) }
-        ensures traffic { traffic_held (held_now index.new) ≡ traffic_held (held_now index.old) }
-        ensures settled { held_settled index.new ≡ held_now index.new }
-        ensures kept { (pairings : PairingsOf) → IsKept self.old index.old pairings
-            → IsKept self.new index.new pairings }
-        ensures touches { (pairings : PairingsOf) → IsKept self.old index.old pairings
-            → OnOk result (index_cost index.new ≤ index_cost index.old
-            + 64 * (1 + reach self.old (Edit.AddRoute prefix from route network))) }
-        ensures counted { touches_in index.old ≤ touches_in index.new }
-        ensures rises { OnOk result (RisesWithFacts index.old index.new) }
     {
-        self.settings.add_route(index, prefix, from, route, network)
+        self.settings.routes.add(prefix, from, route, network)?;
+        self.settings.routes.settle();
+        Ok(())
     }
 
-    /// Ends a version of a route. A refusal changes nothing.
-    pub(crate) fn end_route(
+    /// Ends a version of a route.
+    pub(crate) fn end_version(
         &mut self,
-        index: &mut Index,
         prefix: &Digits,
         from: Moment,
         until: Moment,
     ) -> Result<(), Refusal>
-        requires held { IsHeld self.old.settings (held_now index.old) }
-        requires settled { held_settled index.old ≡ held_now index.old }
-        ensures reply { let edit = Edit.EndRoute prefix.now from until in
+        ensures { let edit = Edit.EndRoute prefix.now from until in
             IsReply (reply self.old edit) result
             (self.new ≡ change self.old edit) (self.new ≡ self.old) }
-        ensures held { IsHeld self.new.settings (held_now index.new) }
-        ensures traffic { traffic_held (held_now index.new) ≡ traffic_held (held_now index.old) }
-        ensures settled { held_settled index.new ≡ held_now index.new }
-        ensures kept { (pairings : PairingsOf) → IsKept self.old index.old pairings
-            → IsKept self.new index.new pairings }
-        ensures touches { (pairings : PairingsOf) → IsKept self.old index.old pairings
-            → OnOk result (index_cost index.new ≤ index_cost index.old
-            + 64 * (1 + reach self.old (Edit.EndRoute prefix.now from until))) }
-        ensures counted { touches_in index.old ≤ touches_in index.new }
-        ensures rises { OnOk result (RisesWithFacts index.old index.new) }
     {
-        self.settings.end_route(index, prefix, from, until)
+        self.settings.routes.end(prefix, from, until)?;
+        self.settings.routes.settle();
+        Ok(())
     }
 
-    /// Gives a version of a route another route and network. A refusal changes nothing.
-    pub(crate) fn correct_route(
+    /// Gives a version of a route another route and network.
+    pub(crate) fn correct_version(
         &mut self,
-        index: &mut Index,
         prefix: &Digits,
         from: Moment,
         route: RouteId,
         network: Network,
     ) -> Result<(), Refusal>
-        requires held { IsHeld self.old.settings (held_now index.old) }
-        requires settled { held_settled index.old ≡ held_now index.old }
-        ensures reply { let edit = Edit.CorrectRoute prefix.now from route network in
+        ensures { let edit = Edit.CorrectRoute prefix.now from route network in
             IsReply (reply self.old edit) result
             (self.new ≡ change self.old edit) (self.new ≡ self.old) }
-        ensures held { IsHeld self.new.settings (held_now index.new) }
-        ensures traffic { traffic_held (held_now index.new) ≡ traffic_held (held_now index.old) }
-        ensures settled { held_settled index.new ≡ held_now index.new }
-        ensures kept { (pairings : PairingsOf) → IsKept self.old index.old pairings
-            → IsKept self.new index.new pairings }
-        ensures touches { (pairings : PairingsOf) → IsKept self.old index.old pairings
-            → OnOk result (index_cost index.new ≤ index_cost index.old
-            + 64 * (1 + reach self.old (Edit.CorrectRoute prefix.now from route network))) }
-        ensures counted { touches_in index.old ≤ touches_in index.new }
-        ensures rises { OnOk result (RisesWithFacts index.old index.new) }
     {
-        self.settings
-            .correct_route(index, prefix, from, route, network)
+        self.settings.routes.correct(prefix, from, route, network)?;
+        self.settings.routes.settle();
+        Ok(())
     }
 
-    /// Sets the clock. Where it lapses no message, it takes no memory. A refusal changes nothing.
-    pub(crate) fn advance(
-        &mut self,
-        alloc: Global,
-        index: &mut Index,
-        clock: Moment,
-    ) -> Result<(), Refusal>
-        requires held { IsHeld self.old.settings (held_now index.old) }
-        requires settled { held_settled index.old ≡ held_now index.old }
-        ensures reply { IsReply (reply self.old (Edit.Advance clock)) result
+    /// Sets the clock. It takes no memory.
+    pub(crate) fn set_clock(&mut self, clock: Moment) -> Result<(), Refusal>
+        ensures { IsReplyInPlace (reply self.old (Edit.Advance clock)) result
             (self.new ≡ change self.old (Edit.Advance clock)) (self.new ≡ self.old) }
-        ensures held { IsHeld self.new.settings (held_now index.new) }
-        ensures traffic { traffic_held (held_now index.new) ≡ traffic_held (held_now index.old) }
-        ensures settled { held_settled index.new ≡ held_now index.new }
-        ensures kept { (pairings : PairingsOf) → IsKept self.old index.old pairings
-            → IsKept self.new index.new pairings }
-        ensures touches { (pairings : PairingsOf) → IsKept self.old index.old pairings
-            → OnOk result (index_cost index.new ≤ index_cost index.old
-            + 64 * (1 + reach self.old (Edit.Advance clock))) }
-        ensures counted { touches_in index.old ≤ touches_in index.new }
-        ensures rises { OnOk result (RisesWithFacts index.old index.new) }
-        ensures none { map.keys (due_by self.old.settings (traffic_held (held_now index.old)) clock) ≡ []
-            → result ≢ Err Refusal.Memory }
     {
-        self.settings.advance(alloc, index, clock)
+        let before = self.settings.clock;
+        if clock < before {
+            return Err(Refusal::ClockBack { clock: before });
+        }
+        self.settings.clock = clock;
+        Ok(())
     }
-}
-
-/// Brings back what was kept of a session, and all that was held.
-fn undo(index: &mut Index, pairings: &mut Pairings, session: SessionId)
-    ensures held { held_now index.new ≡ held_settled index.old }
-    ensures settled { held_settled index.new ≡ held_settled index.old }
-    ensures pairs { pairs_now pairings.new session.0 ≡ pairs_settled pairings.old session.0 }
-    ensures other_pairs { (number : ℕ) → number ≢ session.0
-        → pairs_now pairings.new number ≡ pairs_now pairings.old number }
-    ensures settled_pairs { (number : ℕ)
-        → pairs_settled pairings.new number ≡ pairs_settled pairings.old number }
-    ensures pending { HasNothingPending index.new }
-    ensures pending_pairs { pairs_pending pairings.new session.0 ≡ 0 }
-    ensures other_pending { (number : ℕ) → number ≢ session.0
-        → pairs_pending pairings.new number ≡ pairs_pending pairings.old number }
-{
-    index.undo();
-    pairings.undo(session);
 }

@@ -64,28 +64,15 @@ impl Session {
 
     /// The session that a first batch makes.
     pub(crate) fn from_batch(alloc: Global, batch: Batch) -> Result<Session, Refusal>
+        requires in_step { batch.tail ≡ tail_of [] }
         ensures { MatchOption (first_of (append_refusals None batch))
             (MatchResult result (λ s. s ≡ session_after None batch) (λ e. e ≡ Refusal.Memory))
             (λ refusal. result ≡ Err refusal) }
     {
         let mut session = Session::new(alloc, batch.link);
-        match session.append(batch) {
+        match session.append_in_step(batch) {
             Ok(()) => Ok(session),
             Err(refusal) => Err(refusal),
-        }
-    }
-
-    /// Puts a batch after its direction. A refusal changes nothing.
-    pub(crate) fn append(&mut self, batch: Batch) -> Result<(), Refusal>
-        ensures { IsReply (first_of (append_refusals (Some self.old) batch)) result
-            (self.new ≡ session_after (Some self.old) batch) (self.new ≡ self.old) }
-    {
-        if self.link.0 != batch.link.0 {
-            return Err(Refusal::OtherLink { link: self.link });
-        }
-        match batch.dir {
-            Dir::FromClient => self.client.append(batch),
-            Dir::FromCentre => self.centre.append(batch),
         }
     }
 

@@ -1,5 +1,5 @@
 //! Sessions by their numbers, as they come and go. A refusal changes nothing.
-ghost use Rattle.std.specs.Prelude.{◌≡◌, None, MatchResult};
+ghost use Rattle.std.specs.Prelude.{◌≡◌, [], None, MatchResult};
 ghost use Rattle.std.specs.FinMap as map;
 ghost use Rattle.smq_book.specs.within.InOrder.{sessions_in};
 ghost use Rattle.smq_kit.specs.Replies.{IsReply, IsReplyInPlace, first_of};
@@ -13,25 +13,6 @@ use crate::{Batch, Session};
 use smq_kit::Refusal;
 use std::alloc::Global;
 use std::collections::BTreeMap;
-
-/// Puts a batch after its direction, in its session or in a new one. A refusal changes nothing.
-pub(crate) fn append_in(
-    alloc: Global,
-    sessions: &mut BTreeMap<u64, Session>,
-    batch: Batch,
-) -> Result<(), Refusal>
-    ensures { let session = map.get (sessions_in sessions.old) batch.session.0 in
-        IsReply (first_of (append_refusals session batch)) result
-        (sessions_in sessions.new
-        ≡ map.insert (sessions_in sessions.old) batch.session.0 (session_after session batch))
-        (sessions_in sessions.new ≡ sessions_in sessions.old) }
-{
-    let number = batch.session.0;
-    match sessions.get_mut(&number) {
-        Some(session) => session.append(batch),
-        None => append_new(alloc, sessions, batch),
-    }
-}
 
 /// Puts a batch after the direction on whose tail it was prepared, in its session or in a new one. A refusal changes nothing.
 pub(crate) fn put_in_step(
@@ -60,6 +41,7 @@ fn append_new(
     sessions: &mut BTreeMap<u64, Session>,
     batch: Batch,
 ) -> Result<(), Refusal>
+    requires in_step { batch.tail ≡ tail_of [] }
     ensures { IsReply (first_of (append_refusals None batch)) result
         (sessions_in sessions.new
         ≡ map.insert (sessions_in sessions.old) batch.session.0 (session_after None batch))

@@ -2,7 +2,7 @@
 //! moment, which are always those of the octets.
 //!
 //! Who changes `grow` takes all memory before the first change: what comes after that can't fail.
-ghost use Rattle.std.specs.Prelude.{◌≡◌, ◌<◌, ◌≤◌, ◌+◌, ◌^◌, ◌++◌, [], length, map, IfNone, IfOk, OnOk, OnErr, MatchResult};
+ghost use Rattle.std.specs.Prelude.{◌≡◌, ◌<◌, ◌≤◌, ◌+◌, ◌^◌, ◌++◌, [], length, map, IfOk, OnOk, OnErr, MatchResult};
 ghost use Rattle.smq_frame.specs.Stream.{handed_in, values, frames_after};
 ghost use Rattle.smq_frame.specs.Tail.{tail_of, tail_after};
 ghost use Rattle.smq_pdu.specs.Placed.{placed_pdu};
@@ -169,7 +169,6 @@ impl Direction {
     #[tactic(auto, using(crate::proofs::lemmas::present::Growth::offset_facts))]
     pub(crate) fn refusal(&self, batch: &Batch) -> Option<Refusal>
         ensures value { result ≡ first_of (stream_refusals self.now batch.now) }
-        ensures in_step { IfNone result (batch.now.tail ≡ tail_of (values self.now)) }
     {
         if !batch.piece.tail.is_same(&self.tail) {
             return Some(Refusal::OutOfStep {
@@ -187,18 +186,6 @@ impl Direction {
             return Some(Refusal::Backward { last: self.last });
         }
         None
-    }
-
-    /// Puts a batch after the octets. A refusal changes nothing.
-    #[tactic(auto, using(crate::proofs::lemmas::present::Growth::offset_facts))]
-    pub(crate) fn append(&mut self, batch: Batch) -> Result<(), Refusal>
-        ensures { IsReply (first_of (stream_refusals self.old batch)) result
-            (self.new ≡ self.old ++ handed_in batch.moment batch.octets) (self.new ≡ self.old) }
-    {
-        if let Some(refusal) = self.refusal(&batch) {
-            return Err(refusal);
-        }
-        self.put(batch)
     }
 
     /// Puts a batch after the octets on whose tail it was prepared. The tails aren't compared, which reads all octets that

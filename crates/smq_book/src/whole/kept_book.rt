@@ -8,6 +8,12 @@ ghost use Rattle.smq_book.specs.present.Replies.{reply};
 ghost use Rattle.smq_book.specs.present.Steps.{step};
 ghost use Rattle.smq_book.specs.whole.Scratch.{scratch};
 
+use crate::edits::append::append;
+use crate::edits::clock::advance;
+use crate::edits::forms::set_forms;
+use crate::edits::routes::{add_route, correct_route, end_route};
+use crate::edits::window::set_window;
+use crate::edits::withdraw::withdraw;
 use crate::index::index::Index;
 use crate::index::pairings::Pairings;
 use crate::{Edit, Forms, Present, Tables};
@@ -94,32 +100,32 @@ impl KeptBook {
             empty_tail: _,
         } = self;
         match edit {
-            Edit::Append { batch } => present.append(*alloc, index, pairings, batch),
-            Edit::Withdraw { session } => present.withdraw(index, pairings, session),
+            Edit::Append { batch } => append(*alloc, present, index, pairings, batch),
+            Edit::Withdraw { session } => withdraw(present, index, pairings, session),
             Edit::SetForm {
                 link,
                 response,
                 receipt,
-            } => present.set_forms(*alloc, index, link, Forms { response, receipt }),
-            Edit::SetWindow { link, window } => present.set_window(*alloc, index, link, window),
+            } => set_forms(*alloc, present, index, link, Forms { response, receipt }),
+            Edit::SetWindow { link, window } => set_window(*alloc, present, index, link, window),
             Edit::AddRoute {
                 prefix,
                 from,
                 route,
                 network,
-            } => present.add_route(index, prefix, from, route, network),
+            } => add_route(present, index, prefix, from, route, network),
             Edit::EndRoute {
                 prefix,
                 from,
                 until,
-            } => present.end_route(index, &prefix, from, until),
+            } => end_route(present, index, &prefix, from, until),
             Edit::CorrectRoute {
                 prefix,
                 from,
                 route,
                 network,
-            } => present.correct_route(index, &prefix, from, route, network),
-            Edit::Advance { clock } => present.advance(*alloc, index, clock),
+            } => correct_route(present, index, &prefix, from, route, network),
+            Edit::Advance { clock } => advance(*alloc, present, index, clock),
         }
     }
 

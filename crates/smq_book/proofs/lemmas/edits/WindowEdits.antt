@@ -50,7 +50,7 @@ same-due s windows clock link t =
     (ap is_due (outcome-lapses m (circumstances s t m) (lapsed_in z m)) ∙ is_due-lapses (lapsed_in z m) (outcome_in s t m)))
 
 -- an outcome whose receipt isn't due stays
-undue : (b : Bool) (x : Outcome) → is_due x ≡ false → by_lapse b x ≡ x
+pub undue : (b : Bool) (x : Outcome) → is_due x ≡ false → by_lapse b x ≡ x
 undue b o.Open h = absurd (false≢true (sym h))
 undue b o.Lapsed h = absurd (false≢true (sym h))
 undue b _ h = refl

@@ -37,7 +37,7 @@ use Rattle.smq_book.specs.join.Facts.{fact_by, facts_of}
 use Rattle.smq_book.specs.join.Keyed.{accepted_key, grouping_of, keyed_receipt}
 use Rattle.smq_book.specs.join.Listings.{notes_of}
 use Rattle.smq_book.specs.join.Moves.{IsMove, TakeMessage, TakeReceipt, put_message, put_receipt, take_message, take_receipt}
-use Rattle.smq_book.specs.index.Due.{due_at, due_cmp, due_in}
+use Rattle.smq_book.specs.index.Due.{due_at, due_cmp, due_in, is_due_fact}
 use Rattle.smq_book.specs.index.Ends.{end_at, end_cmp, ends_by}
 use Rattle.smq_book.specs.index.Following.{AreTold, MayFollow}
 use Rattle.smq_book.specs.index.Held.{AreOf, Holding, IsTraffic, IsUnlisted, dues_in, ends_in, facts_anew, held_by, held_now, held_of}
@@ -46,8 +46,8 @@ use Rattle.smq_book.specs.index.Held.{list_held, messages_in, notes_anew, receip
 use Rattle.smq_book.specs.index.Numbered.{numbered, numbers_of}
 use Rattle.smq_book.specs.index.PlacedKeys.{with_key, without_key}
 use Rattle.smq_book.proofs.lemmas.join.MoveLemmas.{fact-at}
-use Rattle.smq_book.proofs.lemmas.index.Due.{due-again, due-fact-absent, due-put, due-taken}
-use Rattle.smq_book.proofs.lemmas.index.Ends.{end-again, end-fact-absent, end-put, end-taken}
+use Rattle.smq_book.proofs.lemmas.index.Due.{due-again, due-fact-absent, due-put, due-still, due-taken}
+use Rattle.smq_book.proofs.lemmas.index.Ends.{end-again, end-fact-absent, end-put, end-still, end-taken}
 use Rattle.smq_book.proofs.lemmas.index.Numbered.{number-again, number-comes, number-goes}
 use Rattle.smq_book.proofs.lemmas.index.Members.{kept-traffic, members-put, members-taken, members-unmoved, members-unput}
 use Rattle.smq_book.proofs.lemmas.index.Members.{members-untaken, received-put, received-taken, traffic-apart}
@@ -303,6 +303,13 @@ module _ (s : SettingsValue) (t : TrafficValue) (i : Index) (held : held_now i �
   ends-local : ends_in i.ends.content ≡ ends_by s.windows t.messages i.tally.facts
   ends-local = ap (λ (h : Holding). h.ends) held ∙ ap (ends_by s.windows t.messages) (sym (ap (λ (h : Holding). h.facts) held))
 
+  -- a message that isn't there has no fact
+  pub unknown-before : (q : Place) → get t.messages q ≡ None → get i.tally.facts q ≡ None
+  unknown-before q none =
+      ap (λ (h : Holding). get h.facts q) held
+      ∙ fact-at s t q
+      ∙ ap (option_map (λ (m : Message). fact_by q m (circumstances s t m))) none
+
   module _ {now : FinMap place_cmp Message} where
     -- the same of their ends
     pub ends-kept : now ≡ t.messages → ends_in i.ends.content ≡ ends_by s.windows now i.tally.facts
@@ -311,13 +318,7 @@ module _ (s : SettingsValue) (t : TrafficValue) (i : Index) (held : held_now i �
     pub ends-came : (q : Place) (m : Message) → get t.messages q ≡ None → now ≡ insert t.messages q m
         → ends_in i.ends.content ≡ ends_by s.windows now i.tally.facts
     ends-came q m none same =
-        ends-local ∙ sym (end-put s.windows t.messages i.tally.facts q m none unknown) ∙ ap (λ m. ends_by s.windows m i.tally.facts) (sym same)
-      where
-        unknown : get i.tally.facts q ≡ None
-        unknown =
-            ap (λ (h : Holding). get h.facts q) held
-            ∙ fact-at s t q
-            ∙ ap (option_map (λ (m : Message). fact_by q m (circumstances s t m))) none
+        ends-local ∙ sym (end-put s.windows t.messages i.tally.facts q m none (unknown-before q none)) ∙ ap (λ m. ends_by s.windows m i.tally.facts) (sym same)
 
     pub ends-stay : (q : Place) (old m : Message) → get t.messages q ≡ Some old → old.link ≡ m.link → old.moment ≡ m.moment
         → now ≡ insert t.messages q m → ends_in i.ends.content ≡ ends_by s.windows now i.tally.facts
@@ -340,13 +341,7 @@ module _ (s : SettingsValue) (t : TrafficValue) (i : Index) (held : held_now i �
     pub due-came : (q : Place) (m : Message) → get t.messages q ≡ None → now ≡ insert t.messages q m
         → dues_in i.due.content ≡ due_in now i.tally.facts
     due-came q m none same =
-        due-local ∙ sym (due-put t.messages i.tally.facts q m none unknown) ∙ ap (λ m. due_in m i.tally.facts) (sym same)
-      where
-        unknown : get i.tally.facts q ≡ None
-        unknown =
-            ap (λ (h : Holding). get h.facts q) held
-            ∙ fact-at s t q
-            ∙ ap (option_map (λ (m : Message). fact_by q m (circumstances s t m))) none
+        due-local ∙ sym (due-put t.messages i.tally.facts q m none (unknown-before q none)) ∙ ap (λ m. due_in m i.tally.facts) (sym same)
 
     -- one in the place of a message of the same link and moment leaves those whose receipts are due
     pub due-stays : (q : Place) (old m : Message) → get t.messages q ≡ Some old → old.link ≡ m.link → old.moment ≡ m.moment
@@ -522,33 +517,50 @@ module _ (s : SettingsValue) (t u : TrafficValue) (i : Index) {ms : List (Place 
   pub told : (cs : List Change) → TellsChanges i.standings.members h cs → AreTold h cs
   told cs tells = told-now h stand-apart i.standings.members cs tells
 
-  module _ (gone : get u.messages q ≡ None) (before : get t.receipts q ≡ None) (after : get u.receipts q ≡ None) where
-    unknown : now q ≡ None
-    unknown = fact-absent s (stored_traffic ms rs) h (are-stored stores) q (ap (λ (x : FinMap place_cmp Message). get x q) stores.messages ∙ gone)
-
+  module _ (before : get t.receipts q ≡ None) (after : get u.receipts q ≡ None) where
     none_held : list_held h q ≡ None
     none_held =
         unheld s (stored_traffic ms rs) h (are-stored stores) q (ap (λ (x : FinMap place_cmp ReceivedReceipt). get x q) stores.receipts ∙ after)
 
-    -- of a message that was taken out: its fact goes last, and its place is noted in no list
-    module _ (cs : List Change) (tells : TellsChanges i.standings.members h cs) where
-      pub facts-gone : remove (facts_anew now i.tally.facts cs) q ≡ facts_of s u
-      facts-gone = ap (set_at (facts_anew now i.tally.facts cs) q) (sym unknown) ∙ facts-taken cs tells
+    -- of a message that isn't accepted: its place is noted in no list
+    pub notes-left : grouping_of s t ≡ grouping_of s u → i.tally.notes ≡ notes_of s u
+    notes-left alike =
+        sym (unlisted-same q i.tally.notes (unlisted-at s t i held traffic q before))
+        ∙ ap (with_listing i.tally.notes q) (sym none_held)
+        ∙ notes-alone alike
 
-      pub notes-gone : notes_anew h i.tally.notes cs ≡ notes_of s u
-      notes-gone =
-          sym (unlisted-same q (notes_anew h i.tally.notes cs)
-          (unlisted-anew q h none_held i.tally.notes (unlisted-at s t i held traffic q before) cs))
-          ∙ ap (with_listing (notes_anew h i.tally.notes cs) q) (sym none_held)
-          ∙ notes-taken cs tells
+    -- its fact is put alone, where its receipt is due neither before nor after
+    pub holds-unaccepted : grouping_of s t ≡ grouping_of s u → (m : Message) (f : Fact) (j : Index) → get u.messages q ≡ Some m
+        → Some f ≡ get (facts_of s u) q → is_due_fact (Some f) ≡ is_due_fact (get i.tally.facts q)
+        → j.messages.content ≡ ms → j.receipts.content ≡ rs → j.standings.members ≡ h
+        → j.tally.facts ≡ insert i.tally.facts q f → j.tally.notes ≡ i.tally.notes
+        → dues_in j.due.content ≡ due_in (messages_in ms) i.tally.facts
+        → ends_in j.ends.content ≡ ends_by s.windows (messages_in ms) i.tally.facts
+        → j.numbers.numbers ≡ numbers_of u → held_now j ≡ held_of s u
+    holds-unaccepted alike m f j there known still messages receipts members sets noted due ends numbers =
+        let here = ap (λ (x : FinMap place_cmp Message). get x q) stores.messages ∙ there in
+        holds j messages receipts members
+        (sets ∙ (λ k. set_at (were k) q (known k)) ∙ alone-facts s q t u move alike) (noted ∙ notes-left alike)
+        (due ∙ sym (due-still (messages_in ms) i.tally.facts q (Some f) m here still) ∙ ap (due_in (messages_in ms)) (sym sets))
+        (ends ∙ sym (end-still s.windows (messages_in ms) i.tally.facts q (Some f) m here still) ∙ ap (ends_by s.windows (messages_in ms)) (sym sets))
+        numbers
 
-    -- the same of one that wasn't accepted
-    module _ (alike : grouping_of s t ≡ grouping_of s u) where
-      pub facts-left : remove i.tally.facts q ≡ facts_of s u
-      facts-left = ap (set_at i.tally.facts q) (sym unknown) ∙ facts-alone alike
+    module _ (gone : get u.messages q ≡ None) where
+      unknown : now q ≡ None
+      unknown = fact-absent s (stored_traffic ms rs) h (are-stored stores) q (ap (λ (x : FinMap place_cmp Message). get x q) stores.messages ∙ gone)
 
-      pub notes-left : i.tally.notes ≡ notes_of s u
-      notes-left =
-          sym (unlisted-same q i.tally.notes (unlisted-at s t i held traffic q before))
-          ∙ ap (with_listing i.tally.notes q) (sym none_held)
-          ∙ notes-alone alike
+      -- of a message that was taken out: its fact goes last, and its place is noted in no list
+      module _ (cs : List Change) (tells : TellsChanges i.standings.members h cs) where
+        pub facts-gone : remove (facts_anew now i.tally.facts cs) q ≡ facts_of s u
+        facts-gone = ap (set_at (facts_anew now i.tally.facts cs) q) (sym unknown) ∙ facts-taken cs tells
+
+        pub notes-gone : notes_anew h i.tally.notes cs ≡ notes_of s u
+        notes-gone =
+            sym (unlisted-same q (notes_anew h i.tally.notes cs)
+            (unlisted-anew q h none_held i.tally.notes (unlisted-at s t i held traffic q before) cs))
+            ∙ ap (with_listing (notes_anew h i.tally.notes cs) q) (sym none_held)
+            ∙ notes-taken cs tells
+
+      -- the same of one that wasn't accepted
+      pub facts-left : grouping_of s t ≡ grouping_of s u → remove i.tally.facts q ≡ facts_of s u
+      facts-left alike = ap (set_at i.tally.facts q) (sym unknown) ∙ facts-alone alike

@@ -1,26 +1,32 @@
--- What is held after an edit of routes: that of the routes as they were changed, or, on an error, that of before.
-use Rattle.std.proofs.Common.{◌≡◌, Option, Some, None, Result, Ok, Err, sym, subst, ◌∙◌}
-use Rattle.std.specs.Prelude.{IfErr, OnOk}
+-- What was made, and the facts that an edit of routes leaves.
+use Rattle.std.proofs.Common.{◌≡◌, ℕ, List, Option, Some, None, Ok, sym, subst}
+use Rattle.std.specs.FinMap.{keys}
+use Rattle.smq_kit.specs.declared.names.RouteId.{RouteId}
 use Rattle.smq_kit.specs.declared.refusal.Refusal.{Refusal}
-use Rattle.smq_kit.specs.declared.refusal.Refusal.TheVariants.{Memory}
+use Rattle.smq_kit.specs.Maps.{SameOutside}
 use Rattle.smq_kit.specs.Replies.{IsReply}
+use Rattle.smq_route.specs.declared.version.Version.{Version}
+use Rattle.smq_route.specs.Edits.{added, changed}
 use Rattle.smq_route.specs.Versions.{Versions}
-use Rattle.smq_book.specs.index.Held.{Holding, IsHeld}
+use Rattle.smq_book.specs.edits.Reached.{messages_under}
+use Rattle.smq_book.specs.join.Facts.{facts_of}
+use Rattle.smq_book.specs.pairing.Traffic.{TrafficValue}
 use Rattle.smq_book.specs.present.Settings.{SettingsValue, with_versions}
+use Rattle.smq_book.proofs.lemmas.edits.RouteEdits.{added-outside, changed-outside}
 
 -- what was made is what its reply says
 pub made : {T : Type 0} (reply : Option Refusal) (x : T) (Made Unchanged : Type 0) → IsReply {T = T} reply (Ok x) Made Unchanged → Made
 made None x Made Unchanged is = is
 made (Some refusal) x Made Unchanged is = absurd is
 
-pub held-after : {T : Type 0} (s : SettingsValue) (before after settled_holding : Holding) (versions new settled_versions : Versions) (P Q : Type 0) (r : Result T Refusal)
-    → OnOk r ((new ≡ versions) × P)
-    → OnOk r (IsHeld (with_versions s versions) after)
-    → IfErr r (λ e. (e ≡ Memory) × ((new ≡ settled_versions) × ((after ≡ settled_holding) × Q)))
-    → settled_versions ≡ s.versions → settled_holding ≡ before → IsHeld s before
-    → IsHeld (with_versions s new) after
-held-after s before after settled_holding versions new settled_versions P Q (Ok x) same held err stays kept was =
-    subst (λ v. IsHeld (with_versions s v) after) (sym same.0) held
-held-after s before after settled_holding versions new settled_versions P Q (Err e) same held err stays kept was =
-    subst (λ v. IsHeld (with_versions s v) after) (sym (err.1.0 ∙ stays))
-    (subst (IsHeld s) (sym (err.1.1.0 ∙ kept)) was)
+-- other versions leave the facts of all messages but those under a prefix
+abbrev pub LeaveOthers : SettingsValue → TrafficValue → List ℕ → Versions → Type 0
+LeaveOthers s t prefix versions = SameOutside (keys (messages_under prefix t)) (facts_of s t) (facts_of (with_versions s versions) t)
+
+module _ (s : SettingsValue) (t : TrafficValue) (prefix : List ℕ) (versions : Versions) where
+  pub others-added : (from : ℕ) (route : RouteId) (network : List ℕ) → versions ≡ added s.versions prefix from route network
+      → LeaveOthers s t prefix versions
+  others-added from route network is = subst (LeaveOthers s t prefix) (sym is) (added-outside s t prefix from route network)
+
+  pub others-changed : (from : ℕ) (f : Version → Version) → versions ≡ changed s.versions prefix from f → LeaveOthers s t prefix versions
+  others-changed from f is = subst (LeaveOthers s t prefix) (sym is) (changed-outside s t prefix from f)

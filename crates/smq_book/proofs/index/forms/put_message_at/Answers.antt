@@ -5,9 +5,9 @@ use Rattle.smq_kit.proofs.MapLemmas.{get-removed}
 use Rattle.smq_kit.proofs.PlaceOrders.{places_total, places_exact}
 use Rattle.smq_book.specs.index.Held.{Holding, held_now, traffic_held}
 use Rattle.smq_book.specs.index.Pushed.{IsHeldAfter}
-use Rattle.smq_book.specs.join.Moves.{PutMessage, TakeMessage}
+use Rattle.smq_book.specs.join.Moves.{PutMessage, TakeMessage, take_message}
 use Rattle.smq_book.specs.pairing.Traffic.{Message}
-use Rattle.smq_book.proofs.lemmas.index.Followed.{are-held}
+use Rattle.smq_book.proofs.lemmas.index.Followed.{are-held, unknown-before}
 use Rattle.smq_book.proofs.lemmas.index.LinkOut.{put-anew}
 use Rattle.smq_book.proofs.lemmas.index.Pushed.{after-both, after-one}
 use Rattle.smq_kit.specs.declared.link_key.LinkKey.{LinkKey}
@@ -35,6 +35,13 @@ put_message-requires-clause-absent c =
     ap (λ (h : Holding). get h.messages c.args.place)
     (c.in_ok-take_message.ensures.held (traffic_held g) c.requires.held.traffic c.requires.held.held)
     ∙ get-removed places_total places_exact g.messages c.args.place
+
+pub put_message-requires-clause-unknown : goal.put_message-requires-clause-unknown
+put_message-requires-clause-unknown c =
+    let t = traffic_held (held_now c.args.index.now) in
+    unknown-before c.args.settings.now (take_message c.args.place t) c.take_message.new.self
+    (c.in_ok-take_message.ensures.held t c.requires.held.traffic c.requires.held.held) c.args.place
+    (get-removed places_total places_exact t.messages c.args.place)
 
 -- What was there is taken out before, which leaves what is put in.
 pub returns-clause-held : goal.returns-clause-held

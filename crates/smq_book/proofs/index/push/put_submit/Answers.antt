@@ -10,12 +10,19 @@ use Rattle.smq_book.specs.index.Pushed.{origin_at, submit_moves}
 use Rattle.smq_book.specs.index.Touches.{members_at}
 use Rattle.smq_book.specs.join.Moves.{PutMessage}
 use Rattle.smq_book.proofs.lemmas.index.Comes.{message-comes, message-weighed, none-come}
+use Rattle.smq_book.proofs.lemmas.index.Followed.{unknown-before}
 use Rattle.smq_book.proofs.lemmas.index.Members.{submit-absent}
 use Rattle.smq_book.proofs.lemmas.index.Pushed.{after-one, after-same, submit-one}
 use Rattle.smq_book.proofs.index.push.put_submit.Goals as goal
 
 pub put_message-requires-clause-dir : goal.put_message-requires-clause-dir
 put_message-requires-clause-dir c = ap (λ (q : Place). q.dir) c.place_of.ensures
+
+pub put_message-requires-clause-unknown : goal.put_message-requires-clause-unknown
+put_message-requires-clause-unknown c =
+    let g = held_now c.args.index.now in
+    unknown-before c.args.settings.now (traffic_held g) c.args.index.now c.requires.held.held c.place_of.result
+    (ap (get g.messages) c.place_of.ensures ∙ c.requires.absent)
 
 pub returns-clause-held : goal.returns-clause-held
 returns-clause-held c =

@@ -1,9 +1,16 @@
-use Rattle.std.proofs.Common.{◌≡◌, refl, ap, subst}
+use Rattle.std.proofs.Common.{◌≡◌, Option, None, refl, sym, ap, subst, ◌∙◌}
 use Rattle.std.specs.BTreeMap.{get_by}
+use Rattle.std.specs.FinMap.{get}
 use Rattle.std.specs.Option.{IsSome}
 use Rattle.std.specs.Ordering.{nat_cmp}
+use Rattle.smq_frame.specs.Stream.{values}
+use Rattle.smq_frame.specs.Tail.{tail_of}
+use Rattle.smq_book.specs.declared.present.session.Session.{Session}
 use Rattle.smq_book.specs.present.Batch.{BatchValue}
+use Rattle.smq_book.specs.present.Present.{octets_in}
+use Rattle.smq_book.specs.within.InOrder.{sessions_in}
 use Rattle.smq_book.proofs.lemmas.present.Appended.{at_known, at_known-in_step, at_absent}
+use Rattle.smq_book.proofs.lemmas.present.NumberMaps.{get-seen}
 use Rattle.smq_book.proofs.present.sessions.put_in_step.Goals as goal
 
 pub append_in_step-requires : goal.append_in_step-requires
@@ -11,6 +18,15 @@ append_in_step-requires c = record {
   in_step = at_known-in_step c.args.sessions.now.entries c.batch.inside.session.0 c.args.batch.session.0 c.args.batch
       c.in-Some.session.now (ap (λ (b : BatchValue). b.session.0) c.batch.view_is) c.in-Some.ensures.value c.requires.in_step;
 }
+
+pub append_new-requires : goal.append_new-requires
+append_new-requires c =
+    let none : get (sessions_in c.args.sessions.now) c.args.batch.session.0 ≡ None =
+    ap (λ (b : BatchValue). get (sessions_in c.args.sessions.now) b.session.0) (sym c.batch.view_is)
+    ∙ get-seen c.args.sessions.now.entries c.batch.inside.session.0 ∙ sym c.in-None.ensures.value in
+    record {
+      in_step = c.requires.in_step ∙ ap (λ (s : Option Session). tail_of (values (octets_in c.args.batch.dir s))) none;
+    }
 
 pub returns-in-Some : goal.returns-in-Some
 returns-in-Some c =

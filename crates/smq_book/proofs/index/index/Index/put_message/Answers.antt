@@ -1,5 +1,5 @@
 use Rattle.std.proofs.Common.{◌≡◌, ◌≤◌, List, [], None, length, subst, refl, ap, sym, ◌∙◌, rules, arith}
-use Rattle.std.specs.FinMap.{get}
+use Rattle.std.specs.FinMap.{get, insert}
 use Rattle.smq_shelf.specs.Keeping.{KeepingMap}
 use Rattle.smq_kit.specs.declared.place.Place.{Place}
 use Rattle.smq_group.specs.declared.change.Change.{Change}
@@ -11,7 +11,7 @@ use Rattle.smq_book.specs.index.Held.{Holding, stored_traffic}
 use Rattle.smq_book.specs.join.Keyed.{accepted_key}
 use Rattle.smq_book.specs.join.Moves.{PutMessage, put_message}
 use Rattle.smq_book.specs.pairing.Traffic.{Message, ReceivedReceipt}
-use Rattle.smq_book.proofs.lemmas.index.Followed.{due-came, ends-came, facts-alone, facts-told, holds, may-follow, notes-alone, numbers-came}
+use Rattle.smq_book.proofs.lemmas.index.Followed.{due-came, ends-came, facts-told, holds, holds-unaccepted, may-follow, numbers-came}
 use Rattle.smq_book.proofs.lemmas.index.Followed.{notes-told, put-there, stored-accepted, stored-held, stored-refused}
 use Rattle.smq_book.proofs.lemmas.index.Members.{kept-traffic, members-unput, receipt-absent, submit-absent}
 use Rattle.smq_book.proofs.lemmas.index.Moves.{came-submit}
@@ -22,7 +22,7 @@ use Rattle.smq_book.specs.edits.Reached.{IsMoveOf}
 use Rattle.smq_book.specs.index.Touches.{load_of}
 use Rattle.smq_book.proofs.lemmas.index.Weights.{few-changes, submit-put}
 use Rattle.smq_book.proofs.lemmas.index.Followed.{nobody, one-none, told}
-use Rattle.smq_book.proofs.lemmas.index.Stored.{stands-none}
+use Rattle.smq_book.specs.index.Due.{is_due_fact}
 use Rattle.smq_book.proofs.index.index.Index.put_message.Goals as goal
 
 pub add_submit-requires-clause-absent : goal.add_submit-requires-clause-absent
@@ -51,24 +51,14 @@ returns-in_default-clause-held c = λ t traffic held.
     let numbered = c.in_ok-put_number.ensures.value in
     let stores = stored-refused (stored-held s t i traffic held) q m refused none free c.in_ok-set.ensures.content in
     let move = put_message-moves q m t free in
-    let alike = sym (members-unput s q t m refused none) in
-    let now = stands-none i.standings.members q
-    (ap (λ (x : Grouping). get x.submits q) c.requires.are.grouped
-    ∙ submit-absent s q (stored_traffic i.messages.content i.receipts.content) c.requires.absent)
-    (ap (λ (x : Grouping). get x.receipts q) c.requires.are.grouped
-    ∙ receipt-absent s q (stored_traffic i.messages.content i.receipts.content) c.requires.apart) in
-    let may = may-follow s t u i held stores traffic q move refl None (λ p e. nobody p e)
-    (λ x y was is. one-none (get t.messages q) x none was) (kept-traffic t traffic (PutMessage (q, m)) c.requires.dir) in
-    holds s t u i held stores traffic q move refl c.refresh.new.self
-    (ap (λ (k : KeepingMap Place Message). k.content) c.refresh.ensures.messages)
-    (ap (λ (k : KeepingMap Place ReceivedReceipt). k.content) c.refresh.ensures.receipts)
-    (ap (λ (v : GroupsValue). v.members) c.refresh.ensures.standings)
-    (c.in_ok-refresh.ensures.facts now may ∙ facts-alone s t u i held stores traffic q move refl alike)
-    (c.in_ok-refresh.ensures.notes now may
-    ∙ notes-alone s t u i held stores traffic q move refl alike)
-    (c.in_ok-refresh.ensures.due (due-came s t i held q m none stores.messages))
-    (c.in_ok-refresh.ensures.ends (ends-came s t i held q m none stores.messages))
-    (ap (λ (n : NumbersValue). n.numbers) c.refresh.ensures.numbers ∙ numbers-came s t i held q m none numbered)
+    let fact = c.fact_of_unaccepted-fact in
+    let there = put-there t.messages q m in
+    holds-unaccepted s t u i held stores traffic q move refl free free (sym (members-unput s q t m refused none)) m fact.result
+    (record i { messages = c.set.new.self; tally = c.add.new.self; numbers = c.put_number.new.numbers }) there
+    (fact.ensures.value s u (sym c.routes.ensures) refused there)
+    (fact.ensures.due s refused ∙ sym (ap is_due_fact c.requires.unknown)) refl refl refl
+    (c.in_ok-add.ensures.ok ∙ ap (λ (p : Place). insert i.tally.facts p fact.result) fact.ensures.place) c.add.ensures.notes
+    (due-came s t i held q m none stores.messages) (ends-came s t i held q m none stores.messages) (numbers-came s t i held q m none numbered)
 
 pub returns-clause-held : goal.returns-clause-held
 returns-clause-held c = λ t traffic held.
@@ -84,7 +74,7 @@ returns-clause-held c = λ t traffic held.
     let numbered = c.in_ok-put_number.ensures.value in
     let free : get t.receipts q ≡ None = sym (ap (λ (h : Holding). get h.receipts q) held) ∙ c.requires.apart in
     let is = sym c.key-key.ensures ∙ c.in-Some.is in
-    let stores = stored-accepted (stored-held s t i traffic held) q m key is free c.in_ok-set.ensures.content c.in_ok-changes.ensures.ok in
+    let stores = stored-accepted (stored-held s t i traffic held) q m key is free c.in_ok-set-2.ensures.content c.in_ok-changes.ensures.ok in
     let move = put_message-moves q m t free in
     let cs = c.as_slice.result.now in
     let tells : TellsChanges g h cs =
@@ -110,9 +100,8 @@ returns-clause-held c = λ t traffic held.
 pub returns-in_default-clause-touches : goal.returns-in_default-clause-touches
 returns-in_default-clause-touches c = record {
   changes = [];
-  told = tells-none c.args.self.now.standings.members c.refresh.new.self.standings.members
-      (ap (λ (v : GroupsValue). v.members) c.refresh.ensures.standings);
-  bound = omega (arith, c.put_number.ensures.touches, c.in_ok-refresh.ensures.touches);
+  told = tells-none c.args.self.now.standings.members c.args.self.now.standings.members refl;
+  bound = omega (arith, c.put_number.ensures.touches, c.add.ensures.pending, c.in_ok-add.ensures.ok_touches);
 }
 
 pub returns-clause-touches : goal.returns-clause-touches
@@ -135,7 +124,7 @@ returns-clause-vacant c = λ k.
     (c.in_ok-changes.ensures.vacant k)
 
 pub returns-in_default-clause-weighs : goal.returns-in_default-clause-weighs
-returns-in_default-clause-weighs c = omega (arith, c.put_number.ensures.touches, c.in_ok-refresh.ensures.touches)
+returns-in_default-clause-weighs c = omega (arith, c.put_number.ensures.touches, c.add.ensures.pending, c.in_ok-add.ensures.ok_touches)
 
 pub returns-clause-weighs : goal.returns-clause-weighs
 returns-clause-weighs c =

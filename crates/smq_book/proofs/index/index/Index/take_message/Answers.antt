@@ -93,8 +93,8 @@ returns-in_default-key-clause-held c = λ t traffic held.
       numbers = c.take_number.new.numbers;
     })
     refl refl refl
-    (taken ∙ facts-left s t u i held stores traffic q move refl free apart apart alike)
-    (c.take_fact.ensures.notes ∙ notes-left s t u i held stores traffic q move refl free apart apart alike)
+    (taken ∙ facts-left s t u i held stores traffic q move refl apart apart free alike)
+    (c.take_fact.ensures.notes ∙ notes-left s t u i held stores traffic q move refl apart apart alike)
     (due-went s t i held q m there stores.messages gone-due ∙ due-dropped stores q free i.tally.facts taken)
     (ends-went s t i held q m there stores.messages gone-end ∙ ends-dropped stores q free i.tally.facts taken)
     (numbers-went s t i held q m there c.in_ok-take_number.ensures.value)
@@ -143,10 +143,10 @@ returns-clause-held c = λ t traffic held.
     (ap (λ (v : GroupsValue). v.members) c.follow.ensures.standings)
     (taken
     ∙ (λ j. remove (c.in_ok-follow.ensures.facts now may j) q)
-    ∙ facts-gone s t u i held stores traffic q move refl free apart apart cs tells)
+    ∙ facts-gone s t u i held stores traffic q move refl apart apart free cs tells)
     (c.take_fact-2.ensures.notes
     ∙ c.in_ok-follow.ensures.notes now may
-    ∙ notes-gone s t u i held stores traffic q move refl free apart apart cs tells)
+    ∙ notes-gone s t u i held stores traffic q move refl apart apart free cs tells)
     (c.in_ok-follow.ensures.due (due-went s t i held q m there stores.messages gone-due)
     ∙ due-dropped stores q free c.follow.new.self.tally.facts taken)
     (c.in_ok-follow.ensures.ends (ends-went s t i held q m there stores.messages gone-end)

@@ -93,20 +93,20 @@ returns-clause-touched c =
     let Rises : Inside → Type 0 = λ b.
     (scratch b.present).counts ≢ (scratch now.present).counts → now.touches ≢ 2 ^ 64 - 1 → 1 + now.touches ≤ touches_of b.index b.pairings in
     elim c.match-edit.branch [
-      | in-Append w ↦ subst Rises (sym w.self-inside-is) (rise-bound now p w.append.new.self i w.append.new.index k w.append.new.pairings c.self.view_is kept
+      | in-Append w ↦ subst Rises (sym w.self-inside-is) (rise-bound now p w.append.new.present i w.append.new.index k w.append.new.pairings c.self.view_is kept
           w.append.ensures.kept _ w.append.result _ w.append.ensures.reply w.append.ensures.rises w.append.ensures.pairs_counted)
-      | in-Withdraw w ↦ subst Rises (sym w.self-inside-is) (rise-bound now p w.withdraw.new.self i w.withdraw.new.index k w.withdraw.new.pairings
+      | in-Withdraw w ↦ subst Rises (sym w.self-inside-is) (rise-bound now p w.withdraw.new.present i w.withdraw.new.index k w.withdraw.new.pairings
           c.self.view_is kept w.withdraw.ensures.kept _ w.withdraw.result _ w.withdraw.ensures.reply w.withdraw.ensures.rises w.withdraw.ensures.pairs_counted)
-      | in-SetForm w ↦ subst Rises (sym w.self-inside-is) (settings-rise now p w.set_forms.new.self i w.set_forms.new.index k c.self.view_is kept
+      | in-SetForm w ↦ subst Rises (sym w.self-inside-is) (settings-rise now p w.set_forms.new.present i w.set_forms.new.index k c.self.view_is kept
           (w.set_forms.ensures.kept k kept) c.args.edit _ w.in-SetForm.is w.set_forms.result w.set_forms.ensures.reply w.set_forms.ensures.rises)
-      | in-SetWindow w ↦ subst Rises (sym w.self-inside-is) (settings-rise now p w.set_window.new.self i w.set_window.new.index k c.self.view_is kept
+      | in-SetWindow w ↦ subst Rises (sym w.self-inside-is) (settings-rise now p w.set_window.new.present i w.set_window.new.index k c.self.view_is kept
           (w.set_window.ensures.kept k kept) c.args.edit _ w.in-SetWindow.is w.set_window.result w.set_window.ensures.reply w.set_window.ensures.rises)
-      | in-AddRoute w ↦ subst Rises (sym w.self-inside-is) (settings-rise now p w.add_route.new.self i w.add_route.new.index k c.self.view_is kept
+      | in-AddRoute w ↦ subst Rises (sym w.self-inside-is) (settings-rise now p w.add_route.new.present i w.add_route.new.index k c.self.view_is kept
           (w.add_route.ensures.kept k kept) c.args.edit _ w.in-AddRoute.is w.add_route.result w.add_route.ensures.reply w.add_route.ensures.rises)
-      | in-EndRoute w ↦ subst Rises (sym w.self-inside-is) (settings-rise now p w.end_route.new.self i w.end_route.new.index k c.self.view_is kept
+      | in-EndRoute w ↦ subst Rises (sym w.self-inside-is) (settings-rise now p w.end_route.new.present i w.end_route.new.index k c.self.view_is kept
           (w.end_route.ensures.kept k kept) c.args.edit _ w.in-EndRoute.is w.end_route.result w.end_route.ensures.reply w.end_route.ensures.rises)
-      | in-CorrectRoute w ↦ subst Rises (sym w.self-inside-is) (settings-rise now p w.correct_route.new.self i w.correct_route.new.index k c.self.view_is kept
+      | in-CorrectRoute w ↦ subst Rises (sym w.self-inside-is) (settings-rise now p w.correct_route.new.present i w.correct_route.new.index k c.self.view_is kept
           (w.correct_route.ensures.kept k kept) c.args.edit _ w.in-CorrectRoute.is w.correct_route.result w.correct_route.ensures.reply w.correct_route.ensures.rises)
-      | in-Advance w ↦ subst Rises (sym w.self-inside-is) (settings-rise now p w.advance.new.self i w.advance.new.index k c.self.view_is kept
+      | in-Advance w ↦ subst Rises (sym w.self-inside-is) (settings-rise now p w.advance.new.present i w.advance.new.index k c.self.view_is kept
           (w.advance.ensures.kept k kept) c.args.edit _ w.in-Advance.is w.advance.result w.advance.ensures.reply w.advance.ensures.rises)
     ]

@@ -1,0 +1,86 @@
+use Rattle.std.proofs.Common.{◌≡◌, List, sym, ap, subst, ◌∙◌, arith}
+use Rattle.std.specs.Prelude.{count_by}
+use Rattle.std.specs.FinMap.{get}
+use Rattle.smq_kit.specs.LinkKeys.{same_key}
+use Rattle.smq_kit.specs.declared.link_key.LinkKey.{LinkKey}
+use Rattle.smq_kit.specs.declared.names.SessionId.{SessionId}
+use Rattle.smq_book.specs.declared.present.edit.Edit.TheVariants.{Append}
+use Rattle.smq_book.specs.index.Held.{Holding, held_now}
+use Rattle.smq_book.specs.index.Kept.{IsKept}
+use Rattle.smq_book.specs.index.Pairs.{pairs_now, pairs_pending, pairs_settled}
+use Rattle.smq_book.specs.index.Touches.{HasNoneVacant, pairs_cost}
+use Rattle.smq_book.specs.join.Keyed.{grouping_of}
+use Rattle.smq_book.specs.present.Present.{PresentValue}
+use Rattle.smq_book.specs.present.Replies.{reply}
+use Rattle.smq_book.specs.present.Steps.{change, session_after}
+use Rattle.smq_book.proofs.lemmas.present.RefusedBatches.{not_refused}
+use Rattle.smq_book.proofs.lemmas.index.Bounds.{append-bound, no-refusal}
+use Rattle.smq_book.proofs.lemmas.index.KeptPairs.{as-was, kept-settled, none-pending, pairs-put, unmade}
+use Rattle.smq_book.proofs.lemmas.index.Routed.{made}
+use Rattle.smq_book.proofs.edits.append.append.Goals as goal
+
+pub returns-clause-kept : goal.returns-clause-kept
+returns-clause-kept c =
+    let p = c.args.present.now in
+    let batch = c.args.batch in
+    let n = batch.session.0 in
+    let number_is : c.session-session.result.0 ≡ n = ap (λ (s : SessionId). s.0) c.session-session.ensures in
+    let put = made (reply p (Append batch)) _ _ _ c.in-Ok-put_batch_in_step.ensures in
+    let k = c.settle-2.new.self in
+    let after = session_after (get p.sessions n) batch in
+    let kept = c.requires.kept in
+    subst (λ (q : PresentValue). IsKept q c.settle.new.self k) (sym put)
+    (kept-settled (change p (Append batch)) c.settle.new.self k (held_now c.append.new.index) c.settle.ensures.held c.settle.ensures.settled
+    c.in-Ok.ensures.held c.in-Ok.ensures.traffic
+    (pairs-put n (pairs_now c.args.pairings.now) (pairs_now k) p.sessions
+    (λ other apart. c.settle-2.ensures.now other ∙ c.append.ensures.other_pairs other apart) kept.pairs after (c.settle-2.ensures.now n ∙ c.in-Ok.ensures.pairs))
+    (pairs-put n (pairs_settled c.args.pairings.now) (pairs_settled k) p.sessions
+    (λ other apart. c.settle-2.ensures.others other (λ same. apart (same ∙ number_is)) ∙ c.append.ensures.settled_pairs other) kept.settled_pairs after
+    (ap (pairs_settled k) (sym number_is) ∙ c.settle-2.ensures.settled ∙ ap (pairs_now c.append.new.pairings) number_is ∙ c.in-Ok.ensures.pairs))
+    c.settle.ensures.pending
+    (none-pending n (pairs_pending c.args.pairings.now) (pairs_pending k) (ap (pairs_pending k) (sym number_is) ∙ c.settle-2.ensures.pending)
+    (λ other apart. c.settle-2.ensures.other_pending other (λ same. apart (same ∙ number_is)) ∙ c.append.ensures.other_pending other apart)
+    kept.pending_pairs))
+
+pub returns-clause-touches : goal.returns-clause-touches
+returns-clause-touches c =
+    let p = c.args.present.now in
+    let batch = c.args.batch in
+    let n = batch.session.0 in
+    let kept = c.requires.kept in
+    let full : HasNoneVacant c.args.index.now.standings =
+    record { each = λ k. ap (λ (vacant : List LinkKey). count_by (same_key k) vacant) kept.pending.vacant } in
+    let sum = c.in-Ok.ensures.touches full in
+    let none = kept.pending_pairs n in
+    let made = no-refusal (reply p (Append batch)) _ _ _ c.in-Ok-put_batch_in_step.ensures in
+    let fits = (not_refused p batch).0 made in
+    let members = ap (λ (h : Holding). h.members) c.in-Ok.ensures.held.held ∙ ap (grouping_of p.settings) c.in-Ok.ensures.traffic in
+    let bound = append-bound p batch c.append.new.index.standings.members (pairs_now c.append.new.pairings n) made fits.in_step members c.in-Ok.ensures.pairs in
+    let settled = ap (λ (s : SessionId). pairs_cost c.append.new.pairings s.0) c.session-session.ensures in
+    omega (arith, sum, none, bound, settled, c.settle.ensures.touches, c.settle-2.ensures.touches)
+
+pub returns-in-Err-clause-kept : goal.returns-in-Err-clause-kept
+returns-in-Err-clause-kept c =
+    let p = c.args.present.now in
+    let batch = c.args.batch in
+    let n = batch.session.0 in
+    let number_is : c.session-session.result.0 ≡ n = ap (λ (s : SessionId). s.0) c.session-session.ensures in
+    let kept = c.requires.kept in
+    let i = c.undo-in-Err.new.index in
+    let k = c.undo-in-Err.new.pairings in
+    let back = c.undo-in-Err.ensures in
+    subst (λ (q : PresentValue). IsKept q i k) (sym (unmade _ (reply p (Append batch)) c.in-Err.refusal _ _ c.in-Err.ensures))
+    (kept-settled p i k (held_now c.args.index.now)
+    (back.held ∙ c.append.ensures.settled ∙ kept.settled) (back.settled ∙ c.append.ensures.settled ∙ kept.settled) kept.held kept.traffic
+    (λ number.
+    as-was n (pairs_now c.args.pairings.now) (pairs_now k)
+    (ap (pairs_now k) (sym number_is) ∙ back.pairs ∙ c.append.ensures.settled_pairs c.session-session.result.0
+    ∙ ap (pairs_settled c.args.pairings.now) number_is ∙ kept.settled_pairs n ∙ sym (kept.pairs n))
+    (λ other apart. back.other_pairs other (λ same. apart (same ∙ number_is)) ∙ c.append.ensures.other_pairs other apart) number
+    ∙ kept.pairs number)
+    (λ number. back.settled_pairs number ∙ c.append.ensures.settled_pairs number ∙ kept.settled_pairs number)
+    back.pending
+    (none-pending n (pairs_pending c.args.pairings.now) (pairs_pending k)
+    (ap (pairs_pending k) (sym number_is) ∙ back.pending_pairs)
+    (λ other apart. back.other_pending other (λ same. apart (same ∙ number_is)) ∙ c.append.ensures.other_pending other apart)
+    kept.pending_pairs))

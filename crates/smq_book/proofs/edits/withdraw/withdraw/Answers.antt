@@ -1,0 +1,58 @@
+use Rattle.std.proofs.Common.{◌≡◌, Option, refl, sym, ap, subst, ◌∙◌, arith}
+use Rattle.std.specs.Prelude.{option_map, unwrap_or}
+use Rattle.std.specs.FinMap.{get}
+use Rattle.smq_pair.specs.Paired.{no_pdus}
+use Rattle.smq_book.specs.declared.present.session.Session.{Session}
+use Rattle.smq_book.specs.declared.present.edit.Edit.TheVariants.{Withdraw}
+use Rattle.smq_book.specs.index.Held.{held_now}
+use Rattle.smq_book.specs.index.Kept.{IsKept}
+use Rattle.smq_book.specs.index.Pairs.{pairs_now, pairs_pending, pairs_settled}
+use Rattle.smq_book.specs.pairing.Traffic.{session_pairing}
+use Rattle.smq_book.specs.present.Present.{PresentValue}
+use Rattle.smq_book.specs.present.Steps.{change}
+use Rattle.smq_book.proofs.lemmas.index.Bounds.{withdraw-bound}
+use Rattle.smq_book.proofs.lemmas.index.KeptPairs.{absent-reply, kept-settled, made-there, none-pending, not-refused, pairs-removed, wanting-reply}
+use Rattle.smq_book.proofs.edits.withdraw.withdraw.Goals as goal
+
+pub withdraw-requires-clause-there : goal.withdraw-requires-clause-there
+withdraw-requires-clause-there c = sym c.in-Some.ensures
+
+pub withdraw-requires-clause-pairs : goal.withdraw-requires-clause-pairs
+withdraw-requires-clause-pairs c =
+    let n = c.args.session.0 in
+    c.requires.kept.pairs n
+    ∙ ap (λ (found : Option Session). unwrap_or (option_map (λ (s : Session). session_pairing (n, s)) found) no_pdus) (sym c.in-Some.ensures)
+
+pub returns-in-None-clause-reply : goal.returns-in-None-clause-reply
+returns-in-None-clause-reply c = absent-reply _ (get c.args.present.now.sessions c.args.session.0) _ _ (sym c.in-None.ensures) refl
+
+pub returns-in_default-clause-reply : goal.returns-in_default-clause-reply
+returns-in_default-clause-reply c =
+    wanting-reply _ (get c.args.present.now.sessions c.args.session.0) _ _ c.in-Some.found.now (sym c.in-Some.ensures) refl
+
+pub returns-in_err-take_session-clause-kept : goal.returns-in_err-take_session-clause-kept
+returns-in_err-take_session-clause-kept c =
+    absurd (not-refused _ (get c.args.present.now.sessions c.args.session.0) _ _ c.in-Some.found.now (sym c.in-Some.ensures) _ c.in_err-take_session.ensures)
+
+pub returns-clause-kept : goal.returns-clause-kept
+returns-clause-kept c =
+    let p = c.args.present.now in
+    let n = c.args.session.0 in
+    let made : c.take_session.new.self ≡ change p (Withdraw c.args.session) =
+    made-there _ (get p.sessions n) _ _ c.in-Some.found.now (sym c.in-Some.ensures) _ c.in_ok-take_session.ensures in
+    let kept = c.requires.kept in
+    subst (λ (q : PresentValue). IsKept q c.settle.new.self c.remove.new.self) (sym made)
+    (kept-settled (change p (Withdraw c.args.session)) c.settle.new.self c.remove.new.self
+    (held_now c.withdraw.new.index) c.settle.ensures.held c.settle.ensures.settled c.in-Ok.ensures.held c.in-Ok.ensures.traffic
+    (pairs-removed n (pairs_now c.args.pairings.now) (pairs_now c.remove.new.self) p.sessions
+    (λ other apart. c.remove.ensures.others other apart ∙ c.withdraw.ensures.pairs other) kept.pairs c.remove.ensures.now)
+    (pairs-removed n (pairs_settled c.args.pairings.now) (pairs_settled c.remove.new.self) p.sessions
+    (λ other apart. c.remove.ensures.others_settled other apart ∙ c.withdraw.ensures.settled_pairs other) kept.settled_pairs c.remove.ensures.settled)
+    c.settle.ensures.pending
+    (none-pending n (pairs_pending c.args.pairings.now) (pairs_pending c.remove.new.self) c.remove.ensures.pending
+    (λ other apart. c.remove.ensures.other_pending other apart ∙ c.withdraw.ensures.pending_pairs other) kept.pending_pairs))
+
+pub returns-clause-touches : goal.returns-clause-touches
+returns-clause-touches c =
+    let bound = withdraw-bound c.args.present.now c.args.index.now c.args.pairings.now c.requires.kept c.args.session c.in-Some.found.now (sym c.in-Some.ensures) in
+    omega (arith, bound, c.in-Ok.ensures.touches, c.settle.ensures.touches, c.withdraw.ensures.pairs_touches, c.remove.ensures.touches)

@@ -1,0 +1,62 @@
+//! The forms of a link's message ids are set.
+ghost use Rattle.std.specs.Prelude.{◌≡◌, ◌≤◌, ◌+◌, ◌*◌, OnOk};
+ghost use Rattle.smq_book.specs.declared.index.pairings.Pairings.{Pairings as PairingsOf};
+ghost use Rattle.smq_book.specs.edits.Reach.{reach};
+ghost use Rattle.smq_book.specs.index.Held.{IsHeld, held_now, held_settled, traffic_held};
+ghost use Rattle.smq_book.specs.index.Kept.{IsKept};
+ghost use Rattle.smq_book.specs.index.Touches.{RisesWithFacts, index_cost};
+ghost use Rattle.smq_book.specs.pairing.Traffic.{traffic_of};
+ghost use Rattle.smq_book.specs.present.Replies.{reply};
+ghost use Rattle.smq_book.specs.present.Steps.{change};
+ghost use Rattle.smq_kit.specs.Replies.{IsReply};
+
+use crate::index::forms::{put_link, take_link};
+use crate::index::index::Index;
+use crate::{Edit, Forms, Present};
+use smq_kit::{LinkId, Refusal};
+use std::alloc::Global;
+
+/// Sets the forms of a link's message ids, unless these forms are set: takes all of the link out that has a key by them, and puts it
+/// in again after it. A refusal changes nothing.
+pub(crate) fn set_forms(
+    alloc: Global,
+    present: &mut Present,
+    index: &mut Index,
+    link: LinkId,
+    forms: Forms,
+) -> Result<(), Refusal>
+    requires held { IsHeld present.old.settings (held_now index.old) }
+    requires traffic { traffic_held (held_now index.old) ≡ traffic_of present.old.sessions }
+    requires settled { held_settled index.old ≡ held_now index.old }
+    ensures reply { let edit = Edit.SetForm link forms.response forms.receipt in
+        IsReply (reply present.old edit) result
+        (present.new ≡ change present.old edit) (present.new ≡ present.old) }
+    ensures held { IsHeld present.new.settings (held_now index.new) }
+    ensures traffic { traffic_held (held_now index.new) ≡ traffic_of present.new.sessions }
+    ensures settled { held_settled index.new ≡ held_now index.new }
+    ensures kept { (pairings : PairingsOf) → IsKept present.old index.old pairings
+        → IsKept present.new index.new pairings }
+    ensures touches { (pairings : PairingsOf) → IsKept present.old index.old pairings
+        → OnOk result (index_cost index.new ≤ index_cost index.old
+        + 64 * (1 + reach present.old (Edit.SetForm link forms.response forms.receipt))) }
+    ensures rises { OnOk result (RisesWithFacts index.old index.new) }
+{
+    if present.settings.has_forms(link, forms) {
+        return Ok(());
+    }
+    let Ok(taken) = take_link(alloc, index, &present.settings, link) else {
+        index.undo();
+        return Err(Refusal::Memory);
+    };
+    let Ok(before) = present.settings.set_forms(link, forms) else {
+        index.undo();
+        return Err(Refusal::Memory);
+    };
+    let Ok(()) = put_link(index, &present.settings, taken) else {
+        present.settings.restore_forms(link, before);
+        index.undo();
+        return Err(Refusal::Memory);
+    };
+    index.settle();
+    Ok(())
+}
