@@ -17,6 +17,5 @@ pub mod Calling
 pub mod Vacating
 pub mod Lawful
 pub mod KnownGroups
-pub mod Keeping
 pub mod SortedKeys
 pub mod Linked

@@ -5,4 +5,3 @@ pub mod Outlooks
 pub mod Walked
 pub mod Stored
 pub mod Told
-pub mod Standing

@@ -10,7 +10,6 @@ mod links;
 mod member;
 mod outlook;
 mod receipts;
-mod standings;
 mod walks;
 
 pub use change::{Change, Standing};
@@ -20,4 +19,3 @@ pub use laws::{
     known_links, known_standings, moves_leave_no_trace, order_of_members_is_idle,
     single_keys_have_no_other,
 };
-pub use standings::Standings;
