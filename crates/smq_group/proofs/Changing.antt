@@ -387,7 +387,7 @@ deciders_sorted (Some v) (Some d) h = by (place_cmp d v) refl
 
 -- a submit of a key counts
 pub submit-counts : (g : Grouping) (key : LinkKey) (place : Place) → get g.submits place ≡ Some key → 1 ≤ matches g key
-submit-counts g key place there = let one = number-less g.submits key key place true there (own_key key) in omega (arith, one)
+submit-counts g key place there = let one = number-less (same_key key) g.submits key place true there (own_key key) in omega (arith, one)
 
 module _ (g : Grouping) (s : List (Member × Bool)) (r : List (Member × Said)) (key : LinkKey) (added : Added)
     (moves : Moves g (grouping_in s r) key added) (submits_once : StandsOnce submit_value s) (receipts_once : StandsOnce receipt_value r) where

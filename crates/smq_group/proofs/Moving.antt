@@ -19,13 +19,13 @@ use Rattle.smq_group.specs.declared.outlook.Earliest.{Earliest}
 use Rattle.smq_group.specs.Matching.{Grouping, GroupedReceipt, matches}
 use Rattle.smq_group.specs.Groups.{with_submit, without_submit}
 use Rattle.smq_group.specs.within.Outlooks.{an_outlook, decider_of, is_before}
-use Rattle.smq_group.specs.within.Stored.{earliest_at, outlook_in}
+use Rattle.smq_group.specs.within.Stored.{earliest_at, outlook_in, received}
 use Rattle.smq_group.specs.within.Told.{same_decider}
 use Rattle.smq_group.proofs.Changing.{Moves, ReceiptMove, SubmitMove, decider-can}
 use Rattle.smq_group.proofs.Turning.{is_at_place, same_self}
 use Rattle.smq_group.proofs.Earliest.{HasMore, HasLess, decider_in, is_decided, decider-more, decider-elsewhere, decider-stays, own_key}
 use Rattle.smq_group.proofs.Placing.{not_none, own_place, same_place}
-use Rattle.smq_group.proofs.Storing.{number-more, number-less}
+use Rattle.smq_group.proofs.Storing.{number-more, number-less, received-more, received-less}
 
 flipped : (a b : LinkKey) → same_key a b ≡ false → same_key b a ≡ false
 flipped a b n = (eq_by_cmp_equiv link_keys_total).symm b a ∙ n
@@ -51,9 +51,9 @@ moves-submit g key place none = record {
   submit = λ q. submit_put key (eq_by_cmp place_cmp q place) (get g.submits q) (get (insert g.submits place key) q) (λ t. ap (get g.submits) (same_place q place t) ∙ none) (get-insert places_total g.submits place key q);
   receipt = λ q. inl refl;
   elsewhere = λ k n.
-      let more = number-more g.submits key k place false none (flipped key k n) in
+      let more = number-more (same_key k) g.submits key place false none (flipped key k n) in
       let same : matches (with_submit g key place) k ≡ matches g k = omega (arith, more) in
-      λ i. an_outlook (same i) (decider_in g k);
+      λ i. an_outlook (same i) (received g k) (decider_in g k);
   anew = λ n. absurd (false≢true (sym n ∙ same_deciders (outlook_in g key) (outlook_in (with_submit g key place) key) refl));
 }
 
@@ -63,9 +63,9 @@ moves-no_submit g key place there = record {
   submit = λ q. emptied (eq_by_cmp place_cmp q place) (get g.submits q) (get (remove g.submits place) q) (get-remove places_total g.submits place q);
   receipt = λ q. inl refl;
   elsewhere = λ k n.
-      let less = number-less g.submits key k place false there (flipped key k n) in
+      let less = number-less (same_key k) g.submits key place false there (flipped key k n) in
       let same : matches (without_submit g place) k ≡ matches g k = omega (arith, less) in
-      λ i. an_outlook (same i) (decider_in g k);
+      λ i. an_outlook (same i) (received g k) (decider_in g k);
   anew = λ n. absurd (false≢true (sym n ∙ same_deciders (outlook_in g key) (outlook_in (without_submit g place) key) refl));
 }
 
@@ -84,7 +84,10 @@ module _ (g h : Grouping) (place : Place) (r : GroupedReceipt) (same : h.submits
   moves-receipt more = record {
     submit = λ q. inl (ap (λ (m : FinMap place_cmp LinkKey). get m q) same);
     receipt = λ q. receipt_put r (eq_by_cmp place_cmp q place) (get g.receipts q) (get h.receipts q) (λ t. ap (get g.receipts) (same_place q place t) ∙ more.absent) (more.each q);
-    elsewhere = λ k n. λ i. an_outlook (same_matches k i) (decider-more g h place r more k false r.decides (flipped r.key k n) refl i);
+    elsewhere = λ k n.
+        let all = received-more g h place r k false more (flipped r.key k n) in
+        let same_received : received h k ≡ received g k = omega (arith, all) in
+        λ i. an_outlook (same_matches k i) (same_received i) (decider-more g h place r more k false r.decides (flipped r.key k n) refl i);
     anew = λ n. let new = chosen n (r.decides && is_before (earliest_at (r.moment, place)) (decider_in g r.key)) refl in record {
       new = λ q can e. ap (λ (d : Option Earliest). is_at_place (option_map (λ x. x.place) d) q) new ∙ here q (eq_by_cmp place_cmp q place) refl can e;
       stays = λ q x is at. (refl, ap (λ (d : Option Earliest). is_some (option_map (λ x. x.place) d)) new);
@@ -107,7 +110,10 @@ module _ (g h : Grouping) (place : Place) (r : GroupedReceipt) (same : h.submits
   moves-no_receipt less = record {
     submit = λ q. inl (ap (λ (m : FinMap place_cmp LinkKey). get m q) same);
     receipt = λ q. emptied (eq_by_cmp place_cmp q place) (get g.receipts q) (get h.receipts q) (less.each q);
-    elsewhere = λ k n. λ i. an_outlook (same_matches k i) (decider-elsewhere g h place r less k (flipped r.key k n) i);
+    elsewhere = λ k n.
+        let all = received-less g h place r k false less (flipped r.key k n) in
+        let same_received : received h k ≡ received g k = omega (arith, all) in
+        λ i. an_outlook (same_matches k i) (same_received i) (decider-elsewhere g h place r less k (flipped r.key k n) i);
     anew = λ n. record {
       new = λ q can e. absurd (not_none can None refl e);
       stays = λ q x is at. absurd (gone n q x is at (r.decides && is_decided (decider_in g r.key) place) refl);

@@ -1,11 +1,11 @@
 -- The four maps hold a grouping: none at first, and with one submit more or less.
-use Rattle.std.proofs.Common.{◌≡◌, ◌+◌, ◌-◌, Bool, true, false, cond, List, [], ◌∷◌, Option, Some, None, refl, sym, ap, ◌∙◌, arith}
+use Rattle.std.proofs.Common.{ℕ, ◌≡◌, ◌+◌, ◌-◌, Bool, true, false, cond, List, [], ◌∷◌, Option, Some, None, refl, sym, ap, ◌∙◌, arith}
 use Rattle.std.specs.Prelude.{map, filter, count_by, option_map, ◌&&◌, not, IsSome, is_some}
 use Rattle.std.specs.List.{reduce}
 use Rattle.std.specs.Ordering.{eq_by_cmp}
 use Rattle.std.specs.Map.{lookup, remove_entry}
 use Rattle.std.specs.BTreeMap.{is_at, insert_entry}
-use Rattle.std.specs.FinMap.{FinMap, entries, get, insert, remove, from_entries, get-from_entries, get-insert, same_map}
+use Rattle.std.specs.FinMap.{FinMap, entries, get, insert, remove, from_entries, get-from_entries, get-insert, get-remove, same_map}
 use Rattle.std.proofs.lemmas.List.Sums.{sum_by-cons}
 use Rattle.smq_kit.specs.declared.place.Place.{Place}
 use Rattle.smq_kit.specs.declared.link_key.LinkKey.{LinkKey}
@@ -20,13 +20,12 @@ use Rattle.smq_group.specs.declared.member.Member.{Member}
 use Rattle.smq_group.specs.declared.member.Candidate.{Candidate}
 use Rattle.smq_group.specs.declared.member.Said.{Said}
 use Rattle.smq_group.specs.declared.outlook.Outlook.{Outlook}
-use Rattle.smq_group.specs.declared.outlook.Earliest.{Earliest}
 use Rattle.smq_group.specs.Matching.{Grouping, GroupedReceipt, matches, candidates, earlier}
 use Rattle.smq_group.specs.Groups.{with_submit, without_submit}
 use Rattle.smq_group.specs.within.Orders.{kept_member_cmp}
 use Rattle.smq_group.specs.within.Outlooks.{an_outlook, is_decided_by, outlook_at, no_outlook}
-use Rattle.smq_group.specs.within.Stored.{grouping_in, submit_value, is_candidate, earliest_at, outlook_in, AreStored, by_place, member_of, waits}
-use Rattle.smq_group.proofs.Earliest.{one_key, own_key}
+use Rattle.smq_group.specs.within.Stored.{grouping_in, submit_value, is_candidate, earliest_at, outlook_in, received, AreStored, by_place, member_of, waits}
+use Rattle.smq_group.proofs.Earliest.{HasMore, HasLess, one_key, own_key}
 use Rattle.smq_group.proofs.Placing.{at, found, with-member, without-member, once-insert, once-remove}
 
 -- ---- nothing
@@ -54,10 +53,12 @@ none-stored = record {
         let m : number_of (same_key key) (grouping_in [] []).submits ≡ 0 = ap (λ es. count_by (same_key key) (map (λ e. e.1) es)) empty_entries in
         let d : option_map earliest_at (reduce earlier (candidates (grouping_in [] []) key)) ≡ None =
         ap (λ (es : List (Place × GroupedReceipt)). option_map earliest_at (reduce earlier (map (λ e. (e.1.moment, e.0)) (filter (λ e. same_key key e.1.key && e.1.decides) es)))) empty_entries in
-        λ i. an_outlook (m i) (d i)
+        let n : received (grouping_in [] []) key ≡ 0 =
+        ap (λ (es : List (Place × GroupedReceipt)). count_by (λ (r : GroupedReceipt). same_key key r.key) (map (λ e. e.1) es)) empty_entries in
+        λ i. an_outlook (m i) (n i) (d i)
 
-share_of : (k key : LinkKey) (b : Bool) → same_key k key ≡ b → share (same_key k) (Some key) ≡ cond b 1 0
-share_of k key b e = sum_by-cons (λ x. cond (same_key k x) 1 0) key [] ∙ ap (λ b. cond b 1 0 + count_by (same_key k) []) e ∙ one b
+share_of : {X : Type 0} (test : X → Bool) (x : X) (b : Bool) → test x ≡ b → share test (Some x) ≡ cond b 1 0
+share_of test x b e = sum_by-cons (λ y. cond (test y) 1 0) x [] ∙ ap (λ b. cond b 1 0 + count_by test []) e ∙ one b
   where
     one : (b : Bool) → cond b 1 0 + 0 ≡ cond b 1 0
     one true = refl
@@ -72,22 +73,39 @@ outlooks-anew g h o o' key was stays here elsewhere k = by (same_key k key) refl
     by true t = let same : k ≡ key = one_key k key t in ap (λ (x : LinkKey). outlook_at x o') same ∙ here ∙ sym (ap (outlook_in h) same)
     by false t = elsewhere k (hashed-same k key ∙ t) ∙ was k ∙ sym (stays k t)
 
+-- ---- how many pass a test, with one more or less
+
+module _ {X : Type 0} (test : X → Bool) (m : FinMap place_cmp X) (x : X) (place : Place) (b : Bool) where
+  pub number-more : get m place ≡ None → test x ≡ b → number_of test (insert m place x) ≡ number_of test m + cond b 1 0
+  number-more none e =
+      let all = maps.count-set places_total places_exact test m place (Some x) in
+      let here : share test (get m place) ≡ 0 = ap (share test) none in
+      let more = share_of test x b e in
+      omega (arith, all, here, more)
+
+  pub number-less : get m place ≡ Some x → test x ≡ b → number_of test (remove m place) + cond b 1 0 ≡ number_of test m
+  number-less there e =
+      let all = maps.count-set places_total places_exact test m place None in
+      let here : share test (get m place) ≡ cond b 1 0 = ap (share test) there ∙ share_of test x b e in
+      omega (arith, all, here)
+
+-- how many receipts have a key, with one more or less
+module _ (g h : Grouping) (place : Place) (r : GroupedReceipt) (k : LinkKey) (b : Bool) where
+  abbrev of_key : GroupedReceipt → Bool
+  of_key y = same_key k y.key
+
+  pub received-more : HasMore g h place r → same_key k r.key ≡ b → received h k ≡ received g k + cond b 1 0
+  received-more more e =
+      ap (number_of of_key) (same_map places_total places_exact h.receipts (insert g.receipts place r) (λ q. more.each q ∙ sym (get-insert places_total g.receipts place r q)))
+      ∙ number-more of_key g.receipts r place b more.absent e
+
+  pub received-less : HasLess g h place r → same_key k r.key ≡ b → received h k + cond b 1 0 ≡ received g k
+  received-less less e =
+      ap (λ (m : FinMap place_cmp GroupedReceipt). number_of of_key m + cond b 1 0)
+      (same_map places_total places_exact h.receipts (remove g.receipts place) (λ q. less.each q ∙ sym (get-remove places_total g.receipts place q)))
+      ∙ number-less of_key g.receipts r place b less.there e
+
 -- ---- a submit more
-
-pub number-more : (m : FinMap place_cmp LinkKey) (key k : LinkKey) (place : Place) (b : Bool) → get m place ≡ None → same_key k key ≡ b
-    → number_of (same_key k) (insert m place key) ≡ number_of (same_key k) m + cond b 1 0
-number-more m key k place b none e =
-    let all = maps.count-set places_total places_exact (same_key k) m place (Some key) in
-    let here : share (same_key k) (get m place) ≡ 0 = ap (share (same_key k)) none in
-    let more = share_of k key b e in
-    omega (arith, all, here, more)
-
-pub number-less : (m : FinMap place_cmp LinkKey) (key k : LinkKey) (place : Place) (b : Bool) → get m place ≡ Some key → same_key k key ≡ b
-    → number_of (same_key k) (remove m place) + cond b 1 0 ≡ number_of (same_key k) m
-number-less m key k place b there e =
-    let all = maps.count-set places_total places_exact (same_key k) m place None in
-    let here : share (same_key k) (get m place) ≡ cond b 1 0 = ap (share (same_key k)) there ∙ share_of k key b e in
-    omega (arith, all, here)
 
 module _ (s : List (Member × Bool)) (r : List (Member × Said)) (i : List (Candidate × Bool)) (o o' : List (LinkKey × Outlook)) (key : LinkKey) (place : Place) where
   abbrev more : List (Member × Bool)
@@ -96,17 +114,18 @@ module _ (s : List (Member × Bool)) (r : List (Member × Said)) (i : List (Cand
   abbrev less : List (Member × Bool)
   less = remove_entry (is_at (kept_member_cmp (member_of key place))) s
 
-  abbrev earliest : LinkKey → Option Earliest
-  earliest k = option_map earliest_at (reduce earlier (candidates (grouping_in s r) k))
+  -- the outlook of a key with so many submits
+  abbrev outlook_of : LinkKey → ℕ → Outlook
+  outlook_of k n = record (outlook_in (grouping_in s r) k) { matches = n }
 
   pub counted-more : at submit_value place s ≡ None → (k : LinkKey) (b : Bool) → same_key k key ≡ b → matches (grouping_in more r) k ≡ matches (grouping_in s r) k + cond b 1 0
   counted-more none k b e =
       ap (number_of (same_key k)) (with-member submit_value (member_of key place) true s none)
-      ∙ number-more (grouping_in s r).submits key k place b (get-from_entries places_total (map (by_place submit_value) s) place ∙ none) e
+      ∙ number-more (same_key k) (grouping_in s r).submits key place b (get-from_entries places_total (map (by_place submit_value) s) place ∙ none) e
 
   -- with one submit more, where its key's outlook counts it and the others stay
   pub submit-stored : at submit_value place s ≡ None → AreStored s r i o
-      → outlook_at key o' ≡ an_outlook ((outlook_at key o).matches + 1) (outlook_at key o).decider
+      → outlook_at key o' ≡ record (outlook_at key o) { matches = (outlook_at key o).matches + 1 }
       → ((other : LinkKey) → is_at (hashed_key_cmp other) key ≡ false → outlook_at other o' ≡ outlook_at other o)
       → AreStored more r i o'
   submit-stored none st here elsewhere = record {
@@ -115,8 +134,8 @@ module _ (s : List (Member × Bool)) (r : List (Member × Said)) (i : List (Cand
     indexed = record {
       candidates = st.indexed.candidates;
       outlook = outlooks-anew (grouping_in s r) (grouping_in more r) o o' key st.indexed.outlook
-          (λ k t. let n = counted-more none k false t in let same : matches (grouping_in more r) k ≡ matches (grouping_in s r) k = omega (arith, n) in λ j. an_outlook (same j) (earliest k))
-          (here ∙ ap (λ (x : Outlook). an_outlook (x.matches + 1) x.decider) (st.indexed.outlook key) ∙ (λ j. an_outlook (sym (counted-more none key true (own_key key)) j) (earliest key)))
+          (λ k t. let n = counted-more none k false t in let same : matches (grouping_in more r) k ≡ matches (grouping_in s r) k = omega (arith, n) in ap (outlook_of k) same)
+          (here ∙ ap (λ (x : Outlook). record x { matches = x.matches + 1 }) (st.indexed.outlook key) ∙ ap (outlook_of key) (sym (counted-more none key true (own_key key))))
           elsewhere;
     };
   }
@@ -131,11 +150,11 @@ module _ (s : List (Member × Bool)) (r : List (Member × Said)) (i : List (Cand
       → matches (grouping_in less r) k + cond b 1 0 ≡ matches (grouping_in s r) k
   counted-less there st k b e =
       ap (λ (m : FinMap place_cmp LinkKey). number_of (same_key k) m + cond b 1 0) (without-member submit_value (member_of key place) (held there).0 s st.submits_once (held there).1)
-      ∙ number-less (grouping_in s r).submits key k place b there e
+      ∙ number-less (same_key k) (grouping_in s r).submits key place b there e
 
   -- with one submit less, where its key's outlook counts it no more and the others stay
   pub submit-taken : get (grouping_in s r).submits place ≡ Some key → AreStored s r i o
-      → outlook_at key o' ≡ an_outlook ((outlook_at key o).matches - 1) (outlook_at key o).decider
+      → outlook_at key o' ≡ record (outlook_at key o) { matches = (outlook_at key o).matches - 1 }
       → ((other : LinkKey) → is_at (hashed_key_cmp other) key ≡ false → outlook_at other o' ≡ outlook_at other o)
       → AreStored less r i o'
   submit-taken there st here elsewhere = record {
@@ -144,8 +163,8 @@ module _ (s : List (Member × Bool)) (r : List (Member × Said)) (i : List (Cand
     indexed = record {
       candidates = st.indexed.candidates;
       outlook = outlooks-anew (grouping_in s r) (grouping_in less r) o o' key st.indexed.outlook
-          (λ k t. let n = counted-less there st k false t in let same : matches (grouping_in less r) k ≡ matches (grouping_in s r) k = omega (arith, n) in λ j. an_outlook (same j) (earliest k))
-          (here ∙ ap (λ (x : Outlook). an_outlook (x.matches - 1) x.decider) (st.indexed.outlook key) ∙ (λ j. an_outlook (one_less j) (earliest key)))
+          (λ k t. let n = counted-less there st k false t in let same : matches (grouping_in less r) k ≡ matches (grouping_in s r) k = omega (arith, n) in ap (outlook_of k) same)
+          (here ∙ ap (λ (x : Outlook). record x { matches = x.matches - 1 }) (st.indexed.outlook key) ∙ ap (outlook_of key) one_less)
           elsewhere;
     };
   }

@@ -1,5 +1,5 @@
 -- The four maps hold a grouping with one receipt more or less.
-use Rattle.std.proofs.Common.{◌≡◌, Bool, true, false, cond, List, Option, Some, None, refl, sym, ap, ◌∙◌}
+use Rattle.std.proofs.Common.{◌≡◌, ◌-◌, arith, Bool, true, false, cond, List, Option, Some, None, refl, sym, ap, ◌∙◌}
 use Rattle.std.specs.Prelude.{◌&&◌, ◌||◌, not, map, option_map, IsSome, is_some}
 use Rattle.std.specs.Map.{keys_of, lookup, remove_entry}
 use Rattle.std.specs.BTreeMap.{is_at, insert_entry}
@@ -9,6 +9,7 @@ use Rattle.std.proofs.lemmas.Bool.{false≢true}
 use Rattle.smq_kit.specs.declared.place.Place.{Place}
 use Rattle.smq_kit.specs.declared.link_key.LinkKey.{LinkKey}
 use Rattle.smq_kit.specs.HashedKeys.{hashed_key_cmp}
+use Rattle.smq_kit.specs.LinkKeys.{same_key}
 use Rattle.smq_kit.proofs.PlaceOrders.{places_total}
 use Rattle.smq_kit.proofs.Comparisons.{is_equal}
 use Rattle.smq_shelf.proofs.Changes.{lookup-insert_entry, lookup-insert_other, lookup-removed, lookup-remove_other}
@@ -22,13 +23,13 @@ use Rattle.smq_group.specs.Groups.{with_receipt, without_receipt}
 use Rattle.smq_group.specs.within.KeyLaws.{one_candidate}
 use Rattle.smq_group.specs.within.Orders.{kept_member_cmp, kept_candidate_cmp}
 use Rattle.smq_group.specs.within.Outlooks.{an_outlook, later_of, outlook_at, outlook_with}
-use Rattle.smq_group.specs.within.Stored.{grouping_in, receipt_value, earliest_at, gone_of, AreStored, by_place, member_of, waits, with_waiting, without_waiting}
+use Rattle.smq_group.specs.within.Stored.{grouping_in, receipt_value, earliest_at, gone_of, received, AreStored, by_place, member_of, waits, with_waiting, without_waiting}
 use Rattle.smq_group.specs.within.Walked.{candidate_at, first_candidate_after}
 use Rattle.smq_group.proofs.CandidateWalks.{candidates_total}
 use Rattle.smq_group.proofs.Earliest.{HasMore, HasLess, decider_in, is_decided, decider-more, decider-elsewhere, decider-stays, decider-next, own_key}
 use Rattle.smq_group.proofs.Waiting.{decided-own, gone-waited, is_the, waits-decided, waits-less, waits-more}
 use Rattle.smq_group.proofs.Placing.{at, found, one_of, with-member, without-member, once-insert, once-remove}
-use Rattle.smq_group.proofs.Storing.{outlooks-anew}
+use Rattle.smq_group.proofs.Storing.{outlooks-anew, received-more, received-less}
 
 abbrev own : Place → Said → Earliest
 own place said = earliest_at (said.moment, place)
@@ -93,13 +94,17 @@ module _ (s : List (Member × Bool)) (r : List (Member × Said)) (i i' : List (C
           ∙ ap (cond (is_the key w c) (Some true)) (st.indexed.candidates c) ∙ joined (is_the key w c) (waits g c)
           ∙ ap (λ b. cond b (Some true) None) (waits-more g (grouping_in s more) place value (has-more none) c);
       outlook = outlooks-anew g (grouping_in s more) o o' key st.indexed.outlook
-          (λ k t. ap (an_outlook (matches g k)) (decider-more g (grouping_in s more) place value (has-more none) k false said.decides t refl))
+          (λ k t. λ j. an_outlook (matches g k) (elsewhere_more none k t j) (decider-more g (grouping_in s more) place value (has-more none) k false said.decides t refl j))
           (here ∙ ap (λ (x : Outlook). outlook_with x (earliest_at (said.moment, place)) said.decides) (st.indexed.outlook key)
-          ∙ sym (ap (an_outlook (matches g key)) (decider-more g (grouping_in s more) place value (has-more none) key true said.decides (own_key key) refl)))
+          ∙ sym (λ j. an_outlook (matches g key) (received-more g (grouping_in s more) place value key true (has-more none) (own_key key) j)
+          (decider-more g (grouping_in s more) place value (has-more none) key true said.decides (own_key key) refl j)))
           elsewhere;
     };
   }
     where
+      elsewhere_more : get g.receipts place ≡ None → (k : LinkKey) → same_key k key ≡ false → received (grouping_in s more) k ≡ received g k
+      elsewhere_more none k t = let n = received-more g (grouping_in s more) place value k false (has-more none) t in omega (arith, n)
+
       w : Option Earliest
       w = later_of (decider_in g key) (own place said) said.decides
 
@@ -200,7 +205,7 @@ module _ (s : List (Member × Bool)) (r : List (Member × Said)) (i i' : List (C
         ∙ ap (λ b. cond b (Some true) None) (gone-waited g h place value (has-less st there l) did_decide (sym decided_before) e (sym goes ∙ is)))
 
     pub receipt-taken : i' ≡ without_waiting key w i → (IsSome w → IsStrictlySortedBy kept_candidate_cmp (keys_of i))
-        → outlook_at key o' ≡ an_outlook (outlook_at key o).matches next
+        → outlook_at key o' ≡ an_outlook (outlook_at key o).matches ((outlook_at key o).receipts - 1) next
         → ((other : LinkKey) → is_at (hashed_key_cmp other) key ≡ false → outlook_at other o' ≡ outlook_at other o)
         → AreStored s less i' o'
     receipt-taken out so here elsewhere = record {
@@ -214,8 +219,14 @@ module _ (s : List (Member × Bool)) (r : List (Member × Said)) (i i' : List (C
             ∙ ap (λ (x : Option Earliest). cond (not (is_the key x c) && waits g c) (Some true) None) goes
             ∙ ap (λ b. cond b (Some true) None) (waits-less g h place value (has-less st there l) did_decide (sym decided_before) c);
         outlook = outlooks-anew g h o o' key st.indexed.outlook
-            (λ k t. ap (an_outlook (matches g k)) (decider-elsewhere g h place value (has-less st there l) k t))
-            (here ∙ ap (λ (x : Outlook). an_outlook x.matches next) (st.indexed.outlook key) ∙ sym (ap (an_outlook (matches g key)) (new did_decide refl)))
+            (λ k t. λ j. an_outlook (matches g k) (elsewhere_less k t j) (decider-elsewhere g h place value (has-less st there l) k t j))
+            (here ∙ ap (λ (x : Outlook). an_outlook x.matches (x.receipts - 1) next) (st.indexed.outlook key) ∙ sym (λ j. an_outlook (matches g key) (one_less j) (new did_decide refl j)))
             elsewhere;
       };
     }
+      where
+        elsewhere_less : (k : LinkKey) → same_key k key ≡ false → received h k ≡ received g k
+        elsewhere_less k t = let n = received-less g h place value k false (has-less st there l) t in omega (arith, n)
+
+        one_less : received h key ≡ received g key - 1
+        one_less = let n = received-less g h place value key true (has-less st there l) (own_key key) in omega (arith, n)

@@ -48,6 +48,7 @@ pub(crate) fn tell(
     added: Added,
 ) -> Result<Vec<Change>, AllocError>
     requires counted { after.now.matches ≡ length (members_in key.now submits.old.content) }
+    requires received { after.now.receipts ≡ length (members_in key.now receipts.old.content) }
     requires added { HoldsAdded key.now added submits.old.content }
     ensures submits { Stays submits.old submits.new }
     ensures receipts { Stays receipts.old receipts.new }
@@ -86,7 +87,7 @@ pub(crate) fn tell(
         turn,
         added,
     )?;
-    keep_outlook(outlooks, key, after.matches, after.decider)?;
+    keep_outlook(outlooks, key, after.matches, after.receipts, after.decider)?;
     Ok(changes)
 }
 
@@ -168,6 +169,7 @@ fn tell_receipts(
     turn: Turn,
     added: Added,
 ) -> Result<(), AllocError>
+    requires { after.now.receipts ≡ length (members_in key.now receipts.old.content) }
     ensures receipts { Stays receipts.old receipts.new }
     ensures told { OnOk result (changes.new.items ≡ changes.old.items
         ++ told_receipts turn before.now after.now added
@@ -181,8 +183,7 @@ fn tell_receipts(
 {
     match turn {
         Turn::Each => {
-            let most = receipts.place_count() as u64;
-            let members = members_of(alloc, receipts, key, false, most)?;
+            let members = members_of(alloc, receipts, key, false, after.receipts)?;
             push_receipts(changes, &members, after)?;
         }
         Turn::Deciders => push_deciders(changes, rival_of(before, added), after.decider_place())?,

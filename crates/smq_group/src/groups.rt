@@ -138,7 +138,7 @@ impl Groups {
         let _places = self.submits.place_count();
         let after = Outlook {
             matches: before.matches + 1,
-            decider: before.decider,
+            ..before
         };
         match tell(
             self.alloc,
@@ -187,7 +187,7 @@ impl Groups {
         self.submits.remove(&member)?;
         let after = Outlook {
             matches: before.matches - 1,
-            decider: before.decider,
+            ..before
         };
         match tell(
             self.alloc,
@@ -241,6 +241,8 @@ impl Groups {
             said,
             &waits,
         )?;
+        // There are no more receipts with a key than places.
+        let _places = self.receipts.place_count();
         let after = before.with_receipt(Earliest { moment, place }, decides);
         match tell(
             self.alloc,
@@ -295,6 +297,7 @@ impl Groups {
         out_receipt(&mut self.receipts, &mut self.candidates, &key, place, &gone)?;
         let after = Outlook {
             matches: before.matches,
+            receipts: before.receipts - 1,
             decider,
         };
         match tell(

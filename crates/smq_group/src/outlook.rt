@@ -1,5 +1,5 @@
 //! What all standings of a group rest on.
-ghost use Rattle.std.specs.Prelude.{◌≡◌, true, false, OnOk, OnErr, ◌+◌, ◌≤◌};
+ghost use Rattle.std.specs.Prelude.{◌≡◌, true, false, OnOk, OnErr, ◌+◌, ◌-◌, ◌^◌, ◌<◌, ◌≤◌};
 ghost use Rattle.std.specs.Map.{lookup};
 ghost use Rattle.std.specs.BTreeMap.{is_at};
 ghost use Rattle.smq_kit.specs.HashedKeys.{hashed_key_cmp};
@@ -18,10 +18,11 @@ pub(crate) struct Earliest {
     pub(crate) place: Place,
 }
 
-/// What all standings of a group rest on: how many submits it has, and the earliest receipt that can decide.
+/// What all standings of a group rest on: how many submits and receipts it has, and the earliest receipt that can decide.
 #[derive(Clone, Copy, Debug, PartialEq, Eq)]
 pub(crate) struct Outlook {
     pub(crate) matches: u64,
+    pub(crate) receipts: u64,
     pub(crate) decider: Option<Earliest>,
 }
 
@@ -48,6 +49,7 @@ impl Outlook {
 
     /// With one receipt more, which can decide or not.
     pub(crate) fn with_receipt(&self, receipt: Earliest, decides: bool) -> Outlook
+        requires { self.now.receipts < 2 ^ 64 - 1 }
         ensures { result ≡ outlook_with self.now receipt decides }
     {
         let is_earliest = match &self.decider {
@@ -61,6 +63,7 @@ impl Outlook {
         };
         Outlook {
             matches: self.matches,
+            receipts: self.receipts + 1,
             decider,
         }
     }
@@ -125,20 +128,22 @@ pub(crate) fn outlook_of(outlooks: &mut Kept<HashedKey, Outlook>, key: &HashedKe
         Some(outlook) => *outlook,
         None => Outlook {
             matches: 0,
+            receipts: 0,
             decider: None,
         },
     }
 }
 
-/// Keeps another outlook of a key. That of no submits and no candidates is not kept. An error changes nothing.
+/// Keeps another outlook of a key. That of no submits and no receipts is not kept. An error changes nothing.
 pub(crate) fn keep_outlook(
     outlooks: &mut Kept<HashedKey, Outlook>,
     key: &HashedKey,
     matches: u64,
+    receipts: u64,
     decider: Option<Earliest>,
 ) -> Result<(), AllocError>
     ensures here { OnOk result (outlook_at key.now outlooks.new.content
-        ≡ an_outlook matches decider) }
+        ≡ an_outlook matches receipts decider) }
     ensures elsewhere { OnOk result ((other : LinkKey) → is_at (hashed_key_cmp other) key.now ≡ false
         → outlook_at other outlooks.new.content ≡ outlook_at other outlooks.old.content) }
     ensures err { OnErr result (outlooks.new.content ≡ outlooks.old.content) }
@@ -147,16 +152,21 @@ pub(crate) fn keep_outlook(
     ensures touches { outlooks.new.touches ≤ outlooks.old.touches + 2 }
     ensures counted { outlooks.old.touches ≤ outlooks.new.touches }
 {
-    if is_empty(matches, &decider) {
+    if is_empty(matches, receipts, &decider) {
         outlooks.remove(key)?;
         return Ok(());
     }
-    outlooks.set(key.copy(), Outlook { matches, decider })?;
+    let outlook = Outlook {
+        matches,
+        receipts,
+        decider,
+    };
+    outlooks.set(key.copy(), outlook)?;
     Ok(())
 }
 
-fn is_empty(matches: u64, decider: &Option<Earliest>) -> bool
-    ensures { result ≡ true → an_outlook matches decider.now ≡ no_outlook }
+fn is_empty(matches: u64, receipts: u64, decider: &Option<Earliest>) -> bool
+    ensures { result ≡ true → an_outlook matches receipts decider.now ≡ no_outlook }
 {
-    matches == 0 && decider.is_none()
+    matches == 0 && receipts == 0 && decider.is_none()
 }

@@ -1,5 +1,5 @@
 -- Outlooks: what all standings of a key's members rest on.
-use Rattle.std.specs.Prelude.{ℕ, ◌==◌, ◌&&◌, Bool, true, not, if◌then◌else◌, List, Option, Some, None, unwrap_or, option_map}
+use Rattle.std.specs.Prelude.{ℕ, ◌+◌, ◌==◌, ◌&&◌, Bool, true, not, if◌then◌else◌, List, Option, Some, None, unwrap_or, option_map}
 use Rattle.std.specs.Ordering.{eq_by_cmp, is_lt}
 use Rattle.std.specs.Map.{lookup}
 use Rattle.std.specs.BTreeMap.{is_at}
@@ -14,13 +14,13 @@ use Rattle.smq_group.specs.declared.outlook.Outlook.{Outlook}
 use Rattle.smq_group.specs.declared.outlook.Earliest.{Earliest}
 use Rattle.smq_group.specs.Matching.{candidate_cmp}
 
--- so many submits, and this receipt the earliest that can decide
-abbrev pub an_outlook : ℕ → Option Earliest → Outlook
-an_outlook matches decider = record { matches = matches; decider = decider }
+-- so many submits, so many receipts, and this receipt the earliest that can decide
+abbrev pub an_outlook : ℕ → ℕ → Option Earliest → Outlook
+an_outlook matches receipts decider = record { matches = matches; receipts = receipts; decider = decider }
 
--- no submits, and no receipt that can decide
+-- no submits and no receipts
 abbrev pub no_outlook : Outlook
-no_outlook = record { matches = 0; decider = None }
+no_outlook = record { matches = 0; receipts = 0; decider = None }
 
 -- the outlook that is kept of a key
 abbrev pub outlook_at : LinkKey → List (LinkKey × Outlook) → Outlook
@@ -49,7 +49,7 @@ is_before receipt (Some earliest) = is_lt (candidate_cmp (receipt.moment, receip
 
 -- with one receipt more
 abbrev pub outlook_with : Outlook → Earliest → Bool → Outlook
-outlook_with o receipt decides = record { matches = o.matches; decider = if decides && is_before receipt o.decider then Some receipt else o.decider }
+outlook_with o receipt decides = record { matches = o.matches; receipts = o.receipts + 1; decider = if decides && is_before receipt o.decider then Some receipt else o.decider }
 
 -- the later of a receipt and the one that decides, where both can decide
 abbrev pub later_of : Option Earliest → Earliest → Bool → Option Earliest

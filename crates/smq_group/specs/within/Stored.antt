@@ -1,5 +1,5 @@
 -- The members as the code keeps them: by key and place in four maps, from which the grouping by place follows.
-use Rattle.std.specs.Prelude.{◌≡◌, ◌==◌, ◌&&◌, not, Bool, true, false, if◌then◌else◌, List, [], ◌∷◌, map, Option, Some, None, option_map, ⊤}
+use Rattle.std.specs.Prelude.{ℕ, ◌≡◌, ◌==◌, ◌&&◌, not, Bool, true, false, if◌then◌else◌, List, [], ◌∷◌, map, Option, Some, None, option_map, ⊤}
 use Rattle.std.specs.List.{reduce}
 use Rattle.std.specs.FinMap as fin
 use Rattle.std.specs.FinMap.{find}
@@ -7,6 +7,7 @@ use Rattle.std.specs.Map.{lookup, remove_entry}
 use Rattle.std.specs.BTreeMap.{insert_entry, is_at}
 use Rattle.smq_kit.specs.declared.place.Place.{Place}
 use Rattle.smq_kit.specs.declared.link_key.LinkKey.{LinkKey}
+use Rattle.smq_kit.specs.Maps.{number_of}
 use Rattle.smq_kit.specs.Orders.{place_cmp}
 use Rattle.smq_kit.specs.LinkKeys.{same_key}
 use Rattle.smq_shelf.specs.Keeping.{Keeping}
@@ -69,9 +70,13 @@ is_candidate c (Some r) = same_key c.key r.key && r.moment == c.moment && r.deci
 abbrev pub earliest_at : m.Candidate → Earliest
 earliest_at c = record { moment = c.0; place = c.1 }
 
+-- how many receipts have a key
+abbrev pub received : Grouping → LinkKey → ℕ
+received g key = number_of (λ (r : GroupedReceipt). same_key key r.key) g.receipts
+
 -- what all standings of a key's members rest on
 abbrev pub outlook_in : Grouping → LinkKey → Outlook
-outlook_in g key = record { matches = matches g key; decider = option_map earliest_at (reduce earlier (candidates g key)) }
+outlook_in g key = record { matches = matches g key; receipts = received g key; decider = option_map earliest_at (reduce earlier (candidates g key)) }
 
 -- whether a receipt of a key waits: it can decide, and another does
 abbrev pub waits : Grouping → Candidate → Bool

@@ -20,9 +20,9 @@ returns-then-is_empty-clause-elsewhere c = λ other h.
 pub returns-clause-here : goal.returns-clause-here
 returns-clause-here c =
     ap (outlook_at c.args.key.now) c.in_ok-set.ensures.content
-    ∙ rw c.copy.ensures (ap (λ (x : Option Outlook). unwrap_or x no_outlook) (lookup-insert_entry hashed_keys_total c.args.key.now (an_outlook c.args.matches c.args.decider) c.args.outlooks.now.content))
+    ∙ rw c.copy.ensures (ap (λ (x : Option Outlook). unwrap_or x no_outlook) (lookup-insert_entry hashed_keys_total c.args.key.now (an_outlook c.args.matches c.args.receipts c.args.decider) c.args.outlooks.now.content))
 
 pub returns-clause-elsewhere : goal.returns-clause-elsewhere
 returns-clause-elsewhere c = λ other h.
     ap (outlook_at other) c.in_ok-set.ensures.content
-    ∙ rw c.copy.ensures (ap (λ (x : Option Outlook). unwrap_or x no_outlook) (lookup-insert_other hashed_keys_total c.args.key.now other (an_outlook c.args.matches c.args.decider) c.args.outlooks.now.content h))
+    ∙ rw c.copy.ensures (ap (λ (x : Option Outlook). unwrap_or x no_outlook) (lookup-insert_other hashed_keys_total c.args.key.now other (an_outlook c.args.matches c.args.receipts c.args.decider) c.args.outlooks.now.content h))

@@ -1,4 +1,4 @@
-use Rattle.std.proofs.Common.{◌≡◌, None, refl, ap, ◌∙◌, arith, Some, true}
+use Rattle.std.proofs.Common.{◌≡◌, false, None, refl, ap, ◌∙◌, arith, Some, true}
 use Rattle.std.specs.Prelude.{is_some}
 use Rattle.std.specs.FinMap.{get}
 use Rattle.smq_group.specs.declared.changes.Added.TheVariants as put
@@ -8,11 +8,12 @@ use Rattle.smq_group.specs.Groups.{GroupsValue, key_on}
 use Rattle.smq_group.specs.within.Outlooks.{later_of, outlook_at, outlook_with}
 use Rattle.smq_group.specs.within.Stored.{earliest_at, grouping_in, with_waiting}
 use Rattle.smq_group.proofs.Calling.{tells-call, receipts-back, candidates-back}
-use Rattle.smq_group.proofs.Counting.{counted}
+use Rattle.smq_group.proofs.Counting.{counted, received-add}
 use Rattle.smq_group.proofs.Moving.{moves-receipt}
 use Rattle.smq_group.proofs.StoringReceipts.{receipt-more, receipt-stored, has-more}
 use Rattle.smq_group.specs.within.Walked.{member_key, vacant_of}
 use Rattle.smq_group.proofs.Vacating.{candidate-put, counted-vacant, member-put}
+use Rattle.smq_group.proofs.Walking.{members-fit}
 use Rattle.smq_group.proofs.groups.Groups.add_receipt.Goals as goal
 
 pub tell-requires-clause-counted : goal.tell-requires-clause-counted
@@ -20,6 +21,25 @@ tell-requires-clause-counted c =
     ap (λ (o : Outlook). o.matches) c.with_receipt-after.ensures
     ∙ counted c.self.inside.submits.content c.self.inside.receipts.content c.self.inside.candidates.content c.self.inside.outlooks.content c.new-key.result c.outlook_of-before.result
     c.self.invariant.0 c.outlook_of-before.ensures.value
+
+pub tell-requires-clause-received : goal.tell-requires-clause-received
+tell-requires-clause-received c =
+    let said : Said = record { moment = c.args.moment; decides = c.args.decides } in
+    let none : get (grouping_in c.self.inside.submits.content c.self.inside.receipts.content).receipts c.args.place ≡ None = ap (λ (v : GroupsValue). get v.members.receipts c.args.place) c.self.view_is ∙ c.requires.absent in
+    ap (λ (o : Outlook). o.receipts) c.with_receipt-after.ensures
+    ∙ received-add c.self.inside.submits.content c.self.inside.receipts.content c.self.inside.candidates.content c.self.inside.outlooks.content c.new-key.result c.outlook_of-before.result
+    c.self.invariant.0 c.outlook_of-before.ensures.value c.args.place said c.put_receipt.new.receipts.content none c.in_ok-put_receipt.ensures.receipts
+
+pub with_receipt-after-requires : goal.with_receipt-after-requires
+with_receipt-after-requires c =
+    let said : Said = record { moment = c.args.moment; decides = c.args.decides } in
+    let none : get (grouping_in c.self.inside.submits.content c.self.inside.receipts.content).receipts c.args.place ≡ None = ap (λ (v : GroupsValue). get v.members.receipts c.args.place) c.self.view_is ∙ c.requires.absent in
+    let more = received-add c.self.inside.submits.content c.self.inside.receipts.content c.self.inside.candidates.content c.self.inside.outlooks.content c.new-key.result c.outlook_of-before.result
+    c.self.invariant.0 c.outlook_of-before.ensures.value c.args.place said c.put_receipt.new.receipts.content none c.in_ok-put_receipt.ensures.receipts in
+    let fit = members-fit false c.new-key.result c.put_receipt.new.receipts.places c.put_receipt.new.receipts.content c.place_count-places.ensures.content in
+    let count = c.place_count-places.ensures.count in
+    let small = c.place_count-places.ensures.small in
+    omega (arith, more, fit, count, small)
 
 pub invariant_of-self-in-Ok : goal.invariant_of-self-in-Ok
 invariant_of-self-in-Ok c =

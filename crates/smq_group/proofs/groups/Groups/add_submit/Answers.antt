@@ -5,11 +5,11 @@ use Rattle.smq_group.specs.declared.outlook.Outlook.{Outlook}
 use Rattle.smq_group.specs.Groups.{GroupsValue, key_on, with_submit}
 use Rattle.smq_group.specs.Matching.{Grouping}
 use Rattle.smq_group.specs.declared.changes.Added.TheVariants as put
-use Rattle.smq_group.specs.within.Outlooks.{an_outlook, outlook_at}
+use Rattle.smq_group.specs.within.Outlooks.{outlook_at}
 use Rattle.smq_group.specs.within.Stored.{grouping_in, member_of, outlook_in}
 use Rattle.smq_group.proofs.Calling.{tells-call}
 use Rattle.smq_group.proofs.Changing.{Moves}
-use Rattle.smq_group.proofs.Counting.{counted-add}
+use Rattle.smq_group.proofs.Counting.{counted-add, received-is}
 use Rattle.smq_group.proofs.Moving.{moves-submit}
 use Rattle.smq_group.proofs.Placing.{members_total}
 use Rattle.smq_group.proofs.Storing.{absent, grouping-more, submit-stored}
@@ -33,6 +33,11 @@ tell-requires-clause-counted c =
     counted-add c.self.inside.submits.content c.self.inside.receipts.content c.self.inside.candidates.content c.self.inside.outlooks.content c.new-key.result c.outlook_of-before.result
     c.self.invariant.0 c.outlook_of-before.ensures.value c.args.place c.set.new.self.content none (rw (← c.copy.ensures) c.in_ok-set.ensures.content)
 
+pub tell-requires-clause-received : goal.tell-requires-clause-received
+tell-requires-clause-received c =
+    received-is c.self.inside.submits.content c.self.inside.receipts.content c.self.inside.candidates.content c.self.inside.outlooks.content c.new-key.result c.outlook_of-before.result
+    c.self.invariant.0 c.outlook_of-before.ensures.value
+
 pub tell-requires-clause-added : goal.tell-requires-clause-added
 tell-requires-clause-added c =
     rw (c.in_ok-set.ensures.content, c.copy.ensures) (lookup-insert_entry members_total (member_of c.new-key.result c.args.place) true c.self.inside.submits.content)
@@ -43,7 +48,7 @@ invariant_of-self-in-Ok c =
       rw (c.in-Ok.ensures.submits.content, c.in-Ok.ensures.receipts.content, c.in_ok-set.ensures.content, c.copy.ensures)
           (submit-stored c.self.inside.submits.content c.self.inside.receipts.content c.self.inside.candidates.content c.self.inside.outlooks.content c.tell.new.outlooks.content c.new-key.result c.args.place
           (absent c.self.inside.submits.content c.self.inside.receipts.content c.new-key.result c.args.place none) c.self.invariant.0
-          (c.in-Ok.ensures.here ∙ ap (λ (o : Outlook). an_outlook (o.matches + 1) o.decider) c.outlook_of-before.ensures.value)
+          (c.in-Ok.ensures.here ∙ ap (λ (o : Outlook). record o { matches = o.matches + 1 }) c.outlook_of-before.ensures.value)
           (λ other h. c.in-Ok.ensures.elsewhere other h ∙ ap (outlook_at other) c.outlook_of-before.ensures.content)),
       rw (c.in-Ok.ensures.submits.settled, c.in-Ok.ensures.receipts.settled, c.in-Ok.ensures.settled, c.in_ok-set.ensures.settled, c.outlook_of-before.ensures.settled) c.self.invariant.1,
     )
@@ -59,7 +64,7 @@ returns-in-Ok-clause-changes c =
     let key = c.new-key.result in
     let g = c.args.self.now.members in
     tells-call g c.tell.new.submits.content c.set.new.self.content c.tell.new.receipts.content c.self.inside.receipts.content c.self.inside.candidates.content c.tell.new.outlooks.content key (put.Submit c.args.place)
-    c.outlook_of-before.result (an_outlook (c.outlook_of-before.result.matches + 1) c.outlook_of-before.result.decider) c.in-Ok.changes.items
+    c.outlook_of-before.result (record c.outlook_of-before.result { matches = c.outlook_of-before.result.matches + 1 }) c.in-Ok.changes.items
     c.in-Ok.ensures.submits.content c.in-Ok.ensures.receipts.content
     (subst (λ (h : Grouping). Moves g h key (put.Submit c.args.place)) (ap (λ k. with_submit g k c.args.place) c.new-key.ensures ∙ sym (returns-in-Ok-clause-ok c)) (moves-submit g key c.args.place c.requires.absent))
     (invariant_of-self-in-Ok c).0

@@ -1,7 +1,7 @@
-use Rattle.std.proofs.Common.{◌≡◌, ℕ, Bool, List, Option, Some, None, subst, refl, sym, ap, ◌∙◌, arith, cond}
+use Rattle.std.proofs.Common.{◌≡◌, ◌-◌, ℕ, Bool, List, Option, Some, None, subst, refl, sym, ap, ◌∙◌, arith, cond}
 use Rattle.std.specs.Prelude.{false, IfSome, is_some, option_map}
 use Rattle.std.specs.List.Sorted.{IsStrictlySortedBy}
-use Rattle.std.specs.Map.{keys_of}
+use Rattle.std.specs.Map.{keys_of, remove_entry}
 use Rattle.std.specs.FinMap.{get}
 use Rattle.smq_group.specs.declared.changes.Added.TheVariants as put
 use Rattle.smq_group.specs.declared.member.Candidate.{Candidate}
@@ -10,10 +10,10 @@ use Rattle.smq_group.specs.Groups.{GroupsValue, key_on}
 use Rattle.smq_group.specs.within.Outlooks.{an_outlook, outlook_at, is_decided_by}
 use Rattle.smq_group.specs.within.Stored.{earliest_at, gone_of, grouping_in, receipt_value, with_waiting, without_waiting}
 use Rattle.smq_group.proofs.Calling.{tells-call, receipts-back, candidates-back}
-use Rattle.smq_group.proofs.Counting.{counted}
+use Rattle.smq_group.proofs.Counting.{counted, received-remove}
 use Rattle.smq_group.proofs.Moving.{moves-no_receipt}
 use Rattle.smq_group.proofs.StoringReceipts.{gone-there, has-less, has-next, receipt-held, receipt-is_held, receipt-less, receipt-taken}
-use Rattle.std.specs.BTreeMap.{insert_entry}
+use Rattle.std.specs.BTreeMap.{insert_entry, is_at}
 use Rattle.smq_kit.specs.LinkKeys.{same_key}
 use Rattle.smq_group.specs.within.Orders.{kept_candidate_cmp, kept_member_cmp}
 use Rattle.smq_group.specs.within.Stored.{member_of}
@@ -56,6 +56,36 @@ tell-requires-clause-counted c =
     counted c.self.inside.submits.content c.self.inside.receipts.content c.self.inside.candidates.content c.self.inside.outlooks.content c.key_of_link-key.result c.outlook_of-before.result
     c.self.invariant.0 c.outlook_of-before.ensures.value
 
+pub overflow_sub-after : goal.overflow_sub-after
+overflow_sub-after c =
+    let key = c.key_of_link-key.result in
+    let said = c.in-Some.said in
+    let s = c.self.inside.submits.content in
+    let r = c.self.inside.receipts.content in
+    let i = c.self.inside.candidates.content in
+    let o = c.self.inside.outlooks.content in
+    let k = ap (λ (v : GroupsValue). option_map (λ x. x.key) (get v.members.receipts c.args.place)) c.self.view_is ∙ c.requires.there ∙ ap Some (sym c.key_of_link-key.ensures) in
+    let found = sym c.said_at-found.ensures.value ∙ c.in-Some.is in
+    let there = receipt-held s r i i o o key c.args.place said said k found in
+    let less = received-remove s r i o key c.outlook_of-before.result c.self.invariant.0 c.outlook_of-before.ensures.value c.args.place said c.out_receipt.new.receipts.content there found
+    (c.in_ok-out_receipt.ensures.receipts ∙ ap (remove_entry (is_at (kept_member_cmp (member_of key c.args.place)))) c.said_at-found.ensures.read.content) in
+    omega (arith, less)
+
+pub tell-requires-clause-received : goal.tell-requires-clause-received
+tell-requires-clause-received c =
+    let key = c.key_of_link-key.result in
+    let said = c.in-Some.said in
+    let s = c.self.inside.submits.content in
+    let r = c.self.inside.receipts.content in
+    let i = c.self.inside.candidates.content in
+    let o = c.self.inside.outlooks.content in
+    let k = ap (λ (v : GroupsValue). option_map (λ x. x.key) (get v.members.receipts c.args.place)) c.self.view_is ∙ c.requires.there ∙ ap Some (sym c.key_of_link-key.ensures) in
+    let found = sym c.said_at-found.ensures.value ∙ c.in-Some.is in
+    let there = receipt-held s r i i o o key c.args.place said said k found in
+    let less = received-remove s r i o key c.outlook_of-before.result c.self.invariant.0 c.outlook_of-before.ensures.value c.args.place said c.out_receipt.new.receipts.content there found
+    (c.in_ok-out_receipt.ensures.receipts ∙ ap (remove_entry (is_at (kept_member_cmp (member_of key c.args.place)))) c.said_at-found.ensures.read.content) in
+    omega (arith, less)
+
 pub invariant_of-self-in-Ok : goal.invariant_of-self-in-Ok
 invariant_of-self-in-Ok c =
     let key = c.key_of_link-key.result in
@@ -76,7 +106,7 @@ invariant_of-self-in-Ok c =
           c.decider_without-decider.ensures.stays c.decider_without-decider.ensures.follows c.decider_without-decider.ensures.ordered)
           (c.in_ok-out_receipt.ensures.candidates ∙ (λ j. without_waiting key (is j) (c.decider_without-decider.ensures.read.content j)))
           (λ e. subst (λ (es : List (Candidate × Bool)). IsStrictlySortedBy kept_candidate_cmp (keys_of es)) c.decider_without-decider.ensures.read.content (c.in_ok-out_receipt.ensures.ordered (ap is_some is ∙ e)))
-          (c.in-Ok.ensures.here ∙ ap (λ (x : Outlook). an_outlook x.matches c.decider_without-decider.result) before)
+          (c.in-Ok.ensures.here ∙ ap (λ (x : Outlook). an_outlook x.matches (x.receipts - 1) c.decider_without-decider.result) before)
           (λ other h. c.in-Ok.ensures.elsewhere other h ∙ ap (outlook_at other) c.outlook_of-before.ensures.content)),
       rw (c.in-Ok.ensures.submits.settled, c.in-Ok.ensures.receipts.settled, c.in_ok-out_receipt.ensures.settled, c.said_at-found.ensures.read.settled, c.in_ok-out_receipt.ensures.settled_candidates, c.decider_without-decider.ensures.read.settled, c.in-Ok.ensures.settled, c.outlook_of-before.ensures.settled) c.self.invariant.1,
     )
@@ -103,7 +133,7 @@ returns-in-Ok-clause-changes c =
     let less = has-less s r i i o o key place said c.self.invariant.0 there found in
     rw (← c.self.view_is, c.in-Ok.ensures.submits.content)
     (tells-call (grouping_in s r) s s c.tell.new.receipts.content c.out_receipt.new.receipts.content c.out_receipt.new.candidates.content c.tell.new.outlooks.content key put.Nothing
-    c.outlook_of-before.result (an_outlook c.outlook_of-before.result.matches c.decider_without-decider.result) c.in-Ok.changes.items
+    c.outlook_of-before.result (an_outlook c.outlook_of-before.result.matches (c.outlook_of-before.result.receipts - 1) c.decider_without-decider.result) c.in-Ok.changes.items
     refl c.in-Ok.ensures.receipts.content
     (rw (c.in-Ok.ensures.receipts.content, c.in_ok-out_receipt.ensures.receipts, c.said_at-found.ensures.read.content) (moves-no_receipt (grouping_in s r) _ place (receipt_value key said) refl less))
     (rw c.in-Ok.ensures.submits.content at (invariant_of-self-in-Ok c).0)

@@ -4,11 +4,11 @@ use Rattle.smq_group.specs.declared.outlook.Outlook.{Outlook}
 use Rattle.smq_group.specs.Groups.{GroupsValue, key_on}
 use Rattle.smq_group.specs.Matching.{Grouping, matches}
 use Rattle.smq_group.specs.declared.changes.Added.TheVariants as put
-use Rattle.smq_group.specs.within.Outlooks.{an_outlook, outlook_at}
+use Rattle.smq_group.specs.within.Outlooks.{outlook_at}
 use Rattle.smq_group.specs.within.Stored.{grouping_in, outlook_in}
 use Rattle.smq_group.proofs.Calling.{tells-call}
 use Rattle.smq_group.proofs.Changing.{Moves, submit-counts}
-use Rattle.smq_group.proofs.Counting.{counted-remove}
+use Rattle.smq_group.proofs.Counting.{counted-remove, received-is}
 use Rattle.smq_group.proofs.Moving.{moves-no_submit}
 use Rattle.smq_group.proofs.Storing.{grouping-less, submit-taken, is_held}
 use Rattle.smq_kit.specs.LinkKeys.{same_key}
@@ -31,13 +31,18 @@ tell-requires-clause-counted c =
     counted-remove c.self.inside.submits.content c.self.inside.receipts.content c.self.inside.candidates.content c.self.inside.outlooks.content c.key_of_link-key.result c.outlook_of-before.result
     c.self.invariant.0 c.outlook_of-before.ensures.value c.args.place c.remove.new.self.content there (rw (← c.copy.ensures) c.in_ok-remove.ensures.content)
 
+pub tell-requires-clause-received : goal.tell-requires-clause-received
+tell-requires-clause-received c =
+    received-is c.self.inside.submits.content c.self.inside.receipts.content c.self.inside.candidates.content c.self.inside.outlooks.content c.key_of_link-key.result c.outlook_of-before.result
+    c.self.invariant.0 c.outlook_of-before.ensures.value
+
 pub invariant_of-self-in-Ok : goal.invariant_of-self-in-Ok
 invariant_of-self-in-Ok c =
     let there : get (grouping_in c.self.inside.submits.content c.self.inside.receipts.content).submits c.args.place ≡ Some c.key_of_link-key.result = ap (λ (v : GroupsValue). get v.members.submits c.args.place) c.self.view_is ∙ c.requires.there ∙ ap Some (sym c.key_of_link-key.ensures) in (
       rw (c.in-Ok.ensures.submits.content, c.in-Ok.ensures.receipts.content, c.in_ok-remove.ensures.content, c.copy.ensures)
           (submit-taken c.self.inside.submits.content c.self.inside.receipts.content c.self.inside.candidates.content c.self.inside.outlooks.content c.tell.new.outlooks.content c.key_of_link-key.result c.args.place
           there c.self.invariant.0
-          (c.in-Ok.ensures.here ∙ ap (λ (o : Outlook). an_outlook (o.matches - 1) o.decider) c.outlook_of-before.ensures.value)
+          (c.in-Ok.ensures.here ∙ ap (λ (o : Outlook). record o { matches = o.matches - 1 }) c.outlook_of-before.ensures.value)
           (λ other h. c.in-Ok.ensures.elsewhere other h ∙ ap (outlook_at other) c.outlook_of-before.ensures.content)),
       rw (c.in-Ok.ensures.submits.settled, c.in-Ok.ensures.receipts.settled, c.in-Ok.ensures.settled, c.in_ok-remove.ensures.settled, c.outlook_of-before.ensures.settled) c.self.invariant.1,
     )
@@ -69,7 +74,7 @@ returns-in-Ok-clause-changes c =
     let key = c.key_of_link-key.result in
     let g = c.args.self.now.members in
     tells-call g c.tell.new.submits.content c.remove.new.self.content c.tell.new.receipts.content c.self.inside.receipts.content c.self.inside.candidates.content c.tell.new.outlooks.content key put.Nothing
-    c.outlook_of-before.result (an_outlook (c.outlook_of-before.result.matches - 1) c.outlook_of-before.result.decider) c.in-Ok.changes.items
+    c.outlook_of-before.result (record c.outlook_of-before.result { matches = c.outlook_of-before.result.matches - 1 }) c.in-Ok.changes.items
     c.in-Ok.ensures.submits.content c.in-Ok.ensures.receipts.content
     (subst (λ (h : Grouping). Moves g h key put.Nothing) (sym (returns-in-Ok-clause-ok c)) (moves-no_submit g key c.args.place (c.requires.there ∙ ap Some (sym c.key_of_link-key.ensures))))
     (invariant_of-self-in-Ok c).0
