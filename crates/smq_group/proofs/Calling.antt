@@ -8,16 +8,18 @@ use Rattle.smq_group.specs.declared.changes.Added.{Added}
 use Rattle.smq_group.specs.declared.member.Member.{Member}
 use Rattle.smq_group.specs.declared.member.Candidate.{Candidate}
 use Rattle.smq_group.specs.declared.member.Said.{Said}
+use Rattle.smq_group.specs.declared.outlook.Group.{Group}
 use Rattle.smq_group.specs.declared.outlook.Outlook.{Outlook}
 use Rattle.smq_group.specs.Changes.{TellsChanges}
 use Rattle.smq_group.specs.Matching.{Grouping}
 use Rattle.smq_group.specs.within.Outlooks.{outlook_at}
 use Rattle.smq_group.specs.within.Stored.{AreStored, CanTakeBack, grouping_in, outlook_in}
-use Rattle.smq_group.specs.within.Told.{SubmitsByPlace, ReceiptsByPlace, members_in, told_submits, told_receipts, turn_between}
+use Rattle.smq_group.specs.within.Told.{SubmitsByPlace, ReceiptsByPlace, told_submits, told_receipts, turn_between}
+use Rattle.smq_group.specs.within.Walked.{members_in}
 use Rattle.smq_group.proofs.Changing.{Moves, tells}
 
 -- what was told, of members that were read since, is what the move changed
-pub tells-call : (g : Grouping) (s s' : List (Member × Bool)) (r r' : List (Member × Said)) (i : List (Candidate × Bool)) (o : List (LinkKey × Outlook)) (key : LinkKey) (added : Added) (x y : Outlook) (changes : List Change)
+pub tells-call : (g : Grouping) (s s' : List (Member × Bool)) (r r' : List (Member × Said)) (i : List (Candidate × Bool)) (o : List (LinkKey × Group)) (key : LinkKey) (added : Added) (x y : Outlook) (changes : List Change)
     → s ≡ s' → r ≡ r' → Moves g (grouping_in s r) key added → AreStored s r i o → x ≡ outlook_in g key → outlook_at key o ≡ y
     → changes ≡ told_submits (turn_between x y) y added (members_in key s') ++ told_receipts (turn_between x y) x y added (members_in key r')
     → SubmitsByPlace (turn_between x y) (members_in key s') → ReceiptsByPlace (turn_between x y) (members_in key r') → TellsChanges g (grouping_in s r) changes

@@ -33,8 +33,8 @@ use Rattle.smq_group.specs.Matching as m
 use Rattle.smq_group.specs.Matching.{Grouping, GroupedReceipt, candidates, decider, earlier, is_decider, matches, submit_standing, receipt_standing}
 use Rattle.smq_group.specs.within.Outlooks.{decider_of, submit_standing_of, receipt_standing_of}
 use Rattle.smq_group.specs.within.Stored.{earliest_at, by_place, StandsOnce, submit_value, receipt_value, grouping_in, outlook_in}
-use Rattle.smq_group.specs.within.Told.{SubmitsByPlace, ReceiptsByPlace, members_in, change_at, same_decider, turn_between, submit_changes, receipt_changes, newcomer_submit, newcomer_receipt, rival, decider_changes, told_submits, told_receipts}
-use Rattle.smq_group.specs.within.Walked.{of_key, placed}
+use Rattle.smq_group.specs.within.Told.{SubmitsByPlace, ReceiptsByPlace, change_at, same_decider, turn_between, submit_changes, receipt_changes, newcomer_submit, newcomer_receipt, rival, decider_changes, told_submits, told_receipts}
+use Rattle.smq_group.specs.within.Walked.{members_in, of_key, placed}
 use Rattle.smq_group.proofs.Earliest.{first-is, own_key, one_key}
 use Rattle.smq_group.proofs.Placing.{at, not_none, one_of, own_place, same_place, sorted_none, sorted_one, sorted_two, swapped}
 use Rattle.smq_group.proofs.Storing.{number-less}

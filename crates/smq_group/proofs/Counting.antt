@@ -1,10 +1,12 @@
 -- The submits of a key by their number: as many as its outlook says, and a newcomer that is the only one.
-use Rattle.std.proofs.Common.{ℕ, ◌≡◌, ◌≤◌, ◌+◌, ◌-◌, length, Bool, true, false, cond, List, [], ◌∷◌, Some, None, refl, sym, ap, ◌∙◌, subst, map, filter, arith}
-use Rattle.std.specs.Prelude.{count_by}
-use Rattle.std.specs.Map.{lookup, remove_entry}
+use Rattle.std.proofs.Common.{ℕ, ◌≡◌, ◌≤◌, ◌<◌, ◌^◌, ◌+◌, ◌-◌, ◌++◌, length, Bool, true, false, cond, List, [], ◌∷◌, Some, None, refl, sym, ap, ◌∙◌, map, filter, arith}
+use Rattle.std.specs.Prelude.{◌==◌, ◌&&◌, not, min, count_by, Option}
+use Rattle.std.specs.Option.{option_or}
+use Rattle.std.specs.List.Sorted.{IsStrictlySortedBy}
+use Rattle.std.specs.Map.{keys_of, lookup, remove_entry}
 use Rattle.std.specs.BTreeMap.{is_at, insert_entry}
 use Rattle.std.specs.FinMap.{from_entries, get, get-from_entries}
-use Rattle.std.proofs.lemmas.Bool.{eqb-true, false≢true}
+use Rattle.std.proofs.lemmas.Bool.{eqb-true, eqb-false, false≢true}
 use Rattle.smq_kit.specs.declared.place.Place.{Place}
 use Rattle.smq_kit.specs.declared.link_key.LinkKey.{LinkKey}
 use Rattle.smq_kit.specs.Maps.{number_of}
@@ -12,26 +14,29 @@ use Rattle.smq_kit.specs.Orders.{place_cmp}
 use Rattle.smq_kit.specs.LinkKeys.{same_key}
 use Rattle.smq_kit.proofs.Comparisons.{is_equal}
 use Rattle.smq_kit.proofs.PlaceOrders.{places_total}
-use Rattle.smq_group.specs.declared.changes.Added.{Added}
+use Rattle.smq_group.specs.declared.change.Change.{Change}
+use Rattle.smq_shelf.specs.Places.{content_of}
+use Rattle.smq_shelf.proofs.Changes.{lookup-insert_entry}
 use Rattle.smq_group.specs.declared.changes.Added.TheVariants as put
 use Rattle.smq_group.specs.declared.changes.Turn.{Turn}
-use Rattle.smq_group.specs.declared.changes.Turn.TheVariants.{Newcomer}
+use Rattle.smq_group.specs.declared.changes.Turn.TheVariants.{Each, Deciders, Newcomer}
 use Rattle.smq_group.specs.declared.member.Member.{Member}
 use Rattle.smq_group.specs.declared.member.Candidate.{Candidate}
 use Rattle.smq_group.specs.declared.member.Said.{Said}
+use Rattle.smq_group.specs.declared.outlook.Group.{Group}
 use Rattle.smq_group.specs.declared.outlook.Outlook.{Outlook}
 use Rattle.smq_group.specs.Matching.{GroupedReceipt, matches}
 use Rattle.smq_group.specs.within.KeyLaws.{one_member}
 use Rattle.smq_group.specs.within.Orders.{kept_member_cmp}
-use Rattle.smq_group.specs.within.Outlooks.{outlook_at}
+use Rattle.smq_group.specs.within.Outlooks.{one_more, outlook_at}
 use Rattle.smq_group.specs.within.Stored.{AreStored, StandsOnce, by_place, grouping_in, member_of, receipt_value, received, submit_value}
-use Rattle.smq_group.specs.within.Told.{HoldsAdded, SubmitsByPlace, is_alone, members_in, newcomer_submit, submit_changes, told_submits}
-use Rattle.smq_group.specs.within.Walked.{of_key, placed}
+use Rattle.smq_group.specs.within.Told.{IsKnown, only_left, same_decider, submit_changes, told_submits, turn_between}
+use Rattle.smq_group.specs.within.Walked.{members_in, of_key, only_of, placed}
 use Rattle.smq_group.proofs.Earliest.{own_key}
-use Rattle.smq_group.proofs.Placing.{once-insert, once-remove, sorted_one}
+use Rattle.smq_group.proofs.Placing.{members_total, not_none, once-insert, once-remove, sorted_none, sorted_one}
 use Rattle.smq_group.proofs.Storing.{absent, counted-less, counted-more, empty_entries, from-cons, number-more, received-more, received-less}
 use Rattle.smq_group.proofs.StoringReceipts.{has-less, has-more}
-use Rattle.smq_group.proofs.Walking.{none_of}
+use Rattle.smq_group.proofs.Walking.{members-fit, none_of}
 
 -- ---- the only submit of a key
 
@@ -73,26 +78,60 @@ module _ (key : LinkKey) (place : Place) (v : Bool) where
       step false true t s h n rest = let some = held es h in absurd (omega (arith, n, some))
       step false false t s h n rest = rest h n
 
--- a newcomer that is alone is all that is told of submits
-module _ (t : Turn) (key : LinkKey) (after : Outlook) (es : List (Member × Bool)) (count : after.matches ≡ length (members_in key es)) where
-  alone : (place : Place) → HoldsAdded key (put.Submit place) es → is_alone after (put.Submit place) ≡ true → members_in key es ≡ (place, true) ∷ []
-  alone place there one = only key place true es there (sym count ∙ eqb-true after.matches 1 one)
+-- ---- the place of the only one
 
-  pub alone-told : (added : Added) → HoldsAdded key added es → is_alone after added ≡ true → newcomer_submit after added ≡ told_submits t after added (members_in key es)
-  alone-told (put.Submit place) there one = by t
-    where
-      by : (t : Turn) → newcomer_submit after (put.Submit place) ≡ told_submits t after (put.Submit place) (members_in key es)
-      by Newcomer = refl
-      by _ = sym (ap (submit_changes after) (alone place there one))
-  alone-told _ there one = absurd (false≢true one)
+-- of other than one there is no only one
+none-alone : {V : Type 0} (ms : List (Place × V)) → (length ms ≡ 1 → ⊥) → only_of ms ≡ None
+none-alone [] n = refl
+none-alone (m ∷ []) n = absurd (n refl)
+none-alone (m ∷ l ∷ ms) n = refl
 
-  pub alone-by_place : (added : Added) → HoldsAdded key added es → is_alone after added ≡ true → SubmitsByPlace t (members_in key es)
-  alone-by_place (put.Submit place) there one = subst (SubmitsByPlace t) (sym (alone place there one)) (by t)
-    where
-      by : (t : Turn) → SubmitsByPlace t ((place, true) ∷ [])
-      by Newcomer = tt
-      by _ = sorted_one place
-  alone-by_place _ there one = absurd (false≢true one)
+one-alone : {V : Type 0} (ms : List (Place × V)) → length ms ≡ 1 → (p : Place) × (only_of ms ≡ Some p)
+one-alone [] n = absurd (omega (arith, n))
+one-alone (m ∷ []) n = (m.0, refl)
+one-alone (m ∷ l ∷ ms) n = absurd (omega (arith, n))
+
+pub known-is : (o : Option Place) (ms : List (Place × Bool)) → o ≡ only_of ms → IsKnown o ms
+known-is None ms e = tt
+known-is (Some p) ms e = sym e
+
+-- it stands alone
+pub known-by_place : (o : Option Place) (ms : List (Place × Bool)) (place : Place) → IsKnown o ms → o ≡ Some place → IsStrictlySortedBy place_cmp (keys_of ms)
+known-by_place None ms place k e = absurd cc
+known-by_place (Some p) [] place k e = sorted_none
+known-by_place (Some p) (m ∷ []) place k e = sorted_one m.0
+known-by_place (Some p) (m ∷ l ∷ ms) place k e = absurd cc
+
+left-none : (n : ℕ) (cs : List Change) → (n == 1) ≡ false → only_left n cs ≡ None
+left-none n [] t = refl
+left-none n (c ∷ cs) t = ap (λ b. cond b (Some c.place) None) t
+
+-- where a receipt goes it is as before
+pub only-stays : (o : Option Place) (ms : List (Place × Bool)) (n : ℕ) (cs : List Change) → o ≡ only_of ms → n ≡ length ms → option_or o (only_left n cs) ≡ only_of ms
+only-stays (Some p) ms n cs e l = e
+only-stays None ms n cs e l = by (n == 1) refl
+  where
+    by : (b : Bool) → (n == 1) ≡ b → only_left n cs ≡ only_of ms
+    by false t = left-none n cs t ∙ e
+    by true t = let one = one-alone ms (sym l ∙ eqb-true n 1 t) in absurd (not_none one.0 (only_of ms) (sym e) one.1)
+
+-- where a submit goes and one is left, that is told first
+pub only-told : (b a : Outlook) (ms : List (Place × Bool)) (rest changes : List Change) → b.matches ≡ a.matches + 1 → a.matches ≡ length ms → changes ≡ told_submits (turn_between b a) a put.Nothing ms ++ rest
+    → only_left a.matches changes ≡ only_of ms
+only-told b a ms rest changes less count told = by (a.matches == 1) refl
+  where
+    first : (xs : List (Place × Bool)) → length xs ≡ 1 → (a.matches == 1) ≡ true → only_left a.matches (submit_changes a xs ++ rest) ≡ only_of xs
+    first [] n t = absurd (omega (arith, n))
+    first (m ∷ []) n t = ap (λ b. cond b (Some m.0) None) t
+    first (m ∷ l ∷ xs) n t = absurd (omega (arith, n))
+
+    by : (u : Bool) → (a.matches == 1) ≡ u → only_left a.matches changes ≡ only_of ms
+    by false t = left-none a.matches changes t ∙ sym (none-alone ms (λ one. eqb-false a.matches 1 t (count ∙ one)))
+    by true t =
+        let one : a.matches ≡ 1 = eqb-true a.matches 1 t in
+        let two : b.matches ≡ 2 = omega (arith, less, one) in
+        let turn : turn_between b a ≡ Each = ap (λ c. cond (not c) Each (cond ((a.matches == 1) && not (same_decider b a)) Deciders Newcomer)) (λ i. min (two i) 2 == min (one i) 2) in
+        ap (only_left a.matches) (told ∙ ap (λ (x : Turn). told_submits x a put.Nothing ms ++ rest) turn) ∙ first ms (sym count ∙ one) t
 
 -- ---- how many submits a key has
 
@@ -121,7 +160,12 @@ submits-listed key = number-listed submit_value key (same_key key) (λ k v. refl
 receipts-listed : (key : LinkKey) (r : List (Member × Said)) → StandsOnce receipt_value r → number_of (λ (y : GroupedReceipt). same_key key y.key) (from_entries {R = place_cmp} (map (by_place receipt_value) r)) ≡ length (members_in key r)
 receipts-listed key = number-listed receipt_value key (λ (y : GroupedReceipt). same_key key y.key) (λ k v. refl)
 
-module _ (s : List (Member × Bool)) (r : List (Member × Said)) (i : List (Candidate × Bool)) (o : List (LinkKey × Outlook)) (key : LinkKey) (before : Outlook) (st : AreStored s r i o) (kept : before ≡ outlook_at key o) where
+-- a number of members of a key that grows by one is no greater than that of places
+pub roomy : {V : Type 0} (key : LinkKey) (n count : ℕ) (places : List (Member × Option V)) (content : List (Member × V)) → n + 1 ≡ length (members_in key content) → content ≡ content_of places
+    → count ≡ length places → count < 2 ^ 63 → one_more n ≡ n + 1
+roomy key n count places content more shown is small = let fit = members-fit false key places content shown in omega (arith, more, fit, is, small)
+
+module _ (s : List (Member × Bool)) (r : List (Member × Said)) (i : List (Candidate × Bool)) (o : List (LinkKey × Group)) (key : LinkKey) (before : Outlook) (st : AreStored s r i o) (kept : before ≡ outlook_at key o) where
   known : before.matches ≡ matches (grouping_in s r) key
   known = ap (λ (x : Outlook). x.matches) (kept ∙ st.indexed.outlook key)
 
@@ -144,6 +188,23 @@ module _ (s : List (Member × Bool)) (r : List (Member × Said)) (i : List (Cand
       let same = ap (λ (x : List (Member × Bool)). length (members_in key x)) is in
       let was = known in
       omega (arith, more, listed, same, was)
+
+  -- the only submit then
+  pub only-more : (place : Place) (s' : List (Member × Bool)) → get (grouping_in s r).submits place ≡ None → s' ≡ insert_entry kept_member_cmp s (member_of key place) true
+      → cond (before.matches == 0) (Some place) None ≡ only_of (members_in key s')
+  only-more place s' none is = by (before.matches == 0) refl
+    where
+      count : before.matches + 1 ≡ length (members_in key s')
+      count = counted-add place s' none is
+
+      by : (b : Bool) → (before.matches == 0) ≡ b → cond b (Some place) None ≡ only_of (members_in key s')
+      by true t =
+          let zero = eqb-true before.matches 0 t in
+          let all = count in
+          let there : lookup (is_at (kept_member_cmp (member_of key place))) s' ≡ Some true =
+          ap (lookup (is_at (kept_member_cmp (member_of key place)))) is ∙ lookup-insert_entry members_total (member_of key place) true s in
+          sym (ap (λ (ms : List (Place × Bool)). only_of ms) (only key place true s' there (omega (arith, zero, all))))
+      by false t = sym (none-alone (members_in key s') (λ one. let all = count in eqb-false before.matches 0 t (omega (arith, one, all))))
 
   -- with one submit less
   pub counted-remove : (place : Place) (s' : List (Member × Bool)) → get (grouping_in s r).submits place ≡ Some key → s' ≡ remove_entry (is_at (kept_member_cmp (member_of key place))) s → before.matches - 1 ≡ length (members_in key s')

@@ -2,7 +2,8 @@
 use Rattle.std.proofs.Common.{ℕ, ◌≡◌, ◌+◌, ◌-◌, Bool, true, false, cond, List, [], ◌∷◌, Option, Some, None, refl, sym, ap, ◌∙◌, arith}
 use Rattle.std.specs.Prelude.{map, filter, count_by, option_map, ◌&&◌, not, IsSome, is_some}
 use Rattle.std.specs.List.{reduce}
-use Rattle.std.specs.Ordering.{eq_by_cmp}
+use Rattle.std.specs.declared.cmp.Ordering.TheVariants.{Less, Equal, Greater}
+use Rattle.std.specs.Ordering.{eq_by_cmp, is_eq, match_ordering}
 use Rattle.std.specs.Map.{lookup, remove_entry}
 use Rattle.std.specs.BTreeMap.{is_at, insert_entry}
 use Rattle.std.specs.FinMap.{FinMap, entries, get, insert, remove, from_entries, get-from_entries, get-insert, get-remove, same_map}
@@ -19,12 +20,15 @@ use Rattle.smq_kit.proofs.MapLemmas as maps
 use Rattle.smq_group.specs.declared.member.Member.{Member}
 use Rattle.smq_group.specs.declared.member.Candidate.{Candidate}
 use Rattle.smq_group.specs.declared.member.Said.{Said}
+use Rattle.smq_group.specs.declared.outlook.Group.{Group}
 use Rattle.smq_group.specs.declared.outlook.Outlook.{Outlook}
 use Rattle.smq_group.specs.Matching.{Grouping, GroupedReceipt, matches, candidates, earlier}
 use Rattle.smq_group.specs.Groups.{with_submit, without_submit}
+use Rattle.smq_group.specs.within.KeyLaws.{one_member}
 use Rattle.smq_group.specs.within.Orders.{kept_member_cmp}
-use Rattle.smq_group.specs.within.Outlooks.{an_outlook, is_decided_by, outlook_at, no_outlook}
+use Rattle.smq_group.specs.within.Outlooks.{an_outlook, group_at, is_decided_by, only_at, outlook_at, no_outlook}
 use Rattle.smq_group.specs.within.Stored.{grouping_in, submit_value, is_candidate, earliest_at, outlook_in, received, AreStored, by_place, member_of, waits}
+use Rattle.smq_group.specs.within.Walked.{members_in, of_key, only_of, placed}
 use Rattle.smq_group.proofs.Earliest.{HasMore, HasLess, one_key, own_key}
 use Rattle.smq_group.proofs.Placing.{at, found, with-member, without-member, once-insert, once-remove}
 
@@ -46,6 +50,7 @@ none-stored = record {
     candidates = λ c. sym (none_candidate c);
     outlook = λ key. sym (none_outlook key);
   };
+  only = λ key. refl;
 }
   where
     none_outlook : (key : LinkKey) → outlook_in (grouping_in [] []) key ≡ no_outlook
@@ -65,13 +70,52 @@ share_of test x b e = sum_by-cons (λ y. cond (test y) 1 0) x [] ∙ ap (λ b. c
     one false = refl
 
 -- outlooks of which that of one key alone is kept anew are those of a grouping that changed at that key alone
-pub outlooks-anew : (g h : Grouping) (o o' : List (LinkKey × Outlook)) (key : LinkKey) → ((k : LinkKey) → outlook_at k o ≡ outlook_in g k) → ((k : LinkKey) → same_key k key ≡ false → outlook_in h k ≡ outlook_in g k)
-    → outlook_at key o' ≡ outlook_in h key → ((other : LinkKey) → is_at (hashed_key_cmp other) key ≡ false → outlook_at other o' ≡ outlook_at other o) → (k : LinkKey) → outlook_at k o' ≡ outlook_in h k
+pub outlooks-anew : (g h : Grouping) (o o' : List (LinkKey × Group)) (key : LinkKey) → ((k : LinkKey) → outlook_at k o ≡ outlook_in g k) → ((k : LinkKey) → same_key k key ≡ false → outlook_in h k ≡ outlook_in g k)
+    → outlook_at key o' ≡ outlook_in h key → ((other : LinkKey) → is_at (hashed_key_cmp other) key ≡ false → group_at other o' ≡ group_at other o) → (k : LinkKey) → outlook_at k o' ≡ outlook_in h k
 outlooks-anew g h o o' key was stays here elsewhere k = by (same_key k key) refl
   where
     by : (b : Bool) → same_key k key ≡ b → outlook_at k o' ≡ outlook_in h k
     by true t = let same : k ≡ key = one_key k key t in ap (λ (x : LinkKey). outlook_at x o') same ∙ here ∙ sym (ap (outlook_in h) same)
-    by false t = elsewhere k (hashed-same k key ∙ t) ∙ was k ∙ sym (stays k t)
+    by false t = ap (λ (x : Group). x.outlook) (elsewhere k (hashed-same k key ∙ t)) ∙ was k ∙ sym (stays k t)
+
+-- and so are the only submits
+pub only-anew : (s s' : List (Member × Bool)) (o o' : List (LinkKey × Group)) (key : LinkKey) → ((k : LinkKey) → only_at k o ≡ only_of (members_in k s)) → ((k : LinkKey) → same_key k key ≡ false → members_in k s' ≡ members_in k s)
+    → only_at key o' ≡ only_of (members_in key s') → ((other : LinkKey) → is_at (hashed_key_cmp other) key ≡ false → group_at other o' ≡ group_at other o) → (k : LinkKey) → only_at k o' ≡ only_of (members_in k s')
+only-anew s s' o o' key was stays here elsewhere k = by (same_key k key) refl
+  where
+    by : (b : Bool) → same_key k key ≡ b → only_at k o' ≡ only_of (members_in k s')
+    by true t = let same : k ≡ key = one_key k key t in ap (λ (x : LinkKey). only_at x o') same ∙ here ∙ sym (ap (λ (x : LinkKey). only_of (members_in x s')) same)
+    by false t = ap (λ (x : Group). x.only) (elsewhere k (hashed-same k key ∙ t)) ∙ was k ∙ sym (ap (λ (ms : List (Place × Bool)). only_of ms) (stays k t))
+
+-- the members of a key stay where one of another comes or goes
+module _ (k : LinkKey) (m : Member) (other : same_key k m.key ≡ false) where
+  foreign : (x : Member) → kept_member_cmp m x ≡ Equal → same_key k x.key ≡ false
+  foreign x r = ap (λ (y : Member). same_key k y.key) (sym (one_member m x r)) ∙ other
+
+module _ {V : Type 0} (k : LinkKey) (m : Member) (other : same_key k m.key ≡ false) where
+  abbrev own : List (Member × V) → List (Member × V)
+  own es = filter (of_key k) es
+
+  with_first : (b : Bool) (e : Member × V) (xs ys : List (Member × V)) → map placed xs ≡ map placed ys → map placed (cond b (e ∷ xs) xs) ≡ map placed (cond b (e ∷ ys) ys)
+  with_first true e xs ys h = ap (λ (ms : List (Place × V)). placed e ∷ ms) h
+  with_first false e xs ys h = h
+
+  pub members-put : (v : V) (es : List (Member × V)) → members_in k (insert_entry kept_member_cmp es m v) ≡ members_in k es
+  members-put v [] = ap (λ b. map placed (cond b ((m, v) ∷ []) [])) other
+  members-put v (e ∷ es) =
+      elim (kept_member_cmp m e.0) as (λ r. kept_member_cmp m e.0 ≡ r → members_in k (match_ordering r ((m, v) ∷ e ∷ es) ((e.0, v) ∷ es) (e ∷ insert_entry kept_member_cmp es m v)) ≡ members_in k (e ∷ es)) [
+        | Less ↦ λ r. ap (λ b. map placed (cond b ((m, v) ∷ own (e ∷ es)) (own (e ∷ es)))) other
+        | Equal ↦ λ r. (λ i. map placed (cond (foreign k m other e.0 r i) ((e.0, v) ∷ own es) (own es))) ∙ sym (λ i. map placed (cond (foreign k m other e.0 r i) (e ∷ own es) (own es)))
+        | Greater ↦ λ r. with_first (same_key k e.0.key) e (own (insert_entry kept_member_cmp es m v)) (own es) (members-put v es)
+      ] refl
+
+  pub members-out : (es : List (Member × V)) → members_in k (remove_entry (is_at (kept_member_cmp m)) es) ≡ members_in k es
+  members-out [] = refl
+  members-out (e ∷ es) =
+      elim (kept_member_cmp m e.0) as (λ r. kept_member_cmp m e.0 ≡ r → members_in k (cond (is_eq r) es (e ∷ remove_entry (is_at (kept_member_cmp m)) es)) ≡ members_in k (e ∷ es)) [
+        | Equal ↦ λ r. sym (λ i. map placed (cond (foreign k m other e.0 r i) (e ∷ own es) (own es)))
+        | _ ↦ λ r. with_first (same_key k e.0.key) e (own (remove_entry (is_at (kept_member_cmp m)) es)) (own es) (members-out es)
+      ] refl
 
 -- ---- how many pass a test, with one more or less
 
@@ -91,23 +135,23 @@ module _ {X : Type 0} (test : X → Bool) (m : FinMap place_cmp X) (x : X) (plac
 
 -- how many receipts have a key, with one more or less
 module _ (g h : Grouping) (place : Place) (r : GroupedReceipt) (k : LinkKey) (b : Bool) where
-  abbrev of_key : GroupedReceipt → Bool
-  of_key y = same_key k y.key
+  abbrev has_key : GroupedReceipt → Bool
+  has_key y = same_key k y.key
 
   pub received-more : HasMore g h place r → same_key k r.key ≡ b → received h k ≡ received g k + cond b 1 0
   received-more more e =
-      ap (number_of of_key) (same_map places_total places_exact h.receipts (insert g.receipts place r) (λ q. more.each q ∙ sym (get-insert places_total g.receipts place r q)))
-      ∙ number-more of_key g.receipts r place b more.absent e
+      ap (number_of has_key) (same_map places_total places_exact h.receipts (insert g.receipts place r) (λ q. more.each q ∙ sym (get-insert places_total g.receipts place r q)))
+      ∙ number-more has_key g.receipts r place b more.absent e
 
   pub received-less : HasLess g h place r → same_key k r.key ≡ b → received h k + cond b 1 0 ≡ received g k
   received-less less e =
-      ap (λ (m : FinMap place_cmp GroupedReceipt). number_of of_key m + cond b 1 0)
+      ap (λ (m : FinMap place_cmp GroupedReceipt). number_of has_key m + cond b 1 0)
       (same_map places_total places_exact h.receipts (remove g.receipts place) (λ q. less.each q ∙ sym (get-remove places_total g.receipts place q)))
-      ∙ number-less of_key g.receipts r place b less.there e
+      ∙ number-less has_key g.receipts r place b less.there e
 
 -- ---- a submit more
 
-module _ (s : List (Member × Bool)) (r : List (Member × Said)) (i : List (Candidate × Bool)) (o o' : List (LinkKey × Outlook)) (key : LinkKey) (place : Place) where
+module _ (s : List (Member × Bool)) (r : List (Member × Said)) (i : List (Candidate × Bool)) (o o' : List (LinkKey × Group)) (key : LinkKey) (place : Place) where
   abbrev more : List (Member × Bool)
   more = insert_entry kept_member_cmp s (member_of key place) true
 
@@ -125,10 +169,10 @@ module _ (s : List (Member × Bool)) (r : List (Member × Said)) (i : List (Cand
 
   -- with one submit more, where its key's outlook counts it and the others stay
   pub submit-stored : at submit_value place s ≡ None → AreStored s r i o
-      → outlook_at key o' ≡ record (outlook_at key o) { matches = (outlook_at key o).matches + 1 }
-      → ((other : LinkKey) → is_at (hashed_key_cmp other) key ≡ false → outlook_at other o' ≡ outlook_at other o)
+      → outlook_at key o' ≡ record (outlook_at key o) { matches = (outlook_at key o).matches + 1 } → only_at key o' ≡ only_of (members_in key more)
+      → ((other : LinkKey) → is_at (hashed_key_cmp other) key ≡ false → group_at other o' ≡ group_at other o)
       → AreStored more r i o'
-  submit-stored none st here elsewhere = record {
+  submit-stored none st here alone elsewhere = record {
     submits_once = once-insert submit_value (member_of key place) true s none st.submits_once;
     receipts_once = st.receipts_once;
     indexed = record {
@@ -138,6 +182,7 @@ module _ (s : List (Member × Bool)) (r : List (Member × Said)) (i : List (Cand
           (here ∙ ap (λ (x : Outlook). record x { matches = x.matches + 1 }) (st.indexed.outlook key) ∙ ap (outlook_of key) (sym (counted-more none key true (own_key key))))
           elsewhere;
     };
+    only = only-anew s more o o' key st.only (λ k t. members-put k (member_of key place) t true s) alone elsewhere;
   }
 
   -- a submit that is there is a member
@@ -154,10 +199,10 @@ module _ (s : List (Member × Bool)) (r : List (Member × Said)) (i : List (Cand
 
   -- with one submit less, where its key's outlook counts it no more and the others stay
   pub submit-taken : get (grouping_in s r).submits place ≡ Some key → AreStored s r i o
-      → outlook_at key o' ≡ record (outlook_at key o) { matches = (outlook_at key o).matches - 1 }
-      → ((other : LinkKey) → is_at (hashed_key_cmp other) key ≡ false → outlook_at other o' ≡ outlook_at other o)
+      → outlook_at key o' ≡ record (outlook_at key o) { matches = (outlook_at key o).matches - 1 } → only_at key o' ≡ only_of (members_in key less)
+      → ((other : LinkKey) → is_at (hashed_key_cmp other) key ≡ false → group_at other o' ≡ group_at other o)
       → AreStored less r i o'
-  submit-taken there st here elsewhere = record {
+  submit-taken there st here alone elsewhere = record {
     submits_once = once-remove submit_value (is_at (kept_member_cmp (member_of key place))) s st.submits_once;
     receipts_once = st.receipts_once;
     indexed = record {
@@ -167,6 +212,7 @@ module _ (s : List (Member × Bool)) (r : List (Member × Said)) (i : List (Cand
           (here ∙ ap (λ (x : Outlook). record x { matches = x.matches - 1 }) (st.indexed.outlook key) ∙ ap (outlook_of key) one_less)
           elsewhere;
     };
+    only = only-anew s less o o' key st.only (λ k t. members-out k (member_of key place) t s) alone elsewhere;
   }
     where
       one_less : matches (grouping_in s r) key - 1 ≡ matches (grouping_in less r) key
@@ -185,7 +231,7 @@ module _ (s : List (Member × Bool)) (r : List (Member × Said)) (key : LinkKey)
   grouping-more none = λ i. record { submits = with-member submit_value (member_of key place) true s (absent none) i; receipts = (grouping_in s r).receipts }
 
   -- the grouping with one submit less
-  pub grouping-less : (i : List (Candidate × Bool)) (o : List (LinkKey × Outlook)) → AreStored s r i o → get (grouping_in s r).submits place ≡ Some key
+  pub grouping-less : (i : List (Candidate × Bool)) (o : List (LinkKey × Group)) → AreStored s r i o → get (grouping_in s r).submits place ≡ Some key
       → grouping_in (remove_entry (is_at (kept_member_cmp (member_of key place))) s) r ≡ without_submit (grouping_in s r) place
   grouping-less i o st there =
       let h = held s r i o o key place there in

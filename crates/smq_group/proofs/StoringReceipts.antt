@@ -1,5 +1,5 @@
 -- The four maps hold a grouping with one receipt more or less.
-use Rattle.std.proofs.Common.{◌≡◌, ◌-◌, arith, Bool, true, false, cond, List, Option, Some, None, refl, sym, ap, ◌∙◌}
+use Rattle.std.proofs.Common.{◌≡◌, ◌+◌, ◌-◌, arith, subst, Bool, true, false, cond, List, Option, Some, None, refl, sym, ap, ◌∙◌}
 use Rattle.std.specs.Prelude.{◌&&◌, ◌||◌, not, map, option_map, IsSome, is_some}
 use Rattle.std.specs.Map.{keys_of, lookup, remove_entry}
 use Rattle.std.specs.BTreeMap.{is_at, insert_entry}
@@ -16,25 +16,27 @@ use Rattle.smq_shelf.proofs.Changes.{lookup-insert_entry, lookup-insert_other, l
 use Rattle.smq_group.specs.declared.member.Member.{Member}
 use Rattle.smq_group.specs.declared.member.Candidate.{Candidate}
 use Rattle.smq_group.specs.declared.member.Said.{Said}
+use Rattle.smq_group.specs.declared.outlook.Group.{Group}
+use Rattle.smq_group.specs.declared.outlook.More.TheVariants as newcomer
 use Rattle.smq_group.specs.declared.outlook.Outlook.{Outlook}
 use Rattle.smq_group.specs.declared.outlook.Earliest.{Earliest}
 use Rattle.smq_group.specs.Matching.{Grouping, GroupedReceipt, matches}
 use Rattle.smq_group.specs.Groups.{with_receipt, without_receipt}
 use Rattle.smq_group.specs.within.KeyLaws.{one_candidate}
 use Rattle.smq_group.specs.within.Orders.{kept_member_cmp, kept_candidate_cmp}
-use Rattle.smq_group.specs.within.Outlooks.{an_outlook, later_of, outlook_at, outlook_with}
+use Rattle.smq_group.specs.within.Outlooks.{an_outlook, group_at, group_with, later_of, one_more, only_at, outlook_at, outlook_with}
 use Rattle.smq_group.specs.within.Stored.{grouping_in, receipt_value, earliest_at, gone_of, received, AreStored, by_place, member_of, waits, with_waiting, without_waiting}
-use Rattle.smq_group.specs.within.Walked.{candidate_at, first_candidate_after}
+use Rattle.smq_group.specs.within.Walked.{candidate_at, first_candidate_after, members_in, only_of}
 use Rattle.smq_group.proofs.CandidateWalks.{candidates_total}
 use Rattle.smq_group.proofs.Earliest.{HasMore, HasLess, decider_in, is_decided, decider-more, decider-elsewhere, decider-stays, decider-next, own_key}
 use Rattle.smq_group.proofs.Waiting.{decided-own, gone-waited, is_the, waits-decided, waits-less, waits-more}
 use Rattle.smq_group.proofs.Placing.{at, found, one_of, with-member, without-member, once-insert, once-remove}
-use Rattle.smq_group.proofs.Storing.{outlooks-anew, received-more, received-less}
+use Rattle.smq_group.proofs.Storing.{only-anew, outlooks-anew, received-more, received-less}
 
 abbrev own : Place → Said → Earliest
 own place said = earliest_at (said.moment, place)
 
-module _ (s : List (Member × Bool)) (r : List (Member × Said)) (i i' : List (Candidate × Bool)) (o o' : List (LinkKey × Outlook)) (key : LinkKey) (place : Place) (said : Said) where
+module _ (s : List (Member × Bool)) (r : List (Member × Said)) (i i' : List (Candidate × Bool)) (o o' : List (LinkKey × Group)) (key : LinkKey) (place : Place) (said : Said) where
   abbrev member : Member
   member = member_of key place
 
@@ -82,10 +84,11 @@ module _ (s : List (Member × Bool)) (r : List (Member × Said)) (i i' : List (C
   -- with one receipt more, where its key's outlook has it and the others stay
   pub receipt-stored : get g.receipts place ≡ None → AreStored s r i o
       → i' ≡ with_waiting key (later_of (outlook_at key o).decider (own place said) said.decides) true i
-      → outlook_at key o' ≡ outlook_with (outlook_at key o) (earliest_at (said.moment, place)) said.decides
-      → ((other : LinkKey) → is_at (hashed_key_cmp other) key ≡ false → outlook_at other o' ≡ outlook_at other o)
+      → one_more (outlook_at key o).receipts ≡ (outlook_at key o).receipts + 1
+      → group_at key o' ≡ group_with (group_at key o) (newcomer.Receipt (own place said) said.decides)
+      → ((other : LinkKey) → is_at (hashed_key_cmp other) key ≡ false → group_at other o' ≡ group_at other o)
       → AreStored s more i' o'
-  receipt-stored none st put here elsewhere = record {
+  receipt-stored none st put room here elsewhere = record {
     submits_once = st.submits_once;
     receipts_once = once-insert receipt_value member said r (not_there none) st.receipts_once;
     indexed = record {
@@ -95,13 +98,17 @@ module _ (s : List (Member × Bool)) (r : List (Member × Said)) (i i' : List (C
           ∙ ap (λ b. cond b (Some true) None) (waits-more g (grouping_in s more) place value (has-more none) c);
       outlook = outlooks-anew g (grouping_in s more) o o' key st.indexed.outlook
           (λ k t. λ j. an_outlook (matches g k) (elsewhere_more none k t j) (decider-more g (grouping_in s more) place value (has-more none) k false said.decides t refl j))
-          (here ∙ ap (λ (x : Outlook). outlook_with x (earliest_at (said.moment, place)) said.decides) (st.indexed.outlook key)
-          ∙ sym (λ j. an_outlook (matches g key) (received-more g (grouping_in s more) place value key true (has-more none) (own_key key) j)
+          (ap (λ (x : Group). x.outlook) here ∙ ap (λ (x : Outlook). outlook_with x (earliest_at (said.moment, place)) said.decides) (st.indexed.outlook key)
+          ∙ sym (λ j. an_outlook (matches g key) ((received-more g (grouping_in s more) place value key true (has-more none) (own_key key) ∙ sym roomy) j)
           (decider-more g (grouping_in s more) place value (has-more none) key true said.decides (own_key key) refl j)))
           elsewhere;
     };
+    only = only-anew s s o o' key st.only (λ k t. refl) (ap (λ (x : Group). x.only) here ∙ st.only key) elsewhere;
   }
     where
+      roomy : one_more (received g key) ≡ received g key + 1
+      roomy = subst (λ (x : Outlook). one_more x.receipts ≡ x.receipts + 1) (st.indexed.outlook key) room
+
       elsewhere_more : get g.receipts place ≡ None → (k : LinkKey) → same_key k key ≡ false → received (grouping_in s more) k ≡ received g k
       elsewhere_more none k t = let n = received-more g (grouping_in s more) place value k false (has-more none) t in omega (arith, n)
 
@@ -205,10 +212,10 @@ module _ (s : List (Member × Bool)) (r : List (Member × Said)) (i i' : List (C
         ∙ ap (λ b. cond b (Some true) None) (gone-waited g h place value (has-less st there l) did_decide (sym decided_before) e (sym goes ∙ is)))
 
     pub receipt-taken : i' ≡ without_waiting key w i → (IsSome w → IsStrictlySortedBy kept_candidate_cmp (keys_of i))
-        → outlook_at key o' ≡ an_outlook (outlook_at key o).matches ((outlook_at key o).receipts - 1) next
-        → ((other : LinkKey) → is_at (hashed_key_cmp other) key ≡ false → outlook_at other o' ≡ outlook_at other o)
+        → outlook_at key o' ≡ an_outlook (outlook_at key o).matches ((outlook_at key o).receipts - 1) next → only_at key o' ≡ only_of (members_in key s)
+        → ((other : LinkKey) → is_at (hashed_key_cmp other) key ≡ false → group_at other o' ≡ group_at other o)
         → AreStored s less i' o'
-    receipt-taken out so here elsewhere = record {
+    receipt-taken out so here alone elsewhere = record {
       submits_once = st.submits_once;
       receipts_once = once-remove receipt_value (is_at (kept_member_cmp member)) r st.receipts_once;
       indexed = record {
@@ -223,6 +230,7 @@ module _ (s : List (Member × Bool)) (r : List (Member × Said)) (i i' : List (C
             (here ∙ ap (λ (x : Outlook). an_outlook x.matches (x.receipts - 1) next) (st.indexed.outlook key) ∙ sym (λ j. an_outlook (matches g key) (one_less j) (new did_decide refl j)))
             elsewhere;
       };
+      only = only-anew s s o o' key st.only (λ k t. refl) alone elsewhere;
     }
       where
         elsewhere_less : (k : LinkKey) → same_key k key ≡ false → received h k ≡ received g k

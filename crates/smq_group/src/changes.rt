@@ -1,15 +1,19 @@
 //! Which members' standings a change of a group changes.
 ghost use Rattle.std.specs.Prelude.{◌≡◌, ◌≤◌, ◌+◌, length, false, [], ◌∷◌, ◌++◌, IfOk, OnOk, OnErr};
 ghost use Rattle.std.specs.BTreeMap.{is_at};
+ghost use Rattle.std.specs.List.Sorted.{IsStrictlySortedBy};
+ghost use Rattle.std.specs.Map.{keys_of};
+ghost use Rattle.smq_kit.specs.Orders.{place_cmp};
 ghost use Rattle.smq_kit.specs.HashedKeys.{hashed_key_cmp};
 ghost use Rattle.smq_kit.specs.declared.link_key.LinkKey.{LinkKey};
 ghost use Rattle.smq_shelf.specs.Walks.{Stays};
-ghost use Rattle.smq_group.specs.within.Outlooks.{decider_of, outlook_at};
-ghost use Rattle.smq_group.specs.within.Told.{HoldsAdded, ReceiptsByPlace, SubmitsByPlace, change_at, decider_changes, is_alone, members_in, newcomer_receipt, newcomer_submit, receipt_changes, rival, same_decider, submit_changes, told_receipts, told_submits, turn_between};
-ghost use Rattle.smq_group.specs.within.Walked.{member_key, vacant_of};
+ghost use Rattle.smq_group.specs.declared.changes.Added.TheVariants.{Nothing};
+ghost use Rattle.smq_group.specs.within.Outlooks.{decider_of, group_at};
+ghost use Rattle.smq_group.specs.within.Told.{IsKnown, ReceiptsByPlace, SubmitsByPlace, change_at, decider_changes, kept_group, newcomer_receipt, newcomer_submit, only_left, receipt_changes, rival, same_decider, submit_changes, told_receipts, told_submits, turn_between};
+ghost use Rattle.smq_group.specs.within.Walked.{member_key, members_in, vacant_of};
 
 use crate::member::{Member, Said};
-use crate::outlook::{Earliest, Outlook, keep_outlook};
+use crate::outlook::{Group, Outlook, keep_outlook};
 use crate::walks::members_of;
 use crate::{Change, Standing};
 use smq_kit::{HashedKey, Place};
@@ -35,30 +39,78 @@ pub(crate) enum Turn {
     Newcomer,
 }
 
-/// Keeps the outlook that a key has now, and tells the changes. The members are those after the change. An error changes
-/// nothing.
+/// Tells the changes. The members are those after the change, and `only` is the place of the key's only submit, where that is
+/// known.
 pub(crate) fn tell(
     alloc: Global,
     submits: &mut Kept<Member, bool>,
     receipts: &mut Kept<Member, Said>,
-    outlooks: &mut Kept<HashedKey, Outlook>,
     key: &HashedKey,
     before: &Outlook,
     after: &Outlook,
+    only: Option<Place>,
     added: Added,
 ) -> Result<Vec<Change>, AllocError>
     requires counted { after.now.matches ≡ length (members_in key.now submits.old.content) }
     requires received { after.now.receipts ≡ length (members_in key.now receipts.old.content) }
-    requires added { HoldsAdded key.now added submits.old.content }
+    requires only { IsKnown only (members_in key.now submits.old.content) }
     ensures submits { Stays submits.old submits.new }
     ensures receipts { Stays receipts.old receipts.new }
-    ensures here { OnOk result (outlook_at key.now outlooks.new.content ≡ after.now) }
-    ensures elsewhere { OnOk result ((other : LinkKey) → is_at (hashed_key_cmp other) key.now ≡ false
-        → outlook_at other outlooks.new.content ≡ outlook_at other outlooks.old.content) }
     ensures told { IfOk result (λ changes. changes.items
         ≡ told_submits (turn_between before.now after.now) after.now added
         (members_in key.now submits.old.content)
         ++ told_receipts (turn_between before.now after.now) before.now after.now added
+        (members_in key.now receipts.old.content)) }
+    ensures submits_by_place { OnOk result (SubmitsByPlace (turn_between before.now after.now)
+        (members_in key.now submits.old.content)) }
+    ensures receipts_by_place { OnOk result (ReceiptsByPlace (turn_between before.now after.now)
+        (members_in key.now receipts.old.content)) }
+    ensures touches { IfOk result (λ changes.
+        submits.new.touches + receipts.new.touches
+        ≤ submits.old.touches + receipts.old.touches + 2
+        + vacant_of member_key key.now submits.old.places
+        + vacant_of member_key key.now receipts.old.places + length changes.items) }
+{
+    let turn = turn_of(before, after);
+    let mut changes = Vec::new(alloc);
+    tell_submits(&mut changes, alloc, submits, key, after, only, turn, added)?;
+    tell_receipts(
+        &mut changes,
+        alloc,
+        receipts,
+        key,
+        before,
+        after,
+        turn,
+        added,
+    )?;
+    Ok(changes)
+}
+
+/// Tells the changes where a member was taken out, and keeps the outlook that its key has now. An error changes nothing.
+pub(crate) fn tell_and_keep(
+    alloc: Global,
+    submits: &mut Kept<Member, bool>,
+    receipts: &mut Kept<Member, Said>,
+    outlooks: &mut Kept<HashedKey, Group>,
+    key: &HashedKey,
+    before: &Outlook,
+    after: &Outlook,
+    only: Option<Place>,
+) -> Result<Vec<Change>, AllocError>
+    requires counted { after.now.matches ≡ length (members_in key.now submits.old.content) }
+    requires received { after.now.receipts ≡ length (members_in key.now receipts.old.content) }
+    requires only { IsKnown only (members_in key.now submits.old.content) }
+    ensures submits { Stays submits.old submits.new }
+    ensures receipts { Stays receipts.old receipts.new }
+    ensures here { IfOk result (λ changes. group_at key.now outlooks.new.content
+        ≡ kept_group after.now only changes.items) }
+    ensures elsewhere { OnOk result ((other : LinkKey) → is_at (hashed_key_cmp other) key.now ≡ false
+        → group_at other outlooks.new.content ≡ group_at other outlooks.old.content) }
+    ensures told { IfOk result (λ changes. changes.items
+        ≡ told_submits (turn_between before.now after.now) after.now Nothing
+        (members_in key.now submits.old.content)
+        ++ told_receipts (turn_between before.now after.now) before.now after.now Nothing
         (members_in key.now receipts.old.content)) }
     ensures submits_by_place { OnOk result (SubmitsByPlace (turn_between before.now after.now)
         (members_in key.now submits.old.content)) }
@@ -74,20 +126,28 @@ pub(crate) fn tell(
     ensures settled { outlooks.new.settled ≡ outlooks.old.settled }
     ensures counted { outlooks.old.touches ≤ outlooks.new.touches }
 {
-    let turn = turn_of(before, after);
-    let mut changes = Vec::new(alloc);
-    tell_submits(&mut changes, alloc, submits, key, after, turn, added)?;
-    tell_receipts(
-        &mut changes,
+    let changes = tell(
         alloc,
+        submits,
         receipts,
         key,
         before,
         after,
-        turn,
-        added,
+        only,
+        Added::Nothing,
     )?;
-    keep_outlook(outlooks, key, after.matches, after.receipts, after.decider)?;
+    let known = match only {
+        Some(place) => Some(place),
+        None => only_left(after.matches, &changes),
+    };
+    keep_outlook(
+        outlooks,
+        key,
+        after.matches,
+        after.receipts,
+        after.decider,
+        known,
+    )?;
     Ok(changes)
 }
 
@@ -113,18 +173,19 @@ fn is_same_decider(before: &Outlook, after: &Outlook) -> bool
     }
 }
 
-// The changes of submits. A newcomer that is the only one needs no walk.
+// The changes of submits.
 fn tell_submits(
     changes: &mut Vec<Change>,
     alloc: Global,
     submits: &mut Kept<Member, bool>,
     key: &HashedKey,
     after: &Outlook,
+    only: Option<Place>,
     turn: Turn,
     added: Added,
 ) -> Result<(), AllocError>
     requires counted { after.now.matches ≡ length (members_in key.now submits.old.content) }
-    requires added { HoldsAdded key.now added submits.old.content }
+    requires only { IsKnown only (members_in key.now submits.old.content) }
     ensures submits { Stays submits.old submits.new }
     ensures told { OnOk result (changes.new.items ≡ changes.old.items
         ++ told_submits turn after.now added (members_in key.now submits.old.content)) }
@@ -136,26 +197,40 @@ fn tell_submits(
 {
     match turn {
         Turn::Each | Turn::Deciders => {
-            if is_alone(after, added) {
-                push_new_submit(changes, after, added)?;
-                return Ok(());
-            }
-            let members = members_of(alloc, submits, key, false, after.matches)?;
-            push_submits(changes, &members, after)?;
+            tell_each_submit(changes, alloc, submits, key, after, only)?;
         }
         Turn::Newcomer => push_new_submit(changes, after, added)?,
     }
     Ok(())
 }
 
-// Whether a submit was put in, and is the only one.
-fn is_alone(after: &Outlook, added: Added) -> bool
-    ensures { result ≡ is_alone after.now added }
+// Each submit, with its standing. The only one, where it is known, needs no walk.
+fn tell_each_submit(
+    changes: &mut Vec<Change>,
+    alloc: Global,
+    submits: &mut Kept<Member, bool>,
+    key: &HashedKey,
+    after: &Outlook,
+    only: Option<Place>,
+) -> Result<(), AllocError>
+    requires counted { after.now.matches ≡ length (members_in key.now submits.old.content) }
+    requires only { IsKnown only (members_in key.now submits.old.content) }
+    ensures submits { Stays submits.old submits.new }
+    ensures told { OnOk result (changes.new.items ≡ changes.old.items
+        ++ submit_changes after.now (members_in key.now submits.old.content)) }
+    ensures by_place { OnOk result (IsStrictlySortedBy place_cmp
+        (keys_of (members_in key.now submits.old.content))) }
+    ensures touches { OnOk result (submits.new.touches ≤ submits.old.touches + 1
+        + vacant_of member_key key.now submits.old.places
+        + length (submit_changes after.now (members_in key.now submits.old.content))) }
 {
-    match added {
-        Added::Submit(_) => after.matches == 1,
-        _ => false,
+    if let Some(place) = only {
+        push(changes, place, after.of_submits())?;
+        return Ok(());
     }
+    let members = members_of(alloc, submits, key, false, after.matches)?;
+    push_submits(changes, &members, after)?;
+    Ok(())
 }
 
 // The changes of receipts.
@@ -291,6 +366,16 @@ fn push_deciders(
         push(changes, decider, Standing::Deciding)?;
     }
     Ok(())
+}
+
+// The place of the submit that is left, where just one is: that of the first change.
+fn only_left(matches: u64, changes: &[Change]) -> Option<Place>
+    ensures { result ≡ only_left matches changes.now }
+{
+    match changes.first() {
+        Some(change) if matches == 1 => Some(change.place),
+        _ => None,
+    }
 }
 
 fn push(changes: &mut Vec<Change>, place: Place, standing: Standing) -> Result<(), AllocError>

@@ -8,10 +8,10 @@ ghost use Rattle.smq_group.specs.Links.{receipts_on, submits_on};
 ghost use Rattle.smq_group.specs.Groups.{key_on, no_members, receipt_with, vacancies, with_receipt, with_submit, without_receipt, without_submit};
 
 use crate::Change;
-use crate::changes::{Added, tell};
+use crate::changes::{Added, tell, tell_and_keep};
 use crate::links::places_on;
 use crate::member::{Candidate, Member, Said};
-use crate::outlook::{Earliest, Outlook, outlook_of};
+use crate::outlook::{Earliest, Group, More, Outlook, group_of, put_more};
 use crate::receipts::{
     decider_without, gone, out_receipt, put_receipt, said_at, take_back_receipt,
 };
@@ -32,7 +32,7 @@ pub struct Groups {
     receipts: Kept<Member, Said>,
     /// The receipts that can decide, but for the earliest of each key, which its outlook has.
     candidates: Kept<Candidate, bool>,
-    outlooks: Kept<HashedKey, Outlook>,
+    outlooks: Kept<HashedKey, Group>,
 }
 
 impl Model for Groups {
@@ -128,31 +128,32 @@ impl Groups {
         ensures counted { self.old.touches ≤ self.new.touches }
     {
         let key = HashedKey::new(link, key);
-        let before = outlook_of(&mut self.outlooks, &key);
+        let before = put_more(&mut self.outlooks, &key, More::Submit(place))?;
         let member = Member {
             key: key.copy(),
             place,
         };
-        self.submits.set(member, true)?;
+        let Ok(()) = self.submits.set(member, true) else {
+            self.outlooks.take_back();
+            return Err(AllocError);
+        };
         // There are no more submits with a key than places.
         let _places = self.submits.place_count();
-        let after = Outlook {
-            matches: before.matches + 1,
-            ..before
-        };
+        let after = before.with(More::Submit(place));
         match tell(
             self.alloc,
             &mut self.submits,
             &mut self.receipts,
-            &mut self.outlooks,
             &key,
-            &before,
-            &after,
+            &before.outlook,
+            &after.outlook,
+            after.only,
             Added::Submit(place),
         ) {
             Ok(changes) => Ok(changes),
             Err(error) => {
                 self.submits.take_back();
+                self.outlooks.take_back();
                 Err(error)
             }
         }
@@ -179,25 +180,22 @@ impl Groups {
         ensures counted { self.old.touches ≤ self.new.touches }
     {
         let key = key_of_link(link, key);
-        let before = outlook_of(&mut self.outlooks, &key);
+        let before = group_of(&mut self.outlooks, &key);
         let member = Member {
             key: key.copy(),
             place,
         };
         self.submits.remove(&member)?;
-        let after = Outlook {
-            matches: before.matches - 1,
-            ..before
-        };
-        match tell(
+        let after = before.outlook.without_submit();
+        match tell_and_keep(
             self.alloc,
             &mut self.submits,
             &mut self.receipts,
             &mut self.outlooks,
             &key,
-            &before,
+            &before.outlook,
             &after,
-            Added::Nothing,
+            None,
         ) {
             Ok(changes) => Ok(changes),
             Err(error) => {
@@ -230,33 +228,39 @@ impl Groups {
         ensures counted { self.old.touches ≤ self.new.touches }
     {
         let key = HashedKey::new(link, key);
-        let before = outlook_of(&mut self.outlooks, &key);
-        let waits = before.later_of(Earliest { moment, place }, decides);
+        let more = More::Receipt(Earliest { moment, place }, decides);
+        let before = put_more(&mut self.outlooks, &key, more)?;
+        let waits = before.outlook.later_of(Earliest { moment, place }, decides);
         let said = Said { moment, decides };
-        put_receipt(
+        let put = put_receipt(
             &mut self.receipts,
             &mut self.candidates,
             &key,
             place,
             said,
             &waits,
-        )?;
+        );
+        let Ok(()) = put else {
+            self.outlooks.take_back();
+            return Err(AllocError);
+        };
         // There are no more receipts with a key than places.
         let _places = self.receipts.place_count();
-        let after = before.with_receipt(Earliest { moment, place }, decides);
+        let after = before.with(More::Receipt(Earliest { moment, place }, decides));
         match tell(
             self.alloc,
             &mut self.submits,
             &mut self.receipts,
-            &mut self.outlooks,
             &key,
-            &before,
-            &after,
+            &before.outlook,
+            &after.outlook,
+            after.only,
             Added::Receipt(place, decides),
         ) {
             Ok(changes) => Ok(changes),
             Err(error) => {
                 take_back_receipt(&mut self.receipts, &mut self.candidates, &waits);
+                self.outlooks.take_back();
                 Err(error)
             }
         }
@@ -284,7 +288,7 @@ impl Groups {
         ensures counted { self.old.touches ≤ self.new.touches }
     {
         let key = key_of_link(link, key);
-        let before = outlook_of(&mut self.outlooks, &key);
+        let before = group_of(&mut self.outlooks, &key);
         let found = said_at(&mut self.receipts, &key, place);
         let Some(said) = &found else {
             return Ok(Vec::new(self.alloc));
@@ -292,23 +296,23 @@ impl Groups {
         let moment = said.moment;
         let decides = said.decides;
         let taken = Said { moment, decides };
-        let decider = decider_without(&mut self.candidates, &key, &before, place, taken);
-        let gone = gone(&before, &decider, place, Said { moment, decides });
+        let decider = decider_without(&mut self.candidates, &key, &before.outlook, place, taken);
+        let gone = gone(&before.outlook, &decider, place, Said { moment, decides });
         out_receipt(&mut self.receipts, &mut self.candidates, &key, place, &gone)?;
         let after = Outlook {
-            matches: before.matches,
-            receipts: before.receipts - 1,
+            matches: before.outlook.matches,
+            receipts: before.outlook.receipts - 1,
             decider,
         };
-        match tell(
+        match tell_and_keep(
             self.alloc,
             &mut self.submits,
             &mut self.receipts,
             &mut self.outlooks,
             &key,
-            &before,
+            &before.outlook,
             &after,
-            Added::Nothing,
+            before.only,
         ) {
             Ok(changes) => Ok(changes),
             Err(error) => {

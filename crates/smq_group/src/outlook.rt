@@ -1,14 +1,15 @@
 //! What all standings of a group rest on.
-ghost use Rattle.std.specs.Prelude.{◌≡◌, true, false, OnOk, OnErr, ◌+◌, ◌-◌, ◌^◌, ◌<◌, ◌≤◌};
+ghost use Rattle.std.specs.Prelude.{◌≡◌, unwrap_or, true, false, IfOk, OnOk, OnErr, ◌∷◌, ◌+◌, ◌≤◌};
 ghost use Rattle.std.specs.Map.{lookup};
 ghost use Rattle.std.specs.BTreeMap.{is_at};
+ghost use Rattle.smq_shelf.specs.Places.{content_of};
 ghost use Rattle.smq_kit.specs.HashedKeys.{hashed_key_cmp};
 ghost use Rattle.smq_kit.specs.declared.link_key.LinkKey.{LinkKey};
-ghost use Rattle.smq_group.specs.within.Outlooks.{later_of, an_outlook, no_outlook, outlook_at, outlook_with, decider_of, is_decided_by, submit_standing_of, receipt_standing_of};
+ghost use Rattle.smq_group.specs.within.Outlooks.{a_group, later_of, group_after, group_at, group_with, no_group, outlook_with, outlook_without, decider_of, is_decided_by, submit_standing_of, receipt_standing_of};
 
 use crate::Standing;
 use smq_kit::{HashedKey, Moment, Place};
-use smq_shelf::{Kept, ShelfKey};
+use smq_shelf::{Change, Kept, ShelfKey};
 use std::alloc::AllocError;
 
 /// A receipt that can decide, by its moment and its place.
@@ -24,6 +25,20 @@ pub(crate) struct Outlook {
     pub(crate) matches: u64,
     pub(crate) receipts: u64,
     pub(crate) decider: Option<Earliest>,
+}
+
+/// What is kept of a group: its outlook, and the place of its submit where it has just one.
+#[derive(Clone, Copy, Debug, PartialEq, Eq)]
+pub(crate) struct Group {
+    pub(crate) outlook: Outlook,
+    pub(crate) only: Option<Place>,
+}
+
+/// A submit more, or a receipt that can decide or not.
+#[derive(Clone, Copy)]
+pub(crate) enum More {
+    Submit(Place),
+    Receipt(Earliest, bool),
 }
 
 impl Outlook {
@@ -47,9 +62,20 @@ impl Outlook {
         }
     }
 
+    /// With one submit less.
+    pub(crate) fn without_submit(&self) -> Outlook
+        requires { 1 ≤ self.now.matches }
+        ensures { result ≡ outlook_without self.now }
+    {
+        Outlook {
+            matches: self.matches - 1,
+            receipts: self.receipts,
+            decider: self.decider,
+        }
+    }
+
     /// With one receipt more, which can decide or not.
-    pub(crate) fn with_receipt(&self, receipt: Earliest, decides: bool) -> Outlook
-        requires { self.now.receipts < 2 ^ 64 - 1 }
+    fn with_receipt(&self, receipt: Earliest, decides: bool) -> Outlook
         ensures { result ≡ outlook_with self.now receipt decides }
     {
         let is_earliest = match &self.decider {
@@ -63,7 +89,7 @@ impl Outlook {
         };
         Outlook {
             matches: self.matches,
-            receipts: self.receipts + 1,
+            receipts: self.receipts.saturating_add(1),
             decider,
         }
     }
@@ -115,9 +141,92 @@ impl Outlook {
     }
 }
 
-/// The outlook of a key.
-pub(crate) fn outlook_of(outlooks: &mut Kept<HashedKey, Outlook>, key: &HashedKey) -> Outlook
-    ensures value { result ≡ outlook_at key.now outlooks.old.content }
+impl Group {
+    /// No members.
+    const fn none() -> Group
+        ensures { result ≡ no_group }
+    {
+        Group {
+            outlook: Outlook {
+                matches: 0,
+                receipts: 0,
+                decider: None,
+            },
+            only: None,
+        }
+    }
+
+    /// With one member more.
+    pub(crate) fn with(&self, more: More) -> Group
+        ensures { result ≡ group_with self.now more }
+    {
+        match more {
+            More::Submit(place) => Group {
+                outlook: Outlook {
+                    matches: self.outlook.matches.saturating_add(1),
+                    receipts: self.outlook.receipts,
+                    decider: self.outlook.decider,
+                },
+                only: if self.outlook.matches == 0 {
+                    Some(place)
+                } else {
+                    None
+                },
+            },
+            More::Receipt(receipt, decides) => Group {
+                outlook: self.outlook.with_receipt(receipt, decides),
+                only: self.only,
+            },
+        }
+    }
+}
+
+impl Change<Group> for More {
+    ghost after = { group_after };
+
+    fn make(&self, place: &mut Option<Group>) -> Option<Group> {
+        let before = *place;
+        *place = Some(kept_or_none(place).with(*self));
+        before
+    }
+}
+
+/// Puts a member more into what is kept of its group, and gives what was kept before. An error changes nothing.
+pub(crate) fn put_more(
+    outlooks: &mut Kept<HashedKey, Group>,
+    key: &HashedKey,
+    more: More,
+) -> Result<Group, AllocError>
+    ensures value { IfOk result (λ before. before ≡ group_at key.now outlooks.old.content) }
+    ensures here { OnOk result (group_at key.now outlooks.new.content
+        ≡ group_with (group_at key.now outlooks.old.content) more) }
+    ensures elsewhere { OnOk result ((other : LinkKey) → is_at (hashed_key_cmp other) key.now ≡ false
+        → group_at other outlooks.new.content ≡ group_at other outlooks.old.content) }
+    ensures past { OnOk result (outlooks.new.past ≡ outlooks.old.places ∷ outlooks.old.past) }
+    ensures shown { outlooks.old.content ≡ content_of outlooks.old.places }
+    ensures err { OnErr result (outlooks.new.content ≡ outlooks.old.content) }
+    ensures settled { outlooks.new.settled ≡ outlooks.old.settled }
+    ensures pending { outlooks.new.pending ≤ outlooks.old.pending + 1 }
+    ensures touches { outlooks.new.touches ≤ outlooks.old.touches + 1 }
+    ensures counted { outlooks.old.touches ≤ outlooks.new.touches }
+{
+    let before = outlooks.exchange(key.copy(), &more)?;
+    Ok(kept_or_none(&before))
+}
+
+// What is kept of a group, which may have no members.
+fn kept_or_none(kept: &Option<Group>) -> Group
+    ensures { result ≡ unwrap_or kept.now no_group }
+{
+    match kept {
+        Some(group) => *group,
+        None => Group::none(),
+    }
+}
+
+/// What is kept of a group.
+pub(crate) fn group_of(outlooks: &mut Kept<HashedKey, Group>, key: &HashedKey) -> Group
+    ensures value { result ≡ group_at key.now outlooks.old.content }
     ensures content { outlooks.new.content ≡ outlooks.old.content }
     ensures settled { outlooks.new.settled ≡ outlooks.old.settled }
     ensures pending { outlooks.new.pending ≡ outlooks.old.pending }
@@ -125,34 +234,31 @@ pub(crate) fn outlook_of(outlooks: &mut Kept<HashedKey, Outlook>, key: &HashedKe
     ensures counted { outlooks.old.touches ≤ outlooks.new.touches }
 {
     match outlooks.get(key) {
-        Some(outlook) => *outlook,
-        None => Outlook {
-            matches: 0,
-            receipts: 0,
-            decider: None,
-        },
+        Some(group) => *group,
+        None => Group::none(),
     }
 }
 
 /// Keeps another outlook of a key. That of no submits and no receipts is not kept. An error changes nothing.
 pub(crate) fn keep_outlook(
-    outlooks: &mut Kept<HashedKey, Outlook>,
+    outlooks: &mut Kept<HashedKey, Group>,
     key: &HashedKey,
     matches: u64,
     receipts: u64,
     decider: Option<Earliest>,
+    only: Option<Place>,
 ) -> Result<(), AllocError>
-    ensures here { OnOk result (outlook_at key.now outlooks.new.content
-        ≡ an_outlook matches receipts decider) }
+    ensures here { OnOk result (group_at key.now outlooks.new.content
+        ≡ a_group matches receipts decider only) }
     ensures elsewhere { OnOk result ((other : LinkKey) → is_at (hashed_key_cmp other) key.now ≡ false
-        → outlook_at other outlooks.new.content ≡ outlook_at other outlooks.old.content) }
+        → group_at other outlooks.new.content ≡ group_at other outlooks.old.content) }
     ensures err { OnErr result (outlooks.new.content ≡ outlooks.old.content) }
     ensures settled { outlooks.new.settled ≡ outlooks.old.settled }
     ensures pending { outlooks.new.pending ≤ outlooks.old.pending + 1 }
     ensures touches { outlooks.new.touches ≤ outlooks.old.touches + 2 }
     ensures counted { outlooks.old.touches ≤ outlooks.new.touches }
 {
-    if is_empty(matches, receipts, &decider) {
+    if is_empty(matches, receipts, &decider, &only) {
         outlooks.remove(key)?;
         return Ok(());
     }
@@ -161,12 +267,12 @@ pub(crate) fn keep_outlook(
         receipts,
         decider,
     };
-    outlooks.set(key.copy(), outlook)?;
+    outlooks.set(key.copy(), Group { outlook, only })?;
     Ok(())
 }
 
-fn is_empty(matches: u64, receipts: u64, decider: &Option<Earliest>) -> bool
-    ensures { result ≡ true → an_outlook matches receipts decider.now ≡ no_outlook }
+fn is_empty(matches: u64, receipts: u64, decider: &Option<Earliest>, only: &Option<Place>) -> bool
+    ensures { result ≡ true → a_group matches receipts decider.now only.now ≡ no_group }
 {
-    matches == 0 && receipts == 0 && decider.is_none()
+    matches == 0 && receipts == 0 && decider.is_none() && only.is_none()
 }

@@ -1,5 +1,5 @@
 -- Outlooks: what all standings of a key's members rest on.
-use Rattle.std.specs.Prelude.{ℕ, ◌+◌, ◌==◌, ◌&&◌, Bool, true, not, if◌then◌else◌, List, Option, Some, None, unwrap_or, option_map}
+use Rattle.std.specs.Prelude.{ℕ, ◌+◌, ◌-◌, ◌^◌, min, ◌==◌, ◌&&◌, Bool, true, not, if◌then◌else◌, List, Option, Some, None, unwrap_or, option_map}
 use Rattle.std.specs.Ordering.{eq_by_cmp, is_lt}
 use Rattle.std.specs.Map.{lookup}
 use Rattle.std.specs.BTreeMap.{is_at}
@@ -10,6 +10,9 @@ use Rattle.smq_kit.specs.Maps.{same_option}
 use Rattle.smq_kit.specs.HashedKeys.{hashed_key_cmp}
 use Rattle.smq_group.specs.declared.change.Standing.{Standing}
 use Rattle.smq_group.specs.declared.change.Standing.TheVariants.{Single, Shared, Stray, Deciding, Extra, Noted}
+use Rattle.smq_group.specs.declared.outlook.Group.{Group}
+use Rattle.smq_group.specs.declared.outlook.More.{More}
+use Rattle.smq_group.specs.declared.outlook.More.TheVariants as more
 use Rattle.smq_group.specs.declared.outlook.Outlook.{Outlook}
 use Rattle.smq_group.specs.declared.outlook.Earliest.{Earliest}
 use Rattle.smq_group.specs.Matching.{candidate_cmp}
@@ -22,9 +25,25 @@ an_outlook matches receipts decider = record { matches = matches; receipts = rec
 abbrev pub no_outlook : Outlook
 no_outlook = record { matches = 0; receipts = 0; decider = None }
 
--- the outlook that is kept of a key
-abbrev pub outlook_at : LinkKey → List (LinkKey × Outlook) → Outlook
-outlook_at key kept = unwrap_or (lookup (is_at (hashed_key_cmp key)) kept) no_outlook
+-- what is kept of a group with this outlook, whose only submit stands at this place, if it has just one
+abbrev pub a_group : ℕ → ℕ → Option Earliest → Option Place → Group
+a_group matches receipts decider only = record { outlook = an_outlook matches receipts decider; only = only }
+
+-- a group of no members
+abbrev pub no_group : Group
+no_group = record { outlook = no_outlook; only = None }
+
+-- what is kept of a key's group
+abbrev pub group_at : LinkKey → List (LinkKey × Group) → Group
+group_at key kept = unwrap_or (lookup (is_at (hashed_key_cmp key)) kept) no_group
+
+-- its outlook
+abbrev pub outlook_at : LinkKey → List (LinkKey × Group) → Outlook
+outlook_at key kept = (group_at key kept).outlook
+
+-- the place of its only submit, if it has just one
+abbrev pub only_at : LinkKey → List (LinkKey × Group) → Option Place
+only_at key kept = (group_at key kept).only
 
 -- the place of the receipt that decides
 abbrev pub decider_of : Outlook → Option Place
@@ -47,9 +66,29 @@ abbrev pub is_before : Earliest → Option Earliest → Bool
 is_before receipt None = true
 is_before receipt (Some earliest) = is_lt (candidate_cmp (receipt.moment, receipt.place) (earliest.moment, earliest.place))
 
+-- one more, up to the greatest u64
+abbrev pub one_more : ℕ → ℕ
+one_more n = min (n + 1) (2 ^ 64 - 1)
+
+-- with one submit less
+abbrev pub outlook_without : Outlook → Outlook
+outlook_without o = record o { matches = o.matches - 1 }
+
 -- with one receipt more
 abbrev pub outlook_with : Outlook → Earliest → Bool → Outlook
-outlook_with o receipt decides = record { matches = o.matches; receipts = o.receipts + 1; decider = if decides && is_before receipt o.decider then Some receipt else o.decider }
+outlook_with o receipt decides = record { matches = o.matches; receipts = one_more o.receipts; decider = if decides && is_before receipt o.decider then Some receipt else o.decider }
+
+-- with one member more
+abbrev pub group_with : Group → More → Group
+group_with g (more.Submit place) = record {
+  outlook = record g.outlook { matches = one_more g.outlook.matches };
+  only = if g.outlook.matches == 0 then Some place else None;
+}
+group_with g (more.Receipt receipt decides) = record g { outlook = outlook_with g.outlook receipt decides }
+
+-- and where it is kept
+abbrev pub group_after : More → Option Group → Option Group
+group_after m before = Some (group_with (unwrap_or before no_group) m)
 
 -- the later of a receipt and the one that decides, where both can decide
 abbrev pub later_of : Option Earliest → Earliest → Bool → Option Earliest

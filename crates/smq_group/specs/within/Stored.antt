@@ -15,13 +15,14 @@ use Rattle.smq_shelf.specs.Places.{content_of}
 use Rattle.smq_group.specs.declared.member.Member.{Member}
 use Rattle.smq_group.specs.declared.member.Candidate.{Candidate}
 use Rattle.smq_group.specs.declared.member.Said.{Said}
+use Rattle.smq_group.specs.declared.outlook.Group.{Group}
 use Rattle.smq_group.specs.declared.outlook.Outlook.{Outlook}
 use Rattle.smq_group.specs.declared.outlook.Earliest.{Earliest}
 use Rattle.smq_group.specs.Matching as m
 use Rattle.smq_group.specs.Matching.{Grouping, GroupedReceipt, matches, candidates, earlier}
 use Rattle.smq_group.specs.within.Orders.{kept_candidate_cmp}
-use Rattle.smq_group.specs.within.Walked.{candidate_at}
-use Rattle.smq_group.specs.within.Outlooks.{is_decided_by, outlook_at}
+use Rattle.smq_group.specs.within.Walked.{candidate_at, members_in, only_of}
+use Rattle.smq_group.specs.within.Outlooks.{is_decided_by, only_at, outlook_at}
 
 -- a member of a map by key and place, as an entry by place
 abbrev pub by_place : {V W : Type 0} → (LinkKey → V → W) → Member × V → Place × W
@@ -87,15 +88,16 @@ abbrev pub gone_of : Bool → Bool → Option Earliest → Earliest → Option E
 gone_of decides decided next own = if decides then (if decided then next else Some own) else None
 
 -- The index of candidates that wait, and the outlooks by key, are those of a grouping.
-pub record IsIndexed (g : Grouping) (index : List (Candidate × Bool)) (outlooks : List (LinkKey × Outlook)) : Type 0 where
+pub record IsIndexed (g : Grouping) (index : List (Candidate × Bool)) (outlooks : List (LinkKey × Group)) : Type 0 where
   pub candidates : (c : Candidate) → lookup (is_at (kept_candidate_cmp c)) index ≡ (if waits g c then Some true else None)
   pub outlook : (key : LinkKey) → outlook_at key outlooks ≡ outlook_in g key
 
 -- The four maps hold a grouping.
-pub record AreStored (submits : List (Member × Bool)) (receipts : List (Member × Said)) (index : List (Candidate × Bool)) (outlooks : List (LinkKey × Outlook)) : Type 0 where
+pub record AreStored (submits : List (Member × Bool)) (receipts : List (Member × Said)) (index : List (Candidate × Bool)) (outlooks : List (LinkKey × Group)) : Type 0 where
   pub submits_once : StandsOnce submit_value submits
   pub receipts_once : StandsOnce receipt_value receipts
   pub indexed : IsIndexed (grouping_in submits receipts) index outlooks
+  pub only : (key : LinkKey) → only_at key outlooks ≡ only_of (members_in key submits)
 
 -- What a receipt that was put in or taken out changed can be taken back: the two maps' last changes are these.
 pub record CanTakeBack (decides : Bool) (r : Keeping Member Said) (c : Keeping Candidate Bool) (r' : Keeping Member Said) (c' : Keeping Candidate Bool) : Type 0 where

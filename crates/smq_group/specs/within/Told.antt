@@ -1,11 +1,10 @@
 -- What is told of a key's members when its outlook changes.
-use Rattle.std.specs.Prelude.{◌≡◌, ⊤, Bool, true, false, not, ◌==◌, ◌&&◌, min, if◌then◌else◌, List, [], ◌∷◌, map, filter, Option, Some, None}
+use Rattle.std.specs.Prelude.{ℕ, ◌≡◌, ⊤, Bool, not, ◌==◌, ◌&&◌, min, if◌then◌else◌, List, [], ◌∷◌, map, Option, Some, None}
 use Rattle.std.specs.Ordering.{eq_by_cmp, is_lt}
 use Rattle.std.specs.List.Sorted.{IsStrictlySortedBy}
-use Rattle.std.specs.Map.{keys_of, lookup}
-use Rattle.std.specs.BTreeMap.{is_at}
+use Rattle.std.specs.Map.{keys_of}
+use Rattle.std.specs.Option.{option_or}
 use Rattle.smq_kit.specs.declared.place.Place.{Place}
-use Rattle.smq_kit.specs.declared.link_key.LinkKey.{LinkKey}
 use Rattle.smq_kit.specs.Orders.{place_cmp}
 use Rattle.smq_kit.specs.Maps.{same_option}
 use Rattle.smq_group.specs.declared.change.Change.{Change}
@@ -15,17 +14,11 @@ use Rattle.smq_group.specs.declared.changes.Added.{Added}
 use Rattle.smq_group.specs.declared.changes.Added.TheVariants as put
 use Rattle.smq_group.specs.declared.changes.Turn.{Turn}
 use Rattle.smq_group.specs.declared.changes.Turn.TheVariants.{Each, Deciders, Newcomer}
-use Rattle.smq_group.specs.declared.member.Member.{Member}
 use Rattle.smq_group.specs.declared.member.Said.{Said}
+use Rattle.smq_group.specs.declared.outlook.Group.{Group}
 use Rattle.smq_group.specs.declared.outlook.Outlook.{Outlook}
-use Rattle.smq_group.specs.within.Orders.{kept_member_cmp}
 use Rattle.smq_group.specs.within.Outlooks.{decider_of, submit_standing_of, receipt_standing_of}
-use Rattle.smq_group.specs.within.Stored.{member_of}
-use Rattle.smq_group.specs.within.Walked.{of_key, placed}
-
--- the members of a key, by place
-abbrev pub members_in : {V : Type 0} → LinkKey → List (Member × V) → List (Place × V)
-members_in key es = map placed (filter (of_key key) es)
+use Rattle.smq_group.specs.within.Walked.{only_of}
 
 -- a standing at a place
 abbrev pub change_at : Place → Standing → Change
@@ -55,16 +48,6 @@ abbrev pub newcomer_submit : Outlook → Added → List Change
 newcomer_submit o (put.Submit place) = change_at place (submit_standing_of o) ∷ []
 newcomer_submit o _ = []
 
--- the submit that is put in, if one is, is a member of the key
-abbrev pub HoldsAdded : LinkKey → Added → List (Member × Bool) → Type 0
-HoldsAdded key (put.Submit place) es = lookup (is_at (kept_member_cmp (member_of key place))) es ≡ Some true
-HoldsAdded key _ es = ⊤
-
--- whether a submit is put in, and is the only one
-abbrev pub is_alone : Outlook → Added → Bool
-is_alone after (put.Submit _) = after.matches == 1
-is_alone after _ = false
-
 -- the change of the receipt that is put in, if one is
 abbrev pub newcomer_receipt : Outlook → Added → List Change
 newcomer_receipt o (put.Receipt place decides) = change_at place (receipt_standing_of o place decides) ∷ []
@@ -92,6 +75,20 @@ abbrev pub told_receipts : Turn → Outlook → Outlook → Added → List (Plac
 told_receipts Each before after added members = receipt_changes after members
 told_receipts Deciders before after added members = decider_changes (rival before added) (decider_of after)
 told_receipts Newcomer before after added members = newcomer_receipt after added
+
+-- where a place is given, it is that of the only one of members
+abbrev pub IsKnown : Option Place → List (Place × Bool) → Type 0
+IsKnown None members = ⊤
+IsKnown (Some place) members = only_of members ≡ Some place
+
+-- the place of the submit that is left where just one is: that of the first change
+abbrev pub only_left : ℕ → List Change → Option Place
+only_left matches [] = None
+only_left matches (c ∷ cs) = if matches == 1 then Some c.place else None
+
+-- what is kept of a group once a member is taken out: the place of its only submit was known, or is that of the one left
+abbrev pub kept_group : Outlook → Option Place → List Change → Group
+kept_group after only changes = record { outlook = after; only = option_or only (only_left after.matches changes) }
 
 -- the submits that are told stand by place, where each is told
 abbrev pub SubmitsByPlace : Turn → List (Place × Bool) → Type 0

@@ -1,5 +1,5 @@
 -- What a walk over the members of a key meets.
-use Rattle.std.specs.Prelude.{ℕ, Bool, true, false, ◌==◌, ◌&&◌, not, length, List, map, filter, Option, option_map, is_some, find}
+use Rattle.std.specs.Prelude.{ℕ, Bool, true, false, ◌==◌, ◌&&◌, not, length, List, map, filter, Option, option_map, is_some, find, Some, None, [], ◌∷◌}
 use Rattle.smq_kit.specs.declared.names.LinkId.{LinkId}
 use Rattle.smq_kit.specs.declared.place.Place.{Place}
 use Rattle.smq_kit.specs.declared.link_key.LinkKey.{LinkKey}
@@ -17,6 +17,15 @@ of_key key e = same_key key e.0.key
 -- a member's place, and what is kept of it
 abbrev pub placed : {V : Type 0} → Member × V → Place × V
 placed e = (e.0.place, e.1)
+
+-- the members of a key, by place
+abbrev pub members_in : {V : Type 0} → LinkKey → List (Member × V) → List (Place × V)
+members_in key es = map placed (filter (of_key key) es)
+
+-- the place of the only one of members, where there is just one
+abbrev pub only_of : {V : Type 0} → List (Place × V) → Option Place
+only_of (m ∷ []) = Some m.0
+only_of _ = None
 
 -- whether a second key is of the link of a first, or is that key
 abbrev pub is_like : Bool → LinkKey → LinkKey → Bool
