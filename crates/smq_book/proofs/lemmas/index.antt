@@ -29,6 +29,7 @@ pub mod Said
 pub mod Appending
 pub mod Taken
 pub mod Refreshed
+pub mod Restated
 pub mod Walks
 pub mod Accepted
 pub mod LinkOut

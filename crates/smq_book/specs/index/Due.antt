@@ -1,6 +1,6 @@
 -- The messages whose receipts are due, the open and the lapsed ones, by link, then by moment: so a clock finds those whose windows
 -- end by it, and a window those of its link.
-use Rattle.std.specs.Prelude.{◌+◌, ◌==◌, nat_le, ℕ, Bool, false, List, map, filter, if◌then◌else◌, Option, Some, None, option_map, unwrap_or}
+use Rattle.std.specs.Prelude.{◌==◌, ℕ, Bool, false, List, map, filter, if◌then◌else◌, Option, Some, None, option_map, unwrap_or}
 use Rattle.std.specs.declared.cmp.Ordering.{Ordering}
 use Rattle.std.specs.Ordering.{nat_cmp, ordering_then}
 use Rattle.std.specs.FinMap as fin
@@ -39,10 +39,6 @@ due_in messages facts = keys_made (due_by_fact facts) messages
 -- those of traffic under what is set
 abbrev pub due_of : SettingsValue → TrafficValue → FinSet due_cmp
 due_of s t = due_in t.messages (facts_of s t)
-
--- whether a window of a message of a moment has ended by a clock
-abbrev pub has_ended : ℕ → ℕ → ℕ → Bool
-has_ended clock moment window = nat_le (moment + window) clock
 
 -- those of a link, by moment, then by place
 abbrev pub keys_on : LinkId → FinSet due_cmp → List DueAt

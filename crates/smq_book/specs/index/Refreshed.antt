@@ -1,14 +1,24 @@
 -- Facts that are set anew at places, in turn, to what is known there under what is set.
-use Rattle.std.specs.Prelude.{List, fold}
+use Rattle.std.specs.Prelude.{◌≡◌, List, Option, Some, fold, option_map}
 use Rattle.std.specs.FinMap as fin
 use Rattle.smq_kit.specs.declared.place.Place.{Place}
 use Rattle.smq_kit.specs.Maps.{set_at}
 use Rattle.smq_kit.specs.Orders.{place_cmp}
 use Rattle.smq_tally.specs.declared.fact.Fact.{Fact}
 use Rattle.smq_book.specs.present.Settings.{SettingsValue}
-use Rattle.smq_book.specs.pairing.Traffic.{TrafficValue}
-use Rattle.smq_book.specs.join.Facts.{facts_of}
+use Rattle.smq_book.specs.pairing.Traffic.{Message, TrafficValue}
+use Rattle.smq_book.specs.join.Circumstances.{lapsed_in, route_in}
+use Rattle.smq_book.specs.join.Facts.{facts_of, with_lapse, with_route}
 
 -- facts where those of places are set to those of traffic under what is set
 abbrev pub refreshed : SettingsValue → TrafficValue → fin.FinMap place_cmp Fact → List Place → fin.FinMap place_cmp Fact
 refreshed z t facts places = fold (λ m q. set_at m q (fin.get (facts_of z t) q)) facts places
+
+-- a fact of a message with its route, and by whether it has lapsed, under what is set
+abbrev pub restated : SettingsValue → Message → Fact → Fact
+restated z m f = with_route (route_in z.versions m) (with_lapse (lapsed_in z m) f)
+
+-- What is known of each message under what is set is its fact, restated so.
+pub record MayRestate (z : SettingsValue) (t : TrafficValue) (facts : fin.FinMap place_cmp Fact) : Type 0 where
+  pub each : (q : Place) (m : Message) → fin.get t.messages q ≡ Some m
+      → fin.get (facts_of z t) q ≡ option_map (restated z m) (fin.get facts q)

@@ -38,9 +38,13 @@ route_in versions m = option_and_then (λ number. route_at versions number m.mom
 abbrev pub window_of : SettingsValue → LinkId → ℕ
 window_of s link = window_in s.windows link
 
--- the clock is at the end of a message's window, or past it
+-- whether the window of a message of a moment has ended by a clock: this is at its end, or past it
+abbrev pub has_ended : ℕ → ℕ → ℕ → Bool
+has_ended clock moment window = nat_le (moment + window) clock
+
+-- the window of a message has ended by the clock
 abbrev pub lapsed_in : SettingsValue → Message → Bool
-lapsed_in s m = nat_le (m.moment + window_of s m.link) s.clock
+lapsed_in s m = has_ended s.clock m.moment (window_of s m.link)
 
 -- the circumstances of a message
 abbrev pub circumstances : SettingsValue → TrafficValue → Message → Circumstances

@@ -12,13 +12,13 @@ ghost use Rattle.smq_group.specs.Standings.{standing_at};
 ghost use Rattle.smq_tally.specs.Lists.{listed};
 ghost use Rattle.smq_tally.specs.declared.fact.Fact.{Fact as FactOf};
 ghost use Rattle.smq_book.specs.index.Opening.{nothing_held};
+ghost use Rattle.smq_book.specs.index.Refreshed.{MayRestate};
 ghost use Rattle.smq_book.specs.index.Due.{due_in, is_due_fact};
 ghost use Rattle.smq_book.specs.index.Ends.{ends_by};
 ghost use Rattle.smq_book.specs.index.Stored.{is_told_shared};
 ghost use Rattle.smq_book.specs.index.Following.{AreTold, IsInNoOther, MayFollow, with_note};
 ghost use Rattle.smq_book.specs.index.Held.{AreOf, IsTraffic, decider_held, dues_in, ends_in, facts_anew, held_by, held_now, held_settled, list_by, list_held, messages_in, noted, notes_anew, receipts_in, stored_traffic, traffic_held, with_listing};
 ghost use Rattle.smq_book.specs.index.Touches.{HasNothingPending, RisesWithFacts, index_cost, index_touches, kept_cost, pending_in, tally_cost, touches_in};
-ghost use Rattle.smq_book.specs.declared.index.index.RouteOf.TheVariants.{FactThere};
 ghost use Rattle.smq_book.specs.join.Circumstances.{route_in};
 ghost use Rattle.smq_book.specs.join.Facts.{facts_of};
 ghost use Rattle.smq_book.specs.join.Keyed.{accepted_key};
@@ -29,29 +29,22 @@ ghost use Rattle.smq_book.specs.present.Settings.{SettingsValue};
 use crate::index::due_at::DueAt;
 use crate::index::end_at::EndAt;
 use crate::index::stored::{StoredMessage, StoredReceipt, received_in};
-use crate::join::fact::fact_of;
+use crate::join::fact::{fact_of, restated};
 use crate::present::settings::Settings;
 use crate::present::windows::Windows;
 use crate::{Fact, List, Outcome};
-use smq_group::{Change, Standing, Standings};
+use smq_group::{Change, Groups, Standing};
 use smq_kit::{Dir, Moment, Network, Place, RouteId};
 use smq_route::{Numbers, Routes};
 use smq_shelf::{Kept, KeptMap};
 use smq_tally::Tally;
 use std::alloc::{AllocError, Global};
 
-/// What tells the route of a message: the fact that is there, where one is, or else the versions.
-#[derive(Clone, Copy)]
-enum RouteOf {
-    FactThere,
-    Versions,
-}
-
 /// All messages and delivery receipts that are present, with their standings, facts and notes. Where a call finds no memory,
 /// all that wasn't settled is undone.
 #[derive(Drop)]
 pub(crate) struct Index {
-    pub standings: Standings,
+    pub standings: Groups,
     pub messages: KeptMap<Place, StoredMessage>,
     pub receipts: KeptMap<Place, StoredReceipt>,
     pub tally: Tally,
@@ -72,7 +65,7 @@ impl Index {
         ensures pending { HasNothingPending result }
     {
         Index {
-            standings: Standings::new(alloc),
+            standings: Groups::new(alloc),
             messages: KeptMap::new(alloc),
             receipts: KeptMap::new(alloc),
             tally: Tally::new(alloc),
@@ -173,14 +166,7 @@ impl Index {
     {
         match place.dir {
             Dir::FromClient => {
-                self.set_fact_by(
-                    settings.routes(),
-                    settings.windows_set(),
-                    settings.clock(),
-                    place,
-                    standing,
-                    RouteOf::FactThere,
-                )?;
+                self.set_fact(settings, place, standing)?;
                 Ok(())
             }
             Dir::FromCentre => {
@@ -190,7 +176,7 @@ impl Index {
         }
     }
 
-    /// Sets the fact of the message at a place anew by routes, windows and a clock, where its standing stays.
+    /// Sets the fact of the message at a place anew by routes, windows and a clock, where all else that it rests on stays.
     pub(crate) fn refresh_by(
         &mut self,
         routes: &Routes,
@@ -200,7 +186,7 @@ impl Index {
     ) -> Result<(), AllocError>
         ensures held { (z : SettingsValue) (t : TrafficValue) (facts : fin.FinMap place_cmp FactOf)
             → IsTraffic t → z.versions ≡ routes.now.versions → z.windows ≡ windows.now → z.clock ≡ clock
-            → held_now self.old ≡ held_by z t facts
+            → MayRestate z t facts → held_now self.old ≡ held_by z t facts
             → OnOk result (held_now self.new
             ≡ held_by z t (set_at facts place (fin.get (facts_of z t) place))) }
         ensures traffic { OnOk result (traffic_held (held_now self.new) ≡ traffic_held (held_now self.old)) }
@@ -209,8 +195,19 @@ impl Index {
         ensures counted { touches_in self.old ≤ touches_in self.new }
         ensures rises { OnOk result (RisesWithFacts self.old self.new) }
     {
-        let standing = self.standings.standing(place);
-        self.set_fact_by(routes, windows, clock, place, standing, RouteOf::Versions)?;
+        let Some(message) = self.messages.get(&place) else {
+            take_fact(&mut self.tally, place)?;
+            return Ok(());
+        };
+        let said = message.message();
+        let route = said.route(routes);
+        let lapsed = said.has_lapsed(windows, clock);
+        let there = self.tally.look_up(place);
+        let Some(fact) = &there else {
+            return Ok(());
+        };
+        let fact = restated(place, fact, route, lapsed);
+        self.tally.replace(&there, fact)?;
         Ok(())
     }
 
@@ -260,16 +257,12 @@ impl Index {
         Ok(())
     }
 
-    /// Sets the fact of a place anew by routes, windows and a clock, and whether its message is among those whose receipts are
-    /// due.
-    fn set_fact_by(
+    /// Sets the fact of a place anew by how it stands, and whether its message is among those whose receipts are due.
+    fn set_fact(
         &mut self,
-        routes: &Routes,
-        windows: &Windows,
-        clock: Moment,
+        settings: &Settings,
         place: Place,
         standing: Option<Standing>,
-        route_of: RouteOf,
     ) -> Result<(), AllocError>
         ensures messages { self.new.messages ≡ self.old.messages }
         ensures receipts { self.new.receipts ≡ self.old.receipts }
@@ -279,20 +272,18 @@ impl Index {
         ensures settled { self.new.tally.settled ≡ self.old.tally.settled }
         ensures settled_due { self.new.due.settled ≡ self.old.due.settled }
         ensures settled_ends { self.new.ends.settled ≡ self.old.ends.settled }
-        ensures facts { (z : SettingsValue) → z.versions ≡ routes.now.versions
-            → z.windows ≡ windows.now → z.clock ≡ clock
-            → (let traffic = stored_traffic self.old.messages.content self.old.receipts.content in
-            AreOf z traffic self.old.standings.members → standing ≡ standing_at self.old.standings.members place
-            → ((m : MessageOf) (f : FactOf) → route_of ≡ FactThere → fin.get traffic.messages place ≡ Some m
-            → fin.get self.old.tally.facts place ≡ Some f → f.route ≡ route_in z.versions m)
+        ensures facts { let traffic = stored_traffic self.old.messages.content self.old.receipts.content in
+            AreOf settings.now traffic self.old.standings.members → standing ≡ standing_at self.old.standings.members place
+            → ((m : MessageOf) (f : FactOf) → fin.get traffic.messages place ≡ Some m
+            → fin.get self.old.tally.facts place ≡ Some f → f.route ≡ route_in settings.now.versions m)
             → OnOk result (self.new.tally.facts
-            ≡ set_at self.old.tally.facts place (fin.get (facts_of z traffic) place))) }
+            ≡ set_at self.old.tally.facts place (fin.get (facts_of settings.now traffic) place)) }
         ensures due { let messages = messages_in self.old.messages.content in
             dues_in self.old.due.content ≡ due_in messages self.old.tally.facts
             → OnOk result (dues_in self.new.due.content ≡ due_in messages self.new.tally.facts) }
         ensures ends { let messages = messages_in self.old.messages.content in
-            ends_in self.old.ends.content ≡ ends_by windows.now messages self.old.tally.facts
-            → OnOk result (ends_in self.new.ends.content ≡ ends_by windows.now messages self.new.tally.facts) }
+            ends_in self.old.ends.content ≡ ends_by settings.now.windows messages self.old.tally.facts
+            → OnOk result (ends_in self.new.ends.content ≡ ends_by settings.now.windows messages self.new.tally.facts) }
         ensures touches { OnOk result (index_cost self.new ≤ index_cost self.old + 14) }
         ensures counted { touches_in self.old ≤ touches_in self.new }
         ensures rises { OnOk result (RisesWithFacts self.old self.new) }
@@ -305,16 +296,8 @@ impl Index {
         let moment = message.moment;
         let there = self.tally.look_up(place);
         let before = outcome_of(&there);
-        let route = route_by(route_of, &there, message, routes);
-        let fact = fact_at(
-            &self.receipts,
-            windows,
-            clock,
-            place,
-            message,
-            standing,
-            route,
-        );
+        let route = route_by(&there, message, settings.routes());
+        let fact = fact_at(&self.receipts, settings, place, message, standing, route);
         let is_now = is_due(Some(fact.outcome));
         self.tally.replace(&there, fact)?;
         if is_now != is_due(before) {
@@ -324,11 +307,8 @@ impl Index {
                 place,
             };
             set_due(&mut self.due, due, is_now)?;
-            set_end(
-                &mut self.ends,
-                EndAt::of(moment, windows.of(link), place),
-                is_now,
-            )?;
+            let end = EndAt::of(moment, settings.windows_set().of(link), place);
+            set_end(&mut self.ends, end, is_now)?;
         }
         Ok(())
     }
@@ -344,20 +324,18 @@ fn outcome_of(fact: &Option<Fact>) -> Option<Outcome>
     }
 }
 
-/// The route and network of a message: those of the fact that is there, or of its number.
+/// The route and network of a message: those of the fact that is there, or else of its number.
 fn route_by(
-    route_of: RouteOf,
     there: &Option<Fact>,
     message: &StoredMessage,
     routes: &Routes,
 ) -> Option<(RouteId, Network)>
-    ensures { ((f : FactOf) → route_of ≡ FactThere → there.now ≡ Some f
-        → f.route ≡ route_in routes.now.versions message.now)
+    ensures { ((f : FactOf) → there.now ≡ Some f → f.route ≡ route_in routes.now.versions message.now)
         → result ≡ route_in routes.now.versions message.now }
 {
-    match (route_of, there) {
-        (RouteOf::FactThere, Some(fact)) => copied_route(fact),
-        _ => message.route(routes),
+    match there {
+        Some(fact) => copied_route(fact),
+        None => message.route(routes),
     }
 }
 
@@ -371,25 +349,23 @@ fn copied_route(fact: &Fact) -> Option<(RouteId, Network)>
     }
 }
 
-/// What is known of a message at its place, by windows, a clock, how it stands and its route.
+/// What is known of a message at its place, by how it stands and its route.
 fn fact_at(
     receipts: &KeptMap<Place, StoredReceipt>,
-    windows: &Windows,
-    clock: Moment,
+    settings: &Settings,
     place: Place,
     message: &StoredMessage,
     standing: Option<Standing>,
     route: Option<(RouteId, Network)>,
 ) -> Fact
-    ensures value { (z : SettingsValue) (t : TrafficValue) (g : Grouping)
-        → z.windows ≡ windows.now → z.clock ≡ clock → AreOf z t g → standing ≡ standing_at g place
+    ensures value { (t : TrafficValue) (g : Grouping) → AreOf settings.now t g → standing ≡ standing_at g place
         → receipts_in receipts.now.content ≡ t.receipts
-        → fin.get t.messages place ≡ Some message.now → route ≡ route_in z.versions message.now
-        → Some result ≡ fin.get (facts_of z t) place }
+        → fin.get t.messages place ≡ Some message.now → route ≡ route_in settings.now.versions message.now
+        → Some result ≡ fin.get (facts_of settings.now t) place }
     ensures place { result.place ≡ place }
 {
     let said = message.message();
-    let lapsed = said.has_lapsed(windows, clock);
+    let lapsed = said.has_lapsed(settings.windows_set(), settings.clock());
     let decider = received_in(decider_of(receipts, standing));
     fact_of(
         place,

@@ -7,7 +7,7 @@ ghost use Rattle.smq_route.specs.Numbers.{places_under, vacancies};
 ghost use Rattle.smq_tally.specs.declared.fact.Fact.{Fact as FactOf};
 ghost use Rattle.smq_book.specs.edits.Reached.{messages_under};
 ghost use Rattle.smq_book.specs.index.Held.{IsHeld, IsTraffic, held_by, held_now, held_settled, traffic_held};
-ghost use Rattle.smq_book.specs.index.Refreshed.{refreshed};
+ghost use Rattle.smq_book.specs.index.Refreshed.{MayRestate, refreshed};
 ghost use Rattle.smq_book.specs.index.Touches.{RisesWithFacts, index_cost, touches_in};
 ghost use Rattle.smq_book.specs.join.Facts.{facts_of};
 ghost use Rattle.smq_book.specs.pairing.Traffic.{TrafficValue};
@@ -57,7 +57,7 @@ pub(crate) fn refresh_at(
 ) -> Result<(), AllocError>
     ensures held { (z : SettingsValue) (t : TrafficValue) (facts : fin.FinMap place_cmp FactOf)
         → IsTraffic t → z.versions ≡ routes.now.versions → z.windows ≡ windows.now → z.clock ≡ clock
-        → held_now index.old ≡ held_by z t facts
+        → MayRestate z t facts → held_now index.old ≡ held_by z t facts
         → OnOk result (held_now index.new ≡ held_by z t (refreshed z t facts places.now)) }
     ensures traffic { OnOk result (traffic_held (held_now index.new) ≡ traffic_held (held_now index.old)) }
     ensures none { places.now ≡ [] → result ≡ Ok tt }

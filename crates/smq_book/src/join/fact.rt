@@ -5,7 +5,7 @@ ghost use Rattle.std.specs.Option.{option_copied};
 ghost use Rattle.smq_kit.specs.declared.names.RouteId.{RouteId};
 ghost use Rattle.smq_group.specs.Matching.{Standing};
 ghost use Rattle.smq_book.specs.join.Circumstances.{circumstances_by, lapsed_in, route_in};
-ghost use Rattle.smq_book.specs.join.Facts.{fact_by};
+ghost use Rattle.smq_book.specs.join.Facts.{by_lapse, fact_by, with_lapse, with_route};
 ghost use Rattle.smq_book.specs.join.Outcomes as outcomes;
 ghost use Rattle.smq_book.specs.join.Outcomes.{is_shared};
 
@@ -57,6 +57,38 @@ pub(crate) fn fact_of(
         error: error(outcome, message, decider),
         link_delay: link_delay(outcome, message, decider),
         centre_delay: centre_delay(outcome, decider),
+    }
+}
+
+/// A fact that is at this place, with another route and network, by whether its message has lapsed.
+pub(crate) fn restated(
+    place: Place,
+    fact: &Fact,
+    route: Option<(RouteId, Network)>,
+    lapsed: bool,
+) -> Fact
+    ensures { result ≡ record (with_route route (with_lapse lapsed fact.now)) { place = place } }
+{
+    let mut restated = fact.copy();
+    restated.place = place;
+    restated.route = route;
+    restated.outcome = outcome_by_lapse(fact.outcome, lapsed);
+    restated
+}
+
+/// What becomes of an open or lapsed message by whether it has lapsed; any other outcome stays.
+fn outcome_by_lapse(outcome: Outcome, lapsed: bool) -> Outcome
+    ensures { result ≡ by_lapse lapsed outcome }
+{
+    match outcome {
+        Outcome::Open | Outcome::Lapsed => {
+            if lapsed {
+                Outcome::Lapsed
+            } else {
+                Outcome::Open
+            }
+        }
+        _ => outcome,
     }
 }
 

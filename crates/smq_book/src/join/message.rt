@@ -1,8 +1,7 @@
 //! What messages and delivery receipts say, borrowed from where that is stored.
 ghost use Rattle.std.specs.Prelude.{◌≡◌, pos, ◌-ℤ◌};
 ghost use Rattle.std.specs.Option.{option_copied};
-ghost use Rattle.smq_book.specs.index.Due.{has_ended};
-ghost use Rattle.smq_book.specs.join.Circumstances.{route_in};
+ghost use Rattle.smq_book.specs.join.Circumstances.{has_ended, route_in};
 ghost use Rattle.smq_book.specs.join.Keyed as keyed;
 ghost use Rattle.smq_book.specs.join.Keyed.{accepted_id};
 ghost use Rattle.smq_book.specs.present.Settings.{window_in};

@@ -8,7 +8,6 @@ use Rattle.std.specs.Map.{keys_of, remove_entry}
 use Rattle.std.specs.FinSet.{FinSet}
 use Rattle.std.specs.Prelude.{option_and_then, option_map}
 use Rattle.std.specs.Ordering.{eq_by_cmp, is_eq}
-use Rattle.smq_shelf.specs.Keeping.{KeepingMap}
 use Rattle.std.proofs.lemmas.Bool.{false≢true}
 use Rattle.smq_kit.specs.declared.link_key.LinkKey.{LinkKey}
 use Rattle.smq_kit.specs.declared.place.Dir.{Dir}
@@ -24,10 +23,10 @@ use Rattle.smq_tally.specs.declared.list.List.TheVariants as l
 use Rattle.smq_tally.specs.Lists.{listed}
 use Rattle.smq_group.specs.declared.change.Change.{Change}
 use Rattle.smq_group.specs.Changes.{TellsChanges}
-use Rattle.smq_group.specs.Groups.{GroupsValue, with_receipt, with_submit, without_receipt, without_submit}
+use Rattle.smq_group.specs.Groups.{with_receipt, with_submit, without_receipt, without_submit}
 use Rattle.smq_group.specs.Matching.{Grouping}
 use Rattle.smq_group.specs.Standings.{StandApart}
-use Rattle.smq_route.specs.Numbers.{NumbersValue, number_cmp}
+use Rattle.smq_route.specs.Numbers.{number_cmp}
 use Rattle.smq_route.specs.Versions.{Versions}
 use Rattle.smq_book.specs.declared.index.index.Index.{Index}
 use Rattle.smq_book.specs.present.Settings.{SettingsValue, window_in}
@@ -40,7 +39,7 @@ use Rattle.smq_book.specs.join.Moves.{IsMove, TakeMessage, TakeReceipt, put_mess
 use Rattle.smq_book.specs.index.Due.{due_at, due_cmp, due_in, is_due_fact}
 use Rattle.smq_book.specs.index.Ends.{end_at, end_cmp, ends_by}
 use Rattle.smq_book.specs.index.Following.{AreTold, MayFollow}
-use Rattle.smq_book.specs.index.Held.{AreOf, Holding, IsTraffic, IsUnlisted, dues_in, ends_in, facts_anew, held_by, held_now, held_of}
+use Rattle.smq_book.specs.index.Held.{AreOf, Holding, IsTraffic, IsUnlisted, dues_in, ends_in, facts_anew, held_now, held_of}
 use Rattle.smq_book.specs.index.Held.{is_ambiguous, is_extra, is_stray, is_traffic_list, noted}
 use Rattle.smq_book.specs.index.Held.{list_held, messages_in, notes_anew, receipts_in, stored_traffic, with_listing}
 use Rattle.smq_book.specs.index.Numbered.{numbered, numbers_of}
@@ -96,18 +95,14 @@ pub record Stores (s : SettingsValue) (u : TrafficValue) (ms : List (Place × Me
 traffic-stands : (s : SettingsValue) (t : TrafficValue) → IsTraffic t → StandsApart t
 traffic-stands s t traffic = record { apart = (traffic-apart s t traffic).apart }
 
-stored-by : (s : SettingsValue) (t : TrafficValue) (facts : FinMap place_cmp Fact) (i : Index) → IsTraffic t → held_now i ≡ held_by s t facts
+pub stored-held : (s : SettingsValue) (t : TrafficValue) (i : Index) → IsTraffic t → held_now i ≡ held_of s t
     → Stores s t i.messages.content i.receipts.content i.standings.members
-stored-by s t facts i traffic held = record {
+stored-held s t i traffic held = record {
   messages = ap (λ (h : Holding). h.messages) held;
   receipts = ap (λ (h : Holding). h.receipts) held;
   members = ap (λ (h : Holding). h.members) held;
   stands = traffic-stands s t traffic;
 }
-
-pub stored-held : (s : SettingsValue) (t : TrafficValue) (i : Index) → IsTraffic t → held_now i ≡ held_of s t
-    → Stores s t i.messages.content i.receipts.content i.standings.members
-stored-held s t i traffic held = stored-by s t (facts_of s t) i traffic held
 
 module _ {s : SettingsValue} {u : TrafficValue} {ms : List (Place × Message)} {rs : List (Place × ReceivedReceipt)} {g : Grouping}
     (stores : Stores s u ms rs g) where
@@ -145,48 +140,6 @@ module _ {s : SettingsValue} {u : TrafficValue} {ms : List (Place × Message)} {
 pub are-held : (s : SettingsValue) (t : TrafficValue) (i : Index) → IsTraffic t → held_now i ≡ held_of s t
     → AreOf s (stored_traffic i.messages.content i.receipts.content) i.standings.members
 are-held s t i traffic held = are-stored (stored-held s t i traffic held)
-
--- ---- a fact that is set anew by other routes, other windows or another clock
-
-module _ (z : SettingsValue) (t : TrafficValue) (facts : FinMap place_cmp Fact) (i : Index) (traffic : IsTraffic t)
-    (held : held_now i ≡ held_by z t facts) where
-  are-by : AreOf z (stored_traffic i.messages.content i.receipts.content) i.standings.members
-  are-by = are-stored (stored-by z t facts i traffic held)
-
-  -- the messages that are held as those whose receipts are due are those of these facts
-  due-by : dues_in i.due.content ≡ due_in (messages_in i.messages.content) i.tally.facts
-  due-by =
-      ap (λ (h : Holding). h.due) held
-      ∙ (λ k. due_in (sym (ap (λ (h : Holding). h.messages) held) k) (sym (ap (λ (h : Holding). h.facts) held) k))
-
-  ends-now : ends_in i.ends.content ≡ ends_by z.windows (messages_in i.messages.content) i.tally.facts
-  ends-now =
-      ap (λ (h : Holding). h.ends) held
-      ∙ (λ k. ends_by z.windows (sym (ap (λ (h : Holding). h.messages) held) k) (sym (ap (λ (h : Holding). h.facts) held) k))
-
-  -- where what is stored stays, so does all that is held but the fact of the place
-  pub held-refreshed : (j : Index) (q : Place) → j.messages ≡ i.messages → j.receipts ≡ i.receipts → j.standings ≡ i.standings
-      → j.numbers ≡ i.numbers → j.tally.notes ≡ i.tally.notes
-      → (AreOf z (stored_traffic i.messages.content i.receipts.content) i.standings.members
-      → j.tally.facts ≡ set_at i.tally.facts q (get (facts_of z (stored_traffic i.messages.content i.receipts.content)) q))
-      → (dues_in i.due.content ≡ due_in (messages_in i.messages.content) i.tally.facts
-      → dues_in j.due.content ≡ due_in (messages_in i.messages.content) j.tally.facts)
-      → (ends_in i.ends.content ≡ ends_by z.windows (messages_in i.messages.content) i.tally.facts
-      → ends_in j.ends.content ≡ ends_by z.windows (messages_in i.messages.content) j.tally.facts)
-      → held_now j ≡ held_by z t (set_at facts q (get (facts_of z t) q))
-  held-refreshed j q messages receipts standings numbers notes sets dues ends = λ k. record {
-    messages = (ap (λ (m : KeepingMap Place Message). messages_in m.content) messages ∙ ap (λ (h : Holding). h.messages) held) k;
-    receipts = (ap (λ (r : KeepingMap Place ReceivedReceipt). receipts_in r.content) receipts ∙ ap (λ (h : Holding). h.receipts) held) k;
-    members = (ap (λ (v : GroupsValue). v.members) standings ∙ ap (λ (h : Holding). h.members) held) k;
-    facts = set k;
-    notes = (notes ∙ ap (λ (h : Holding). h.notes) held) k;
-    due = (dues due-by ∙ (λ l. due_in (held l).messages (set l))) k;
-    ends = (ends ends-now ∙ (λ l. ends_by z.windows (held l).messages (set l))) k;
-    numbers = (ap (λ (n : NumbersValue). n.numbers) numbers ∙ ap (λ (h : Holding). h.numbers) held) k;
-  }
-    where
-      set : j.tally.facts ≡ set_at facts q (get (facts_of z t) q)
-      set = sets are-by ∙ (λ l. set_at (held l).facts q (get (facts-stored (stored-by z t facts i traffic held) l) q))
 
 -- ---- after a move
 

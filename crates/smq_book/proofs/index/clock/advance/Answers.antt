@@ -6,6 +6,7 @@ use Rattle.smq_book.specs.join.Facts.{facts_of}
 use Rattle.smq_book.specs.index.Ends.{places_ending}
 use Rattle.smq_book.specs.index.Held.{Holding, ends_in, held_now, traffic_held}
 use Rattle.smq_book.proofs.lemmas.index.Anew.{none-ending}
+use Rattle.smq_book.proofs.lemmas.index.Restated.{restates}
 use Rattle.smq_book.proofs.lemmas.index.Refreshed.{clock-held}
 use Rattle.smq_book.proofs.index.clock.advance.Goals as goal
 
@@ -16,6 +17,7 @@ returns-clause-held c = λ s routes windows from forward is.
     clock-held s g (held_now c.refresh_at.new.index) is c.args.clock c.as_slice.result.now forward
     (c.as_slice.ensures.value ∙ c.in_ok-places.ensures.value ∙ (λ i. places_ending (sym from i) c.args.clock g.ends))
     (c.in_ok-refresh_at.ensures.held (with_clock s c.args.clock) t (facts_of s t) is.traffic routes windows refl
+    (restates s t s.versions s.windows c.args.clock)
     ((λ i. record g { ends = ends_in (c.ending_places.ensures.walked.content i) }) ∙ is.held))
 
 pub returns-clause-traffic : goal.returns-clause-traffic

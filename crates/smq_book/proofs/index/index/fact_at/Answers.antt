@@ -2,10 +2,9 @@ use Rattle.std.proofs.Common.{ap, sym, ◌∙◌}
 use Rattle.std.specs.Option.{option_copied}
 use Rattle.smq_kit.specs.Orders.{place_cmp}
 use Rattle.std.specs.FinMap.{FinMap}
-use Rattle.smq_book.specs.index.Due.{has_ended}
 use Rattle.smq_book.specs.index.Held.{decider_held}
 use Rattle.smq_book.specs.index.Stored.{is_told_shared}
-use Rattle.smq_book.specs.join.Circumstances.{circumstances_by, standing_in}
+use Rattle.smq_book.specs.join.Circumstances.{circumstances_by, has_ended, standing_in}
 use Rattle.smq_book.specs.join.Facts.{fact_by}
 use Rattle.smq_book.specs.pairing.Traffic.{Message, ReceivedReceipt}
 use Rattle.smq_book.specs.present.Settings.{window_in}
@@ -13,7 +12,8 @@ use Rattle.smq_book.proofs.lemmas.index.Stored.{fact-is, shared-there}
 use Rattle.smq_book.proofs.index.index.fact_at.Goals as goal
 
 pub returns-clause-value : goal.returns-clause-value
-returns-clause-value c = λ z t g windows clock are told same there routed.
+returns-clause-value c = λ t g are told same there routed.
+    let z = c.args.settings.now in
     let m = c.args.message.now in
     let said = c.message-said.ensures in
     let shared = shared-there z t g are c.args.place m there ∙ sym (ap is_told_shared told) ∙ sym c.is_shared.ensures in
@@ -23,7 +23,7 @@ returns-clause-value c = λ z t g windows clock are told same there routed.
     (c.as_ref.ensures.value ∙ c.received_in-decider.ensures ∙ c.decider_of.ensures
     ∙ ap (λ (r : FinMap place_cmp ReceivedReceipt). decider_held r c.args.standing) same)
     routed
-    (c.has_lapsed-lapsed.ensures ∙ (λ i. has_ended (sym clock i) (said i).moment (window_in (sym windows i) (said i).link)))
+    (c.has_lapsed-lapsed.ensures ∙ (λ i. has_ended (c.clock.ensures i) (said i).moment (window_in (c.windows_set.ensures i) (said i).link)))
     (c.fact_of.ensures.value (standing_in g z m) shared
     ∙ ap (λ (x : Message). fact_by c.args.place x
     (circumstances_by (standing_in g z m) (option_copied c.as_ref.result) c.args.route c.has_lapsed-lapsed.result)) said)

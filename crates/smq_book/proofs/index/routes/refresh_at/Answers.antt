@@ -4,6 +4,7 @@ use Rattle.smq_kit.specs.declared.place.Place.{Place}
 use Rattle.smq_book.specs.index.Held.{held_now}
 use Rattle.smq_book.specs.index.Refreshed.{refreshed}
 use Rattle.smq_book.proofs.lemmas.index.Refreshed.{refreshed-all, refreshed-next}
+use Rattle.smq_book.proofs.lemmas.index.Restated.{restates-all}
 use Rattle.smq_book.proofs.lemmas.index.Rises.{both-rise}
 use Rattle.smq_book.proofs.index.routes.refresh_at.Goals as goal
 
@@ -13,12 +14,13 @@ none = record { session = record { 0 = 0 }; dir = FromClient; offset = 0 }
 
 pub loop-place-preserved : goal.loop-place-preserved
 loop-place-preserved c = record {
-  held = λ z t facts traffic routes windows clock held.
+  held = λ z t facts traffic routes windows clock may held.
       let i = c.loop-place.place-index in
       let places = c.args.places.now in
       refreshed-next z t facts places i none (held_now c.refresh_by.new.self) c.loop-place-test.true
       (c.in_ok-refresh_by.ensures.held z t (refreshed z t facts (take i places)) traffic routes windows clock
-      (c.loop-place.invariant.held z t facts traffic routes windows clock held));
+      (restates-all z t facts may (take i places))
+      (c.loop-place.invariant.held z t facts traffic routes windows clock may held));
   traffic = c.in_ok-refresh_by.ensures.traffic ∙ c.loop-place.invariant.traffic;
   settled = c.refresh_by.ensures.settled ∙ c.loop-place.invariant.settled;
   touches = omega (arith, c.in_ok-refresh_by.ensures.touches, c.loop-place.invariant.touches);
@@ -28,6 +30,6 @@ loop-place-preserved c = record {
 }
 
 pub returns-clause-held : goal.returns-clause-held
-returns-clause-held c = λ z t facts traffic routes windows clock held.
+returns-clause-held c = λ z t facts traffic routes windows clock may held.
     refreshed-all z t facts c.args.places.now c.loop-place.place-index (held_now c.loop-place.index) (omega arith)
-    (c.loop-place.invariant.held z t facts traffic routes windows clock held)
+    (c.loop-place.invariant.held z t facts traffic routes windows clock may held)

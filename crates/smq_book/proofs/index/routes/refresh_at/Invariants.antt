@@ -6,7 +6,7 @@ use Rattle.smq_tally.specs.declared.fact.Fact.{Fact}
 use Rattle.smq_book.specs.present.Settings.{SettingsValue}
 use Rattle.smq_book.specs.pairing.Traffic.{TrafficValue}
 use Rattle.smq_book.specs.index.Held.{IsTraffic, held_by, held_now, held_settled, traffic_held}
-use Rattle.smq_book.specs.index.Refreshed.{refreshed}
+use Rattle.smq_book.specs.index.Refreshed.{MayRestate, refreshed}
 use Rattle.smq_book.specs.index.Touches.{RisesWithFacts, index_cost, touches_in}
 use Rattle.smq_book.proofs.index.routes.refresh_at.Given as goal
 
@@ -14,7 +14,7 @@ abbrev pub invariant-loop-place : goal.invariant-loop-place
 invariant-loop-place l = record {
   held : (z : SettingsValue) (t : TrafficValue) (facts : FinMap place_cmp Fact)
       → IsTraffic t → z.versions ≡ l.routes.versions → z.windows ≡ l.windows → z.clock ≡ l.clock
-      → held_now l.initial.index ≡ held_by z t facts
+      → MayRestate z t facts → held_now l.initial.index ≡ held_by z t facts
       → held_now l.index ≡ held_by z t (refreshed z t facts (take l.place-index l.places));
   traffic : traffic_held (held_now l.index) ≡ traffic_held (held_now l.initial.index);
   settled : held_settled l.index ≡ held_settled l.initial.index;

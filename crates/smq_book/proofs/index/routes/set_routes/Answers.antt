@@ -3,6 +3,7 @@ use Rattle.smq_route.specs.Numbers.{NumbersValue}
 use Rattle.smq_book.specs.present.Settings.{with_versions}
 use Rattle.smq_book.specs.join.Facts.{facts_of}
 use Rattle.smq_book.specs.index.Held.{held_now, traffic_held}
+use Rattle.smq_book.proofs.lemmas.index.Restated.{restates}
 use Rattle.smq_book.proofs.lemmas.index.Refreshed.{routes-held, told-numbers}
 use Rattle.smq_book.proofs.index.routes.set_routes.Goals as goal
 
@@ -14,6 +15,7 @@ returns-clause-held c = λ s windows clock is same.
     routes-held s g (held_now c.refresh_at.new.index) is versions c.args.prefix.now c.as_slice.result.now same
     (c.as_slice.ensures.value ∙ c.in_ok-places.ensures.value)
     (c.in_ok-refresh_at.ensures.held (with_versions s versions) (traffic_held g) (facts_of s (traffic_held g)) is.traffic refl windows clock
+    (restates s (traffic_held g) versions s.windows s.clock)
     (unmoved ∙ is.held))
 
 pub returns-clause-traffic : goal.returns-clause-traffic

@@ -7,6 +7,7 @@ use Rattle.smq_book.specs.index.Due.{keys_on}
 use Rattle.smq_book.specs.index.Ends.{ends_by, ends_put, ends_taken}
 use Rattle.smq_book.specs.index.Held.{dues_in, ends_in, held_now, held_settled, traffic_held}
 use Rattle.smq_book.proofs.lemmas.index.Ends.{ends-moved}
+use Rattle.smq_book.proofs.lemmas.index.Restated.{restates}
 use Rattle.smq_book.proofs.lemmas.index.Refreshed.{window-held}
 use Rattle.smq_book.proofs.index.window.set_window.Goals as goal
 
@@ -27,6 +28,7 @@ returns-clause-held c = λ s routes clock is waited others same.
     let places = c.as_slice-4.ensures.value ∙ c.in_ok-places.ensures ∙ ap (map (λ (k : DueAt). k.place)) (c.as_slice-3.ensures.value ∙ of-link) in
     window-held s g (held_now c.refresh_at.new.index) is windows link c.as_slice-4.result.now same places
     (c.in_ok-refresh_at.ensures.held (with_windows s windows) t (facts_of s t) is.traffic routes refl clock
+    (restates s t s.versions windows s.clock)
     ((λ i. record g { due = dues_in (c.due_on.ensures.walked.content i); ends = ends i })
     ∙ (λ i. record (is.held i) { ends = ends_by windows t.messages (facts_of s t) })))
 

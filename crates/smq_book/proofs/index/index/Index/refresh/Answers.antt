@@ -11,37 +11,27 @@ use Rattle.smq_book.specs.index.Held.{ends_in, list_held, messages_in, stored_tr
 use Rattle.smq_book.proofs.lemmas.index.Following.{fact-follows, fact-idle, listing-follows, listing-idle, listing-told}
 use Rattle.smq_book.proofs.index.index.Index.refresh.Goals as goal
 
-pub returns-in_ok-set_fact_by-in-FromClient-clause-facts : goal.returns-in_ok-set_fact_by-in-FromClient-clause-facts
-returns-in_ok-set_fact_by-in-FromClient-clause-facts c = λ told may.
-    c.in_ok-set_fact_by-in-FromClient.ensures.facts c.args.settings.now (sym c.routes.ensures) (sym c.windows_set.ensures) (sym c.clock.ensures) may.are told
-    (λ m f of. may.routed c.args.place m f)
+pub returns-in_ok-set_fact-in-FromClient-clause-facts : goal.returns-in_ok-set_fact-in-FromClient-clause-facts
+returns-in_ok-set_fact-in-FromClient-clause-facts c = λ told may.
+    c.in_ok-set_fact-in-FromClient.ensures.facts may.are told (may.routed c.args.place)
 
-pub returns-in_ok-set_fact_by-in-FromClient-clause-notes : goal.returns-in_ok-set_fact_by-in-FromClient-clause-notes
-returns-in_ok-set_fact_by-in-FromClient-clause-notes c = λ told may.
+pub returns-in_ok-set_fact-in-FromClient-clause-notes : goal.returns-in_ok-set_fact-in-FromClient-clause-notes
+returns-in_ok-set_fact-in-FromClient-clause-notes c = λ told may.
     let i = c.args.self.now in
-    c.in_ok-set_fact_by-in-FromClient.ensures.notes
+    c.in_ok-set_fact-in-FromClient.ensures.notes
     ∙ listing-idle c.args.settings.now (stored_traffic i.messages.content i.receipts.content) i.standings.members
     i.tally.facts i.tally.notes c.args.new may c.args.place c.in-FromClient.is
 
-pub returns-in_ok-set_fact_by-in-FromClient-clause-follows : goal.returns-in_ok-set_fact_by-in-FromClient-clause-follows
-returns-in_ok-set_fact_by-in-FromClient-clause-follows c = λ told may.
+pub returns-in_ok-set_fact-in-FromClient-clause-follows : goal.returns-in_ok-set_fact-in-FromClient-clause-follows
+returns-in_ok-set_fact-in-FromClient-clause-follows c = λ told may.
     let i = c.args.self.now in
     let s = c.args.settings.now in
     let traffic = stored_traffic i.messages.content i.receipts.content in
-    let set = c.in_ok-set_fact_by-in-FromClient.ensures.facts s (sym c.routes.ensures) (sym c.windows_set.ensures) (sym c.clock.ensures) may.are told
-    (λ m f of. may.routed c.args.place m f) in
-    subst (λ (n : FinSet listed_cmp). MayFollow s traffic i.standings.members c.args.new c.set_fact_by.new.self.tally.facts n)
-    (sym c.in_ok-set_fact_by-in-FromClient.ensures.notes)
+    let set = c.in_ok-set_fact-in-FromClient.ensures.facts may.are told (may.routed c.args.place) in
+    subst (λ (n : FinSet listed_cmp). MayFollow s traffic i.standings.members c.args.new c.set_fact.new.self.tally.facts n)
+    (sym c.in_ok-set_fact-in-FromClient.ensures.notes)
     (subst (λ (m : FinMap place_cmp Fact). MayFollow s traffic i.standings.members c.args.new m i.tally.notes) (sym set)
     (fact-follows s traffic i.standings.members i.tally.facts i.tally.notes c.args.new may c.args.place c.in-FromClient.is))
-
-pub returns-in_ok-set_fact_by-in-FromClient-clause-ends : goal.returns-in_ok-set_fact_by-in-FromClient-clause-ends
-returns-in_ok-set_fact_by-in-FromClient-clause-ends c = λ same.
-    let i = c.args.self.now in
-    subst (λ (w : Windows). ends_in c.set_fact_by.new.self.ends.content
-    ≡ ends_by w (messages_in i.messages.content) c.set_fact_by.new.self.tally.facts) c.windows_set.ensures
-    (c.in_ok-set_fact_by-in-FromClient.ensures.ends (subst (λ (w : Windows). ends_in i.ends.content
-    ≡ ends_by w (messages_in i.messages.content) i.tally.facts) (sym c.windows_set.ensures) same))
 
 pub returns-in_ok-list_receipt-in-FromCentre-clause-facts : goal.returns-in_ok-list_receipt-in-FromCentre-clause-facts
 returns-in_ok-list_receipt-in-FromCentre-clause-facts c = λ told may.

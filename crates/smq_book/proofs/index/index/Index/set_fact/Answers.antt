@@ -14,7 +14,7 @@ use Rattle.smq_book.specs.pairing.Traffic.{Message}
 use Rattle.smq_book.proofs.lemmas.index.Due.{due-fact, due-fact-absent, due-still, noted-marked}
 use Rattle.smq_book.proofs.lemmas.index.Ends.{end-fact, end-fact-absent, end-still}
 use Rattle.smq_book.proofs.lemmas.index.Stored.{fact-absent, stored-at}
-use Rattle.smq_book.proofs.index.index.Index.set_fact_by.Goals as goal
+use Rattle.smq_book.proofs.index.index.Index.set_fact.Goals as goal
 
 pub replace-requires : goal.replace-requires
 replace-requires c = record {
@@ -22,14 +22,14 @@ replace-requires c = record {
 }
 
 pub returns-in_default-clause-facts : goal.returns-in_default-clause-facts
-returns-in_default-clause-facts c = λ z versions windows clock are told routes.
+returns-in_default-clause-facts c = λ are told routes.
     let i = c.args.self.now in
     let q = c.args.place in
     let gone : ◌≡◌ {A = Option Message} None (option_copied c.get.result) = search rules in
     let none : get (messages_in i.messages.content) q ≡ None = sym (gone ∙ c.get.ensures ∙ stored-at i.messages.content q) in
     c.in_ok-take_fact.ensures.facts
     ∙ ap (set_at i.tally.facts q)
-    (sym (fact-absent z (stored_traffic i.messages.content i.receipts.content) i.standings.members are q none))
+    (sym (fact-absent c.args.settings.now (stored_traffic i.messages.content i.receipts.content) i.standings.members are q none))
 
 pub returns-in_default-clause-due : goal.returns-in_default-clause-due
 returns-in_default-clause-due c = λ same.
@@ -45,7 +45,7 @@ pub returns-in_default-clause-ends : goal.returns-in_default-clause-ends
 returns-in_default-clause-ends c = λ same.
     let i = c.args.self.now in
     let q = c.args.place in
-    let w = c.args.windows.now in
+    let w = c.args.settings.now.windows in
     let gone : ◌≡◌ {A = Option Message} None (option_copied c.get.result) = search rules in
     let none : get (messages_in i.messages.content) q ≡ None = sym (gone ∙ c.get.ensures ∙ stored-at i.messages.content q) in
     same
@@ -53,7 +53,7 @@ returns-in_default-clause-ends c = λ same.
     ∙ ap (ends_by w (messages_in i.messages.content)) (sym c.in_ok-take_fact.ensures.facts)
 
 pub returns-in_ok-set_end-clause-facts : goal.returns-in_ok-set_end-clause-facts
-returns-in_ok-set_end-clause-facts c = λ z versions windows clock are told routes.
+returns-in_ok-set_end-clause-facts c = λ are told routes.
     let i = c.args.self.now in
     let q = c.args.place in
     let m = c.in-Some.message.now in
@@ -65,12 +65,12 @@ returns-in_ok-set_end-clause-facts c = λ z versions windows clock are told rout
     ∙ (λ j. insert (c.look_up-there.ensures.held j).facts (c.fact_at-fact.ensures.place j) fact) in
     sets
     ∙ ap (set_at i.tally.facts q)
-    (c.fact_at-fact.ensures.value z (stored_traffic i.messages.content i.receipts.content) i.standings.members windows clock are told refl there
-    (c.route_by-route.ensures (λ f of is. routes m f of there (sym c.look_up-there.ensures.value ∙ is) ∙ ap (λ (v : Versions). route_in v m) versions)
-    ∙ ap (λ (v : Versions). route_in v m) (sym versions)))
+    (c.fact_at-fact.ensures.value (stored_traffic i.messages.content i.receipts.content) i.standings.members are told refl there
+    (c.route_by-route.ensures (λ f is. routes m f there (sym c.look_up-there.ensures.value ∙ is) ∙ ap (λ (v : Versions). route_in v m) (sym c.routes.ensures))
+    ∙ ap (λ (v : Versions). route_in v m) c.routes.ensures))
 
 pub returns-else-is_now-is_due-clause-facts : goal.returns-else-is_now-is_due-clause-facts
-returns-else-is_now-is_due-clause-facts c = λ z versions windows clock are told routes.
+returns-else-is_now-is_due-clause-facts c = λ are told routes.
     let i = c.args.self.now in
     let q = c.args.place in
     let m = c.in-Some.message.now in
@@ -82,9 +82,9 @@ returns-else-is_now-is_due-clause-facts c = λ z versions windows clock are told
     ∙ (λ j. insert (c.look_up-there.ensures.held j).facts (c.fact_at-fact.ensures.place j) fact) in
     sets
     ∙ ap (set_at i.tally.facts q)
-    (c.fact_at-fact.ensures.value z (stored_traffic i.messages.content i.receipts.content) i.standings.members windows clock are told refl there
-    (c.route_by-route.ensures (λ f of is. routes m f of there (sym c.look_up-there.ensures.value ∙ is) ∙ ap (λ (v : Versions). route_in v m) versions)
-    ∙ ap (λ (v : Versions). route_in v m) (sym versions)))
+    (c.fact_at-fact.ensures.value (stored_traffic i.messages.content i.receipts.content) i.standings.members are told refl there
+    (c.route_by-route.ensures (λ f is. routes m f there (sym c.look_up-there.ensures.value ∙ is) ∙ ap (λ (v : Versions). route_in v m) (sym c.routes.ensures))
+    ∙ ap (λ (v : Versions). route_in v m) c.routes.ensures))
 
 pub returns-in_ok-set_end-clause-due : goal.returns-in_ok-set_end-clause-due
 returns-in_ok-set_end-clause-due c = λ same.
@@ -115,11 +115,11 @@ returns-in_ok-set_end-clause-ends c = λ same.
     let fact : Fact = c.fact_at-fact.result in
     let sets = c.in_ok-replace.ensures.ok
     ∙ (λ j. insert (c.look_up-there.ensures.held j).facts (c.fact_at-fact.ensures.place j) fact) in
-    let w = c.args.windows.now in
+    let w = c.args.settings.now.windows in
     let is_now = c.is_due-is_now.ensures (Some fact) refl in
     c.in_ok-set_end.ensures.value
-    ∙ (λ j. set_at (same j) (c.of-then-is_now-is_due.ensures j) (noted (is_now j)))
-    ∙ (λ j. set_at (ends_by w ms i.tally.facts) (end_at ((c.message.view_is j).moment + (c.of.ensures ∙ (λ k. window_in w (c.message.view_is k).link)) j) q) (noted (is_due_fact (Some fact))))
+    ∙ (λ j. set_at (same j) (c.of-end.ensures j) (noted (is_now j)))
+    ∙ (λ j. set_at (ends_by w ms i.tally.facts) (end_at ((c.message.view_is j).moment + (c.of.ensures ∙ (λ k. window_in (c.windows_set.ensures k) (c.message.view_is k).link)) j) q) (noted (is_due_fact (Some fact))))
     ∙ ap (set_at (ends_by w ms i.tally.facts) (end_at (m.moment + window_in w m.link) q)) (noted-marked (is_due_fact (Some fact)))
     ∙ sym (end-fact w ms i.tally.facts q (Some fact) m there)
     ∙ ap (ends_by w ms) (sym sets)
@@ -156,5 +156,5 @@ returns-else-is_now-is_due-clause-ends c = λ same.
     let before = c.outcome_of-before.ensures ∙ ap (option_map (λ (f : Fact). f.outcome)) c.look_up-there.ensures.value in
     let still : is_due_fact (Some fact) ≡ is_due_fact (get i.tally.facts q) =
     sym (c.is_due-is_now.ensures (Some fact) refl) ∙ equal ∙ c.is_due.ensures (get i.tally.facts q) before in
-    let w = c.args.windows.now in
+    let w = c.args.settings.now.windows in
     same ∙ sym (end-still w ms i.tally.facts q (Some fact) m there still) ∙ ap (ends_by w ms) (sym sets)
