@@ -1,21 +1,20 @@
 //! What an append changes: what each PDU says that its batch completes, in turn, and the bad length at which the batch leaves its
 //! direction broken.
-ghost use Rattle.std.specs.Prelude.{◌≡◌, ◌≢◌, ◌≤◌, ◌+◌, ℕ, ◌++◌, Some, None, IfSome, OnOk};
-ghost use Rattle.std.specs.FinMap as fin;
+ghost use Rattle.std.specs.Prelude.{◌≡◌, ◌≢◌, ◌≤◌, ◌+◌, ℕ, ◌++◌, OnOk};
 ghost use Rattle.std.specs.List.{sum_by};
 ghost use Rattle.smq_frame.specs.Stream.{handed_in, values};
 ghost use Rattle.smq_frame.specs.Tail.{tail_of};
 ghost use Rattle.smq_kit.specs.declared.place.Dir.TheVariants.{FromClient, FromCentre};
 ghost use Rattle.smq_book.specs.edits.AppendedNotes.{broken_moves};
 ghost use Rattle.smq_book.specs.index.Held.{IsHeld, held_now, held_settled, traffic_held};
-ghost use Rattle.smq_book.specs.index.Pairs.{pairing_in, pairs_now, pairs_pending, pairs_settled};
+ghost use Rattle.smq_book.specs.index.Pairs.{pairs_now, pairs_pending, pairs_settled};
 ghost use Rattle.smq_book.specs.index.Touches.{HasNoneVacant, MembersCome, RisesWithFacts, index_cost, pairs_cost, pdu_load};
 ghost use Rattle.smq_book.specs.index.Pushed.{IsHeldAfter, IsSaidBy, origin_at, pairing_with, pushed_moves};
-ghost use Rattle.smq_book.specs.pairing.Traffic.{session_pairing, traffic_of};
+ghost use Rattle.smq_book.specs.pairing.Traffic.{session_pairing};
 ghost use Rattle.smq_book.specs.present.Batch.{batch_pdus, next_tail};
 ghost use Rattle.smq_book.specs.present.Kept.{kept_pdus};
-ghost use Rattle.smq_book.specs.present.Present.{direction, octets_in};
-ghost use Rattle.smq_book.specs.present.Steps.{session_after, session_with};
+ghost use Rattle.smq_book.specs.present.Present.{direction};
+ghost use Rattle.smq_book.specs.present.Steps.{session_with};
 ghost use Rattle.smq_book.specs.within.Pairs.{Rises, SubmitsAreRequests, from_session};
 
 use crate::index::index::Index;
@@ -23,59 +22,13 @@ use crate::index::notes::note_broken;
 use crate::index::pairings::Pairings;
 use crate::index::push::{push_of_centre, push_of_client};
 use crate::present::settings::Settings;
-use crate::{Batch, KeptPdu, Present, Session};
+use crate::{Batch, KeptPdu, Session};
 use smq_kit::{Dir, SessionId};
 use std::alloc::AllocError;
 
-/// Takes what a batch says, which is the next of its direction in its session, or in a new one. On an error what is held of
-/// its session is of no use: the caller undoes it.
-pub(crate) fn append(
-    index: &mut Index,
-    pairings: &mut Pairings,
-    present: &Present,
-    batch: &Batch,
-) -> Result<(), AllocError>
-    requires held { IsHeld present.now.settings (held_now index.old) }
-    requires traffic { traffic_held (held_now index.old) ≡ traffic_of present.now.sessions }
-    requires pairs { pairs_now pairings.old batch.now.session.0
-        ≡ pairing_in present.now.sessions batch.now.session.0 }
-    requires in_step { batch.now.tail ≡ tail_of (values
-        (octets_in batch.now.dir (fin.get present.now.sessions batch.now.session.0))) }
-    requires link { IfSome (fin.get present.now.sessions batch.now.session.0)
-        (λ session. session.link ≡ batch.now.link) }
-    ensures held { OnOk result (IsHeld present.now.settings (held_now index.new)) }
-    ensures traffic { let number = batch.now.session.0 in OnOk result (traffic_held (held_now index.new)
-        ≡ traffic_of (fin.insert present.now.sessions number
-        (session_after (fin.get present.now.sessions number) batch.now))) }
-    ensures pairs { let number = batch.now.session.0 in OnOk result (pairs_now pairings.new number
-        ≡ pairing_in (fin.insert present.now.sessions number
-        (session_after (fin.get present.now.sessions number) batch.now)) number) }
-    ensures other_pairs { (number : ℕ) → number ≢ batch.now.session.0
-        → pairs_now pairings.new number ≡ pairs_now pairings.old number }
-    ensures other_pending { (number : ℕ) → number ≢ batch.now.session.0
-        → pairs_pending pairings.new number ≡ pairs_pending pairings.old number }
-    ensures settled { held_settled index.new ≡ held_settled index.old }
-    ensures rises { OnOk result (RisesWithFacts index.old index.new) }
-    ensures pairs_counted { pairings.old.touches ≤ pairings.new.touches }
-    ensures touches { HasNoneVacant index.old.standings
-        → OnOk result (index_cost index.new + pairs_cost pairings.new batch.now.session.0
-        ≤ index_cost index.old + pairs_cost pairings.old batch.now.session.0
-        + sum_by (pdu_load index.new.standings.members (pairs_now pairings.new batch.now.session.0)
-        (from_session batch.now.session) batch.now.dir) (batch_pdus batch.now)) }
-    ensures settled_pairs { (number : ℕ)
-        → pairs_settled pairings.new number ≡ pairs_settled pairings.old number }
-{
-    match present.session(batch.session()) {
-        Some(session) => append_to(index, pairings, present.settings(), session, batch),
-        None => {
-            let session = Session::new(pairings.alloc, batch.link());
-            append_to(index, pairings, present.settings(), &session, batch)
-        }
-    }
-}
-
-/// Takes what a batch says, which is the next of its direction in this session.
-fn append_to(
+/// Takes what a batch says, which is the next of its direction in this session. On an error what is held of its session is
+/// of no use: the caller undoes it.
+pub(crate) fn append_to(
     index: &mut Index,
     pairings: &mut Pairings,
     settings: &Settings,

@@ -1,5 +1,5 @@
 //! One captured session: its link, which it keeps, and the octets of both directions.
-ghost use Rattle.std.specs.Prelude.{◌≡◌, [], None, Some, IfOk, MatchResult, MatchOption, Err};
+ghost use Rattle.std.specs.Prelude.{◌≡◌, [], Some, IfOk, MatchResult};
 ghost use Rattle.smq_frame.specs.Stream.{values};
 ghost use Rattle.smq_frame.specs.Tail.{tail_of};
 ghost use Rattle.smq_book.specs.present.Present.{direction};
@@ -62,21 +62,8 @@ impl Session {
         }
     }
 
-    /// The session that a first batch makes.
-    pub(crate) fn from_batch(alloc: Global, batch: Batch) -> Result<Session, Refusal>
-        requires in_step { batch.tail ≡ tail_of [] }
-        ensures { MatchOption (first_of (append_refusals None batch))
-            (MatchResult result (λ s. s ≡ session_after None batch) (λ e. e ≡ Refusal.Memory))
-            (λ refusal. result ≡ Err refusal) }
-    {
-        let mut session = Session::new(alloc, batch.link);
-        match session.append_in_step(batch) {
-            Ok(()) => Ok(session),
-            Err(refusal) => Err(refusal),
-        }
-    }
-
-    /// Puts a batch after the direction on whose tail it was prepared. A refusal changes nothing.
+    /// Puts a batch after the direction on whose tail it was prepared. The tails aren't compared, which reads all octets that
+    /// wait. A refusal changes nothing.
     pub(crate) fn append_in_step(&mut self, batch: Batch) -> Result<(), Refusal>
         requires in_step { batch.tail ≡ tail_of (values (direction batch.dir self.old)) }
         ensures { IsReply (first_of (append_refusals (Some self.old) batch)) result
@@ -85,9 +72,21 @@ impl Session {
         if self.link.0 != batch.link.0 {
             return Err(Refusal::OtherLink { link: self.link });
         }
+        if let Some(refusal) = self.direction(batch.dir).backward(&batch) {
+            return Err(refusal);
+        }
+        self.put(batch)
+    }
+
+    /// Puts a batch that nothing refuses after its direction. Want of memory changes nothing.
+    pub(crate) fn put(&mut self, batch: Batch) -> Result<(), Refusal>
+        requires in_step { batch.tail ≡ tail_of (values (direction batch.dir self.old)) }
+        ensures { MatchResult result (λ _. self.new ≡ session_after (Some self.old) batch)
+            (λ refusal. (refusal ≡ Refusal.Memory) × (self.new ≡ self.old)) }
+    {
         match batch.dir {
-            Dir::FromClient => self.client.append_in_step(batch),
-            Dir::FromCentre => self.centre.append_in_step(batch),
+            Dir::FromClient => self.client.put(batch),
+            Dir::FromCentre => self.centre.put(batch),
         }
     }
 }

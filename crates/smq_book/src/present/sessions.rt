@@ -1,5 +1,5 @@
 //! Sessions by their numbers, as they come and go. A refusal changes nothing.
-ghost use Rattle.std.specs.Prelude.{◌≡◌, [], None, MatchResult};
+ghost use Rattle.std.specs.Prelude.{◌≡◌, MatchResult};
 ghost use Rattle.std.specs.FinMap as map;
 ghost use Rattle.smq_book.specs.within.InOrder.{sessions_in};
 ghost use Rattle.smq_kit.specs.Replies.{IsReply, IsReplyInPlace, first_of};
@@ -31,31 +31,18 @@ pub(crate) fn put_in_step(
     let number = batch.session.0;
     match sessions.get_mut(&number) {
         Some(session) => session.append_in_step(batch),
-        None => append_new(alloc, sessions, batch),
-    }
-}
-
-/// Puts a batch into a new session. A refusal changes nothing.
-fn append_new(
-    alloc: Global,
-    sessions: &mut BTreeMap<u64, Session>,
-    batch: Batch,
-) -> Result<(), Refusal>
-    requires in_step { batch.tail ≡ tail_of [] }
-    ensures { IsReply (first_of (append_refusals None batch)) result
-        (sessions_in sessions.new
-        ≡ map.insert (sessions_in sessions.old) batch.session.0 (session_after None batch))
-        (sessions_in sessions.new ≡ sessions_in sessions.old) }
-{
-    let number = batch.session.0;
-    match Session::from_batch(alloc, batch) {
-        Ok(session) => insert_session(sessions, number, session),
-        Err(refusal) => Err(refusal),
+        None => {
+            let mut session = Session::new(alloc, batch.link);
+            match session.append_in_step(batch) {
+                Ok(()) => insert_session(sessions, number, session),
+                Err(refusal) => Err(refusal),
+            }
+        }
     }
 }
 
 /// Puts a new session in. An error changes nothing.
-fn insert_session(
+pub(crate) fn insert_session(
     sessions: &mut BTreeMap<u64, Session>,
     number: u64,
     session: Session,

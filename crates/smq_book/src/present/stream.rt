@@ -8,7 +8,7 @@ ghost use Rattle.smq_frame.specs.Tail.{tail_of, tail_after};
 ghost use Rattle.smq_pdu.specs.Placed.{placed_pdu};
 ghost use Rattle.smq_book.specs.present.Kept.{kept_pdu, kept_pdus};
 ghost use Rattle.smq_book.specs.present.Stream.{stream_of, last_moment};
-ghost use Rattle.smq_kit.specs.Replies.{IsReply, first_of};
+ghost use Rattle.smq_kit.specs.Replies.{first_of};
 ghost use Rattle.smq_book.specs.present.Replies.{backward, stream_refusals};
 
 use crate::present::batch::DecodedPiece;
@@ -179,7 +179,7 @@ impl Direction {
     }
 
     /// The refusal of a batch whose moment is before that of the last octet.
-    fn backward(&self, batch: &Batch) -> Option<Refusal>
+    pub(crate) fn backward(&self, batch: &Batch) -> Option<Refusal>
         ensures { result ≡ backward self.now batch.now }
     {
         if batch.moment < self.last {
@@ -188,23 +188,9 @@ impl Direction {
         None
     }
 
-    /// Puts a batch after the octets on whose tail it was prepared. The tails aren't compared, which reads all octets that
-    /// wait. A refusal changes nothing.
-    #[tactic(auto, using(smq_frame::proofs::TailTests::equal_tails))]
-    pub(crate) fn append_in_step(&mut self, batch: Batch) -> Result<(), Refusal>
-        requires in_step { batch.tail ≡ tail_of (values self.old) }
-        ensures { IsReply (first_of (stream_refusals self.old batch)) result
-            (self.new ≡ self.old ++ handed_in batch.moment batch.octets) (self.new ≡ self.old) }
-    {
-        if let Some(refusal) = self.backward(&batch) {
-            return Err(refusal);
-        }
-        self.put(batch)
-    }
-
     /// Puts a batch that nothing refuses after the octets. Want of memory changes nothing.
     #[tactic(auto, using(crate::proofs::lemmas::present::Growth::offset_facts))]
-    fn put(&mut self, batch: Batch) -> Result<(), Refusal>
+    pub(crate) fn put(&mut self, batch: Batch) -> Result<(), Refusal>
         requires in_step { batch.tail ≡ tail_of (values self.old) }
         ensures { MatchResult result (λ _. self.new ≡ self.old ++ handed_in batch.moment batch.octets)
             (λ refusal. (refusal ≡ Refusal.Memory) × (self.new ≡ self.old)) }

@@ -4,8 +4,6 @@ use Rattle.std.specs.Prelude.{option_map, unwrap_or}
 use Rattle.std.specs.FinMap.{FinMap, get, insert, get-insert}
 use Rattle.std.specs.Cmp.{nat_cmp_total, tied_itself}
 use Rattle.std.specs.Ordering.{is_eq, nat_cmp}
-use Rattle.smq_kit.specs.declared.names.LinkId.{LinkId}
-use Rattle.smq_kit.specs.declared.names.SessionId.{SessionId}
 use Rattle.smq_kit.specs.declared.place.Dir.{Dir}
 use Rattle.smq_kit.specs.declared.place.Dir.TheVariants.{FromClient, FromCentre}
 use Rattle.smq_frame.specs.Stream.{Octet, frames_after, handed_in, values}
@@ -84,19 +82,12 @@ module _ (sessions : FinMap nat_cmp Session) (batch : BatchValue) where
   with_batch None = refl
   with_batch (Some s) = refl
 
-  module _ (number : SessionId) (named : number ≡ batch.session) where
-    of_number : (o : Option Session) → o ≡ get sessions number.0 → found ≡ o
-    of_number o there = ap (λ (n : SessionId). get sessions n.0) (sym named) ∙ sym there
+  -- the session that is there is the one before the batch; where none is, that is one of the batch's link without octets
+  pub found-before : (s : Session) → found ≡ Some s → s ≡ session_before found batch.link
+  found-before s there = ap (λ (o : Option Session). session_before o batch.link) (sym there)
 
-    -- the session that is there is the one before the batch
-    pub found-before : (s : Session) → Some s ≡ get sessions number.0 → s ≡ session_before found batch.link
-    found-before s there = ap (λ (o : Option Session). session_before o batch.link) (sym (of_number (Some s) there))
-
-    -- where none is there, that is one of the batch's link without octets
-    pub new-before : (s : Session) (link : LinkId) → None ≡ get sessions number.0 → s ≡ session_before None link → link ≡ batch.link
-        → s ≡ session_before found batch.link
-    new-before s link none is same =
-        is ∙ ap (session_before None) same ∙ ap (λ (o : Option Session). session_before o batch.link) (sym (of_number None none))
+  pub new-before : (s : Session) → found ≡ None → s ≡ session_before None batch.link → s ≡ session_before found batch.link
+  new-before s none is = is ∙ ap (λ (o : Option Session). session_before o batch.link) (sym none)
 
   module _ (s : Session) (is : s ≡ session_before found batch.link) where
     pub first-said : IsSaidBy (origin_at batch.session s.link) (kept_pdus s.client) (kept_pdus s.centre) (traffic_of sessions)
@@ -117,11 +108,11 @@ module _ (sessions : FinMap nat_cmp Session) (batch : BatchValue) where
         (sym (get-insert nat_cmp_total sessions batch.session.0 (session_after found batch) batch.session.0
         ∙ ap (λ b. cond b (Some (session_after found batch)) found) (ap is_eq (tied_itself nat_cmp_total batch.session.0))))
 
-    module _ (in_step : batch.tail ≡ tail_of (values (octets_in batch.dir found))) where
-      pub first-step : batch.tail ≡ tail_of (values (direction batch.dir s))
+    module _ (in_step : batch.tail ≡ tail_of (values (direction batch.dir s))) where
+      first-step : batch.tail ≡ tail_of (values (octets_in batch.dir found))
       first-step =
-          in_step ∙ ap (λ (octets : List Octet). tail_of (values octets)) (octets-before found batch.link batch.dir)
-          ∙ ap (λ (s : Session). tail_of (values (direction batch.dir s))) (sym is)
+          in_step ∙ ap (λ (s : Session). tail_of (values (direction batch.dir s))) is
+          ∙ ap (λ (octets : List Octet). tail_of (values octets)) (sym (octets-before found batch.link batch.dir))
 
       abbrev moves : Session → List Move
       moves s =
@@ -134,4 +125,4 @@ module _ (sessions : FinMap nat_cmp Session) (batch : BatchValue) where
       last-traffic z g h was left =
           left.traffic
           ∙ (λ i. moved_by (was i) (moves (is i)))
-          ∙ pushed-all sessions batch in_step
+          ∙ pushed-all sessions batch first-step

@@ -5,7 +5,7 @@ use Rattle.std.specs.BTreeMap.{is_at}
 use Rattle.std.specs.FinMap.{FinMap, get, insert, remove}
 use Rattle.std.specs.Map.{lookup}
 use Rattle.std.specs.Ordering.{nat_cmp}
-use Rattle.smq_frame.specs.Stream.{values}
+use Rattle.smq_frame.specs.Stream.{Octet, values}
 use Rattle.smq_frame.specs.Tail.{tail_of}
 use Rattle.smq_kit.specs.declared.names.LinkId.{LinkId}
 use Rattle.smq_kit.specs.declared.refusal.Refusal.{Refusal}
@@ -19,12 +19,16 @@ use Rattle.smq_book.specs.present.Settings.{SettingsValue}
 use Rattle.smq_kit.specs.Replies.{IsReply, IsReplyInPlace, first_of}
 use Rattle.smq_book.specs.present.Replies.{append_refusals, no_session, reply}
 use Rattle.smq_book.specs.present.Steps.{session_after, with_forms, change}
-use Rattle.smq_book.proofs.lemmas.present.BatchReplies.{IsReply-weaker}
+use Rattle.smq_book.proofs.lemmas.present.BatchReplies.{IsReply-weaker, new_session, no_octets, put-new, refused-new}
 use Rattle.smq_book.proofs.lemmas.present.NumberMaps.{seen, get-seen, insert-seen, insert-same, remove-seen}
 
 -- what becomes of sessions where a batch goes to the session of a number
 abbrev pub Becomes : {T : Type 0} → FinMap nat_cmp Session → FinMap nat_cmp Session → ℕ → BatchValue → Result T Refusal → Type 0
 Becomes old new n b r = IsReply (first_of (append_refusals (get old n) b)) r (new ≡ insert old n (session_after (get old n) b)) (new ≡ old)
+
+-- what stands under a number
+pub found-at : (es : List (ℕ × Session)) (k n : ℕ) (o : Option Session) → k ≡ n → o ≡ lookup (is_at (nat_cmp k)) es → get (seen es) n ≡ o
+found-at es k n o number is = ap (get (seen es)) (sym number) ∙ get-seen es k ∙ sym is
 
 -- the session is there
 pub at_known : {T : Type 0} (es fs : List (ℕ × Session)) (k n : ℕ) (b : BatchValue) (s s' : Session) (r : Result T Refusal) → k ≡ n
@@ -46,20 +50,37 @@ pub at_known-in_step : (es : List (ℕ × Session)) (k n : ℕ) (b : BatchValue)
     → Some s ≡ lookup (is_at (nat_cmp k)) es → b.tail ≡ tail_of (values (octets_in b.dir (get (seen es) n)))
     → b.tail ≡ tail_of (values (direction b.dir s))
 at_known-in_step es k n b s number there step =
-    let found : get (seen es) n ≡ Some s = ap (λ (m : ℕ). get (seen es) m) (sym number) ∙ get-seen es k ∙ sym there in
-    step ∙ ap (λ (o : Option Session). tail_of (values (octets_in b.dir o))) found
+    step ∙ ap (λ (o : Option Session). tail_of (values (octets_in b.dir o))) (found-at es k n (Some s) number there)
 
--- the session is absent
-pub at_absent : {T : Type 0} (es gs fs : List (ℕ × Session)) (k n : ℕ) (b : BatchValue) (r : Result T Refusal) → k ≡ n
-    → None ≡ lookup (is_at (nat_cmp k)) es → gs ≡ es
-    → IsReply (first_of (append_refusals None b)) r (seen fs ≡ insert (seen gs) n (session_after None b)) (seen fs ≡ seen gs)
-    → Becomes (seen es) (seen fs) n b r
-at_absent es gs fs k n b r number missing same a =
-    let none : get (seen es) n ≡ None = ap (λ (m : ℕ). get (seen es) m) (sym number) ∙ get-seen es k ∙ sym missing in
-    subst (λ (o : Option Session). IsReply (first_of (append_refusals o b)) r (seen fs ≡ insert (seen es) n (session_after o b))
-    (seen fs ≡ seen es)) (sym none)
-    (subst (λ (hs : List (ℕ × Session)). IsReply (first_of (append_refusals None b)) r (seen fs
-    ≡ insert (seen hs) n (session_after None b)) (seen fs ≡ seen hs)) same a)
+-- the session is absent, and a new one is put in with the batch, or not
+module _ (es gs : List (ℕ × Session)) (k n : ℕ) (b : BatchValue) (number : k ≡ n) (missing : None ≡ lookup (is_at (nat_cmp k)) es) (same : gs ≡ es)
+    (s : Session) (is : s ≡ new_session b) where
+  pub absent-in_step : b.tail ≡ tail_of (values (octets_in b.dir (get (seen es) n))) → b.tail ≡ tail_of (values (direction b.dir s))
+  absent-in_step step =
+      step ∙ ap (λ (o : Option Session). tail_of (values (octets_in b.dir o))) (found-at es k n None number missing)
+      ∙ ap (λ (octets : List Octet). tail_of (values octets)) (sym (no_octets b.dir b.link))
+      ∙ ap (λ (t : Session). tail_of (values (direction b.dir t))) (sym is)
+
+  at_absent : {T : Type 0} (fs : List (ℕ × Session)) (r : Result T Refusal)
+      → IsReply (first_of (append_refusals None b)) r (seen fs ≡ insert (seen gs) n (session_after None b)) (seen fs ≡ seen gs)
+      → Becomes (seen es) (seen fs) n b r
+  at_absent fs r a =
+      subst (λ (o : Option Session). IsReply (first_of (append_refusals o b)) r (seen fs ≡ insert (seen es) n (session_after o b))
+      (seen fs ≡ seen es)) (sym (found-at es k n None number missing))
+      (subst (λ (hs : List (ℕ × Session)). IsReply (first_of (append_refusals None b)) r (seen fs
+      ≡ insert (seen hs) n (session_after None b)) (seen fs ≡ seen hs)) same a)
+
+  pub absent-put : {U : Type 0} (T R : Type 0) (s' : Session) (x : T) (fs : List (ℕ × Session)) (r : Result U Refusal)
+      → IsReply {T = T} (first_of (append_refusals (Some s) b)) (Ok x) (s' ≡ session_after (Some s) b) R
+      → MatchResult r (λ _. seen fs ≡ insert (seen gs) k s') (λ e. (e ≡ Memory) × (seen fs ≡ seen gs)) → Becomes (seen es) (seen fs) n b r
+  absent-put T R s' x fs r a put =
+      at_absent fs r (put-new T (seen fs ≡ insert (seen gs) n (session_after None b)) (seen fs ≡ seen gs) R s s' b x r is a (λ after.
+      subst (λ (t : Session). MatchResult r (λ _. seen fs ≡ insert (seen gs) n t) (λ e. (e ≡ Memory) × (seen fs ≡ seen gs))) after
+      (subst (λ (m : ℕ). MatchResult r (λ _. seen fs ≡ insert (seen gs) m s') (λ e. (e ≡ Memory) × (seen fs ≡ seen gs))) number put)))
+
+  pub absent-refused : (T U P Q : Type 0) (e : Refusal) → IsReply {T = T} (first_of (append_refusals (Some s) b)) (Err e) P Q
+      → Becomes {T = U} (seen es) (seen gs) n b (Err e)
+  absent-refused T U P Q e a = at_absent {T = U} gs (Err e) (refused-new T U P Q _ _ s b e is a refl)
 
 -- the same of what is present
 pub present_becomes : {T : Type 0} (p : PresentValue) (old new : FinMap nat_cmp Session) (settings : SettingsValue) (b : BatchValue)

@@ -8,13 +8,14 @@ use Rattle.std.proofs.lemmas.Bool.{ltb-false, le-ltb}
 use Rattle.std.proofs.lemmas.Slice.Eq.{slice_eq-Decides}
 use Rattle.smq_kit.specs.declared.names.LinkId.{LinkId}
 use Rattle.smq_kit.specs.declared.refusal.Refusal.{Refusal}
-use Rattle.smq_frame.specs.Tail.{TailValue, tails_equal}
+use Rattle.smq_frame.specs.Stream.{values}
+use Rattle.smq_frame.specs.Tail.{TailValue, tail_of, tails_equal}
 use Rattle.smq_book.specs.declared.present.edit.Edit.TheVariants.{Append}
 use Rattle.smq_book.specs.declared.present.session.Session.{Session}
 use Rattle.smq_kit.specs.Replies.{refused_if, first_of}
 use Rattle.smq_book.specs.present.Batch.{BatchValue}
-use Rattle.smq_book.specs.present.Present.{PresentValue, session_of, octets_of, tail_in}
-use Rattle.smq_book.specs.present.Replies.{other_link, out_of_step, backward, reply, GoesAfter}
+use Rattle.smq_book.specs.present.Present.{PresentValue, octets_in, octets_of, session_of, tail_in}
+use Rattle.smq_book.specs.present.Replies.{GoesAfter, append_refusals, backward, other_link, out_of_step, reply}
 use Rattle.smq_book.specs.present.Stream.{last_moment}
 
 -- ---- the test of tails
@@ -45,7 +46,7 @@ same_tails t u e =
     let broken : t.broken ≡ u.broken = same_options t.broken u.broken parts.1 in
     λ i. record { offset = offset i; rest = rest i; broken = broken i }
 
-own_tail : (t : TailValue) → tails_equal t t ≡ true
+pub own_tail : (t : TailValue) → tails_equal t t ≡ true
 own_tail t = let same : (t.offset == t.offset) ≡ true = eq-eqb t.offset t.offset refl in rw (same, own_list t.rest, own_option t.broken) refl
 
 -- ---- each refusal
@@ -80,6 +81,12 @@ other_link-fits (Some s) b h =
     let same : (s.link.0 == b.link.0) ≡ true = eq-eqb s.link.0 b.link.0 (ap (λ (l : LinkId). l.0) (h s.link refl)) in
     rw same refl
 
+pub in-step : (o : Option Session) (b : BatchValue) → first_of (append_refusals o b) ≡ None → b.tail ≡ tail_of (values (octets_in b.dir o))
+in-step o b e =
+    let parts = first_of-none (other_link o b) (out_of_step (octets_in b.dir o) b) (backward (octets_in b.dir o) b) e in
+    let tail = tail_of (values (octets_in b.dir o)) in
+    same_tails b.tail tail (not-false (tails_equal b.tail tail) (refused_if-none (not (tails_equal b.tail tail)) _ parts.1))
+
 pub not_refused : (p : PresentValue) (b : BatchValue) → (reply p (Append b) ≡ None) ↔ GoesAfter p b
 not_refused p b =
     let session = session_of p b.session.0 in
@@ -88,8 +95,7 @@ not_refused p b =
           let parts = first_of-none (other_link session b) (out_of_step octets b) (backward octets b) e in
           record {
             same_link = other_link-none session b parts.0;
-            in_step = same_tails b.tail (tail_in p b.session.0 b.dir) (not-false (tails_equal b.tail (tail_in p b.session.0 b.dir))
-                (refused_if-none (not (tails_equal b.tail (tail_in p b.session.0 b.dir))) _ parts.1));
+            in_step = in-step session b e;
             forward = ltb-false b.moment (last_moment octets) (refused_if-none (nat_lt b.moment (last_moment octets)) _ parts.2);
           },
       λ fits.

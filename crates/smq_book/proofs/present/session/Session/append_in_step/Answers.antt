@@ -1,16 +1,26 @@
-use Rattle.std.proofs.Common.{sym, ap, ◌∙◌, eq-eqb}
+use Rattle.std.proofs.Common.{List, refl, sym, ap, ◌∙◌}
+use Rattle.smq_frame.specs.Stream.{Octet}
 use Rattle.smq_book.specs.present.Batch.{BatchValue}
-use Rattle.smq_book.proofs.lemmas.present.BatchReplies.{known-client, known-centre}
+use Rattle.smq_book.specs.present.Present.{direction}
+use Rattle.smq_book.specs.present.Replies.{backward}
+use Rattle.smq_book.proofs.lemmas.present.BatchReplies.{by-moment, made-or-wanting, told}
 use Rattle.smq_book.proofs.present.session.Session.append_in_step.Goals as goal
 
-pub returns-in-FromClient : goal.returns-in-FromClient
-returns-in-FromClient c =
-    known-client c.args.self.now c.args.batch c.append_in_step.result c.append_in_step.new.self (eq-eqb _ _ (c.if-self-batch.false
-    ∙ ap (λ (b : BatchValue). b.link.0) c.batch.view_is)) (sym (ap (λ (b : BatchValue). b.dir) c.batch.view_is)
-    ∙ c.in-FromClient.is) c.append_in_step.ensures
+pub returns-in-Some : goal.returns-in-Some
+returns-in-Some c =
+    let s = c.args.self.now in
+    let b = c.args.batch in
+    let octets = c.direction.ensures ∙ ap (λ (b : BatchValue). direction b.dir s) c.batch.view_is in
+    told _ _ _ _ c.in-Some.refusal
+    (by-moment s b (c.if-self-batch.false ∙ ap (λ (b : BatchValue). b.link.0) c.batch.view_is) c.requires.in_step
+    ∙ ap (λ (octets : List Octet). backward octets b) (sym octets) ∙ sym c.backward.ensures ∙ c.in-Some.is) refl
 
-pub returns-in-FromCentre : goal.returns-in-FromCentre
-returns-in-FromCentre c =
-    known-centre c.args.self.now c.args.batch c.append_in_step-in-FromCentre.result c.append_in_step-in-FromCentre.new.self
-    (eq-eqb _ _ (c.if-self-batch.false ∙ ap (λ (b : BatchValue). b.link.0) c.batch.view_is))
-    (sym (ap (λ (b : BatchValue). b.dir) c.batch.view_is) ∙ c.in-FromCentre.is) c.append_in_step-in-FromCentre.ensures
+pub returns : goal.returns
+returns c =
+    let s = c.args.self.now in
+    let b = c.args.batch in
+    let octets = c.direction.ensures ∙ ap (λ (b : BatchValue). direction b.dir s) c.batch.view_is in
+    made-or-wanting _ _ _ c.put.result
+    (by-moment s b (c.if-self-batch.false ∙ ap (λ (b : BatchValue). b.link.0) c.batch.view_is) c.requires.in_step
+    ∙ ap (λ (octets : List Octet). backward octets b) (sym octets) ∙ sym c.backward.ensures ∙ c.in_default.is)
+    c.put.ensures
