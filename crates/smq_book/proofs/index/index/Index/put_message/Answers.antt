@@ -25,17 +25,13 @@ use Rattle.smq_book.proofs.lemmas.index.Followed.{nobody, one-none, told}
 use Rattle.smq_book.specs.index.Due.{is_due_fact}
 use Rattle.smq_book.proofs.index.index.Index.put_message.Goals as goal
 
-pub add_submit-requires-clause-absent : goal.add_submit-requires-clause-absent
-add_submit-requires-clause-absent c =
+pub add_submit-requires : goal.add_submit-requires
+add_submit-requires c =
     let i = c.args.self.now in
-    ap (λ (g : Grouping). get g.submits c.args.place) c.requires.are.grouped
-    ∙ submit-absent c.args.settings.now c.args.place (stored_traffic i.messages.content i.receipts.content) c.requires.absent
-
-pub add_submit-requires-clause-apart : goal.add_submit-requires-clause-apart
-add_submit-requires-clause-apart c =
-    let i = c.args.self.now in
-    ap (λ (g : Grouping). get g.receipts c.args.place) c.requires.are.grouped
-    ∙ receipt-absent c.args.settings.now c.args.place (stored_traffic i.messages.content i.receipts.content) c.requires.apart
+    record {
+      absent = ap (λ (g : Grouping). get g.submits c.args.place) c.requires.are.grouped
+          ∙ submit-absent c.args.settings.now c.args.place (stored_traffic i.messages.content i.receipts.content) c.requires.absent;
+    }
 
 pub returns-in_default-clause-held : goal.returns-in_default-clause-held
 returns-in_default-clause-held c = λ t traffic held.

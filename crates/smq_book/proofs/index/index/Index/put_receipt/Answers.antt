@@ -24,17 +24,13 @@ use Rattle.smq_book.proofs.lemmas.index.Weights.{few-changes, receipt-put}
 use Rattle.smq_book.proofs.lemmas.index.Followed.{one-route, only, told}
 use Rattle.smq_book.proofs.index.index.Index.put_receipt.Goals as goal
 
-pub add_receipt-requires-clause-absent : goal.add_receipt-requires-clause-absent
-add_receipt-requires-clause-absent c =
+pub add_receipt-requires : goal.add_receipt-requires
+add_receipt-requires c =
     let i = c.args.self.now in
-    ap (λ (g : Grouping). get g.receipts c.args.place) c.requires.are.grouped
-    ∙ receipt-absent c.args.settings.now c.args.place (stored_traffic i.messages.content i.receipts.content) c.requires.absent
-
-pub add_receipt-requires-clause-apart : goal.add_receipt-requires-clause-apart
-add_receipt-requires-clause-apart c =
-    let i = c.args.self.now in
-    ap (λ (g : Grouping). get g.submits c.args.place) c.requires.are.grouped
-    ∙ submit-absent c.args.settings.now c.args.place (stored_traffic i.messages.content i.receipts.content) c.requires.apart
+    record {
+      absent = ap (λ (g : Grouping). get g.receipts c.args.place) c.requires.are.grouped
+          ∙ receipt-absent c.args.settings.now c.args.place (stored_traffic i.messages.content i.receipts.content) c.requires.absent;
+    }
 
 pub returns-clause-held : goal.returns-clause-held
 returns-clause-held c = λ t traffic held.
