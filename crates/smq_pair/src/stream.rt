@@ -122,8 +122,10 @@ impl Stream {
         ensures settled { self.new.settled ≡ self.old.content }
     {
         self.settled = self.entries.len();
-        self.log.clear();
-        give_back_room(&mut self.log);
+        if !self.log.is_empty() {
+            self.log.clear();
+            give_back_room(&mut self.log);
+        }
     }
 }
 
