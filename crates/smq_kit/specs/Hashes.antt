@@ -1,5 +1,5 @@
 -- Hashes of keys, by which maps order the keys of a link.
-use Rattle.std.specs.Prelude.{ℕ, ◌+◌, ◌*◌, ◌^◌, ◌%◌, List, [], ◌∷◌}
+use Rattle.std.specs.Prelude.{ℕ, ◌+◌, ◌*◌, ◌^◌, ◌/◌, ◌%◌, List, [], ◌∷◌}
 use Rattle.smq_kit.specs.declared.form.Key.{Key}
 use Rattle.smq_kit.specs.declared.form.Key.TheVariants.{Number, Text}
 
@@ -8,9 +8,10 @@ abbrev pub hash_of_text : ℕ → List ℕ → ℕ
 hash_of_text so_far [] = so_far
 hash_of_text so_far (octet ∷ octets) = hash_of_text ((so_far * 31 % 2 ^ 64 + octet) % 2 ^ 64) octets
 
--- times an odd number near 2 ^ 64 by the golden ratio, by which hashes that lie close together are spread
+-- the place of a hash in its block of 1024 times an odd number near a block by the golden ratio: hashes that follow each
+-- other stay in their block, out of order
 abbrev pub spread : ℕ → ℕ
-spread hash = hash * 11400714819323198485 % 2 ^ 64
+spread hash = hash / 1024 * 1024 + hash % 1024 * 633 % 1024
 
 -- the hash of a number, or of a text
 abbrev pub hash_of : Key → ℕ

@@ -67,9 +67,11 @@ impl HashedKey {
     }
 }
 
-/// An odd number near 2^64 by the golden ratio. Times this, hashes that lie close together are spread over all 64 bits: ids that
-/// are given in a row would else come to a map in order, and leave its nodes half empty.
-const SPREAD: u64 = 11_400_714_819_323_198_485;
+/// How many hashes that follow each other are spread among themselves.
+const BLOCK: u64 = 1024;
+
+/// How far apart two that follow each other come: an odd number near a block by the golden ratio.
+const STEP: u64 = 633;
 
 /// The hash of what a key is on its link: of a number its last 64 bits, of a text that of its octets, each spread.
 fn hash_of(key: &Key) -> u64
@@ -81,10 +83,13 @@ fn hash_of(key: &Key) -> u64
     }
 }
 
+/// A hash with its last ten bits spread. Ids are often given in a row: in order they would leave the nodes of a map half
+/// empty, and spread over all 64 bits each would stand where no look-up came lately. So they stay near each other, out of
+/// order.
 fn spread(hash: u64) -> u64
     ensures { result ≡ spread hash }
 {
-    hash.wrapping_mul(SPREAD)
+    hash / BLOCK * BLOCK + hash % BLOCK * STEP % BLOCK
 }
 
 /// The hash of a text: as each octet comes, 31 times the hash so far and the octet, of which the last 64 bits count.
