@@ -4,6 +4,7 @@ pub mod Replies
 pub mod Numbers
 pub mod ErrorTexts
 pub mod Keys
+pub mod PlaceOrder
 pub mod Orders
 pub mod LinkKeys
 pub mod Hashes

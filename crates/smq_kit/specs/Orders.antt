@@ -27,7 +27,7 @@ use Rattle.smq_kit.specs.contracts.names.RouteIdOrd.TheImpl as route_ord
 use Rattle.smq_kit.specs.contracts.names.RouteIdPartialEq.TheImpl as route_eq
 use Rattle.smq_kit.specs.contracts.moment.MomentOrd.TheImpl as moment_ord
 use Rattle.smq_kit.specs.contracts.moment.MomentPartialEq.TheImpl as moment_eq
-use Rattle.smq_kit.specs.contracts.place.PlaceOrd.TheImpl as place_ord
+use Rattle.smq_kit.specs.contracts.place_order.PlaceOrd.TheImpl as place_ord
 use Rattle.smq_kit.specs.contracts.message_id.MessageIdOrd.TheImpl as id_ord
 use Rattle.smq_kit.specs.contracts.message_id.MessageIdPartialEq.TheImpl as id_eq
 use Rattle.smq_kit.specs.contracts.number.DigitsOrd.TheImpl as digits_ord

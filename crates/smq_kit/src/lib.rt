@@ -14,6 +14,7 @@ mod moment;
 mod names;
 mod number;
 mod place;
+mod place_order;
 mod refusal;
 mod window;
 

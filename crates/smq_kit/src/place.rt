@@ -11,7 +11,7 @@ pub enum Dir {
 }
 
 /// The place of a PDU. Places are ordered by session, then direction, then offset.
-#[derive(Clone, Copy, Debug, PartialEq, Eq, PartialOrd, Ord)]
+#[derive(Clone, Copy, Debug, PartialEq, Eq)]
 pub struct Place {
     pub session: SessionId,
     pub dir: Dir,
