@@ -1,5 +1,6 @@
 -- What only private clauses cite: maps and lists as the code keeps them. A reader of the promises needs none of it.
 pub mod Counting
+pub mod KeyOrder
 pub mod ListOrder
 pub mod CountOrder
 pub mod Equal

@@ -5,6 +5,7 @@ ghost use Rattle.std.specs.Prelude.{◌≡◌};
 
 use smq_kit::{Dir, Place, SessionId};
 use smq_shelf::ShelfKey;
+use std::cmp::Ordering;
 
 /// A list of places.
 #[derive(Clone, Copy, Debug, PartialEq, Eq, PartialOrd, Ord)]
@@ -108,7 +109,7 @@ impl List {
 }
 
 /// A place in a list. Ordered by list, then by place.
-#[derive(Clone, Copy, Debug, PartialEq, Eq, PartialOrd, Ord)]
+#[derive(Clone, Copy, Debug, PartialEq, Eq)]
 pub struct Listed {
     pub list: List,
     pub place: Place,
@@ -127,6 +128,44 @@ impl Listed {
             offset: 0,
         };
         Listed { list, place }
+    }
+}
+
+impl PartialOrd for Listed {
+    ghost use Rattle.std.specs.Prelude.{refl};
+    ghost use Rattle.std.specs.Cmp.{partial_order_from_agreeing_total};
+    ghost use Rattle.std.specs.Ordering.{as_partial_cmp};
+    ghost use Rattle.smq_tally.specs.within.KeyOrder.{listed_parts_cmp, listed_parts_total, listed_parts_ties};
+
+    ghost partial_cmp = { as_partial_cmp listed_parts_cmp };
+
+    ghost laws = { partial_order_from_agreeing_total listed_parts_cmp listed_parts_total (λ _ _. refl) listed_parts_ties };
+
+    fn partial_cmp(&self, other: &Listed) -> Option<Ordering> {
+        Some(self.cmp(other))
+    }
+}
+
+impl Ord for Listed {
+    ghost use Rattle.std.specs.Prelude.{refl};
+    ghost use Rattle.smq_tally.specs.within.KeyOrder.{listed_parts_cmp, listed_parts_total, listed_parts_ties};
+
+    ghost cmp = { listed_parts_cmp };
+
+    ghost total = { listed_parts_total };
+
+    ghost matches_partial_cmp = { λ _ _. refl };
+
+    ghost matches_eq = { listed_parts_ties };
+
+    fn cmp(&self, other: &Listed) -> Ordering {
+        let a = *self;
+        let b = *other;
+        if a.list == b.list {
+            a.place.cmp(&b.place)
+        } else {
+            a.list.cmp(&b.list)
+        }
     }
 }
 
