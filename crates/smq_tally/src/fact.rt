@@ -7,7 +7,6 @@ ghost use Rattle.smq_tally.specs.within.RowCounts as by_row;
 use crate::{Band, List, Listed, Outcome, SubmitError, Value, View};
 use smq_kit::{LinkId, Network, Place, RouteId};
 use smq_shelf::ShelfKey;
-use std::cmp::Ordering;
 
 /// What is known of one message.
 #[derive(Debug, PartialEq, Eq, Drop)]
@@ -88,7 +87,7 @@ impl CountKey {
 }
 
 /// Where a row of counts stands: by view, then by value.
-#[derive(Debug, PartialEq, Eq, Drop)]
+#[derive(Debug, PartialEq, Eq, PartialOrd, Ord, Drop)]
 pub struct RowKey {
     pub(crate) view: View,
     pub(crate) value: Value,
@@ -104,42 +103,6 @@ impl RowKey {
         RowKey {
             view,
             value: Value::Link(LinkId(0)),
-        }
-    }
-}
-
-impl PartialOrd for RowKey {
-    ghost use Rattle.std.specs.Prelude.{refl};
-    ghost use Rattle.std.specs.Cmp.{partial_order_from_agreeing_total};
-    ghost use Rattle.std.specs.Ordering.{as_partial_cmp};
-    ghost use Rattle.smq_tally.specs.within.KeyOrder.{row_parts_cmp, row_parts_total, row_parts_ties};
-
-    ghost partial_cmp = { as_partial_cmp row_parts_cmp };
-
-    ghost laws = { partial_order_from_agreeing_total row_parts_cmp row_parts_total (λ _ _. refl) row_parts_ties };
-
-    fn partial_cmp(&self, other: &RowKey) -> Option<Ordering> {
-        Some(self.cmp(other))
-    }
-}
-
-impl Ord for RowKey {
-    ghost use Rattle.std.specs.Prelude.{refl};
-    ghost use Rattle.smq_tally.specs.within.KeyOrder.{row_parts_cmp, row_parts_total, row_parts_ties};
-
-    ghost cmp = { row_parts_cmp };
-
-    ghost total = { row_parts_total };
-
-    ghost matches_partial_cmp = { λ _ _. refl };
-
-    ghost matches_eq = { row_parts_ties };
-
-    fn cmp(&self, other: &RowKey) -> Ordering {
-        if self.view == other.view {
-            self.value.cmp(&other.value)
-        } else {
-            self.view.cmp(&other.view)
         }
     }
 }

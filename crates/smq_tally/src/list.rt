@@ -159,12 +159,10 @@ impl Ord for Listed {
     ghost matches_eq = { listed_parts_ties };
 
     fn cmp(&self, other: &Listed) -> Ordering {
-        let a = *self;
-        let b = *other;
-        if a.list == b.list {
-            a.place.cmp(&b.place)
+        if self.list == other.list {
+            self.place.cmp(&other.place)
         } else {
-            a.list.cmp(&b.list)
+            self.list.cmp(&other.list)
         }
     }
 }

@@ -1,20 +1,14 @@
--- The orders by which the code compares listed places and keys of rows.
+-- The order by which the code compares listed places.
 use Rattle.std.specs.Prelude.{◌≡◌}
 use Rattle.std.specs.declared.cmp.Ordering.{Ordering}
 use Rattle.std.specs.Ordering.{ordering_then, eq_by_cmp}
 use Rattle.std.specs.Cmp.{IsTotalOrder, both_tied}
 use Rattle.std.proofs.lemmas.Cmp.{on_total, then_total}
 use Rattle.smq_kit.specs.PlaceOrder.{parts_cmp as places_cmp, parts_total as places_total, parts_ties as places_ties}
-use Rattle.smq_tally.specs.declared.fact.RowKey.{RowKey}
 use Rattle.smq_tally.specs.declared.list.Listed.{Listed}
-use Rattle.smq_tally.specs.contracts.fact.RowKeyPartialEq.TheImpl as row_eq
 use Rattle.smq_tally.specs.contracts.list.ListOrd.TheImpl as list_ord
 use Rattle.smq_tally.specs.contracts.list.ListOrd.TheImpl.Laws as list_laws
 use Rattle.smq_tally.specs.contracts.list.ListedPartialEq.TheImpl as listed_eq
-use Rattle.smq_tally.specs.contracts.value.ValueOrd.TheImpl as value_ord
-use Rattle.smq_tally.specs.contracts.value.ValueOrd.TheImpl.Laws as value_laws
-use Rattle.smq_tally.specs.contracts.view.ViewOrd.TheImpl as view_ord
-use Rattle.smq_tally.specs.contracts.view.ViewOrd.TheImpl.Laws as view_laws
 
 -- listed places: by list, then by place
 abbrev pub listed_parts_cmp : Listed → Listed → Ordering
@@ -26,14 +20,3 @@ listed_parts_total = then_total (on_total (λ e. e.list) list_laws.total-law) (o
 -- `==` of listed places holds where it tells none first
 pub listed_parts_ties : (a b : Listed) → listed_eq.ghosts.eq a b ≡ eq_by_cmp listed_parts_cmp a b
 listed_parts_ties a b = both_tied _ _ _ _ (list_laws.matches_eq-law a.list b.list) (places_ties a.place b.place)
-
--- keys of rows: by view, then by value
-abbrev pub row_parts_cmp : RowKey → RowKey → Ordering
-row_parts_cmp a b = ordering_then (view_ord.ghosts.cmp a.view b.view) (value_ord.ghosts.cmp a.value b.value)
-
-pub row_parts_total : IsTotalOrder row_parts_cmp
-row_parts_total = then_total (on_total (λ k. k.view) view_laws.total-law) (on_total (λ k. k.value) value_laws.total-law)
-
--- the same of keys of rows
-pub row_parts_ties : (a b : RowKey) → row_eq.ghosts.eq a b ≡ eq_by_cmp row_parts_cmp a b
-row_parts_ties a b = both_tied _ _ _ _ (view_laws.matches_eq-law a.view b.view) (value_laws.matches_eq-law a.value b.value)
