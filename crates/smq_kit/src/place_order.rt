@@ -31,10 +31,10 @@ impl Ord for Place {
         let a = *self;
         let b = *other;
         if a.session.0 == b.session.0 {
-            if a.dir == b.dir {
+            if a.dir as u8 == b.dir as u8 {
                 a.offset.cmp(&b.offset)
             } else {
-                a.dir.cmp(&b.dir)
+                (a.dir as u8).cmp(&(b.dir as u8))
             }
         } else {
             a.session.0.cmp(&b.session.0)

@@ -159,10 +159,12 @@ impl Ord for Listed {
     ghost matches_eq = { listed_parts_ties };
 
     fn cmp(&self, other: &Listed) -> Ordering {
-        if self.list == other.list {
-            self.place.cmp(&other.place)
+        let a = *self;
+        let b = *other;
+        if a.list as u8 == b.list as u8 {
+            a.place.cmp(&b.place)
         } else {
-            self.list.cmp(&other.list)
+            (a.list as u8).cmp(&(b.list as u8))
         }
     }
 }
