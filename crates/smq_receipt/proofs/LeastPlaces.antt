@@ -11,8 +11,8 @@ AllFail test bound = (k : ℕ) → k < bound → test k ≡ false
 abbrev Tells : (ℕ → Bool) → ℕ → Option ℕ → Type 0
 Tells test bound r = MatchOption r (AllFail test bound) (λ p. IsLeast test bound p)
 
-pub all_fail-more : (test : ℕ → Bool) (n : ℕ) → ((k : ℕ) → k < n → test k ≡ false) → test n ≡ false → (k : ℕ) → k < n + 1 → test k ≡ false
-all_fail-more test n h here k l = elim (cases_lt k n) [
+pub all_fail_more : (test : ℕ → Bool) (n : ℕ) → ((k : ℕ) → k < n → test k ≡ false) → test n ≡ false → (k : ℕ) → k < n + 1 → test k ≡ false
+all_fail_more test n h here k l = elim (cases_lt k n) [
   | inl low ↦ h k low
   | inr high ↦ let e : n ≡ k = omega arith in let P : ℕ
       → Type 0 = λ i. test i
@@ -22,7 +22,7 @@ all_fail-more test n h here k l = elim (cases_lt k n) [
 step : (test : ℕ → Bool) (n : ℕ) (r : Option ℕ) (b : Bool) → test n ≡ b → Tells test n r → Tells test (suc n) (option_or r (cond b (Some n) None))
 step test n (Some p) b e h = record { within = omega (arith, h.within); passes = h.passes; least = h.least }
 step test n None true e h = record { within = omega arith; passes = e; least = h }
-step test n None false e h = λ k l. all_fail-more test n h e k (omega arith)
+step test n None false e h = λ k l. all_fail_more test n h e k (omega arith)
 
 pub least_tells : (test : ℕ → Bool) (bound : ℕ) → Tells test bound (least_below test bound)
 unfolding least_below

@@ -5,3 +5,4 @@ pub mod KnownReceipts
 pub mod StateTable
 pub mod Standing
 pub mod Equalities
+pub mod Offsets

@@ -8,3 +8,4 @@ pub mod Dates
 pub mod Readings
 pub mod Known
 pub mod Equalities
+pub mod within

@@ -1,32 +1,31 @@
 //! Dates in the text of a receipt (SMPP 3.4, appendix B): YYMMDDhhmm or YYMMDDhhmmss of the centre's clock, in the
 //! years 2000 to 2099. Where a part is no date of the calendar or no time of a clock, the whole is none.
-ghost use Rattle.std.specs.Prelude.{◌≡◌, ◌↔◌, ◌+◌, ◌<◌, ◌≤◌, pos, IsTrue, IsSome, IfSome, length};
+ghost use Rattle.std.specs.Prelude.{◌≡◌, ◌↔◌, ◌+◌, ◌<◌, ◌≤◌, pos, IsTrue, IsSome, IfSome, length, option_map, option_and_then, ◌-ℤ◌};
 ghost use Rattle.std.specs.List.{list_all};
 ghost use Rattle.std.specs.Char.{is_ascii_digit};
 ghost use Rattle.jiff.specs.Words.{IsEpochDay, IsWithin, IsYmd};
-ghost use Rattle.smq_receipt.specs.Dates.{is_date_text, two_digits_at, is_date, seconds_in, milliseconds_of, day_number_of, second_of_day_of, moment_of, centre_delay_of};
-ghost use Rattle.std.specs.Option.{option_and_then};
-ghost use Rattle.smq_receipt.specs.Texts.{value_of};
+ghost use Rattle.smq_receipt.specs.Dates.{is_date_text, two_digits_at, is_date, seconds_in, milliseconds_of, day_number_of, second_of_day_of, moment_of};
+ghost use Rattle.std.specs.Option.{option_copied, option_zip};
 
-use crate::text::value_of;
 use jiff::civil::Date;
 
 /// Done date minus submit date, in ms, where both are dates.
-#[tactic(auto, unfolding(crate::specs::Dates::centre_delay_of))]
-pub(crate) fn centre_delay(header: &[u8]) -> Option<i64>
-    ensures { result ≡ centre_delay_of header.now }
+pub(crate) fn centre_delay(submit_date: Option<&[u8]>, done_date: Option<&[u8]>) -> Option<i64>
+    ensures { let submit = option_and_then moment_of (option_copied submit_date.entry) in
+        let done = option_and_then moment_of (option_copied done_date.entry) in
+        result ≡ option_map (λ p. p.1 -ℤ p.0) (option_zip submit done) }
 {
-    let submit = moment_after(b"submit date:", header)?;
-    let done = moment_after(b"done date:", header)?;
+    let submit = moment_in(submit_date)?;
+    let done = moment_in(done_date)?;
     Some(done - submit)
 }
 
-/// The moment that the value of a label tells.
-fn moment_after(label: &[u8], header: &[u8]) -> Option<i64>
-    ensures value { result ≡ option_and_then moment_of (value_of label.now header.now) }
+/// The moment that a value tells, where there is one.
+fn moment_in(value: Option<&[u8]>) -> Option<i64>
+    ensures value { result ≡ option_and_then moment_of (option_copied value.entry) }
     ensures bound { IfSome result (IsWithin 1_000_000_000_000_000) }
 {
-    moment(value_of(label, header)?)
+    moment(value?)
 }
 
 /// The moment of the centre's clock that a date tells, in ms since 1970-01-01, where it is one.

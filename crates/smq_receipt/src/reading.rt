@@ -1,14 +1,19 @@
 //! What a deliver_sm says as a delivery receipt (SMPP 3.4, appendix B), or a data_sm, whose text is message_payload. Id,
 //! state and error are each read of their own parameter where that is usable, and else of their name in the text; a receipt
 //! without an id is told before one without a state.
-ghost use Rattle.std.specs.Prelude.{◌≡◌, ◌==◌};
+ghost use Rattle.std.specs.Prelude.{◌≡◌, ◌==◌, unwrap_or};
+ghost use Rattle.std.specs.Option.{option_copied};
+ghost use Rattle.smq_kit.specs.declared.error_code.ErrorCode.TheVariants.{Unstated};
 ghost use Rattle.smq_pdu.specs.Decoded.{deliver_view};
-ghost use Rattle.smq_receipt.specs.Readings.{is_interim, is_receipt, text_of, usable_id, receipted_id, state_in, id_of, state_of, error_of, receipt_of, reading_of};
+ghost use Rattle.smq_receipt.specs.Errors.{network_code_in, text_code_in};
+ghost use Rattle.smq_receipt.specs.Readings.{is_interim, is_receipt, text_of, usable_id, receipted_id, state_in, parameter_or_value, receipt_of, reading_of};
+ghost use Rattle.smq_receipt.specs.States.{state_of_word};
+ghost use Rattle.smq_receipt.specs.Texts.{header_of};
 
 use crate::MessageState;
 use crate::date::centre_delay;
 use crate::error_codes::{network_code, text_code};
-use crate::text::{header_part, up_to, value_of};
+use crate::text::{up_to, values_in};
 use smq_kit::{ErrorCode, MessageId};
 use smq_pdu::Deliver;
 
@@ -84,7 +89,7 @@ pub fn read(deliver: &Deliver<'_>) -> Reading
     if !is_receipt(deliver) {
         return Reading::NotReceipt;
     }
-    read_receipt(deliver, header_part(text_of(deliver)))
+    read_receipt(deliver, text_of(deliver))
 }
 
 /// Whether esm_class marks an intermediate notification (SMPP 3.4, 5.2.12).
@@ -117,23 +122,24 @@ fn text_of<'a>(deliver: &Deliver<'a>) -> &'a [u8]
     }
 }
 
-/// What a receipt says, by its header part.
-#[tactic(auto, unfolding(crate::specs::Readings::receipt_of))]
-fn read_receipt(deliver: &Deliver<'_>, header: &[u8]) -> Reading
-    ensures { result ≡ receipt_of (deliver_view deliver.now) header.now }
+/// What a receipt says, by its text.
+#[tactic(auto, unfolding(crate::specs::Readings::receipt_of, crate::specs::Readings::id_of, crate::specs::Readings::state_of, crate::specs::Readings::error_of, crate::specs::Dates::centre_delay_of))]
+fn read_receipt(deliver: &Deliver<'_>, text: &[u8]) -> Reading
+    ensures { result ≡ receipt_of (deliver_view deliver.now) (header_of text.now) }
 {
-    let Some(id) = read_id(deliver, header) else {
+    let values = values_in(text);
+    let Some(id) = read_id(deliver, values.id) else {
         return Reading::NoId;
     };
-    let Some(state) = read_state(deliver, header) else {
+    let Some(state) = read_state(deliver, values.stat) else {
         return Reading::NoState;
     };
     Reading::Receipt(Receipt {
         id,
         state,
         interim: is_interim(deliver),
-        error: read_error(deliver, header),
-        centre_delay: centre_delay(header),
+        error: read_error(deliver, values.err),
+        centre_delay: centre_delay(values.submit_date, values.done_date),
     })
 }
 
@@ -165,43 +171,44 @@ fn state_in(octets: &[u8]) -> Option<MessageState>
 }
 
 /// The id: of receipted_message_id where usable, and else of `id`.
-#[tactic(auto, unfolding(crate::specs::Readings::id_of))]
-fn read_id(deliver: &Deliver<'_>, header: &[u8]) -> Option<MessageId>
-    ensures { result ≡ id_of (deliver_view deliver.now) header.now }
+fn read_id(deliver: &Deliver<'_>, value: Option<&[u8]>) -> Option<MessageId>
+    ensures { let parameter = (deliver_view deliver.now).receipted_message_id in
+        result ≡ parameter_or_value receipted_id parameter usable_id (option_copied value.entry) }
 {
     if let Some(octets) = deliver.receipted_message_id {
         if let Some(id) = receipted_id(octets) {
             return Some(id);
         }
     }
-    usable_id(value_of(b"id:", header)?)
+    usable_id(value?)
 }
 
 /// The state: of message_state where usable, and else of `stat`.
-#[tactic(auto, unfolding(crate::specs::Readings::state_of))]
-fn read_state(deliver: &Deliver<'_>, header: &[u8]) -> Option<MessageState>
-    ensures { result ≡ state_of (deliver_view deliver.now) header.now }
+fn read_state(deliver: &Deliver<'_>, value: Option<&[u8]>) -> Option<MessageState>
+    ensures { let parameter = (deliver_view deliver.now).message_state in
+        result ≡ parameter_or_value state_in parameter state_of_word (option_copied value.entry) }
 {
     if let Some(octets) = deliver.message_state {
         if let Some(state) = state_in(octets) {
             return Some(state);
         }
     }
-    MessageState::from_word(value_of(b"stat:", header)?)
+    MessageState::from_word(value?)
 }
 
 /// The error: of network_error_code where usable, else of `err`, else unstated.
-#[tactic(auto, unfolding(crate::specs::Readings::error_of))]
-fn read_error(deliver: &Deliver<'_>, header: &[u8]) -> ErrorCode
-    ensures { result ≡ error_of (deliver_view deliver.now) header.now }
+fn read_error(deliver: &Deliver<'_>, value: Option<&[u8]>) -> ErrorCode
+    ensures { let parameter = (deliver_view deliver.now).network_error_code in
+        let code = parameter_or_value network_code_in parameter text_code_in (option_copied value.entry) in
+        result ≡ unwrap_or code Unstated }
 {
     if let Some(octets) = deliver.network_error_code {
         if let Some(code) = network_code(octets) {
             return code;
         }
     }
-    if let Some(value) = value_of(b"err:", header) {
-        if let Some(code) = text_code(value) {
+    if let Some(octets) = value {
+        if let Some(code) = text_code(octets) {
             return code;
         }
     }

@@ -2,7 +2,6 @@ use Rattle.std.proofs.Common.{◌≡◌, ℤ, ◌-ℤ◌, FitsSigned, w64, Optio
 use Rattle.std.specs.Prelude.{option_map}
 use Rattle.std.specs.Option.{option_zip}
 use Rattle.std.proofs.lemmas.Int.{ints, to_z-of_z}
-use Rattle.smq_receipt.specs.Dates.{centre_delay_of}
 use Rattle.smq_receipt.proofs.date.centre_delay.Goals as goal
 
 between : (from to : Option ℤ) (submit done : ℤ) → Some submit ≡ from → Some done ≡ to
@@ -10,7 +9,6 @@ between : (from to : Option ℤ) (submit done : ℤ) → Some submit ≡ from �
 between from to submit done f t = rw (← f, ← t) refl
 
 pub returns : goal.returns
-unfolding centre_delay_of
 returns c =
     let submit_fits : FitsSigned w64 c.in_ok-submit.submit = omega (arith, ints, c.in_ok-submit.ensures.bound) in
     let done_fits : FitsSigned w64 c.in_ok-done.done = omega (arith, ints, c.in_ok-done.ensures.bound) in

@@ -1,0 +1,2 @@
+-- What the code keeps, which no public contract names.
+pub mod Offsets
