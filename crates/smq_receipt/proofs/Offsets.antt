@@ -4,7 +4,8 @@ use Rattle.std.specs.Prelude.{option_map, nat_lt, nat_eq, codes}
 use Rattle.std.specs.Option.{option_or}
 use Rattle.std.specs.Char.{to_ascii_lowercase}
 use Rattle.std.proofs.lemmas.Bool.{cases_lt, ne_eqb, ltb-false}
-use Rattle.std.proofs.lemmas.List.{length-take-le, get_or-take, drop-take, take-take, drop_more}
+use Rattle.std.proofs.lemmas.Bool.Decides.{eqb_tells}
+use Rattle.std.proofs.lemmas.List.{length-take-le, take_rest, get_or-take, drop-take, take-take, drop_more}
 use Rattle.smq_receipt.specs.Places.{least_below, IsLeast}
 use Rattle.smq_receipt.specs.Texts.{same_letters, stands_at, is_opening, labels_at, text_mark, front_of, header_of, value_at, value_of}
 use Rattle.smq_receipt.specs.within.Offsets.{offsets_below}
@@ -103,6 +104,17 @@ other_first : (x : ℕ) (xs : List ℕ) (y : ℕ) (ys : List ℕ) → (to_ascii_
 unfolding same_letters
 other_first x xs y ys other = rw (ne_eqb (to_ascii_lowercase y) (to_ascii_lowercase x) other) refl
 
+eqb-same : (n : ℕ) → nat_eq n n ≡ true
+eqb-same n = elim (eqb_tells n n) [
+  | inl same ↦ same.0
+  | inr other ↦ absurd (other.1 refl)
+]
+
+same_first : (x : ℕ) (xs : List ℕ) (y : ℕ) (ys : List ℕ) → to_ascii_lowercase y ≡ to_ascii_lowercase x
+    → same_letters (take (length (x ∷ xs)) (y ∷ ys)) (x ∷ xs) ≡ same_letters (take (length xs) ys) xs
+unfolding same_letters
+same_first x xs y ys same = rw (same, eqb-same (to_ascii_lowercase x)) refl
+
 -- the mark stands at no octet but a space
 pub mark_begins : (text : List ℕ) (k : ℕ) → k < length text → (slice_index text k ≡ 32 → ⊥) → stands_at text_mark text k ≡ false
 unfolding stands_at
@@ -196,6 +208,18 @@ stands_at-other [] text place some l other = absurd (omega (arith, some))
 stands_at-other (x ∷ xs) text place some l other =
     ap (λ (t : List ℕ). same_letters (take (length (x ∷ xs)) t) (x ∷ xs)) (drop_more text place 0 l)
     ∙ other_first x xs (slice_index text place) (drop (place + 1) text) other
+
+-- the label begins with this letter, and the rest follows
+pub stands_begun : (label text : List ℕ) (place : ℕ) → 0 < length label → place < length text
+    → to_ascii_lowercase (slice_index text place) ≡ to_ascii_lowercase (slice_index label 0)
+    → stands_at (take (length label - 1) (drop 1 label)) text (place + 1) ≡ stands_at label text place
+unfolding stands_at
+stands_begun [] text place some l same = absurd (omega (arith, some))
+stands_begun (x ∷ xs) text place some l same =
+    let rest : take (length (x ∷ xs) - 1) xs ≡ xs = take_rest (x ∷ xs) 1 in
+    ap (λ (t : List ℕ). same_letters (take (length t) (drop (place + 1) text)) t) rest
+    ∙ sym (same_first x xs (slice_index text place) (drop (place + 1) text) same)
+    ∙ sym (ap (λ (t : List ℕ). same_letters (take (length (x ∷ xs)) t) (x ∷ xs)) (drop_more text place 0 l))
 
 pub least_below-other : (label text : List ℕ) (place : ℕ) → 0 < length label → place < length text
     → (to_ascii_lowercase (slice_index text place) ≡ to_ascii_lowercase (slice_index label 0) → ⊥)

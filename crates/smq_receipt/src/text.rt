@@ -50,11 +50,11 @@ pub(crate) fn values_in(text: &[u8]) -> Values<'_>
     offsets.add_at(text, 0);
     for (end, octet) in text.iter().enumerate() {
         if ends_header(*octet, text, end) {
-            return values_by(offsets, text, end);
+            return values_by(&offsets, text, end);
         }
         offsets.add_behind(*octet, text, end);
     }
-    values_by(offsets, text, text.len())
+    values_by(&offsets, text, text.len())
 }
 
 /// Whether ` text:` stands at a place, which has this octet.
@@ -113,15 +113,29 @@ fn add_offset(offset: &mut Option<usize>, label: &[u8], first: u8, text: &[u8], 
     requires earlier { offset.old ≡ least_below (labels_at label.now text.now) place }
     ensures { offset.new ≡ least_below (labels_at label.now text.now) (place + 1) }
 {
-    if first == label[0].to_ascii_lowercase() && offset.is_none() && stands_at(label, text, place) {
+    if first == label[0].to_ascii_lowercase()
+        && offset.is_none()
+        && goes_on_at(label, text, place)
+    {
         *offset = Some(place);
     }
 }
 
+/// Whether a label stands at a place whose octet is its first.
+#[tactic(auto, using(crate::proofs::Offsets::stands_begun))]
+fn goes_on_at(label: &[u8], text: &[u8], place: usize) -> bool
+    requires some { 0 < length label.now }
+    requires within { place < length text.now }
+    requires first { to_ascii_lowercase (slice_index text.now place) ≡ to_ascii_lowercase (slice_index label.now 0) }
+    ensures { result ≡ stands_at label.now text.now place }
+{
+    stands_at(&label[1..], text, place + 1)
+}
+
 /// The values in the header part that ends at this place.
-fn values_by(offsets: Offsets, text: &[u8], end: usize) -> Values<'_>
+fn values_by<'a>(offsets: &Offsets, text: &'a [u8], end: usize) -> Values<'a>
     requires within { end ≤ length text.now }
-    requires offsets { offsets ≡ offsets_below text.now (end + 1) }
+    requires offsets { offsets.now ≡ offsets_below text.now (end + 1) }
     ensures { IsReadFrom (take end text.now) result }
 {
     Values {
