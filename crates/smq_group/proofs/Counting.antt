@@ -34,7 +34,7 @@ use Rattle.smq_group.specs.within.Told.{IsKnown, only_left, same_decider, submit
 use Rattle.smq_group.specs.within.Walked.{members_in, of_key, only_of, placed}
 use Rattle.smq_group.proofs.Earliest.{own_key}
 use Rattle.smq_group.proofs.Placing.{members_total, not_none, once-insert, once-remove, sorted_none, sorted_one}
-use Rattle.smq_group.proofs.Storing.{absent, counted-less, counted-more, empty_entries, from-cons, number-more, received-more, received-less}
+use Rattle.smq_group.proofs.Storing.{absent, counted-less, counted-more, empty_entries, from-cons, number-more, received-more}
 use Rattle.smq_group.proofs.StoringReceipts.{has-less, has-more}
 use Rattle.smq_group.proofs.Walking.{members-fit, none_of}
 
@@ -231,7 +231,7 @@ module _ (s : List (Member × Bool)) (r : List (Member × Said)) (i : List (Cand
       → r' ≡ remove_entry (is_at (kept_member_cmp (member_of key place))) r → before.receipts ≡ length (members_in key r') + 1
   received-remove place said r' there found is =
       let r1 = remove_entry (is_at (kept_member_cmp (member_of key place))) r in
-      let less = received-less (grouping_in s r) (grouping_in s r1) place (receipt_value key said) key true (has-less s r i i o o key place said st there found) (own_key key) in
+      let less = received-more (grouping_in s r1) (grouping_in s r) place (receipt_value key said) key true (has-less s r i i o o key place said st there found) (own_key key) in
       let listed = receipts-listed key r1 (once-remove receipt_value (is_at (kept_member_cmp (member_of key place))) r st.receipts_once) in
       let same = ap (λ (x : List (Member × Said)). length (members_in key x)) is in
       let was = known_receipts in

@@ -161,8 +161,14 @@ abbrev pub a_candidate : LinkKey → ℕ → GroupedReceipt
 a_candidate key moment = record { key = key; moment = moment; decides = true }
 
 module _ (g h : Grouping) (place : Place) (r : GroupedReceipt) (more : HasMore g h place r) (key : LinkKey) where
+  pub new_there : get h.receipts place ≡ Some r
+  new_there = more.each place ∙ ap (λ b. cond b (Some r) (get g.receipts place)) (own_place place place refl)
+
+  pub absent_can : (moment : ℕ) (p : Place) → p ≡ place → CanDecide g key moment p → ⊥
+  absent_can moment p t c = not_none (a_candidate key moment) (get g.receipts p) (ap (get g.receipts) t ∙ more.absent) c.stands
+
   pub kept_can : (moment : ℕ) (p : Place) (b : Bool) → eq_by_cmp place_cmp p place ≡ b → CanDecide g key moment p → CanDecide h key moment p
-  kept_can moment p true t c = absurd (not_none (a_candidate key moment) (get g.receipts p) (ap (λ (x : Place). get g.receipts x) (same_place p place t) ∙ more.absent) c.stands)
+  kept_can moment p true t c = absurd (absent_can moment p (same_place p place t) c)
   kept_can moment p false t c = record { stands = more.each p ∙ ap (λ b. cond b (Some r) (get g.receipts p)) t ∙ c.stands }
 
   -- what can decide then is the new one, or could before
@@ -176,7 +182,7 @@ module _ (g h : Grouping) (place : Place) (r : GroupedReceipt) (more : HasMore g
 
   pub new_here : same_key key r.key ≡ true → r.decides ≡ true → CanDecide h key r.moment place
   new_here s d = record {
-    stands = more.each place ∙ ap (λ b. cond b (Some r) (get g.receipts place)) (own_place place place refl) ∙ (λ i. Some (record { key = sym (one_key key r.key s) i; moment = r.moment; decides = d i }));
+    stands = new_there ∙ (λ i. Some (record { key = sym (one_key key r.key s) i; moment = r.moment; decides = d i }));
   }
 
   no_candidate : (moment : ℕ) → (same_key key r.key && r.decides) ≡ false → r ≡ a_candidate key moment → ⊥
@@ -213,12 +219,7 @@ module _ (g h : Grouping) (place : Place) (r : GroupedReceipt) (more : HasMore g
   more-first s d (Some e) false t f =
       (kept_can e.0 e.1 (eq_by_cmp place_cmp e.1 place) refl f.0, each_can (AfterNone e) (λ moment p x. at_new e moment p x (not_after (r.moment, place) e t)) f.1)
 
--- ---- one receipt less
-
--- One receipt less.
-pub record HasLess (g h : Grouping) (place : Place) (r : GroupedReceipt) : Type 0 where
-  pub there : get g.receipts place ≡ Some r
-  pub each : (q : Place) → get h.receipts q ≡ cond (eq_by_cmp place_cmp q place) None (get g.receipts q)
+-- ---- one receipt less: that is one more, seen from those that are left
 
 -- the moment and place of a receipt
 abbrev pair_of : Earliest → m.Candidate
@@ -228,36 +229,18 @@ pair_of e = (e.moment, e.place)
 abbrev in_index : LinkKey → m.Candidate → Candidate
 in_index key c = record { key = key; moment = c.0; place = c.1 }
 
-module _ (g h : Grouping) (place : Place) (r : GroupedReceipt) (less : HasLess g h place r) (key : LinkKey) where
-  pub left_can : (moment : ℕ) (p : Place) (b : Bool) → eq_by_cmp place_cmp p place ≡ b → CanDecide h key moment p → CanDecide g key moment p × (eq_by_cmp place_cmp p place ≡ false)
-  left_can moment p true t c = absurd (not_none (a_candidate key moment) (get h.receipts p) (less.each p ∙ ap (λ b. cond b None (get g.receipts p)) t) c.stands)
-  left_can moment p false t c = (record { stands = sym (less.each p ∙ ap (λ b. cond b None (get g.receipts p)) t) ∙ c.stands }, t)
-
-  pub stay_can : (moment : ℕ) (p : Place) → eq_by_cmp place_cmp p place ≡ false → CanDecide g key moment p → CanDecide h key moment p
-  stay_can moment p t c = record { stands = less.each p ∙ ap (λ b. cond b None (get g.receipts p)) t ∙ c.stands }
-
-  pub was_there : (e : m.Candidate) → CanDecide g key e.0 e.1 → eq_by_cmp place_cmp e.1 place ≡ true → r ≡ a_candidate key e.0
-  was_there e c t = one_of r (a_candidate key e.0) (get g.receipts place) less.there (ap (λ (x : Place). get g.receipts x) (sym (same_place e.1 place t)) ∙ c.stands)
-
-  -- where another receipt was the earliest, it still is
-  pub less-other : (o : Option m.Candidate) → ((e : m.Candidate) → o ≡ Some e → eq_by_cmp place_cmp e.1 place ≡ false) → IsFirst g key o → IsFirst h key o
-  less-other None n f = λ moment p c. f moment p (left_can moment p (eq_by_cmp place_cmp p place) refl c).0
-  less-other (Some e) n f = (stay_can e.0 e.1 (n e refl) f.0, λ moment p c. f.1 moment p (left_can moment p (eq_by_cmp place_cmp p place) refl c).0)
-
-  -- one that isn't a candidate of the key isn't the earliest of it
-  pub less-stays : (same_key key r.key && r.decides) ≡ false → (o : Option m.Candidate) → IsFirst g key o → IsFirst h key o
-  less-stays n None f = less-other None (λ e x. absurd cc) f
-  less-stays n (Some d) f = less-other (Some d) (λ e x. let s : d ≡ e = cc in subst (λ (y : m.Candidate). eq_by_cmp place_cmp y.1 place ≡ false) s (false_from_ne_true (eq_by_cmp place_cmp d.1 place)
-      (λ t. false≢true (sym n ∙ ap (λ (y : GroupedReceipt). same_key key y.key && y.decides) (was_there d f.0 t) ∙ ap (λ b. b && true) (own_key key))))) f
+module _ (g h : Grouping) (place : Place) (r : GroupedReceipt) (more : HasMore g h place r) (key : LinkKey) where
+  pub was_there : (e : m.Candidate) → CanDecide h key e.0 e.1 → e.1 ≡ place → r ≡ a_candidate key e.0
+  was_there e c t = one_of r (a_candidate key e.0) (get h.receipts place) (new_there g h place r more key) (ap (get h.receipts) (sym t) ∙ c.stands)
 
   module _ (index : List (Candidate × Bool)) (so : IsStrictlySortedBy kept_candidate_cmp (keys_of index))
-      (indexed : (c : Candidate) → same_key key c.key ≡ true → lookup (is_at (kept_candidate_cmp c)) index ≡ cond (is_candidate c (get h.receipts c.place)) (Some true) None) where
-    in_indexed : (moment : ℕ) (p : Place) → CanDecide h key moment p → lookup (is_at (kept_candidate_cmp (in_index key (moment, p)))) index ≡ Some true
+      (indexed : (c : Candidate) → same_key key c.key ≡ true → lookup (is_at (kept_candidate_cmp c)) index ≡ cond (is_candidate c (get g.receipts c.place)) (Some true) None) where
+    in_indexed : (moment : ℕ) (p : Place) → CanDecide g key moment p → lookup (is_at (kept_candidate_cmp (in_index key (moment, p)))) index ≡ Some true
     in_indexed moment p c =
         indexed (in_index key (moment, p)) (own_key key) ∙ ap (λ (x : Option GroupedReceipt). cond (is_candidate (in_index key (moment, p)) x) (Some true) None) c.stands
         ∙ (λ i. cond ((own_key key i && (eq-eqb moment moment refl) i) && true) (Some true) None)
 
-    from_index : (c : Candidate) (x : Option GroupedReceipt) (v : Bool) → same_key key c.key ≡ true → get h.receipts c.place ≡ x → cond (is_candidate c x) (Some true) None ≡ Some v → CanDecide h key c.moment c.place
+    from_index : (c : Candidate) (x : Option GroupedReceipt) (v : Bool) → same_key key c.key ≡ true → get g.receipts c.place ≡ x → cond (is_candidate c x) (Some true) None ≡ Some v → CanDecide g key c.moment c.place
     from_index c None v s e l = absurd cc
     from_index c (Some y) v s e l =
         let all = both (same_key c.key y.key && (y.moment == c.moment)) y.decides (cond_some (same_key c.key y.key && (y.moment == c.moment) && y.decides) true v l).0 in
@@ -266,7 +249,7 @@ module _ (g h : Grouping) (place : Place) (r : GroupedReceipt) (less : HasLess g
           stands = e ∙ (λ i. Some (record { key = (sym (one_key c.key y.key parts.0) ∙ sym (one_key key c.key s)) i; moment = eqb-true y.moment c.moment parts.1 i; decides = all.1 i }));
         }
 
-    module _ (f : IsFirst g key (Some (r.moment, place))) where
+    module _ (f : IsFirst h key (Some (r.moment, place))) where
       abbrev from : Earliest
       from = earliest_at (r.moment, place)
 
@@ -279,15 +262,14 @@ module _ (g h : Grouping) (place : Place) (r : GroupedReceipt) (less : HasLess g
       following e = stands_after kept_candidate_cmp (of_candidate key) (candidate_at key from) e
 
       -- each that can decide comes after the one that did
-      comes_after : (moment : ℕ) (p : Place) → CanDecide h key moment p → is_lt (kept_candidate_cmp (candidate_at key from) (in_index key (moment, p))) ≡ true
+      comes_after : (moment : ℕ) (p : Place) → CanDecide g key moment p → is_lt (kept_candidate_cmp (candidate_at key from) (in_index key (moment, p))) ≡ true
       comes_after moment p c =
-          let before = left_can moment p (eq_by_cmp place_cmp p place) refl c in
           ap (λ o. is_lt (ordering_then o (ordering_then (nat_cmp r.moment moment) (kept_place_cmp place p)))) (tied_itself hashed_keys_total key)
           ∙ (λ i. is_lt (ordering_then (nat_cmp r.moment moment) (place-order i place p)))
-          ∙ less_of (candidate_cmp (r.moment, place) (moment, p)) (f.1 moment p before.0)
-          (λ e. false≢true (sym before.1 ∙ own_place p place (sym (ap (λ (x : m.Candidate). x.1) (pairs_exact (r.moment, place) (moment, p) e)))))
+          ∙ less_of (candidate_cmp (r.moment, place) (moment, p)) (f.1 moment p (kept_can g h place r more key moment p (eq_by_cmp place_cmp p place) refl c))
+          (λ e. absent_can g h place r more key moment p (sym (ap (λ (x : m.Candidate). x.1) (pairs_exact (r.moment, place) (moment, p) e))) c)
 
-      later : (moment : ℕ) (p : Place) → CanDecide h key moment p → FindsUpTo candidates_total following index (in_index key (moment, p))
+      later : (moment : ℕ) (p : Place) → CanDecide g key moment p → FindsUpTo candidates_total following index (in_index key (moment, p))
       later moment p c = finds candidates_total one_candidate following index (in_index key (moment, p)) true so (in_indexed moment p c)
           ((λ i. comes_after moment p c i && own_key key i))
 
@@ -297,18 +279,18 @@ module _ (g h : Grouping) (place : Place) (r : GroupedReceipt) (less : HasLess g
           let tied : hashed_key_cmp c.key key ≡ Equal = ap (hashed_key_cmp c.key) same ∙ tied_itself hashed_keys_total c.key in
           sym (ap (λ o. is_gt (ordering_then o (ordering_then (nat_cmp c.moment moment) (kept_place_cmp c.place p)))) tied ∙ (λ i. is_gt (ordering_then (nat_cmp c.moment moment) (place-order i c.place p)))) ∙ n
 
-      next_by : (y : Option (Candidate × Bool)) → find following index ≡ y → IsFirst h key (option_map pair_of (option_map earliest_of y))
+      next_by : (y : Option (Candidate × Bool)) → find following index ≡ y → IsFirst g key (option_map pair_of (option_map earliest_of y))
       next_by None e = λ moment p c. (let at = later moment p c in not_none at.at (find following index) e at.is)
       next_by (Some x) e =
           let own : same_key key x.0.key ≡ true = (both (is_lt (kept_candidate_cmp (candidate_at key from) x.0)) (same_key key x.0.key) (found-passes following index x e)).1 in (
-            from_index x.0 (get h.receipts x.0.place) x.1 own refl (sym (indexed x.0 own) ∙ found-there candidates_total following index x so e),
+            from_index x.0 (get g.receipts x.0.place) x.1 own refl (sym (indexed x.0 own) ∙ found-there candidates_total following index x so e),
             λ moment p c. (let at = later moment p c in
                 let same : at.at ≡ x = one_of at.at x (find following index) at.is e in
                 by_pair x.0 moment p own (ap (λ (z : Candidate × Bool). is_gt (kept_candidate_cmp z.0 (in_index key (moment, p)))) (sym same) ∙ at.up_to)),
           )
 
       -- after the one that decided is taken out, the next candidate of the index is the earliest
-      pub less-next : IsFirst h key (option_map pair_of (first_candidate_after key from index))
+      pub less-next : IsFirst g key (option_map pair_of (first_candidate_after key from index))
       less-next = next_by (find following index) refl
 
 -- ---- the deciding receipt of each key's outlook
@@ -343,36 +325,34 @@ decider-more g h place r more key false d s e =
 abbrev pub is_decided : Option Earliest → Place → Bool
 is_decided o place = same_option (eq_by_cmp place_cmp) (option_map (λ e. e.place) o) (Some place)
 
--- with one receipt less of another key
-pub decider-elsewhere : (g h : Grouping) (place : Place) (r : GroupedReceipt) → HasLess g h place r → (key : LinkKey) → same_key key r.key ≡ false → decider_in h key ≡ decider_in g key
-decider-elsewhere g h place r less key s =
-    stays_first g h key (λ o t. less-stays g h place r less key (ap (λ b. b && r.decides) s) o)
+-- what decides is the one receipt more, or what decided
+pub decider-either : (g h : Grouping) (place : Place) (r : GroupedReceipt) → HasMore g h place r → (b : Bool) → is_before (earliest_at (r.moment, place)) (decider_in g r.key) ≡ b → r.decides ≡ true
+    → decider_in h r.key ≡ cond b (Some (earliest_at (r.moment, place))) (decider_in g r.key)
+decider-either g h place r more b e d =
+    decider-more g h place r more r.key true true (own_key r.key) d ∙ ap (λ b. cond b (Some (earliest_at (r.moment, place))) (decider_in g r.key)) e
 
 -- with one receipt less that doesn't decide
-pub decider-stays : (g h : Grouping) (place : Place) (r : GroupedReceipt) → HasLess g h place r → (r.decides && is_decided (decider_in g r.key) place) ≡ false → decider_in h r.key ≡ decider_in g r.key
-decider-stays g h place r less n = stays_first g h r.key (λ o t f. less-other g h place r less r.key o (λ e x. not_here o e t x (subst (IsFirst g r.key) x f)) f)
+pub decider-stays : (g h : Grouping) (place : Place) (r : GroupedReceipt) → HasMore g h place r → (r.decides && is_decided (decider_in h r.key) place) ≡ false → decider_in g r.key ≡ decider_in h r.key
+decider-stays g h place r more n = by r.decides (is_before (earliest_at (r.moment, place)) (decider_in g r.key)) refl refl
   where
-    not_here : (o : Option m.Candidate) (e : m.Candidate) → reduce earlier (candidates g r.key) ≡ o → o ≡ Some e → IsFirst g r.key (Some e) → eq_by_cmp place_cmp e.1 place ≡ false
-    not_here o e t x f = false_from_ne_true (eq_by_cmp place_cmp e.1 place) (λ same.
-        false≢true (sym n ∙ (λ i. (ap (λ (y : GroupedReceipt). y.decides) (was_there g h place r less r.key e f.0 same) i) && is_decided (option_map earliest_at ((t ∙ x) i)) place) ∙ same))
+    by : (d b : Bool) → r.decides ≡ d → is_before (earliest_at (r.moment, place)) (decider_in g r.key) ≡ b → decider_in g r.key ≡ decider_in h r.key
+    by false b d e = sym (decider-more g h place r more r.key true false (own_key r.key) d)
+    by true false d e = sym (decider-either g h place r more false e d)
+    by true true d e = absurd (false≢true (sym n ∙ (λ i. d i && is_decided (decider-either g h place r more true e d i) place) ∙ own_place place place refl))
 
 -- with one receipt less that decided: the next candidate
-pub decider-next : (g h : Grouping) (place : Place) (r : GroupedReceipt) → HasLess g h place r → (index : List (Candidate × Bool)) → IsStrictlySortedBy kept_candidate_cmp (keys_of index)
-    → ((c : Candidate) → same_key r.key c.key ≡ true → lookup (is_at (kept_candidate_cmp c)) index ≡ cond (is_candidate c (get h.receipts c.place)) (Some true) None)
-    → (r.decides && is_decided (decider_in g r.key) place) ≡ true → decider_in h r.key ≡ first_candidate_after r.key (earliest_at (r.moment, place)) index
-decider-next g h place r less index so indexed was = by (reduce earlier (candidates g r.key)) refl
+pub decider-next : (g h : Grouping) (place : Place) (r : GroupedReceipt) → HasMore g h place r → (index : List (Candidate × Bool)) → IsStrictlySortedBy kept_candidate_cmp (keys_of index)
+    → ((c : Candidate) → same_key r.key c.key ≡ true → lookup (is_at (kept_candidate_cmp c)) index ≡ cond (is_candidate c (get g.receipts c.place)) (Some true) None)
+    → decider_in h r.key ≡ Some (earliest_at (r.moment, place)) → decider_in g r.key ≡ first_candidate_after r.key (earliest_at (r.moment, place)) index
+decider-next g h place r more index so indexed was =
+    ap (option_map earliest_at) (first-found g r.key (option_map pair_of next) (less-next g h place r more r.key index so indexed (here (reduce earlier (candidates h r.key)) refl was)))
+    ∙ paired next
   where
-    here : (o : Option m.Candidate) → reduce earlier (candidates g r.key) ≡ o → is_decided (option_map earliest_at o) place ≡ true → IsFirst g r.key (Some (r.moment, place))
-    here None t d = absurd (false≢true d)
-    here (Some e) t d =
-        let f = first-is g r.key (Some e) t in
-        let at : r ≡ a_candidate r.key e.0 = was_there g h place r less r.key e f.0 d in
-        let same : e ≡ (r.moment, place) = λ i. (sym (ap (λ (y : GroupedReceipt). y.moment) at) i, same_place e.1 place d i) in
-        subst (λ (c : m.Candidate). IsFirst g r.key (Some c)) same f
+    next : Option Earliest
+    next = first_candidate_after r.key (earliest_at (r.moment, place)) index
 
-    by : (o : Option m.Candidate) → reduce earlier (candidates g r.key) ≡ o → decider_in h r.key ≡ first_candidate_after r.key (earliest_at (r.moment, place)) index
-    by o t =
-        let d : is_decided (option_map earliest_at o) place ≡ true = sym (ap (λ (x : Option m.Candidate). is_decided (option_map earliest_at x) place) t) ∙ (both r.decides (is_decided (decider_in g r.key) place) was).1 in
-        let next : Option Earliest = first_candidate_after r.key (earliest_at (r.moment, place)) index in
-        ap (option_map earliest_at) (first-found h r.key (option_map pair_of next) (less-next g h place r less r.key index so indexed (here o t d)))
-        ∙ paired next
+    here : (o : Option m.Candidate) → reduce earlier (candidates h r.key) ≡ o → option_map earliest_at o ≡ Some (earliest_at (r.moment, place)) → IsFirst h r.key (Some (r.moment, place))
+    here None t d = absurd cc
+    here (Some e) t d =
+        let same : earliest_at e ≡ earliest_at (r.moment, place) = cc in
+        subst (λ (c : m.Candidate). IsFirst h r.key (Some c)) (λ i. ((same i).moment, (same i).place)) (first-is h r.key (Some e) t)

@@ -23,9 +23,9 @@ use Rattle.smq_group.specs.within.Stored.{earliest_at, outlook_in, received}
 use Rattle.smq_group.specs.within.Told.{same_decider}
 use Rattle.smq_group.proofs.Changing.{Moves, ReceiptMove, SubmitMove, decider-can}
 use Rattle.smq_group.proofs.Turning.{is_at_place, same_self}
-use Rattle.smq_group.proofs.Earliest.{HasMore, HasLess, decider_in, is_decided, decider-more, decider-elsewhere, decider-stays, own_key}
+use Rattle.smq_group.proofs.Earliest.{HasMore, decider_in, is_decided, decider-more, decider-stays, own_key}
 use Rattle.smq_group.proofs.Placing.{not_none, own_place, same_place}
-use Rattle.smq_group.proofs.Storing.{number-more, number-less, received-more, received-less}
+use Rattle.smq_group.proofs.Storing.{number-more, number-less, received-more}
 
 flipped : (a b : LinkKey) → same_key a b ≡ false → same_key b a ≡ false
 flipped a b n = (eq_by_cmp_equiv link_keys_total).symm b a ∙ n
@@ -38,6 +38,11 @@ same_deciders b a e = ap (λ (d : Option Earliest). same_option (eq_by_cmp place
 emptied : {X : Type 0} (b : Bool) (x y : Option X) → y ≡ cond b None x → (y ≡ x) ⊎ (y ≡ None)
 emptied true x y e = inr e
 emptied false x y e = inl e
+
+-- and a place with one more than before
+filled : {X : Type 0} (b : Bool) (r : X) (x y : Option X) → (b ≡ true → y ≡ None) → x ≡ cond b (Some r) y → (y ≡ x) ⊎ (y ≡ None)
+filled true r x y none e = inr (none refl)
+filled false r x y none e = inl (sym e)
 
 -- ---- a submit
 
@@ -106,14 +111,14 @@ module _ (g h : Grouping) (place : Place) (r : GroupedReceipt) (same : h.submits
       here q false t can e = absurd (not_none can _ (ap (λ b. cond b (Some r.decides) None) t) e)
 
   -- one receipt less
-  pub moves-no_receipt : HasLess g h place r → Moves g h r.key put.Nothing
+  pub moves-no_receipt : HasMore h g place r → Moves g h r.key put.Nothing
   moves-no_receipt less = record {
     submit = λ q. inl (ap (λ (m : FinMap place_cmp LinkKey). get m q) same);
-    receipt = λ q. emptied (eq_by_cmp place_cmp q place) (get g.receipts q) (get h.receipts q) (less.each q);
+    receipt = λ q. filled (eq_by_cmp place_cmp q place) r (get g.receipts q) (get h.receipts q) (λ t. ap (get h.receipts) (same_place q place t) ∙ less.absent) (less.each q);
     elsewhere = λ k n.
-        let all = received-less g h place r k false less (flipped r.key k n) in
+        let all = received-more h g place r k false less (flipped r.key k n) in
         let same_received : received h k ≡ received g k = omega (arith, all) in
-        λ i. an_outlook (same_matches k i) (same_received i) (decider-elsewhere g h place r less k (flipped r.key k n) i);
+        λ i. an_outlook (same_matches k i) (same_received i) (sym (decider-more h g place r less k false r.decides (flipped r.key k n) refl) i);
     anew = λ n. record {
       new = λ q can e. absurd (not_none can None refl e);
       stays = λ q x is at. absurd (gone n q x is at (r.decides && is_decided (decider_in g r.key) place) refl);
@@ -121,13 +126,13 @@ module _ (g h : Grouping) (place : Place) (r : GroupedReceipt) (same : h.submits
     };
   }
     where
-      at_one : (o : Option Place) (p q : Place) → is_at_place o p ≡ true → is_at_place o q ≡ true → eq_by_cmp place_cmp q p ≡ true
+      at_one : (o : Option Place) (p q : Place) → is_at_place o p ≡ true → is_at_place o q ≡ true → q ≡ p
       at_one None p q s t = absurd (false≢true s)
-      at_one (Some x) p q s t = own_place q p (sym (same_place x q t) ∙ same_place x p s)
+      at_one (Some x) p q s t = sym (same_place x q t) ∙ same_place x p s
 
       gone : same_decider (outlook_in g r.key) (outlook_in h r.key) ≡ false → (q : Place) (x : GroupedReceipt) → get h.receipts q ≡ Some x → is_at_place (decider_of (outlook_in g r.key)) q ≡ true
           → (b : Bool) → (r.decides && is_decided (decider_in g r.key) place) ≡ b → ⊥
       gone n q x is at true t =
           let here = (both r.decides (is_decided (decider_in g r.key) place) t).1 in
-          not_none x (get h.receipts q) (less.each q ∙ ap (λ b. cond b None (get g.receipts q)) (at_one (decider_of (outlook_in g r.key)) place q here at)) is
-      gone n q x is at false t = false≢true (sym n ∙ same_deciders (outlook_in g r.key) (outlook_in h r.key) (decider-stays g h place r less t))
+          not_none x (get h.receipts q) (ap (get h.receipts) (at_one (decider_of (outlook_in g r.key)) place q here at) ∙ less.absent) is
+      gone n q x is at false t = false≢true (sym n ∙ same_deciders (outlook_in g r.key) (outlook_in h r.key) (decider-stays h g place r less t))

@@ -6,7 +6,7 @@ use Rattle.std.specs.declared.cmp.Ordering.TheVariants.{Less, Equal, Greater}
 use Rattle.std.specs.Ordering.{eq_by_cmp, is_eq, match_ordering}
 use Rattle.std.specs.Map.{lookup, remove_entry}
 use Rattle.std.specs.BTreeMap.{is_at, insert_entry}
-use Rattle.std.specs.FinMap.{FinMap, entries, get, insert, remove, from_entries, get-from_entries, get-insert, get-remove, same_map}
+use Rattle.std.specs.FinMap.{FinMap, entries, get, insert, remove, from_entries, get-from_entries, get-insert, same_map}
 use Rattle.std.proofs.lemmas.List.Sums.{sum_by-cons}
 use Rattle.smq_kit.specs.declared.place.Place.{Place}
 use Rattle.smq_kit.specs.declared.link_key.LinkKey.{LinkKey}
@@ -29,7 +29,7 @@ use Rattle.smq_group.specs.within.Orders.{kept_member_cmp}
 use Rattle.smq_group.specs.within.Outlooks.{an_outlook, group_at, is_decided_by, only_at, outlook_at, no_outlook}
 use Rattle.smq_group.specs.within.Stored.{grouping_in, submit_value, is_candidate, earliest_at, outlook_in, received, AreStored, by_place, member_of, waits}
 use Rattle.smq_group.specs.within.Walked.{members_in, of_key, only_of, placed}
-use Rattle.smq_group.proofs.Earliest.{HasMore, HasLess, one_key, own_key}
+use Rattle.smq_group.proofs.Earliest.{HasMore, one_key, own_key}
 use Rattle.smq_group.proofs.Placing.{at, found, with-member, without-member, once-insert, once-remove}
 
 -- ---- nothing
@@ -133,7 +133,7 @@ module _ {X : Type 0} (test : X → Bool) (m : FinMap place_cmp X) (x : X) (plac
       let here : share test (get m place) ≡ cond b 1 0 = ap (share test) there ∙ share_of test x b e in
       omega (arith, all, here)
 
--- how many receipts have a key, with one more or less
+-- how many receipts have a key, with one more
 module _ (g h : Grouping) (place : Place) (r : GroupedReceipt) (k : LinkKey) (b : Bool) where
   abbrev has_key : GroupedReceipt → Bool
   has_key y = same_key k y.key
@@ -142,12 +142,6 @@ module _ (g h : Grouping) (place : Place) (r : GroupedReceipt) (k : LinkKey) (b 
   received-more more e =
       ap (number_of has_key) (same_map places_total places_exact h.receipts (insert g.receipts place r) (λ q. more.each q ∙ sym (get-insert places_total g.receipts place r q)))
       ∙ number-more has_key g.receipts r place b more.absent e
-
-  pub received-less : HasLess g h place r → same_key k r.key ≡ b → received h k + cond b 1 0 ≡ received g k
-  received-less less e =
-      ap (λ (m : FinMap place_cmp GroupedReceipt). number_of has_key m + cond b 1 0)
-      (same_map places_total places_exact h.receipts (remove g.receipts place) (λ q. less.each q ∙ sym (get-remove places_total g.receipts place q)))
-      ∙ number-less has_key g.receipts r place b less.there e
 
 -- ---- a submit more
 

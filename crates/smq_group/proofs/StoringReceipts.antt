@@ -5,9 +5,11 @@ use Rattle.std.specs.Map.{keys_of, lookup, remove_entry}
 use Rattle.std.specs.BTreeMap.{is_at, insert_entry}
 use Rattle.std.specs.FinMap.{get, get-from_entries, get-insert, get-remove}
 use Rattle.std.specs.List.Sorted.{IsStrictlySortedBy}
+use Rattle.std.specs.Ordering.{eq_by_cmp}
 use Rattle.std.proofs.lemmas.Bool.{false≢true}
 use Rattle.smq_kit.specs.declared.place.Place.{Place}
 use Rattle.smq_kit.specs.declared.link_key.LinkKey.{LinkKey}
+use Rattle.smq_kit.specs.Orders.{place_cmp}
 use Rattle.smq_kit.specs.HashedKeys.{hashed_key_cmp}
 use Rattle.smq_kit.specs.LinkKeys.{same_key}
 use Rattle.smq_kit.proofs.PlaceOrders.{places_total}
@@ -24,14 +26,14 @@ use Rattle.smq_group.specs.Matching.{Grouping, GroupedReceipt, matches}
 use Rattle.smq_group.specs.Groups.{with_receipt, without_receipt}
 use Rattle.smq_group.specs.within.KeyLaws.{one_candidate}
 use Rattle.smq_group.specs.within.Orders.{kept_member_cmp, kept_candidate_cmp}
-use Rattle.smq_group.specs.within.Outlooks.{an_outlook, group_at, group_with, later_of, one_more, only_at, outlook_at, outlook_with}
+use Rattle.smq_group.specs.within.Outlooks.{an_outlook, group_at, group_with, is_before, later_of, one_more, only_at, outlook_at, outlook_with}
 use Rattle.smq_group.specs.within.Stored.{grouping_in, receipt_value, earliest_at, gone_of, received, AreStored, by_place, member_of, waits, with_waiting, without_waiting}
 use Rattle.smq_group.specs.within.Walked.{candidate_at, first_candidate_after, members_in, only_of}
 use Rattle.smq_group.proofs.CandidateWalks.{candidates_total}
-use Rattle.smq_group.proofs.Earliest.{HasMore, HasLess, decider_in, is_decided, decider-more, decider-elsewhere, decider-stays, decider-next, own_key}
-use Rattle.smq_group.proofs.Waiting.{decided-own, gone-waited, is_the, waits-decided, waits-less, waits-more}
-use Rattle.smq_group.proofs.Placing.{at, found, one_of, with-member, without-member, once-insert, once-remove}
-use Rattle.smq_group.proofs.Storing.{only-anew, outlooks-anew, received-more, received-less}
+use Rattle.smq_group.proofs.Earliest.{HasMore, decider_in, is_decided, decider-more, decider-stays, decider-next, own_key}
+use Rattle.smq_group.proofs.Waiting.{decided-own, gone-is, gone-waited, is_the, waits-decided, waits-less, waits-more}
+use Rattle.smq_group.proofs.Placing.{at, found, one_of, own_place, same_place, with-member, without-member, once-insert, once-remove}
+use Rattle.smq_group.proofs.Storing.{only-anew, outlooks-anew, received-more}
 
 abbrev own : Place → Said → Earliest
 own place said = earliest_at (said.moment, place)
@@ -141,11 +143,18 @@ module _ (s : List (Member × Bool)) (r : List (Member × Said)) (i i' : List (C
   pub receipt-less : AreStored s r i o → lookup (is_at (kept_member_cmp member)) r ≡ Some said → grouping_in s less ≡ without_receipt g place
   receipt-less st l = λ j. record { submits = g.submits; receipts = without-member receipt_value member said r st.receipts_once l j }
 
-  pub has-less : AreStored s r i o → get g.receipts place ≡ Some value → lookup (is_at (kept_member_cmp member)) r ≡ Some said → HasLess g (grouping_in s less) place value
+  pub has-less : AreStored s r i o → get g.receipts place ≡ Some value → lookup (is_at (kept_member_cmp member)) r ≡ Some said → HasMore (grouping_in s less) g place value
   has-less st there l = record {
-    there = there;
-    each = λ q. ap (λ (h : Grouping). get h.receipts q) (receipt-less st l) ∙ get-remove places_total g.receipts place q;
+    absent = gone place ∙ ap (λ b. cond b None (get g.receipts place)) (own_place place place refl);
+    each = λ q. by q (eq_by_cmp place_cmp q place) refl;
   }
+    where
+      gone : (q : Place) → get (grouping_in s less).receipts q ≡ cond (eq_by_cmp place_cmp q place) None (get g.receipts q)
+      gone q = ap (λ (h : Grouping). get h.receipts q) (receipt-less st l) ∙ get-remove places_total g.receipts place q
+
+      by : (q : Place) (b : Bool) → eq_by_cmp place_cmp q place ≡ b → get g.receipts q ≡ cond (eq_by_cmp place_cmp q place) (Some value) (get (grouping_in s less).receipts q)
+      by q true t = ap (get g.receipts) (same_place q place t) ∙ there ∙ sym (ap (λ b. cond b (Some value) (get (grouping_in s less).receipts q)) t)
+      by q false t = sym (ap (λ b. cond b (Some value) (get (grouping_in s less).receipts q)) t ∙ gone q ∙ ap (λ b. cond b None (get g.receipts q)) t)
 
   indexed_less : (w : Option Earliest) → i' ≡ without_waiting key w i → (IsSome w → IsStrictlySortedBy kept_candidate_cmp (keys_of i)) → (c : Candidate) (b : Bool) → is_the key w c ≡ b
       → lookup (is_at (kept_candidate_cmp c)) i' ≡ cond (not b) (lookup (is_at (kept_candidate_cmp c)) i) None
@@ -192,24 +201,26 @@ module _ (s : List (Member × Bool)) (r : List (Member × Said)) (i i' : List (C
 
     new : (b : Bool) → did_decide ≡ b → decider_in h key ≡ next
     new true w =
-        let was = sym decided_before ∙ w in
-        decider-next g h place value (has-less st there l) i (n.ordered w)
-        (λ c t. st.indexed.candidates c ∙ ap (λ b. cond b (Some true) None) (waits-decided g h place value (has-less st there l) (decided-own g h place value (has-less st there l) was) c t))
+        let was = decided-own h g place value (has-less st there l) (sym decided_before ∙ w) in
+        decider-next h g place value (has-less st there l) i (n.ordered w)
+        (λ c t. st.indexed.candidates c ∙ ap (λ b. cond b (Some true) None) (waits-decided h g place value (has-less st there l) was c t))
         was ∙ sym (n.follows w)
-    new false w = decider-stays g h place value (has-less st there l) (sym decided_before ∙ w) ∙ sym (ap (λ (x : Outlook). x.decider) (st.indexed.outlook key)) ∙ sym (n.stays w)
+    new false w = decider-stays h g place value (has-less st there l) (sym decided_before ∙ w) ∙ sym (ap (λ (x : Outlook). x.decider) (st.indexed.outlook key)) ∙ sym (n.stays w)
 
     abbrev w : Option Earliest
     w = gone_of said.decides (is_decided (outlook_at key o).decider place) next (own place said)
 
     -- what goes, by the grouping
-    goes : w ≡ gone_of said.decides (is_decided (decider_in g key) place) (decider_in h key) (own place said)
-    goes = λ j. gone_of said.decides (is_decided (st.indexed.outlook key j).decider place) (sym (new did_decide refl) j) (own place said)
+    goes : w ≡ later_of (decider_in h key) (own place said) said.decides
+    goes =
+        (λ j. gone_of said.decides (is_decided (st.indexed.outlook key j).decider place) (sym (new did_decide refl) j) (own place said))
+        ∙ gone-is h g place value (has-less st there l) said.decides (decider_in h key) (is_before (own place said) (decider_in h key)) refl refl refl
 
     -- and it is in the index
     pub gone-there : (e : Earliest) → w ≡ Some e → IsSome (lookup (is_at (kept_candidate_cmp (candidate_at key e))) i)
     gone-there e is =
         ap is_some (st.indexed.candidates (candidate_at key e)
-        ∙ ap (λ b. cond b (Some true) None) (gone-waited g h place value (has-less st there l) did_decide (sym decided_before) e (sym goes ∙ is)))
+        ∙ ap (λ b. cond b (Some true) None) (gone-waited h g place value (has-less st there l) e (sym goes ∙ is)))
 
     pub receipt-taken : i' ≡ without_waiting key w i → (IsSome w → IsStrictlySortedBy kept_candidate_cmp (keys_of i))
         → outlook_at key o' ≡ an_outlook (outlook_at key o).matches ((outlook_at key o).receipts - 1) next → only_at key o' ≡ only_of (members_in key s)
@@ -224,9 +235,9 @@ module _ (s : List (Member × Bool)) (r : List (Member × Said)) (i i' : List (C
             ∙ ap (λ (x : Option Bool). cond (not (is_the key w c)) x None) (st.indexed.candidates c)
             ∙ parted (not (is_the key w c)) (waits g c)
             ∙ ap (λ (x : Option Earliest). cond (not (is_the key x c) && waits g c) (Some true) None) goes
-            ∙ ap (λ b. cond b (Some true) None) (waits-less g h place value (has-less st there l) did_decide (sym decided_before) c);
+            ∙ ap (λ b. cond b (Some true) None) (waits-less h g place value (has-less st there l) c);
         outlook = outlooks-anew g h o o' key st.indexed.outlook
-            (λ k t. λ j. an_outlook (matches g k) (elsewhere_less k t j) (decider-elsewhere g h place value (has-less st there l) k t j))
+            (λ k t. λ j. an_outlook (matches g k) (elsewhere_less k t j) (sym (decider-more h g place value (has-less st there l) k false said.decides t refl) j))
             (here ∙ ap (λ (x : Outlook). an_outlook x.matches (x.receipts - 1) next) (st.indexed.outlook key) ∙ sym (λ j. an_outlook (matches g key) (one_less j) (new did_decide refl j)))
             elsewhere;
       };
@@ -234,7 +245,7 @@ module _ (s : List (Member × Bool)) (r : List (Member × Said)) (i i' : List (C
     }
       where
         elsewhere_less : (k : LinkKey) → same_key k key ≡ false → received h k ≡ received g k
-        elsewhere_less k t = let n = received-less g h place value k false (has-less st there l) t in omega (arith, n)
+        elsewhere_less k t = let n = received-more h g place value k false (has-less st there l) t in omega (arith, n)
 
         one_less : received h key ≡ received g key - 1
-        one_less = let n = received-less g h place value key true (has-less st there l) (own_key key) in omega (arith, n)
+        one_less = let n = received-more h g place value key true (has-less st there l) (own_key key) in omega (arith, n)

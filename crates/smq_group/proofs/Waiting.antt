@@ -2,7 +2,7 @@
 use Rattle.std.proofs.Common.{◌≡◌, ℕ, Bool, true, false, cond, Option, Some, None, refl, sym, ap, ◌∙◌, subst}
 use Rattle.std.specs.Prelude.{◌&&◌, ◌||◌, ◌==◌, not, option_map}
 use Rattle.std.specs.Ordering.{eq_by_cmp, is_eq}
-use Rattle.std.specs.Cmp.{both_ways, tied_itself}
+use Rattle.std.specs.Cmp.{both_ways, eq_by_cmp_equiv, tied_itself}
 use Rattle.std.specs.BTreeMap.{is_at}
 use Rattle.std.specs.List.{reduce}
 use Rattle.std.specs.FinMap.{get}
@@ -12,7 +12,9 @@ use Rattle.smq_kit.specs.declared.link_key.LinkKey.{LinkKey}
 use Rattle.smq_kit.specs.Orders.{place_cmp}
 use Rattle.smq_kit.specs.LinkKeys.{same_key}
 use Rattle.smq_kit.proofs.Comparisons.{is_equal}
-use Rattle.smq_shelf.proofs.Walks.{both}
+use Rattle.smq_kit.proofs.PlaceOrders.{places_total}
+use Rattle.smq_shelf.proofs.Finds.{and_true}
+use Rattle.smq_shelf.proofs.Walks.{and_false, both}
 use Rattle.smq_group.specs.Matching as m
 use Rattle.smq_group.specs.Matching.{Grouping, GroupedReceipt, CanDecide, candidates, earlier}
 use Rattle.smq_group.specs.declared.member.Candidate.{Candidate}
@@ -23,8 +25,8 @@ use Rattle.smq_group.specs.within.Outlooks.{is_before, later_of}
 use Rattle.smq_group.specs.within.Stored.{earliest_at, gone_of, is_candidate, waits}
 use Rattle.smq_group.specs.within.Walked.{candidate_at}
 use Rattle.smq_group.proofs.CandidateWalks.{candidates_total}
-use Rattle.smq_group.proofs.Earliest.{HasMore, HasLess, IsFirst, a_candidate, decider_in, is_decided, decider-more, decider-elsewhere, decider-stays, each_can, first-is, kept_can, left_can, new_here, own_key, one_key, stay_can, was_there}
-use Rattle.smq_group.proofs.Placing.{not_none, one_of, own_place, same_place}
+use Rattle.smq_group.proofs.Earliest.{HasMore, IsFirst, a_candidate, absent_can, decider_in, is_decided, decider-either, decider-more, each_can, first-is, kept_can, new_here, own_key, one_key, was_there}
+use Rattle.smq_group.proofs.Placing.{one_of, own_place, same_place}
 
 -- ---- the one that is given, if one is
 
@@ -95,21 +97,24 @@ at key moment p = record { key = key; moment = moment; place = p }
 apart : (p q : Place) → (p ≡ q → ⊥) → eq_by_cmp place_cmp p q ≡ false
 apart p q n = false_from_ne_true (eq_by_cmp place_cmp p q) (λ t. n (same_place p q t))
 
+turned : (p q : Place) → eq_by_cmp place_cmp p q ≡ eq_by_cmp place_cmp q p
+turned p q = (eq_by_cmp_equiv places_total).symm p q
+
 -- ---- with one receipt more
 
 module _ (g h : Grouping) (place : Place) (r : GroupedReceipt) (more : HasMore g h place r) where
-  absent : (key : LinkKey) (moment : ℕ) (p : Place) → CanDecide g key moment p → p ≡ place → ⊥
-  absent key moment p x s = not_none (a_candidate key moment) (get g.receipts p) (ap (get g.receipts) s ∙ more.absent) x.stands
-
   keeps : (key : LinkKey) (moment : ℕ) (p : Place) → CanDecide g key moment p → CanDecide h key moment p
   keeps key moment p x = kept_can g h place r more key moment p (eq_by_cmp place_cmp p place) refl x
 
   abbrev new_one : Earliest
   new_one = earliest_at (r.moment, place)
 
+  decides-now : (D : Option Earliest) (b : Bool) → r.decides ≡ true → decider_in g r.key ≡ D → is_before new_one D ≡ b → decider_in h r.key ≡ cond b (Some new_one) D
+  decides-now D b e eg eb = decider-either g h place r more b (ap (is_before new_one) eg ∙ eb) e ∙ ap (cond b (Some new_one)) eg
+
   -- what is put among those that wait, for what decides before and after
   module _ (w Dg Dh : Option Earliest) (eg : decider_in g r.key ≡ Dg) (eh : decider_in h r.key ≡ Dh)
-      (put : (e : Earliest) → w ≡ Some e → CanDecide h r.key e.moment e.place × (is_decided Dh e.place ≡ false))
+      (fits : (e : Earliest) → w ≡ Some e → CanDecide h r.key e.moment e.place × (is_decided Dh e.place ≡ false))
       (kept : (moment : ℕ) (p : Place) → CanDecide g r.key moment p → is_decided Dg p ≡ false → is_decided Dh p ≡ false)
       (back : (moment : ℕ) (p : Place) → CanDecide h r.key moment p → is_decided Dh p ≡ false → (is_the r.key w (at r.key moment p) || waits g (at r.key moment p)) ≡ true) where
     more-by : (moment : ℕ) (p : Place) → (is_the r.key w (at r.key moment p) || waits g (at r.key moment p)) ≡ waits h (at r.key moment p)
@@ -121,7 +126,7 @@ module _ (g h : Grouping) (place : Place) (r : GroupedReceipt) (more : HasMore g
         there : (b : Bool) → is_the r.key w (at r.key moment p) ≡ b → (b || waits g (at r.key moment p)) ≡ true → waits h (at r.key moment p) ≡ true
         there true is t =
             let o = the-one r.key w (at r.key moment p) is in
-            let x = put o.0 o.1 in
+            let x = fits o.0 o.1 in
             ap (waits h) o.2 ∙ can-waits h (candidate_at r.key o.0) x.0 (ap (λ (d : Option Earliest). is_decided d (o.0).place) eh ∙ x.1)
         there false is t =
             let x = waits-can g (at r.key moment p) t in
@@ -142,7 +147,7 @@ module _ (g h : Grouping) (place : Place) (r : GroupedReceipt) (more : HasMore g
       (λ moment p x n. absurd (false≢true (sym e ∙ ap (λ (y : GroupedReceipt). y.decides) x.1)))
       (λ moment p x n. can-waits g (at r.key moment p) x (ap (λ (y : Option Earliest). is_decided y p) eg ∙ n)))
   more-here true None b e eg eb =
-      more-by None None (Some new_one) eg (decider-more g h place r more r.key true true (own_key r.key) e ∙ ap (λ (y : Option Earliest). cond (is_before new_one y) (Some new_one) y) eg)
+      more-by None None (Some new_one) eg (decides-now None true e eg refl)
       (λ x y. absurd cc) (λ moment p x n. absurd (none-can g r.key eg moment p x))
       (each_can g h place r more r.key (λ moment p. is_decided (Some new_one) p ≡ false → waits g (at r.key moment p) ≡ true)
       (λ moment p x n. absurd (false≢true (sym n ∙ own_place place p (sym x.0))))
@@ -150,12 +155,11 @@ module _ (g h : Grouping) (place : Place) (r : GroupedReceipt) (more : HasMore g
   more-here true (Some f) true e eg eb =
       subst (λ (w : Option Earliest). (moment : ℕ) (p : Place) → (is_the r.key w (at r.key moment p) || waits g (at r.key moment p)) ≡ waits h (at r.key moment p))
       (ap (λ b. Some (cond b f new_one)) (sym eb))
-      (more-by (Some f) (Some f) (Some new_one) eg
-      (decider-more g h place r more r.key true true (own_key r.key) e ∙ ap (λ (y : Option Earliest). cond (is_before new_one y) (Some new_one) y) eg ∙ ap (λ b. cond b (Some new_one) (Some f)) eb)
+      (more-by (Some f) (Some f) (Some new_one) eg (decides-now (Some f) true e eg eb)
       (λ x y. (let s : f ≡ x = cc in let c = decider-can g r.key f eg in
       subst (λ (z : Earliest). CanDecide h r.key z.moment z.place × (is_decided (Some new_one) z.place ≡ false)) s
-      (keeps r.key f.moment f.place c, apart place f.place (λ t. absent r.key f.moment f.place c (sym t)))))
-      (λ moment p x n. apart place p (λ t. absent r.key moment p x (sym t)))
+      (keeps r.key f.moment f.place c, apart place f.place (λ t. absent_can g h place r more r.key f.moment f.place (sym t) c))))
+      (λ moment p x n. apart place p (λ t. absent_can g h place r more r.key moment p (sym t) x))
       (each_can g h place r more r.key (λ moment p. is_decided (Some new_one) p ≡ false → (is_the r.key (Some f) (at r.key moment p) || waits g (at r.key moment p)) ≡ true)
       (λ moment p x n. absurd (false≢true (sym n ∙ own_place place p (sym x.0))))
       (λ moment p x n. by moment p x (eq_by_cmp place_cmp f.place p) refl)))
@@ -168,11 +172,10 @@ module _ (g h : Grouping) (place : Place) (r : GroupedReceipt) (more : HasMore g
   more-here true (Some f) false e eg eb =
       subst (λ (w : Option Earliest). (moment : ℕ) (p : Place) → (is_the r.key w (at r.key moment p) || waits g (at r.key moment p)) ≡ waits h (at r.key moment p))
       (ap (λ b. Some (cond b f new_one)) (sym eb))
-      (more-by (Some new_one) (Some f) (Some f) eg
-      (decider-more g h place r more r.key true true (own_key r.key) e ∙ ap (λ (y : Option Earliest). cond (is_before new_one y) (Some new_one) y) eg ∙ ap (λ b. cond b (Some new_one) (Some f)) eb)
+      (more-by (Some new_one) (Some f) (Some f) eg (decides-now (Some f) false e eg eb)
       (λ x y. (let s : new_one ≡ x = cc in
       subst (λ (z : Earliest). CanDecide h r.key z.moment z.place × (is_decided (Some f) z.place ≡ false)) s
-      (new_here g h place r more r.key (own_key r.key) e, apart f.place place (absent r.key f.moment f.place (decider-can g r.key f eg)))))
+      (new_here g h place r more r.key (own_key r.key) e, apart f.place place (λ t. absent_can g h place r more r.key f.moment f.place t (decider-can g r.key f eg)))))
       (λ moment p x n. n)
       (each_can g h place r more r.key (λ moment p. is_decided (Some f) p ≡ false → (is_the r.key (Some new_one) (at r.key moment p) || waits g (at r.key moment p)) ≡ true)
       (λ moment p x n. waits-the new_one moment p (sym (ap (λ (y : GroupedReceipt). y.moment) x.1)) x.0)
@@ -190,165 +193,84 @@ module _ (g h : Grouping) (place : Place) (r : GroupedReceipt) (more : HasMore g
       same : decider_in h c.key ≡ decider_in g c.key
       same = decider-more g h place r more c.key false r.decides n refl
 
-  -- with a receipt more, what waited waits, and the later of it and the one that decided
-  pub waits-more : (c : Candidate) → (is_the r.key (later_of (decider_in g r.key) new_one r.decides) c || waits g c) ≡ waits h c
+  -- the later of it and the one that decided
+  abbrev pub put : Option Earliest
+  put = later_of (decider_in g r.key) new_one r.decides
+
+  -- with a receipt more, what waited waits, and the later one
+  pub waits-more : (c : Candidate) → (is_the r.key put c || waits g c) ≡ waits h c
   waits-more c = by (same_key c.key r.key) refl
     where
-      w : Option Earliest
-      w = later_of (decider_in g r.key) new_one r.decides
-
-      by : (b : Bool) → same_key c.key r.key ≡ b → (is_the r.key w c || waits g c) ≡ waits h c
+      by : (b : Bool) → same_key c.key r.key ≡ b → (is_the r.key put c || waits g c) ≡ waits h c
       by true t =
           let s : at r.key c.moment c.place ≡ c = λ i. record { key = sym (one_key c.key r.key t) i; moment = c.moment; place = c.place } in
-          subst (λ (x : Candidate). (is_the r.key w x || waits g x) ≡ waits h x) s
+          subst (λ (x : Candidate). (is_the r.key put x || waits g x) ≡ waits h x) s
           (more-here r.decides (decider_in g r.key) (is_before new_one (decider_in g r.key)) refl refl refl c.moment c.place)
-      by false t = ap (λ b. b || waits g c) (other-key r.key w c t) ∙ more-elsewhere c t
+      by false t = ap (λ b. b || waits g c) (other-key r.key put c t) ∙ more-elsewhere c t
 
--- ---- with one receipt less
+  -- ---- and with one receipt less
 
--- the receipt that decided is the earliest of its key
-pub decided-own : (g h : Grouping) (place : Place) (r : GroupedReceipt) → HasLess g h place r → (r.decides && is_decided (decider_in g r.key) place) ≡ true → decider_in g r.key ≡ Some (earliest_at (r.moment, place))
-decided-own g h place r less was = by (decider_in g r.key) refl (both r.decides (is_decided (decider_in g r.key) place) was).1
-  where
-    by : (D : Option Earliest) → decider_in g r.key ≡ D → is_decided D place ≡ true → decider_in g r.key ≡ Some (earliest_at (r.moment, place))
-    by None e d = absurd (false≢true d)
-    by (Some f) e d =
-        let is_it : r ≡ a_candidate r.key f.moment = was_there g h place r less r.key (f.moment, f.place) (decider-can g r.key f e) d in
-        e ∙ (λ i. Some (record { moment = sym (ap (λ (y : GroupedReceipt). y.moment) is_it) i; place = same_place f.place place d i }))
+  -- what goes once the one more is taken out, by what decides then
+  pub gone-is : (d : Bool) (D : Option Earliest) (b : Bool) → r.decides ≡ d → decider_in g r.key ≡ D → is_before new_one D ≡ b
+      → gone_of d (is_decided (decider_in h r.key) place) D new_one ≡ later_of D new_one d
+  gone-is false D b e eg eb = refl
+  gone-is true D true e eg eb =
+      ap (λ t. cond t D (Some new_one)) (ap (λ (o : Option Earliest). is_decided o place) (decides-now D true e eg eb) ∙ own_place place place refl) ∙ by D eb
+    where
+      by : (D : Option Earliest) → is_before new_one D ≡ true → D ≡ later_of D new_one true
+      by None t = refl
+      by (Some f) t = ap (λ b. Some (cond b f new_one)) (sym t)
+  gone-is true None false e eg eb = absurd (false≢true (sym eb))
+  gone-is true (Some f) false e eg eb =
+      ap (λ t. cond t (Some f) (Some new_one)) (ap (λ (o : Option Earliest). is_decided o place) (decides-now (Some f) false e eg eb)
+      ∙ apart f.place place (λ t. absent_can g h place r more r.key f.moment f.place t (decider-can g r.key f eg)))
+      ∙ ap (λ b. Some (cond b f new_one)) (sym eb)
 
-module _ (g h : Grouping) (place : Place) (r : GroupedReceipt) (less : HasLess g h place r) where
-  abbrev own : Earliest
-  own = earliest_at (r.moment, place)
+  -- what goes waited, and waits no more
+  pub gone-waited : (e : Earliest) → put ≡ Some e → waits h (candidate_at r.key e) ≡ true
+  gone-waited e is =
+      sym (waits-more (candidate_at r.key e))
+      ∙ ap (λ b. b || waits g (candidate_at r.key e)) (ap (λ (w : Option Earliest). is_the r.key w (candidate_at r.key e)) is ∙ is-the r.key e (candidate_at r.key e) refl)
 
-  left : (key : LinkKey) (moment : ℕ) (p : Place) → CanDecide h key moment p → CanDecide g key moment p × (eq_by_cmp place_cmp p place ≡ false)
-  left key moment p x = left_can g h place r less key moment p (eq_by_cmp place_cmp p place) refl x
+  not-waiting : (D : Option Earliest) (d : Bool) (e : Earliest) → decider_in g r.key ≡ D → later_of D new_one d ≡ Some e → waits g (candidate_at r.key e) ≡ false
+  not-waiting D false e eg is = absurd cc
+  not-waiting None true e eg is = absurd cc
+  not-waiting (Some f) true e eg is = by (is_before new_one (Some f)) is
+    where
+      by : (b : Bool) → Some (cond b f new_one) ≡ Some e → waits g (candidate_at r.key e) ≡ false
+      by true y =
+          let s : f ≡ e = cc in
+          ap (λ b. is_candidate (candidate_at r.key e) (get g.receipts e.place) && not b) (ap (λ (D : Option Earliest). is_decided D e.place) eg ∙ own_place f.place e.place (ap (λ (x : Earliest). x.place) s))
+          ∙ and_false (is_candidate (candidate_at r.key e) (get g.receipts e.place))
+      by false y =
+          let s : new_one ≡ e = cc in
+          ap (λ o. is_candidate (candidate_at r.key e) o && not (is_decided (decider_in g r.key) e.place)) (ap (λ (x : Earliest). get g.receipts x.place) (sym s) ∙ more.absent)
 
-  turned : (p : Place) → eq_by_cmp place_cmp p place ≡ false → eq_by_cmp place_cmp place p ≡ false
-  turned p n = apart place p (λ t. false≢true (sym n ∙ own_place p place (sym t)))
+  -- what waited waits, but for the one that goes
+  pub waits-less : (c : Candidate) → (not (is_the r.key put c) && waits h c) ≡ waits g c
+  waits-less c = ap (λ b. not (is_the r.key put c) && b) (sym (waits-more c)) ∙ by (is_the r.key put c) refl
+    where
+      by : (b : Bool) → is_the r.key put c ≡ b → (not b && (b || waits g c)) ≡ waits g c
+      by false t = refl
+      by true t = let o = the-one r.key put c t in sym (ap (waits g) o.2 ∙ not-waiting (decider_in g r.key) r.decides o.0 refl o.1)
 
-  -- what goes from those that wait, for what decides before and after
-  module _ (w Dg Dh : Option Earliest) (eg : decider_in g r.key ≡ Dg) (eh : decider_in h r.key ≡ Dh)
-      (stays : (moment : ℕ) (p : Place) → is_the r.key w (at r.key moment p) ≡ false → CanDecide g r.key moment p → is_decided Dg p ≡ false → CanDecide h r.key moment p × (is_decided Dh p ≡ false))
-      (back : (moment : ℕ) (p : Place) → CanDecide h r.key moment p → is_decided Dh p ≡ false → (is_the r.key w (at r.key moment p) ≡ false) × (is_decided Dg p ≡ false)) where
-    less-by : (moment : ℕ) (p : Place) → (not (is_the r.key w (at r.key moment p)) && waits g (at r.key moment p)) ≡ waits h (at r.key moment p)
-    less-by moment p =
-        both_ways (not (is_the r.key w (at r.key moment p)) && waits g (at r.key moment p)) (waits h (at r.key moment p))
-        (λ t. there (is_the r.key w (at r.key moment p)) refl t)
-        (λ t. let x = waits-can h (at r.key moment p) t in
-        let y = back moment p x.0 (ap (λ (d : Option Earliest). is_decided d p) (sym eh) ∙ x.1) in
-        λ i. not (y.0 i) && can-waits g (at r.key moment p) (left r.key moment p x.0).0 (ap (λ (d : Option Earliest). is_decided d p) eg ∙ y.1) i)
-      where
-        there : (b : Bool) → is_the r.key w (at r.key moment p) ≡ b → (not b && waits g (at r.key moment p)) ≡ true → waits h (at r.key moment p) ≡ true
-        there true is t = absurd (false≢true t)
-        there false is t =
-            let x = waits-can g (at r.key moment p) t in
-            let y = stays moment p is x.0 (ap (λ (d : Option Earliest). is_decided d p) (sym eg) ∙ x.1) in
-            can-waits h (at r.key moment p) y.0 (ap (λ (d : Option Earliest). is_decided d p) eh ∙ y.1)
+  -- the receipt that decided is the earliest of its key
+  pub decided-own : (r.decides && is_decided (decider_in h r.key) place) ≡ true → decider_in h r.key ≡ Some new_one
+  decided-own was = by (decider_in h r.key) refl (both r.decides (is_decided (decider_in h r.key) place) was).1
+    where
+      by : (D : Option Earliest) → decider_in h r.key ≡ D → is_decided D place ≡ true → decider_in h r.key ≡ Some new_one
+      by None e d = absurd (false≢true d)
+      by (Some f) e d =
+          let at : f.place ≡ place = same_place f.place place d in
+          let is_it : r ≡ a_candidate r.key f.moment = was_there g h place r more r.key (f.moment, f.place) (decider-can h r.key f e) at in
+          e ∙ (λ i. Some (record { moment = sym (ap (λ (y : GroupedReceipt). y.moment) is_it) i; place = at i }))
 
   -- where it decided, each other one that can waited
-  module _ (eg : decider_in g r.key ≡ Some own) where
-    can-still : (moment : ℕ) (p : Place) → CanDecide g r.key moment p → is_decided (Some own) p ≡ false → CanDecide h r.key moment p
-    can-still moment p x n = stay_can g h place r less r.key moment p (apart p place (λ t. false≢true (sym n ∙ own_place place p (sym t)))) x
-
-    pub waits-decided : (c : Candidate) → same_key r.key c.key ≡ true → waits g c ≡ is_candidate c (get h.receipts c.place)
-    waits-decided c t =
-        subst (λ (x : Candidate). waits g x ≡ is_candidate x (get h.receipts x.place)) (λ i. record { key = one_key r.key c.key t i; moment = c.moment; place = c.place })
-        (both_ways (waits g (at r.key c.moment c.place)) (is_candidate (at r.key c.moment c.place) (get h.receipts c.place))
-        (λ y. let x = waits-can g (at r.key c.moment c.place) y in
-        of-can h (at r.key c.moment c.place) (can-still c.moment c.place x.0 (ap (λ (d : Option Earliest). is_decided d c.place) (sym eg) ∙ x.1)))
-        (λ y. let x = left r.key c.moment c.place (can-of h (at r.key c.moment c.place) (get h.receipts c.place) refl y) in
-        can-waits g (at r.key c.moment c.place) x.0 (ap (λ (d : Option Earliest). is_decided d c.place) eg ∙ turned c.place x.1)))
-
-    decided-here : (Dh : Option Earliest) → decider_in h r.key ≡ Dh → (moment : ℕ) (p : Place) → (not (is_the r.key Dh (at r.key moment p)) && waits g (at r.key moment p)) ≡ waits h (at r.key moment p)
-    decided-here Dh eh =
-        less-by Dh (Some own) Dh eg eh
-        (λ moment p n x m. (let y = can-still moment p x m in (y, by Dh eh moment p n y)))
-        (λ moment p x n. (none Dh eh moment p n, turned p (left r.key moment p x).1))
-      where
-        by : (D : Option Earliest) → decider_in h r.key ≡ D → (moment : ℕ) (p : Place) → is_the r.key D (at r.key moment p) ≡ false → CanDecide h r.key moment p → is_decided D p ≡ false
-        by None e moment p n x = refl
-        by (Some f) e moment p n x = apart f.place p (λ t.
-            false≢true (sym n ∙ is-the r.key f (at r.key moment p) (λ i. record { key = r.key; moment = one-moment h r.key moment f.moment p f.place (sym t) x (decider-can h r.key f e) i; place = sym t i })))
-
-        none : (D : Option Earliest) → decider_in h r.key ≡ D → (moment : ℕ) (p : Place) → is_decided D p ≡ false → is_the r.key D (at r.key moment p) ≡ false
-        none D e moment p n = false_from_ne_true (is_the r.key D (at r.key moment p)) (λ t.
-            let o = the-one r.key D (at r.key moment p) t in
-            false≢true (sym n ∙ ap (λ (d : Option Earliest). is_decided d p) o.1 ∙ own_place (o.0).place p (sym (ap (λ (x : Candidate). x.place) o.2))))
-
-  -- where it didn't decide
-  stays-here : (w : Option Earliest) (d : Bool) → r.decides ≡ d → w ≡ cond d (Some own) None → decider_in h r.key ≡ decider_in g r.key
-      → (moment : ℕ) (p : Place) → (not (is_the r.key w (at r.key moment p)) && waits g (at r.key moment p)) ≡ waits h (at r.key moment p)
-  stays-here w d e is same =
-      less-by w (decider_in g r.key) (decider_in g r.key) refl same
-      (λ moment p n x y. (stay_can g h place r less r.key moment p (apart p place (λ t. gone moment p n x t)) x, y))
-      (λ moment p x n. (false_from_ne_true (is_the r.key w (at r.key moment p)) (λ t. other moment p (left r.key moment p x).1 (the-one r.key w (at r.key moment p) t)), n))
+  pub waits-decided : decider_in h r.key ≡ Some new_one → (c : Candidate) → same_key r.key c.key ≡ true → waits h c ≡ is_candidate c (get g.receipts c.place)
+  waits-decided eh c t =
+      (λ i. is_candidate c (more.each c.place i) && not (((λ i. is_decided (decider_in h (sym (one_key r.key c.key t) i)) c.place) ∙ ap (λ (d : Option Earliest). is_decided d c.place) eh ∙ turned place c.place) i))
+      ∙ by (eq_by_cmp place_cmp c.place place) refl
     where
-      gone : (moment : ℕ) (p : Place) → is_the r.key w (at r.key moment p) ≡ false → CanDecide g r.key moment p → p ≡ place → ⊥
-      gone moment p n x t =
-          let is_it : r ≡ a_candidate r.key moment = was_there g h place r less r.key (moment, p) x (own_place p place t) in
-          let s : d ≡ true = sym e ∙ ap (λ (y : GroupedReceipt). y.decides) is_it in
-          false≢true (sym n ∙ ap (λ (y : Option Earliest). is_the r.key y (at r.key moment p)) (is ∙ ap (λ b. cond b (Some own) None) s)
-          ∙ is-the r.key own (at r.key moment p) (λ i. record { key = r.key; moment = sym (ap (λ (y : GroupedReceipt). y.moment) is_it) i; place = t i }))
-
-      other : (moment : ℕ) (p : Place) → eq_by_cmp place_cmp p place ≡ false → ((f : Earliest) × (w ≡ Some f) × (at r.key moment p ≡ candidate_at r.key f)) → ⊥
-      other moment p n o = by d is
-        where
-          by : (b : Bool) → w ≡ cond b (Some own) None → ⊥
-          by false y = not_none o.0 w y o.1
-          by true y = false≢true (sym n ∙ own_place p place (ap (λ (x : Candidate). x.place) o.2 ∙ ap (λ (x : Earliest). x.place) (one_of o.0 own w o.1 y)))
-
-  less-elsewhere : (c : Candidate) → same_key c.key r.key ≡ false → waits g c ≡ waits h c
-  less-elsewhere c n =
-      both_ways (waits g c) (waits h c)
-      (λ t. let x = waits-can g c t in can-waits h c
-      (stay_can g h place r less c.key c.moment c.place (apart c.place place (λ s. false≢true (sym n
-      ∙ ap (λ (z : GroupedReceipt). same_key c.key z.key) (was_there g h place r less c.key (c.moment, c.place) x.0 (own_place c.place place s)) ∙ own_key c.key))) x.0)
-      (ap (λ (d : Option Earliest). is_decided d c.place) same ∙ x.1))
-      (λ t. let x = waits-can h c t in can-waits g c (left c.key c.moment c.place x.0).0 (ap (λ (d : Option Earliest). is_decided d c.place) (sym same) ∙ x.1))
-    where
-      same : decider_in h c.key ≡ decider_in g c.key
-      same = decider-elsewhere g h place r less c.key n
-
-  -- with a receipt less, what waited waits, but for the one that goes
-  pub waits-less : (decided : Bool) → (r.decides && is_decided (decider_in g r.key) place) ≡ decided → (c : Candidate)
-      → (not (is_the r.key (gone_of r.decides (is_decided (decider_in g r.key) place) (decider_in h r.key) own) c) && waits g c) ≡ waits h c
-  waits-less decided e c = by (same_key c.key r.key) refl
-    where
-      w : Option Earliest
-      w = gone_of r.decides (is_decided (decider_in g r.key) place) (decider_in h r.key) own
-
-      here : (b : Bool) → (r.decides && is_decided (decider_in g r.key) place) ≡ b → (moment : ℕ) (p : Place) → (not (is_the r.key w (at r.key moment p)) && waits g (at r.key moment p)) ≡ waits h (at r.key moment p)
-      here true t moment p =
-          let parts = both r.decides (is_decided (decider_in g r.key) place) t in
-          ap (λ (y : Option Earliest). not (is_the r.key y (at r.key moment p)) && waits g (at r.key moment p)) (λ i. gone_of (parts.0 i) (parts.1 i) (decider_in h r.key) own)
-          ∙ decided-here (decided-own g h place r less t) (decider_in h r.key) refl moment p
-      here false t moment p = stays-here w r.decides refl (which r.decides (is_decided (decider_in g r.key) place) t) (decider-stays g h place r less t) moment p
-        where
-          which : (a b : Bool) → (a && b) ≡ false → gone_of a b (decider_in h r.key) own ≡ cond a (Some own) None
-          which true true n = absurd (false≢true (sym n))
-          which true false n = refl
-          which false b n = refl
-
-      by : (b : Bool) → same_key c.key r.key ≡ b → (not (is_the r.key w c) && waits g c) ≡ waits h c
-      by true t =
-          let s : at r.key c.moment c.place ≡ c = λ i. record { key = sym (one_key c.key r.key t) i; moment = c.moment; place = c.place } in
-          subst (λ (x : Candidate). (not (is_the r.key w x) && waits g x) ≡ waits h x) s (here decided e c.moment c.place)
-      by false t = ap (λ b. not b && waits g c) (other-key r.key w c t) ∙ less-elsewhere c t
-
-  -- what goes waited
-  pub gone-waited : (decided : Bool) → (r.decides && is_decided (decider_in g r.key) place) ≡ decided → (e : Earliest)
-      → gone_of r.decides (is_decided (decider_in g r.key) place) (decider_in h r.key) own ≡ Some e → waits g (candidate_at r.key e) ≡ true
-  gone-waited true t e is =
-      let parts = both r.decides (is_decided (decider_in g r.key) place) t in
-      let next : decider_in h r.key ≡ Some e = sym (λ i. gone_of (parts.0 i) (parts.1 i) (decider_in h r.key) own) ∙ is in
-      let x = left r.key e.moment e.place (decider-can h r.key e next) in
-      can-waits g (candidate_at r.key e) x.0 (ap (λ (d : Option Earliest). is_decided d e.place) (decided-own g h place r less t) ∙ turned e.place x.1)
-  gone-waited false t e is = by r.decides refl is
-    where
-      by : (d : Bool) → r.decides ≡ d → gone_of d (is_decided (decider_in g r.key) place) (decider_in h r.key) own ≡ Some e → waits g (candidate_at r.key e) ≡ true
-      by false x y = absurd cc
-      by true x y =
-          let n : is_decided (decider_in g r.key) place ≡ false = sym (ap (λ b. b && is_decided (decider_in g r.key) place) x) ∙ t in
-          let s : own ≡ e = (let z = sym (ap (λ b. cond b (decider_in h r.key) (Some own)) n) ∙ y in cc) in
-          subst (λ (f : Earliest). waits g (candidate_at r.key f) ≡ true) s
-          (can-waits g (candidate_at r.key own) (record { stands = less.there ∙ (λ i. Some (record { key = r.key; moment = r.moment; decides = x i })) }) n)
+      by : (b : Bool) → eq_by_cmp place_cmp c.place place ≡ b → (is_candidate c (cond b (Some r) (get g.receipts c.place)) && not b) ≡ is_candidate c (get g.receipts c.place)
+      by true s = and_false (is_candidate c (Some r)) ∙ sym (ap (is_candidate c) (ap (get g.receipts) (same_place c.place place s) ∙ more.absent))
+      by false s = and_true (is_candidate c (get g.receipts c.place))
