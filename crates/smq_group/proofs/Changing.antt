@@ -42,16 +42,16 @@ use Rattle.smq_group.proofs.Turning.{anew-is, deciders-after, deciders-before, d
 
 -- ---- what the changes of a key's members tell of a place
 
+-- what is told of a member of the key, and of no other
+abbrev told_of : {W : Type 0} → (W → LinkKey) → LinkKey → (W → Standing) → Option W → Option Standing
+told_of key_of key standing None = None
+told_of key_of key standing (Some w) = cond (same_key key (key_of w)) (Some (standing w)) None
+
 module _ {V W : Type 0} (value : LinkKey → V → W) (key_of : W → LinkKey) (keyed : (k : LinkKey) (v : V) → key_of (value k v) ≡ k) (key : LinkKey)
     (standing : Place → V → Standing) (told : Place → W → Standing) (agree : (p : Place) (k : LinkKey) (v : V) → told p (value k v) ≡ standing p v) where
   -- the change of a member
   abbrev change : Place × V → Change
   change m = change_at m.0 (standing m.0 m.1)
-
-  -- what is told of a member of the key, and of no other
-  abbrev pub told_of : Place → Option W → Option Standing
-  told_of q None = None
-  told_of q (Some w) = cond (same_key key (key_of w)) (Some (told q w)) None
 
   told_at_none : (q : Place) (es : List (Member × V)) → at value q es ≡ None → told_at q (map change (members_in key es)) ≡ None
   told_at_none q [] n = refl
@@ -67,12 +67,12 @@ module _ {V W : Type 0} (value : LinkKey → V → W) (key_of : W → LinkKey) (
       past false t h = h
 
   -- the changes of a key's members tell of each of them
-  pub told-members : (q : Place) (es : List (Member × V)) → StandsOnce value es → told_at q (map change (members_in key es)) ≡ told_of q (at value q es)
+  pub told-members : (q : Place) (es : List (Member × V)) → StandsOnce value es → told_at q (map change (members_in key es)) ≡ told_of key_of key (told q) (at value q es)
   told-members q [] o = refl
   told-members q (e ∷ es) o = step (eq_by_cmp place_cmp q e.0.place) (same_key key e.0.key) refl refl (told-members q es o.1)
     where
-      step : (a b : Bool) → eq_by_cmp place_cmp q e.0.place ≡ a → same_key key e.0.key ≡ b → told_at q (map change (members_in key es)) ≡ told_of q (at value q es)
-          → told_at q (map change (map placed (cond b (e ∷ filter (of_key key) es) (filter (of_key key) es)))) ≡ told_of q (cond a (Some (value e.0.key e.1)) (at value q es))
+      step : (a b : Bool) → eq_by_cmp place_cmp q e.0.place ≡ a → same_key key e.0.key ≡ b → told_at q (map change (members_in key es)) ≡ told_of key_of key (told q) (at value q es)
+          → told_at q (map change (map placed (cond b (e ∷ filter (of_key key) es) (filter (of_key key) es)))) ≡ told_of key_of key (told q) (cond a (Some (value e.0.key e.1)) (at value q es))
       step true true t s ih =
           ap (λ b. cond b (Some (standing e.0.place e.1)) (told_at q (map change (members_in key es)))) t
           ∙ ap Some (sym (agree e.0.place e.0.key e.1) ∙ ap (λ (p : Place). told p (value e.0.key e.1)) (sym (same_place q e.0.place t)))
@@ -142,6 +142,47 @@ rival_was : (b : Outlook) (added : Added) (q : Place) → is_at_place (rival b a
 rival_was b (put.Receipt _ _) q h = h
 rival_was b _ q h = absurd (false≢true h)
 
+-- ---- members that stay
+
+either : {A : Type 0} (b : Bool) (x : A) → cond b x x ≡ x
+either true x = refl
+either false x = refl
+
+module _ {W : Type 0} (key_of : W → LinkKey) (standing : Outlook → W → Standing) (g h : Grouping) (key : LinkKey)
+    (elsewhere : (k : LinkKey) → same_key key k ≡ false → outlook_in h k ≡ outlook_in g k) where
+  abbrev changed_of : Option W → Option W → Option Standing
+  changed_of x y = changed (option_map (λ w. standing (outlook_in g (key_of w)) w) x) (option_map (λ w. standing (outlook_in h (key_of w)) w) y)
+
+  abbrev then_of : W → Standing
+  then_of = standing (outlook_in g key)
+
+  abbrev now_of : W → Standing
+  now_of = standing (outlook_in h key)
+
+  other : (w : W) → same_key key (key_of w) ≡ false → changed_of (Some w) (Some w) ≡ None
+  other w n =
+      let was : Standing = standing (outlook_in g (key_of w)) w in
+      ap (λ (o : Outlook). changed (Some was) (Some (standing o w))) (elsewhere (key_of w) n) ∙ ap (λ b. cond b None (Some was)) (standing-itself was)
+
+  -- where standings differ, or are one, that of now is told, or nothing is
+  own : (w : W) (b : Bool) → same_key key (key_of w) ≡ true → same_standing (then_of w) (now_of w) ≡ b → changed_of (Some w) (Some w) ≡ cond b None (Some (now_of w))
+  own w b s e =
+      ap (λ (l : LinkKey). changed (Some (standing (outlook_in g l) w)) (Some (standing (outlook_in h l) w))) (sym (one_key key (key_of w) s)) ∙ ap (λ b. cond b None (Some (now_of w))) e
+
+  new : (x y : Option W) (w : W) → x ≡ None → y ≡ Some w → key_of w ≡ key → changed_of x y ≡ Some (now_of w)
+  new x y w none is of_it = (λ i. changed_of (none i) (is i)) ∙ (λ i. Some (standing (outlook_in h (of_it i)) w))
+
+  -- of those that stay each of the key is told, or none is
+  stayed : (x y : Option W) (b : Bool) → (y ≡ x) ⊎ (y ≡ None) → ((w : W) → x ≡ Some w → y ≡ Some w → same_key key (key_of w) ≡ true → same_standing (then_of w) (now_of w) ≡ b)
+      → cond b None (told_of key_of key now_of y) ≡ changed_of x y
+  stayed x y b (inr gone) d = ap (λ o. cond b None (told_of key_of key now_of o)) gone ∙ either b None ∙ sym (ap (changed_of x) gone)
+  stayed None y b (inl same) d = ap (λ o. cond b None (told_of key_of key now_of o)) same ∙ either b None ∙ sym (ap (changed_of None) same)
+  stayed (Some w) y b (inl same) d = ap (λ o. cond b None (told_of key_of key now_of o)) same ∙ by (same_key key (key_of w)) refl ∙ sym (ap (changed_of (Some w)) same)
+    where
+      by : (c : Bool) → same_key key (key_of w) ≡ c → cond b None (cond (same_key key (key_of w)) (Some (now_of w)) None) ≡ changed_of (Some w) (Some w)
+      by true s = ap (λ c. cond b None (cond c (Some (now_of w)) None)) s ∙ sym (own w b s (d w refl same s))
+      by false s = ap (λ c. cond b None (cond c (Some (now_of w)) None)) s ∙ either b None ∙ sym (other w s)
+
 -- ---- submits
 
 module _ (g h : Grouping) (key : LinkKey) (added : Added) (moves : Moves g h key added) (q : Place) where
@@ -152,7 +193,7 @@ module _ (g h : Grouping) (key : LinkKey) (added : Added) (moves : Moves g h key
   after = outlook_in h key
 
   abbrev submits_changed : Option LinkKey → Option LinkKey → Option Standing
-  submits_changed x y = changed (option_map (λ k. submit_standing_of (outlook_in g k)) x) (option_map (λ k. submit_standing_of (outlook_in h k)) y)
+  submits_changed = changed_of (λ k. k) (λ o _. submit_standing_of o) g h key moves.elsewhere
 
   submits_are : changed (submit_at g q) (submit_at h q) ≡ submits_changed (get g.submits q) (get h.submits q)
   submits_are = λ i. changed (option_map (λ k. told-submit g k i) (get g.submits q)) (option_map (λ k. told-submit h k i) (get h.submits q))
@@ -160,47 +201,15 @@ module _ (g h : Grouping) (key : LinkKey) (added : Added) (moves : Moves g h key
   abbrev submit_now : Standing
   submit_now = submit_standing_of after
 
-  abbrev submit_then : Standing
-  submit_then = submit_standing_of before
-
-  -- where standings differ, or are one, that of now is told, or nothing is
-  turned : (s t : Standing) (b : Bool) → same_standing s t ≡ b → changed (Some s) (Some t) ≡ cond b None (Some t)
-  turned s t b e = ap (λ b. cond b None (Some t)) e
-
-  other_submit : (k : LinkKey) → same_key key k ≡ false → submits_changed (Some k) (Some k) ≡ None
-  other_submit k n =
-      ap (λ (o : Outlook). changed (Some (submit_standing_of (outlook_in g k))) (Some (submit_standing_of o))) (moves.elsewhere k n)
-      ∙ turned (submit_standing_of (outlook_in g k)) (submit_standing_of (outlook_in g k)) true (standing-itself (submit_standing_of (outlook_in g k)))
-
-  own_submit : (k : LinkKey) (b : Bool) → same_key key k ≡ true → same_standing submit_then submit_now ≡ b → submits_changed (Some k) (Some k) ≡ cond b None (Some submit_now)
-  own_submit k b s e = ap (λ (l : LinkKey). submits_changed (Some l) (Some l)) (sym (one_key key k s)) ∙ turned submit_then submit_now b e
-
-  abbrev of_submits : Option LinkKey → Option Standing
-  of_submits None = None
-  of_submits (Some k) = cond (same_key key k) (Some submit_now) None
-
-  -- all are told
-  all_submits : (x y : Option LinkKey) (n : Bool) → SubmitMove key n x y → (x ≡ Some key → y ≡ Some key → same_standing submit_then submit_now ≡ false) → of_submits y ≡ submits_changed x y
-  all_submits x y true move d =
-      ap of_submits move.1 ∙ ap (λ b. cond b (Some submit_now) None) (own_key key) ∙ sym (λ i. submits_changed (move.0 i) (move.1 i))
-  all_submits x y false (inr gone) d = ap of_submits gone ∙ sym (ap (submits_changed x) gone)
-  all_submits None y false (inl same) d = ap of_submits same ∙ sym (ap (submits_changed None) same)
-  all_submits (Some k) y false (inl same) d = ap of_submits same ∙ by (same_key key k) refl ∙ sym (ap (submits_changed (Some k)) same)
-    where
-      by : (b : Bool) → same_key key k ≡ b → cond (same_key key k) (Some submit_now) None ≡ submits_changed (Some k) (Some k)
-      by true s = ap (λ b. cond b (Some submit_now) None) s ∙ sym (own_submit k false s (let same_one = ap Some (sym (one_key key k s)) in d same_one (same ∙ same_one)))
-      by false s = ap (λ b. cond b (Some submit_now) None) s ∙ sym (other_submit k s)
-
-  -- the newcomer alone is told
-  new_submits : (x y : Option LinkKey) (n : Bool) → SubmitMove key n x y → same_standing submit_then submit_now ≡ true → cond n (Some submit_now) None ≡ submits_changed x y
-  new_submits x y true move d = sym (λ i. submits_changed (move.0 i) (move.1 i))
-  new_submits x y false (inr gone) d = sym (ap (submits_changed x) gone)
-  new_submits None y false (inl same) d = sym (ap (submits_changed None) same)
-  new_submits (Some k) y false (inl same) d = by (same_key key k) refl ∙ sym (ap (submits_changed (Some k)) same)
-    where
-      by : (b : Bool) → same_key key k ≡ b → None ≡ submits_changed (Some k) (Some k)
-      by true s = sym (own_submit k true s d)
-      by false s = sym (other_submit k s)
+  -- all are told, or the newcomer alone
+  submits_by : (x y : Option LinkKey) (n b : Bool) → SubmitMove key n x y → (x ≡ Some key → y ≡ Some key → same_standing (submit_standing_of before) submit_now ≡ b)
+      → cond b (cond n (Some submit_now) None) (told_of (λ k. k) key (λ _. submit_now) y) ≡ submits_changed x y
+  submits_by x y true b move d =
+      ap (cond b (Some submit_now)) (ap (told_of (λ k. k) key (λ _. submit_now)) move.1 ∙ ap (λ b. cond b (Some submit_now) None) (own_key key))
+      ∙ either b (Some submit_now) ∙ sym (new (λ k. k) (λ o _. submit_standing_of o) g h key moves.elsewhere x y key move.0 move.1 refl)
+  submits_by x y false b move d =
+      stayed (λ k. k) (λ o _. submit_standing_of o) g h key moves.elsewhere x y b move
+      (λ k e f s. let own : Some k ≡ Some key = ap Some (sym (one_key key k s)) in d (e ∙ own) (f ∙ own))
 
   newcomer_at : (a : Added) → told_at q (newcomer_submit after a) ≡ cond (is_new_submit a q) (Some submit_now) None
   newcomer_at (put.Submit p) = refl
@@ -208,8 +217,14 @@ module _ (g h : Grouping) (key : LinkKey) (added : Added) (moves : Moves g h key
 
   -- ---- receipts
 
+  abbrev key_of : GroupedReceipt → LinkKey
+  key_of r = r.key
+
+  abbrev stands : Outlook → GroupedReceipt → Standing
+  stands o r = receipt_standing_of o q r.decides
+
   abbrev receipts_changed : Option GroupedReceipt → Option GroupedReceipt → Option Standing
-  receipts_changed x y = changed (option_map (λ r. receipt_standing_of (outlook_in g r.key) q r.decides) x) (option_map (λ r. receipt_standing_of (outlook_in h r.key) q r.decides) y)
+  receipts_changed = changed_of key_of stands g h key moves.elsewhere
 
   receipts_are : changed (receipt_at g q) (receipt_at h q) ≡ receipts_changed (get g.receipts q) (get h.receipts q)
   receipts_are = λ i. changed (option_map (λ r. told-receipt g q r i) (get g.receipts q)) (option_map (λ r. told-receipt h q r i) (get h.receipts q))
@@ -217,60 +232,22 @@ module _ (g h : Grouping) (key : LinkKey) (added : Added) (moves : Moves g h key
   abbrev receipt_now : Bool → Standing
   receipt_now can = receipt_standing_of after q can
 
-  abbrev receipt_then : Bool → Standing
-  receipt_then can = receipt_standing_of before q can
-
-  other_receipt : (r : GroupedReceipt) → same_key key r.key ≡ false → receipts_changed (Some r) (Some r) ≡ None
-  other_receipt r n =
-      ap (λ (o : Outlook). changed (Some (receipt_standing_of (outlook_in g r.key) q r.decides)) (Some (receipt_standing_of o q r.decides))) (moves.elsewhere r.key n)
-      ∙ turned (receipt_standing_of (outlook_in g r.key) q r.decides) (receipt_standing_of (outlook_in g r.key) q r.decides) true (standing-itself (receipt_standing_of (outlook_in g r.key) q r.decides))
-
-  own_receipt : (r : GroupedReceipt) (b : Bool) → same_key key r.key ≡ true → same_standing (receipt_then r.decides) (receipt_now r.decides) ≡ b
-      → receipts_changed (Some r) (Some r) ≡ cond b None (Some (receipt_now r.decides))
-  own_receipt r b s e =
-      ap (λ (l : LinkKey). changed (Some (receipt_standing_of (outlook_in g l) q r.decides)) (Some (receipt_standing_of (outlook_in h l) q r.decides))) (sym (one_key key r.key s))
-      ∙ turned (receipt_then r.decides) (receipt_now r.decides) b e
-
   new_one : (x y : Option GroupedReceipt) (can : Bool) → x ≡ None → IsOfKey key can y → receipts_changed x y ≡ Some (receipt_now can)
-  new_one x y can none new =
-      (λ i. receipts_changed (none i) (new.is i)) ∙ (λ i. Some (receipt_standing_of (outlook_in h (new.own i)) q (new.decides i)))
+  new_one x y can none one = new key_of stands g h key moves.elsewhere x y one.r none one.is one.own ∙ ap (λ b. Some (receipt_now b)) one.decides
 
-  abbrev of_receipts : Option GroupedReceipt → Option Standing
-  of_receipts None = None
-  of_receipts (Some r) = cond (same_key key r.key) (Some (receipt_now r.decides)) None
+  -- all are told, or the newcomer alone
+  receipts_by : (x y : Option GroupedReceipt) (n : Option Bool) (b : Bool) → ReceiptMove key n x y → ((can : Bool) → same_standing (receipt_standing_of before q can) (receipt_now can) ≡ b)
+      → cond b (option_map receipt_now n) (told_of key_of key (stands after) y) ≡ receipts_changed x y
+  receipts_by x y (Some can) b move d =
+      ap (cond b (Some (receipt_now can))) (ap (told_of key_of key (stands after)) move.1.is
+      ∙ (λ i. cond ((ap (same_key key) move.1.own ∙ own_key key) i) (Some (receipt_now (move.1.decides i))) None))
+      ∙ either b (Some (receipt_now can)) ∙ sym (new_one x y can move.0 move.1)
+  receipts_by x y None b move d = stayed key_of stands g h key moves.elsewhere x y b move (λ r e f s. d r.decides)
 
-  -- all are told
-  all_receipts : (x y : Option GroupedReceipt) (n : Option Bool) → ReceiptMove key n x y → ((can : Bool) → same_standing (receipt_then can) (receipt_now can) ≡ false) → of_receipts y ≡ receipts_changed x y
-  all_receipts x y (Some can) move d =
-      ap of_receipts move.1.is ∙ (λ i. cond (same_key key (move.1.own i)) (Some (receipt_now (move.1.decides i))) None) ∙ ap (λ b. cond b (Some (receipt_now can)) None) (own_key key)
-      ∙ sym (new_one x y can move.0 move.1)
-  all_receipts x y None (inr gone) d = ap of_receipts gone ∙ sym (ap (receipts_changed x) gone)
-  all_receipts None y None (inl same) d = ap of_receipts same ∙ sym (ap (receipts_changed None) same)
-  all_receipts (Some r) y None (inl same) d = ap of_receipts same ∙ by (same_key key r.key) refl ∙ sym (ap (receipts_changed (Some r)) same)
-    where
-      by : (b : Bool) → same_key key r.key ≡ b → cond (same_key key r.key) (Some (receipt_now r.decides)) None ≡ receipts_changed (Some r) (Some r)
-      by true s = ap (λ b. cond b (Some (receipt_now r.decides)) None) s ∙ sym (own_receipt r false s (d r.decides))
-      by false s = ap (λ b. cond b (Some (receipt_now r.decides)) None) s ∙ sym (other_receipt r s)
-
-  abbrev of_newcomer : Option Bool → Option Standing
-  of_newcomer None = None
-  of_newcomer (Some can) = Some (receipt_now can)
-
-  -- the newcomer alone is told
-  new_receipts : (x y : Option GroupedReceipt) (n : Option Bool) → ReceiptMove key n x y → ((can : Bool) → same_standing (receipt_then can) (receipt_now can) ≡ true) → of_newcomer n ≡ receipts_changed x y
-  new_receipts x y (Some can) move d = sym (new_one x y can move.0 move.1)
-  new_receipts x y None (inr gone) d = sym (ap (receipts_changed x) gone)
-  new_receipts None y None (inl same) d = sym (ap (receipts_changed None) same)
-  new_receipts (Some r) y None (inl same) d = by (same_key key r.key) refl ∙ sym (ap (receipts_changed (Some r)) same)
-    where
-      by : (b : Bool) → same_key key r.key ≡ b → None ≡ receipts_changed (Some r) (Some r)
-      by true s = sym (own_receipt r true s (d r.decides))
-      by false s = sym (other_receipt r s)
-
-  newcomer_receipt_at : (a : Added) → told_at q (newcomer_receipt after a) ≡ of_newcomer (new_receipt a q)
+  newcomer_receipt_at : (a : Added) → told_at q (newcomer_receipt after a) ≡ option_map receipt_now (new_receipt a q)
   newcomer_receipt_at (put.Receipt p can) = by (eq_by_cmp place_cmp q p) refl
     where
-      by : (b : Bool) → eq_by_cmp place_cmp q p ≡ b → cond b (Some (receipt_standing_of after p can)) None ≡ of_newcomer (cond b (Some can) None)
+      by : (b : Bool) → eq_by_cmp place_cmp q p ≡ b → cond b (Some (receipt_standing_of after p can)) None ≡ option_map receipt_now (cond b (Some can) None)
       by true t = ap (λ (x : Place). Some (receipt_standing_of after x can)) (sym (same_place q p t))
       by false t = refl
   newcomer_receipt_at _ = refl
@@ -315,7 +292,7 @@ module _ (g h : Grouping) (key : LinkKey) (added : Added) (moves : Moves g h key
         absurd (false≢true (sym (anew-is before after t).other ∙ (λ i. same_option (eq_by_cmp place_cmp) (same_at (decider_of before) (Some q) w i) (same_at (decider_of after) (Some q) n i)) ∙ same_self (Some q)))
     own_by r is was_is s true false n w =
         ap (λ b. of_deciders b rival_at) n
-        ∙ sym (own_receipt r false s ((λ i. same_standing ((deciders-before before after q r.decides t ∙ ap (λ b. cond b Deciding (cond r.decides Extra Noted)) w) i) ((deciders-after before after q r.decides t ∙ ap (λ b. cond b Deciding (cond r.decides Extra Noted)) n) i)) ∙ not_deciding r.decides)
+        ∙ sym (own key_of stands g h key moves.elsewhere r false s ((λ i. same_standing ((deciders-before before after q r.decides t ∙ ap (λ b. cond b Deciding (cond r.decides Extra Noted)) w) i) ((deciders-after before after q r.decides t ∙ ap (λ b. cond b Deciding (cond r.decides Extra Noted)) n) i)) ∙ not_deciding r.decides)
         ∙ ap Some (deciders-after before after q r.decides t ∙ ap (λ b. cond b Deciding (cond r.decides Extra Noted)) n))
       where
         not_deciding : (c : Bool) → same_standing (cond c Extra Noted) Deciding ≡ false
@@ -327,11 +304,11 @@ module _ (g h : Grouping) (key : LinkKey) (added : Added) (moves : Moves g h key
         let can : r.decides ≡ true = ap (λ (x : GroupedReceipt). x.decides) (one_of r d.r (get g.receipts q) was_is d.is) ∙ d.decides in
         let now : receipt_now r.decides ≡ Extra = deciders-after before after q r.decides t ∙ (λ i. cond (n i) Deciding (cond (can i) Extra Noted)) in
         (λ i. cond (n i) (Some Deciding) (cond ((ap (λ o. is_at_place o q) told.0 ∙ w) i && told.1 i) (Some Extra) None))
-        ∙ sym (own_receipt r false s (λ i. same_standing ((deciders-before before after q r.decides t ∙ ap (λ b. cond b Deciding (cond r.decides Extra Noted)) w) i) (now i)) ∙ ap Some now)
+        ∙ sym (own key_of stands g h key moves.elsewhere r false s (λ i. same_standing ((deciders-before before after q r.decides t ∙ ap (λ b. cond b Deciding (cond r.decides Extra Noted)) w) i) (now i)) ∙ ap Some now)
     own_by r is was_is s false false n w =
         let still : rival_at ≡ false = false_from_ne_true rival_at (λ e. false≢true (sym w ∙ rival_was before added q e)) in
         quiet n still
-        ∙ sym (own_receipt r true s ((λ i. same_standing ((deciders-before before after q r.decides t ∙ ap (λ b. cond b Deciding (cond r.decides Extra Noted)) w) i) ((deciders-after before after q r.decides t ∙ ap (λ b. cond b Deciding (cond r.decides Extra Noted)) n) i)) ∙ standing-itself (cond r.decides Extra Noted)))
+        ∙ sym (own key_of stands g h key moves.elsewhere r true s ((λ i. same_standing ((deciders-before before after q r.decides t ∙ ap (λ b. cond b Deciding (cond r.decides Extra Noted)) w) i) ((deciders-after before after q r.decides t ∙ ap (λ b. cond b Deciding (cond r.decides Extra Noted)) n) i)) ∙ standing-itself (cond r.decides Extra Noted)))
 
     anew_receipts : (n : Option Bool) → new_receipt added q ≡ n → ReceiptMove key n (get g.receipts q) (get h.receipts q) → of_deciders now_at rival_at ≡ receipts_changed (get g.receipts q) (get h.receipts q)
     anew_receipts (Some can) e move =
@@ -347,7 +324,7 @@ module _ (g h : Grouping) (key : LinkKey) (added : Added) (moves : Moves g h key
           where
             of_key_by : (b : Bool) → same_key key r.key ≡ b → of_deciders now_at rival_at ≡ receipts_changed (Some r) (Some r)
             of_key_by true s = own_by r (same ∙ was) was s now_at then_at refl refl
-            of_key_by false s = quiet (foreign_now r (same ∙ was) s) (foreign_rival r (same ∙ was) s) ∙ sym (other_receipt r s)
+            of_key_by false s = quiet (foreign_now r (same ∙ was) s) (foreign_rival r (same ∙ was) s) ∙ sym (other key_of stands g h key moves.elsewhere r s)
 
 -- ---- what the changes of deciding receipts tell
 
@@ -400,50 +377,35 @@ module _ (g : Grouping) (s : List (Member × Bool)) (r : List (Member × Said)) 
   abbrev a : Outlook
   a = outlook_in h key
 
-  walked_submits : (q : Place) → told_at q (submit_changes a (members_in key s)) ≡ of_submits g h key added moves q (get h.submits q)
+  walked_submits : (q : Place) → told_at q (submit_changes a (members_in key s)) ≡ told_of (λ k. k) key (λ _. submit_standing_of a) (get h.submits q)
   walked_submits q =
       told-members submit_value (λ k. k) (λ k v. refl) key (λ p v. submit_standing_of a) (λ p w. submit_standing_of a) (λ p k v. refl) q s submits_once
-      ∙ by (at submit_value q s)
-      ∙ sym (ap (of_submits g h key added moves q) (get-from_entries places_total (map (by_place submit_value) s) q))
-    where
-      by : (x : Option LinkKey) → told_of submit_value (λ k. k) (λ k v. refl) key (λ p v. submit_standing_of a) (λ p w. submit_standing_of a) (λ p k v. refl) q x ≡ of_submits g h key added moves q x
-      by None = refl
-      by (Some k) = refl
+      ∙ sym (ap (told_of (λ k. k) key (λ _. submit_standing_of a)) (get-from_entries places_total (map (by_place submit_value) s) q))
 
-  walked_receipts : (q : Place) → told_at q (receipt_changes a (members_in key r)) ≡ of_receipts g h key added moves q (get h.receipts q)
+  walked_receipts : (q : Place) → told_at q (receipt_changes a (members_in key r)) ≡ told_of (λ w. w.key) key (λ w. receipt_standing_of a q w.decides) (get h.receipts q)
   walked_receipts q =
       told-members receipt_value (λ w. w.key) (λ k v. refl) key (λ p v. receipt_standing_of a p v.decides) (λ p w. receipt_standing_of a p w.decides) (λ p k v. refl) q r receipts_once
-      ∙ by (at receipt_value q r)
-      ∙ sym (ap (of_receipts g h key added moves q) (get-from_entries places_total (map (by_place receipt_value) r) q))
-    where
-      by : (x : Option GroupedReceipt) → told_of receipt_value (λ w. w.key) (λ k v. refl) key (λ p v. receipt_standing_of a p v.decides) (λ p w. receipt_standing_of a p w.decides) (λ p k v. refl) q x ≡ of_receipts g h key added moves q x
-      by None = refl
-      by (Some w) = refl
+      ∙ sym (ap (told_of (λ w. w.key) key (λ w. receipt_standing_of a q w.decides)) (get-from_entries places_total (map (by_place receipt_value) r) q))
 
   submits_told : (t : Turn) → turn_between b a ≡ t → (q : Place) → told_at q (told_submits t a added (members_in key s)) ≡ changed (submit_at g q) (submit_at h q)
-  submits_told Each t q =
-      walked_submits q ∙ all_submits g h key added moves q (get g.submits q) (get h.submits q) (is_new_submit added q) (moves.submit q)
-      (λ x y. each-submit b a (submit-counts g key q x) (submit-counts h key q y) t) ∙ sym (submits_are g h key added moves q)
-  submits_told Deciders t q =
-      walked_submits q ∙ all_submits g h key added moves q (get g.submits q) (get h.submits q) (is_new_submit added q) (moves.submit q)
-      (λ x y. deciders-submit b a t) ∙ sym (submits_are g h key added moves q)
-  submits_told Newcomer t q =
-      newcomer_at g h key added moves q added ∙ new_submits g h key added moves q (get g.submits q) (get h.submits q) (is_new_submit added q) (moves.submit q) (newcomer-submit b a t)
-      ∙ sym (submits_are g h key added moves q)
+  submits_told t e q =
+      let all = λ (one : Bool). submits_by g h key added moves q (get g.submits q) (get h.submits q) (is_new_submit added q) one (moves.submit q) in
+      elim t as (λ t. turn_between b a ≡ t → told_at q (told_submits t a added (members_in key s)) ≡ submits_changed g h key added moves q (get g.submits q) (get h.submits q)) [
+        | Each ↦ λ t. walked_submits q ∙ all false (λ x y. each-submit b a (submit-counts g key q x) (submit-counts h key q y) t)
+        | Deciders ↦ λ t. walked_submits q ∙ all false (λ x y. deciders-submit b a t)
+        | Newcomer ↦ λ t. newcomer_at g h key added moves q added ∙ all true (λ x y. newcomer-submit b a t)
+      ] e ∙ sym (submits_are g h key added moves q)
 
   receipts_told : (t : Turn) → turn_between b a ≡ t → (q : Place) → told_at q (told_receipts t b a added (members_in key r)) ≡ changed (receipt_at g q) (receipt_at h q)
-  receipts_told Each t q =
-      walked_receipts q ∙ all_receipts g h key added moves q (get g.receipts q) (get h.receipts q) (new_receipt added q) (moves.receipt q) (λ can. each-receipt b a q can t)
-      ∙ sym (receipts_are g h key added moves q)
-  receipts_told Deciders t q =
-      let other = (anew-is b a t).other in
-      deciders_tell q (rival b added) (decider_of a) (rival_apart b a added other)
-      ∙ anew_receipts g h key added moves q t (moves.anew other) (new_receipt added q) refl (moves.receipt q)
-      ∙ sym (receipts_are g h key added moves q)
-  receipts_told Newcomer t q =
-      newcomer_receipt_at g h key added moves q added
-      ∙ new_receipts g h key added moves q (get g.receipts q) (get h.receipts q) (new_receipt added q) (moves.receipt q) (λ can. newcomer-receipt b a q can t)
-      ∙ sym (receipts_are g h key added moves q)
+  receipts_told t e q =
+      let all = λ (one : Bool). receipts_by g h key added moves q (get g.receipts q) (get h.receipts q) (new_receipt added q) one (moves.receipt q) in
+      elim t as (λ t. turn_between b a ≡ t → told_at q (told_receipts t b a added (members_in key r)) ≡ receipts_changed g h key added moves q (get g.receipts q) (get h.receipts q)) [
+        | Each ↦ λ t. walked_receipts q ∙ all false (λ can. each-receipt b a q can t)
+        | Deciders ↦ λ t.
+            let other = (anew-is b a t).other in
+            deciders_tell q (rival b added) (decider_of a) (rival_apart b a added other) ∙ anew_receipts g h key added moves q t (moves.anew other) (new_receipt added q) refl (moves.receipt q)
+        | Newcomer ↦ λ t. newcomer_receipt_at g h key added moves q added ∙ all true (λ can. newcomer-receipt b a q can t)
+      ] e ∙ sym (receipts_are g h key added moves q)
 
   change_places : {V : Type 0} (standing : Place × V → Standing) (ms : List (Place × V)) → map (λ (c : Change). c.place) (map (λ m. change_at m.0 (standing m)) ms) ≡ keys_of ms
   change_places standing [] = refl
