@@ -268,22 +268,13 @@ module _ (g h : Grouping) (key : LinkKey) (added : Added) (moves : Moves g h key
   of_deciders now rival = cond now (Some Deciding) (cond (rival && is_some (decider_of after)) (Some Extra) None)
 
   module _ (t : turn_between before after ≡ Deciders) (rivals : IsRival g h key added) where
-    not_now : (get h.receipts q ≡ None) → now_at ≡ false
-    not_now gone = false_from_ne_true now_at (λ e. let d = decider-can h key q e in not_none d.r (get h.receipts q) gone d.is)
+    -- where no receipt of the key that can decide stands, nothing is told
+    quiet : (IsOfKey key true (get h.receipts q) → ⊥) → of_deciders now_at rival_at ≡ None
+    quiet n = λ i. of_deciders (false_from_ne_true now_at (λ e. n (decider-can h key q e)) i)
+        (false_from_ne_true rival_at (λ e. n (subst (IsOfKey key true) (sym (rivals.kept q e)) (decider-can g key q (rival_was before added q e)))) i)
 
-    not_rival : (get h.receipts q ≡ None) → rival_at ≡ false
-    not_rival gone = false_from_ne_true rival_at (λ e. let d = decider-can g key q (rival_was before added q e) in not_none d.r (get h.receipts q) gone (rivals.kept q e ∙ d.is))
-
-    foreign_now : (r : GroupedReceipt) → get h.receipts q ≡ Some r → same_key key r.key ≡ false → now_at ≡ false
-    foreign_now r is n = false_from_ne_true now_at (λ e. let d = decider-can h key q e in
-        false≢true (sym n ∙ ap (λ (x : GroupedReceipt). same_key key x.key) (one_of r d.r (get h.receipts q) is d.is) ∙ ap (same_key key) d.own ∙ own_key key))
-
-    foreign_rival : (r : GroupedReceipt) → get h.receipts q ≡ Some r → same_key key r.key ≡ false → rival_at ≡ false
-    foreign_rival r is n = false_from_ne_true rival_at (λ e. let d = decider-can g key q (rival_was before added q e) in
-        false≢true (sym n ∙ ap (λ (x : GroupedReceipt). same_key key x.key) (one_of r d.r (get h.receipts q) is (rivals.kept q e ∙ d.is)) ∙ ap (same_key key) d.own ∙ own_key key))
-
-    quiet : now_at ≡ false → rival_at ≡ false → of_deciders now_at rival_at ≡ None
-    quiet n r = λ i. of_deciders (n i) (r i)
+    vacant : get h.receipts q ≡ None → of_deciders now_at rival_at ≡ None
+    vacant gone = quiet (λ d. not_none d.r (get h.receipts q) gone d.is)
 
     -- the receipt that stands there before and now, of the key
     own_by : (r : GroupedReceipt) → get h.receipts q ≡ Some r → get g.receipts q ≡ Some r → same_key key r.key ≡ true → (now was : Bool) → now_at ≡ now → then_at ≡ was
@@ -307,7 +298,7 @@ module _ (g h : Grouping) (key : LinkKey) (added : Added) (moves : Moves g h key
         ∙ sym (own key_of stands g h key moves.elsewhere r false s (λ i. same_standing ((deciders-before before after q r.decides t ∙ ap (λ b. cond b Deciding (cond r.decides Extra Noted)) w) i) (now i)) ∙ ap Some now)
     own_by r is was_is s false false n w =
         let still : rival_at ≡ false = false_from_ne_true rival_at (λ e. false≢true (sym w ∙ rival_was before added q e)) in
-        quiet n still
+        (λ i. of_deciders (n i) (still i))
         ∙ sym (own key_of stands g h key moves.elsewhere r true s ((λ i. same_standing ((deciders-before before after q r.decides t ∙ ap (λ b. cond b Deciding (cond r.decides Extra Noted)) w) i) ((deciders-after before after q r.decides t ∙ ap (λ b. cond b Deciding (cond r.decides Extra Noted)) n) i)) ∙ standing-itself (cond r.decides Extra Noted)))
 
     anew_receipts : (n : Option Bool) → new_receipt added q ≡ n → ReceiptMove key n (get g.receipts q) (get h.receipts q) → of_deciders now_at rival_at ≡ receipts_changed (get g.receipts q) (get h.receipts q)
@@ -315,16 +306,17 @@ module _ (g h : Grouping) (key : LinkKey) (added : Added) (moves : Moves g h key
         let n = rivals.new q can e in
         ap (λ b. of_deciders b rival_at) n
         ∙ sym (new_one (get g.receipts q) (get h.receipts q) can move.0 move.1 ∙ ap Some (deciders-after before after q can t ∙ ap (λ b. cond b Deciding (cond can Extra Noted)) n))
-    anew_receipts None e (inr gone) = quiet (not_now gone) (not_rival gone) ∙ sym (ap (receipts_changed (get g.receipts q)) gone)
+    anew_receipts None e (inr gone) = vacant gone ∙ sym (ap (receipts_changed (get g.receipts q)) gone)
     anew_receipts None e (inl same) = by (get g.receipts q) refl
       where
         by : (x : Option GroupedReceipt) → get g.receipts q ≡ x → of_deciders now_at rival_at ≡ receipts_changed (get g.receipts q) (get h.receipts q)
-        by None was = quiet (not_now (same ∙ was)) (not_rival (same ∙ was)) ∙ sym (ap (receipts_changed (get g.receipts q)) (same ∙ was))
+        by None was = vacant (same ∙ was) ∙ sym (ap (receipts_changed (get g.receipts q)) (same ∙ was))
         by (Some r) was = of_key_by (same_key key r.key) refl ∙ sym (λ i. receipts_changed (was i) ((same ∙ was) i))
           where
             of_key_by : (b : Bool) → same_key key r.key ≡ b → of_deciders now_at rival_at ≡ receipts_changed (Some r) (Some r)
             of_key_by true s = own_by r (same ∙ was) was s now_at then_at refl refl
-            of_key_by false s = quiet (foreign_now r (same ∙ was) s) (foreign_rival r (same ∙ was) s) ∙ sym (other key_of stands g h key moves.elsewhere r s)
+            of_key_by false s = quiet (λ d. false≢true (sym s
+                ∙ ap (λ (x : GroupedReceipt). same_key key x.key) (one_of r d.r (get h.receipts q) (same ∙ was) d.is) ∙ ap (same_key key) d.own ∙ own_key key)) ∙ sym (other key_of stands g h key moves.elsewhere r s)
 
 -- ---- what the changes of deciding receipts tell
 
