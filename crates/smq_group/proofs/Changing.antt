@@ -9,7 +9,7 @@ use Rattle.std.specs.List.{reduce}
 use Rattle.std.specs.List.Sorted.{IsStrictlySortedBy}
 use Rattle.std.specs.Map.{keys_of}
 use Rattle.std.specs.FinMap.{get, get-from_entries}
-use Rattle.std.proofs.lemmas.Bool.{false≢true, false_from_ne_true}
+use Rattle.std.proofs.lemmas.Bool.{cond_both, false≢true, false_from_ne_true}
 use Rattle.smq_kit.specs.declared.place.Place.{Place}
 use Rattle.smq_kit.specs.declared.link_key.LinkKey.{LinkKey}
 use Rattle.smq_kit.specs.Orders.{place_cmp}
@@ -36,7 +36,7 @@ use Rattle.smq_group.specs.within.Stored.{earliest_at, by_place, StandsOnce, sub
 use Rattle.smq_group.specs.within.Told.{SubmitsByPlace, ReceiptsByPlace, change_at, same_decider, turn_between, submit_changes, receipt_changes, newcomer_submit, newcomer_receipt, rival, decider_changes, told_submits, told_receipts}
 use Rattle.smq_group.specs.within.Walked.{members_in, of_key, placed}
 use Rattle.smq_group.proofs.Earliest.{first-is, own_key, one_key}
-use Rattle.smq_group.proofs.Placing.{at, not_none, one_of, own_place, same_place, sorted_none, sorted_one, sorted_two, swapped}
+use Rattle.smq_group.proofs.Placing.{at, none_head, not_none, one_of, own_place, rest_none, same_place, sorted_none, sorted_one, sorted_two, swapped}
 use Rattle.smq_group.proofs.Storing.{number-less}
 use Rattle.smq_group.proofs.Turning.{anew-is, deciders-after, deciders-before, deciders-submit, each-receipt, each-submit, is_at_place, newcomer-receipt, newcomer-submit, same_at, same_self, standing-itself, told-receipt, told-submit}
 
@@ -55,16 +55,11 @@ module _ {V W : Type 0} (value : LinkKey → V → W) (key_of : W → LinkKey) (
 
   told_at_none : (q : Place) (es : List (Member × V)) → at value q es ≡ None → told_at q (map change (members_in key es)) ≡ None
   told_at_none q [] n = refl
-  told_at_none q (e ∷ es) n = elim (eq_by_cmp place_cmp q e.0.place) as (λ b. eq_by_cmp place_cmp q e.0.place ≡ b → cond b (Some (value e.0.key e.1)) (at value q es) ≡ None
-      → told_at q (map change (map placed (cond (same_key key e.0.key) (e ∷ filter (of_key key) es) (filter (of_key key) es)))) ≡ None) [
-        | true ↦ λ t n. absurd cc
-        | false ↦ λ t n. past (same_key key e.0.key) t (told_at_none q es n)
-      ] refl n
-    where
-      past : (b : Bool) → eq_by_cmp place_cmp q e.0.place ≡ false → told_at q (map change (members_in key es)) ≡ None
-          → told_at q (map change (map placed (cond b (e ∷ filter (of_key key) es) (filter (of_key key) es)))) ≡ None
-      past true t h = ap (λ b. cond b (Some (standing e.0.place e.1)) (told_at q (map change (members_in key es)))) t ∙ h
-      past false t h = h
+  told_at_none q (e ∷ es) n =
+      let rest = told_at_none q es (rest_none (eq_by_cmp place_cmp q e.0.place) (value e.0.key e.1) (at value q es) n) in
+      let not_it = false_from_ne_true (eq_by_cmp place_cmp q e.0.place) (λ t. none_head (eq_by_cmp place_cmp q e.0.place) (value e.0.key e.1) (at value q es) t n) in
+      cond_both (same_key key e.0.key) (e ∷ filter (of_key key) es) (filter (of_key key) es) (λ xs. told_at q (map change (map placed xs)) ≡ None)
+      (λ _. ap (λ b. cond b (Some (standing e.0.place e.1)) (told_at q (map change (members_in key es)))) not_it ∙ rest) (λ _. rest)
 
   -- the changes of a key's members tell of each of them
   pub told-members : (q : Place) (es : List (Member × V)) → StandsOnce value es → told_at q (map change (members_in key es)) ≡ told_of key_of key (told q) (at value q es)

@@ -82,14 +82,12 @@ module _ (key : LinkKey) (place : Place) (v : Bool) where
 
 -- of other than one there is no only one
 none-alone : {V : Type 0} (ms : List (Place × V)) → (length ms ≡ 1 → ⊥) → only_of ms ≡ None
-none-alone [] n = refl
 none-alone (m ∷ []) n = absurd (n refl)
-none-alone (m ∷ l ∷ ms) n = refl
+none-alone _ n = refl
 
 one-alone : {V : Type 0} (ms : List (Place × V)) → length ms ≡ 1 → (p : Place) × (only_of ms ≡ Some p)
-one-alone [] n = absurd (omega (arith, n))
 one-alone (m ∷ []) n = (m.0, refl)
-one-alone (m ∷ l ∷ ms) n = absurd (omega (arith, n))
+one-alone _ n = absurd (omega (arith, n))
 
 pub known-is : (o : Option Place) (ms : List (Place × Bool)) → o ≡ only_of ms → IsKnown o ms
 known-is None ms e = tt
@@ -97,10 +95,9 @@ known-is (Some p) ms e = sym e
 
 -- it stands alone
 pub known-by_place : (o : Option Place) (ms : List (Place × Bool)) (place : Place) → IsKnown o ms → o ≡ Some place → IsStrictlySortedBy place_cmp (keys_of ms)
-known-by_place None ms place k e = absurd cc
 known-by_place (Some p) [] place k e = sorted_none
 known-by_place (Some p) (m ∷ []) place k e = sorted_one m.0
-known-by_place (Some p) (m ∷ l ∷ ms) place k e = absurd cc
+known-by_place _ _ place k e = absurd cc
 
 left-none : (n : ℕ) (cs : List Change) → (n == 1) ≡ false → only_left n cs ≡ None
 left-none n [] t = refl
@@ -121,9 +118,8 @@ pub only-told : (b a : Outlook) (ms : List (Place × Bool)) (rest changes : List
 only-told b a ms rest changes less count told = by (a.matches == 1) refl
   where
     first : (xs : List (Place × Bool)) → length xs ≡ 1 → (a.matches == 1) ≡ true → only_left a.matches (submit_changes a xs ++ rest) ≡ only_of xs
-    first [] n t = absurd (omega (arith, n))
     first (m ∷ []) n t = ap (λ b. cond b (Some m.0) None) t
-    first (m ∷ l ∷ xs) n t = absurd (omega (arith, n))
+    first _ n t = absurd (omega (arith, n))
 
     by : (u : Bool) → (a.matches == 1) ≡ u → only_left a.matches changes ≡ only_of ms
     by false t = left-none a.matches changes t ∙ sym (none-alone ms (λ one. eqb-false a.matches 1 t (count ∙ one)))

@@ -12,7 +12,7 @@ use Rattle.std.specs.BTreeMap.{is_at}
 use Rattle.std.specs.List.Sorted.{IsStrictlySortedBy}
 use Rattle.std.specs.FinMap as fin
 use Rattle.std.specs.FinMap.{entries, get, get-entries, nat_cmp-IsAntisymmetric}
-use Rattle.std.proofs.lemmas.Bool.{false≢true, false_from_ne_true, eqb-true, eq-eqb, or_right}
+use Rattle.std.proofs.lemmas.Bool.{cond_both, false≢true, false_from_ne_true, eqb-true, eq-eqb, or_right}
 use Rattle.std.proofs.lemmas.Option.{cond_some}
 use Rattle.std.proofs.lemmas.Cmp.{on_total, then_total, nat_cmp_total}
 use Rattle.smq_kit.specs.declared.place.Place.{Place}
@@ -76,11 +76,8 @@ module _ (g : Grouping) (key : LinkKey) where
       → AllByRecursion (λ (c : m.Candidate). CanDecide g key c.0 c.1) (map candidate (filter passes es))
   all-can [] a = tt
   all-can (e ∷ es) a =
-      elim (passes e) as (λ b. passes e ≡ b → AllByRecursion (λ (c : m.Candidate). CanDecide g key c.0 c.1)
-      (map candidate (cond b (e ∷ filter passes es) (filter passes es)))) [
-        | true ↦ λ h. (can e a.0 h, all-can es a.1)
-        | false ↦ λ h. all-can es a.1
-      ] refl
+      cond_both (passes e) (e ∷ filter passes es) (filter passes es) (λ xs. AllByRecursion (λ (c : m.Candidate). CanDecide g key c.0 c.1) (map candidate xs))
+      (λ h. (can e a.0 h, all-can es a.1)) (λ _. all-can es a.1)
 
   -- a receipt that can decide is among the candidates
   among : (p : m.Candidate → Bool) (moment : ℕ) (place : Place) (es : List (Place × GroupedReceipt)) (r : GroupedReceipt)
@@ -97,14 +94,11 @@ module _ (g : Grouping) (key : LinkKey) where
             let at : p (candidate x) ≡ true = (λ i. p ((value i).moment, sym same i)) ∙ h in
             ap (λ b. list_any p (map candidate (cond b (x ∷ filter passes es) (filter passes es)))) pass
             ∙ ap (λ b. b || list_any p (map candidate (filter passes es))) at
-        | false ↦ λ t found. skip (passes x) x es (among p moment place es r is found h)
+        | false ↦ λ t found.
+            let rest = among p moment place es r is found h in
+            cond_both (passes x) (x ∷ filter passes es) (filter passes es) (λ xs. list_any p (map candidate xs) ≡ true)
+            (λ _. or_right (p (candidate x)) (list_any p (map candidate (filter passes es))) rest) (λ _. rest)
       ] refl e
-    where
-      skip : (b : Bool) (x : Place × GroupedReceipt) (es : List (Place × GroupedReceipt))
-          → list_any p (map candidate (filter passes es)) ≡ true
-          → list_any p (map candidate (cond b (x ∷ filter passes es) (filter passes es))) ≡ true
-      skip true x es e = or_right (p (candidate x)) (list_any p (map candidate (filter passes es))) e
-      skip false x es e = e
 
   among-candidates : (p : m.Candidate → Bool) (moment : ℕ) (place : Place) → CanDecide g key moment place
       → p (moment, place) ≡ true → list_any p (candidates g key) ≡ true

@@ -3,7 +3,7 @@ use Rattle.std.proofs.Common.{◌≡◌, Bool, true, false, cond, ◌||◌, List
 use Rattle.std.specs.Prelude.{◌==◌, IfOk, is_some, option_and_then}
 use Rattle.std.specs.declared.result.Result.{Result}
 use Rattle.std.specs.declared.result.Result.TheVariants.{Ok, Err}
-use Rattle.std.proofs.lemmas.Bool.{false_from_ne_true}
+use Rattle.std.proofs.lemmas.Bool.{cond_both, false_from_ne_true}
 use Rattle.std.specs.Ordering.{eq_by_cmp}
 use Rattle.std.specs.FinMap.{from_entries, get-from_entries, keys}
 use Rattle.std.specs.List.{AllByRecursion, IsDistinct, list_any}
@@ -41,17 +41,14 @@ module _ {V W : Type 0} (value : LinkKey → V → W) (key_of : W → LinkKey) (
   abbrev of_link : Place → W → Option W
   of_link place w = cond ((key_of w).link.0 == link.0) (Some w) None
 
-  none_at : (q : Place) (e : Member × V) (es : List (Member × V)) (b : Bool) → eq_by_cmp place_cmp q e.0.place ≡ false → list_any (eq_by_cmp place_cmp q) (link_places link es) ≡ false
-      → list_any (eq_by_cmp place_cmp q) (map (λ f. f.0.place) (cond b (e ∷ filter on es) (filter on es))) ≡ false
-  none_at q e es true s r = ap (λ c. c || list_any (eq_by_cmp place_cmp q) (link_places link es)) s ∙ r
-  none_at q e es false s r = r
-
   -- where nothing stands at a place, no member of the link does
   none-on : (q : Place) (es : List (Member × V)) → at value q es ≡ None → list_any (eq_by_cmp place_cmp q) (link_places link es) ≡ false
   none-on q [] h = refl
-  none-on q (e ∷ es) h = none_at q e es (on e)
-      (false_from_ne_true (eq_by_cmp place_cmp q e.0.place) (λ t. none_head (eq_by_cmp place_cmp q e.0.place) (value e.0.key e.1) (at value q es) t h))
-      (none-on q es (rest_none (eq_by_cmp place_cmp q e.0.place) (value e.0.key e.1) (at value q es) h))
+  none-on q (e ∷ es) h =
+      let rest = none-on q es (rest_none (eq_by_cmp place_cmp q e.0.place) (value e.0.key e.1) (at value q es) h) in
+      let not_it = false_from_ne_true (eq_by_cmp place_cmp q e.0.place) (λ t. none_head (eq_by_cmp place_cmp q e.0.place) (value e.0.key e.1) (at value q es) t h) in
+      cond_both (on e) (e ∷ filter on es) (filter on es) (λ xs. list_any (eq_by_cmp place_cmp q) (map (λ f. f.0.place) xs) ≡ false)
+      (λ _. ap (λ c. c || list_any (eq_by_cmp place_cmp q) (link_places link es)) not_it ∙ rest) (λ _. rest)
 
   there_at : (q : Place) (e : Member × V) (es : List (Member × V)) (a b : Bool) → eq_by_cmp place_cmp q e.0.place ≡ a → on e ≡ b → at value e.0.place es ≡ None
       → is_some (option_and_then (of_link q) (at value q es)) ≡ list_any (eq_by_cmp place_cmp q) (link_places link es)
@@ -71,15 +68,13 @@ module _ {V W : Type 0} (value : LinkKey → V → W) (key_of : W → LinkKey) (
   there q [] o = refl
   there q (e ∷ es) o = there_at q e es (eq_by_cmp place_cmp q e.0.place) (on e) refl refl o.0 (there q es o.1)
 
-  distinct_at : (e : Member × V) (es : List (Member × V)) (b : Bool) → list_any (eq_by_cmp place_cmp e.0.place) (link_places link es) ≡ false → IsDistinct (eq_by_cmp place_cmp) (link_places link es)
-      → IsDistinct (eq_by_cmp place_cmp) (map (λ f. f.0.place) (cond b (e ∷ filter on es) (filter on es)))
-  distinct_at e es true n d = IsDistinct-cons (eq_by_cmp place_cmp) e.0.place (link_places link es) (all-fail (eq_by_cmp place_cmp e.0.place) (link_places link es) n) d
-  distinct_at e es false n d = d
-
   -- no place is told twice
   distinct : (es : List (Member × V)) → StandsOnce value es → IsDistinct (eq_by_cmp place_cmp) (link_places link es)
   distinct [] o = none_there
-  distinct (e ∷ es) o = distinct_at e es (on e) (none-on e.0.place es o.0) (distinct es o.1)
+  distinct (e ∷ es) o =
+      cond_both (on e) (e ∷ filter on es) (filter on es) (λ xs. IsDistinct (eq_by_cmp place_cmp) (map (λ f. f.0.place) xs))
+      (λ _. IsDistinct-cons (eq_by_cmp place_cmp) e.0.place (link_places link es) (all-fail (eq_by_cmp place_cmp e.0.place) (link_places link es) (none-on e.0.place es o.0)) (distinct es o.1))
+      (λ _. distinct es o.1)
 
   pub sorted-places : (es : List (Member × V)) (qs : List Place) → StandsOnce value es → IsPermutation (link_places link es) qs → IsSorted kept_place_cmp qs
       → qs ≡ keys (chosen of_link (from_entries {R = place_cmp} (map (by_place value) es)))

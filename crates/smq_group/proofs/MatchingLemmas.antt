@@ -9,13 +9,14 @@ use Rattle.std.proofs.lemmas.List.Sums.{sum_by-cons}
 use Rattle.smq_kit.specs.declared.place.Place.{Place}
 use Rattle.smq_kit.specs.declared.link_key.LinkKey.{LinkKey}
 use Rattle.smq_kit.specs.LinkKeys.{same_key}
-use Rattle.smq_kit.specs.Maps.{number_of, share}
+use Rattle.smq_kit.specs.Maps.{number_of}
 use Rattle.smq_kit.specs.Orders.{place_cmp}
 use Rattle.smq_kit.proofs.MapLemmas as maps
 use Rattle.smq_kit.proofs.PlaceOrders.{places_total, places_exact}
 use Rattle.smq_group.specs.Matching.{Grouping, Candidate, CanDecide, IsSingle, IsEarliest, candidates, decider, earlier, matches}
 use Rattle.smq_group.proofs.Earliest.{IsFirst, first-is, one_key, own_key}
 use Rattle.smq_group.proofs.Placing.{not_none, own_place, same_place}
+use Rattle.smq_group.proofs.Storing.{number-less}
 
 -- ---- numbers of a map by place
 
@@ -37,10 +38,7 @@ module _ {X : Type 0} (test : X → Bool) where
   -- what passes counts
   pub number-some : (m : FinMap place_cmp X) (q : Place) (v : X) → get m q ≡ Some v → test v ≡ true
       → number_of test m ≡ number_of test (remove m q) + 1
-  number-some m q v e h =
-      let all = maps.count-set places_total places_exact test m q None in
-      let one : share test (get m q) ≡ 1 = ap (share test) e ∙ sum_by-cons (λ x. cond (test x) 1 0) v [] ∙ ap (λ b. cond b 1 0 + count_by test []) h in
-      omega (arith, all, one)
+  number-some m q v e h = sym (number-less test m v q true e h)
 
 -- ---- places
 

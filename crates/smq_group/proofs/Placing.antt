@@ -11,7 +11,7 @@ use Rattle.std.specs.List.Sorted.{IsStrictlySortedBy}
 use Rattle.std.specs.Map.{lookup, remove_entry}
 use Rattle.std.specs.BTreeMap.{is_at, insert_entry}
 use Rattle.std.specs.FinMap.{find, insert, remove, from_entries, get-from_entries, get-insert, get-remove, same_map}
-use Rattle.std.proofs.lemmas.Bool.{false≢true, false_from_ne_true}
+use Rattle.std.proofs.lemmas.Bool.{cond_both, false≢true, false_from_ne_true}
 use Rattle.smq_kit.specs.declared.place.Place.{Place}
 use Rattle.smq_kit.specs.declared.link_key.LinkKey.{LinkKey}
 use Rattle.smq_kit.specs.Orders.{kept_place_cmp, place_cmp}
@@ -122,20 +122,15 @@ module _ {V W : Type 0} (value : LinkKey → V → W) where
   remove-none : (t : Member → Bool) (q : Place) (es : List (Member × V)) → at q es ≡ None → at q (remove_entry t es) ≡ None
   remove-none t q [] h = refl
   remove-none t q (e ∷ es) h =
-      elim (t e.0) as (λ b. at q (cond b es (e ∷ remove_entry t es)) ≡ None) [
-        | true ↦ later q e es h
-        | false ↦
-            ap (λ b. cond b (Some (value e.0.key e.1)) (at q (remove_entry t es))) (false_from_ne_true (eq_by_cmp place_cmp q e.0.place) (λ s. none_head (eq_by_cmp place_cmp q e.0.place) (value e.0.key e.1) (at q es) s h))
-            ∙ remove-none t q es (later q e es h)
-      ]
+      let rest = later q e es h in
+      cond_both (t e.0) es (e ∷ remove_entry t es) (λ xs. at q xs ≡ None) (λ _. rest)
+      (λ _. ap (λ b. cond b (Some (value e.0.key e.1)) (at q (remove_entry t es))) (false_from_ne_true (eq_by_cmp place_cmp q e.0.place) (λ s. none_head (eq_by_cmp place_cmp q e.0.place) (value e.0.key e.1) (at q es) s h))
+      ∙ remove-none t q es rest)
 
   pub once-remove : (t : Member → Bool) (es : List (Member × V)) → StandsOnce value es → StandsOnce value (remove_entry t es)
   once-remove t [] o = tt
   once-remove t (e ∷ es) o =
-      elim (t e.0) as (λ b. StandsOnce value (cond b es (e ∷ remove_entry t es))) [
-        | true ↦ o.1
-        | false ↦ (remove-none t e.0.place es o.0, once-remove t es o.1)
-      ]
+      cond_both (t e.0) es (e ∷ remove_entry t es) (StandsOnce value) (λ _. o.1) (λ _. (remove-none t e.0.place es o.0, once-remove t es o.1))
 
   -- where a member is there, something stands at its place
   stands : (m : Member) (v : V) (es : List (Member × V)) → lookup (is_at (kept_member_cmp m)) es ≡ Some v → at m.place es ≡ None → ⊥

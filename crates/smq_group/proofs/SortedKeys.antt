@@ -34,9 +34,8 @@ keys-marked_entries {K} (e ∷ es) = ap (λ (xs : List K). e.0 ∷ xs) (keys-mar
 -- of marks, there is one or none
 one_mark : (x y : Option (Unit {0})) → is_some x ≡ is_some y → x ≡ y
 one_mark None None h = refl
-one_mark None (Some u) h = absurd cc
-one_mark (Some u) None h = absurd cc
 one_mark (Some u) (Some v) h = refl
+one_mark _ _ h = absurd cc
 
 some-marked : {K X : Type 0} (k : K) (x : Option X) → is_some (option_and_then (mark k) x) ≡ is_some x
 some-marked k None = refl

@@ -8,6 +8,7 @@ use Rattle.std.specs.List.{AllByRecursion}
 use Rattle.std.specs.List.Sorted.{IsStrictlySortedBy}
 use Rattle.std.specs.Map.{keys_of, lookup}
 use Rattle.std.specs.BTreeMap.{is_at}
+use Rattle.std.proofs.lemmas.Bool.{cond_both}
 use Rattle.std.proofs.lemmas.Map.Keys.{sorted_head, sorted_tail}
 use Rattle.smq_shelf.proofs.Walks.{found_above}
 
@@ -22,12 +23,11 @@ module _ {K X : Type 0} {R : K → K → Ordering} (o : IsTotalOrder R) where
   -- what is found stands there
   pub found-there : (q : K × X → Bool) (es : List (K × X)) (f : K × X) → IsStrictlySortedBy R (keys_of es) → find q es ≡ Some f → lookup (is_at (R f.0)) es ≡ Some f.1
   found-there q [] f so h = absurd cc
-  found-there q (e ∷ es) f so h = elim (q e) as (λ b. cond b (Some e) (find q es) ≡ Some f → lookup (is_at (R f.0)) (e ∷ es) ≡ Some f.1) [
-    | true ↦ λ n. (let s : e ≡ f = cc in subst (λ (x : K × X). lookup (is_at (R x.0)) (e ∷ es) ≡ Some x.1) s (ap (λ r. cond (is_eq r) (Some e.1) (lookup (is_at (R e.0)) es)) (tied_itself o e.0)))
-    | false ↦ λ n.
-        ap (λ r. cond (is_eq r) (Some e.1) (lookup (is_at (R f.0)) es)) (o.antisymm f.0 e.0 ∙ ap ordering_reverse (found_above o q e.0 q f es (sorted_head R e.0 (keys_of es) so) n))
-        ∙ found-there q es f (sorted_tail R e.0 (keys_of es) so) n
-  ] h
+  found-there q (e ∷ es) f so h = cond_both (q e) (Some e) (find q es) (λ o. o ≡ Some f → lookup (is_at (R f.0)) (e ∷ es) ≡ Some f.1)
+      (λ _ n. (let s : e ≡ f = cc in subst (λ (x : K × X). lookup (is_at (R x.0)) (e ∷ es) ≡ Some x.1) s (ap (λ r. cond (is_eq r) (Some e.1) (lookup (is_at (R e.0)) es)) (tied_itself o e.0))))
+      (λ _ n.
+      ap (λ r. cond (is_eq r) (Some e.1) (lookup (is_at (R f.0)) es)) (o.antisymm f.0 e.0 ∙ ap ordering_reverse (found_above o q e.0 q f es (sorted_head R e.0 (keys_of es) so) n))
+      ∙ found-there q es f (sorted_tail R e.0 (keys_of es) so) n) h
 
   -- What a test finds, where an entry passes: nothing above that.
   pub record FindsUpTo (q : K × X → Bool) (es : List (K × X)) (k : K) : Type 0 where

@@ -69,23 +69,14 @@ share_of test x b e = sum_by-cons (λ y. cond (test y) 1 0) x [] ∙ ap (λ b. c
     one true = refl
     one false = refl
 
--- outlooks of which that of one key alone is kept anew are those of a grouping that changed at that key alone
-pub outlooks-anew : (g h : Grouping) (o o' : List (LinkKey × Group)) (key : LinkKey) → ((k : LinkKey) → outlook_at k o ≡ outlook_in g k) → ((k : LinkKey) → same_key k key ≡ false → outlook_in h k ≡ outlook_in g k)
-    → outlook_at key o' ≡ outlook_in h key → ((other : LinkKey) → is_at (hashed_key_cmp other) key ≡ false → group_at other o' ≡ group_at other o) → (k : LinkKey) → outlook_at k o' ≡ outlook_in h k
-outlooks-anew g h o o' key was stays here elsewhere k = by (same_key k key) refl
+-- what is kept of each key is what a grouping has of it, where that changed at one key alone, of which it is kept anew
+pub anew : {A : Type 0} (part : Group → A) (was is : LinkKey → A) (o o' : List (LinkKey × Group)) (key : LinkKey) → ((k : LinkKey) → part (group_at k o) ≡ was k) → ((k : LinkKey) → same_key k key ≡ false → is k ≡ was k)
+    → part (group_at key o') ≡ is key → ((other : LinkKey) → is_at (hashed_key_cmp other) key ≡ false → group_at other o' ≡ group_at other o) → (k : LinkKey) → part (group_at k o') ≡ is k
+anew part was is o o' key kept stays here elsewhere k = by (same_key k key) refl
   where
-    by : (b : Bool) → same_key k key ≡ b → outlook_at k o' ≡ outlook_in h k
-    by true t = let same : k ≡ key = one_key k key t in ap (λ (x : LinkKey). outlook_at x o') same ∙ here ∙ sym (ap (outlook_in h) same)
-    by false t = ap (λ (x : Group). x.outlook) (elsewhere k (hashed-same k key ∙ t)) ∙ was k ∙ sym (stays k t)
-
--- and so are the only submits
-pub only-anew : (s s' : List (Member × Bool)) (o o' : List (LinkKey × Group)) (key : LinkKey) → ((k : LinkKey) → only_at k o ≡ only_of (members_in k s)) → ((k : LinkKey) → same_key k key ≡ false → members_in k s' ≡ members_in k s)
-    → only_at key o' ≡ only_of (members_in key s') → ((other : LinkKey) → is_at (hashed_key_cmp other) key ≡ false → group_at other o' ≡ group_at other o) → (k : LinkKey) → only_at k o' ≡ only_of (members_in k s')
-only-anew s s' o o' key was stays here elsewhere k = by (same_key k key) refl
-  where
-    by : (b : Bool) → same_key k key ≡ b → only_at k o' ≡ only_of (members_in k s')
-    by true t = let same : k ≡ key = one_key k key t in ap (λ (x : LinkKey). only_at x o') same ∙ here ∙ sym (ap (λ (x : LinkKey). only_of (members_in x s')) same)
-    by false t = ap (λ (x : Group). x.only) (elsewhere k (hashed-same k key ∙ t)) ∙ was k ∙ sym (ap (λ (ms : List (Place × Bool)). only_of ms) (stays k t))
+    by : (b : Bool) → same_key k key ≡ b → part (group_at k o') ≡ is k
+    by true t = let same : k ≡ key = one_key k key t in ap (λ (x : LinkKey). part (group_at x o')) same ∙ here ∙ sym (ap is same)
+    by false t = ap part (elsewhere k (hashed-same k key ∙ t)) ∙ kept k ∙ sym (stays k t)
 
 -- the members of a key stay where one of another comes or goes
 module _ (k : LinkKey) (m : Member) (other : same_key k m.key ≡ false) where
@@ -171,12 +162,12 @@ module _ (s : List (Member × Bool)) (r : List (Member × Said)) (i : List (Cand
     receipts_once = st.receipts_once;
     indexed = record {
       candidates = st.indexed.candidates;
-      outlook = outlooks-anew (grouping_in s r) (grouping_in more r) o o' key st.indexed.outlook
+      outlook = anew (λ (x : Group). x.outlook) (outlook_in (grouping_in s r)) (outlook_in (grouping_in more r)) o o' key st.indexed.outlook
           (λ k t. let n = counted-more none k false t in let same : matches (grouping_in more r) k ≡ matches (grouping_in s r) k = omega (arith, n) in ap (outlook_of k) same)
           (here ∙ ap (λ (x : Outlook). record x { matches = x.matches + 1 }) (st.indexed.outlook key) ∙ ap (outlook_of key) (sym (counted-more none key true (own_key key))))
           elsewhere;
     };
-    only = only-anew s more o o' key st.only (λ k t. members-put k (member_of key place) t true s) alone elsewhere;
+    only = anew (λ (x : Group). x.only) (λ k. only_of (members_in k s)) (λ k. only_of (members_in k more)) o o' key st.only (λ k t. ap (λ (ms : List (Place × Bool)). only_of ms) (members-put k (member_of key place) t true s)) alone elsewhere;
   }
 
   -- a submit that is there is a member
@@ -201,12 +192,12 @@ module _ (s : List (Member × Bool)) (r : List (Member × Said)) (i : List (Cand
     receipts_once = st.receipts_once;
     indexed = record {
       candidates = st.indexed.candidates;
-      outlook = outlooks-anew (grouping_in s r) (grouping_in less r) o o' key st.indexed.outlook
+      outlook = anew (λ (x : Group). x.outlook) (outlook_in (grouping_in s r)) (outlook_in (grouping_in less r)) o o' key st.indexed.outlook
           (λ k t. let n = counted-less there st k false t in let same : matches (grouping_in less r) k ≡ matches (grouping_in s r) k = omega (arith, n) in ap (outlook_of k) same)
           (here ∙ ap (λ (x : Outlook). record x { matches = x.matches - 1 }) (st.indexed.outlook key) ∙ ap (outlook_of key) one_less)
           elsewhere;
     };
-    only = only-anew s less o o' key st.only (λ k t. members-out k (member_of key place) t s) alone elsewhere;
+    only = anew (λ (x : Group). x.only) (λ k. only_of (members_in k s)) (λ k. only_of (members_in k less)) o o' key st.only (λ k t. ap (λ (ms : List (Place × Bool)). only_of ms) (members-out k (member_of key place) t s)) alone elsewhere;
   }
     where
       one_less : matches (grouping_in s r) key - 1 ≡ matches (grouping_in less r) key

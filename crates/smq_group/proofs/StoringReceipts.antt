@@ -27,13 +27,13 @@ use Rattle.smq_group.specs.Groups.{with_receipt, without_receipt}
 use Rattle.smq_group.specs.within.KeyLaws.{one_candidate}
 use Rattle.smq_group.specs.within.Orders.{kept_member_cmp, kept_candidate_cmp}
 use Rattle.smq_group.specs.within.Outlooks.{an_outlook, group_at, group_with, is_before, later_of, one_more, only_at, outlook_at, outlook_with}
-use Rattle.smq_group.specs.within.Stored.{grouping_in, receipt_value, earliest_at, gone_of, received, AreStored, by_place, member_of, waits, with_waiting, without_waiting}
+use Rattle.smq_group.specs.within.Stored.{grouping_in, receipt_value, earliest_at, gone_of, outlook_in, received, AreStored, by_place, member_of, waits, with_waiting, without_waiting}
 use Rattle.smq_group.specs.within.Walked.{candidate_at, first_candidate_after, members_in, only_of}
 use Rattle.smq_group.proofs.CandidateWalks.{candidates_total}
 use Rattle.smq_group.proofs.Earliest.{HasMore, decider_in, is_decided, decider-more, decider-stays, decider-next, own_key}
 use Rattle.smq_group.proofs.Waiting.{decided-own, gone-is, gone-waited, is_the, waits-decided, waits-less, waits-more}
 use Rattle.smq_group.proofs.Placing.{at, found, one_of, own_place, same_place, with-member, without-member, once-insert, once-remove}
-use Rattle.smq_group.proofs.Storing.{only-anew, outlooks-anew, received-more}
+use Rattle.smq_group.proofs.Storing.{anew, received-more}
 
 abbrev own : Place → Said → Earliest
 own place said = earliest_at (said.moment, place)
@@ -98,14 +98,14 @@ module _ (s : List (Member × Bool)) (r : List (Member × Said)) (i i' : List (C
           indexed_more w (put ∙ ap (λ (x : Outlook). with_waiting key (later_of x.decider (own place said) said.decides) true i) (st.indexed.outlook key)) c (is_the key w c) refl
           ∙ ap (cond (is_the key w c) (Some true)) (st.indexed.candidates c) ∙ joined (is_the key w c) (waits g c)
           ∙ ap (λ b. cond b (Some true) None) (waits-more g (grouping_in s more) place value (has-more none) c);
-      outlook = outlooks-anew g (grouping_in s more) o o' key st.indexed.outlook
+      outlook = anew (λ (x : Group). x.outlook) (outlook_in g) (outlook_in (grouping_in s more)) o o' key st.indexed.outlook
           (λ k t. λ j. an_outlook (matches g k) (elsewhere_more none k t j) (decider-more g (grouping_in s more) place value (has-more none) k false said.decides t refl j))
           (ap (λ (x : Group). x.outlook) here ∙ ap (λ (x : Outlook). outlook_with x (earliest_at (said.moment, place)) said.decides) (st.indexed.outlook key)
           ∙ sym (λ j. an_outlook (matches g key) ((received-more g (grouping_in s more) place value key true (has-more none) (own_key key) ∙ sym roomy) j)
           (decider-more g (grouping_in s more) place value (has-more none) key true said.decides (own_key key) refl j)))
           elsewhere;
     };
-    only = only-anew s s o o' key st.only (λ k t. refl) (ap (λ (x : Group). x.only) here ∙ st.only key) elsewhere;
+    only = anew (λ (x : Group). x.only) (λ k. only_of (members_in k s)) (λ k. only_of (members_in k s)) o o' key st.only (λ k t. refl) (ap (λ (x : Group). x.only) here ∙ st.only key) elsewhere;
   }
     where
       roomy : one_more (received g key) ≡ received g key + 1
@@ -236,12 +236,12 @@ module _ (s : List (Member × Bool)) (r : List (Member × Said)) (i i' : List (C
             ∙ parted (not (is_the key w c)) (waits g c)
             ∙ ap (λ (x : Option Earliest). cond (not (is_the key x c) && waits g c) (Some true) None) goes
             ∙ ap (λ b. cond b (Some true) None) (waits-less h g place value (has-less st there l) c);
-        outlook = outlooks-anew g h o o' key st.indexed.outlook
+        outlook = anew (λ (x : Group). x.outlook) (outlook_in g) (outlook_in h) o o' key st.indexed.outlook
             (λ k t. λ j. an_outlook (matches g k) (elsewhere_less k t j) (sym (decider-more h g place value (has-less st there l) k false said.decides t refl) j))
             (here ∙ ap (λ (x : Outlook). an_outlook x.matches (x.receipts - 1) next) (st.indexed.outlook key) ∙ sym (λ j. an_outlook (matches g key) (one_less j) (new did_decide refl j)))
             elsewhere;
       };
-      only = only-anew s s o o' key st.only (λ k t. refl) alone elsewhere;
+      only = anew (λ (x : Group). x.only) (λ k. only_of (members_in k s)) (λ k. only_of (members_in k s)) o o' key st.only (λ k t. refl) alone elsewhere;
     }
       where
         elsewhere_less : (k : LinkKey) → same_key k key ≡ false → received h k ≡ received g k

@@ -110,9 +110,8 @@ rank-receipt o q can = by (o.matches == 0) (o.matches == 1) (is_at_place (decide
     by : (z u d c : Bool) → (o.matches == 0) ≡ z → (o.matches == 1) ≡ u → rank (by_tests z u d c) ≡ min o.matches 2
     by true u d c e f = let n = eqb-true o.matches 0 e in omega (arith, n)
     by false false d c e f = let n : o.matches ≢ 0 = eqb-false o.matches 0 e in let m : o.matches ≢ 1 = eqb-false o.matches 1 f in omega (arith, n, m)
-    by false true true c e f = let n = eqb-true o.matches 1 f in omega (arith, n)
     by false true false true e f = let n = eqb-true o.matches 1 f in omega (arith, n)
-    by false true false false e f = let n = eqb-true o.matches 1 f in omega (arith, n)
+    by false true _ _ e f = let n = eqb-true o.matches 1 f in omega (arith, n)
 
 -- ---- which turn it is
 

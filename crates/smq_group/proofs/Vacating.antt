@@ -37,8 +37,7 @@ vacated (Some v) b = 0
 put_first : {E V : Type 0} (b : Bool) (x : Option V) (e : E) (F : List E) → length (cond (b && not (is_some x)) (e ∷ F) F) ≡ length F + vacated x b
 put_first true None e F = omega arith
 put_first false None e F = omega arith
-put_first true (Some v) e F = omega arith
-put_first false (Some v) e F = omega arith
+put_first _ _ e F = omega arith
 
 module _ {K V : Type 0} (R : K → K → Ordering) (exact : (x y : K) → R x y ≡ Equal → x ≡ y) (key_of : K → LinkKey) (k : LinkKey) where
   abbrev counts : K × Option V → Bool

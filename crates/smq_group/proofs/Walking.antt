@@ -6,6 +6,7 @@ use Rattle.std.specs.Ordering.{ordering_then}
 use Rattle.std.specs.List.{AllByRecursion}
 use Rattle.std.specs.List.Sorted.{IsStrictlySortedBy}
 use Rattle.std.specs.Map.{keys_of}
+use Rattle.std.proofs.lemmas.Bool.{cond_both}
 use Rattle.std.proofs.lemmas.List.{length-map}
 use Rattle.std.proofs.lemmas.List.Kept.{IsStrictlySortedBy-filter}
 use Rattle.std.proofs.lemmas.List.Filters.{length-filter_both}
@@ -129,10 +130,8 @@ sorted_cons p ps a s = (a, s)
 module _ {V : Type 0} (key : LinkKey) where
   all_of : (es : List (Member × V)) → AllByRecursion (λ e. same_key key e.0.key ≡ true) (filter (of_key key) es)
   all_of [] = tt
-  all_of (e ∷ es) = elim (same_key key e.0.key) as (λ b. same_key key e.0.key ≡ b → AllByRecursion (λ x. same_key key x.0.key ≡ true) (cond b (e ∷ filter (of_key key) es) (filter (of_key key) es))) [
-    | true ↦ λ t. (t, all_of es)
-    | false ↦ λ t. all_of es
-  ] refl
+  all_of (e ∷ es) =
+      cond_both (same_key key e.0.key) (e ∷ filter (of_key key) es) (filter (of_key key) es) (AllByRecursion (λ x. same_key key x.0.key ≡ true)) (λ t. (t, all_of es)) (λ _. all_of es)
 
   places_above : (e : Member × V) (es : List (Member × V)) → same_key key e.0.key ≡ true → AllByRecursion (λ x. same_key key x.0.key ≡ true) es
       → AllByRecursion (λ k. kept_member_cmp e.0 k ≡ Less) (keys_of es) → AllByRecursion (λ p. place_cmp e.0.place p ≡ Less) (keys_of (map placed es))
