@@ -9,9 +9,9 @@ use Rattle.smq_pair.specs.within.Turns.{Turn}
 use Rattle.smq_pair.specs.Pairing.{PlacedHeader, PairingValue, pdus_from, opposite, headers}
 use Rattle.smq_pair.specs.Growth.{pushed}
 use Rattle.smq_pair.specs.within.Turns.{is_of, headers_from, count_in, index_at, later, next_of, partner, series_of, turn_of, partner_of}
-use Rattle.smq_pair.proofs.Lists.{none-beyond, some-is, one_of}
+use Rattle.smq_pair.proofs.Lists.{none-beyond, some-is}
 use Rattle.smq_pair.proofs.Turned
-use Rattle.smq_pair.proofs.Turned.{by_dir, partner-back, partner-apart, pushed-apart, headers-by, series-of, turn-stands, next_turn, next-dir, index-free, index-next, index-others, next-rank, turn_parts, turn-stays, turn-last}
+use Rattle.smq_pair.proofs.Turned.{by_dir, partner-back, partner-apart, pushed-apart, headers-by, series-of, turn-there, next_turn, next-dir, index-free, index-next, index-others, next-rank, turn_parts, turn-stays, turn-last}
 
 -- ---- counts
 
@@ -77,13 +77,7 @@ module _ (v : PairingValue) (p : PlacedHeader) where
       → slice_get (headers_from (opposite p.place.dir) v) j ≡ Some h
       → partner_of (pushed v p) (opposite p.place.dir) j h ≡ Some (length (pdus_from p.place.dir v))
   partner-linked t j h e at there =
-      let s = turn-stands v (partner t) j at in
-      let dir : (partner t).series.dir ≡ opposite p.place.dir = ap opposite (next-dir v p t e) in
-      let same : s.header ≡ h = one_of (slice_get (headers_from (opposite p.place.dir) v) j) s.header h
-      (ap (λ (d : Dir). slice_get (headers_from d v) j) (sym dir) ∙ s.at) there in
-      ap (option_and_then (λ t. index_at (pushed v p) (partner t))) (
-      turn-stays v p (opposite p.place.dir) j h there
-      ∙ (λ i. turn_of v (sym dir i) j (sym same i))
-      ∙ s.turn)
+      ap (option_and_then (λ t. index_at (pushed v p) (partner t))) (turn-stays v p (opposite p.place.dir) j h there
+      ∙ turn-there v (partner t) (opposite p.place.dir) j h (ap opposite (next-dir v p t e)) at there)
       ∙ ap (index_at (pushed v p)) (partner-back t)
       ∙ index-next v p t e

@@ -78,9 +78,8 @@ length-kept d es = ap length (pdus-kept d es) ∙ length-map (entries_from d es)
 pub appended-get : {A : Type 0} (d f : Dir) (e : Held) (es : Entries) (i : ℕ) (x : Held) → slice_get (entries_from d (appended f e es)) i ≡ Some x
     → (slice_get (entries_from d es) i ≡ Some x → A) → (d ≡ f → i ≡ length (entries_from f es) → x ≡ e → A) → A
 appended-get FromClient FromClient e es i x at old new = get-either es.client e i x at old (new refl)
-appended-get FromClient FromCentre e es i x at old new = old at
-appended-get FromCentre FromClient e es i x at old new = old at
 appended-get FromCentre FromCentre e es i x at old new = get-either es.centre e i x at old (new refl)
+appended-get _ _ e es i x at old new = old at
 
 -- ---- the session of entries
 
@@ -152,9 +151,8 @@ pub linked-get : {A : Type 0} (d : Dir) (j : ℕ) (y : Held) (es : Entries) (f :
     → slice_get (entries_from f (set_in d j y es)) i ≡ Some x
     → ((f ≡ d → i ≢ j) → slice_get (entries_from f es) i ≡ Some x → A) → (f ≡ d → i ≡ j → x ≡ y → A) → A
 linked-get FromClient j y es FromClient i x h old new = set-get es.client j y i x h (λ apart. old (λ _. apart)) (new refl)
-linked-get FromClient j y es FromCentre i x h old new = old (λ same. absurd cc) h
-linked-get FromCentre j y es FromClient i x h old new = old (λ same. absurd cc) h
 linked-get FromCentre j y es FromCentre i x h old new = set-get es.centre j y i x h (λ apart. old (λ _. apart)) (new refl)
+linked-get _ j y es _ i x h old new = old (λ same. absurd cc) h
 
 -- ---- entries that stand in order
 

@@ -294,9 +294,8 @@ grows v p o n = grows-by-one v p o n
 
 idle_in : (d e : Dir) (v : PairingValue) (p q : PlacedHeader) → d ≢ e → pushed_in e (pushed_in d v p) q ≡ pushed_in d (pushed_in e v q) p
 idle_in FromClient FromClient v p q h = absurd (h refl)
-idle_in FromClient FromCentre v p q h = refl
-idle_in FromCentre FromClient v p q h = refl
 idle_in FromCentre FromCentre v p q h = absurd (h refl)
+idle_in _ _ v p q h = refl
 
 pub order-is-idle : OrderIsIdle
 order-is-idle v p q h = idle_in p.place.dir q.place.dir v p q h

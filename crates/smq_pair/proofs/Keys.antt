@@ -27,9 +27,8 @@ use Rattle.smq_pair.specs.within.Waits.{Waits, waiting_kept}
 
 pub same_dir : (a b : Dir) → dir_cmp a b ≡ Equal → a ≡ b
 same_dir FromClient FromClient e = refl
-same_dir FromClient FromCentre e = absurd cc
-same_dir FromCentre FromClient e = absurd cc
 same_dir FromCentre FromCentre e = refl
+same_dir _ _ e = absurd cc
 
 pub dir_itself : (a : Dir) → dir_cmp a a ≡ Equal
 dir_itself FromClient = refl

@@ -6,7 +6,7 @@ use Rattle.std.specs.List.Sorted.{IsStrictlySortedBy}
 use Rattle.std.specs.declared.cmp.Ordering.TheVariants.{Less, Equal}
 use Rattle.std.specs.Ordering.{is_eq, eq_by_cmp}
 use Rattle.std.specs.Cmp.{tied_itself}
-use Rattle.std.proofs.lemmas.Bool.{and_parts, cond-false, cond-true, false_from_ne_true, false≢true}
+use Rattle.std.proofs.lemmas.Bool.{and_parts, cond_both, cond-false, cond-true, false_from_ne_true, false≢true}
 use Rattle.std.proofs.lemmas.List.{append-nil, append_assoc, take-map}
 use Rattle.std.proofs.lemmas.Map.Keys.{sorted_head, sorted_tail}
 use Rattle.smq_kit.specs.declared.place.Dir.{Dir}
@@ -64,10 +64,9 @@ module _ {X : Type 0} (f : X → Place) where
 
   all-filter : (P : Place → Type 0) (test : X → Bool) (xs : List X) → AllByRecursion P (map f xs) → AllByRecursion P (map f (filter test xs))
   all-filter P test [] a = tt
-  all-filter P test (x ∷ xs) a = elim (test x) as (λ b. AllByRecursion P (map f (cond b (x ∷ filter test xs) (filter test xs)))) [
-    | true ↦ (a.0, all-filter P test xs a.1)
-    | false ↦ all-filter P test xs a.1
-  ]
+  all-filter P test (x ∷ xs) a =
+      let rest = all-filter P test xs a.1 in
+      cond_both (test x) (x ∷ filter test xs) (filter test xs) (λ ys. AllByRecursion P (map f ys)) (λ _. (a.0, rest)) (λ _. rest)
 
   pub ascend-back : (xs ys : List X) → Ascend (xs ++ ys) → Ascend ys
   ascend-back [] ys s = s
@@ -81,10 +80,9 @@ module _ {X : Type 0} (f : X → Place) where
   pub ascend-filter : (test : X → Bool) (xs : List X) → Ascend xs → Ascend (filter test xs)
   unfolding IsStrictlySortedBy
   ascend-filter test [] s = tt
-  ascend-filter test (x ∷ xs) s = elim (test x) as (λ b. Ascend (cond b (x ∷ filter test xs) (filter test xs))) [
-    | true ↦ (all-filter (λ y. place_cmp (f x) y ≡ Less) test xs s.0, ascend-filter test xs s.1)
-    | false ↦ ascend-filter test xs s.1
-  ]
+  ascend-filter test (x ∷ xs) s =
+      let rest = ascend-filter test xs s.1 in
+      cond_both (test x) (x ∷ filter test xs) (filter test xs) Ascend (λ _. (all-filter (λ y. place_cmp (f x) y ≡ Less) test xs s.0, rest)) (λ _. rest)
 
   -- one more between those below it and those above it
   pub ascend-between : (xs ys : List X) (z : X) → Ascend (xs ++ ys) → ((i : ℕ) (x : X) → slice_get xs i ≡ Some x → place_cmp (f x) (f z) ≡ Less)

@@ -27,9 +27,9 @@ use Rattle.smq_pair.specs.within.Stream.{Held}
 use Rattle.smq_pair.specs.within.Kept.{Entries, are_of_session, at_offset, entries_from, header_of, held_at, joined, next_in, next_kept, pair_found, partner_in, partner_kept, placed, placed_at, pdus_in}
 use Rattle.smq_pair.specs.within.Waits.{AreWaiting, Holds, HoldsOf, Waits, WaitsFor, dir_of, exchange_of, is_same, link_by, link_of, meeting, meeting_at, next_waiting, offset_at, rank_offset, series_in, waiting_kept}
 use Rattle.smq_pair.proofs.Keys.{at_exchange, kept-with}
-use Rattle.smq_pair.proofs.Lists.{none-beyond, one_of, some-is, some-within, never}
+use Rattle.smq_pair.proofs.Lists.{none-beyond, some-is, some-within, never}
 use Rattle.smq_pair.proofs.Turned
-use Rattle.smq_pair.proofs.Turned.{index-free, index-next, opposite-apart, opposite-back, partner-back, pushed-apart, turn_parts, turn-found, turn-stands, next_turn, next-dir, index-others, other_side-back, turn-stays}
+use Rattle.smq_pair.proofs.Turned.{index-free, index-next, opposite-apart, opposite-back, partner-back, pushed-apart, turn_parts, turn-found, turn-there, next_turn, next-dir, index-others, other_side-back, turn-stays}
 use Rattle.smq_pair.proofs.Standing.{pair_either, pair_with, pair-here}
 use Rattle.smq_pair.proofs.Order.{in-order-next}
 use Rattle.smq_pair.proofs.Held.{linked_to, found-kept}
@@ -64,8 +64,7 @@ pair_same d es e (Some j) order =
 -- the partner of a link
 pub partner-by : (partner next : Option ℕ) → partner_in (link_by partner next) ≡ partner
 partner-by None None = refl
-partner-by None (Some next) = refl
-partner-by (Some partner) next = refl
+partner-by _ _ = refl
 
 next-by : (partner next : Option ℕ) → partner ≡ None → next_in (link_by partner next) ≡ next
 next-by None None e = refl
@@ -110,13 +109,10 @@ partner_series-back s = ap (λ (t : Turn). t.series) (partner-back (record { ser
 -- one side is the same as another, or is the other one
 sides : (a b : Side) (c : Bool) → is_same a b ≡ c → cond c (a ≡ b) (a ≡ other_side b)
 sides Request Request true e = refl
-sides Request Request false e = absurd cc
-sides Request Response true e = absurd cc
 sides Request Response false e = refl
-sides Response Request true e = absurd cc
 sides Response Request false e = refl
 sides Response Response true e = refl
-sides Response Response false e = absurd cc
+sides _ _ _ e = absurd cc
 
 -- as many came of either side, whichever is named first
 even-from : (v : PairingValue) (x : Exchange) (side : Side) → WaitsFor v x None → count_in v (series_in x side) ≡ count_in v (series_in x (other_side side))
@@ -400,18 +396,9 @@ module _ (m : Waits) (es : Entries) (d : Dir) (e : Held) (h : Holds m es) (next 
           ap partner_in alone ∙ ap (offset_at before (opposite d)) (sym no_met),
         )
 
-    -- the turn of an index, of a series in a direction
-    turn-there : (t : Turn) (f : Dir) (j : ℕ) (hd : Header) → t.series.dir ≡ f → index_at before t ≡ Some j → slice_get (headers_from f before) j ≡ Some hd
-        → turn_of before f j hd ≡ Some t
-    turn-there t f j hd dir at there =
-        let st = turn-stands before t j at in
-        let same : st.header ≡ hd = one_of (slice_get (headers_from f before) j) st.header hd
-        (ap (λ (g : Dir). slice_get (headers_from g before) j) (sym dir) ∙ st.at) there in
-        (λ i. turn_of before (sym dir i) j (sym same i)) ∙ st.turn
-
     turn-after-there : (t : Turn) (f : Dir) (j : ℕ) (hd : Header) → t.series.dir ≡ f → index_at before t ≡ Some j → slice_get (headers_from f before) j ≡ Some hd
         → turn_of after f j hd ≡ Some t
-    turn-after-there t f j hd dir at there = turn-stays before new f j hd there ∙ turn-there t f j hd dir at there
+    turn-after-there t f j hd dir at there = turn-stays before new f j hd there ∙ turn-there before t f j hd dir at there
 
     -- others of its side wait: it is the next of their last
     in-own : (k : Waits) (w : Waiting) → waiting_kept m x ≡ Some w → w.side ≡ s.side
@@ -519,7 +506,7 @@ module _ (m : Waits) (es : Entries) (d : Dir) (e : Held) (h : Holds m es) (next 
         ap (λ (p : PlacedHeader). p.place.offset) (some-is _ _ (sym (pdu-kept (opposite d) es j y.0 y.1) ∙ st.1.1.1.0)) ∙ st.1.1.1.1 in
         let there = header-kept (opposite d) es j y.0 y.1 in
         let ascend = entries-ascend es (opposite d) h.in_order in
-        let turn_is = turn-there (partner turn) (opposite d) j (header_of y.0.1) r_dir st.1.0 there in
+        let turn_is = turn-there before (partner turn) (opposite d) j (header_of y.0.1) r_dir st.1.0 there in
         let its_next : next_kept (dir_of w.side x.dir) w.first es ≡ rank_offset before r (count_in before s + 1) =
         ap (λ (f : Dir). next_kept f w.first es) (ap (λ (t : Series). t.dir) back.0 ∙ r_dir)
         ∙ ap (λ n. option_and_then (λ z. next_in z.link) (held_at n (entries_from (opposite d) es))) (sym at_first)

@@ -16,7 +16,7 @@ use Rattle.smq_pair.specs.within.Turns.{Turn}
 use Rattle.smq_pair.specs.Pairing.{PlacedHeader, PairingValue, pdus_from, opposite, headers}
 use Rattle.smq_pair.specs.Growth.{pushed, pushed_in}
 use Rattle.smq_pair.specs.within.Turns.{other_side, is_of, headers_from, count_in, index_at, partner, side_of, series_of, turn_after, turn_of}
-use Rattle.smq_pair.proofs.Lists.{place-last, place-none, some-is}
+use Rattle.smq_pair.proofs.Lists.{one_of, place-last, place-none, some-is}
 
 -- ---- directions and sides
 
@@ -43,15 +43,13 @@ partner-apart t e = opposite-apart t.series.dir (ap (λ (u : Turn). u.series.dir
 
 pub by_dir : {A : Type 0} (d e : Dir) → (d ≡ e → A) → (d ≢ e → A) → A
 by_dir FromClient FromClient f g = f refl
-by_dir FromClient FromCentre f g = g (λ e. absurd cc)
-by_dir FromCentre FromClient f g = g (λ e. absurd cc)
 by_dir FromCentre FromCentre f g = f refl
+by_dir _ _ f g = g (λ e. absurd cc)
 
 pub pushed-apart : (d e : Dir) (v : PairingValue) (p : PlacedHeader) → d ≢ e → pdus_from d (pushed_in e v p) ≡ pdus_from d v
 pushed-apart FromClient FromClient v p h = absurd (h refl)
-pushed-apart FromClient FromCentre v p h = refl
-pushed-apart FromCentre FromClient v p h = refl
 pushed-apart FromCentre FromCentre v p h = absurd (h refl)
+pushed-apart _ _ v p h = refl
 
 pub pushed-same : (d : Dir) (v : PairingValue) (p : PlacedHeader) → pdus_from d (pushed_in d v p) ≡ pdus_from d v ++ p ∷ []
 pushed-same FromClient v p = refl
@@ -159,6 +157,14 @@ turn-stands v t i e =
           ∙ ap (λ n. Some (record { series = t.series; rank = n })) s.before;
       passes = s.passes;
     }
+
+-- and a PDU at the index of a turn has that turn
+pub turn-there : (v : PairingValue) (t : Turn) (d : Dir) (i : ℕ) (h : Header) → t.series.dir ≡ d → index_at v t ≡ Some i
+    → slice_get (headers_from d v) i ≡ Some h → turn_of v d i h ≡ Some t
+turn-there v t d i h dir at there =
+    let s = turn-stands v t i at in
+    let same : s.header ≡ h = one_of (slice_get (headers_from d v) i) s.header h (ap (λ (e : Dir). slice_get (headers_from e v) i) (sym dir) ∙ s.at) there in
+    (λ i'. turn_of v (sym dir i') i (sym same i')) ∙ s.turn
 
 -- ---- one PDU more
 
