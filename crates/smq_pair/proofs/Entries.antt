@@ -50,10 +50,12 @@ pub pdus-kept : (d : Dir) (es : Entries) → pdus_from d (pdus_in es) ≡ map (p
 pdus-kept FromClient es = refl
 pdus-kept FromCentre es = refl
 
+pub pdus-at : (d : Dir) (es : Entries) (i : ℕ) → slice_get (pdus_from d (pdus_in es)) i ≡ option_map (placed es.session d) (slice_get (entries_from d es) i)
+pdus-at d es i = ap (λ ps. slice_get ps i) (pdus-kept d es) ∙ slice_get-map (placed es.session d) (entries_from d es) i
+
 pub pdu-kept : (d : Dir) (es : Entries) (i : ℕ) (e : Held) → slice_get (entries_from d es) i ≡ Some e
     → slice_get (pdus_from d (pdus_in es)) i ≡ Some (placed es.session d e)
-pdu-kept d es i e at =
-    ap (λ ps. slice_get ps i) (pdus-kept d es) ∙ slice_get-map (placed es.session d) (entries_from d es) i ∙ ap (option_map (placed es.session d)) at
+pdu-kept d es i e at = pdus-at d es i ∙ ap (option_map (placed es.session d)) at
 
 -- the header of an entry stands at its index
 pub header-kept : (d : Dir) (es : Entries) (i : ℕ) (e : Held) → slice_get (entries_from d es) i ≡ Some e

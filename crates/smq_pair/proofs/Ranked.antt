@@ -8,14 +8,15 @@ use Rattle.smq_kit.specs.declared.place.Place.{Place}
 use Rattle.smq_pdu.specs.Header.{Header}
 use Rattle.smq_pdu.specs.Pairing.{IsPair, is_request, is_response, is_request_of, nth_index, request_rank, response_rank}
 use Rattle.smq_pdu.proofs.Pairs.{stands, found, finds_pairs, finds_each}
+use Rattle.smq_pair.specs.declared.entry.Side.TheVariants.{Request, Response}
 use Rattle.smq_pair.specs.declared.pairing.Pair.{Pair}
 use Rattle.smq_pair.specs.Pairing.{PlacedHeader, PairingValue, pdus_from, opposite, headers, pair_of, pair_at}
 use Rattle.smq_pair.specs.Growth.{AreInOrder}
 use Rattle.smq_pair.specs.Laws.{IsPairByRank, IsFoundByRank, FindsPairs, FindsEachPair, HasTwoPlaces}
 use Rattle.smq_pair.specs.within.Turns.{headers_from, partner_of}
 use Rattle.smq_pair.proofs.Lists.{some-is, never, one_of}
-use Rattle.smq_pair.proofs.Turned.{opposite-back, not-request}
-use Rattle.smq_pair.proofs.Standing.{there-or-not, partner-request, partner-response, partner-neither, pair_with, pair_either, pair-here, pair-nowhere}
+use Rattle.smq_pair.proofs.Turned.{opposite-back, not-request, side-request, side-response}
+use Rattle.smq_pair.proofs.Standing.{there-or-not, partner-side, partner-neither, pair_with, pair_either, pair-here, pair-nowhere}
 
 -- ---- partners by rank
 
@@ -29,7 +30,7 @@ module _ (v : PairingValue) (d : Dir) (i j : ℕ) (request response : PlacedHead
   at-request : pair_at v request.place ≡ Some (pair_of request response)
   at-request =
       pair-here v d i request o by.request_at
-      ∙ ap (pair_with v d request) (partner-request v d i request.header by.by_rank.is_request
+      ∙ ap (pair_with v d request) (partner-side v d i request.header Request (side-request request.header by.by_rank.is_request)
       ∙ finds_each (headers_from d v) (headers_from (opposite d) v) i j request.header response.header by.by_rank)
       ∙ ap (option_map (pair_either request)) by.response_at
       ∙ ap (λ b. Some (cond b (pair_of request response) (pair_of response request))) by.by_rank.is_request
@@ -47,7 +48,7 @@ module _ (v : PairingValue) (d : Dir) (i j : ℕ) (request response : PlacedHead
   at-response =
       pair-here v (opposite d) j response o by.response_at
       ∙ ap (pair_with v (opposite d) response) (
-      partner-response v (opposite d) j response.header by.by_rank.is_response
+      partner-side v (opposite d) j response.header Response (side-response response.header by.by_rank.is_response)
       ∙ ap (λ (d' : Dir). nth_index (is_request_of response.header.seq) (headers_from d' v)
       (response_rank (headers_from (opposite d) v) j response.header.seq)) (opposite-back d)
       ∙ request_found)
@@ -66,7 +67,7 @@ module _ (v : PairingValue) (d : Dir) (i : ℕ) (p : PlacedHeader) (at : slice_g
       → slice_get (pdus_from (opposite d) v) j ≡ Some r → IsPairByRank v d i j p r
   of-request j r e is there =
       let pair = finds_pairs (headers_from d v) (headers_from (opposite d) v) i j p.header (header-at (pdus_from d v) i p at) e
-      (sym (partner-request v d i p.header e) ∙ is) in
+      (sym (partner-side v d i p.header Request (side-request p.header e)) ∙ is) in
       let same : pair.0 ≡ r.header = one_of (slice_get (headers_from (opposite d) v) j) pair.0 r.header (pair.1).response_at
       (header-at (pdus_from (opposite d) v) j r there) in
       record {
@@ -81,7 +82,7 @@ module _ (v : PairingValue) (d : Dir) (i : ℕ) (p : PlacedHeader) (at : slice_g
       → slice_get (pdus_from (opposite d) v) j ≡ Some r → IsPairByRank v (opposite d) j i r p
   of-response j r e is there =
       let s = stands (is_request_of p.header.seq) (headers_from (opposite d) v) (response_rank (headers_from d v) i p.header.seq) j
-      (sym (partner-response v d i p.header e) ∙ is) in
+      (sym (partner-side v d i p.header Response (side-response p.header e)) ∙ is) in
       let same : s.element ≡ r.header = one_of (slice_get (headers_from (opposite d) v) j) s.element r.header s.there
       (header-at (pdus_from (opposite d) v) j r there) in
       let passes : is_request_of p.header.seq r.header ≡ true = ap (is_request_of p.header.seq) (sym same) ∙ s.passes in

@@ -16,13 +16,14 @@ use Rattle.smq_kit.specs.Orders.{place_cmp}
 use Rattle.smq_kit.proofs.Comparisons.{is_equal}
 use Rattle.smq_kit.proofs.PlaceOrders.{places_total, places_exact}
 use Rattle.smq_pdu.specs.Header.{Header}
-use Rattle.smq_pdu.specs.Pairing.{is_request, is_response, is_request_of, is_response_of, nth_index, request_rank, response_rank, response_index}
+use Rattle.smq_pdu.specs.Pairing.{is_request, is_response, nth_index}
 use Rattle.smq_pdu.proofs.Pairs.{in_turn, nth_index-map}
 use Rattle.smq_pair.specs.declared.pairing.Pair.{Pair}
+use Rattle.smq_pair.specs.declared.entry.Side.{Side}
 use Rattle.smq_pair.specs.declared.entry.Side.TheVariants.{Request, Response}
 use Rattle.smq_pair.specs.Pairing.{PlacedHeader, PairingValue, pdus_from, opposite, headers, pair_of, pair_after, with_earlier, standing_at, pair_at}
 use Rattle.smq_pair.specs.Growth.{AreInOrder, is_from}
-use Rattle.smq_pair.specs.within.Turns.{headers_from, partner_of, turn_after, index_at, partner}
+use Rattle.smq_pair.specs.within.Turns.{headers_from, is_of, other_side, partner_of, side_of, turn_after, index_at, partner}
 use Rattle.smq_pair.proofs.Keys.{same_dir}
 use Rattle.smq_pair.proofs.Lists.{some-is}
 use Rattle.smq_pair.proofs.Turned.{side-request, side-response}
@@ -161,21 +162,12 @@ standing-nowhere earlier (x ∷ xs) q h =
 
 -- ---- its pair
 
--- the index of a request's partner is that of its response
-pub partner-request : (v : PairingValue) (d : Dir) (i : ℕ) (h : Header) → is_request h ≡ true
-    → partner_of v d i h ≡ response_index (headers_from (opposite d) v) h.seq (request_rank (headers_from d v) i h.seq)
-partner-request v d i h e =
+-- the index of the partner of what has a side: of the other direction's of the other side the one of its rank
+pub partner-side : (v : PairingValue) (d : Dir) (i : ℕ) (h : Header) (side : Side) → side_of h ≡ Some side
+    → partner_of v d i h ≡ nth_index (is_of (other_side side) h.seq) (headers_from (opposite d) v) (count_by (is_of side h.seq) (take i (headers_from d v)))
+partner-side v d i h side e =
     ap (λ s. option_and_then (λ t. index_at v (partner t))
-    (option_map (turn_after (take i (headers_from d v))) (option_map (λ side. record { dir = d; side = side; seq = h.seq }) s)))
-    (side-request h e)
-
--- and the index of a response's is that of its request
-pub partner-response : (v : PairingValue) (d : Dir) (i : ℕ) (h : Header) → is_response h ≡ true
-    → partner_of v d i h ≡ nth_index (is_request_of h.seq) (headers_from (opposite d) v) (response_rank (headers_from d v) i h.seq)
-partner-response v d i h e =
-    ap (λ s. option_and_then (λ t. index_at v (partner t))
-    (option_map (turn_after (take i (headers_from d v))) (option_map (λ side. record { dir = d; side = side; seq = h.seq }) s)))
-    (side-response h e)
+    (option_map (turn_after (take i (headers_from d v))) (option_map (λ side. record { dir = d; side = side; seq = h.seq }) s))) e
 
 -- what is neither has none
 pub partner-neither : (v : PairingValue) (d : Dir) (i : ℕ) (h : Header) → is_request h ≡ false → is_response h ≡ false → partner_of v d i h ≡ None
@@ -203,30 +195,28 @@ module _ (v : PairingValue) (d : Dir) (i : ℕ) (p : PlacedHeader) where
   abbrev other : List PlacedHeader
   other = pdus_from (opposite d) v
 
-  -- the element of a rank, by its index
-  by_rank : (g k : Header → Bool) → slice_get (filter (λ (r : PlacedHeader). g r.header) other) (count_by k (headers (take i mine)))
-      ≡ option_and_then (slice_get other) (nth_index g (headers other) (count_by k (take i (headers mine))))
-  by_rank g k =
-      ap (λ hs. slice_get (filter (λ (r : PlacedHeader). g r.header) other) (count_by k hs)) (sym (take-map (λ (r : PlacedHeader). r.header) i mine))
-      ∙ in_turn (λ (r : PlacedHeader). g r.header) other (count_by k (take i (headers mine)))
-      ∙ ap (option_and_then (slice_get other)) (sym (nth_index-map g (λ (r : PlacedHeader). r.header) other (count_by k (take i (headers mine)))))
+  -- the pair by the element of a rank is that by its index
+  by_side : (side : Side) (f : PlacedHeader → Pair) → side_of p.header ≡ Some side → ((r : PlacedHeader) → f r ≡ pair_either p r)
+      → option_map f (slice_get (filter (λ (r : PlacedHeader). is_of (other_side side) p.header.seq r.header) other) (count_by (is_of side p.header.seq) (headers (take i mine))))
+      ≡ pair_with v d p (partner_of v d i p.header)
+  by_side side f e same =
+      let is_its : Header → Bool = is_of (other_side side) p.header.seq in
+      let rank : ℕ = count_by (is_of side p.header.seq) (take i (headers mine)) in
+      ap (option_map f) (
+      ap (λ hs. slice_get (filter (λ (r : PlacedHeader). is_its r.header) other) (count_by (is_of side p.header.seq) hs)) (sym (take-map (λ (r : PlacedHeader). r.header) i mine))
+      ∙ in_turn (λ (r : PlacedHeader). is_its r.header) other rank
+      ∙ ap (option_and_then (slice_get other)) (sym (nth_index-map is_its (λ (r : PlacedHeader). r.header) other rank)))
+      ∙ joined f other (nth_index is_its (headers other) rank)
+      ∙ (λ x. option_and_then (λ j. option_map (λ r. same r x) (slice_get other j)) (sym (partner-side v d i p.header side e) x))
 
   by_kind : (a b : Bool) → is_request p.header ≡ a → is_response p.header ≡ b → pair_after other (take i mine) p
       ≡ pair_with v d p (partner_of v d i p.header)
   by_kind true b e f =
-      let at = partner-request v d i p.header e in
       cond-true (is_request p.header) _ _ e
-      ∙ ap (option_map (λ r. pair_of p r)) (by_rank (is_response_of p.header.seq) (is_request_of p.header.seq))
-      ∙ joined (λ r. pair_of p r) other (nth_index (is_response_of p.header.seq) (headers other)
-      (count_by (is_request_of p.header.seq) (take i (headers mine))))
-      ∙ (λ x. option_and_then (λ j. option_map (λ r. cond (sym e x) (pair_of p r) (pair_of r p)) (slice_get other j)) (sym at x))
+      ∙ by_side Request (λ r. pair_of p r) (side-request p.header e) (λ r. sym (ap (λ b. cond b (pair_of p r) (pair_of r p)) e))
   by_kind false true e f =
-      let at = partner-response v d i p.header f in
       cond-false (is_request p.header) _ _ e ∙ cond-true (is_response p.header) _ _ f
-      ∙ ap (option_map (λ r. pair_of r p)) (by_rank (is_request_of p.header.seq) (is_response_of p.header.seq))
-      ∙ joined (λ r. pair_of r p) other (nth_index (is_request_of p.header.seq) (headers other)
-      (count_by (is_response_of p.header.seq) (take i (headers mine))))
-      ∙ (λ x. option_and_then (λ j. option_map (λ r. cond (sym e x) (pair_of p r) (pair_of r p)) (slice_get other j)) (sym at x))
+      ∙ by_side Response (λ r. pair_of r p) (side-response p.header f) (λ r. sym (ap (λ b. cond b (pair_of p r) (pair_of r p)) e))
   by_kind false false e f =
       cond-false (is_request p.header) _ _ e ∙ cond-false (is_response p.header) _ _ f
       ∙ sym (ap (pair_with v d p) (partner-neither v d i p.header e f))

@@ -5,7 +5,6 @@ use Rattle.std.proofs.lemmas.Bool.Decides.{nat_tests}
 use Rattle.std.specs.BTreeMap.{is_at}
 use Rattle.std.specs.List.Sorted.{IsStrictlySortedBy}
 use Rattle.std.specs.Map.{keys_of}
-use Rattle.std.proofs.lemmas.Option.{slice_get-map}
 use Rattle.smq_kit.specs.declared.place.Dir.{Dir}
 use Rattle.smq_kit.specs.declared.place.Place.{Place}
 use Rattle.smq_shelf.specs.Values.{with_value}
@@ -33,7 +32,7 @@ use Rattle.smq_pair.proofs.Turned.{index-free, index-next, opposite-apart, oppos
 use Rattle.smq_pair.proofs.Standing.{pair_either, pair_with, pair-here}
 use Rattle.smq_pair.proofs.Order.{in-order-next}
 use Rattle.smq_pair.proofs.Held.{linked_to, found-kept}
-use Rattle.smq_pair.proofs.Entries.{appended, set_in, set_in-session, of_session, of_session-from, of_session-pdus, of_session-holds, of_session-joined, pdus-kept, header-kept, pdu-kept, entry-at, entries-ascend, appended-in, length-kept, appended-get, linked-pdus, linked-get, joined-alone, joined-linked, joined-before}
+use Rattle.smq_pair.proofs.Entries.{appended, set_in, set_in-session, of_session, of_session-from, of_session-pdus, of_session-holds, of_session-joined, pdus-at, header-kept, pdu-kept, entries-ascend, appended-in, length-kept, appended-get, linked-pdus, linked-get, joined-alone, joined-linked, joined-before}
 use Rattle.smq_pair.proofs.Entered.{count-next, count-others, found-stays, later-none, nothing-found, partner-next, partner-linked}
 use Rattle.smq_pair.proofs.Placed.{StandsBy, partner-pdu, next-pdu, index-pdu, offset-there, offset-stays, offset-last, own-at}
 
@@ -48,12 +47,9 @@ pair_same : (d : Dir) (es : Entries) (e : Held) (o : Option ℕ) → AreInOrder 
     → pair_by_offset es d e (offset_at (pdus_in es) (opposite d) o) ≡ pair_with (pdus_in es) d (placed es.session d e) o
 pair_same d es e None order = refl
 pair_same d es e (Some j) order =
-    ap (λ o. pair_by_offset es d e (option_map (λ (p : PlacedHeader). p.place.offset) o)) pdu
-    ∙ by_entry (slice_get (entries_from (opposite d) es) j) refl ∙ sym (ap (option_map (pair_either (placed es.session d e))) pdu)
+    ap (λ o. pair_by_offset es d e (option_map (λ (p : PlacedHeader). p.place.offset) o)) (pdus-at (opposite d) es j)
+    ∙ by_entry (slice_get (entries_from (opposite d) es) j) refl ∙ sym (ap (option_map (pair_either (placed es.session d e))) (pdus-at (opposite d) es j))
   where
-    pdu : slice_get (pdus_from (opposite d) (pdus_in es)) j ≡ option_map (placed es.session (opposite d)) (slice_get (entries_from (opposite d) es) j)
-    pdu = ap (λ ps. slice_get ps j) (pdus-kept (opposite d) es) ∙ slice_get-map (placed es.session (opposite d)) (entries_from (opposite d) es) j
-
     by_entry : (x : Option Held) → slice_get (entries_from (opposite d) es) j ≡ x
         → pair_by_offset es d e (option_map (λ (p : PlacedHeader). p.place.offset) (option_map (placed es.session (opposite d)) x))
         ≡ option_map (pair_either (placed es.session d e)) (option_map (placed es.session (opposite d)) x)
@@ -133,16 +129,16 @@ link-same (Some q) b n o e f = by_next n o ∙ ap (λ p. link_by p o) e
     by_next : (n o : Option ℕ) → link_by (Some q) n ≡ link_by (Some q) o
     by_next n o = refl
 
--- where an offset is found, its PDU stands
-stands-there : (v : PairingValue) (d : Dir) (o : Option ℕ) (q : ℕ) → offset_at v d o ≡ Some q
-    → (j : ℕ) × ((o ≡ Some j) × ((p : PlacedHeader) × ((slice_get (pdus_from d v) j ≡ Some p) × (p.place.offset ≡ q))))
-stands-there v d None q e = absurd cc
-stands-there v d (Some j) q e = by_pdu (slice_get (pdus_from d v) j) refl e
+-- where an offset is found, its entry stands
+entry-there : (es : Entries) (d : Dir) (o : Option ℕ) (q : ℕ) → offset_at (pdus_in es) d o ≡ Some q
+    → (j : ℕ) × (o ≡ Some j) × (e : Held) × (slice_get (entries_from d es) j ≡ Some e) × (e.0 ≡ q)
+entry-there es d None q e = absurd cc
+entry-there es d (Some j) q e = by_entry (slice_get (entries_from d es) j) refl (sym (ap (option_map (λ (p : PlacedHeader). p.place.offset)) (pdus-at d es j)) ∙ e)
   where
-    by_pdu : (x : Option PlacedHeader) → slice_get (pdus_from d v) j ≡ x → option_map (λ (p : PlacedHeader). p.place.offset) x ≡ Some q
-        → (k : ℕ) × ((Some j ≡ Some k) × ((p : PlacedHeader) × ((slice_get (pdus_from d v) k ≡ Some p) × (p.place.offset ≡ q))))
-    by_pdu None at e = absurd cc
-    by_pdu (Some p) at e = (j, (refl, (p, (at, some-is _ _ e))))
+    by_entry : (x : Option Held) → slice_get (entries_from d es) j ≡ x → option_map (λ (p : PlacedHeader). p.place.offset) (option_map (placed es.session d) x) ≡ Some q
+        → (k : ℕ) × (Some j ≡ Some k) × (e : Held) × (slice_get (entries_from d es) k ≡ Some e) × (e.0 ≡ q)
+    by_entry None at e = absurd cc
+    by_entry (Some x) at e = (j, refl, x, at, some-is _ _ e)
 
 -- ---- a PDU that is in
 
@@ -412,22 +408,20 @@ module _ (m : Waits) (es : Entries) (d : Dir) (e : Held) (h : Holds m es) (next 
         let rank : k0 + 1 ≡ count_in before s = omega (arith, more) in
         let no_met : met ≡ None = none-met (omega (arith, more)) in
         let its : Turn = record { series = s; rank = k0 } in
-        let st = stands-there before d (index_at before its) w.last
+        let st = entry-there es d (index_at before its) w.last
         (ap (λ (f : Dir). offset_at before f (index_at before its)) (sym s_dir) ∙ a.last_at k0 rank) in
         let j = st.0 in
-        let y = entry-at d es j st.1.1.0 st.1.1.1.0 in
-        let at_last : y.0.0 ≡ w.last =
-        ap (λ (p : PlacedHeader). p.place.offset) (some-is _ _ (sym (pdu-kept d es j y.0 y.1) ∙ st.1.1.1.0)) ∙ st.1.1.1.1 in
-        let there = header-kept d es j y.0 y.1 in
-        let turn_is = turn-after-there its d j (header_of y.0.1) s_dir st.1.0 there in
-        let no_partner : partner_of after d j (header_of y.0.1) ≡ None =
+        let y : Held = st.2 in
+        let there = header-kept d es j y st.3 in
+        let turn_is = turn-after-there its d j (header_of y.1) s_dir st.1 there in
+        let no_partner : partner_of after d j (header_of y.1) ≡ None =
         ap (option_and_then (λ t. index_at after (partner t))) turn_is
         ∙ index-others before new (record { series = r; rank = k0 }) (turn-not r k0 not-partner)
         ∙ none-beyond (is_of r.side r.seq) (headers_from r.dir before) k0 (omega (arith, more, rank)) in
-        let its_next : next_of after d j (header_of y.0.1) ≡ Some last =
+        let its_next : next_of after d j (header_of y.1) ≡ Some last =
         ap (option_and_then (λ t. index_at after (later t))) turn_is
         ∙ ap (λ n. index_at after (record { series = s; rank = n })) rank ∙ index-next before new turn next-is in
-        let linked_last : HasLink d j (linked_to (Before e.0) y.0) =
+        let linked_last : HasLink d j (linked_to (Before e.0) y) =
         sym ((λ i. link_by (offset_at after (opposite d) (no_partner i)) (offset_at after d (its_next i))) ∙ ap (link_by None) (offset-last before new)) in
         let waits : WaitsFor after x (Some (record { side = w.side; first = w.first; last = e.0 })) =
         turned after s r (series_in x w.side) (series_in x (other_side w.side)) w.first e.0 (sym back.0) (sym back.1) (record {
@@ -435,16 +429,16 @@ module _ (m : Waits) (es : Entries) (d : Dir) (e : Held) (h : Holds m es) (next 
           first_at = ap (rank_offset after s) same-other ∙ own-stays (count_in before r) more ∙ a.first_at;
           last_at = λ k is. let one : k ≡ count_in before s = omega (arith, is, more-own) in ap (rank_offset after s) one ∙ own-offset;
         }) in (
-          subst (IsIn k) (sym (ap (λ o. joined d new.place (Some o) e.1 es) (sym at_last)
-              ∙ joined-before d e es j y.0 (ap partner_in alone) (entries-ascend es d h.in_order) y.1))
-              (in-with k (set_in d j (linked_to (Before e.0) y.0) es) (set_in-session d j (linked_to (Before e.0) y.0) es)
-              (linked-pdus d j (Before e.0) y.0 es y.1)
+          subst (IsIn k) (sym (ap (λ o. joined d new.place (Some o) e.1 es) (sym st.4)
+              ∙ joined-before d e es j y (ap partner_in alone) (entries-ascend es d h.in_order) st.3))
+              (in-with k (set_in d j (linked_to (Before e.0) y) es) (set_in-session d j (linked_to (Before e.0) y) es)
+              (linked-pdus d j (Before e.0) y es st.3)
               (own-link (alone ∙ ap (λ o. link_by (offset_at before (opposite d) o) None) (sym no_met)))
-              (λ f i z at. linked-get d j (linked_to (Before e.0) y.0) es f i z at
+              (λ f i z at. linked-get d j (linked_to (Before e.0) y) es f i z at
               (λ apart old. kept-link f i z old (λ dir same. never met i no_met (sym same))
               (λ dir k rank' its_there none.
               let one : k ≡ k0 = omega (arith, rank, rank') in
-              apart dir (some-is i j (sym its_there ∙ ap (λ n. index_at before (record { series = s; rank = n })) one ∙ st.1.0))))
+              apart dir (some-is i j (sym its_there ∙ ap (λ n. index_at before (record { series = s; rank = n })) one ∙ st.1))))
               (λ dir here is_linked. subst (λ (f' : Dir). HasLink f' i z) (sym dir) (subst (λ (k : ℕ). HasLink d k z) (sym here)
               (subst (HasLink d j) (sym is_linked) linked_last))))
               (replaced k (Some (record { side = w.side; first = w.first; last = e.0 })) waits put)),
@@ -499,33 +493,31 @@ module _ (m : Waits) (es : Entries) (d : Dir) (e : Held) (h : Holds m es) (next 
         let more = a.more in
         let r_dir : r.dir ≡ opposite d = ap opposite s_dir in
         let at_met : offset_at before (opposite d) met ≡ Some w.first = ap (λ (f : Dir). offset_at before f met) (sym r_dir) ∙ a.first_at in
-        let st = stands-there before (opposite d) met w.first at_met in
+        let st = entry-there es (opposite d) met w.first at_met in
         let j = st.0 in
-        let y = entry-at (opposite d) es j st.1.1.0 st.1.1.1.0 in
-        let at_first : y.0.0 ≡ w.first =
-        ap (λ (p : PlacedHeader). p.place.offset) (some-is _ _ (sym (pdu-kept (opposite d) es j y.0 y.1) ∙ st.1.1.1.0)) ∙ st.1.1.1.1 in
-        let there = header-kept (opposite d) es j y.0 y.1 in
+        let y : Held = st.2 in
+        let there = header-kept (opposite d) es j y st.3 in
         let ascend = entries-ascend es (opposite d) h.in_order in
-        let turn_is = turn-there before (partner turn) (opposite d) j (header_of y.0.1) r_dir st.1.0 there in
+        let turn_is = turn-there before (partner turn) (opposite d) j (header_of y.1) r_dir st.1 there in
         let its_next : next_kept (dir_of w.side x.dir) w.first es ≡ rank_offset before r (count_in before s + 1) =
         ap (λ (f : Dir). next_kept f w.first es) (ap (λ (t : Series). t.dir) back.0 ∙ r_dir)
-        ∙ ap (λ n. option_and_then (λ z. next_in z.link) (held_at n (entries_from (opposite d) es))) (sym at_first)
-        ∙ ap (option_and_then (λ z. next_in z.link)) (found-kept (entries_from (opposite d) es) j y.0 ascend y.1)
-        ∙ ap next_in (h.links (opposite d) j y.0 y.1)
+        ∙ ap (λ n. option_and_then (λ z. next_in z.link) (held_at n (entries_from (opposite d) es))) (sym st.4)
+        ∙ ap (option_and_then (λ z. next_in z.link)) (found-kept (entries_from (opposite d) es) j y ascend st.3)
+        ∙ ap next_in (h.links (opposite d) j y st.3)
         ∙ next-by _ _ (ap (offset_at before (opposite (opposite d))) (ap (option_and_then (λ t. index_at before (partner t))) turn_is
         ∙ ap (index_at before) (partner-back turn) ∙ index-free before new turn next-is))
         ∙ ap (offset_at before (opposite d)) (ap (option_and_then (λ t. index_at before (later t))) turn_is)
         ∙ ap (λ (f : Dir). offset_at before f (index_at before (record { series = r; rank = count_in before s + 1 }))) (sym r_dir) in
-        let linked_first : HasLink (opposite d) j (linked_to (Partner e.0) y.0) =
-        sym (ap (λ o. link_by o (offset_at after (opposite d) (next_of after (opposite d) j (header_of y.0.1))))
-        (ap (offset_at after (opposite (opposite d))) (partner-linked before new turn j (header_of y.0.1) next-is st.1.0 there)
+        let linked_first : HasLink (opposite d) j (linked_to (Partner e.0) y) =
+        sym (ap (λ o. link_by o (offset_at after (opposite d) (next_of after (opposite d) j (header_of y.1))))
+        (ap (offset_at after (opposite (opposite d))) (partner-linked before new turn j (header_of y.1) next-is st.1 there)
         ∙ ap (λ (f : Dir). offset_at after f (Some last)) (opposite-back d) ∙ offset-last before new)) in (
-          subst (IsIn k) (sym (joined-linked d e es j y.0 (ap partner_in link ∙ ap Some (sym at_first)) ascend y.1))
-              (in-with k (set_in (opposite d) j (linked_to (Partner e.0) y.0) es) (set_in-session (opposite d) j (linked_to (Partner e.0) y.0) es)
-              (linked-pdus (opposite d) j (Partner e.0) y.0 es y.1)
+          subst (IsIn k) (sym (joined-linked d e es j y (ap partner_in link ∙ ap Some (sym st.4)) ascend st.3))
+              (in-with k (set_in (opposite d) j (linked_to (Partner e.0) y) es) (set_in-session (opposite d) j (linked_to (Partner e.0) y) es)
+              (linked-pdus (opposite d) j (Partner e.0) y es st.3)
               (own-link (link ∙ ap (λ o. link_by o None) (sym at_met)))
-              (λ f i z at. linked-get (opposite d) j (linked_to (Partner e.0) y.0) es f i z at
-              (λ apart old. kept-link f i z old (λ dir same. apart dir (some-is i j (same ∙ st.1.0)))
+              (λ f i z at. linked-get (opposite d) j (linked_to (Partner e.0) y) es f i z at
+              (λ apart old. kept-link f i z old (λ dir same. apart dir (some-is i j (same ∙ st.1)))
               (λ dir k rank its_there none. has-partner k (omega (arith, rank, more)) none))
               (λ dir here is_linked. subst (λ (f' : Dir). HasLink f' i z) (sym dir) (subst (λ (k : ℕ). HasLink (opposite d) k z) (sym here)
               (subst (HasLink (opposite d) j) (sym is_linked) linked_first))))
