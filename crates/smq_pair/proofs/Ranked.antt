@@ -1,21 +1,21 @@
 -- The pairs that are found are those by rank, each at both of its places.
 use Rattle.std.proofs.Common.{◌≡◌, ℕ, inl, inr, Bool, true, false, cond, List, Option, Some, None, refl, sym, ap, ◌∙◌, subst}
-use Rattle.std.specs.Prelude.{◌==◌, option_map, slice_get}
-use Rattle.std.proofs.lemmas.Bool.{and_from, and_parts, eq-eqb, eqb-true}
-use Rattle.std.proofs.lemmas.Option.{slice_get-map}
+use Rattle.std.specs.Prelude.{option_and_then, option_map, slice_get}
+use Rattle.std.proofs.lemmas.Bool.{and_parts}
+use Rattle.std.proofs.lemmas.Option.{option_and_then_some, slice_get-map}
 use Rattle.smq_kit.specs.declared.place.Dir.{Dir}
 use Rattle.smq_kit.specs.declared.place.Place.{Place}
 use Rattle.smq_pdu.specs.Header.{Header}
-use Rattle.smq_pdu.specs.Pairing.{IsPair, is_request, is_response, is_request_of, nth_index, request_rank, response_rank}
-use Rattle.smq_pdu.proofs.Pairs.{stands, found, finds_pairs, finds_each}
+use Rattle.smq_pdu.specs.Pairing.{IsPair, is_request, is_response, is_request_of, response_rank}
+use Rattle.smq_pdu.proofs.Pairs.{stands, finds_pairs, finds_each}
 use Rattle.smq_pair.specs.declared.entry.Side.TheVariants.{Request, Response}
 use Rattle.smq_pair.specs.declared.pairing.Pair.{Pair}
 use Rattle.smq_pair.specs.Pairing.{PlacedHeader, PairingValue, pdus_from, opposite, headers, pair_of, pair_at}
 use Rattle.smq_pair.specs.Growth.{AreInOrder}
 use Rattle.smq_pair.specs.Laws.{IsPairByRank, IsFoundByRank, FindsPairs, FindsEachPair, HasTwoPlaces}
-use Rattle.smq_pair.specs.within.Turns.{headers_from, partner_of}
+use Rattle.smq_pair.specs.within.Turns.{headers_from, index_at, partner, partner_of, turn_of}
 use Rattle.smq_pair.proofs.Lists.{some-is, never, one_of}
-use Rattle.smq_pair.proofs.Turned.{opposite-back, not-request, side-request, side-response}
+use Rattle.smq_pair.proofs.Turned.{opposite-back, not-request, partner-back, side-request, side-response, turn-found, turn-there}
 use Rattle.smq_pair.proofs.Standing.{there-or-not, partner-side, partner-neither, pair_with, pair_either, pair-here, pair-nowhere}
 
 -- ---- partners by rank
@@ -23,35 +23,34 @@ use Rattle.smq_pair.proofs.Standing.{there-or-not, partner-side, partner-neither
 pub header-at : (ps : List PlacedHeader) (i : ℕ) (p : PlacedHeader) → slice_get ps i ≡ Some p → slice_get (headers ps) i ≡ Some p.header
 header-at ps i p at = slice_get-map (λ (p : PlacedHeader). p.header) ps i ∙ ap (option_map (λ (p : PlacedHeader). p.header)) at
 
+-- what is the partner of a header has it for its own
+linked-back : (v : PairingValue) (d : Dir) (i j : ℕ) (h k : Header) → slice_get (headers_from d v) i ≡ Some h → slice_get (headers_from (opposite d) v) j ≡ Some k
+    → partner_of v d i h ≡ Some j → partner_of v (opposite d) j k ≡ Some i
+linked-back v d i j h k at there e = option_and_then_some (λ t. index_at v (partner t)) (turn_of v d i h) j e (λ t is met.
+    let its = turn-found v d i h t at is in
+    ap (option_and_then (λ t. index_at v (partner t))) (turn-there v (partner t) (opposite d) j k (ap opposite its.0) met there)
+    ∙ ap (index_at v) (partner-back t) ∙ its.1)
+
 -- ---- each pair by rank is found
 
 module _ (v : PairingValue) (d : Dir) (i j : ℕ) (request response : PlacedHeader) (o : AreInOrder v)
     (by : IsPairByRank v d i j request response) where
+  partner-is : partner_of v d i request.header ≡ Some j
+  partner-is =
+      partner-side v d i request.header Request (side-request request.header by.by_rank.is_request)
+      ∙ finds_each (headers_from d v) (headers_from (opposite d) v) i j request.header response.header by.by_rank
+
   at-request : pair_at v request.place ≡ Some (pair_of request response)
   at-request =
       pair-here v d i request o by.request_at
-      ∙ ap (pair_with v d request) (partner-side v d i request.header Request (side-request request.header by.by_rank.is_request)
-      ∙ finds_each (headers_from d v) (headers_from (opposite d) v) i j request.header response.header by.by_rank)
+      ∙ ap (pair_with v d request) partner-is
       ∙ ap (option_map (pair_either request)) by.response_at
       ∙ ap (λ b. Some (cond b (pair_of request response) (pair_of response request))) by.by_rank.is_request
-
-  request_found : nth_index (is_request_of response.header.seq) (headers_from d v)
-      (response_rank (headers_from (opposite d) v) j response.header.seq) ≡ Some i
-  request_found =
-      let same : request.header.seq ≡ response.header.seq = by.by_rank.seq in
-      ap (λ n. nth_index (is_request_of response.header.seq) (headers_from d v) n) (sym by.by_rank.rank)
-      ∙ ap (λ n. nth_index (is_request_of n) (headers_from d v) (request_rank (headers_from d v) i request.header.seq)) (sym same)
-      ∙ found (is_request_of request.header.seq) (headers_from d v) i request.header
-      by.by_rank.request_at (and_from _ _ by.by_rank.is_request (eq-eqb _ _ refl))
 
   at-response : pair_at v response.place ≡ Some (pair_of request response)
   at-response =
       pair-here v (opposite d) j response o by.response_at
-      ∙ ap (pair_with v (opposite d) response) (
-      partner-side v (opposite d) j response.header Response (side-response response.header by.by_rank.is_response)
-      ∙ ap (λ (d' : Dir). nth_index (is_request_of response.header.seq) (headers_from d' v)
-      (response_rank (headers_from (opposite d) v) j response.header.seq)) (opposite-back d)
-      ∙ request_found)
+      ∙ ap (pair_with v (opposite d) response) (linked-back v d i j request.header response.header by.by_rank.request_at by.by_rank.response_at partner-is)
       ∙ ap (λ (d' : Dir). option_map (pair_either response) (slice_get (pdus_from d' v) i)) (opposite-back d)
       ∙ ap (option_map (pair_either response)) by.request_at
       ∙ ap (λ b. Some (cond b (pair_of response request) (pair_of request response))) (not-request response.header by.by_rank.is_response)
@@ -61,49 +60,32 @@ finds-each-pair v d i j request response o by = (at-request v d i j request resp
 
 -- ---- what is found is a pair by rank
 
-module _ (v : PairingValue) (d : Dir) (i : ℕ) (p : PlacedHeader) (at : slice_get (pdus_from d v) i ≡ Some p) where
-  -- the PDU is the request
-  of-request : (j : ℕ) (r : PlacedHeader) → is_request p.header ≡ true → partner_of v d i p.header ≡ Some j
-      → slice_get (pdus_from (opposite d) v) j ≡ Some r → IsPairByRank v d i j p r
-  of-request j r e is there =
-      let pair = finds_pairs (headers_from d v) (headers_from (opposite d) v) i j p.header (header-at (pdus_from d v) i p at) e
-      (sym (partner-side v d i p.header Request (side-request p.header e)) ∙ is) in
-      let same : pair.0 ≡ r.header = one_of (slice_get (headers_from (opposite d) v) j) pair.0 r.header (pair.1).response_at
-      (header-at (pdus_from (opposite d) v) j r there) in
-      record {
-        request_at = at;
-        response_at = there;
-        by_rank =
-            subst (λ (h : Header). IsPair (headers_from d v) (headers_from (opposite d) v) i j p.header h) same pair.1;
-      }
+-- the PDU is the request
+of-request : (v : PairingValue) (d : Dir) (i j : ℕ) (p r : PlacedHeader) → slice_get (pdus_from d v) i ≡ Some p → is_request p.header ≡ true
+    → partner_of v d i p.header ≡ Some j → slice_get (pdus_from (opposite d) v) j ≡ Some r → IsPairByRank v d i j p r
+of-request v d i j p r at e is there =
+    let pair = finds_pairs (headers_from d v) (headers_from (opposite d) v) i j p.header (header-at (pdus_from d v) i p at) e
+    (sym (partner-side v d i p.header Request (side-request p.header e)) ∙ is) in
+    let same : pair.0 ≡ r.header = one_of (slice_get (headers_from (opposite d) v) j) pair.0 r.header (pair.1).response_at
+    (header-at (pdus_from (opposite d) v) j r there) in
+    record {
+      request_at = at;
+      response_at = there;
+      by_rank =
+          subst (λ (h : Header). IsPair (headers_from d v) (headers_from (opposite d) v) i j p.header h) same pair.1;
+    }
 
+module _ (v : PairingValue) (d : Dir) (i : ℕ) (p : PlacedHeader) (at : slice_get (pdus_from d v) i ≡ Some p) where
   -- the PDU is the response
   of-response : (j : ℕ) (r : PlacedHeader) → is_response p.header ≡ true → partner_of v d i p.header ≡ Some j
       → slice_get (pdus_from (opposite d) v) j ≡ Some r → IsPairByRank v (opposite d) j i r p
   of-response j r e is there =
       let s = stands (is_request_of p.header.seq) (headers_from (opposite d) v) (response_rank (headers_from d v) i p.header.seq) j
       (sym (partner-side v d i p.header Response (side-response p.header e)) ∙ is) in
-      let same : s.element ≡ r.header = one_of (slice_get (headers_from (opposite d) v) j) s.element r.header s.there
-      (header-at (pdus_from (opposite d) v) j r there) in
-      let passes : is_request_of p.header.seq r.header ≡ true = ap (is_request_of p.header.seq) (sym same) ∙ s.passes in
-      let both = and_parts (is_request r.header) (r.header.seq == p.header.seq) passes in
-      let seq : r.header.seq ≡ p.header.seq = eqb-true r.header.seq p.header.seq both.1 in
-      let back : slice_get (pdus_from (opposite (opposite d)) v) i ≡ Some p =
-      ap (λ (d' : Dir). slice_get (pdus_from d' v) i) (opposite-back d) ∙ at in
-      record {
-        request_at = there;
-        response_at = back;
-        by_rank = record {
-          request_at = header-at (pdus_from (opposite d) v) j r there;
-          response_at = header-at (pdus_from (opposite (opposite d)) v) i p back;
-          is_request = both.0;
-          is_response = e;
-          seq = seq;
-          rank =
-              ap (λ n. request_rank (headers_from (opposite d) v) j n) seq ∙ s.before
-              ∙ ap (λ (d' : Dir). response_rank (headers_from d' v) i p.header.seq) (sym (opposite-back d));
-        };
-      }
+      let header = header-at (pdus_from (opposite d) v) j r there in
+      let same : s.element ≡ r.header = one_of (slice_get (headers_from (opposite d) v) j) s.element r.header s.there header in
+      of-request v (opposite d) j i r p there (ap is_request (sym same) ∙ (and_parts (is_request s.element) _ s.passes).0)
+      (linked-back v d i j p.header r.header (header-at (pdus_from d v) i p at) header is) (ap (λ (d' : Dir). slice_get (pdus_from d' v) i) (opposite-back d) ∙ at)
 
   by_partner : (pair : Pair) (a b : Bool) → is_request p.header ≡ a → is_response p.header ≡ b → (q : Option ℕ)
       → partner_of v d i p.header ≡ q → pair_with v d p q ≡ Some pair → IsFoundByRank v p.place pair
@@ -120,7 +102,7 @@ module _ (v : PairingValue) (d : Dir) (i : ℕ) (p : PlacedHeader) (at : slice_g
         j = j;
         request = p;
         response = r;
-        by_rank = of-request j r e is there;
+        by_rank = of-request v d i j p r at e is there;
         is = sym (some-is (pair_either p r) pair h) ∙ ap (λ b. cond b (pair_of p r) (pair_of r p)) e;
         place = inl refl;
       }
