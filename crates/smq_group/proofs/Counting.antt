@@ -5,8 +5,8 @@ use Rattle.std.specs.Option.{option_or}
 use Rattle.std.specs.List.Sorted.{IsStrictlySortedBy}
 use Rattle.std.specs.Map.{keys_of, lookup, remove_entry}
 use Rattle.std.specs.BTreeMap.{is_at, insert_entry}
-use Rattle.std.specs.FinMap.{from_entries, get, get-from_entries}
-use Rattle.std.proofs.lemmas.Bool.{eqb-true, eqb-false, false≢true}
+use Rattle.std.specs.FinMap.{from_entries, get, get-from_entries, insert}
+use Rattle.std.proofs.lemmas.Bool.{cond_both, eqb-true, eqb-false, false≢true, false_from_ne_true}
 use Rattle.smq_kit.specs.declared.place.Place.{Place}
 use Rattle.smq_kit.specs.declared.link_key.LinkKey.{LinkKey}
 use Rattle.smq_kit.specs.Maps.{number_of}
@@ -50,33 +50,29 @@ module _ (key : LinkKey) (place : Place) (v : Bool) where
   of_its_key : (m : Member) → sought m ≡ true → same_key key m.key ≡ true
   of_its_key m t = ap (λ (k : Member). same_key key k.key) (sym (is_sought m t)) ∙ own_key key
 
+  past : (e : Member × Bool) (es : List (Member × Bool)) → same_key key e.0.key ≡ false → lookup sought (e ∷ es) ≡ Some v → lookup sought es ≡ Some v
+  past e es s there =
+      let other : sought e.0 ≡ false = false_from_ne_true (sought e.0) (λ t. false≢true (sym s ∙ of_its_key e.0 t)) in
+      sym (ap (λ b. cond b (Some e.1) (lookup sought es)) other) ∙ there
+
   held : (es : List (Member × Bool)) → lookup sought es ≡ Some v → 1 ≤ length (members_in key es)
   held [] there = absurd cc
-  held (e ∷ es) there = step (sought e.0) (same_key key e.0.key) refl refl there (held es)
-    where
-      step : (a b : Bool) → sought e.0 ≡ a → same_key key e.0.key ≡ b → cond a (Some e.1) (lookup sought es) ≡ Some v
-          → (lookup sought es ≡ Some v → 1 ≤ length (members_in key es)) → 1 ≤ length (map placed (cond b (e ∷ filter (of_key key) es) (filter (of_key key) es)))
-      step a true t s h rest = omega arith
-      step true false t s h rest = absurd (false≢true (sym s ∙ of_its_key e.0 t))
-      step false false t s h rest = rest h
+  held (e ∷ es) there = cond_both (same_key key e.0.key) (e ∷ filter (of_key key) es) (filter (of_key key) es) (λ xs. 1 ≤ length (map placed xs))
+      (λ _. omega arith) (λ s. held es (past e es s there))
 
   -- a member that is there, of a key that has one alone, is that one
   pub only : (es : List (Member × Bool)) → lookup sought es ≡ Some v → length (members_in key es) ≡ 1 → members_in key es ≡ (place, v) ∷ []
   only [] there one = absurd cc
-  only (e ∷ es) there one = step (sought e.0) (same_key key e.0.key) refl refl there one (only es)
-    where
-      step : (a b : Bool) → sought e.0 ≡ a → same_key key e.0.key ≡ b → cond a (Some e.1) (lookup sought es) ≡ Some v
-          → length (map placed (cond b (e ∷ filter (of_key key) es) (filter (of_key key) es))) ≡ 1
-          → (lookup sought es ≡ Some v → length (members_in key es) ≡ 1 → members_in key es ≡ (place, v) ∷ [])
-          → map placed (cond b (e ∷ filter (of_key key) es) (filter (of_key key) es)) ≡ (place, v) ∷ []
-      step true true t s h n rest =
-          let at : e.0.place ≡ place = ap (λ (k : Member). k.place) (sym (is_sought e.0 t)) in
-          let value : e.1 ≡ v = cc in
-          let none : members_in key es ≡ [] = none_of (members_in key es) (omega (arith, n)) in
-          λ i. (at i, value i) ∷ none i
-      step true false t s h n rest = absurd (false≢true (sym s ∙ of_its_key e.0 t))
-      step false true t s h n rest = let some = held es h in absurd (omega (arith, n, some))
-      step false false t s h n rest = rest h n
+  only (e ∷ es) there one =
+      cond_both (same_key key e.0.key) (e ∷ filter (of_key key) es) (filter (of_key key) es) (λ xs. length (map placed xs) ≡ 1 → map placed xs ≡ (place, v) ∷ [])
+      (λ _ n. cond_both (sought e.0) (Some e.1) (lookup sought es) (λ o. o ≡ Some v → (e.0.place, e.1) ∷ members_in key es ≡ (place, v) ∷ [])
+      (λ t is.
+      let at : e.0.place ≡ place = ap (λ (k : Member). k.place) (sym (is_sought e.0 t)) in
+      let value : e.1 ≡ v = cc in
+      let none : members_in key es ≡ [] = none_of (members_in key es) (omega (arith, n)) in
+      λ i. (at i, value i) ∷ none i)
+      (λ _ is. let some = held es is in absurd (omega (arith, n, some))) there)
+      (λ s. only es (past e es s there)) one
 
 -- ---- the place of the only one
 
@@ -138,17 +134,14 @@ module _ {V W : Type 0} (value : LinkKey → V → W) (key : LinkKey) (test : W 
 
   number-listed : (es : List (Member × V)) → StandsOnce value es → number_in es ≡ length (members_in key es)
   number-listed [] once = ap (λ (es : List (Place × W)). count_by test (map (λ e. e.1) es)) empty_entries
-  number-listed (e ∷ es) once = step (same_key key e.0.key) refl (number-listed es once.1)
-    where
-      step : (b : Bool) → same_key key e.0.key ≡ b → number_in es ≡ length (members_in key es) → number_in (e ∷ es) ≡ length (map placed (cond b (e ∷ filter (of_key key) es) (filter (of_key key) es)))
-      step b t rest =
-          let is = ap (number_of test) (from-cons (by_place value e) (map (by_place value) es)) in
-          let more = number-more test (from_entries (map (by_place value) es)) (value e.0.key e.1) e.0.place b (get-from_entries places_total (map (by_place value) es) e.0.place ∙ once.0) (keyed e.0.key e.1 ∙ t) in
-          is ∙ more ∙ last b
-        where
-          last : (b : Bool) → number_in es + cond b 1 0 ≡ length (map placed (cond b (e ∷ filter (of_key key) es) (filter (of_key key) es)))
-          last true = omega (arith, rest)
-          last false = omega (arith, rest)
+  number-listed (e ∷ es) once =
+      let rest = number-listed es once.1 in
+      let more = λ (b : Bool) (t : same_key key e.0.key ≡ b).
+      number-more test (from_entries (map (by_place value) es)) (value e.0.key e.1) e.0.place b (get-from_entries places_total (map (by_place value) es) e.0.place ∙ once.0) (keyed e.0.key e.1 ∙ t) in
+      ap (number_of test) (from-cons (by_place value e) (map (by_place value) es))
+      ∙ cond_both (same_key key e.0.key) (e ∷ filter (of_key key) es) (filter (of_key key) es)
+      (λ xs. number_of {R = place_cmp} test (insert (from_entries (map (by_place value) es)) e.0.place (value e.0.key e.1)) ≡ length (map placed xs))
+      (λ t. let n = more true t in omega (arith, n, rest)) (λ t. let n = more false t in omega (arith, n, rest))
 
 submits-listed : (key : LinkKey) (s : List (Member × Bool)) → StandsOnce submit_value s → number_of (same_key key) (from_entries {R = place_cmp} (map (by_place submit_value) s)) ≡ length (members_in key s)
 submits-listed key = number-listed submit_value key (same_key key) (λ k v. refl)
