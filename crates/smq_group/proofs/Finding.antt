@@ -78,10 +78,8 @@ member_at key place = record { key = key; place = place }
 -- each member of a link is at or above the link's least
 link_first : (link : LinkId) (m : Member) → (m.key.link.0 == link.0) ≡ true → is_le (kept_member_cmp (member_at (record { link = link; key = Number 0 }) least_place) m) ≡ true
 link_first link m on =
-    then_le (ordering_then (nat_cmp link.0 m.key.link.0) (ordering_then (nat_cmp 0 (hash_of m.key.key)) ((key_ord.ghosts).cmp (Number 0) m.key.key))) (kept_place_cmp least_place m.place)
-    (then_le (nat_cmp link.0 m.key.link.0) (ordering_then (nat_cmp 0 (hash_of m.key.key)) ((key_ord.ghosts).cmp (Number 0) m.key.key))
-    (ap is_le (sym (nat_cmp_is link.0 m.key.link.0 Equal (sym (eqb-true m.key.link.0 link.0 on)))))
-    (then_le (nat_cmp 0 (hash_of m.key.key)) ((key_ord.ghosts).cmp (Number 0) m.key.key) (le_zero (hash_of m.key.key)) (key_least m.key.key)))
+    then_le _ _ (then_le _ _ (ap is_le (sym (nat_cmp_is link.0 m.key.link.0 Equal (sym (eqb-true m.key.link.0 link.0 on)))))
+    (then_le _ _ (le_zero (hash_of m.key.key)) (key_least m.key.key)))
     (least-kept m.place)
 
 module _ (key : LinkKey) where

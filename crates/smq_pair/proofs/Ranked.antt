@@ -87,16 +87,14 @@ module _ (v : PairingValue) (d : Dir) (i : ℕ) (p : PlacedHeader) (at : slice_g
       of-request v (opposite d) j i r p there (ap is_request (sym same) ∙ (and_parts (is_request s.element) _ s.passes).0)
       (linked-back v d i j p.header r.header (header-at (pdus_from d v) i p at) header is) (ap (λ (d' : Dir). slice_get (pdus_from d' v) i) (opposite-back d) ∙ at)
 
-  by_partner : (pair : Pair) (a b : Bool) → is_request p.header ≡ a → is_response p.header ≡ b → (q : Option ℕ)
-      → partner_of v d i p.header ≡ q → pair_with v d p q ≡ Some pair → IsFoundByRank v p.place pair
-  by_partner pair a b e f None is h = absurd cc
-  by_partner pair a b e f (Some j) is h = by_other (slice_get (pdus_from (opposite d) v) j) refl a b e f h
+  found-by-rank : (pair : Pair) → AreInOrder v → pair_at v p.place ≡ Some pair → IsFoundByRank v p.place pair
+  found-by-rank pair o e = option_and_then_some (λ j. option_map (pair_either p) (slice_get (pdus_from (opposite d) v) j)) (partner_of v d i p.header) pair
+      (sym (pair-here v d i p o at) ∙ e) (λ j is h. by_other j is (slice_get (pdus_from (opposite d) v) j) refl (is_request p.header) (is_response p.header) refl refl h)
     where
-      by_other : (x : Option PlacedHeader) → slice_get (pdus_from (opposite d) v) j ≡ x → (a b : Bool) → is_request p.header ≡ a
-          → is_response p.header ≡ b
-          → option_map (pair_either p) x ≡ Some pair → IsFoundByRank v p.place pair
-      by_other None there a b e f h = absurd cc
-      by_other (Some r) there true b e f h = record {
+      by_other : (j : ℕ) → partner_of v d i p.header ≡ Some j → (x : Option PlacedHeader) → slice_get (pdus_from (opposite d) v) j ≡ x
+          → (a b : Bool) → is_request p.header ≡ a → is_response p.header ≡ b → option_map (pair_either p) x ≡ Some pair → IsFoundByRank v p.place pair
+      by_other j is None there a b e f h = absurd cc
+      by_other j is (Some r) there true b e f h = record {
         dir = d;
         i = i;
         j = j;
@@ -106,7 +104,7 @@ module _ (v : PairingValue) (d : Dir) (i : ℕ) (p : PlacedHeader) (at : slice_g
         is = sym (some-is (pair_either p r) pair h) ∙ ap (λ b. cond b (pair_of p r) (pair_of r p)) e;
         place = inl refl;
       }
-      by_other (Some r) there false true e f h = record {
+      by_other j is (Some r) there false true e f h = record {
         dir = opposite d;
         i = j;
         j = i;
@@ -116,11 +114,7 @@ module _ (v : PairingValue) (d : Dir) (i : ℕ) (p : PlacedHeader) (at : slice_g
         is = sym (some-is (pair_either p r) pair h) ∙ ap (λ b. cond b (pair_of p r) (pair_of r p)) e;
         place = inr refl;
       }
-      by_other (Some r) there false false e f h = never (partner_of v d i p.header) j (partner-neither v d i p.header e f) is
-
-  pub found-by-rank : (pair : Pair) → AreInOrder v → pair_at v p.place ≡ Some pair → IsFoundByRank v p.place pair
-  found-by-rank pair o e =
-      by_partner pair (is_request p.header) (is_response p.header) refl refl (partner_of v d i p.header) refl (sym (pair-here v d i p o at) ∙ e)
+      by_other j is (Some r) there false false e f h = never (partner_of v d i p.header) j (partner-neither v d i p.header e f) is
 
 pub finds-pairs : FindsPairs
 finds-pairs v q pair o e = elim (there-or-not (pdus_from q.dir v) q) [

@@ -99,9 +99,6 @@ series-other s = λ i. record { seq = s.seq; dir = dir_of-other s.side s.dir i; 
 exchange-back : (x : Exchange) (side : Side) → exchange_of (series_in x side) ≡ x
 exchange-back x side = λ i. record { seq = x.seq; dir = dir_of-back side x.dir i }
 
-partner_series-back : (s : Series) → partner_series (partner_series s) ≡ s
-partner_series-back s = ap (λ (t : Turn). t.series) (partner-back (record { series = s; rank = 0 }))
-
 -- one side is the same as another, or is the other one
 sides : (a b : Side) (c : Bool) → is_same a b ≡ c → cond c (a ≡ b) (a ≡ other_side b)
 sides Request Request true e = refl
