@@ -1,6 +1,7 @@
 -- Entries whose offsets ascend: what is found at an offset, one more, and a log that takes changes back.
 use Rattle.std.proofs.Common.{◌≡◌, ◌≢◌, ℕ, zero, suc, ◌<◌, ◌≤◌, ◌⊎◌, inl, inr, true, false, cond, List, [], ◌∷◌, ◌++◌, length, get_or, take, Option, Some, None, refl, sym, ap, ◌∙◌, subst, arith, length-append}
 use Rattle.std.specs.Prelude.{nat_lt, slice_get, slice_set}
+use Rattle.std.proofs.Math.ListN.{get_or-map}
 use Rattle.std.proofs.lemmas.List.{length-set, take_all, take-append-le, take-set-le}
 use Rattle.std.proofs.lemmas.List.Elements.{All-push, All-set}
 use Rattle.std.proofs.lemmas.Option.{slice_get-get_or, slice_get_within, get_or_from_slice_get}
@@ -8,6 +9,7 @@ use Rattle.std.proofs.lemmas.Cmp.{eq_by_cmp_equiv, tied_itself, nat_cmp_total}
 use Rattle.std.proofs.lemmas.Map.Entries.{length-keys_of, lookup_at_gap, lookup_from_place, place_from_lookup}
 use Rattle.std.proofs.lemmas.Map.Keys.{IsDistinct-from_sorted, non_decreasing_from_sorted, sorted_head, sorted_tail}
 use Rattle.std.proofs.lemmas.Bool.Decides.{nat_tests}
+use Rattle.std.specs.declared.cmp.Ordering.{Ordering}
 use Rattle.std.specs.declared.cmp.Ordering.TheVariants.{Less, Greater}
 use Rattle.std.specs.Ordering.{match_ordering, nat_cmp, ordering_index, ordering_reverse}
 use Rattle.std.specs.Cmp.{nat_cmp_is}
@@ -35,11 +37,8 @@ linked_to link e = (e.0, record e.1 { link = link })
 pub above-head : (x : Held) (xs : List Held) (j : ℕ) (e : Held) → Ascend (x ∷ xs) → slice_get xs j ≡ Some e → nat_cmp x.0 e.0 ≡ Less
 above-head x xs j e s at = all-at (λ y. nat_cmp x.0 y ≡ Less) (λ (y : Held). y.0) xs j e (sorted_head nat_cmp x.0 (keys_of xs) s) at
 
-greater : (p q : ℕ) → nat_cmp p q ≡ Less → nat_cmp q p ≡ Greater
-greater p q h = nat_cmp_total.antisymm q p ∙ ap ordering_reverse h
-
-lesser : (p q : ℕ) → nat_cmp p q ≡ Greater → nat_cmp q p ≡ Less
-lesser p q h = nat_cmp_total.antisymm q p ∙ ap ordering_reverse h
+turned : (p q : ℕ) (r : Ordering) → nat_cmp p q ≡ r → nat_cmp q p ≡ ordering_reverse r
+turned p q r h = nat_cmp_total.antisymm q p ∙ ap ordering_reverse h
 
 -- the one at an index is found by its offset, and is set there
 pub found-kept : (es : List Held) (j : ℕ) (e : Held) → Ascend es → slice_get es j ≡ Some e → held_at e.0 es ≡ Some e.1
@@ -54,7 +53,7 @@ set-kept (x ∷ xs) zero e w s at =
     (ap (λ (y : Held). nat_cmp e.0 y.0) same ∙ tied_itself nat_cmp_total e.0)
     ∙ ap (λ (y : Held). (y.0, w) ∷ xs) same
 set-kept (x ∷ xs) (suc j) e w s at =
-    ap (λ r. match_ordering r ((e.0, w) ∷ x ∷ xs) ((x.0, w) ∷ xs) (x ∷ insert_entry nat_cmp xs e.0 w)) (greater x.0 e.0 (above-head x xs j e s at))
+    ap (λ r. match_ordering r ((e.0, w) ∷ x ∷ xs) ((x.0, w) ∷ xs) (x ∷ insert_entry nat_cmp xs e.0 w)) (turned x.0 e.0 Less (above-head x xs j e s at))
     ∙ ap (λ (ys : List Held). x ∷ ys) (set-kept xs j e w (sorted_tail nat_cmp x.0 (keys_of xs) s) at)
 
 -- what is found stands at an index, and where nothing is found nothing stands
@@ -75,11 +74,6 @@ linked-kept o l es j y some s at =
 
 -- ---- a search
 
-key-at : (es : List Held) (i : ℕ) (d : Held) → get_or (keys_of es) i d.0 ≡ (get_or es i d).0
-key-at [] i d = refl
-key-at (x ∷ xs) zero d = refl
-key-at (x ∷ xs) (suc i) d = key-at xs i d
-
 compared : (a b q : ℕ) → a ≤ b → ordering_index (nat_cmp a q) ≤ ordering_index (nat_cmp b q)
 compared a b q h = grind (arith, nat_tests)
 
@@ -87,7 +81,7 @@ rises : (es : List Held) (q : ℕ) → Ascend es → IsNonDecreasingBy (λ (e : 
 rises es q s i j d le lt =
     let keys : get_or (keys_of es) i d.0 ≤ get_or (keys_of es) j d.0 =
     non_decreasing_from_sorted (keys_of es) s i j d.0 le (subst (λ n. j < n) (sym (length-keys_of es)) lt) in
-    compared (get_or es i d).0 (get_or es j d).0 q (rw (← key-at es i d, ← key-at es j d) keys)
+    compared (get_or es i d).0 (get_or es j d).0 q (rw (← get_or-map (λ (e : Held). e.0) es i d, ← get_or-map (λ (e : Held). e.0) es j d) keys)
 
 -- what a search by offsets doesn't find is not there
 pub search-none : (es : List Held) (q i : ℕ) → Ascend es
@@ -96,8 +90,8 @@ pub search-none : (es : List Held) (q i : ℕ) → Ascend es
 search-none es q i s searched =
     let point = searched (rises es q s) in
     lookup_at_gap nat_cmp_total q es i s
-    (λ j e before at. greater e.0 q (ap (λ (x : Held). nat_cmp x.0 q) (sym (get_or_from_slice_get es j e e at)) ∙ point.0 j e (omega arith) before))
-    (λ e at. lesser e.0 q (ap (λ (x : Held). nat_cmp x.0 q) (sym (get_or_from_slice_get es i e e at))
+    (λ j e before at. turned e.0 q Less (ap (λ (x : Held). nat_cmp x.0 q) (sym (get_or_from_slice_get es j e e at)) ∙ point.0 j e (omega arith) before))
+    (λ e at. turned e.0 q Greater (ap (λ (x : Held). nat_cmp x.0 q) (sym (get_or_from_slice_get es i e e at))
     ∙ point.1 i e (omega arith) (slice_get_within es i e at)))
 
 -- An entry is at an offset, and at an index.

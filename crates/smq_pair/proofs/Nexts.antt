@@ -3,7 +3,7 @@ use Rattle.std.proofs.Common.{◌≡◌, ℕ, ◌+◌, ◌-◌, ◌<◌, true, f
 use Rattle.std.specs.Prelude.{◌==◌, ◌&&◌, nat_lt, map, slice_get}
 use Rattle.std.specs.List.{All, list_all}
 use Rattle.std.proofs.lemmas.List.{take_all, take_more}
-use Rattle.std.proofs.lemmas.List.Elements.{All-cons, All-nil}
+use Rattle.std.proofs.lemmas.List.Sums.{AllPass-from_list_all}
 use Rattle.std.proofs.lemmas.Option.{slice_get_within, get_or_from_slice_get}
 use Rattle.std.specs.declared.cmp.Ordering.TheVariants.{Less}
 use Rattle.std.specs.Ordering.{nat_cmp}
@@ -20,7 +20,7 @@ use Rattle.smq_pair.specs.Pairing.{PlacedHeader}
 use Rattle.smq_pair.specs.within.Stream.{Ascend, Held}
 use Rattle.smq_pair.specs.within.Kept.{Entries, are_below, are_of_session, entries_from, pdus_in, placed}
 use Rattle.smq_pair.proofs.Lists.{get-last}
-use Rattle.std.proofs.lemmas.Bool.{and_from, and_parts}
+use Rattle.std.proofs.lemmas.Bool.{and_from}
 use Rattle.smq_pair.proofs.Held.{above-head}
 use Rattle.smq_pair.proofs.Entries.{pdus-kept}
 
@@ -58,13 +58,9 @@ below-by-last es place b s at =
 -- and what is below it is so by its offset
 pub all-below : (es : Entries) (place : Place) (xs : List Held) → entries_from place.dir es ≡ xs → are_below place (pdus_in es) ≡ true
     → All (λ (e : Held). e.0 < place.offset) xs
-all-below es place xs is below = by_list xs (ap (list_all (λ (e : Held). nat_lt e.0 place.offset)) (sym is) ∙ sym (below-is es place) ∙ below)
-  where
-    by_list : (xs : List Held) → list_all (λ (e : Held). nat_lt e.0 place.offset) xs ≡ true → All (λ (e : Held). e.0 < place.offset) xs
-    by_list [] h = All-nil (λ (e : Held). e.0 < place.offset)
-    by_list (x ∷ xs) h =
-        let both = and_parts (nat_lt x.0 place.offset) _ h in
-        All-cons (λ (e : Held). e.0 < place.offset) x xs (let less = both.0 in grind (arith, nat_tests, less)) (by_list xs both.1)
+all-below es place xs is below = λ k d lt.
+    let t = AllPass-from_list_all (λ (e : Held). nat_lt e.0 place.offset) xs (ap (list_all (λ (e : Held). nat_lt e.0 place.offset)) (sym is) ∙ sym (below-is es place) ∙ below) k d lt in
+    grind (arith, nat_tests, t)
 
 all-said : (s t : SessionId) (d : Dir) (xs : List Held) → (s.0 == t.0) ≡ true
     → list_all (λ (p : PlacedHeader). p.place.session.0 == t.0) (map (placed s d) xs) ≡ true
