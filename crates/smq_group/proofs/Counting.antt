@@ -7,6 +7,7 @@ use Rattle.std.specs.Map.{keys_of, lookup, remove_entry}
 use Rattle.std.specs.BTreeMap.{is_at, insert_entry}
 use Rattle.std.specs.FinMap.{from_entries, get, get-from_entries, insert}
 use Rattle.std.proofs.lemmas.Bool.{cond_both, eqb-true, eqb-false, false≢true, false_from_ne_true}
+use Rattle.std.proofs.lemmas.List.{nil_from_length}
 use Rattle.smq_kit.specs.declared.place.Place.{Place}
 use Rattle.smq_kit.specs.declared.link_key.LinkKey.{LinkKey}
 use Rattle.smq_kit.specs.Maps.{number_of}
@@ -36,7 +37,7 @@ use Rattle.smq_group.proofs.Earliest.{own_key}
 use Rattle.smq_group.proofs.Placing.{members_total, not_none, once-insert, once-remove, sorted_none, sorted_one}
 use Rattle.smq_group.proofs.Storing.{absent, counted-less, counted-more, empty_entries, from-cons, number-more, received-more}
 use Rattle.smq_group.proofs.StoringReceipts.{has-less, has-more}
-use Rattle.smq_group.proofs.Walking.{members-fit, none_of}
+use Rattle.smq_group.proofs.Walking.{members-fit}
 
 -- ---- the only submit of a key
 
@@ -69,7 +70,7 @@ module _ (key : LinkKey) (place : Place) (v : Bool) where
       (λ t is.
       let at : e.0.place ≡ place = ap (λ (k : Member). k.place) (sym (is_sought e.0 t)) in
       let value : e.1 ≡ v = cc in
-      let none : members_in key es ≡ [] = none_of (members_in key es) (omega (arith, n)) in
+      let none : members_in key es ≡ [] = nil_from_length (members_in key es) (omega (arith, n)) in
       λ i. (at i, value i) ∷ none i)
       (λ _ is. let some = held es is in absurd (omega (arith, n, some))) there)
       (λ s. only es (past e es s there)) one

@@ -7,7 +7,7 @@ use Rattle.std.specs.List.{AllByRecursion}
 use Rattle.std.specs.List.Sorted.{IsStrictlySortedBy}
 use Rattle.std.specs.Map.{keys_of}
 use Rattle.std.proofs.lemmas.Bool.{cond_both}
-use Rattle.std.proofs.lemmas.List.{length-map}
+use Rattle.std.proofs.lemmas.List.{length-map, nil_from_length}
 use Rattle.std.proofs.lemmas.List.Kept.{IsStrictlySortedBy-filter}
 use Rattle.std.proofs.lemmas.List.Filters.{length-filter_both}
 use Rattle.std.proofs.lemmas.Map.Keys.{sorted_head, sorted_tail}
@@ -30,15 +30,10 @@ use Rattle.smq_group.specs.within.Walked.{is_like, of_key, of_part, placed, vaca
 use Rattle.smq_group.proofs.Finding.{kept_equal}
 use Rattle.smq_group.proofs.Placing.{members_total, sorted_none}
 
--- a list of no length has nothing
-pub none_of : {A : Type 0} (xs : List A) → length xs ≤ 0 → xs ≡ []
-none_of [] h = refl
-none_of (x ∷ xs) h = absurd (omega (arith, h))
-
 whole : {A : Type 0} (xs rest all : List A) → xs ++ rest ≡ all → length all ≤ length xs → xs ≡ all
 whole xs rest all e h =
     let l : length xs + length rest ≡ length all = sym (length-append xs rest) ∙ ap length e in
-    sym (append-nil xs) ∙ ap (λ ys. xs ++ ys) (sym (none_of rest (omega (arith, l, h)))) ∙ e
+    sym (append-nil xs) ∙ ap (λ ys. xs ++ ys) (sym (nil_from_length rest (omega (arith, l, h)))) ∙ e
 
 -- the places of a key, or of its link, are those of its members and those that are vacant
 module _ {V : Type 0} (by_link : Bool) (key : LinkKey) where

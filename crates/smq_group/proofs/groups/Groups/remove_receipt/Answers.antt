@@ -155,7 +155,6 @@ invariant_of-self-in-Err c =
 pub returns-in-Ok-clause-touches : goal.returns-in-Ok-clause-touches
 returns-in-Ok-clause-touches c =
     let key = c.key_of_link-key.result in
-    let said = c.in-Some.said in
     let was = counted-vacant (key_on c.args.link c.args.key.now) c.self.inside.submits.places c.self.inside.receipts.places c.self.inside.candidates.places in
     let emptied = member-put key (key_on c.args.link c.args.key.now) c.args.place None c.self.inside.receipts.places c.out_receipt.new.receipts.places (c.in_ok-out_receipt.ensures.places ∙ ap (λ ps. insert_entry kept_member_cmp ps (member_of key c.args.place) None) c.said_at-found.ensures.read.places) in
     let one = at_most_one (same_key (key_on c.args.link c.args.key.now) key) in
@@ -169,7 +168,6 @@ returns-in-Ok-clause-touches c =
 pub returns-in-Ok-clause-vacant : goal.returns-in-Ok-clause-vacant
 returns-in-Ok-clause-vacant c = λ k.
     let key = c.key_of_link-key.result in
-    let said = c.in-Some.said in
     let was = counted-vacant k c.self.inside.submits.places c.self.inside.receipts.places c.self.inside.candidates.places in
     let is = counted-vacant k c.tell_and_keep.new.submits.places c.tell_and_keep.new.receipts.places c.out_receipt.new.candidates.places in
     let emptied = member-put key k c.args.place None c.self.inside.receipts.places c.tell_and_keep.new.receipts.places
