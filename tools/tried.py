@@ -4,12 +4,13 @@ It has a line for each edit, with two sums. The first is of what the verdict res
 wrong_bodies.py; what rt version and HANDLES say; the function that it names, with its body and what is written of its proof; the
 bodies that it changes; what its proof reaches; and what `use` lines and attributes say of these names. The second is of that and of
 what is reached, without bodies, in the crates below. An edit of which no more can be told rests on all of its crate, and on all
-below but bodies. Comments count for nothing.
+below but bodies. Comments count for nothing, nor does in which module of its crate something stands.
 
 A line is written only by a run that saw the edit refused, where the sums were the same before and after; a line that doesn't fit
 counts for nothing. What no sum shows: lemmas that nothing names but `search` finds, and limits of time and memory.
 """
 import collections
+import functools
 import hashlib
 import os
 import re
@@ -21,6 +22,9 @@ from wrong_bodies import Crate, last_of, names_in, read_edits, text_of, write
 TRIED = "wrong-bodies.tried"
 # The lines of a file that say what its names mean.
 MEANS = re.compile(r"(?m)^(?:(?:pub(?:\([\w ]+\))? |ghost )*(?:use|unfolding)\b.*(?:\n[ })].*)*|#!\[.*)$")
+# The modules on the way to a name of a crate of the project, and to the function that an edit names.
+MODULES = re.compile(r"\b(crate|Rattle\.\w+)((?:(?:\.|::)[a-z]\w*)+)(?=\.|::)")
+PLACE = re.compile(r"(?m)^file: .*\n|(?<=^refuses: )(?:[a-z]\w*::)+")
 # Where what a verdict rests on has changed.
 CRATE, BELOW, NOWHERE = "crate", "below", ""
 
@@ -49,15 +53,18 @@ def own_texts(crate, edit, known):
     return found
 
 
-def brought_by(path):
+def brought_by(crate, path):
     """Yields what the `use` lines and attributes of a file bring, one by one, each with its names and with its signs where it has
-    no name."""
-    for line in MEANS.findall(text_of(path)):
-        head, _, names = re.sub(r"\s+", " ", line).partition("{")
+    no name; not what its crate brings under its own name, which is reached by that name."""
+    modules = [it.split("/")[1].removesuffix(".rt") for it in crate.lines] if path == "src/lib.rt" else []
+    own = re.compile(rf"(?:pub |ghost )*use (?:{'|'.join(['crate', rf'Rattle.{crate.name}', *modules])})\b")
+    for line in MEANS.findall(text_of(f"{crate.folder}/{path}")):
+        head, _, names = re.sub(r"\s+", " ", MODULES.sub(r"\1", line)).partition("{")
         parts = names.rpartition("}")[0].split(",") if names.count("{") == 0 else [names]
         for it in (it.strip() for it in parts if it.strip()) if names else [head]:
             said = names_in(it)
-            yield head + it if names else head, said, [] if said else [sign for sign in it.split("◌") if sign]
+            if not own.match(head) or " as " in it:
+                yield head + it if names else head, said, [] if said else [sign for sign in it.split("◌") if sign]
 
 
 def code_of(path):
@@ -69,47 +76,40 @@ class Sums:
     """The sums of edits of a repository, of the texts as they stand."""
 
     def __init__(self, root, crates):
-        self.root, self.crates, self.brought = root, crates, {}
+        self.root, self.crates = root, crates
+        self.brought = functools.cache(lambda name, path: [*brought_by(self.known[name], path)])
+        self.means, self.plain = functools.cache(self.means_of), functools.cache(without_places)
         told = subprocess.run(["rt", "version"], stdin=subprocess.DEVNULL, stdout=subprocess.PIPE, encoding="utf-8", check=True).stdout
         handles = text_of(f"{root}/HANDLES") if os.path.isfile(f"{root}/HANDLES") else ""
         self.version = told + code_of(wrong_bodies.__file__) + handles
         self.known = {name: Crate(f"{root}/crates/{name}") for name in crates}
 
-    def means(self, crate, path):
-        if (crate.name, path) not in self.brought:
-            self.brought[crate.name, path] = [*brought_by(f"{crate.folder}/{path}")]
-        return self.brought[crate.name, path]
-
     def rests_on(self, edit, crate, below):
-        """Returns the texts on which the verdict on an edit rests in its crate and those below, by crate and file."""
+        """Yields the files and texts on which the verdict on an edit rests in its crate and those below, crate by crate."""
         known = crate.functions.get(re.sub(r"\bfn::(\w+)::.*", r"\1", edit.function))
         if not known or edit.turned is None:
-            found = {(crate.name, path): said for path, said in whole(crate).items()}
-            return {**found, **{(it.name, path): said for it in below for path, said in without_bodies(it).items()}}
+            yield crate.name, [*whole(crate).items()]
+            yield from ((it.name, [*without_bodies(it).items()]) for it in below)
+            return
         reached = reach_of(edit.reach | {f"fn {last_of(known.name)}"}, [crate, *below])
-        rests = {}
         for it in (crate, *below):
-            found = collections.defaultdict(str, own_texts(crate, edit, known) if it is crate else {})
-            for name in sorted(reached & it.texts.keys()):
-                for path, said in it.texts[name].items():
-                    found[path] += said
-            for path in {"src/lib.rt", "src/main.rt"} & it.lines.keys():
-                found[path] += ""
-            for path, said in found.items():
-                rests[it.name, path] = "\n".join([*self.means_of(it, path, reached, said), said])
-        return rests
+            found = [(path, "") for path in ("src/lib.rt", "src/main.rt") if path in it.lines]
+            found += own_texts(crate, edit, known).items() if it is crate else []
+            found += [text for name in sorted(reached & it.texts.keys()) for text in it.texts[name].items()]
+            yield it.name, found + [(path, means) for path, text in found for means in self.means(it.name, path, text)]
 
-    def means_of(self, crate, path, reached, said):
-        """Returns what the `use` lines and attributes of a file bring of these names, and of the signs of a text."""
-        return [it for it, names, signs in self.means(crate, path)
-                if "#!" in it or names & reached or signs and all(sign in said for sign in signs)]
+    def means_of(self, name, path, text):
+        """Returns what the `use` lines and attributes of a file bring of the names and signs of a text."""
+        named = names_in(text)
+        return [it for it, names, signs in self.brought(name, path)
+                if "#!" in it or names & named or signs and all(sign in text for sign in signs)]
 
     def sum_of(self, edit, below, *more):
         """Returns the sum of an edit with its crate and those below."""
         crate = self.known[edit.label.split(" ")[0]]
-        text = text_of(f"{self.root}/crates/{edit.label.replace(' ', '/', 1)}")
-        rests = self.rests_on(edit, crate, [self.known[it] for it in below])
-        lines = [f"{' '.join(it)}\n{without_comments(rests[it])}" for it in sorted(rests)]
+        text = PLACE.sub("", text_of(f"{self.root}/crates/{edit.label.replace(' ', '/', 1)}"))
+        lines = [line for name, texts in self.rests_on(edit, crate, [self.known[it] for it in below])
+                 for line in [name, *sorted({self.plain(it) for _, it in texts})]]
         return hashlib.sha256("\0".join([self.version, *more, edit.label, text, *lines]).encode()).hexdigest()[:16]
 
     def of(self, edit):
@@ -140,8 +140,9 @@ def reach_of(names, crates):
     return reached
 
 
-def without_comments(text):
-    return re.sub(r"(?m)^ *(?:--|//).*\n?", "", text)
+def without_places(text):
+    """Returns a text without its comments, and without the modules on the way to names."""
+    return MODULES.sub(r"\1", re.sub(r"(?m)^ *(?:--|//).*\n?", "", text))
 
 
 def sums_of(root, crates, names):
