@@ -9,7 +9,7 @@ use Rattle.smq_kit.specs.declared.refusal.Refusal.TheVariants.{EmptyPiece, Backw
 use Rattle.smq_frame.specs.Framing.{rest_of, rest_within}
 use Rattle.smq_frame.specs.Stream.{handed_in}
 use Rattle.smq_frame.specs.Tail.{tail_from}
-use Rattle.smq_book.specs.declared.present.piece_row.PieceRow.{PieceRow}
+use Rattle.smq_book.specs.declared.present.batch.PieceRow.{PieceRow}
 use Rattle.smq_book.specs.declared.present.session.Session.{Session}
 use Rattle.smq_book.specs.present.Present.{empty}
 use Rattle.smq_book.specs.present.Stream.{last_moment}

@@ -14,7 +14,7 @@ use Rattle.smq_frame.specs.Tail.{TailValue, tails_equal}
 use Rattle.smq_frame.proofs.TailTests.{tails_equal-true}
 use Rattle.smq_book.specs.declared.present.edit.Edit.{Edit}
 use Rattle.smq_book.specs.declared.present.edit.Edit.TheVariants.{Append, Withdraw, SetForm, SetWindow, AddRoute, EndRoute, CorrectRoute, Advance}
-use Rattle.smq_book.specs.declared.present.piece_row.PieceRow.{PieceRow}
+use Rattle.smq_book.specs.declared.present.batch.PieceRow.{PieceRow}
 use Rattle.smq_book.specs.declared.present.session.Session.{Session}
 use Rattle.smq_book.specs.present.Batch.{prepare_refusal}
 use Rattle.smq_book.specs.present.Present.{PresentValue, empty, session_of, octets_of}

@@ -9,7 +9,7 @@ use Rattle.smq_kit.specs.Replies.{first_of}
 use Rattle.smq_frame.specs.Stream.{values}
 use Rattle.smq_frame.specs.Tail.{tail_of}
 use Rattle.smq_book.specs.declared.present.edit.Edit.TheVariants.{Append}
-use Rattle.smq_book.specs.declared.present.piece_row.PieceRow.{PieceRow}
+use Rattle.smq_book.specs.declared.present.batch.PieceRow.{PieceRow}
 use Rattle.smq_book.specs.declared.present.session.Session.{Session}
 use Rattle.smq_book.specs.present.Batch.{prepare_refusal}
 use Rattle.smq_book.specs.present.Present.{PresentValue, session_of, octets_in}

@@ -5,7 +5,7 @@ use Rattle.smq_kit.specs.declared.refusal.Refusal.TheVariants.{OutOfStep}
 use Rattle.smq_frame.specs.Tail.{TailValue}
 use Rattle.smq_book.specs.declared.present.edit.Edit.{Edit}
 use Rattle.smq_book.specs.declared.present.edit.Edit.TheVariants.{Append}
-use Rattle.smq_book.specs.declared.present.piece_row.PieceRow.{PieceRow}
+use Rattle.smq_book.specs.declared.present.batch.PieceRow.{PieceRow}
 use Rattle.smq_book.specs.present.Batch.{prepare_refusal}
 use Rattle.smq_book.specs.present.Steps.{steps, is_of_session}
 use Rattle.smq_desk.specs.declared.entry.Call.{Call}

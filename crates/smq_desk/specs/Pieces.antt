@@ -5,7 +5,7 @@ use Rattle.smq_kit.specs.Replies.{first_of}
 use Rattle.smq_frame.specs.Tail.{TailValue}
 use Rattle.smq_book.specs.declared.present.edit.Edit.{Edit}
 use Rattle.smq_book.specs.declared.present.edit.Edit.TheVariants.{Append}
-use Rattle.smq_book.specs.declared.present.piece_row.PieceRow.{PieceRow}
+use Rattle.smq_book.specs.declared.present.batch.PieceRow.{PieceRow}
 use Rattle.smq_book.specs.present.Batch.{BatchValue, batch_of, prepare_refusal}
 use Rattle.smq_book.specs.present.Present.{PresentValue, tail_in}
 use Rattle.smq_book.specs.present.Replies.{reply}

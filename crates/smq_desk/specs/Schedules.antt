@@ -4,7 +4,7 @@ use Rattle.std.specs.Prelude.{◌≡◌, ℕ, All, List, [], ◌∷◌, ◌++◌
 use Rattle.smq_kit.specs.declared.refusal.Refusal.{Refusal}
 use Rattle.smq_frame.specs.Tail.{TailValue}
 use Rattle.smq_book.specs.declared.present.edit.Edit.TheVariants.{Append}
-use Rattle.smq_book.specs.declared.present.piece_row.PieceRow.{PieceRow}
+use Rattle.smq_book.specs.declared.present.batch.PieceRow.{PieceRow}
 use Rattle.smq_book.specs.present.Batch.{BatchValue, prepare_refusal}
 use Rattle.smq_book.specs.present.Present.{PresentValue}
 use Rattle.smq_book.specs.present.Replies.{reply}

@@ -6,7 +6,7 @@ use Rattle.smq_tally.proofs.Equals.{equal-same}
 use Rattle.smq_book.specs.whole.Scratch.{scratch}
 use Rattle.smq_desk.specs.History.{replay}
 use Rattle.smq_desk.specs.Seats.{SeatValue}
-use Rattle.smq_load.specs.declared.row.Row.{Row}
+use Rattle.smq_load.specs.declared.record.Row.{Row}
 use Rattle.smq_engine.specs.declared.checking.Checked.{Checked}
 use Rattle.smq_engine.specs.IsCheck.{Compares}
 use Rattle.smq_engine.specs.Workers.{HaveMadeRows}

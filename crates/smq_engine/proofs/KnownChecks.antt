@@ -9,7 +9,7 @@ use Rattle.smq_desk.specs.declared.entry.Call.{Call}
 use Rattle.smq_desk.specs.declared.entry.Reply.TheVariants.{Done}
 use Rattle.smq_desk.specs.Jobs.{IsFate, Made, Puts}
 use Rattle.smq_desk.specs.Seats.{SeatValue, AreCallsOf, HasItsCalls, HasOneSeat, call_of, calls_in, holders}
-use Rattle.smq_load.specs.declared.row.Row.{Row}
+use Rattle.smq_load.specs.declared.record.Row.{Row}
 use Rattle.smq_engine.specs.IsCheck.{Compares}
 use Rattle.smq_engine.specs.Known.{checked_history, checked_rows, checked_seats, checked_settings, clock_entries, clock_rows, first_calls, no_octets, one, put_after, seat_of, some_rows, three, turned_seats, two}
 use Rattle.smq_engine.specs.Workers.{HasMade, HaveMadeRows, edits_of_calls, pieces_of_worker, plain_edits}

@@ -9,7 +9,7 @@ use Rattle.smq_book.specs.declared.present.edit.Edit.{Edit}
 use Rattle.smq_book.specs.present.Present.{PresentValue}
 use Rattle.smq_book.specs.present.Replies.{reply}
 use Rattle.smq_book.specs.present.Steps.{step, step_unless, steps}
-use Rattle.smq_load.specs.declared.row.Row.{Row}
+use Rattle.smq_load.specs.declared.record.Row.{Row}
 use Rattle.smq_engine.specs.Play.{after_row, after_rows, edits_from, refusal_of, refused_from, row_edits, told}
 
 refused_by : (T : Type 0) (o : Option Refusal) (e : Refusal) (p new : PresentValue) (edit : Edit)

@@ -3,7 +3,7 @@ use Rattle.std.proofs.Common.{◌≡◌, List, ℕ, Option, None, Some, Result, 
 use Rattle.std.specs.Prelude.{IfErr, IfSome}
 use Rattle.smq_book.specs.present.Present.{PresentValue}
 use Rattle.smq_book.specs.whole.Scratch.{scratch}
-use Rattle.smq_load.specs.declared.row.Row.{Row}
+use Rattle.smq_load.specs.declared.record.Row.{Row}
 use Rattle.smq_load.specs.Script.{IsScript}
 use Rattle.smq_load.specs.Settings.{settings_of}
 use Rattle.smq_report.specs.Beginnings.{AppendsBeginning}

@@ -9,14 +9,14 @@ use Rattle.std.proofs.lemmas.Option.{same_Some}
 use Rattle.smq_kit.specs.declared.names.SessionId.{SessionId}
 use Rattle.smq_book.specs.declared.present.edit.Edit.{Edit}
 use Rattle.smq_book.specs.declared.present.edit.Edit.TheVariants.{Append}
-use Rattle.smq_book.specs.declared.present.piece_row.PieceRow.{PieceRow}
+use Rattle.smq_book.specs.declared.present.batch.PieceRow.{PieceRow}
 use Rattle.smq_book.specs.present.Steps.{is_append_to}
 use Rattle.smq_desk.specs.declared.entry.Call.{Call}
 use Rattle.smq_desk.specs.declared.entry.Entry.{Entry}
 use Rattle.smq_desk.specs.Jobs.{IsFate, Puts}
 use Rattle.smq_desk.specs.Seats.{SeatValue, AreCallsOf, HasItsCalls, HasOneSeat, call_of, calls_from, holders}
-use Rattle.smq_load.specs.declared.row.Row.{Row}
-use Rattle.smq_load.specs.declared.row.Row.TheVariants.{Piece, Plain}
+use Rattle.smq_load.specs.declared.record.Row.{Row}
+use Rattle.smq_load.specs.declared.record.Row.TheVariants.{Piece, Plain}
 use Rattle.smq_engine.specs.Sessions.{IsLoadedInOrder, edits_of_others, piece_of_session, pieces_of_session}
 use Rattle.smq_engine.specs.Workers.{AreMadeOf, HasMade, edits_of_calls, piece_of_worker, pieces_of_worker, worker_count, worker_of}
 use Rattle.smq_engine.proofs.WorkerLemmas.{all_at}

@@ -8,13 +8,13 @@ use Rattle.std.proofs.lemmas.List.Elements.{All-nil, All-cons, All-weaker, lengt
 use Rattle.std.proofs.lemmas.List.Sums.{sum_by-append}
 use Rattle.std.proofs.lemmas.Option.{same_Some, slice_get_within, get_or_from_slice_get}
 use Rattle.smq_book.specs.declared.present.edit.Edit.{Edit}
-use Rattle.smq_book.specs.declared.present.piece_row.PieceRow.{PieceRow}
+use Rattle.smq_book.specs.declared.present.batch.PieceRow.{PieceRow}
 use Rattle.smq_desk.specs.declared.entry.Call.{Call}
 use Rattle.smq_desk.specs.declared.job.LinkJob.{LinkJob}
 use Rattle.smq_desk.specs.Jobs.{IsFate, IsFresh, Made, Worked, was_refused}
 use Rattle.smq_desk.specs.Seats.{SeatValue}
-use Rattle.smq_load.specs.declared.row.Row.{Row}
-use Rattle.smq_load.specs.declared.row.Row.TheVariants.{Piece, Plain}
+use Rattle.smq_load.specs.declared.record.Row.{Row}
+use Rattle.smq_load.specs.declared.record.Row.TheVariants.{Piece, Plain}
 use Rattle.smq_engine.specs.Workers.{HasMade, HaveMadeRows, edits_of_calls, piece_of_worker, pieces_of_worker, plain_edit, plain_edits, worker_count, worker_of}
 use Rattle.smq_engine.specs.within.Jobs.{AreJobsOf, AreReady, IsDone, IsJobOf, IsNew, IsRenewed}
 

@@ -5,7 +5,7 @@ use Rattle.std.specs.Io.KnownBytes.{Appends}
 use Rattle.smq_book.specs.whole.Scratch.{scratch}
 use Rattle.smq_desk.specs.declared.entry.Entry.{Entry}
 use Rattle.smq_desk.specs.History.{replay, IsLegal}
-use Rattle.smq_load.specs.declared.row.Row.{Row}
+use Rattle.smq_load.specs.declared.record.Row.{Row}
 use Rattle.smq_load.specs.Script.{IsScript}
 use Rattle.smq_load.specs.Settings.{settings_of}
 use Rattle.smq_engine.specs.declared.checking.Checked.{Checked}

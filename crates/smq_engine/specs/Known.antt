@@ -1,7 +1,7 @@
 -- Faults, the play of rows and checks, at known values.
 use Rattle.std.specs.Prelude.{◌≡◌, ℕ, true, false, List, [], ◌∷◌, ◌++◌, codes, None, Some}
-use Rattle.smq_kit.specs.declared.form.Form.{Form}
-use Rattle.smq_kit.specs.declared.form.Form.TheVariants.{Decimal, Hexadecimal}
+use Rattle.smq_kit.specs.declared.message_id.Form.{Form}
+use Rattle.smq_kit.specs.declared.message_id.Form.TheVariants.{Decimal, Hexadecimal}
 use Rattle.smq_kit.specs.declared.place.Dir.{Dir}
 use Rattle.smq_kit.specs.declared.place.Dir.TheVariants.{FromClient, FromCentre}
 use Rattle.smq_kit.specs.declared.refusal.Refusal.TheVariants as refusal
@@ -9,14 +9,14 @@ use Rattle.smq_book.specs.declared.present.edit.Edit.{Edit}
 use Rattle.smq_book.specs.declared.present.edit.Edit.TheVariants.{Advance, Append, SetForm}
 use Rattle.smq_book.specs.present.Batch.{prepare_refusal}
 use Rattle.smq_book.specs.present.Present.{PresentValue, empty, tail_in}
-use Rattle.smq_book.specs.declared.present.piece_row.PieceRow.{PieceRow}
+use Rattle.smq_book.specs.declared.present.batch.PieceRow.{PieceRow}
 use Rattle.smq_desk.specs.declared.entry.Call.{Call}
 use Rattle.smq_desk.specs.declared.entry.Entry.{Entry}
 use Rattle.smq_desk.specs.declared.entry.Reply.TheVariants.{Done, Refused}
 use Rattle.smq_desk.specs.History.{entry_of}
 use Rattle.smq_desk.specs.Seats.{SeatValue, call_of, AreCallsOf}
-use Rattle.smq_load.specs.declared.row.Row.{Row}
-use Rattle.smq_load.specs.declared.row.Row.TheVariants.{Piece, Plain}
+use Rattle.smq_load.specs.declared.record.Row.{Row}
+use Rattle.smq_load.specs.declared.record.Row.TheVariants.{Piece, Plain}
 use Rattle.smq_engine.specs.declared.run_fault.RunFault.TheVariants as run_fault
 use Rattle.smq_engine.specs.declared.workers.TheConstants.{WORKERS}
 use Rattle.smq_engine.specs.Faults.{fault_text}

@@ -8,8 +8,8 @@ use Rattle.smq_book.specs.present.Batch.{prepare_refusal}
 use Rattle.smq_book.specs.present.Present.{PresentValue, empty, tail_in}
 use Rattle.smq_book.specs.present.Replies.{reply}
 use Rattle.smq_book.specs.present.Steps.{steps}
-use Rattle.smq_load.specs.declared.row.Row.{Row}
-use Rattle.smq_load.specs.declared.row.Row.TheVariants.{Piece, Plain}
+use Rattle.smq_load.specs.declared.record.Row.{Row}
+use Rattle.smq_load.specs.declared.record.Row.TheVariants.{Piece, Plain}
 
 -- the edit that a row is: a piece's octets, prepared on the present tail of their direction; any other edit as it stands
 abbrev pub edit_of : PresentValue → Row → Edit

@@ -3,13 +3,13 @@ use Rattle.std.specs.Prelude.{◌≡◌, ◌==◌, ℕ, List, [], ◌∷◌, fil
 use Rattle.std.specs.List.{AllZip}
 use Rattle.smq_kit.specs.declared.names.SessionId.{SessionId}
 use Rattle.smq_book.specs.declared.present.edit.Edit.{Edit}
-use Rattle.smq_book.specs.declared.present.piece_row.PieceRow.{PieceRow}
+use Rattle.smq_book.specs.declared.present.batch.PieceRow.{PieceRow}
 use Rattle.smq_book.specs.present.Steps.{is_append_to}
 use Rattle.smq_desk.specs.declared.entry.Call.{Call}
 use Rattle.smq_desk.specs.declared.entry.Entry.{Entry}
 use Rattle.smq_desk.specs.Jobs.{IsFate}
-use Rattle.smq_load.specs.declared.row.Row.{Row}
-use Rattle.smq_load.specs.declared.row.Row.TheVariants.{Piece, Plain}
+use Rattle.smq_load.specs.declared.record.Row.{Row}
+use Rattle.smq_load.specs.declared.record.Row.TheVariants.{Piece, Plain}
 use Rattle.smq_engine.specs.Workers.{edits_of_calls}
 
 -- the piece that a row is, if it is one of this session

@@ -3,7 +3,7 @@
 ghost use Rattle.std.specs.Prelude.{◌≡◌, ◌≢◌, ◌⊎◌, IfOk, IfErr, IfSome, IsErrAnd, ◌++◌, List, None, OnOk, string_bytes};
 ghost use Rattle.std.specs.Io.KnownBytes.{Appends, Keeps};
 ghost use Rattle.smq_load.specs.Settings.{settings_of};
-ghost use Rattle.smq_load.specs.declared.row.Row.{Row as RowOf};
+ghost use Rattle.smq_load.specs.declared.record.Row.{Row as RowOf};
 ghost use Rattle.smq_engine.specs.IsCheck.{Compares, IsCheck, check_text, word_of};
 ghost use Rattle.smq_engine.specs.IsRun.{TellsRun, WasRead};
 ghost use Rattle.smq_engine.specs.Workers.{HaveMadeRows};

@@ -5,8 +5,8 @@
 ghost use Rattle.std.specs.Prelude.{◌≡◌, ◌∷◌, ◌++◌, ◌↔◌, [], List, IfErr, IfOk, OnOk, IsTrue, map, length};
 ghost use Rattle.smq_book.specs.whole.Scratch.{scratch};
 ghost use Rattle.smq_desk.specs.History.{replay, IsLegal};
-ghost use Rattle.smq_load.specs.declared.row.Row.{Row as RowOf};
-ghost use Rattle.smq_load.specs.declared.row.Row.TheVariants.{Plain};
+ghost use Rattle.smq_load.specs.declared.record.Row.{Row as RowOf};
+ghost use Rattle.smq_load.specs.declared.record.Row.TheVariants.{Plain};
 ghost use Rattle.smq_engine.specs.Workers.{HaveMadeRows, edits_of_calls, plain_edit, plain_edits};
 ghost use Rattle.smq_engine.specs.within.Jobs.{AreJobsOf, AreReady, IsClosedFor, IsDeskFault};
 

@@ -2,7 +2,7 @@
 ghost use Rattle.std.specs.Prelude.{List};
 ghost use Rattle.smq_kit.specs.declared.names.SessionId.{SessionId};
 ghost use Rattle.smq_desk.specs.declared.entry.Entry.{Entry};
-ghost use Rattle.smq_load.specs.declared.row.Row.{Row};
+ghost use Rattle.smq_load.specs.declared.record.Row.{Row};
 ghost use Rattle.smq_engine.specs.Known.{KnowsChecks, KnowsFaults, KnowsPlay};
 ghost use Rattle.smq_engine.specs.Sessions.{IsLoadedInOrder};
 ghost use Rattle.smq_engine.specs.Workers.{AreMadeOf};

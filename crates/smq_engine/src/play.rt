@@ -1,17 +1,74 @@
-//! Rows are played on a book, one after the other. A row that is refused leaves what is present, and the rest goes on.
+//! Rows are played on a book, one after the other, be it one that keeps its tables current or one that stores none. A row that is
+//! refused leaves what is present, and the rest goes on.
 ghost use Rattle.std.specs.Prelude.{◌≡◌, ◌≢◌, ◌++◌, IfOk, OnOk, Some};
 ghost use Rattle.smq_book.specs.declared.present.edit.Edit.TheVariants.{Append};
-ghost use Rattle.smq_book.specs.present.Present.{tail_in};
+ghost use Rattle.smq_book.specs.present.Present.{tail_in, PresentValue};
 ghost use Rattle.smq_book.specs.present.Replies.{reply};
 ghost use Rattle.smq_book.specs.present.Steps.{step};
 ghost use Rattle.smq_engine.specs.Play.{after_row, after_rows, refusal_of, refused_rows, told};
-ghost use Rattle.smq_load.specs.declared.row.Row.TheVariants.{Piece};
+ghost use Rattle.smq_load.specs.declared.record.Row.TheVariants.{Piece};
+ghost use Rattle.smq_kit.specs.Replies.{IsReply};
 
-use crate::played_book::PlayedBook;
-use smq_book::{Batch, Edit, PieceRow, prepare};
-use smq_kit::Refusal;
+use smq_book::{Batch, Book, Edit, PieceRow, PlainBook, prepare};
+use smq_frame::Tail;
+use smq_kit::{Dir, Refusal, SessionId};
 use smq_load::Row;
 use std::alloc::{AllocError, Global};
+
+/// A book on which rows are played.
+pub trait PlayedBook {
+    ghost use Rattle.std.specs.Prelude.{◌≡◌};
+
+    /// What is present.
+    ghost present: { Self → PresentValue };
+
+    /// The tail of one direction of a session, on which its next octets are prepared.
+    fn tail(&self, session: SessionId, dir: Dir) -> &Tail
+        ensures { result.now ≡ tail_in (present self.now) session.0 dir };
+
+    /// Puts a batch after the direction on whose present tail it was prepared, or refuses it and changes nothing.
+    fn append(&mut self, batch: Batch) -> Result<(), Refusal>
+        requires { batch.tail ≡ tail_in (present self.old) batch.session.0 batch.dir }
+        ensures { IsReply (reply (present self.old) (Append batch)) result
+            (present self.new ≡ step (present self.old) (Append batch)) (present self.new ≡ present self.old) };
+
+    /// Makes an edit, or refuses it and changes nothing.
+    fn apply(&mut self, edit: Edit) -> Result<(), Refusal>
+        ensures { IsReply (reply (present self.old) edit) result
+            (present self.new ≡ step (present self.old) edit) (present self.new ≡ present self.old) };
+}
+
+impl PlayedBook for PlainBook {
+    ghost present = { λ book. book.present };
+
+    fn tail(&self, session: SessionId, dir: Dir) -> &Tail {
+        PlainBook::tail(self, session, dir)
+    }
+
+    fn append(&mut self, batch: Batch) -> Result<(), Refusal> {
+        self.append_in_step(batch)
+    }
+
+    fn apply(&mut self, edit: Edit) -> Result<(), Refusal> {
+        PlainBook::apply(self, edit)
+    }
+}
+
+impl PlayedBook for Book {
+    ghost present = { λ book. book.present };
+
+    fn tail(&self, session: SessionId, dir: Dir) -> &Tail {
+        Book::tail(self, session, dir)
+    }
+
+    fn append(&mut self, batch: Batch) -> Result<(), Refusal> {
+        Book::apply(self, Edit::Append { batch })
+    }
+
+    fn apply(&mut self, edit: Edit) -> Result<(), Refusal> {
+        Book::apply(self, edit)
+    }
+}
 
 /// Plays rows in order on a book, and gives the refused ones, each with its number, from 1.
 pub fn play_rows<B: PlayedBook>(

@@ -2,8 +2,8 @@
 ghost use Rattle.std.specs.Prelude.{◌≡◌, ◌∷◌, ◌++◌, [], List, All, IfErr, IfOk, IfSome, IsTrue};
 ghost use Rattle.std.specs.List.{AllZip};
 ghost use Rattle.smq_desk.specs.Jobs.{IsFresh};
-ghost use Rattle.smq_load.specs.declared.row.Row.{Row as RowOf};
-ghost use Rattle.smq_load.specs.declared.row.Row.TheVariants.{Piece};
+ghost use Rattle.smq_load.specs.declared.record.Row.{Row as RowOf};
+ghost use Rattle.smq_load.specs.declared.record.Row.TheVariants.{Piece};
 ghost use Rattle.smq_engine.specs.within.Jobs.{desk_fault, AreJobsOf, AreReady, IsDeskFault, IsDone, IsNew, IsRenewed};
 
 use crate::RunFault;

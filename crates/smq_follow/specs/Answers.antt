@@ -6,7 +6,7 @@ use Rattle.smq_kit.specs.declared.refusal.Refusal.{Refusal}
 use Rattle.smq_kit.specs.Refusals.{text_of}
 use Rattle.smq_book.specs.present.Present.{PresentValue}
 use Rattle.smq_book.specs.whole.Scratch.{scratch}
-use Rattle.smq_load.specs.declared.row.Row as rows
+use Rattle.smq_load.specs.declared.record.Row as rows
 use Rattle.smq_report.specs.declared.pick.Format.{Format}
 use Rattle.smq_report.specs.declared.pick.Pick.{Pick}
 use Rattle.smq_report.specs.Report.{report_text}

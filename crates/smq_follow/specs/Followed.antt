@@ -1,7 +1,7 @@
 -- What was written of the records of a text, however their play ended.
 use Rattle.std.specs.Prelude.{◌≡◌, ◌⊎◌, ◌+◌, ℕ, List, [], ◌∷◌, ◌++◌, length, map, take, Option, Some, None}
 use Rattle.std.specs.Io.KnownBytes.{Appends, Keeps}
-use Rattle.smq_load.specs.declared.row.Row as rows
+use Rattle.smq_load.specs.declared.record.Row as rows
 use Rattle.smq_load.specs.Script.{AreRecordsOf}
 use Rattle.smq_load.specs.Settings.{settings_of}
 use Rattle.smq_report.specs.declared.pick.Format.{Format}

@@ -2,8 +2,8 @@
 use Rattle.std.specs.Prelude.{◌≡◌, ℕ, List, [], ◌∷◌, ◌++◌, codes, None, Some}
 use Rattle.smq_book.specs.present.Present.{PresentValue}
 use Rattle.smq_book.specs.declared.present.edit.Edit.TheVariants.{Advance}
-use Rattle.smq_load.specs.declared.row.Row as rows
-use Rattle.smq_load.specs.declared.row.Row.TheVariants.{Plain}
+use Rattle.smq_load.specs.declared.record.Row as rows
+use Rattle.smq_load.specs.declared.record.Row.TheVariants.{Plain}
 use Rattle.smq_tally.specs.declared.list.List.TheVariants as list
 use Rattle.smq_tally.specs.declared.view.View.TheVariants as view
 use Rattle.smq_report.specs.declared.pick.Pick.TheVariants as pick

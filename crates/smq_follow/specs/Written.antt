@@ -5,7 +5,7 @@ use Rattle.smq_kit.specs.declared.refusal.Refusal.{Refusal}
 use Rattle.smq_book.specs.present.Present.{PresentValue}
 use Rattle.smq_book.specs.whole.Scratch.{scratch}
 use Rattle.smq_lines.specs.Texts.{messages_text, receipts_text}
-use Rattle.smq_load.specs.declared.row.Row.{Row}
+use Rattle.smq_load.specs.declared.record.Row.{Row}
 use Rattle.smq_load.specs.Settings.{settings_of}
 use Rattle.smq_report.specs.Beginnings.{AppendsBeginning}
 use Rattle.smq_report.specs.Report.{report_text}

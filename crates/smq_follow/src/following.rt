@@ -2,7 +2,7 @@
 ghost use Rattle.std.specs.Prelude.{◌≡◌, ◌≢◌, ◌⊎◌, ◌≤◌, ◌<◌, ◌+◌, ◌-◌, ◌^◌, ◌++◌, ◌∷◌, [], ℕ, List, IfErr, IfOk, IfSome, IsErrAnd, None, OnOk, length};
 ghost use Rattle.std.specs.Io.KnownBytes.{Appends};
 ghost use Rattle.smq_book.specs.present.Present.{empty};
-ghost use Rattle.smq_load.specs.declared.row.Row as rows;
+ghost use Rattle.smq_load.specs.declared.record.Row as rows;
 ghost use Rattle.smq_load.specs.NextRecord.{HasGiven};
 ghost use Rattle.smq_load.specs.Settings.{settings_of};
 ghost use Rattle.smq_engine.specs.Play.{after_rows};

@@ -4,7 +4,7 @@ ghost use Rattle.smq_frame.specs.Framing.{IsWaiting};
 ghost use Rattle.smq_frame.specs.Tail.{IsTail, tails_equal};
 ghost use Rattle.smq_frame.specs.within.Parts.{IsParted};
 
-use crate::parts::{are_same, joined, parted};
+use crate::framing::{are_same, joined, parted};
 use bytes::Bytes;
 use std::alloc::{AllocError, Global};
 use std::marker::Model;

@@ -7,10 +7,10 @@ use Rattle.std.specs.Ordering.{is_lt, is_le, is_eq, nat_cmp, ordering_then}
 use Rattle.std.specs.Cmp.{IsTotalOrder, nat_cmp_is, ranked, tied_itself}
 use Rattle.std.proofs.lemmas.Bool.{false≢true, eq-eqb, eqb-true}
 use Rattle.std.proofs.lemmas.Bool.Decides.{nat_tests}
-use Rattle.smq_kit.specs.declared.form.Key.{Key}
-use Rattle.smq_kit.specs.declared.form.Key.TheVariants.{Number, Text}
+use Rattle.smq_kit.specs.declared.message_id.Key.{Key}
+use Rattle.smq_kit.specs.declared.message_id.Key.TheVariants.{Number, Text}
 use Rattle.smq_kit.specs.declared.names.LinkId.{LinkId}
-use Rattle.smq_kit.specs.contracts.form.KeyOrd.TheImpl as key_ord
+use Rattle.smq_kit.specs.contracts.message_id.KeyOrd.TheImpl as key_ord
 use Rattle.smq_kit.specs.Hashes.{hash_of}
 use Rattle.smq_kit.specs.declared.link_key.LinkKey.{LinkKey}
 use Rattle.smq_kit.specs.declared.place.Place.{Place}

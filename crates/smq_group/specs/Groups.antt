@@ -4,7 +4,7 @@ use Rattle.std.specs.Coded.{Coded, code_by, coded×, coded_list, coded_ℕ, code
 use Rattle.std.specs.FinMap as fin
 use Rattle.smq_kit.specs.declared.place.Place.{Place}
 use Rattle.smq_kit.specs.declared.names.LinkId.{LinkId}
-use Rattle.smq_kit.specs.declared.form.Key.{Key}
+use Rattle.smq_kit.specs.declared.message_id.Key.{Key}
 use Rattle.smq_kit.specs.declared.link_key.LinkKey.{LinkKey}
 use Rattle.smq_kit.specs.Orders.{place_cmp}
 use Rattle.smq_kit.specs.LinkKeys.{same_key}

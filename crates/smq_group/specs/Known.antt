@@ -1,7 +1,7 @@
 -- Groups of which it is known how each member stands.
 use Rattle.std.specs.Prelude.{ℕ, true, false, List, [], ◌∷◌}
 use Rattle.std.specs.FinMap as fin
-use Rattle.smq_kit.specs.declared.form.Key.TheVariants as k
+use Rattle.smq_kit.specs.declared.message_id.Key.TheVariants as k
 use Rattle.smq_kit.specs.declared.link_key.LinkKey.{LinkKey}
 use Rattle.smq_kit.specs.declared.names.LinkId.{LinkId}
 use Rattle.smq_kit.specs.declared.place.Dir.TheVariants.{FromClient, FromCentre}

@@ -5,7 +5,7 @@ ghost use Rattle.std.specs.Map.{keys_of};
 ghost use Rattle.smq_shelf.specs.Places.{content_of};
 ghost use Rattle.smq_kit.specs.LinkKeys.{same_key};
 ghost use Rattle.smq_kit.specs.Orders.{place_cmp};
-ghost use Rattle.smq_kit.specs.declared.form.Key.TheVariants.{Number};
+ghost use Rattle.smq_kit.specs.declared.message_id.Key.TheVariants.{Number};
 ghost use Rattle.smq_shelf.specs.Walks.{IsWalked, stands_after};
 ghost use Rattle.smq_group.specs.within.Orders.{kept_member_cmp};
 ghost use Rattle.smq_group.specs.within.Walked.{is_like, of_part, placed, vacant_part};

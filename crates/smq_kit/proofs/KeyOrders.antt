@@ -5,10 +5,10 @@ use Rattle.std.specs.Ordering.{nat_cmp}
 use Rattle.std.specs.Cmp.{IsTotalOrder}
 use Rattle.std.proofs.lemmas.Cmp.{on_total, nat_list_cmp_total}
 use Rattle.std.specs.FinMap.{IsAntisymmetric, nat_cmp-IsAntisymmetric, slice_cmp-IsAntisymmetric}
-use Rattle.smq_kit.specs.declared.form.Key.{Key}
-use Rattle.smq_kit.specs.declared.form.Key.TheVariants.{Number, Text}
+use Rattle.smq_kit.specs.declared.message_id.Key.{Key}
+use Rattle.smq_kit.specs.declared.message_id.Key.TheVariants.{Number, Text}
 use Rattle.smq_kit.specs.Orders.{key_numbers, key_cmp}
-use Rattle.smq_kit.specs.contracts.form.KeyOrd.TheImpl as key_ord
+use Rattle.smq_kit.specs.contracts.message_id.KeyOrd.TheImpl as key_ord
 use Rattle.smq_kit.proofs.Comparisons.{then_first, then_equal}
 
 -- the order by which a map of std compares keys is this order

@@ -2,14 +2,14 @@
 use Rattle.smq_kit.specs.declared.message_id.MessageId.{MessageId}
 use Rattle.smq_kit.specs.declared.number.Digits.{Digits}
 use Rattle.smq_kit.specs.declared.number.Network.{Network}
-use Rattle.smq_kit.specs.declared.form.Key.{Key}
+use Rattle.smq_kit.specs.declared.message_id.Key.{Key}
 use Rattle.smq_kit.specs.declared.link_key.LinkKey.{LinkKey}
 use Rattle.smq_kit.specs.declared.error_code.ErrorText.{ErrorText}
 use Rattle.smq_kit.specs.declared.error_code.ErrorCode.{ErrorCode}
 use Rattle.smq_kit.specs.contracts.message_id.MessageIdClone.TheImpl as id_clone
 use Rattle.smq_kit.specs.contracts.number.DigitsClone.TheImpl as digits_clone
 use Rattle.smq_kit.specs.contracts.number.NetworkClone.TheImpl as network_clone
-use Rattle.smq_kit.specs.contracts.form.KeyClone.TheImpl as key_clone
+use Rattle.smq_kit.specs.contracts.message_id.KeyClone.TheImpl as key_clone
 use Rattle.smq_kit.specs.contracts.link_key.LinkKeyClone.TheImpl as link_key_clone
 use Rattle.smq_kit.specs.contracts.error_code.ErrorTextClone.TheImpl as error_text_clone
 use Rattle.smq_kit.specs.contracts.error_code.ErrorCodeClone.TheImpl as error_clone

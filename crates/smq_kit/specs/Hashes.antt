@@ -1,7 +1,7 @@
 -- Hashes of keys, by which maps order the keys of a link.
 use Rattle.std.specs.Prelude.{ℕ, ◌+◌, ◌*◌, ◌^◌, ◌/◌, ◌%◌, List, [], ◌∷◌}
-use Rattle.smq_kit.specs.declared.form.Key.{Key}
-use Rattle.smq_kit.specs.declared.form.Key.TheVariants.{Number, Text}
+use Rattle.smq_kit.specs.declared.message_id.Key.{Key}
+use Rattle.smq_kit.specs.declared.message_id.Key.TheVariants.{Number, Text}
 
 -- the hash of a text, where the octets before it have this one
 abbrev pub hash_of_text : ℕ → List ℕ → ℕ

@@ -1,10 +1,10 @@
 -- The key of a message id under the form in which a centre writes ids.
 use Rattle.std.specs.Prelude.{ℕ, ◌+◌, ◌*◌, ◌-◌, ◌^◌, nat_lt, nat_le, ◌&&◌, if◌then◌else◌, List, [], ◌∷◌, length, Option, Some, None, is_some, unwrap_or, option_and_then}
 use Rattle.std.specs.List.{list_all}
-use Rattle.smq_kit.specs.declared.form.Form.{Form}
-use Rattle.smq_kit.specs.declared.form.Form.TheVariants.{Verbatim, Decimal, Hexadecimal}
-use Rattle.smq_kit.specs.declared.form.Key.{Key}
-use Rattle.smq_kit.specs.declared.form.Key.TheVariants.{Number, Text}
+use Rattle.smq_kit.specs.declared.message_id.Form.{Form}
+use Rattle.smq_kit.specs.declared.message_id.Form.TheVariants.{Verbatim, Decimal, Hexadecimal}
+use Rattle.smq_kit.specs.declared.message_id.Key.{Key}
+use Rattle.smq_kit.specs.declared.message_id.Key.TheVariants.{Number, Text}
 
 -- what an octet counts as a digit: `0` to `9`, and then `a` to `f` and `A` to `F`
 abbrev pub value_of : ℕ → Option ℕ

@@ -1,7 +1,7 @@
 -- Values that are written out, which the laws of src/known.rt state of the definitions.
 use Rattle.std.specs.Prelude.{◌≡◌, ◌-◌, ◌^◌, ℕ, zero, suc, ◌+◌, List, [], ◌∷◌, codes}
-use Rattle.smq_kit.specs.declared.form.Form.TheVariants.{Verbatim, Decimal, Hexadecimal}
-use Rattle.smq_kit.specs.declared.form.Key.TheVariants.{Number, Text}
+use Rattle.smq_kit.specs.declared.message_id.Form.TheVariants.{Verbatim, Decimal, Hexadecimal}
+use Rattle.smq_kit.specs.declared.message_id.Key.TheVariants.{Number, Text}
 use Rattle.smq_kit.specs.Keys.{key_under}
 use Rattle.smq_kit.specs.declared.refusal.Refusal.{Refusal}
 use Rattle.smq_kit.specs.declared.refusal.Refusal.TheVariants.{EmptyPiece, BadMoment, Backward, OtherLink, OutOfStep, NoSession, Overlap, NoRoute, Ended, BadEnd, ClockBack, HistoryFull, Memory, StreamFull, NoThread, NoSeat, NoWatcher, BadWindow, TornSeat, BadPrefix, BadNetwork, BadId}

@@ -5,7 +5,7 @@ use Rattle.std.specs.Ordering.{nat_cmp, ordering_then, eq_by_cmp}
 use Rattle.std.specs.BTreeMap.{BTreeMap}
 use Rattle.std.specs.FinMap as map
 use Rattle.smq_kit.specs.declared.names.LinkId.{LinkId}
-use Rattle.smq_kit.specs.declared.form.Form.{Form}
+use Rattle.smq_kit.specs.declared.message_id.Form.{Form}
 use Rattle.smq_kit.specs.Keys.{key_under}
 use Rattle.smq_kit.specs.Orders.{key_cmp}
 use Rattle.smq_kit.specs.declared.link_key.LinkKey.{LinkKey}

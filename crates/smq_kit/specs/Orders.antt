@@ -12,8 +12,8 @@ use Rattle.smq_kit.specs.declared.moment.Moment.{Moment}
 use Rattle.smq_kit.specs.declared.place.Dir.{Dir}
 use Rattle.smq_kit.specs.declared.place.Dir.TheVariants.{FromClient, FromCentre}
 use Rattle.smq_kit.specs.declared.place.Place.{Place}
-use Rattle.smq_kit.specs.declared.form.Key.{Key}
-use Rattle.smq_kit.specs.declared.form.Key.TheVariants.{Number, Text}
+use Rattle.smq_kit.specs.declared.message_id.Key.{Key}
+use Rattle.smq_kit.specs.declared.message_id.Key.TheVariants.{Number, Text}
 use Rattle.smq_kit.specs.declared.error_code.ErrorCode.{ErrorCode}
 use Rattle.smq_kit.specs.declared.error_code.ErrorCode.TheVariants as e
 use Rattle.smq_kit.specs.declared.message_id.MessageId.{MessageId}
@@ -34,8 +34,8 @@ use Rattle.smq_kit.specs.contracts.number.DigitsOrd.TheImpl as digits_ord
 use Rattle.smq_kit.specs.contracts.number.DigitsPartialEq.TheImpl as digits_eq
 use Rattle.smq_kit.specs.contracts.number.NetworkOrd.TheImpl as network_ord
 use Rattle.smq_kit.specs.contracts.number.NetworkPartialEq.TheImpl as network_eq
-use Rattle.smq_kit.specs.contracts.form.KeyOrd.TheImpl as key_ord
-use Rattle.smq_kit.specs.contracts.form.KeyPartialEq.TheImpl as key_eq
+use Rattle.smq_kit.specs.contracts.message_id.KeyOrd.TheImpl as key_ord
+use Rattle.smq_kit.specs.contracts.message_id.KeyPartialEq.TheImpl as key_eq
 use Rattle.smq_kit.specs.contracts.error_code.ErrorCodeOrd.TheImpl as error_ord
 use Rattle.smq_kit.specs.contracts.error_code.ErrorCodePartialEq.TheImpl as error_eq
 

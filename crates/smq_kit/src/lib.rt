@@ -3,7 +3,6 @@
 #![tactic(auto)]
 
 mod error_code;
-mod form;
 mod hashed_key;
 mod known;
 mod laws;
@@ -19,13 +18,14 @@ mod refusal;
 mod window;
 
 pub use error_code::{ErrorCode, ErrorText, error_codes_are_ordered};
-pub use form::{Form, Key, key_of, keys_are_ordered};
 pub use hashed_key::HashedKey;
 pub use known::{known_error_texts, known_keys, known_limits, known_orders, known_refusals};
 pub use laws::clones_are_one;
 pub use link_key::{LinkKey, link_keys_match_where_they_are_one};
 pub use maps::maps_by_place_are_one_by_one;
-pub use message_id::{LONGEST_ID, MessageId, message_ids_are_ordered};
+pub use message_id::{
+    Form, Key, LONGEST_ID, MessageId, key_of, keys_are_ordered, message_ids_are_ordered,
+};
 pub use moment::{LAST_MOMENT, Moment, moments_are_ordered};
 pub use names::{LinkId, RouteId, SessionId, names_are_ordered};
 pub use number::{Digits, Network, digits_are_ordered, networks_are_ordered};

@@ -5,7 +5,7 @@ use Rattle.std.specs.Prelude.{IfErr, IsErrAnd}
 use Rattle.csv.specs.Reading.{reader_state, strip_bom}
 use Rattle.csv.specs.declared.parser.State.TheVariants as st
 use Rattle.csv.specs.declared.reader.Reader.{Reader}
-use Rattle.smq_load.specs.declared.row.Row.{Row}
+use Rattle.smq_load.specs.declared.record.Row.{Row}
 use Rattle.smq_load.specs.declared.load_fault.LoadFault.{LoadFault}
 use Rattle.smq_load.specs.declared.load_fault.LoadFault.TheVariants.{BadRow, BadSettings, Read, Memory}
 use Rattle.smq_load.specs.Row.{row_of}

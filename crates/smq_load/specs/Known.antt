@@ -2,15 +2,15 @@
 use Rattle.std.specs.Prelude.{◌≡◌, ◌++◌, ℕ, List, [], ◌∷◌, codes, drop, take, Some, None, if◌then◌else◌, length, map, option_and_then, true, false}
 use Rattle.std.specs.Str.{is_utf8}
 use Rattle.toml.specs.Parse.{parse_document}
-use Rattle.smq_kit.specs.declared.form.Form.TheVariants.{Verbatim, Decimal, Hexadecimal}
+use Rattle.smq_kit.specs.declared.message_id.Form.TheVariants.{Verbatim, Decimal, Hexadecimal}
 use Rattle.smq_kit.specs.declared.place.Dir.{Dir}
 use Rattle.smq_kit.specs.declared.place.Dir.TheVariants.{FromClient, FromCentre}
 use Rattle.smq_book.specs.declared.present.edit.Edit.TheVariants.{Withdraw, SetForm, SetWindow, AddRoute, EndRoute, CorrectRoute, Advance}
 use Rattle.smq_load.specs.declared.input.TheConstants.{MOST_OCTETS, MOST_READS}
 use Rattle.smq_load.specs.declared.link_settings.TheConstants.{MOST_LINKS}
 use Rattle.smq_load.specs.declared.link_settings.LinkSettings.{LinkSettings}
-use Rattle.smq_load.specs.declared.row.Row.{Row}
-use Rattle.smq_load.specs.declared.row.Row.TheVariants.{Piece, Plain}
+use Rattle.smq_load.specs.declared.record.Row.{Row}
+use Rattle.smq_load.specs.declared.record.Row.TheVariants.{Piece, Plain}
 use Rattle.smq_load.specs.declared.script.TheConstants.{MOST_RECORDS}
 use Rattle.smq_load.specs.declared.settings.TheConstants.{MOST_SETTINGS}
 use Rattle.smq_load.specs.Decimal.{decimal_of, decimal_to}

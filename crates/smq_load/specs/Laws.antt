@@ -1,6 +1,6 @@
 -- Laws of the definitions.
 use Rattle.std.specs.Prelude.{◌≡◌, ◌⊎◌, ℕ, List}
-use Rattle.smq_load.specs.declared.row.Row.{Row}
+use Rattle.smq_load.specs.declared.record.Row.{Row}
 use Rattle.smq_load.specs.Script.{AreRecordsOf, IsFirstBad, IsScript}
 
 -- each text has one list of records, and is a script of one list of rows or has one first bad record, never both

@@ -1,7 +1,7 @@
 -- The row that a record of a script says.
 use Rattle.std.specs.Prelude.{ℕ, if◌then◌else◌, List, [], ◌∷◌, codes, Option, Some, None, option_and_then}
 use Rattle.std.specs.Str.{bytes_eq}
-use Rattle.smq_kit.specs.declared.form.Form.{Form}
+use Rattle.smq_kit.specs.declared.message_id.Form.{Form}
 use Rattle.smq_kit.specs.declared.names.LinkId.{LinkId}
 use Rattle.smq_kit.specs.declared.names.RouteId.{RouteId}
 use Rattle.smq_kit.specs.declared.names.SessionId.{SessionId}
@@ -9,8 +9,8 @@ use Rattle.smq_kit.specs.declared.place.Dir.{Dir}
 use Rattle.smq_book.specs.declared.present.edit.Edit.TheVariants.{Withdraw, SetForm, SetWindow, AddRoute, EndRoute, CorrectRoute, Advance}
 use Rattle.smq_load.specs.declared.record.Kind.{Kind}
 use Rattle.smq_load.specs.declared.record.Kind.TheVariants as kind
-use Rattle.smq_load.specs.declared.row.Row.{Row}
-use Rattle.smq_load.specs.declared.row.Row.TheVariants.{Piece, Plain}
+use Rattle.smq_load.specs.declared.record.Row.{Row}
+use Rattle.smq_load.specs.declared.record.Row.TheVariants.{Piece, Plain}
 use Rattle.smq_load.specs.Fields.{dir_of, form_of, link_of, moment_of, network_of, octets_of, prefix_of, route_of, session_of, window_of}
 
 -- the kind of record that a field names

@@ -2,7 +2,7 @@
 use Rattle.std.specs.Prelude.{Bool, nat_le, ◌≡◌, ◌+◌, ◌≤◌, ◌⊎◌, ⊤, ℕ, List, ◌∷◌, ◌++◌, length, map, Some, None, Result, Ok, Err}
 use Rattle.csv.specs.Reading.{AreRecords, default_config, strip_bom}
 use Rattle.csv.specs.declared.parser.State.TheVariants as state
-use Rattle.smq_load.specs.declared.row.Row.{Row}
+use Rattle.smq_load.specs.declared.record.Row.{Row}
 use Rattle.smq_load.specs.declared.load_fault.LoadFault.{LoadFault}
 use Rattle.smq_load.specs.declared.load_fault.LoadFault.TheVariants.{BadRow, BadSettings, Read, Memory}
 use Rattle.smq_load.specs.Row.{row_of}

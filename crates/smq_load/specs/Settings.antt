@@ -4,15 +4,15 @@ use Rattle.std.specs.List.{flat_map, list_any}
 use Rattle.std.specs.Str.{bytes_eq, is_utf8}
 use Rattle.toml.specs.Data.{Data, as_array, as_integer, as_str, as_table, Items, no_items, item, Members, no_members, member, get_member}
 use Rattle.toml.specs.Parse.{parse_document}
-use Rattle.smq_kit.specs.declared.form.Form.{Form}
-use Rattle.smq_kit.specs.declared.form.Form.TheVariants.{Verbatim}
+use Rattle.smq_kit.specs.declared.message_id.Form.{Form}
+use Rattle.smq_kit.specs.declared.message_id.Form.TheVariants.{Verbatim}
 use Rattle.smq_kit.specs.declared.names.LinkId.{LinkId}
 use Rattle.smq_book.specs.declared.present.edit.Edit.TheVariants.{SetForm, SetWindow, Advance}
 use Rattle.smq_load.specs.declared.link_settings.LinkSettings.{LinkSettings}
-use Rattle.smq_load.specs.declared.row.Row.{Row}
+use Rattle.smq_load.specs.declared.record.Row.{Row}
 use Rattle.smq_load.specs.declared.table.Keys.{Keys}
 use Rattle.smq_load.specs.declared.table.Keys.TheVariants.{Document, Link}
-use Rattle.smq_load.specs.declared.row.Row.TheVariants.{Plain}
+use Rattle.smq_load.specs.declared.record.Row.TheVariants.{Plain}
 use Rattle.smq_load.specs.declared.load_fault.LoadFault.{LoadFault}
 use Rattle.smq_load.specs.declared.load_fault.LoadFault.TheVariants.{BadRow, BadSettings, Read, Memory}
 use Rattle.smq_load.specs.Decimal.{above_0, up_to}

@@ -1,17 +1,24 @@
-//! What a field of a record says.
-ghost use Rattle.std.specs.Prelude.{◌≡◌, IfOk};
+//! What a field of a record says: a word, a number in decimal digits, or an instant `YYYY-MM-DDTHH:MM:SSZ` (RFC 3339, section 5.6), in
+//! UTC, with no fraction of a second and no other offset.
+ghost use Rattle.std.specs.Prelude.{◌≡◌, IfOk, ◌+◌, ◌*◌, ◌≤◌, ◌<◌, ◌↔◌, pos, IsTrue, IsSome, IfSome, length};
 ghost use Rattle.std.specs.Str.{bytes_eq};
-ghost use Rattle.smq_load.specs.Decimal.{decimal_to};
+ghost use Rattle.std.specs.Char.{is_ascii_digit};
+ghost use Rattle.std.specs.List.{list_all};
+ghost use Rattle.smq_load.specs.Decimal.{decimal_to, is_decimal};
 ghost use Rattle.smq_load.specs.Fields.{dir_of, form_of, link_of, moment_of, network_of, octets_of, prefix_of, route_of, session_of, window_of};
+ghost use Rattle.jiff.specs.Words.{IsEpochDay, IsWithin, IsYmd};
+ghost use Rattle.smq_load.specs.Instant.{day_number_of, day_of, has_marks, instant_of, is_date, milliseconds_of, moment_at, second_of};
 
-use crate::decimal::read_decimal;
-use crate::instant::read_instant;
 use bytes::Bytes;
 use hex::FromHexError;
+use jiff::civil::Date;
 use smq_kit::{
     Digits, Dir, Form, LAST_MOMENT, LinkId, Moment, Network, RouteId, SessionId, Window,
 };
 use std::alloc::{AllocError, Global};
+use std::str;
+
+const MOST_DIGITS: usize = 20;
 
 /// The link that a field names.
 pub fn read_link(field: &[u8]) -> Option<LinkId>
@@ -117,4 +124,140 @@ pub fn read_octets(alloc: Global, field: &[u8]) -> Result<Option<Bytes>, AllocEr
         Err(FromHexError::OutOfMemory) => Err(AllocError),
         Err(_) => Ok(None),
     }
+}
+
+/// The number that 1 to 20 decimal digits say, where it is not above `greatest`. Leading zeros are allowed.
+pub fn read_decimal(text: &[u8], greatest: u64) -> Option<u64>
+    ensures { result ≡ decimal_to greatest text.now }
+{
+    if !has_digits(text) {
+        return None;
+    }
+    let Ok(digits) = str::from_utf8(text) else {
+        return None;
+    };
+    let Ok(number) = digits.parse::<u64>() else {
+        return None;
+    };
+    if number <= greatest {
+        Some(number)
+    } else {
+        None
+    }
+}
+
+/// Whether a text is 1 to 20 decimal digits.
+fn has_digits(text: &[u8]) -> bool
+    ensures { result ≡ is_decimal text.now }
+{
+    !text.is_empty() && text.len() <= MOST_DIGITS && are_digits(text)
+}
+
+fn are_digits(text: &[u8]) -> bool
+    ensures { result ≡ list_all is_ascii_digit text.now }
+{
+    text.iter().all(|octet| octet.is_ascii_digit())
+}
+
+/// The moment that an instant says, where the calendar has its date and it is a moment.
+pub fn read_instant(text: &[u8]) -> Option<Moment>
+    ensures { result ≡ instant_of text.now }
+{
+    if !has_marks(text) {
+        return None;
+    }
+    let day = read_day(&text[..10])?;
+    let second = read_second(&text[11..19])?;
+    moment_at(milliseconds(day, second))
+}
+
+/// Whether a text has 20 octets, and the marks of an instant at their places.
+fn has_marks(text: &[u8]) -> bool
+    ensures { result ≡ has_marks text.now }
+{
+    text.len() == 20
+        && text[4] == b'-'
+        && text[7] == b'-'
+        && text[10] == b'T'
+        && text[13] == b':'
+        && text[16] == b':'
+        && text[19] == b'Z'
+}
+
+/// The day number of YYYY-MM-DD, from 1970-01-01, where the calendar has it.
+fn read_day(date: &[u8]) -> Option<i32>
+    requires { length date.now ≡ 10 }
+    ensures value { result ≡ day_of date.now }
+    ensures bound { IfSome result IsEpochDay }
+{
+    let year = read_decimal(&date[..4], 9_999)?;
+    let month = read_decimal(&date[5..7], 12)?;
+    let day = read_decimal(&date[8..10], 31)?;
+    day_number(year, month, day)
+}
+
+/// The second of a day at HH:MM:SS, where a clock shows this time.
+fn read_second(time: &[u8]) -> Option<u32>
+    requires { length time.now ≡ 8 }
+    ensures value { result ≡ second_of time.now }
+    ensures bound { IfSome result (λ second. second < 86_400) }
+{
+    let hour = read_decimal(&time[..2], 23)?;
+    let minute = read_decimal(&time[3..5], 59)?;
+    let second = read_decimal(&time[6..8], 59)?;
+    Some(second_at(hour, minute, second))
+}
+
+/// The second of a day at a time of it.
+fn second_at(hour: u64, minute: u64, second: u64) -> u32
+    requires hour_in { hour ≤ 23 }
+    requires minute_in { minute ≤ 59 }
+    requires second_in { second ≤ 59 }
+    ensures value { result ≡ hour * 3_600 + minute * 60 + second }
+    ensures bound { result < 86_400 }
+{
+    (hour * 3_600 + minute * 60 + second) as u32
+}
+
+/// The day number of a date, from 1970-01-01, where the calendar has it.
+fn day_number(year: u64, month: u64, day: u64) -> Option<i32>
+    requires year_in { year ≤ 9_999 }
+    requires month_in { month ≤ 12 }
+    requires day_in { day ≤ 31 }
+    ensures value { result ≡ day_number_of year month day }
+    ensures bound { IfSome result IsEpochDay }
+{
+    let date = date_of(year, month, day)?;
+    Some(date.to_plain().to_unix_epoch_day())
+}
+
+/// The date with these parts, where the calendar has it.
+fn date_of(year: u64, month: u64, day: u64) -> Option<Date>
+    requires year_in { year ≤ 9_999 }
+    requires month_in { month ≤ 12 }
+    requires day_in { day ≤ 31 }
+    ensures found { IsSome result ↔ IsTrue (is_date year month day) }
+    ensures value { IfSome result (IsYmd (pos year) (pos month) (pos day)) }
+{
+    Date::new(year as i16, month as i8, day as i8).ok()
+}
+
+/// A day and a second of that day, in ms since 1970-01-01.
+fn milliseconds(day: i32, second: u32) -> i64
+    requires day_in { IsEpochDay day }
+    requires second_in { second < 86_400 }
+    ensures value { result ≡ milliseconds_of day second }
+    ensures bound { IsWithin 1_000_000_000_000_000 result }
+{
+    (day as i64 * 86_400 + second as i64) * 1_000
+}
+
+/// The moment at a number of ms since 1970, where it is one.
+fn moment_at(milliseconds: i64) -> Option<Moment>
+    ensures { result ≡ moment_at milliseconds }
+{
+    if milliseconds < 0 {
+        return None;
+    }
+    Moment::new(milliseconds as u64).ok()
 }

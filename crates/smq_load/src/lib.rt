@@ -1,15 +1,12 @@
 //! What a script of records and a document of settings say, as rows.
 #![tactic(auto)]
 
-mod decimal;
 mod field;
 mod input;
-mod instant;
 mod laws;
 mod link_settings;
 mod load_fault;
 mod record;
-mod row;
 mod script;
 mod settings;
 mod table;
@@ -22,8 +19,7 @@ pub use laws::{
 };
 pub use link_settings::MOST_LINKS;
 pub use load_fault::LoadFault;
-pub use record::read_row;
-pub use row::Row;
+pub use record::{Row, read_row};
 pub use script::{MOST_RECORDS, read_record, read_script, record_reader};
 pub use settings::{MOST_SETTINGS, read_settings};
 pub use smq_book::PieceRow;

@@ -4,7 +4,7 @@ ghost use Rattle.toml.specs.View.{array_view, table_view, view};
 ghost use Rattle.smq_load.specs.Settings.{are_distinct, fitting, form_in, form_row, id_of, link_in, link_of_table, links_in, links_of, window_in};
 
 use crate::field::read_form;
-use crate::row::Row;
+use crate::record::Row;
 use crate::table::{Keys, has_known_keys, read_number, value_at};
 use smq_book::Edit;
 use smq_kit::{Form, LAST_MOMENT, LinkId, Window};

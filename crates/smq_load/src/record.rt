@@ -8,12 +8,20 @@ use crate::field::{
     is_word, read_dir, read_form, read_link, read_moment, read_network, read_octets, read_prefix,
     read_route, read_session, read_window,
 };
-use crate::row::Row;
 use bytes::Bytes;
 use csv::ByteRecord;
 use smq_book::{Edit, PieceRow};
 use smq_kit::{Dir, LinkId, Moment, SessionId};
 use std::alloc::{AllocError, Global};
+
+/// What a record of a script, or a setting, says: a piece, or an edit as it stands.
+#[derive(Drop)]
+pub enum Row {
+    /// A piece. Its edit is made of it once the present tail of its direction is known.
+    Piece(PieceRow),
+    /// Any other edit.
+    Plain(Edit),
+}
 
 /// What a record is about, as its first field names it.
 #[derive(Clone, Copy, Debug, PartialEq, Eq)]

@@ -1,6 +1,5 @@
 //! A script: CSV records, each of which says a row.
-ghost use Rattle.std.specs.Prelude.{◌≡◌, ◌≢◌, ◌+◌, ◌<◌, ◌≤◌, ◌∷◌, ◌++◌, [], List, Some, ℕ, true, false};
-ghost use Rattle.std.specs.Prelude.{IfOk, IfErr, IfSome, OnOk, length, vec_len};
+ghost use Rattle.std.specs.Prelude.{◌≡◌, ◌≢◌, ◌+◌, ◌<◌, ◌≤◌, ◌∷◌, ◌++◌, [], List, Some, ℕ, true, false, IfOk, IfErr, IfSome, OnOk, length, vec_len};
 ghost use Rattle.std.specs.Borrow.{Bor};
 ghost use Rattle.std.specs.Io.KnownBytes.{IsAtEnd};
 ghost use Rattle.csv.specs.Reading.{error_kind, is_flexible};
@@ -10,8 +9,7 @@ ghost use Rattle.smq_load.specs.NextRecord.{AddsRow, HasGiven, HasRead, IsUnread
 
 use crate::input::{InputFault, read_whole};
 use crate::load_fault::LoadFault;
-use crate::record::read_row;
-use crate::row::Row;
+use crate::record::{Row, read_row};
 use csv::{ByteRecord, Error, ErrorKind, Reader, ReaderBuilder};
 use std::alloc::Global;
 use std::io::Read;

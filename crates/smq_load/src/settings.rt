@@ -6,7 +6,7 @@ ghost use Rattle.smq_load.specs.Settings.{TellsOfSettings, clock_of, rows_in, ro
 
 use crate::link_settings::{LinkSettings, read_links};
 use crate::load_fault::LoadFault;
-use crate::row::Row;
+use crate::record::Row;
 use crate::table::{Keys, has_known_keys, read_number, value_at};
 use smq_book::Edit;
 use smq_kit::{LAST_MOMENT, Moment};

@@ -5,12 +5,12 @@ ghost use Rattle.smq_pdu.specs.Decoded.{body_view};
 ghost use Rattle.smq_pdu.specs.Numbers.{without_plus, number_of};
 ghost use Rattle.smq_pdu.specs.within.Views.{address_view};
 
-use crate::command::{DATA_SM, DATA_SM_RESP, DELIVER_SM, SUBMIT_SM, SUBMIT_SM_RESP};
 use crate::data_sm::{DataSm, read_data_sm};
-use crate::fields::{Address, read_mandatory, zero_place};
-use crate::tlv::{
-    MESSAGE_PAYLOAD, MESSAGE_STATE, NETWORK_ERROR_CODE, RECEIPTED_MESSAGE_ID, first_value,
+use crate::fields::{
+    Address, MESSAGE_PAYLOAD, MESSAGE_STATE, NETWORK_ERROR_CODE, RECEIPTED_MESSAGE_ID, first_value,
+    read_mandatory, zero_place,
 };
+use crate::pdu::{DATA_SM, DATA_SM_RESP, DELIVER_SM, SUBMIT_SM, SUBMIT_SM_RESP};
 use smq_kit::{Digits, MessageId};
 
 /// The type of an international number; the unknown type is 0 (SMPP 3.4, 5.2.5).

@@ -8,9 +8,9 @@ ghost use Rattle.smq_pdu.specs.Decoded.{submit_view, deliver_view, data_sm_view,
 ghost use Rattle.smq_pdu.specs.within.Views.{seen_data_sm_fields};
 
 use crate::body::{Body, Deliver, Submit, read_digits};
-use crate::fields::{Address, read_address, read_octet, read_text};
-use crate::tlv::{
-    MESSAGE_PAYLOAD, MESSAGE_STATE, NETWORK_ERROR_CODE, RECEIPTED_MESSAGE_ID, first_value,
+use crate::fields::{
+    Address, MESSAGE_PAYLOAD, MESSAGE_STATE, NETWORK_ERROR_CODE, RECEIPTED_MESSAGE_ID, first_value,
+    read_address, read_octet, read_text,
 };
 use smq_kit::Digits;
 

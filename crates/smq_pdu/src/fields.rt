@@ -1,9 +1,19 @@
-//! The mandatory fields of submit_sm and deliver_sm (SMPP 3.4, 4.4.1 and 4.6.1), read from left to
-//! right.
+//! The mandatory fields of submit_sm and deliver_sm (SMPP 3.4, 4.4.1 and 4.6.1), read from left to right, and the optional parameters
+//! after them (5.3).
 ghost use Rattle.std.specs.Prelude.{◌≡◌, ◌<◌, option_map, position, ◌==◌};
-ghost use Rattle.smq_pdu.specs.Readers.{octet_at, c_octet_at, octets_at, address_at, mandatory_at};
+ghost use Rattle.smq_pdu.specs.Readers.{octet_at, c_octet_at, octets_at, address_at, mandatory_at, number_at, tlv_at, tlvs_of};
 ghost use Rattle.smq_pdu.specs.within.Parts.{front_at, middle_at, back_at};
-ghost use Rattle.smq_pdu.specs.within.Views.{seen_number, seen_octets, seen_address, seen_front, seen_middle, seen_back, seen_mandatory};
+ghost use Rattle.smq_pdu.specs.within.Views.{seen_number, seen_octets, seen_address, seen_front, seen_middle, seen_back, seen_mandatory, seen_tlv};
+ghost use Rattle.smq_pdu.specs.Parameters as defined;
+ghost use Rattle.smq_pdu.specs.Decoded.{seen};
+
+pub(crate) const RECEIPTED_MESSAGE_ID: u16 = 0x001e;
+
+pub(crate) const NETWORK_ERROR_CODE: u16 = 0x0423;
+
+pub(crate) const MESSAGE_PAYLOAD: u16 = 0x0424;
+
+pub(crate) const MESSAGE_STATE: u16 = 0x0427;
 
 /// A type of number, a numbering plan and an address.
 #[derive(Clone, Copy)]
@@ -150,7 +160,7 @@ pub(crate) fn zero_place(octets: &[u8]) -> Option<usize>
 
 /// So many octets, and what follows.
 #[tactic(auto, unfolding(crate::specs::Readers::octets_at))]
-pub(crate) fn read_octets(len: usize, octets: &[u8]) -> Option<(&[u8], &[u8])>
+fn read_octets(len: usize, octets: &[u8]) -> Option<(&[u8], &[u8])>
     ensures { option_map seen_octets result ≡ octets_at len octets.now }
 {
     if octets.len() < len {
@@ -165,4 +175,45 @@ pub(crate) fn read_octet(octets: &[u8]) -> Option<(u8, &[u8])>
 {
     let (first, rest) = octets.split_first()?;
     Some((*first, rest))
+}
+
+/// An optional parameter.
+#[derive(Clone, Copy)]
+pub struct Tlv<'a> {
+    pub tag: u16,
+    pub value: &'a [u8],
+}
+
+/// The value of the first parameter with this tag among those that the octets begin with.
+pub(crate) fn first_value(tag: u16, octets: &[u8]) -> Option<&[u8]>
+    ensures { seen result ≡ defined.first_value tag (tlvs_of octets.now) }
+{
+    let mut rest = octets;
+    while let Some((tlv, after)) = read_tlv(rest) {
+        if tlv.tag == tag {
+            return Some(tlv.value);
+        }
+        rest = after;
+    }
+    None
+}
+
+/// A whole parameter, and what follows.
+#[tactic(auto, unfolding(crate::specs::Readers::tlv_at))]
+fn read_tlv(octets: &[u8]) -> Option<(Tlv<'_>, &[u8])>
+    ensures { option_map seen_tlv result ≡ tlv_at octets.now }
+{
+    let (tag, rest) = read_number(octets)?;
+    let (len, rest) = read_number(rest)?;
+    let (value, rest) = read_octets(len as usize, rest)?;
+    Some((Tlv { tag, value }, rest))
+}
+
+/// A number of two octets, and what follows.
+#[tactic(auto, unfolding(crate::specs::Readers::number_at))]
+fn read_number(octets: &[u8]) -> Option<(u16, &[u8])>
+    ensures { option_map seen_number result ≡ number_at octets.now }
+{
+    let (number, rest) = octets.split_first_chunk::<2>()?;
+    Some((u16::from_be_bytes(*number), rest))
 }

@@ -2,15 +2,12 @@
 #![tactic(auto)]
 
 mod body;
-mod command;
 mod data_sm;
 mod fields;
 mod laws;
 mod pdu;
-mod tlv;
 
 pub use body::{Body, Deliver, Submit, SubmitAnswer};
-pub use command::{agrees, is_request, is_response};
 pub use data_sm::DataSm;
 pub use laws::{
     bodies_are_read, commands_are_told_apart, fields_are_read, known_commands, known_data_sms,
@@ -18,4 +15,4 @@ pub use laws::{
     numbers_are_read, pairs_are_found, parameters_are_read, pdus_are_told_apart,
     responses_are_read,
 };
-pub use pdu::{Pdu, decode};
+pub use pdu::{Pdu, agrees, decode, is_request, is_response};

@@ -2,7 +2,6 @@
 #![tactic(auto)]
 
 mod date;
-mod error_codes;
 mod laws;
 mod message_state;
 mod reading;

@@ -12,9 +12,8 @@ ghost use Rattle.smq_receipt.specs.Texts.{header_of};
 
 use crate::MessageState;
 use crate::date::centre_delay;
-use crate::error_codes::{network_code, text_code};
 use crate::text::{up_to, values_in};
-use smq_kit::{ErrorCode, MessageId};
+use smq_kit::{ErrorCode, ErrorText, MessageId};
 use smq_pdu::Deliver;
 
 /// Bits 5 to 2 of esm_class, which tell what a message is (SMPP 3.4, 5.2.12).
@@ -213,4 +212,27 @@ fn read_error(deliver: &Deliver<'_>, value: Option<&[u8]>) -> ErrorCode
         }
     }
     ErrorCode::Unstated
+}
+
+/// The code in the octets of network_error_code.
+#[tactic(auto, unfolding(crate::specs::Errors::network_code_in))]
+fn network_code(octets: &[u8]) -> Option<ErrorCode>
+    ensures { result ≡ network_code_in octets.now }
+{
+    match octets {
+        [kind, high, low] => Some(ErrorCode::Network {
+            kind: *kind,
+            code: *high as u16 * 256 + *low as u16,
+        }),
+        _ => None,
+    }
+}
+
+/// The code in the value of `err`.
+#[tactic(auto, unfolding(crate::specs::Errors::text_code_in))]
+fn text_code(octets: &[u8]) -> Option<ErrorCode>
+    ensures { result ≡ text_code_in octets.now }
+{
+    let text = ErrorText::new(octets)?;
+    Some(ErrorCode::Text(text))
 }

@@ -1,10 +1,8 @@
 //! The text of a report: the tables' views and lists as CSV or as tables to read.
 #![tactic(auto)]
 
-mod csv_page;
 mod csv_report;
 mod laws;
-mod octets;
 mod pick;
 mod report;
 mod table_report;
@@ -15,8 +13,7 @@ pub use laws::{
     known_beginnings, known_columns, known_reports, known_sections, known_texts,
     what_is_asked_for_is_told_apart, whole_reports_are_those_of_views_and_lists,
 };
-pub use octets::write_octets;
 pub use pick::{Format, Pick, ReportFault, Section};
-pub use report::write_report;
+pub use report::{write_octets, write_report};
 pub use table_report::write_table;
 pub use value::{push_code, push_error};

@@ -6,8 +6,8 @@ ghost use Rattle.smq_report.specs.Beginnings.{AppendsBeginning};
 ghost use Rattle.smq_report.specs.Table.{section_line, table_place, table_row, table_section, table_text};
 ghost use Rattle.smq_report.specs.within.Pages.{AppendsAllBut};
 
-use crate::octets::write_octets;
 use crate::pick::{Pick, ReportFault, Section, sections_of};
+use crate::report::write_octets;
 use crate::value::{dir_name, push_value};
 use smq_kit::Place;
 use smq_tally::{Outcome, Tables, Value};

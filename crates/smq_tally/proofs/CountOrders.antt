@@ -11,7 +11,7 @@ use Rattle.smq_kit.proofs.ErrorOrders.{error-order as code-order}
 use Rattle.smq_tally.specs.declared.band.Band.{Band}
 use Rattle.smq_tally.specs.declared.outcome.Outcome.{Outcome}
 use Rattle.smq_tally.specs.declared.fact.RowKey.{RowKey}
-use Rattle.smq_tally.specs.declared.outcome_counts.OutcomeCounts.{OutcomeCounts}
+use Rattle.smq_tally.specs.declared.counts.OutcomeCounts.{OutcomeCounts}
 use Rattle.smq_tally.specs.declared.view.View.{View}
 use Rattle.smq_tally.specs.declared.value.SubmitError.{SubmitError}
 use Rattle.smq_tally.specs.declared.value.SubmitError.TheVariants as s

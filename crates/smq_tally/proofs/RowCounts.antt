@@ -13,7 +13,7 @@ use Rattle.smq_kit.proofs.MapLemmas as maps
 use Rattle.smq_tally.specs.declared.fact.CountKey.{CountKey}
 use Rattle.smq_tally.specs.declared.fact.RowKey.{RowKey}
 use Rattle.smq_tally.specs.declared.outcome.Outcome.{Outcome}
-use Rattle.smq_tally.specs.declared.outcome_counts.OutcomeCounts.{OutcomeCounts}
+use Rattle.smq_tally.specs.declared.counts.OutcomeCounts.{OutcomeCounts}
 use Rattle.smq_tally.specs.Rows.{count_key, count_cmp, outcome_rank, same_count_key, value_cmp, view_rank}
 use Rattle.smq_tally.specs.within.Counting.{count_in}
 use Rattle.smq_tally.specs.within.CountOrder.{count_keys_total, rows_total}

@@ -15,11 +15,11 @@ use Rattle.smq_tally.specs.declared.counts.Step.TheVariants as s
 use Rattle.smq_tally.specs.declared.fact.CountKey.{CountKey}
 use Rattle.smq_tally.specs.declared.fact.RowKey.{RowKey}
 use Rattle.smq_tally.specs.declared.outcome.Outcome.{Outcome}
-use Rattle.smq_tally.specs.declared.outcome_counts.OutcomeCounts.{OutcomeCounts}
+use Rattle.smq_tally.specs.declared.counts.OutcomeCounts.{OutcomeCounts}
 use Rattle.smq_tally.specs.declared.fact.Fact.{Fact}
 use Rattle.smq_tally.specs.declared.value.Value.{Value}
 use Rattle.smq_tally.specs.declared.view.View.{View}
-use Rattle.smq_tally.specs.contracts.outcome_counts.OutcomeCountsPartialEq.TheImpl as counts_eq
+use Rattle.smq_tally.specs.contracts.counts.OutcomeCountsPartialEq.TheImpl as counts_eq
 use Rattle.smq_tally.specs.Rows.{same_count_key, count_key, key_in, value_in}
 use Rattle.smq_tally.specs.within.Counting.{Counts, count_in, times, AreCounted, HaveRoom, IsMoved}
 use Rattle.smq_tally.specs.within.CountOrder.{kept_row_cmp, rows_total}

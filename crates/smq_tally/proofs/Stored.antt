@@ -13,7 +13,7 @@ use Rattle.smq_shelf.proofs.Seen as seen
 use Rattle.smq_tally.specs.declared.fact.Fact.{Fact}
 use Rattle.smq_tally.specs.declared.fact.RowKey.{RowKey}
 use Rattle.smq_tally.specs.declared.list.Listed.{Listed}
-use Rattle.smq_tally.specs.declared.outcome_counts.OutcomeCounts.{OutcomeCounts}
+use Rattle.smq_tally.specs.declared.counts.OutcomeCounts.{OutcomeCounts}
 use Rattle.smq_kit.specs.Orders.{place_cmp}
 use Rattle.smq_tally.specs.Lists.{listed_cmp, listed_set, listings_of_fact}
 use Rattle.smq_tally.specs.Rows.{keys_of_fact}

@@ -1,16 +1,15 @@
-//! Counts of facts in rows by view and value, in one ordered map that can be undone, in which no row is of no messages. A
-//! fact that is put in the place of another moves its counts: one look-up in each view where both have one value.
+//! Counts of facts in rows by view and value, in one ordered map that can be undone, in which no row is of no messages. A fact that is
+//! put in the place of another moves its counts: one look-up in each view where both have one value.
 ghost use Rattle.std.specs.Prelude.{◌≡◌, ◌<◌, ◌+◌, IsTrue, IfSome, IfOk, OnOk, OnErr, None, Some, [], option_copied, option_to_list, slice_get};
 ghost use Rattle.smq_tally.specs.within.Counting.{keys_left, keys_after, key_in_if, count_in, steps, IsMoved, AreCounted, HaveRoom};
 ghost use Rattle.smq_tally.specs.within.Kept.{counts_in, IsLogged, AreLogged};
-ghost use Rattle.smq_tally.specs.within.RowCounts.{keys_with};
+ghost use Rattle.smq_tally.specs.within.RowCounts.{keys_with, count_under, no_counts, row_step, row_after};
 ghost use Rattle.smq_tally.specs.Rows.{key_in, value_in, views, view_rank};
 
 use crate::fact::{RowKey, have_same_value, row_in};
-use crate::outcome_counts::{OutcomeCounts, RowChange};
 use crate::taking_back::{take_back, take_back_both};
 use crate::{CountKey, Fact, Outcome, View};
-use smq_shelf::KeptMap;
+use smq_shelf::{Change, KeptMap};
 use std::alloc::AllocError;
 
 /// Whether one more stands at a key, or one fewer.
@@ -24,13 +23,109 @@ impl Step {
     ghost use Rattle.smq_tally.specs.within.RowCounts.{stepped_within};
 
     /// Makes a count one more, or one fewer. It never overflows.
-    pub(crate) fn make(self, count: &mut u64)
+    fn make(self, count: &mut u64)
         ensures { count.new ≡ stepped_within self count.old }
     {
         *count = match self {
             Step::More => count.saturating_add(1),
             Step::Less => count.saturating_sub(1),
         };
+    }
+}
+
+/// How many messages have each outcome.
+#[derive(Clone, Copy, Debug, PartialEq, Eq)]
+pub struct OutcomeCounts {
+    waiting: u64,
+    mismatched: u64,
+    refused: u64,
+    no_id: u64,
+    ambiguous: u64,
+    delivered: u64,
+    failed: u64,
+    unasked: u64,
+    lapsed: u64,
+    open: u64,
+}
+
+impl OutcomeCounts {
+    /// The counts of no messages.
+    fn none() -> OutcomeCounts
+        ensures { result ≡ no_counts }
+    {
+        OutcomeCounts {
+            waiting: 0,
+            mismatched: 0,
+            refused: 0,
+            no_id: 0,
+            ambiguous: 0,
+            delivered: 0,
+            failed: 0,
+            unasked: 0,
+            lapsed: 0,
+            open: 0,
+        }
+    }
+
+    /// How many have this outcome.
+    pub(crate) fn under(&self, outcome: Outcome) -> u64
+        ensures { result ≡ count_under self.now outcome }
+    {
+        match outcome {
+            Outcome::Waiting => self.waiting,
+            Outcome::Mismatched => self.mismatched,
+            Outcome::Refused => self.refused,
+            Outcome::NoId => self.no_id,
+            Outcome::Ambiguous => self.ambiguous,
+            Outcome::Delivered => self.delivered,
+            Outcome::Failed => self.failed,
+            Outcome::Unasked => self.unasked,
+            Outcome::Lapsed => self.lapsed,
+            Outcome::Open => self.open,
+        }
+    }
+
+    fn step(&mut self, step: Step, outcome: Outcome)
+        ensures { self.new ≡ row_step step self.old outcome }
+    {
+        match outcome {
+            Outcome::Waiting => step.make(&mut self.waiting),
+            Outcome::Mismatched => step.make(&mut self.mismatched),
+            Outcome::Refused => step.make(&mut self.refused),
+            Outcome::NoId => step.make(&mut self.no_id),
+            Outcome::Ambiguous => step.make(&mut self.ambiguous),
+            Outcome::Delivered => step.make(&mut self.delivered),
+            Outcome::Failed => step.make(&mut self.failed),
+            Outcome::Unasked => step.make(&mut self.unasked),
+            Outcome::Lapsed => step.make(&mut self.lapsed),
+            Outcome::Open => step.make(&mut self.open),
+        }
+    }
+}
+
+/// A change of a row: one fewer of an outcome, then one more of another. It never overflows.
+#[derive(Clone, Copy)]
+pub struct RowChange {
+    pub(crate) less: Option<Outcome>,
+    pub(crate) more: Option<Outcome>,
+}
+
+impl Change<OutcomeCounts> for RowChange {
+    ghost after = { row_after };
+
+    // A row of no messages is none: it can only be where no message came.
+    fn make(&self, place: &mut Option<OutcomeCounts>) -> Option<OutcomeCounts> {
+        let before = *place;
+        let counts = place.get_or_insert(OutcomeCounts::none());
+        if let Some(outcome) = self.less {
+            counts.step(Step::Less, outcome);
+        }
+        if let Some(outcome) = self.more {
+            counts.step(Step::More, outcome);
+        } else if *counts == OutcomeCounts::none() {
+            *place = None;
+        }
+        before
     }
 }
 

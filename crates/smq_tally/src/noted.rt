@@ -9,7 +9,7 @@ ghost use Rattle.smq_tally.specs.Tables.{tables_of};
 ghost use Rattle.smq_tally.specs.within.Counting.{AreCounted, count_of, one_more, one_less, with_listed};
 ghost use Rattle.smq_tally.specs.within.ListOrder.{takes_facts};
 
-use crate::listing::has_listing;
+use crate::tables::has_listing;
 use crate::taking_back::take_back;
 use crate::{CountKey, Fact, Listed, Tables};
 use smq_shelf::KeptMap;

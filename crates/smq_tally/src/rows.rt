@@ -1,12 +1,13 @@
-//! The rows of a view as they are shown, in the order of values and then of outcomes: the counts that aren't 0 of the map's
-//! rows that are of the view, which stand beside each other there.
+//! The rows of a view as they are shown, in the order of values and then of outcomes: the counts that aren't 0 of the map's rows that
+//! are of the view, which stand beside each other there. And the places of a list.
 ghost use Rattle.std.specs.Prelude.{◌≡◌, [], ◌∷◌, MatchOption};
-ghost use Rattle.std.specs.Iterator.{YieldsFirstBy, item_count};
+ghost use Rattle.std.specs.Iterator.{YieldsFirstBy, item_count, YieldsFirst};
 ghost use Rattle.smq_tally.specs.within.RowCounts.{numbers_under};
 
+use crate::counts::OutcomeCounts;
 use crate::fact::RowKey;
-use crate::outcome_counts::OutcomeCounts;
-use crate::{Outcome, Value};
+use crate::{Listed, Outcome, Value};
+use smq_kit::Place;
 use smq_shelf::Entries;
 use std::marker::Model;
 
@@ -100,4 +101,34 @@ fn next_count<'a>(
         left = after;
     }
     None
+}
+
+/// The places of a list that are still to come.
+#[derive(Drop)]
+pub struct Places<'a> {
+    pub(crate) left: Entries<'a, Listed, ()>,
+}
+
+impl<'a> Model for Places<'a> {
+    ghost use Rattle.std.specs.Prelude.{List, map};
+    ghost use Rattle.smq_kit.specs.declared.place.Place.{Place};
+
+    ghost Value = { List Place };
+
+    ghost view = { λ p. map (λ e. e.0.place) p.left };
+}
+
+impl<'a> Iterator for Places<'a> {
+    type Item = Place;
+
+    ghost next_gives = { YieldsFirst (λ p. p) };
+
+    ghost remaining = { item_count (λ p. p) };
+
+    fn next(&mut self) -> Option<Place> {
+        match self.left.next() {
+            Some((listed, _)) => Some(listed.place),
+            None => None,
+        }
+    }
 }

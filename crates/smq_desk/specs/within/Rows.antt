@@ -3,7 +3,7 @@ use Rattle.std.specs.Prelude.{◌≡◌, ◌⊎◌, ◌++◌, ℕ, Bool, true, f
 use Rattle.smq_kit.specs.declared.refusal.Refusal.{Refusal}
 use Rattle.smq_kit.specs.declared.refusal.Refusal.TheVariants.{HistoryFull, Memory}
 use Rattle.smq_book.specs.declared.present.edit.Edit.{Edit}
-use Rattle.smq_book.specs.declared.present.piece_row.PieceRow.{PieceRow}
+use Rattle.smq_book.specs.declared.present.batch.PieceRow.{PieceRow}
 use Rattle.smq_desk.specs.declared.entry.Call.{Call}
 use Rattle.smq_desk.specs.declared.entry.Reply.{Reply}
 use Rattle.smq_desk.specs.declared.job.RowEnd.{RowEnd}

@@ -3,14 +3,14 @@ use Rattle.std.specs.Prelude.{◌≡◌, ◌↔◌, ⊤, ℕ, Bool, List, [], �
 use Rattle.smq_kit.specs.declared.refusal.Refusal.{Refusal}
 use Rattle.smq_kit.specs.declared.refusal.Refusal.TheVariants as refusal
 use Rattle.smq_tally.specs.Tables.{TablesKept, TablesValue}
-use Rattle.smq_book.specs.declared.present.piece_row.PieceRow.{PieceRow}
+use Rattle.smq_book.specs.declared.present.batch.PieceRow.{PieceRow}
 use Rattle.smq_book.specs.whole.Scratch.{scratch}
 use Rattle.smq_desk.specs.declared.entry.Entry.{Entry}
 use Rattle.smq_desk.specs.declared.job.LinkJob.{LinkJob}
 use Rattle.smq_desk.specs.History.{replay, IsLegal}
 use Rattle.smq_desk.specs.Jobs.{IsFresh}
 use Rattle.smq_desk.specs.Seats.{SeatValue, AreCallsOf}
-use Rattle.smq_load.specs.declared.row.Row.{Row}
+use Rattle.smq_load.specs.declared.record.Row.{Row}
 use Rattle.smq_engine.specs.declared.run_fault.RunFault.{RunFault}
 use Rattle.smq_engine.specs.declared.run_fault.RunFault.TheVariants.{BadRow, BadSettings, Read, Write, Memory, NoThread, Desk}
 use Rattle.smq_engine.specs.Play.{present_of, refused_of}

@@ -10,7 +10,7 @@ use Rattle.smq_pdu.specs.declared.fields.Middle.{Middle}
 use Rattle.smq_pdu.specs.declared.fields.Back.{Back}
 use Rattle.smq_pdu.specs.declared.fields.Mandatory.{Mandatory}
 use Rattle.smq_pdu.specs.declared.data_sm.DataSmFields.{DataSmFields}
-use Rattle.smq_pdu.specs.declared.tlv.Tlv.{Tlv}
+use Rattle.smq_pdu.specs.declared.fields.Tlv.{Tlv}
 
 -- a number, and what follows
 abbrev pub seen_number : ℕ × Bor (List ℕ) → ℕ × List ℕ

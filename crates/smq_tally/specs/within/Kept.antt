@@ -14,7 +14,7 @@ use Rattle.smq_tally.specs.declared.fact.RowKey.{RowKey}
 use Rattle.smq_tally.specs.declared.list.Listed.{Listed}
 use Rattle.smq_tally.specs.declared.outcome.Outcome.{Outcome}
 use Rattle.smq_tally.specs.declared.value.SubmitError.{SubmitError}
-use Rattle.smq_tally.specs.declared.outcome_counts.OutcomeCounts.{OutcomeCounts}
+use Rattle.smq_tally.specs.declared.counts.OutcomeCounts.{OutcomeCounts}
 use Rattle.smq_tally.specs.Lists.{listed_cmp}
 use Rattle.smq_tally.specs.Tables.{TablesValue, tables_of}
 use Rattle.smq_tally.specs.within.Counting.{Counts}

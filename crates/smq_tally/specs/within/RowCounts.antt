@@ -11,9 +11,9 @@ use Rattle.smq_tally.specs.declared.fact.CountKey.{CountKey}
 use Rattle.smq_tally.specs.declared.fact.RowKey.{RowKey}
 use Rattle.smq_tally.specs.declared.outcome.Outcome.{Outcome}
 use Rattle.smq_tally.specs.declared.outcome.Outcome.TheVariants as o
-use Rattle.smq_tally.specs.declared.outcome_counts.OutcomeCounts.{OutcomeCounts}
-use Rattle.smq_tally.specs.declared.outcome_counts.RowChange.{RowChange}
-use Rattle.smq_tally.specs.contracts.outcome_counts.OutcomeCountsPartialEq.TheImpl as counts_eq
+use Rattle.smq_tally.specs.declared.counts.OutcomeCounts.{OutcomeCounts}
+use Rattle.smq_tally.specs.declared.counts.RowChange.{RowChange}
+use Rattle.smq_tally.specs.contracts.counts.OutcomeCountsPartialEq.TheImpl as counts_eq
 use Rattle.smq_tally.specs.declared.fact.Fact.{Fact}
 use Rattle.smq_tally.specs.declared.value.Value.{Value}
 use Rattle.smq_tally.specs.declared.view.View.{View}

@@ -1,7 +1,7 @@
 use Rattle.std.proofs.Common.{◌≡◌, ◌∷◌, ◌++◌, List, [], ◌∙◌, ap, sym, subst, length, append-nil, append_assoc, arith}
 use Rattle.std.proofs.lemmas.List.{nil_from_length}
 use Rattle.std.specs.Vec.Iter.{into_iter_items}
-use Rattle.smq_load.specs.declared.row.Row.{Row}
+use Rattle.smq_load.specs.declared.record.Row.{Row}
 use Rattle.smq_engine.specs.Workers.{edits_of_calls}
 use Rattle.smq_engine.specs.within.Jobs.{AreJobsOf}
 use Rattle.smq_engine.proofs.WorkerLemmas.{plain_taken}

@@ -1,7 +1,7 @@
 -- The rows so far are taken.
 use Rattle.std.proofs.Common.{◌≡◌, ◌++◌, List}
 use Rattle.std.specs.Vec.Iter.{into_iter_items}
-use Rattle.smq_load.specs.declared.row.Row.{Row}
+use Rattle.smq_load.specs.declared.record.Row.{Row}
 use Rattle.smq_engine.specs.Workers.{edits_of_calls, plain_edits}
 use Rattle.smq_engine.specs.within.Jobs.{AreJobsOf, AreReady}
 use Rattle.smq_engine.proofs.desk_play.take_rows.Given as goal

@@ -1,7 +1,7 @@
 use Rattle.std.proofs.Common.{◌∙◌, ap, true, ℕ}
 use Rattle.std.specs.Prelude.{option_map}
 use Rattle.std.specs.FinMap.{get, get-empty, get-insert}
-use Rattle.smq_kit.specs.declared.form.Key.TheVariants.{Number}
+use Rattle.smq_kit.specs.declared.message_id.Key.TheVariants.{Number}
 use Rattle.smq_kit.specs.declared.place.Dir.TheVariants.{FromCentre}
 use Rattle.smq_kit.specs.declared.place.Place.{Place}
 use Rattle.smq_kit.specs.Orders.{place_cmp}

@@ -1,7 +1,7 @@
 use Rattle.std.proofs.Common.{◌∙◌, ap}
 use Rattle.std.specs.Prelude.{Some, option_map}
 use Rattle.std.specs.FinMap.{get, get-empty, get-insert}
-use Rattle.smq_kit.specs.declared.form.Key.{Key}
+use Rattle.smq_kit.specs.declared.message_id.Key.{Key}
 use Rattle.smq_kit.specs.Orders.{place_cmp}
 use Rattle.smq_kit.proofs.PlaceOrders.{places_total}
 use Rattle.smq_group.specs.Groups.{key_on}

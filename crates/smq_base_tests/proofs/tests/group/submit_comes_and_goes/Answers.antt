@@ -1,6 +1,6 @@
 use Rattle.std.proofs.Common.{◌∙◌, ap}
 use Rattle.std.specs.FinMap.{get, get-empty, get-insert}
-use Rattle.smq_kit.specs.declared.form.Key.TheVariants.{Number}
+use Rattle.smq_kit.specs.declared.message_id.Key.TheVariants.{Number}
 use Rattle.smq_kit.specs.declared.link_key.LinkKey.{LinkKey}
 use Rattle.smq_kit.specs.declared.place.Dir.TheVariants.{FromClient}
 use Rattle.smq_kit.specs.declared.place.Place.{Place}
