@@ -6,7 +6,6 @@ use Rattle.std.specs.declared.cmp.Ordering.TheVariants.{Less}
 use Rattle.std.specs.Ordering.{is_gt, is_le, is_lt, nat_cmp, ordering_then}
 use Rattle.std.proofs.lemmas.Bool.{false≢true}
 use Rattle.std.proofs.lemmas.Bool.Decides.{nat_tests}
-use Rattle.std.proofs.lemmas.Cmp.{nat_list_cmp_total, upto}
 use Rattle.smq_kit.specs.Orders.{least_place, octets_cmp, place_cmp}
 use Rattle.smq_kit.proofs.Comparisons.{then_le}
 use Rattle.smq_kit.proofs.PlaceOrders.{least-le}
@@ -63,10 +62,3 @@ module _ (prefix : List ℕ) where
   -- above another number at or above it, none is of the prefix
   pub from-none_above : (k j : NumberAt) → is_le (number_cmp from k) ≡ true → begins k.number prefix ≡ false → number_cmp k j ≡ Less → begins j.number prefix ≡ false
   from-none_above k j g n l = none_past prefix k.number j.number (first_le (octets_cmp prefix k.number) (place_cmp least_place k.place) g) n (less_numbers k j l)
-
-  -- nor above another that is above one of the prefix
-  pub after-none_above : (a k j : NumberAt) → begins a.number prefix ≡ true → is_lt (number_cmp a k) ≡ true → begins k.number prefix ≡ false → number_cmp k j ≡ Less → begins j.number prefix ≡ false
-  after-none_above a k j u g n l =
-      none_past prefix k.number j.number
-      (upto nat_list_cmp_total prefix a.number k.number (not_below a.number prefix u) (first_lt (octets_cmp a.number k.number) (place_cmp a.place k.place) g))
-      n (less_numbers k j l)

@@ -1,53 +1,33 @@
 -- A walk over the numbers of a prefix, from place to place.
-use Rattle.std.proofs.Common.{◌≡◌, ◌+◌, ℕ, arith, length, Bool, true, cond, List, [], ◌∷◌, Option, Some, None, refl, sym, ap, ◌∙◌, subst, filter, find}
-use Rattle.std.specs.Prelude.{count_by, IfSome}
-use Rattle.std.specs.Ordering.{is_le, is_lt}
+use Rattle.std.proofs.Common.{◌≡◌, ◌+◌, ℕ, arith, length, Bool, true, false, cond, List, [], ◌∷◌, Some, None, refl, sym, ap, ◌∙◌, filter}
+use Rattle.std.specs.Prelude.{count_by}
+use Rattle.std.specs.declared.cmp.Ordering.TheVariants.{Less}
+use Rattle.std.specs.Ordering.{is_le}
 use Rattle.std.specs.List.Sorted.{IsStrictlySortedBy}
 use Rattle.std.specs.Map.{keys_of}
 use Rattle.std.proofs.lemmas.List.Sums.{sum_by-cons}
 use Rattle.smq_kit.proofs.Ordered as ordered
 use Rattle.smq_shelf.specs.Places.{content_of}
 use Rattle.smq_shelf.proofs.Changes.{content_ordered}
-use Rattle.smq_shelf.proofs.Walks.{Narrows, both, filled-are, found-passes, with_first}
+use Rattle.smq_shelf.proofs.Walks.{filled-are}
 use Rattle.smq_route.specs.declared.numbers.NumberAt.{NumberAt}
 use Rattle.smq_route.specs.Numbers.{number_cmp, of_prefix, places_under}
 use Rattle.smq_route.specs.Versions.{begins}
 use Rattle.smq_route.specs.within.NumberKeys.{numbers_in}
-use Rattle.smq_route.specs.within.NumberWalks.{Spot, filled, is_past, is_under, vacant_numbers}
-use Rattle.smq_route.proofs.NumberOrders.{after-none_above, from, from-at_or_above, from-none_above, numbers_exact, numbers_total}
+use Rattle.smq_route.specs.within.NumberWalks.{Spot, filled, is_under, vacant_numbers}
+use Rattle.smq_route.proofs.NumberOrders.{from, from-at_or_above, from-none_above, numbers_exact, numbers_total}
 
 -- ---- look-ups
 
-module _ (prefix : List ℕ) where
-  abbrev at_or_above : NumberAt → Spot → Bool
-  at_or_above k e = is_le (number_cmp k e.0)
+module _ (prefix : List ℕ) (least : NumberAt) (is : least ≡ from prefix) where
+  -- the numbers of a prefix stand from the least key on
+  pub under-from : (k : NumberAt) → begins k.number prefix ≡ true → is_le (number_cmp least k) ≡ true
+  under-from k of = ap (λ l. is_le (number_cmp l k)) is ∙ from-at_or_above prefix k of
 
-  abbrev above : NumberAt → Spot → Bool
-  above k e = is_lt (number_cmp k e.0)
-
-  abbrev of : Spot → Bool
-  of e = is_under prefix e
-
-  pub from-narrows : (k : NumberAt) → k ≡ from prefix → Narrows number_cmp (at_or_above k) of of
-  from-narrows k same = subst (λ j. Narrows number_cmp (at_or_above j) of of) (sym same) (record {
-    both = λ e. with_first (at_or_above (from prefix) e) (of e) (from-at_or_above prefix e.0);
-    up = λ e f g n l. from-none_above prefix e.0 f.0 g n l;
-  })
-
-  pub after-narrows : (k : NumberAt) → begins k.number prefix ≡ true → Narrows number_cmp (above k) of (is_past prefix k)
-  after-narrows k u = record {
-    both = λ e. refl;
-    up = λ e f g n l. after-none_above prefix k e.0 f.0 u g n l;
-  }
-
--- what a look-up finds is of the prefix
-pub found-under : (prefix : List ℕ) (spots : List Spot) (next : Option Spot) → next ≡ find (is_under prefix) spots → IfSome next (λ e. begins e.0.number prefix ≡ true)
-found-under prefix spots None h = tt
-found-under prefix spots (Some e) h = found-passes (is_under prefix) spots e (sym h)
-
-pub next-under : (prefix : List ℕ) (k : NumberAt) (spots : List Spot) (next : Option Spot) → next ≡ find (is_past prefix k) spots → IfSome next (λ e. begins e.0.number prefix ≡ true)
-next-under prefix k spots None h = tt
-next-under prefix k spots (Some e) h = (both (is_lt (number_cmp k e.0)) (begins e.0.number prefix) (found-passes (is_past prefix k) spots e (sym h))).1
+  -- and after one there that isn't of them comes none
+  pub under-beside : (k j : NumberAt) → is_le (number_cmp least k) ≡ true → begins k.number prefix ≡ false → number_cmp k j ≡ Less
+      → begins j.number prefix ≡ false
+  under-beside k j there other less = from-none_above prefix k j (ap (λ l. is_le (number_cmp l k)) (sym is) ∙ there) other less
 
 -- ---- what a walk tells
 

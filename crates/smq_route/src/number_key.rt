@@ -9,7 +9,7 @@ ghost use Rattle.smq_route.specs.within.NumberCodes.{IsCode, number_of, span_of}
 ghost use Rattle.smq_route.specs.within.NumberKeys.{numbers_exact, numbers_total};
 
 use smq_kit::{Digits, LEAST_PLACE, Place};
-use smq_shelf::ShelfKey;
+use smq_shelf::{ShelfKey, Stretch};
 use std::cmp::Ordering;
 use std::marker::Model;
 
@@ -143,6 +143,15 @@ impl Prefix {
         ensures { result ≡ begins key.now.number self.now }
     {
         (self.first <= key.code) & (key.code < self.past)
+    }
+}
+
+/// The numbers that begin with it, at all places.
+impl Stretch<NumberKey> for Prefix {
+    ghost has = { λ prefix key. begins key.number prefix };
+
+    fn has(&self, key: &NumberKey) -> bool {
+        self.begins(key)
     }
 }
 

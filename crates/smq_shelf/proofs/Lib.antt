@@ -3,6 +3,7 @@ pub mod Altered
 pub mod Changes
 pub mod Replacing
 pub mod Walks
+pub mod Stretches
 pub mod Seen
 pub mod Steps
 pub mod Vacancies

@@ -9,6 +9,7 @@ mod laws;
 mod logged;
 mod shelf;
 mod shelf_key;
+mod walk;
 
 pub use change::Change;
 pub use kept::Kept;
@@ -16,3 +17,4 @@ pub use kept_map::{Entries, KeptMap};
 pub use laws::{known_changes, known_clearings, known_contents, known_entries, known_touches};
 pub use shelf::Shelf;
 pub use shelf_key::ShelfKey;
+pub use walk::{Stretch, keys_in};

@@ -1,10 +1,8 @@
 -- What a walk over the numbers that begin with a prefix meets.
-use Rattle.std.specs.Prelude.{ℕ, Bool, ◌&&◌, not, List, map, filter, Option, is_some}
-use Rattle.std.specs.Ordering.{is_lt}
+use Rattle.std.specs.Prelude.{ℕ, Bool, not, List, map, filter, Option, is_some}
 use Rattle.smq_kit.specs.declared.place.Place.{Place}
 use Rattle.smq_shelf.specs.Places.{content_of}
 use Rattle.smq_route.specs.declared.numbers.NumberAt.{NumberAt}
-use Rattle.smq_route.specs.Numbers.{number_cmp}
 use Rattle.smq_route.specs.Versions.{begins}
 
 -- a place of a shelf of numbers: vacant, or not
@@ -14,10 +12,6 @@ Spot = NumberAt × Option (Unit {0})
 -- whether an entry's number begins with a prefix
 abbrev pub is_under : {X : Type 0} → List ℕ → NumberAt × X → Bool
 is_under prefix e = begins e.0.number prefix
-
--- whether it does, and comes after a number at a place
-abbrev pub is_past : {X : Type 0} → List ℕ → NumberAt → NumberAt × X → Bool
-is_past prefix after e = is_lt (number_cmp after e.0) && begins e.0.number prefix
 
 -- the places of entries
 abbrev pub placed : {X : Type 0} → List (NumberAt × X) → List Place
