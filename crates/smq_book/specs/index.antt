@@ -6,11 +6,10 @@ pub mod Due
 pub mod DueKeys
 pub mod Ends
 pub mod EndKeys
-pub mod EndWalks
-pub mod DueWalks
 pub mod Coming
 pub mod Held
 pub mod Following
+pub mod Anew
 pub mod Opening
 pub mod Pairs
 pub mod Kept

@@ -54,17 +54,14 @@ pub use laws::whole::{
 // values and calls
 pub use join::fact::fact_under;
 pub use join::message::{Message, ReceivedReceipt, Response};
-pub use pairing::pairs::place_of;
-pub use pairing::source::Source;
-pub use present::batch::{Batch, prepare};
+pub use pairing::pairs::{Source, place_of};
+pub use present::batch::{Batch, PieceRow, prepare};
 pub use present::edit::Edit;
 pub use present::forms::Forms;
 pub use present::kept::{Content, KeptPdu};
-pub use present::piece_row::PieceRow;
 pub use present::present::Present;
-pub use present::session::Session;
+pub use present::session::{Direction, Piece, Session};
 pub use present::settings::Settings;
-pub use present::stream::{Direction, Piece};
 pub use smq_tally::{
     Band, CountKey, Fact, List, Listed, Outcome, Places, Rows, SubmitError, Tables, Value, View,
 };

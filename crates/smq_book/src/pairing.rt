@@ -1,4 +1,3 @@
 //! What the octets that are present say: messages with their responses, receipts, and the places that need a look.
 pub mod notes;
 pub mod pairs;
-pub mod source;

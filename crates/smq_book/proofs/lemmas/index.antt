@@ -8,11 +8,13 @@ pub mod PlacedKeys
 pub mod Numbered
 pub mod Due
 pub mod Ends
+pub mod AreDue
 pub mod Unaccepted
 pub mod EndWalks
 pub mod Anew
 pub mod Coming
 pub mod Members
+pub mod StandingIn
 pub mod Moves
 pub mod Followed
 pub mod Costs

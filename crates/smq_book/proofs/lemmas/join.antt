@@ -5,6 +5,7 @@ pub mod AgreeListings
 pub mod ListedReceipts
 pub mod MoveLemmas
 pub mod OtherForms
+pub mod ReceiptLists
 pub mod Routed
 pub mod Lapsing
 pub mod Delays

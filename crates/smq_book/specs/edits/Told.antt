@@ -1,10 +1,8 @@
 -- What the standings that groups tell say of facts and notes.
-use Rattle.std.specs.Prelude.{◌==◌, Bool, List, ◌∷◌, map, Option, Some, None}
+use Rattle.std.specs.Prelude.{Bool, List, ◌∷◌, map, Option, Some, None}
 use Rattle.smq_kit.specs.declared.place.Place.{Place}
-use Rattle.smq_kit.specs.Maps.{same_option}
 use Rattle.smq_tally.specs.declared.list.List as l
 use Rattle.smq_tally.specs.declared.list.List.TheVariants.{StrayReceipts, AmbiguousReceipts, ExtraReceipts}
-use Rattle.smq_tally.specs.Lists.{list_rank}
 use Rattle.smq_group.specs.declared.change.Change.{Change}
 use Rattle.smq_group.specs.declared.change.Standing as told
 use Rattle.smq_group.specs.declared.change.Standing.TheVariants as t
@@ -12,6 +10,7 @@ use Rattle.smq_group.specs.Matching as m
 use Rattle.smq_book.specs.present.Settings.{SettingsValue}
 use Rattle.smq_book.specs.pairing.Traffic.{Message, TrafficValue}
 use Rattle.smq_book.specs.join.Circumstances.{Circumstances, decider_in, route_in, lapsed_in}
+use Rattle.smq_book.specs.join.Listings.{is_named}
 
 -- the place of a move, and those of which changes tell
 abbrev pub told_places : Place → List Change → List Place
@@ -39,10 +38,6 @@ list_told t.Shared = Some AmbiguousReceipts
 list_told t.Extra = Some ExtraReceipts
 list_told _ = None
 
--- whether two lists are one
-abbrev pub same_list : l.List → l.List → Bool
-same_list a b = list_rank a == list_rank b
-
 -- whether a list is the one of a standing that is told
 abbrev pub is_list_told : told.Standing → l.List → Bool
-is_list_told standing list = same_option same_list (list_told standing) (Some list)
+is_list_told standing list = is_named list (list_told standing)

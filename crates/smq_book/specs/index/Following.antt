@@ -1,5 +1,5 @@
 -- What is stored before facts and listings follow the standings.
-use Rattle.std.specs.Prelude.{◌≡◌, Bool, true, false, List, Option, Some, None}
+use Rattle.std.specs.Prelude.{◌≡◌, ◌||◌, Bool, false, List, Option, Some, None}
 use Rattle.std.specs.FinMap as fin
 use Rattle.std.specs.FinSet.{FinSet}
 use Rattle.std.specs.List.{AllByRecursion}
@@ -8,13 +8,13 @@ use Rattle.smq_kit.specs.declared.place.Place.{Place}
 use Rattle.smq_kit.specs.Orders.{place_cmp}
 use Rattle.smq_tally.specs.declared.fact.Fact.{Fact}
 use Rattle.smq_tally.specs.declared.list.List as l
-use Rattle.smq_tally.specs.declared.list.List.TheVariants.{StrayReceipts, AmbiguousReceipts, ExtraReceipts}
 use Rattle.smq_tally.specs.Lists.{listed, listed_cmp}
 use Rattle.smq_group.specs.declared.change.Change.{Change}
 use Rattle.smq_group.specs.Matching.{Grouping}
 use Rattle.smq_group.specs.Standings.{standing_at}
-use Rattle.smq_book.specs.index.Held.{AreOf, IsUnlisted, is_ambiguous, is_extra, is_stray, list_held}
+use Rattle.smq_book.specs.index.Held.{AreOf, IsUnlisted, is_traffic_list, list_held}
 use Rattle.smq_book.specs.join.Circumstances.{route_in}
+use Rattle.smq_book.specs.join.Listings.{is_named}
 use Rattle.smq_book.specs.pairing.Traffic.{Message, ReceivedReceipt, TrafficValue}
 use Rattle.smq_book.specs.present.Settings.{SettingsValue}
 
@@ -24,10 +24,7 @@ AreTold g changes = AllByRecursion (λ c. standing_at g c.place ≡ Some c.stand
 
 -- whether a list, unless it isn't one of those of receipts, is this one
 abbrev pub may_note : l.List → Option l.List → Bool
-may_note StrayReceipts list = is_stray list
-may_note AmbiguousReceipts list = is_ambiguous list
-may_note ExtraReceipts list = is_extra list
-may_note _ list = true
+may_note name list = is_traffic_list name || is_named name list
 
 -- No list of receipts but this one, if any, notes a place.
 pub record IsInNoOther (notes : FinSet listed_cmp) (place : Place) (list : Option l.List) : Type 0 where

@@ -1,14 +1,13 @@
 -- What an index holds, by place.
-use Rattle.std.specs.Prelude.{◌≡◌, ⊤, Bool, true, false, if◌then◌else◌, List, fold, Option, Some, None, option_and_then}
+use Rattle.std.specs.Prelude.{◌≡◌, ⊤, Bool, true, false, not, if◌then◌else◌, List, [], ◌∷◌, fold, Option, Some, None, option_and_then}
 use Rattle.std.specs.FinMap as fin
 use Rattle.std.specs.FinSet.{FinSet}
 use Rattle.smq_kit.specs.declared.place.Dir.TheVariants.{FromClient, FromCentre}
 use Rattle.smq_kit.specs.declared.place.Place.{Place}
-use Rattle.smq_kit.specs.Maps.{chosen, set_at}
+use Rattle.smq_kit.specs.Maps.{chosen, patched, set_at}
 use Rattle.smq_kit.specs.Orders.{place_cmp}
 use Rattle.smq_tally.specs.Lists.{listed, listed_cmp}
 use Rattle.smq_tally.specs.declared.list.List as l
-use Rattle.smq_tally.specs.declared.list.List.TheVariants.{StrayReceipts, AmbiguousReceipts, ExtraReceipts}
 use Rattle.smq_group.specs.declared.change.Change.{Change}
 use Rattle.smq_tally.specs.declared.fact.Fact.{Fact}
 use Rattle.smq_group.specs.declared.change.Standing as told
@@ -26,7 +25,7 @@ use Rattle.smq_book.specs.pairing.Traffic.{Message, ReceivedReceipt, TrafficValu
 use Rattle.smq_book.specs.join.Facts.{facts_of}
 use Rattle.smq_book.specs.join.Keyed.{grouping_of}
 use Rattle.smq_book.specs.edits.Told.{list_told}
-use Rattle.smq_book.specs.join.Listings.{list_of_standing, notes_of}
+use Rattle.smq_book.specs.join.Listings.{is_named, is_receipt_list, list_of_standing, notes_of, receipt_listings}
 use Rattle.smq_book.specs.join.Moves.{Move, PutMessage, TakeMessage, PutReceipt, TakeReceipt, PutNote, TakeNote}
 
 -- messages and receipts that are stored as finite maps
@@ -63,24 +62,9 @@ abbrev pub list_by : Bool → Option told.Standing → Option l.List
 list_by false standing = None
 list_by true standing = option_and_then list_told standing
 
-abbrev pub is_stray : Option l.List → Bool
-is_stray (Some StrayReceipts) = true
-is_stray _ = false
-
-abbrev pub is_ambiguous : Option l.List → Bool
-is_ambiguous (Some AmbiguousReceipts) = true
-is_ambiguous _ = false
-
-abbrev pub is_extra : Option l.List → Bool
-is_extra (Some ExtraReceipts) = true
-is_extra _ = false
-
--- notes where a receipt's place stands in this list of receipts alone, or in none of the three
+-- notes where a receipt's place stands in this list of receipts alone, or in none of them
 abbrev pub with_listing : FinSet listed_cmp → Place → Option l.List → FinSet listed_cmp
-with_listing notes place list =
-    set_at (set_at (set_at notes (listed StrayReceipts place) (noted (is_stray list)))
-    (listed AmbiguousReceipts place) (noted (is_ambiguous list)))
-    (listed ExtraReceipts place) (noted (is_extra list))
+with_listing notes place list = patched notes (λ note. noted (is_named note.list list)) (receipt_listings (place ∷ []))
 
 -- facts where those of places are set anew
 abbrev pub facts_anew : (Place → Option Fact) → fin.FinMap place_cmp Fact → List Change → fin.FinMap place_cmp Fact
@@ -100,25 +84,20 @@ pub record AreOf (s : SettingsValue) (t : TrafficValue) (g : Grouping) : Type 0 
   pub grouped : g ≡ grouping_of s t
   pub apart : (place : Place) (m : Message) → fin.get t.messages place ≡ Some m → fin.get t.receipts place ≡ None
 
+-- a list isn't one of those of receipts
+abbrev pub is_traffic_list : l.List → Bool
+is_traffic_list list = not (is_receipt_list list)
+
+-- A place is noted in no list of receipts.
+pub record IsUnlisted (notes : FinSet listed_cmp) (place : Place) : Type 0 where
+  pub none : (list : l.List) → is_traffic_list list ≡ false → fin.get notes (listed list place) ≡ None
+
 -- Traffic as sessions say it: messages stand in the client's direction and receipts in the centre's, and no note is in a list
 -- of receipts.
 pub record IsTraffic (t : TrafficValue) : Type 0 where
   pub messages : (place : Place) (m : Message) → fin.get t.messages place ≡ Some m → place.dir ≡ FromClient
   pub receipts : (place : Place) (r : ReceivedReceipt) → fin.get t.receipts place ≡ Some r → place.dir ≡ FromCentre
-  pub strays : (place : Place) → fin.get t.notes (listed StrayReceipts place) ≡ None
-  pub ambiguous : (place : Place) → fin.get t.notes (listed AmbiguousReceipts place) ≡ None
-  pub extras : (place : Place) → fin.get t.notes (listed ExtraReceipts place) ≡ None
-
--- a list isn't one of those of receipts
-abbrev pub is_traffic_list : l.List → Bool
-is_traffic_list StrayReceipts = false
-is_traffic_list AmbiguousReceipts = false
-is_traffic_list ExtraReceipts = false
-is_traffic_list _ = true
-
--- A place is noted in no list of receipts.
-pub record IsUnlisted (notes : FinSet listed_cmp) (place : Place) : Type 0 where
-  pub none : (list : l.List) → is_traffic_list list ≡ false → fin.get notes (listed list place) ≡ None
+  pub unlisted : (place : Place) → IsUnlisted t.notes place
 
 -- A move leaves such traffic so.
 abbrev pub KeepsTraffic : Move → Type 0

@@ -8,8 +8,15 @@ use Rattle.smq_book.specs.index.Touches.{HasNothingPending}
 use Rattle.smq_book.specs.pairing.Traffic.{traffic_of}
 use Rattle.smq_book.specs.present.Present.{PresentValue}
 
--- What is held is that of the traffic of the sessions that are present, under what is set, and the pairs are those of each
--- session; all of it is settled, so that no change is pending and no place is vacant.
+-- What an index holds is that of the traffic of the sessions that are present, under what is set, and it is settled, so that no
+-- change is pending and no place is vacant.
+pub record IsIndexed (p : PresentValue) (index : Index) : Type 0 where
+  pub held : IsHeld p.settings (held_now index)
+  pub traffic : traffic_held (held_now index) ≡ traffic_of p.sessions
+  pub settled : held_settled index ≡ held_now index
+  pub pending : HasNothingPending index
+
+-- The same of a book, and the pairs are those of each session, which are settled too.
 pub record IsKept (p : PresentValue) (index : Index) (pairings : Pairings) : Type 0 where
   pub held : IsHeld p.settings (held_now index)
   pub traffic : traffic_held (held_now index) ≡ traffic_of p.sessions

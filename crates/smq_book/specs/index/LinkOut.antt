@@ -1,15 +1,16 @@
 -- What has a key on a link is taken out of traffic, so that its forms can be set, and put in again.
-use Rattle.std.specs.Prelude.{◌≡◌, ◌≢◌, ◌==◌, ◌&&◌, Bool, List, ◌++◌, map, is_some, Some, None}
-use Rattle.std.specs.List.{AllByRecursion}
+use Rattle.std.specs.Prelude.{◌==◌, ◌&&◌, Bool, List, [], ◌∷◌, ◌++◌, Option, is_some, map, option_map, option_to_list}
 use Rattle.std.specs.FinMap as fin
 use Rattle.smq_kit.specs.declared.names.LinkId.{LinkId}
 use Rattle.smq_kit.specs.declared.place.Dir.{Dir}
+use Rattle.smq_kit.specs.declared.place.Dir.TheVariants.{FromClient, FromCentre}
 use Rattle.smq_kit.specs.declared.place.Place.{Place}
-use Rattle.smq_kit.specs.Maps.{patched}
 use Rattle.smq_kit.specs.Orders.{place_cmp}
-use Rattle.smq_book.specs.edits.Reached.{passing}
+use Rattle.smq_book.specs.declared.index.stored.Said.{Said}
+use Rattle.smq_book.specs.declared.index.stored.Said.TheVariants as said
+use Rattle.smq_book.specs.edits.Reached.{link_receipts, passing}
 use Rattle.smq_book.specs.join.Keyed.{accepted_id}
-use Rattle.smq_book.specs.join.Moves.{Move, PutMessage, PutReceipt}
+use Rattle.smq_book.specs.join.Moves.{Move, PutMessage, PutReceipt, TakeMessage, TakeReceipt, moved}
 use Rattle.smq_book.specs.pairing.Traffic.{Message, ReceivedReceipt, TrafficValue}
 
 -- whether a message is accepted, under whatever forms
@@ -20,24 +21,47 @@ is_accepted m = is_some (accepted_id m.response)
 abbrev pub accepted_on : LinkId → TrafficValue → fin.FinMap place_cmp Message
 accepted_on link t = passing (λ place m. m.link.0 == link.0 && is_accepted m) t.messages
 
--- entries at places of a direction
-abbrev pub AllFrom : {X : Type 0} → Dir → List (Place × X) → Type 0
-AllFrom dir es = AllByRecursion (λ e. e.0.dir ≡ dir) es
+-- messages at their places, then delivery receipts
+abbrev pub all_said : List (Place × Message) → List (Place × ReceivedReceipt) → List (Place × Said)
+all_said ms rs = map (λ e. (e.0, said.Message e.1)) ms ++ map (λ e. (e.0, said.Receipt e.1)) rs
 
--- Entries are taken out of a map: it has them, and their places are all that it has more than the other.
-pub record TakesOut {X : Type 0} (m : fin.FinMap place_cmp X) (es : List (Place × X)) (n : fin.FinMap place_cmp X) : Type 0 where
-  pub were : AllByRecursion (λ e. fin.get m e.0 ≡ Some e.1) es
-  pub left : n ≡ patched m (λ q. None) (map (λ e. e.0) es)
+-- what has a key on a link: its accepted messages, then its delivery receipts
+abbrev pub keyed_on : LinkId → TrafficValue → List (Place × Said)
+keyed_on link t = all_said (fin.entries (accepted_on link t)) (fin.entries (link_receipts link t))
 
--- These messages and delivery receipts are taken out of traffic, in which nothing of a link has a key then.
-pub record IsOut (link : LinkId) (t : TrafficValue) (ms : List (Place × Message)) (rs : List (Place × ReceivedReceipt))
-    (u : TrafficValue) : Type 0 where
-  pub messages : TakesOut t.messages ms u.messages
-  pub receipts : TakesOut t.receipts rs u.receipts
-  pub notes : u.notes ≡ t.notes
-  pub no_message : (q : Place) (m : Message) → fin.get u.messages q ≡ Some m → m.link ≡ link → accepted_id m.response ≡ None
-  pub no_receipt : (q : Place) (r : ReceivedReceipt) → fin.get u.receipts q ≡ Some r → r.link ≢ link
+-- where it stands
+abbrev pub keyed_places : LinkId → TrafficValue → List Place
+keyed_places link t = fin.keys (accepted_on link t) ++ fin.keys (link_receipts link t)
 
--- messages and delivery receipts are put in
-abbrev pub puts_of : List (Place × Message) → List (Place × ReceivedReceipt) → List Move
-puts_of ms rs = map PutMessage ms ++ map PutReceipt rs
+-- what stands at a place: a message in the client's direction, a delivery receipt in the centre's
+abbrev pub said_in : Dir → TrafficValue → Place → Option Said
+said_in FromClient t q = option_map said.Message (fin.get t.messages q)
+said_in FromCentre t q = option_map said.Receipt (fin.get t.receipts q)
+
+abbrev pub said_at : TrafficValue → Place → Option Said
+said_at t q = said_in q.dir t q
+
+-- it is taken out
+abbrev pub take_in : Dir → Place → Move
+take_in FromClient q = TakeMessage q
+take_in FromCentre q = TakeReceipt q
+
+abbrev pub take_at : Place → Move
+take_at q = take_in q.dir q
+
+-- a message or a delivery receipt is put in at its place
+abbrev pub put_in : Place → Said → Move
+put_in q (said.Message m) = PutMessage (q, m)
+put_in q (said.Receipt r) = PutReceipt (q, r)
+
+abbrev pub put_of : Place × Said → Move
+put_of e = put_in e.0 e.1
+
+-- what stands at a place, with it
+abbrev pub found_at : TrafficValue → Place → List (Place × Said)
+found_at t q = option_to_list (option_map (λ x. (q, x)) (said_at t q))
+
+-- what stands at places of which each is taken out in turn
+abbrev pub found_in_turn : TrafficValue → List Place → List (Place × Said)
+found_in_turn t [] = []
+found_in_turn t (q ∷ qs) = found_at t q ++ found_in_turn (moved t (take_at q)) qs

@@ -93,11 +93,21 @@ answer_moves messages made response =
 abbrev pub receipt_moves : Origin → KeptPdu → List Move
 receipt_moves origin p = map PutReceipt (option_to_list (receipt_at origin p))
 
--- the next PDU of the centre by the messages that there are and the pair that it makes: its notes, the message that it answers,
--- and the receipt that it is
-abbrev pub centre_by : Origin → fin.FinMap place_cmp Message → KeptPdu → Option Pair → List Move
-centre_by origin messages next made =
-    noted_moves origin FromCentre next made ++ (answer_moves messages made next ++ receipt_moves origin next)
+-- what the next PDU of a direction puts in and changes, by the messages and the PDUs of the centre that there are and by the pair
+-- that it makes: its notes, and the message that it is, or the message that it answers and the receipt that it is
+abbrev pub said_moves : Origin → Dir → fin.FinMap place_cmp Message → List KeptPdu → KeptPdu → Option Pair → List Move
+said_moves origin FromClient messages centre next made = submit_moves origin next (said_in centre made)
+said_moves origin FromCentre messages centre next made = answer_moves messages made next ++ receipt_moves origin next
+
+abbrev pub moves_by : Origin → Dir → fin.FinMap place_cmp Message → List KeptPdu → KeptPdu → Option Pair → List Move
+moves_by origin dir messages centre next made = noted_moves origin dir next made ++ said_moves origin dir messages centre next made
+
+-- Nothing stands yet at the place of the next PDU of a direction, and the message that it answers has no response.
+abbrev pub IsUnsaid : TrafficValue → Origin → Dir → KeptPdu → Option Pair → Type 0
+IsUnsaid t origin FromClient next made = fin.get t.messages (place_of origin FromClient next) ≡ None
+IsUnsaid t origin FromCentre next made =
+    (fin.get t.receipts (place_of origin FromCentre next) ≡ None)
+    × ((pair : Pair) (m : Message) → made ≡ Some pair → fin.get t.messages pair.request ≡ Some m → m.response ≡ None)
 
 -- the next PDU of a direction: its notes, then the messages and the receipt that it puts in or changes
 abbrev pub pdu_moves : Origin → Dir → List KeptPdu → List KeptPdu → KeptPdu → List Move
@@ -106,13 +116,21 @@ pdu_moves origin FromClient client centre next =
 pdu_moves origin FromCentre client centre next =
     next_moves origin FromCentre client centre next ++ centre_moves origin client centre next
 
+-- the PDUs of the client, and those of the centre, once PDUs more of a direction came
+abbrev pub client_with : Dir → List KeptPdu → List KeptPdu → List KeptPdu
+client_with FromClient client later = client ++ later
+client_with FromCentre client later = client
+
+abbrev pub centre_with : Dir → List KeptPdu → List KeptPdu → List KeptPdu
+centre_with FromClient centre later = centre
+centre_with FromCentre centre later = centre ++ later
+
 -- the same of PDUs more of a direction, in turn
 abbrev pub pushed_moves : Origin → Dir → List KeptPdu → List KeptPdu → List KeptPdu → List Move
 pushed_moves origin dir client centre [] = []
-pushed_moves origin FromClient client centre (next ∷ later) =
-    pdu_moves origin FromClient client centre next ++ pushed_moves origin FromClient (client ++ next ∷ []) centre later
-pushed_moves origin FromCentre client centre (next ∷ later) =
-    pdu_moves origin FromCentre client centre next ++ pushed_moves origin FromCentre client (centre ++ next ∷ []) later
+pushed_moves origin dir client centre (next ∷ later) =
+    pdu_moves origin dir client centre next
+    ++ pushed_moves origin dir (client_with dir client (next ∷ [])) (centre_with dir centre (next ∷ [])) later
 
 -- ---- PDUs more of a session
 
@@ -125,5 +143,4 @@ pub record IsSaidBy (origin : Origin) (client centre : List KeptPdu) (t : Traffi
 
 -- the pairs of a session whose PDUs are these, once PDUs more of a direction came
 abbrev pub pairing_with : Origin → Dir → List KeptPdu → List KeptPdu → List KeptPdu → PairingValue
-pairing_with origin FromClient client centre later = pairing_among origin (client ++ later) centre
-pairing_with origin FromCentre client centre later = pairing_among origin client (centre ++ later)
+pairing_with origin dir client centre later = pairing_among origin (client_with dir client later) (centre_with dir centre later)

@@ -1,5 +1,5 @@
 -- How often the shelves of what is stored were touched, and what a move of it costs: its touches, with those that settle it.
-use Rattle.std.specs.Prelude.{◌≡◌, ◌<◌, ◌≤◌, ◌+◌, ◌*◌, ◌-◌, ◌^◌, ℕ, ⊤, Bool, true, false, is_some, List, [], ◌∷◌, length, min, Option, Some, None, option_and_then, option_map}
+use Rattle.std.specs.Prelude.{◌≡◌, ◌<◌, ◌≤◌, ◌+◌, ◌*◌, ◌-◌, ◌^◌, ℕ, Bool, false, List, [], length, min, Option, Some, None, option_and_then, option_map}
 use Rattle.std.specs.FinMap as fin
 use Rattle.smq_kit.specs.LinkKeys.{same_key}
 use Rattle.smq_kit.specs.declared.link_key.LinkKey.{LinkKey}
@@ -8,6 +8,7 @@ use Rattle.smq_group.specs.Changes.{TellsChanges}
 use Rattle.smq_group.specs.Groups.{GroupsValue, vacancies}
 use Rattle.smq_group.specs.Matching.{Grouping, GroupedReceipt}
 use Rattle.smq_group.specs.declared.change.Change.{Change}
+use Rattle.smq_pair.specs.Paired.{PairedValue}
 use Rattle.smq_pair.specs.Pairing.{PairingValue, pair_at}
 use Rattle.smq_pair.specs.declared.pairing.Pair.{Pair}
 use Rattle.smq_route.specs.Numbers.{NumbersValue}
@@ -16,14 +17,15 @@ use Rattle.smq_shelf.specs.Places.{places_of}
 use Rattle.smq_tally.specs.Tally.{TallyValue}
 use Rattle.smq_book.specs.declared.index.index.Index.{Index}
 use Rattle.smq_book.specs.declared.index.pairings.Pairings.{Pairings}
+use Rattle.smq_book.specs.declared.index.stored.Said.{Said}
+use Rattle.smq_book.specs.declared.index.stored.Said.TheVariants as said
 use Rattle.smq_book.specs.edits.Reach.{members}
 use Rattle.smq_book.specs.index.Held.{held_now, held_settled}
 use Rattle.smq_book.specs.index.Pairs.{pairs_pending}
 use Rattle.smq_book.specs.declared.present.kept.KeptPdu.{KeptPdu}
 use Rattle.smq_book.specs.join.Keyed.{accepted_key, receipt_key}
 use Rattle.smq_book.specs.present.Settings.{SettingsValue}
-use Rattle.smq_book.specs.pairing.Traffic.{Message, Origin, ReceivedReceipt, place_of}
-use Rattle.smq_kit.specs.Orders.{place_cmp}
+use Rattle.smq_book.specs.pairing.Traffic.{Origin, place_of}
 use Rattle.smq_kit.specs.declared.place.Dir.{Dir}
 use Rattle.smq_kit.specs.declared.place.Dir.TheVariants.{FromClient, FromCentre}
 
@@ -58,7 +60,11 @@ abbrev pub index_cost : Index → ℕ
 index_cost i =
     (i.standings.touches + 2 * i.standings.pending) + tally_cost i.tally + numbers_cost i.numbers + kept_cost i.due + kept_cost i.ends
 
--- and those of pairs, where those of one session are pending
+-- and those of the pairs of one session
+abbrev pub pairing_cost : PairedValue → ℕ
+pairing_cost v = v.touches + 2 * v.pending
+
+-- and of all pairs, where those of one session are pending
 abbrev pub pairs_cost : Pairings → ℕ → ℕ
 pairs_cost p number = p.touches + 2 * pairs_pending p number
 
@@ -151,29 +157,28 @@ push_load g pair place =
 abbrev pub pdu_load : Grouping → PairingValue → Origin → Dir → KeptPdu → ℕ
 pdu_load g v origin dir p = push_load g (pair_at v (place_of origin dir p)) (place_of origin dir p)
 
--- what it costs at most to take out what stands at a place: a message, or a delivery receipt
-abbrev pub taken_load : GroupsValue → Place → ℕ
-taken_load g q = 42 + taken_of g (fin.get g.members.submits q)
+-- the key of what stands at a place: of a message in the client's direction, of a delivery receipt in the centre's
+abbrev pub key_in : Dir → Grouping → Place → Option LinkKey
+key_in FromClient g q = fin.get g.submits q
+key_in FromCentre g q = receipt_key_at g q
 
-abbrev pub forgotten_load : GroupsValue → Place → ℕ
-forgotten_load g q = 49 + taken_of g (receipt_key_at g.members q)
+-- what it costs at most to take it out
+abbrev pub taken_load : GroupsValue → Place → ℕ
+taken_load g q = 49 + taken_of g (key_in q.dir g.members q)
 
 -- what a move of a key walks over where so many places are vacant, and fifteen for each of these members that it may tell
 abbrev pub walk_of : GroupsValue → Grouping → Option LinkKey → ℕ
 walk_of g n None = 0
 walk_of g n (Some key) = vacancies g key + 15 * members n key
 
--- what it costs at most to put a message in, or a delivery receipt
-abbrev pub put_load : GroupsValue → Grouping → SettingsValue → Place × Message → ℕ
-put_load g n s e = 43 + walk_of g n (accepted_key s e.1)
+-- the key of a message, where it is accepted, or of a delivery receipt
+abbrev pub said_key : SettingsValue → Said → Option LinkKey
+said_key s (said.Message m) = accepted_key s m
+said_key s (said.Receipt r) = Some (receipt_key s r)
 
-abbrev pub received_load : GroupsValue → Grouping → SettingsValue → Place × ReceivedReceipt → ℕ
-received_load g n s e = 43 + walk_of g n (Some (receipt_key s e.1))
-
--- At each of these places something stands, and still does once what stands at those before it is taken out.
-abbrev pub AreTaken : {X : Type 0} → fin.FinMap place_cmp X → List Place → Type 0
-AreTaken m [] = ⊤
-AreTaken m (q ∷ qs) = (is_some (fin.get m q) ≡ true) × AreTaken (fin.remove m q) qs
+-- what it costs at most to put it in
+abbrev pub put_load : GroupsValue → Grouping → SettingsValue → Place × Said → ℕ
+put_load g n s e = 43 + walk_of g n (said_key s e.1)
 
 -- Touches don't fall, and where a fact changes they rise, unless they are at the greatest u64.
 pub record RisesWithFacts (old new : Index) : Type 0 where

@@ -1,17 +1,35 @@
 -- Which delivery receipts need a look.
-use Rattle.std.specs.Prelude.{List, ◌++◌, map, Option, Some, None, option_map, option_to_list}
-use Rattle.std.specs.List.{flat_map}
+use Rattle.std.specs.Prelude.{Bool, false, List, [], ◌∷◌, ◌++◌, map, Option, Some, None, option_map, option_to_list}
+use Rattle.std.specs.List.{flat_map, list_any}
+use Rattle.std.specs.Ordering.{eq_by_cmp, nat_cmp}
 use Rattle.std.specs.FinMap as map
 use Rattle.std.specs.FinSet.{FinSet}
 use Rattle.smq_kit.specs.declared.place.Place.{Place}
 use Rattle.smq_tally.specs.declared.list.List as l
 use Rattle.smq_tally.specs.declared.list.List.TheVariants.{StrayReceipts, AmbiguousReceipts, ExtraReceipts}
 use Rattle.smq_tally.specs.declared.list.Listed.{Listed}
-use Rattle.smq_tally.specs.Lists.{listed, listed_cmp, listed_set}
+use Rattle.smq_tally.specs.Lists.{list_rank, listed, listed_cmp, listed_set}
 use Rattle.smq_book.specs.present.Settings.{SettingsValue}
 use Rattle.smq_book.specs.pairing.Traffic.{TrafficValue}
 use Rattle.smq_book.specs.join.Keyed.{grouping_of}
 use Rattle.smq_group.specs.Matching.{Grouping, GroupedReceipt, ReceiptStanding, Stray, KeyShared, Extra, receipt_standing}
+
+-- the lists of delivery receipts
+abbrev pub receipt_lists : List l.List
+receipt_lists = StrayReceipts ∷ AmbiguousReceipts ∷ ExtraReceipts ∷ []
+
+-- whether two lists are one
+abbrev pub same_list : l.List → l.List → Bool
+same_list a b = eq_by_cmp nat_cmp (list_rank a) (list_rank b)
+
+-- whether there is a list and it is the one of this name
+abbrev pub is_named : l.List → Option l.List → Bool
+is_named name None = false
+is_named name (Some list) = same_list name list
+
+-- whether a list is of delivery receipts
+abbrev pub is_receipt_list : l.List → Bool
+is_receipt_list list = list_any (same_list list) receipt_lists
 
 -- the list of the delivery receipts that stand so, if there is one
 abbrev pub list_of_standing : ReceiptStanding → Option l.List
@@ -34,5 +52,4 @@ notes_of s t = listed_set (map.keys t.notes ++ receipt_notes (grouping_of s t))
 
 -- places in each of the lists of delivery receipts
 abbrev pub receipt_listings : List Place → List Listed
-receipt_listings places =
-    map (listed StrayReceipts) places ++ (map (listed AmbiguousReceipts) places ++ map (listed ExtraReceipts) places)
+receipt_listings places = flat_map (λ list. map (listed list) places) receipt_lists

@@ -1,6 +1,6 @@
 -- Known traffic that is dealt to two parts: by key, and so that a receipt is parted from its message.
 use Rattle.std.specs.Prelude.{◌≡◌, ◌==◌, not, ℕ, Bool, [], ◌∷◌, Some}
-use Rattle.smq_kit.specs.declared.form.Form.TheVariants.{Verbatim}
+use Rattle.smq_kit.specs.declared.message_id.Form.TheVariants.{Verbatim}
 use Rattle.smq_kit.specs.declared.place.Place.{Place}
 use Rattle.smq_tally.specs.declared.outcome.Outcome.{Outcome}
 use Rattle.smq_tally.specs.declared.outcome.Outcome.TheVariants as o

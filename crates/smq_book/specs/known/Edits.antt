@@ -1,6 +1,6 @@
 -- Lists of edits that laws pin: which edits are of a session, and what edits, answers and what they leave come to.
 use Rattle.std.specs.Prelude.{◌≡◌, ℕ, List, [], ◌∷◌, Some, None}
-use Rattle.smq_kit.specs.declared.form.Form.TheVariants.{Decimal, Hexadecimal}
+use Rattle.smq_kit.specs.declared.message_id.Form.TheVariants.{Decimal, Hexadecimal}
 use Rattle.smq_kit.specs.declared.place.Dir.TheVariants.{FromClient}
 use Rattle.smq_kit.specs.declared.refusal.Refusal.TheVariants.{ClockBack, Memory, NoSession}
 use Rattle.smq_book.specs.declared.present.edit.Edit.{Edit}

@@ -1,7 +1,7 @@
 -- A known book, from octets: three sessions of two links, whose numbers are alike modulo 65,536, and its figures.
 use Rattle.std.specs.Prelude.{◌≡◌, ℕ, List, [], ◌∷◌, ◌++◌, codes, Option, Some, None}
 use Rattle.std.specs.FinMap as map
-use Rattle.smq_kit.specs.declared.form.Form.TheVariants.{Decimal}
+use Rattle.smq_kit.specs.declared.message_id.Form.TheVariants.{Decimal}
 use Rattle.smq_kit.specs.declared.place.Dir.TheVariants.{FromClient, FromCentre}
 use Rattle.smq_frame.specs.Stream.{handed_in}
 use Rattle.smq_kit.specs.declared.error_code.ErrorCode.TheVariants as e

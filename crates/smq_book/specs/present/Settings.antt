@@ -4,7 +4,7 @@ use Rattle.std.specs.Prelude.{ℕ, Option, unwrap_or, refl}
 use Rattle.std.specs.Coded.{Coded, code_by, coded×, coded_ℕ}
 use Rattle.std.specs.FinMap as map
 use Rattle.std.specs.Ordering.{nat_cmp}
-use Rattle.smq_kit.specs.declared.form.Form.TheVariants.{Verbatim}
+use Rattle.smq_kit.specs.declared.message_id.Form.TheVariants.{Verbatim}
 use Rattle.smq_kit.specs.declared.names.LinkId.{LinkId}
 use Rattle.smq_route.specs.Routes.{versions_code}
 use Rattle.smq_route.specs.Versions.{Versions}

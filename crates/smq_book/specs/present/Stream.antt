@@ -4,7 +4,7 @@ use Rattle.std.specs.List.{flat_map}
 use Rattle.smq_frame.specs.Stream.{Octet, values, moments, handed_in}
 use Rattle.smq_frame.specs.Tail.{TailValue, tail_of}
 use Rattle.smq_book.specs.declared.present.kept.KeptPdu.{KeptPdu}
-use Rattle.smq_book.specs.declared.present.stream.Piece.{Piece}
+use Rattle.smq_book.specs.declared.present.session.Piece.{Piece}
 use Rattle.smq_book.specs.present.Kept.{kept_pdus}
 
 -- the stream that pieces of one moment each are

@@ -9,7 +9,7 @@ use Rattle.smq_pdu.specs.Pairing.{agrees, request_rank, response_index}
 use Rattle.smq_pdu.specs.declared.body.Submit.{Submit}
 use Rattle.smq_book.specs.declared.present.kept.KeptPdu.{KeptPdu}
 use Rattle.smq_kit.specs.declared.link_key.LinkKey.{LinkKey}
-use Rattle.smq_book.specs.declared.pairing.source.Source.{Source}
+use Rattle.smq_book.specs.declared.pairing.pairs.Source.{Source}
 use Rattle.smq_book.specs.present.Kept.{header_of, headers_of, submit_in, id_in}
 use Rattle.smq_book.specs.pairing.Traffic.{asks_receipt}
 use Rattle.smq_kit.specs.LinkKeys.{link_key}

@@ -21,8 +21,8 @@ ghost use Rattle.smq_kit.specs.Replies.{IsReply, first_of};
 
 use crate::index::append::append_to;
 use crate::index::index::Index;
-use crate::index::pairings::Pairings;
-use crate::present::sessions::insert_session;
+use crate::index::pairings::{Pairings, count};
+use crate::present::present::insert_session;
 use crate::present::settings::Settings;
 use crate::{Batch, Edit, Present, Session};
 use smq_kit::{Refusal, SessionId};
@@ -159,7 +159,17 @@ fn append_next(
     if let Some(refusal) = session.refusal(&batch) {
         return Err(refusal);
     }
-    let Ok(()) = append_to(index, pairings, settings, session, &batch) else {
+    let number = batch.session();
+    let Ok(()) = pairings.ensure(number) else {
+        return Err(Refusal::Memory);
+    };
+    let Some(pairing) = pairings.by_session.get_mut(&number.0) else {
+        return Err(Refusal::Memory);
+    };
+    let before = pairing.touches();
+    let appended = append_to(index, pairing, settings, session, &batch);
+    count(&mut pairings.touches, before, pairing.touches());
+    let Ok(()) = appended else {
         return Err(Refusal::Memory);
     };
     session.put(batch)

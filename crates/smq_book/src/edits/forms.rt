@@ -1,11 +1,8 @@
 //! The forms of a link's message ids are set.
 ghost use Rattle.std.specs.Prelude.{◌≡◌, ◌≤◌, ◌+◌, ◌*◌, OnOk};
-ghost use Rattle.smq_book.specs.declared.index.pairings.Pairings.{Pairings as PairingsOf};
 ghost use Rattle.smq_book.specs.edits.Reach.{reach};
-ghost use Rattle.smq_book.specs.index.Held.{IsHeld, held_now, held_settled, traffic_held};
-ghost use Rattle.smq_book.specs.index.Kept.{IsKept};
+ghost use Rattle.smq_book.specs.index.Kept.{IsIndexed};
 ghost use Rattle.smq_book.specs.index.Touches.{RisesWithFacts, index_cost};
-ghost use Rattle.smq_book.specs.pairing.Traffic.{traffic_of};
 ghost use Rattle.smq_book.specs.present.Replies.{reply};
 ghost use Rattle.smq_book.specs.present.Steps.{change};
 ghost use Rattle.smq_kit.specs.Replies.{IsReply};
@@ -25,19 +22,12 @@ pub(crate) fn set_forms(
     link: LinkId,
     forms: Forms,
 ) -> Result<(), Refusal>
-    requires held { IsHeld present.old.settings (held_now index.old) }
-    requires traffic { traffic_held (held_now index.old) ≡ traffic_of present.old.sessions }
-    requires settled { held_settled index.old ≡ held_now index.old }
+    requires indexed { IsIndexed present.old index.old }
     ensures reply { let edit = Edit.SetForm link forms.response forms.receipt in
         IsReply (reply present.old edit) result
         (present.new ≡ change present.old edit) (present.new ≡ present.old) }
-    ensures held { IsHeld present.new.settings (held_now index.new) }
-    ensures traffic { traffic_held (held_now index.new) ≡ traffic_of present.new.sessions }
-    ensures settled { held_settled index.new ≡ held_now index.new }
-    ensures kept { (pairings : PairingsOf) → IsKept present.old index.old pairings
-        → IsKept present.new index.new pairings }
-    ensures touches { (pairings : PairingsOf) → IsKept present.old index.old pairings
-        → OnOk result (index_cost index.new ≤ index_cost index.old
+    ensures indexed { IsIndexed present.new index.new }
+    ensures touches { OnOk result (index_cost index.new ≤ index_cost index.old
         + 64 * (1 + reach present.old (Edit.SetForm link forms.response forms.receipt))) }
     ensures rises { OnOk result (RisesWithFacts index.old index.new) }
 {

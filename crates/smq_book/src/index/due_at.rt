@@ -4,7 +4,7 @@ ghost use Rattle.smq_kit.specs.Orders.{least_place};
 ghost use Rattle.smq_book.specs.index.Due.{due_at};
 
 use smq_kit::{Dir, LinkId, Moment, Place, SessionId};
-use smq_shelf::ShelfKey;
+use smq_shelf::{ShelfKey, Stretch};
 
 /// The link, the moment and the place of a message whose receipt is due: of an open or a lapsed one. Ordered by the link, then by the
 /// moment, then by the place: those of a link stand together, and those that lapse first stand first.
@@ -43,5 +43,21 @@ impl ShelfKey for DueAt {
             moment: self.moment,
             place: self.place,
         }
+    }
+}
+
+/// The keys of a link.
+#[derive(Drop)]
+pub(crate) struct DueOn {
+    pub(crate) link: LinkId,
+}
+
+impl Stretch<DueAt> for DueOn {
+    ghost use Rattle.std.specs.Prelude.{◌==◌};
+
+    ghost has = { λ s k. k.link.0 == s.link.0 };
+
+    fn has(&self, key: &DueAt) -> bool {
+        key.link.0 == self.link.0
     }
 }

@@ -4,7 +4,7 @@ ghost use Rattle.smq_kit.specs.Orders.{least_place};
 ghost use Rattle.smq_book.specs.index.Ends.{end_at};
 
 use smq_kit::{Dir, Moment, Place, SessionId, Window};
-use smq_shelf::ShelfKey;
+use smq_shelf::{ShelfKey, Stretch};
 
 /// The end of the window and the place of a message whose receipt is due: of an open or a lapsed one. Ordered by the end, then by
 /// the place: those that lapse first stand first.
@@ -51,5 +51,22 @@ impl ShelfKey for EndAt {
             end: self.end,
             place: self.place,
         }
+    }
+}
+
+/// The ends that come after a clock and not after another.
+#[derive(Drop)]
+pub(crate) struct EndsBetween {
+    pub(crate) from: Moment,
+    pub(crate) clock: Moment,
+}
+
+impl Stretch<EndAt> for EndsBetween {
+    ghost use Rattle.smq_book.specs.index.Ends.{is_between};
+
+    ghost has = { λ s k. is_between s.from s.clock k };
+
+    fn has(&self, key: &EndAt) -> bool {
+        self.from.milliseconds() < key.end && key.end <= self.clock.milliseconds()
     }
 }

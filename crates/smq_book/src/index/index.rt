@@ -2,36 +2,34 @@
 //!
 //! Each call that puts a message or a receipt in, or takes one out, sets the facts and the listings of the places alone
 //! whose standings it changes.
-ghost use Rattle.std.specs.Prelude.{◌≡◌, ◌<◌, ◌≤◌, ◌+◌, ◌-◌, ◌*◌, ◌^◌, true, false, Option, Some, None, length, option_map, IsTrue, OnOk};
+ghost use Rattle.std.specs.Prelude.{◌≡◌, ◌<◌, ◌≤◌, ◌+◌, ◌-◌, ◌*◌, ◌^◌, [], ◌∷◌, true, false, Option, Some, None, length, option_map, IsTrue, OnOk};
 ghost use Rattle.std.specs.Option.{option_copied};
 ghost use Rattle.std.specs.FinMap as fin;
 ghost use Rattle.smq_kit.specs.Maps.{set_at};
-ghost use Rattle.smq_kit.specs.Orders.{place_cmp};
+ghost use Rattle.smq_kit.specs.declared.place.Place.{Place as PlaceOf};
 ghost use Rattle.smq_group.specs.Matching.{Grouping};
 ghost use Rattle.smq_group.specs.Standings.{standing_at};
 ghost use Rattle.smq_tally.specs.Lists.{listed};
 ghost use Rattle.smq_tally.specs.declared.fact.Fact.{Fact as FactOf};
 ghost use Rattle.smq_book.specs.index.Opening.{nothing_held};
-ghost use Rattle.smq_book.specs.index.Refreshed.{MayRestate};
-ghost use Rattle.smq_book.specs.index.Due.{due_in, is_due_fact};
-ghost use Rattle.smq_book.specs.index.Ends.{ends_by};
+ghost use Rattle.smq_book.specs.index.Refreshed.{SetsAnew};
+ghost use Rattle.smq_book.specs.index.Due.{is_due_fact};
 ghost use Rattle.smq_book.specs.index.Stored.{is_told_shared};
-ghost use Rattle.smq_book.specs.index.Following.{AreTold, IsInNoOther, MayFollow, with_note};
-ghost use Rattle.smq_book.specs.index.Held.{AreOf, IsTraffic, decider_held, dues_in, ends_in, facts_anew, held_by, held_now, held_settled, list_by, list_held, messages_in, noted, notes_anew, receipts_in, stored_traffic, traffic_held, with_listing};
+ghost use Rattle.smq_book.specs.index.Anew.{CanFollow, IsAnew, IsDue, KeepsSaid, stored_in};
+ghost use Rattle.smq_book.specs.index.Following.{AreTold, IsInNoOther, with_note};
+ghost use Rattle.smq_book.specs.index.Held.{AreOf, decider_held, dues_in, ends_in, facts_anew, held_now, held_settled, list_by, list_held, noted, notes_anew, receipts_in, with_listing};
 ghost use Rattle.smq_book.specs.index.Touches.{HasNothingPending, RisesWithFacts, index_cost, index_touches, kept_cost, pending_in, tally_cost, touches_in};
 ghost use Rattle.smq_book.specs.join.Circumstances.{route_in};
 ghost use Rattle.smq_book.specs.join.Facts.{facts_of};
 ghost use Rattle.smq_book.specs.join.Keyed.{accepted_key};
 ghost use Rattle.smq_book.specs.pairing.Traffic.{TrafficValue};
-ghost use Rattle.smq_book.specs.pairing.Traffic.{Message as MessageOf};
 ghost use Rattle.smq_book.specs.present.Settings.{SettingsValue};
 
 use crate::index::due_at::DueAt;
 use crate::index::end_at::EndAt;
 use crate::index::stored::{StoredMessage, StoredReceipt, received_in};
 use crate::join::fact::{fact_of, restated};
-use crate::present::settings::Settings;
-use crate::present::windows::Windows;
+use crate::present::settings::{Settings, Windows};
 use crate::{Fact, List, Outcome};
 use smq_group::{Change, Groups, Standing};
 use smq_kit::{Dir, Moment, Network, Place, RouteId};
@@ -81,7 +79,6 @@ impl Index {
         ensures settled { held_settled self.new ≡ held_settled self.old }
         ensures pending { HasNothingPending self.new }
         ensures touches { index_cost self.new ≤ touches_in self.old + pending_in self.old }
-        ensures counted { touches_in self.old ≤ touches_in self.new }
     {
         self.standings.undo();
         self.messages.undo();
@@ -98,7 +95,6 @@ impl Index {
         ensures settled { held_settled self.new ≡ held_now self.old }
         ensures pending { HasNothingPending self.new }
         ensures touches { index_cost self.new ≤ index_cost self.old }
-        ensures counted { touches_in self.old ≤ touches_in self.new }
         ensures rises { RisesWithFacts self.old self.new }
     {
         self.standings.settle();
@@ -132,36 +128,16 @@ impl Index {
         standing: Option<Standing>,
         new: Option<Place>,
     ) -> Result<(), AllocError>
-        ensures messages { self.new.messages ≡ self.old.messages }
-        ensures receipts { self.new.receipts ≡ self.old.receipts }
-        ensures standings { self.new.standings ≡ self.old.standings }
-        ensures numbers { self.new.numbers ≡ self.old.numbers }
-        ensures settled { self.new.tally.settled ≡ self.old.tally.settled }
-        ensures settled_due { self.new.due.settled ≡ self.old.due.settled }
-        ensures settled_ends { self.new.ends.settled ≡ self.old.ends.settled }
-        ensures facts { let traffic = stored_traffic self.old.messages.content self.old.receipts.content in
-            standing ≡ standing_at self.old.standings.members place
-            → MayFollow settings.now traffic self.old.standings.members new self.old.tally.facts self.old.tally.notes
-            → OnOk result (self.new.tally.facts
-            ≡ set_at self.old.tally.facts place (fin.get (facts_of settings.now traffic) place)) }
-        ensures notes { let traffic = stored_traffic self.old.messages.content self.old.receipts.content in
-            standing ≡ standing_at self.old.standings.members place
-            → MayFollow settings.now traffic self.old.standings.members new self.old.tally.facts self.old.tally.notes
-            → OnOk result (self.new.tally.notes
-            ≡ with_listing self.old.tally.notes place (list_held self.old.standings.members place)) }
-        ensures follows { let traffic = stored_traffic self.old.messages.content self.old.receipts.content in
-            standing ≡ standing_at self.old.standings.members place
-            → MayFollow settings.now traffic self.old.standings.members new self.old.tally.facts self.old.tally.notes
-            → OnOk result (MayFollow settings.now traffic self.old.standings.members new self.new.tally.facts
-            self.new.tally.notes) }
-        ensures due { let messages = messages_in self.old.messages.content in
-            dues_in self.old.due.content ≡ due_in messages self.old.tally.facts
-            → OnOk result (dues_in self.new.due.content ≡ due_in messages self.new.tally.facts) }
-        ensures ends { let messages = messages_in self.old.messages.content in
-            ends_in self.old.ends.content ≡ ends_by settings.now.windows messages self.old.tally.facts
-            → OnOk result (ends_in self.new.ends.content ≡ ends_by settings.now.windows messages self.new.tally.facts) }
+        ensures said { KeepsSaid self.old self.new }
+        ensures anew { standing ≡ standing_at self.old.standings.members place
+            → CanFollow settings.now new self.old
+            → OnOk result (IsAnew settings.now new self.new
+            (set_at self.old.tally.facts place
+            (fin.get (facts_of settings.now (stored_in self.old)) place))
+            (with_listing self.old.tally.notes place (list_held self.old.standings.members place))) }
+        ensures due { IsDue settings.now.windows self.old
+            → OnOk result (IsDue settings.now.windows self.new) }
         ensures touches { OnOk result (index_cost self.new ≤ index_cost self.old + 14) }
-        ensures counted { touches_in self.old ≤ touches_in self.new }
         ensures rises { OnOk result (RisesWithFacts self.old self.new) }
     {
         match place.dir {
@@ -184,15 +160,10 @@ impl Index {
         clock: Moment,
         place: Place,
     ) -> Result<(), AllocError>
-        ensures held { (z : SettingsValue) (t : TrafficValue) (facts : fin.FinMap place_cmp FactOf)
-            → IsTraffic t → z.versions ≡ routes.now.versions → z.windows ≡ windows.now → z.clock ≡ clock
-            → MayRestate z t facts → held_now self.old ≡ held_by z t facts
-            → OnOk result (held_now self.new
-            ≡ held_by z t (set_at facts place (fin.get (facts_of z t) place))) }
-        ensures traffic { OnOk result (traffic_held (held_now self.new) ≡ traffic_held (held_now self.old)) }
+        ensures held { OnOk result
+            (SetsAnew routes.now.versions windows.now clock (place ∷ []) self.old self.new) }
         ensures settled { held_settled self.new ≡ held_settled self.old }
         ensures touches { OnOk result (index_cost self.new ≤ index_cost self.old + 14) }
-        ensures counted { touches_in self.old ≤ touches_in self.new }
         ensures rises { OnOk result (RisesWithFacts self.old self.new) }
     {
         let Some(message) = self.messages.get(&place) else {
@@ -219,36 +190,15 @@ impl Index {
         changes: &[Change],
         new: Option<Place>,
     ) -> Result<(), AllocError>
-        ensures messages { self.new.messages ≡ self.old.messages }
-        ensures receipts { self.new.receipts ≡ self.old.receipts }
-        ensures standings { self.new.standings ≡ self.old.standings }
-        ensures numbers { self.new.numbers ≡ self.old.numbers }
-        ensures settled { self.new.tally.settled ≡ self.old.tally.settled }
-        ensures settled_due { self.new.due.settled ≡ self.old.due.settled }
-        ensures settled_ends { self.new.ends.settled ≡ self.old.ends.settled }
-        ensures facts { let traffic = stored_traffic self.old.messages.content self.old.receipts.content in
-            AreTold self.old.standings.members changes.now
-            → MayFollow settings.now traffic self.old.standings.members new self.old.tally.facts self.old.tally.notes
-            → OnOk result (self.new.tally.facts
-            ≡ facts_anew (fin.get (facts_of settings.now traffic)) self.old.tally.facts changes.now) }
-        ensures notes { let traffic = stored_traffic self.old.messages.content self.old.receipts.content in
-            AreTold self.old.standings.members changes.now
-            → MayFollow settings.now traffic self.old.standings.members new self.old.tally.facts self.old.tally.notes
-            → OnOk result (self.new.tally.notes
-            ≡ notes_anew self.old.standings.members self.old.tally.notes changes.now) }
-        ensures follows { let traffic = stored_traffic self.old.messages.content self.old.receipts.content in
-            AreTold self.old.standings.members changes.now
-            → MayFollow settings.now traffic self.old.standings.members new self.old.tally.facts self.old.tally.notes
-            → OnOk result (MayFollow settings.now traffic self.old.standings.members new self.new.tally.facts
-            self.new.tally.notes) }
-        ensures due { let messages = messages_in self.old.messages.content in
-            dues_in self.old.due.content ≡ due_in messages self.old.tally.facts
-            → OnOk result (dues_in self.new.due.content ≡ due_in messages self.new.tally.facts) }
-        ensures ends { let messages = messages_in self.old.messages.content in
-            ends_in self.old.ends.content ≡ ends_by settings.now.windows messages self.old.tally.facts
-            → OnOk result (ends_in self.new.ends.content ≡ ends_by settings.now.windows messages self.new.tally.facts) }
+        ensures said { KeepsSaid self.old self.new }
+        ensures anew { AreTold self.old.standings.members changes.now
+            → CanFollow settings.now new self.old → OnOk result (IsAnew settings.now new self.new
+            (facts_anew (fin.get (facts_of settings.now (stored_in self.old))) self.old.tally.facts
+            changes.now)
+            (notes_anew self.old.standings.members self.old.tally.notes changes.now)) }
+        ensures due { IsDue settings.now.windows self.old
+            → OnOk result (IsDue settings.now.windows self.new) }
         ensures touches { OnOk result (index_cost self.new ≤ index_cost self.old + 14 * length changes.now) }
-        ensures counted { touches_in self.old ≤ touches_in self.new }
         ensures rises { OnOk result (RisesWithFacts self.old self.new) }
     {
         for change in changes {
@@ -264,28 +214,15 @@ impl Index {
         place: Place,
         standing: Option<Standing>,
     ) -> Result<(), AllocError>
-        ensures messages { self.new.messages ≡ self.old.messages }
-        ensures receipts { self.new.receipts ≡ self.old.receipts }
-        ensures standings { self.new.standings ≡ self.old.standings }
-        ensures numbers { self.new.numbers ≡ self.old.numbers }
+        ensures said { KeepsSaid self.old self.new }
         ensures notes { OnOk result (self.new.tally.notes ≡ self.old.tally.notes) }
-        ensures settled { self.new.tally.settled ≡ self.old.tally.settled }
-        ensures settled_due { self.new.due.settled ≡ self.old.due.settled }
-        ensures settled_ends { self.new.ends.settled ≡ self.old.ends.settled }
-        ensures facts { let traffic = stored_traffic self.old.messages.content self.old.receipts.content in
-            AreOf settings.now traffic self.old.standings.members → standing ≡ standing_at self.old.standings.members place
-            → ((m : MessageOf) (f : FactOf) → fin.get traffic.messages place ≡ Some m
-            → fin.get self.old.tally.facts place ≡ Some f → f.route ≡ route_in settings.now.versions m)
-            → OnOk result (self.new.tally.facts
-            ≡ set_at self.old.tally.facts place (fin.get (facts_of settings.now traffic) place)) }
-        ensures due { let messages = messages_in self.old.messages.content in
-            dues_in self.old.due.content ≡ due_in messages self.old.tally.facts
-            → OnOk result (dues_in self.new.due.content ≡ due_in messages self.new.tally.facts) }
-        ensures ends { let messages = messages_in self.old.messages.content in
-            ends_in self.old.ends.content ≡ ends_by settings.now.windows messages self.old.tally.facts
-            → OnOk result (ends_in self.new.ends.content ≡ ends_by settings.now.windows messages self.new.tally.facts) }
+        ensures facts { (new : Option PlaceOf) → standing ≡ standing_at self.old.standings.members place
+            → CanFollow settings.now new self.old → OnOk result (self.new.tally.facts
+            ≡ set_at self.old.tally.facts place
+            (fin.get (facts_of settings.now (stored_in self.old)) place)) }
+        ensures due { IsDue settings.now.windows self.old
+            → OnOk result (IsDue settings.now.windows self.new) }
         ensures touches { OnOk result (index_cost self.new ≤ index_cost self.old + 14) }
-        ensures counted { touches_in self.old ≤ touches_in self.new }
         ensures rises { OnOk result (RisesWithFacts self.old self.new) }
     {
         let Some(message) = self.messages.get(&place) else {
@@ -498,7 +435,7 @@ fn list_of(standing: Option<Standing>) -> Option<List>
     }
 }
 
-/// Puts a receipt's place into the list that its standing gives alone, or into none of the three. One that is new is in no other.
+/// Puts a receipt's place into the list that its standing gives alone, or into none. One that is new is in no other.
 fn list_receipt(
     tally: &mut Tally,
     place: Place,
@@ -546,7 +483,7 @@ fn note_in(tally: &mut Tally, place: Place, list: Option<List>) -> Result<(), Al
     }
 }
 
-/// Puts a receipt's place into this list of receipts alone, or into none of the three.
+/// Puts a receipt's place into this list of receipts alone, or into none.
 fn set_listing(tally: &mut Tally, place: Place, list: Option<List>) -> Result<(), AllocError>
     ensures notes { OnOk result (tally.new.notes ≡ with_listing tally.old.notes place list) }
     ensures facts { tally.new.facts ≡ tally.old.facts }

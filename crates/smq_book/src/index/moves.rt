@@ -1,16 +1,19 @@
 //! Messages, delivery receipts and notes that are put in what is stored, or taken out. On an error the caller undoes what is
 //! held.
-ghost use Rattle.std.specs.Prelude.{◌≡◌, ◌≤◌, ◌+◌, true, if◌then◌else◌, None, Some, OnOk};
+ghost use Rattle.std.specs.Prelude.{◌≡◌, ◌≤◌, ◌+◌, true, if◌then◌else◌, [], ◌∷◌, None, Some, OnOk};
 ghost use Rattle.std.specs.FinMap as fin;
 ghost use Rattle.smq_kit.specs.declared.link_key.LinkKey.{LinkKey};
 ghost use Rattle.smq_kit.specs.declared.place.Dir.TheVariants.{FromClient, FromCentre};
 ghost use Rattle.smq_group.specs.Groups.{vacancies};
 ghost use Rattle.smq_tally.specs.Lists.{listed};
 ghost use Rattle.smq_book.specs.index.Numbered.{numbered};
-ghost use Rattle.smq_book.specs.index.Pushed.{without_response};
+ghost use Rattle.smq_book.specs.index.Coming.{IsNew};
+ghost use Rattle.smq_book.specs.index.LinkOut.{put_of, take_at};
+ghost use Rattle.smq_book.specs.index.Pushed.{IsHeldAfter, without_response};
 ghost use Rattle.smq_book.specs.index.PlacedKeys.{with_key, without_key};
-ghost use Rattle.smq_book.specs.index.Held.{AreOf, IsTraffic, held_now, held_of, held_settled, is_traffic_list, messages_in, receipts_in, stored_traffic};
-ghost use Rattle.smq_book.specs.index.Touches.{CostsAtMost, RisesWithFacts, index_cost, is_key, load_of, numbers_cost, receipt_key_at, taken_of, touches_in, vacancies_at};
+ghost use Rattle.smq_book.specs.index.Anew.{AreIn};
+ghost use Rattle.smq_book.specs.index.Held.{IsHeld, IsTraffic, KeepsTraffic, held_now, held_of, held_settled, is_traffic_list, messages_in, receipts_in, traffic_held};
+ghost use Rattle.smq_book.specs.index.Touches.{CostsAtMost, MembersCome, MembersGo, RisesWithFacts, index_cost, is_key, load_of, numbers_cost, receipt_key_at, said_key, taken_load, taken_of, vacancies_at};
 ghost use Rattle.smq_book.specs.join.Keyed.{accepted_key, receipt_key};
 ghost use Rattle.smq_book.specs.join.Moves as moves;
 ghost use Rattle.smq_book.specs.join.Moves.{PutNote, TakeNote, moved};
@@ -21,9 +24,9 @@ use crate::List;
 use crate::index::due_at::DueAt;
 use crate::index::end_at::EndAt;
 use crate::index::index::{Index, fact_of_unaccepted, set_due, set_end, take_fact};
-use crate::index::stored::{StoredMessage, StoredReceipt};
+use crate::index::stored::{Said, StoredMessage, StoredReceipt};
 use crate::present::settings::Settings;
-use smq_kit::Place;
+use smq_kit::{Dir, Place};
 use smq_route::Numbers;
 use std::alloc::AllocError;
 
@@ -35,9 +38,7 @@ impl Index {
         place: Place,
         message: StoredMessage,
     ) -> Result<(), AllocError>
-        requires are { AreOf settings.now
-            (stored_traffic self.old.messages.content self.old.receipts.content)
-            self.old.standings.members }
+        requires are { AreIn settings.now self.old }
         requires absent { fin.get (messages_in self.old.messages.content) place ≡ None }
         requires apart { fin.get (receipts_in self.old.receipts.content) place ≡ None }
         requires dir { place.dir ≡ FromClient }
@@ -52,7 +53,6 @@ impl Index {
             + load_of self.old.standings (accepted_key settings.now message)) }
         ensures vacant { OnOk result ((k : LinkKey)
             → vacancies self.new.standings k ≤ vacancies self.old.standings k) }
-        ensures counted { touches_in self.old ≤ touches_in self.new }
         ensures rises { OnOk result (RisesWithFacts self.old self.new) }
     {
         let key = message.key(settings);
@@ -76,9 +76,7 @@ impl Index {
         place: Place,
         answered: StoredMessage,
     ) -> Result<(), AllocError>
-        requires are { AreOf settings.now
-            (stored_traffic self.old.messages.content self.old.receipts.content)
-            self.old.standings.members }
+        requires are { AreIn settings.now self.old }
         requires unanswered { fin.get (messages_in self.old.messages.content) place
             ≡ Some (without_response answered) }
         ensures held { (t : TrafficValue) → IsTraffic t → held_now self.old ≡ held_of settings.now t
@@ -91,7 +89,6 @@ impl Index {
             + load_of self.old.standings (accepted_key settings.now answered)) }
         ensures vacant { OnOk result ((k : LinkKey)
             → vacancies self.new.standings k ≤ vacancies self.old.standings k) }
-        ensures counted { touches_in self.old ≤ touches_in self.new }
         ensures rises { OnOk result (RisesWithFacts self.old self.new) }
     {
         let key = answered.key(settings);
@@ -113,9 +110,7 @@ impl Index {
         settings: &Settings,
         place: Place,
     ) -> Result<(), AllocError>
-        requires are { AreOf settings.now
-            (stored_traffic self.old.messages.content self.old.receipts.content)
-            self.old.standings.members }
+        requires are { AreIn settings.now self.old }
         ensures held { (t : TrafficValue) → IsTraffic t → held_now self.old ≡ held_of settings.now t
             → OnOk result
             (held_now self.new ≡ held_of settings.now (moves.take_message place t)) }
@@ -124,12 +119,9 @@ impl Index {
             OnOk result (CostsAtMost self.old self.new (30 + vacancies_at self.old.standings key)) }
         ensures weighs { OnOk result (index_cost self.new ≤ index_cost self.old + 42
             + taken_of self.old.standings (fin.get self.old.standings.members.submits place)) }
-        ensures idle { fin.get (messages_in self.old.messages.content) place ≡ None
-            → OnOk result (self.new ≡ self.old) }
         ensures vacant { OnOk result ((k : LinkKey)
             → vacancies self.new.standings k ≤ vacancies self.old.standings k
             + (if is_key k (fin.get self.old.standings.members.submits place) then 1 else 0)) }
-        ensures counted { touches_in self.old ≤ touches_in self.new }
         ensures rises { OnOk result (RisesWithFacts self.old self.new) }
     {
         let Some(message) = self.messages.get(&place) else {
@@ -164,9 +156,7 @@ impl Index {
         place: Place,
         receipt: StoredReceipt,
     ) -> Result<(), AllocError>
-        requires are { AreOf settings.now
-            (stored_traffic self.old.messages.content self.old.receipts.content)
-            self.old.standings.members }
+        requires are { AreIn settings.now self.old }
         requires absent { fin.get (receipts_in self.old.receipts.content) place ≡ None }
         requires apart { fin.get (messages_in self.old.messages.content) place ≡ None }
         requires dir { place.dir ≡ FromCentre }
@@ -180,7 +170,6 @@ impl Index {
             + load_of self.old.standings (Some (receipt_key settings.now receipt))) }
         ensures vacant { OnOk result ((k : LinkKey)
             → vacancies self.new.standings k ≤ vacancies self.old.standings k) }
-        ensures counted { touches_in self.old ≤ touches_in self.new }
         ensures rises { OnOk result (RisesWithFacts self.old self.new) }
     {
         let key = receipt.key(settings);
@@ -200,9 +189,7 @@ impl Index {
         settings: &Settings,
         place: Place,
     ) -> Result<(), AllocError>
-        requires are { AreOf settings.now
-            (stored_traffic self.old.messages.content self.old.receipts.content)
-            self.old.standings.members }
+        requires are { AreIn settings.now self.old }
         ensures held { (t : TrafficValue) → IsTraffic t → held_now self.old ≡ held_of settings.now t
             → OnOk result
             (held_now self.new ≡ held_of settings.now (moves.take_receipt place t)) }
@@ -211,12 +198,9 @@ impl Index {
             OnOk result (CostsAtMost self.old self.new (34 + vacancies_at self.old.standings key)) }
         ensures weighs { OnOk result (index_cost self.new ≤ index_cost self.old + 49
             + taken_of self.old.standings (receipt_key_at self.old.standings.members place)) }
-        ensures idle { fin.get (receipts_in self.old.receipts.content) place ≡ None
-            → OnOk result (self.new ≡ self.old) }
         ensures vacant { OnOk result ((k : LinkKey)
             → vacancies self.new.standings k ≤ vacancies self.old.standings k
             + (if is_key k (receipt_key_at self.old.standings.members place) then 2 else 0)) }
-        ensures counted { touches_in self.old ≤ touches_in self.new }
         ensures rises { OnOk result (RisesWithFacts self.old self.new) }
     {
         let Some(receipt) = self.receipts.get(&place) else {
@@ -230,6 +214,60 @@ impl Index {
         Ok(())
     }
 
+    /// Takes what stands at a place out, if anything does: a message in the client's direction, a delivery receipt in the
+    /// centre's.
+    pub(crate) fn take(&mut self, settings: &Settings, place: Place) -> Result<(), AllocError>
+        requires { IsHeld settings.now (held_now self.old) }
+        ensures held { OnOk result (IsHeldAfter settings.now (held_now self.old)
+            (take_at place ∷ []) (held_now self.new)) }
+        ensures settled { held_settled self.new ≡ held_settled self.old }
+        ensures rises { OnOk result (RisesWithFacts self.old self.new) }
+        ensures went { OnOk result (MembersGo self.old.standings self.new.standings) }
+        ensures touches { OnOk result (index_cost self.new ≤ index_cost self.old
+            + taken_load self.old.standings place) }
+    {
+        match place.dir {
+            Dir::FromClient => {
+                self.take_message(settings, place)?;
+                Ok(())
+            }
+            Dir::FromCentre => {
+                self.take_receipt(settings, place)?;
+                Ok(())
+            }
+        }
+    }
+
+    /// Puts a message or a delivery receipt in, where nothing stands.
+    pub(crate) fn put(
+        &mut self,
+        settings: &Settings,
+        place: Place,
+        said: Said,
+    ) -> Result<(), AllocError>
+        requires held { IsHeld settings.now (held_now self.old) }
+        requires stands { KeepsTraffic (put_of (place, said)) }
+        requires new { IsNew (traffic_held (held_now self.old)) (put_of (place, said)) }
+        ensures held { OnOk result (IsHeldAfter settings.now (held_now self.old)
+            (put_of (place, said) ∷ []) (held_now self.new)) }
+        ensures settled { held_settled self.new ≡ held_settled self.old }
+        ensures rises { OnOk result (RisesWithFacts self.old self.new) }
+        ensures came { OnOk result (MembersCome self.old.standings self.new.standings) }
+        ensures touches { OnOk result (index_cost self.new ≤ index_cost self.old + 43
+            + load_of self.old.standings (said_key settings.now said)) }
+    {
+        match said {
+            Said::Message(message) => {
+                self.put_message(settings, place, message)?;
+                Ok(())
+            }
+            Said::Receipt(receipt) => {
+                self.put_receipt(settings, place, receipt)?;
+                Ok(())
+            }
+        }
+    }
+
     /// Notes a place in a list.
     pub(crate) fn put_note(&mut self, list: List, place: Place) -> Result<(), AllocError>
         ensures held { (s : SettingsValue) (t : TrafficValue) → held_now self.old ≡ held_of s t
@@ -237,7 +275,6 @@ impl Index {
         ensures settled { held_settled self.new ≡ held_settled self.old }
         ensures standings { self.new.standings ≡ self.old.standings }
         ensures touches { index_cost self.new ≤ index_cost self.old }
-        ensures counted { touches_in self.old ≤ touches_in self.new }
         ensures rises { OnOk result (RisesWithFacts self.old self.new) }
     {
         self.tally.note(list, place)?;
@@ -252,7 +289,6 @@ impl Index {
         ensures settled { held_settled self.new ≡ held_settled self.old }
         ensures standings { self.new.standings ≡ self.old.standings }
         ensures touches { index_cost self.new ≤ index_cost self.old + 1 }
-        ensures counted { touches_in self.old ≤ touches_in self.new }
         ensures rises { OnOk result (RisesWithFacts self.old self.new) }
     {
         self.tally.forget(list, place)?;

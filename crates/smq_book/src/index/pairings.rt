@@ -1,16 +1,14 @@
 //! The pairs of each session that is present.
-ghost use Rattle.std.specs.Prelude.{◌≡◌, ◌≢◌, ◌≤◌, ◌++◌, ◌+◌, ◌*◌, ◌-◌, ℕ, IfOk, IsSome, OnOk};
-ghost use Rattle.smq_pair.specs.Growth.{IsNext, pushed};
+ghost use Rattle.std.specs.Prelude.{◌≡◌, ◌≢◌, ◌≤◌, ◌++◌, ◌+◌, ◌-◌, ℕ, IsSome, OnOk};
 ghost use Rattle.smq_pair.specs.Paired.{no_pdus};
-ghost use Rattle.smq_pair.specs.Pairing.{pair_at, placed_header};
 ghost use Rattle.smq_book.specs.pairing.Traffic.{session_notes, session_pairing};
 ghost use Rattle.smq_book.specs.index.Touches.{counted, pairs_cost};
 ghost use Rattle.smq_book.specs.index.Pairs.{pairs_now, pairs_pending, pairs_settled, stored_of};
 
 use crate::pairing::notes::push_notes;
 use crate::{Listed, Session};
-use smq_kit::{Place, SessionId};
-use smq_pair::{Pair, Pairing};
+use smq_kit::SessionId;
+use smq_pair::Pairing;
 use std::alloc::{AllocError, Global};
 use std::collections::BTreeMap;
 
@@ -38,39 +36,8 @@ impl Pairings {
         }
     }
 
-    /// Takes the next PDU of a direction of a session, and gives the pair that it makes, if any. On an error
-    /// the pairs of the session are of no use: the caller undoes them.
-    pub(crate) fn add(
-        &mut self,
-        session: SessionId,
-        place: Place,
-        seq: u32,
-        command: u32,
-        status: u32,
-    ) -> Result<Option<Pair>, AllocError>
-        requires next { IsNext (pairs_now self.old session.0) place }
-        ensures added { OnOk result (pairs_now self.new session.0
-            ≡ pushed (pairs_now self.old session.0) (placed_header place command status seq)) }
-        ensures made { IfOk result (λ made. made ≡ pair_at (pairs_now self.new session.0) place) }
-        ensures others { (number : ℕ) → number ≢ session.0
-            → pairs_now self.new number ≡ pairs_now self.old number }
-        ensures settled { (number : ℕ) → pairs_settled self.new number ≡ pairs_settled self.old number }
-        ensures touches { pairs_cost self.new session.0 ≤ pairs_cost self.old session.0 + 11 }
-        ensures other_pending { (number : ℕ) → number ≢ session.0
-            → pairs_pending self.new number ≡ pairs_pending self.old number }
-        ensures counted { self.old.touches ≤ self.new.touches }
-    {
-        if let Some(pairing) = self.by_session.get_mut(&session.0) {
-            return add_to(&mut self.touches, pairing, place, seq, command, status);
-        }
-        let mut first = Pairing::new(self.alloc);
-        let made = add_to(&mut self.touches, &mut first, place, seq, command, status)?;
-        self.by_session.insert(session.0, first)?;
-        Ok(made)
-    }
-
     /// Makes room for the pairs of a session, where there is none. It changes no pair.
-    fn ensure(&mut self, session: SessionId) -> Result<(), AllocError>
+    pub(crate) fn ensure(&mut self, session: SessionId) -> Result<(), AllocError>
         ensures there { OnOk result (IsSome (stored_of self.new.by_session session.0)) }
         ensures now { (number : ℕ) → pairs_now self.new number ≡ pairs_now self.old number }
         ensures settled { (number : ℕ) → pairs_settled self.new number ≡ pairs_settled self.old number }
@@ -175,32 +142,8 @@ impl Pairings {
     }
 }
 
-/// Takes the next PDU of a direction of a session into its pairs, and adds the touches that this takes.
-fn add_to(
-    touches: &mut u64,
-    pairing: &mut Pairing,
-    place: Place,
-    seq: u32,
-    command: u32,
-    status: u32,
-) -> Result<Option<Pair>, AllocError>
-    requires next { IsNext pairing.old.pdus place }
-    ensures added { OnOk result
-        (pairing.new.pdus ≡ pushed pairing.old.pdus (placed_header place command status seq)) }
-    ensures made { IfOk result (λ made. made ≡ pair_at pairing.new.pdus place) }
-    ensures settled { pairing.new.settled ≡ pairing.old.settled }
-    ensures touches { touches.new + 2 * pairing.new.pending
-        ≤ touches.old + 2 * pairing.old.pending + 11 }
-    ensures counted { touches.old ≤ touches.new }
-{
-    let before = pairing.touches();
-    let made = pairing.add(place, seq, command, status);
-    count(touches, before, pairing.touches());
-    made
-}
-
 /// Adds the touches of a pairing from one number to another.
-fn count(touches: &mut u64, before: u64, after: u64)
+pub(crate) fn count(touches: &mut u64, before: u64, after: u64)
     ensures value { touches.new ≡ counted (touches.old + (after - before)) }
     ensures counted { touches.old ≤ touches.new }
 {

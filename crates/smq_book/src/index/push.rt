@@ -1,34 +1,82 @@
 //! One PDU more of a session: it makes a pair or waits for one, puts in the message or the delivery receipt that it is, and gives
 //! a message its response.
-ghost use Rattle.std.specs.Prelude.{◌≡◌, ◌≢◌, ◌≤◌, ◌+◌, ◌*◌, ℕ, List, [], ◌∷◌, ◌++◌, Some, None, IfOk, OnOk};
+ghost use Rattle.std.specs.Prelude.{◌≡◌, ◌≤◌, ◌+◌, ◌*◌, Some, None, IfOk, OnOk};
 ghost use Rattle.std.specs.Arc.{arc_value};
 ghost use Rattle.std.specs.FinMap as fin;
 ghost use Rattle.smq_kit.specs.declared.place.Dir.TheVariants.{FromClient, FromCentre};
 ghost use Rattle.smq_kit.specs.declared.names.SessionId.{SessionId as SessionIdOf};
 ghost use Rattle.smq_pair.specs.declared.pairing.Pair.{Pair as PairOf};
 ghost use Rattle.smq_pair.specs.Growth.{IsNext, made_by, pushed as pushed_pairs};
-ghost use Rattle.smq_book.specs.index.Held.{IsHeld, held_now, held_settled};
-ghost use Rattle.smq_book.specs.index.Pairs.{pairs_now, pairs_pending, pairs_settled};
-ghost use Rattle.smq_book.specs.index.Touches.{HasNoneVacant, MembersCome, RisesWithFacts, answered_key, index_cost, members_at, pairs_cost, pdu_load, receipt_key_at};
+ghost use Rattle.smq_book.specs.index.Held.{IsHeld, held_now, held_settled, traffic_held};
+ghost use Rattle.smq_book.specs.index.Touches.{HasNoneVacant, MembersCome, RisesWithFacts, answered_key, index_cost, members_at, pairing_cost, pdu_load, receipt_key_at};
 ghost use Rattle.smq_book.specs.index.Pushed as pushed;
-ghost use Rattle.smq_book.specs.index.Pushed.{IsHeldAfter, answer_moves, centre_by, origin_at, pdu_moves, receipt_moves, said_by, submit_moves};
+ghost use Rattle.smq_book.specs.index.Pushed.{IsHeldAfter, IsUnsaid, answer_moves, moves_by, origin_at, receipt_moves, said_by, submit_moves};
 ghost use Rattle.smq_book.specs.pairing.Traffic as traffic;
-ghost use Rattle.smq_book.specs.pairing.Traffic.{Message as MessageOf, pairing_among, placed};
-ghost use Rattle.smq_book.specs.declared.present.kept.KeptPdu.{KeptPdu as KeptPduOf};
-ghost use Rattle.smq_book.specs.within.Pairs.{Rises, SubmitsAreRequests, from_session};
+ghost use Rattle.smq_book.specs.pairing.Traffic.{Message as MessageOf, placed};
+ghost use Rattle.smq_book.specs.within.Pairs.{Rises, from_session};
 
 use crate::KeptPdu;
 use crate::index::index::Index;
 use crate::index::notes::{note_of_centre, note_of_client};
-use crate::index::pairings::Pairings;
 use crate::index::stored::{StoredMessage, StoredReceipt, StoredResponse};
 use crate::pairing::pairs::{pdu_at, place_of};
 use crate::present::settings::Settings;
 use smq_kit::{Dir, LinkId, SessionId};
-use smq_pair::Pair;
+use smq_pair::{Pair, Pairing};
 use smq_pdu::Submit;
 use std::alloc::{AllocError, Global};
 use std::sync::Arc;
+
+/// Takes the next PDU of a direction of a session, which has these PDUs of the centre. On an error what is held and paired of it
+/// is of no use: the caller undoes it.
+pub(crate) fn push_pdu(
+    index: &mut Index,
+    pairing: &mut Pairing,
+    settings: &Settings,
+    session: SessionId,
+    link: LinkId,
+    dir: Dir,
+    centre: &[KeptPdu],
+    pdu: &KeptPdu,
+) -> Result<(), AllocError>
+    requires held { IsHeld settings.now (held_now index.old) }
+    requires unsaid { IsUnsaid (traffic_held (held_now index.old)) (from_session session) dir pdu.now
+        (made_by pairing.old.pdus (placed (from_session session) dir pdu.now)) }
+    requires next { IsNext pairing.old.pdus (traffic.place_of (from_session session) dir pdu.now) }
+    requires centre { Rises 0 centre.now }
+    ensures held { OnOk result (IsHeldAfter settings.now (held_now index.old)
+        (moves_by (origin_at session link) dir (held_now index.old).messages centre.now pdu.now
+        (made_by pairing.old.pdus (placed (from_session session) dir pdu.now)))
+        (held_now index.new)) }
+    ensures settled { held_settled index.new ≡ held_settled index.old }
+    ensures rises { OnOk result (RisesWithFacts index.old index.new) }
+    ensures came { OnOk result (MembersCome index.old.standings index.new.standings) }
+    ensures touches { HasNoneVacant index.old.standings
+        → OnOk result (index_cost index.new + pairing_cost pairing.new
+        ≤ index_cost index.old + pairing_cost pairing.old
+        + pdu_load index.new.standings.members pairing.new.pdus (from_session session) dir pdu.now) }
+    ensures pairs { OnOk result
+        (pairing.new.pdus ≡ pushed_pairs pairing.old.pdus (placed (from_session session) dir pdu.now)) }
+    ensures settled_pairs { pairing.new.settled ≡ pairing.old.settled }
+    ensures pairs_counted { pairing.old.touches ≤ pairing.new.touches }
+{
+    let place = place_of(session, dir, pdu);
+    let made = pairing.add(place, pdu.seq, pdu.command, pdu.status)?;
+    match dir {
+        Dir::FromClient => {
+            note_of_client(index, session, pdu, made)?;
+            let response = said_in(centre, made)?;
+            put_submit(index, settings, session, link, pdu, response)?;
+            Ok(())
+        }
+        Dir::FromCentre => {
+            note_of_centre(index, session, pdu, made)?;
+            answer_made(index, settings, made, pdu)?;
+            put_received(index, settings, session, link, pdu)?;
+            Ok(())
+        }
+    }
+}
 
 /// What the response of a pair says to its request.
 fn said(pair: Pair, response: &KeptPdu) -> Result<StoredResponse, AllocError>
@@ -100,55 +148,6 @@ fn put_submit(
     };
     let message = message_with(link, pdu, submit, response);
     index.put_message(settings, place_of(session, Dir::FromClient, pdu), message)?;
-    Ok(())
-}
-
-/// Takes the next PDU of the client, whose session has these PDUs of the centre.
-pub(crate) fn push_of_client(
-    index: &mut Index,
-    pairings: &mut Pairings,
-    settings: &Settings,
-    session: SessionId,
-    link: LinkId,
-    centre: &[KeptPdu],
-    pdu: &KeptPdu,
-) -> Result<(), AllocError>
-    requires held { IsHeld settings.now (held_now index.old) }
-    requires absent { fin.get (held_now index.old).messages
-        (traffic.place_of (from_session session) FromClient pdu.now) ≡ None }
-    requires next { IsNext (pairs_now pairings.old session.0)
-        (traffic.place_of (from_session session) FromClient pdu.now) }
-    requires centre { Rises 0 centre.now }
-    ensures held { (client : List KeptPduOf) → Rises 0 (client ++ pdu.now ∷ [])
-        → SubmitsAreRequests (client ++ pdu.now ∷ [])
-        → pairs_now pairings.old session.0 ≡ pairing_among (from_session session) client centre.now
-        → OnOk result (IsHeldAfter settings.now (held_now index.old)
-        (pdu_moves (origin_at session link) FromClient client centre.now pdu.now)
-        (held_now index.new)) }
-    ensures settled { held_settled index.new ≡ held_settled index.old }
-    ensures rises { OnOk result (RisesWithFacts index.old index.new) }
-    ensures pairs_counted { pairings.old.touches ≤ pairings.new.touches }
-    ensures came { OnOk result (MembersCome index.old.standings index.new.standings) }
-    ensures touches { HasNoneVacant index.old.standings
-        → OnOk result (index_cost index.new + pairs_cost pairings.new session.0
-        ≤ index_cost index.old + pairs_cost pairings.old session.0
-        + pdu_load index.new.standings.members (pairs_now pairings.new session.0)
-        (from_session session) FromClient pdu.now) }
-    ensures pairs { OnOk result (pairs_now pairings.new session.0
-        ≡ pushed_pairs (pairs_now pairings.old session.0)
-        (placed (from_session session) FromClient pdu.now)) }
-    ensures other_pairs { (number : ℕ) → number ≢ session.0
-        → pairs_now pairings.new number ≡ pairs_now pairings.old number }
-    ensures other_pending { (number : ℕ) → number ≢ session.0
-        → pairs_pending pairings.new number ≡ pairs_pending pairings.old number }
-    ensures settled_pairs { (number : ℕ)
-        → pairs_settled pairings.new number ≡ pairs_settled pairings.old number }
-{
-    let place = place_of(session, Dir::FromClient, pdu);
-    let made = pairings.add(session, place, pdu.seq, pdu.command, pdu.status)?;
-    note_of_client(index, session, pdu, made)?;
-    let response = said_in(centre, made)?;
-    put_submit(index, settings, session, link, pdu, response)?;
     Ok(())
 }
 
@@ -252,55 +251,5 @@ fn put_received(
         receipt,
     };
     index.put_receipt(settings, place_of(session, Dir::FromCentre, pdu), received)?;
-    Ok(())
-}
-
-/// Takes the next PDU of the centre.
-pub(crate) fn push_of_centre(
-    index: &mut Index,
-    pairings: &mut Pairings,
-    settings: &Settings,
-    session: SessionId,
-    link: LinkId,
-    pdu: &KeptPdu,
-) -> Result<(), AllocError>
-    requires held { IsHeld settings.now (held_now index.old) }
-    requires absent { fin.get (held_now index.old).receipts
-        (traffic.place_of (from_session session) FromCentre pdu.now) ≡ None }
-    requires next { IsNext (pairs_now pairings.old session.0)
-        (traffic.place_of (from_session session) FromCentre pdu.now) }
-    requires waits { (pair : PairOf) (m : MessageOf)
-        → made_by (pairs_now pairings.old session.0) (placed (from_session session) FromCentre pdu.now)
-        ≡ Some pair
-        → fin.get (held_now index.old).messages pair.request ≡ Some m → m.response ≡ None }
-    ensures held { OnOk result (IsHeldAfter settings.now (held_now index.old)
-        (centre_by (origin_at session link) (held_now index.old).messages pdu.now
-        (made_by (pairs_now pairings.old session.0)
-        (placed (from_session session) FromCentre pdu.now)))
-        (held_now index.new)) }
-    ensures settled { held_settled index.new ≡ held_settled index.old }
-    ensures rises { OnOk result (RisesWithFacts index.old index.new) }
-    ensures pairs_counted { pairings.old.touches ≤ pairings.new.touches }
-    ensures came { OnOk result (MembersCome index.old.standings index.new.standings) }
-    ensures touches { HasNoneVacant index.old.standings
-        → OnOk result (index_cost index.new + pairs_cost pairings.new session.0
-        ≤ index_cost index.old + pairs_cost pairings.old session.0
-        + pdu_load index.new.standings.members (pairs_now pairings.new session.0)
-        (from_session session) FromCentre pdu.now) }
-    ensures pairs { OnOk result (pairs_now pairings.new session.0
-        ≡ pushed_pairs (pairs_now pairings.old session.0)
-        (placed (from_session session) FromCentre pdu.now)) }
-    ensures other_pairs { (number : ℕ) → number ≢ session.0
-        → pairs_now pairings.new number ≡ pairs_now pairings.old number }
-    ensures other_pending { (number : ℕ) → number ≢ session.0
-        → pairs_pending pairings.new number ≡ pairs_pending pairings.old number }
-    ensures settled_pairs { (number : ℕ)
-        → pairs_settled pairings.new number ≡ pairs_settled pairings.old number }
-{
-    let place = place_of(session, Dir::FromCentre, pdu);
-    let made = pairings.add(session, place, pdu.seq, pdu.command, pdu.status)?;
-    note_of_centre(index, session, pdu, made)?;
-    answer_made(index, settings, made, pdu)?;
-    put_received(index, settings, session, link, pdu)?;
     Ok(())
 }

@@ -79,6 +79,13 @@ impl Model for StoredReceipt {
     ghost view = { λ r. record { link = r.link; moment = r.moment; receipt = arc_value r.receipt } };
 }
 
+/// What stands at a place: a message, or a delivery receipt.
+#[derive(Drop)]
+pub(crate) enum Said {
+    Message(StoredMessage),
+    Receipt(StoredReceipt),
+}
+
 impl StoredResponse {
     /// An equal value, which shares the id. It takes no memory.
     fn copy(&self) -> Result<StoredResponse, AllocError>

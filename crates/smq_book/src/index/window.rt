@@ -1,30 +1,27 @@
 //! What a window changes: the ends and the facts of the messages of its link whose receipts are due, the open and the lapsed ones.
-ghost use Rattle.std.specs.Prelude.{◌≡◌, ◌≢◌, ◌≤◌, ◌+◌, ◌++◌, ◌∷◌, ◌*◌, [], filter, find, length, map, IfOk, OnOk};
+ghost use Rattle.std.specs.Prelude.{◌≡◌, ◌≢◌, ◌==◌, ◌≤◌, ◌+◌, ◌*◌, [], filter, length, map, IfOk, OnOk};
 ghost use Rattle.std.specs.FinMap as fin;
-ghost use Rattle.std.specs.List.Sorted.{IsStrictlySortedBy};
-ghost use Rattle.std.specs.Map.{keys_of};
 ghost use Rattle.smq_kit.specs.Maps.{SameOutside};
 ghost use Rattle.smq_kit.specs.declared.names.LinkId.{LinkId as LinkIdOf};
-ghost use Rattle.smq_shelf.specs.Places.{content_of, places_of};
+ghost use Rattle.smq_shelf.specs.Places.{places_of};
 ghost use Rattle.smq_shelf.specs.Walks.{IsWalked};
 ghost use Rattle.smq_book.specs.edits.Reached.{messages_due_on};
 ghost use Rattle.smq_book.specs.index.Due.{keys_on, places_due_on};
-ghost use Rattle.smq_book.specs.index.DueKeys.{kept_due_cmp};
-ghost use Rattle.smq_book.specs.index.DueWalks.{filled, is_on, is_past};
 ghost use Rattle.smq_book.specs.index.Ends.{ends_put, ends_taken};
 ghost use Rattle.smq_book.specs.index.Held.{IsHeld, dues_in, ends_in, held_now, held_settled, traffic_held};
-ghost use Rattle.smq_book.specs.index.Touches.{HasNothingPending, RisesWithFacts, index_cost, kept_cost, touches_in};
+ghost use Rattle.smq_book.specs.index.Pushed.{IsHeldAfter};
+ghost use Rattle.smq_book.specs.index.Touches.{HasNothingPending, RisesWithFacts, index_cost, kept_cost};
 ghost use Rattle.smq_book.specs.join.Facts.{facts_of};
 ghost use Rattle.smq_book.specs.present.Settings.{SettingsValue, window_in, with_windows};
 
-use crate::index::due_at::DueAt;
+use crate::index::due_at::{DueAt, DueOn};
 use crate::index::end_at::EndAt;
 use crate::index::index::{Index, set_end};
 use crate::index::routes::refresh_at;
-use crate::present::windows::Windows;
+use crate::present::settings::Windows;
 use smq_kit::{LinkId, Moment, Place, Window};
 use smq_route::Routes;
-use smq_shelf::{Kept, ShelfKey};
+use smq_shelf::{Kept, keys_in};
 use std::alloc::{AllocError, Global};
 
 /// Sets the ends and the facts of the messages of a link whose receipts are due anew, by windows that differ in that link alone, in
@@ -44,13 +41,11 @@ pub(crate) fn set_window(
         → (let traffic = traffic_held (held_now index.old) in
         SameOutside (fin.keys (messages_due_on link s traffic)) (facts_of s traffic)
         (facts_of (with_windows s windows.now) traffic))
-        → OnOk result (IsHeld (with_windows s windows.now) (held_now index.new)) }
-    ensures traffic { (s : SettingsValue) → IsHeld s (held_now index.old)
-        → OnOk result (traffic_held (held_now index.new) ≡ traffic_held (held_now index.old)) }
+        → OnOk result (IsHeldAfter (with_windows s windows.now) (held_now index.old) []
+        (held_now index.new)) }
     ensures settled { held_settled index.new ≡ held_settled index.old }
     ensures touches { HasNothingPending index.old → OnOk result (index_cost index.new
         ≤ index_cost index.old + 1 + 23 * length (places_due_on link (dues_in index.old.due.content))) }
-    ensures counted { touches_in index.old ≤ touches_in index.new }
     ensures rises { OnOk result (RisesWithFacts index.old index.new) }
 {
     let keys = due_on(alloc, &mut index.due, link)?;
@@ -64,64 +59,13 @@ pub(crate) fn set_window(
 /// The keys of the messages of a link whose receipts are due, by moment, then by place. It looks at these alone, and at one more.
 fn due_on(alloc: Global, due: &mut Kept<DueAt, ()>, link: LinkId) -> Result<Vec<DueAt>, AllocError>
     ensures value { IfOk result (λ keys. keys.items ≡ keys_on link (dues_in due.old.content)) }
-    ensures walked { IsWalked (1 + length (filter (is_on link) due.old.places)) due.old due.new }
+    ensures walked { IsWalked (1 + length (filter (λ e. e.0.link.0 == link.0) due.old.places)) due.old due.new }
     ensures touches { due.old.places ≡ places_of due.old.content → IfOk result (λ keys.
         due.new.touches ≤ due.old.touches + 1 + length keys.items) }
 {
-    let mut keys = Vec::new(alloc);
-    let mut next = first_due(due, link);
-    while let Some((found, value)) = next {
-        push_there(&mut keys, &found, value)?;
-        next = next_due(due, &found, link);
-    }
+    let first = DueAt::first_from(link, Moment::epoch());
+    let keys = keys_in(alloc, due, &first, &DueOn { link })?;
     Ok(keys)
-}
-
-/// Puts a key at the end, unless its place is vacant.
-fn push_there(keys: &mut Vec<DueAt>, found: &DueAt, value: Option<()>) -> Result<(), AllocError>
-    ensures { OnOk result (keys.new.items ≡ keys.old.items ++ filled ((found.now, value) ∷ [])) }
-{
-    if value.is_some() {
-        keys.push(found.copy())?;
-    }
-    Ok(())
-}
-
-/// The first place of a link, vacant or not.
-fn first_due(due: &mut Kept<DueAt, ()>, link: LinkId) -> Option<(DueAt, Option<()>)>
-    ensures value { result ≡ find (is_on link) due.old.places }
-    ensures walked { IsWalked 1 due.old due.new }
-    ensures content { due.old.content ≡ content_of due.old.places }
-    ensures ordered { IsStrictlySortedBy kept_due_cmp (keys_of due.old.places) }
-{
-    match due.first_from(&DueAt::first_from(link, Moment::epoch())) {
-        Some((found, value)) => {
-            if found.link.0 == link.0 {
-                Some((found.copy(), value.copied()))
-            } else {
-                None
-            }
-        }
-        None => None,
-    }
-}
-
-/// The next place of a link after one of it, vacant or not.
-fn next_due(due: &mut Kept<DueAt, ()>, after: &DueAt, link: LinkId) -> Option<(DueAt, Option<()>)>
-    requires { after.now.link.0 ≡ link.0 }
-    ensures value { result ≡ find (is_past link after.now) due.old.places }
-    ensures walked { IsWalked 1 due.old due.new }
-{
-    match due.first_after(after) {
-        Some((found, value)) => {
-            if found.link.0 == link.0 {
-                Some((found.copy(), value.copied()))
-            } else {
-                None
-            }
-        }
-        None => None,
-    }
 }
 
 /// Takes the ends of messages that waited so long out.

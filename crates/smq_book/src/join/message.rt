@@ -6,7 +6,7 @@ ghost use Rattle.smq_book.specs.join.Keyed as keyed;
 ghost use Rattle.smq_book.specs.join.Keyed.{accepted_id};
 ghost use Rattle.smq_book.specs.present.Settings.{window_in};
 
-use crate::present::windows::Windows;
+use crate::present::settings::Windows;
 use smq_kit::{LinkId, MessageId, Moment, Network, RouteId};
 use smq_pdu::Submit;
 use smq_receipt::Receipt;

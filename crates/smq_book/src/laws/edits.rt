@@ -4,7 +4,7 @@ ghost use Rattle.std.specs.FinMap as fin;
 ghost use Rattle.std.specs.List.{list_any};
 ghost use Rattle.std.specs.Ordering.{nat_cmp, eq_by_cmp};
 ghost use Rattle.smq_kit.specs.Maps.{SameOutside, patched};
-ghost use Rattle.smq_kit.specs.declared.form.Form.{Form};
+ghost use Rattle.smq_kit.specs.declared.message_id.Form.{Form};
 ghost use Rattle.smq_kit.specs.declared.link_key.LinkKey.{LinkKey};
 ghost use Rattle.smq_kit.specs.declared.names.LinkId.{LinkId};
 ghost use Rattle.smq_kit.specs.declared.names.RouteId.{RouteId};
@@ -287,8 +287,8 @@ pub fn moves_in_turn_change_what_each_changes()
 {}
 
 /// What groups tell of one place that is put in or taken out covers what it changes: facts stay but at that place and at
-/// those of the submits that are told, and notes but for the three lists of receipts there and at those of the receipts that
-/// are told. So what stands there then makes the new facts and the new notes of the old ones.
+/// those of the submits that are told, and notes but for the lists of receipts there and at those of the receipts that are
+/// told. So what stands there then makes the new facts and the new notes of the old ones.
 pub fn told_changes_cover()
     ensures facts { (s : SettingsValue) (q : Place) (t u : TrafficValue) (changes : List Change)
         (tells : TellsChanges (grouping_of s t) (grouping_of s u) changes) → IsMove q t u

@@ -1,6 +1,6 @@
 //! Laws of replies and steps: what refuses an edit, and what it leaves.
 ghost use Rattle.std.specs.Prelude.{◌≡◌, ◌≢◌, ◌<◌, ◌↔◌, ◌++◌, [], ℕ, List, length, Some, None, IsTrue};
-ghost use Rattle.smq_kit.specs.declared.form.Form.{Form};
+ghost use Rattle.smq_kit.specs.declared.message_id.Form.{Form};
 ghost use Rattle.smq_kit.specs.declared.names.LinkId.{LinkId};
 ghost use Rattle.smq_kit.specs.declared.names.RouteId.{RouteId};
 ghost use Rattle.smq_kit.specs.declared.names.SessionId.{SessionId};

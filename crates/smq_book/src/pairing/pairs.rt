@@ -1,12 +1,35 @@
-//! The places of a session's PDUs, and its PDUs by their offsets.
+//! A session with its link and that link's forms, which go with each of its PDUs; the places of its PDUs, and its PDUs by their offsets.
 ghost use Rattle.std.specs.Prelude.{◌≡◌};
 ghost use Rattle.std.specs.Option.{option_copied};
 ghost use Rattle.smq_book.specs.pairing.Traffic as traffic;
 ghost use Rattle.smq_book.specs.within.Pairs as pairs;
 ghost use Rattle.smq_book.specs.within.Pairs.{Rises, from_session};
+ghost use Rattle.smq_book.specs.within.Lists.{source_of};
 
-use crate::KeptPdu;
-use smq_kit::{Dir, Place, SessionId};
+use crate::present::settings::Settings;
+use crate::{Forms, KeptPdu, Session};
+use smq_kit::{Dir, LinkId, Place, SessionId};
+
+/// A session, its link, and the forms of that link's message ids.
+#[derive(Clone, Copy)]
+pub struct Source {
+    pub session: SessionId,
+    pub link: LinkId,
+    pub forms: Forms,
+}
+
+impl Source {
+    /// A session of a number with its link and that link's forms.
+    pub fn of_session(settings: &Settings, number: u64, session: &Session) -> Source
+        ensures { result ≡ source_of settings.now (number, session.now) }
+    {
+        Source {
+            session: SessionId(number),
+            link: session.link,
+            forms: settings.forms_of(session.link),
+        }
+    }
+}
 
 /// The place of a PDU.
 pub fn place_of(session: SessionId, dir: Dir, pdu: &KeptPdu) -> Place

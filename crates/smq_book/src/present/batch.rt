@@ -1,5 +1,5 @@
-//! A piece of octets that is framed and decoded on a tail, before any book is looked at. It keeps the tail on which it
-//! was made, by which a book tells whether it still fits.
+//! A piece as a capture says it, and as it is once it is framed and decoded on a tail, before any book is looked at: a batch. It keeps the
+//! tail on which it was made, by which a book tells whether it still fits.
 ghost use Rattle.std.specs.Prelude.{◌≡◌, ◌<◌, ◌+◌, ◌^◌, ◌≤◌, length, map, IfOk, IfErr, MatchOption, Err};
 ghost use Rattle.smq_frame.specs.Stream.{frames_after};
 ghost use Rattle.smq_frame.specs.Tail.{tail_after};
@@ -15,6 +15,16 @@ use smq_kit::{Dir, LinkId, Moment, Refusal, SessionId};
 use std::alloc::{AllocError, Global};
 use std::marker::Model;
 use std::sync::Arc;
+
+/// A piece: octets of one direction of a session, handed in at one moment.
+#[derive(Drop)]
+pub struct PieceRow {
+    pub link: LinkId,
+    pub session: SessionId,
+    pub dir: Dir,
+    pub moment: Moment,
+    pub octets: Bytes,
+}
 
 /// What copies of a batch share.
 #[derive(Drop)]

@@ -35,7 +35,8 @@ use Rattle.smq_book.proofs.lemmas.edits.Appends.{grown-client, grown-centre, oct
 use Rattle.smq_book.proofs.lemmas.present.Growth.{kept_frames, pdus-grown, tail-grown, kept_pdus-nil}
 use Rattle.smq_book.proofs.lemmas.pairing.PlacesRise.{kept-rise}
 use Rattle.smq_book.proofs.lemmas.edits.PushNotes.{client-notes-in-turn, centre-notes-in-turn, pdus-order}
-use Rattle.smq_book.proofs.lemmas.edits.ReceiptNotes.{same_list_rank, any-of-list}
+use Rattle.smq_book.specs.join.Listings.{same_list}
+use Rattle.smq_book.proofs.lemmas.join.ReceiptLists.{any-of-list}
 use Rattle.smq_book.proofs.lemmas.edits.SessionTraffic.{said-at, said-put}
 use Rattle.smq_book.proofs.lemmas.pairing.UnreadPlaces.{broken-stays}
 use Rattle.smq_book.proofs.lemmas.edits.Withdrawals.{marks, note_number, noted, notes-own, notes-all}
@@ -59,12 +60,12 @@ break-stays origin dir q (Some offset) new stays out = ap (λ at. list_any (eq_b
 
 abbrev any_broken : Origin → Listed → TailValue → TailValue → Bool
 any_broken origin e client centre =
-    same_list_rank e.list list.Broken && (list_any (eq_by_cmp place_cmp e.place) (break origin FromClient client.broken) || list_any (eq_by_cmp place_cmp e.place) (break origin FromCentre centre.broken))
+    same_list e.list list.Broken && (list_any (eq_by_cmp place_cmp e.place) (break origin FromClient client.broken) || list_any (eq_by_cmp place_cmp e.place) (break origin FromCentre centre.broken))
 
 any-broken : (origin : Origin) (e : Listed) (client centre : TailValue) → list_any (eq_by_cmp listed_cmp e) (broken_notes origin client centre) ≡ any_broken origin e client centre
 any-broken origin e client centre =
     any-of-list e.list list.Broken e.place (broken origin client centre)
-    ∙ ap (λ b. same_list_rank e.list list.Broken && b) (list_any-append (eq_by_cmp place_cmp e.place) (break origin FromClient client.broken) (break origin FromCentre centre.broken))
+    ∙ ap (λ b. same_list e.list list.Broken && b) (list_any-append (eq_by_cmp place_cmp e.place) (break origin FromClient client.broken) (break origin FromCentre centre.broken))
 
 abbrev any_noted : Origin → Listed → List KeptPdu → List KeptPdu → TailValue → TailValue → Bool
 any_noted origin e client centre client_tail centre_tail = list_any (eq_by_cmp listed_cmp e) (notes_among origin client centre) || any_broken origin e client_tail centre_tail
@@ -97,7 +98,7 @@ module _ (origin : Origin) (batch : BatchValue) (client centre : List Octet) (e 
       let breaks : list_any (eq_by_cmp place_cmp e.place) (break origin FromClient (tail_of (values after)).broken) ≡ list_any (eq_by_cmp place_cmp e.place) (break origin FromClient (tail_of (values client)).broken) =
       break-stays origin FromClient e.place (tail_of (values client)).broken (tail_of (values after)).broken (λ offset is. broken-stays client batch.moment batch.octets offset is)
       (ap (λ (t : TailValue). list_any (eq_by_cmp place_cmp e.place) (break origin FromClient t.broken)) next ∙ apart) in
-      λ i. pairs i || (same_list_rank e.list list.Broken && (breaks i || list_any (eq_by_cmp place_cmp e.place) (break origin FromCentre (tail_of (values centre)).broken)))
+      λ i. pairs i || (same_list e.list list.Broken && (breaks i || list_any (eq_by_cmp place_cmp e.place) (break origin FromCentre (tail_of (values centre)).broken)))
 
   centre-grown : batch.tail ≡ tail_of (values centre)
       → list_any (eq_by_cmp place_cmp e.place) (noted_in_turn origin FromCentre (kept_pdus client) (kept_pdus centre) (batch_pdus batch) ++ option_to_list (broken_at origin FromCentre (next_tail batch))) ≡ false
@@ -115,7 +116,7 @@ module _ (origin : Origin) (batch : BatchValue) (client centre : List Octet) (e 
       let breaks : list_any (eq_by_cmp place_cmp e.place) (break origin FromCentre (tail_of (values after)).broken) ≡ list_any (eq_by_cmp place_cmp e.place) (break origin FromCentre (tail_of (values centre)).broken) =
       break-stays origin FromCentre e.place (tail_of (values centre)).broken (tail_of (values after)).broken (λ offset is. broken-stays centre batch.moment batch.octets offset is)
       (ap (λ (t : TailValue). list_any (eq_by_cmp place_cmp e.place) (break origin FromCentre t.broken)) next ∙ apart) in
-      λ i. pairs i || (same_list_rank e.list list.Broken && (list_any (eq_by_cmp place_cmp e.place) (break origin FromClient (tail_of (values client)).broken) || breaks i))
+      λ i. pairs i || (same_list e.list list.Broken && (list_any (eq_by_cmp place_cmp e.place) (break origin FromClient (tail_of (values client)).broken) || breaks i))
 
 -- ---- a batch
 
@@ -138,7 +139,7 @@ module _ (sessions : FinMap nat_cmp Session) (batch : BatchValue) (e : Listed) w
   none-in : (link : LinkId) → any_in (record { link = link; client = []; centre = [] }) ≡ false
   none-in link =
       let origin : Origin = origin_of (batch.session.0, record { link = link; client = []; centre = [] }) in
-      (λ i. any_noted origin e (kept_pdus-nil i) (kept_pdus-nil i) (tail_of-nil i) (tail_of-nil i)) ∙ nothing (same_list_rank e.list list.Broken)
+      (λ i. any_noted origin e (kept_pdus-nil i) (kept_pdus-nil i) (tail_of-nil i) (tail_of-nil i)) ∙ nothing (same_list e.list list.Broken)
     where
       nothing : (b : Bool) → (b && false) ≡ false
       nothing true = refl

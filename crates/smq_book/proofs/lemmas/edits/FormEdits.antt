@@ -7,7 +7,7 @@ use Rattle.std.specs.FinMap.{entries, get, keys}
 use Rattle.std.proofs.lemmas.Bool.{eqb-true, eqb-false}
 use Rattle.std.proofs.lemmas.List.Elements.{filter-append}
 use Rattle.std.proofs.lemmas.List.Sums.{sum_by-cons}
-use Rattle.smq_kit.specs.declared.form.Form.{Form}
+use Rattle.smq_kit.specs.declared.message_id.Form.{Form}
 use Rattle.smq_kit.specs.declared.link_key.LinkKey.{LinkKey}
 use Rattle.smq_kit.specs.declared.names.LinkId.{LinkId}
 use Rattle.smq_kit.specs.declared.place.Place.{Place}

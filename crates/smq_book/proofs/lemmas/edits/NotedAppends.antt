@@ -42,7 +42,7 @@ use Rattle.smq_book.proofs.lemmas.edits.NotedPushes.{clients-noted, centres-note
 use Rattle.smq_book.proofs.lemmas.edits.NotedTraffic.{in_lists, is_noted, session_noted, said-in, said-noted}
 use Rattle.smq_book.proofs.lemmas.edits.OwnNotes.{client-own, centre-own, broken-own}
 use Rattle.smq_book.proofs.lemmas.edits.PushNotes.{pdus-order}
-use Rattle.smq_book.proofs.lemmas.edits.ReceiptNotes.{same_list_rank}
+use Rattle.smq_book.specs.join.Listings.{same_list}
 use Rattle.smq_book.proofs.lemmas.edits.SessionTraffic.{said-put}
 use Rattle.smq_book.proofs.lemmas.edits.Withdrawals.{note_number, noted, notes-own, notes-all, all-append}
 use Rattle.smq_book.proofs.lemmas.pairing.PlacesRise.{kept-rise}
@@ -58,7 +58,7 @@ module _ (origin : Origin) (dir : Dir) (q : Place) where
   abbrev puts : Option ℕ → List Move
   puts at = map (λ (k : Place). PutNote (listed list.Broken k)) (break at)
 
-  broken-idle : (name : ListName) (b : Bool) (tail : TailValue) → same_list_rank name list.Broken ≡ false
+  broken-idle : (name : ListName) (b : Bool) (tail : TailValue) → same_list name list.Broken ≡ false
       → mark_by (listed name q) b (broken_moves origin dir tail) ≡ b
   broken-idle name b tail h = by tail.broken
     where
@@ -71,14 +71,10 @@ module _ (origin : Origin) (dir : Dir) (q : Place) where
   broken-lists list.Waiting w s m u d b new tail h = sym (broken-idle list.Waiting w tail refl)
   broken-lists list.StrayAnswers w s m u d b new tail h = sym (broken-idle list.StrayAnswers s tail refl)
   broken-lists list.Mismatched w s m u d b new tail h = sym (broken-idle list.Mismatched m tail refl)
-  broken-lists list.StrayReceipts w s m u d b new tail h = sym (broken-idle list.StrayReceipts false tail refl)
-  broken-lists list.AmbiguousReceipts w s m u d b new tail h = sym (broken-idle list.AmbiguousReceipts false tail refl)
-  broken-lists list.ExtraReceipts w s m u d b new tail h = sym (broken-idle list.ExtraReceipts false tail refl)
   broken-lists list.Unreadable w s m u d b new tail h = sym (broken-idle list.Unreadable u tail refl)
   broken-lists list.Undecodable w s m u d b new tail h = sym (broken-idle list.Undecodable d tail refl)
   broken-lists list.Broken w s m u d b new tail h = h
-  broken-lists list.Open w s m u d b new tail h = sym (broken-idle list.Open false tail refl)
-  broken-lists list.Lapsed w s m u d b new tail h = sym (broken-idle list.Lapsed false tail refl)
+  broken-lists name w s m u d b new tail h = sym (broken-idle name false tail refl)
 
   -- with the other direction's before it or after it
   put_once : (c k o : Bool) → ((c || (o || false)) || k) ≡ cond o true ((c || false) || k)
@@ -240,16 +236,7 @@ module _ (origin : Origin) (batch : BatchValue) (client centre : List Octet) whe
 
 none-listed : (name : ListName) → in_lists name false false false false false false ≡ false
 none-listed list.Waiting = refl
-none-listed list.StrayAnswers = refl
-none-listed list.Mismatched = refl
-none-listed list.StrayReceipts = refl
-none-listed list.AmbiguousReceipts = refl
-none-listed list.ExtraReceipts = refl
-none-listed list.Unreadable = refl
-none-listed list.Undecodable = refl
-none-listed list.Broken = refl
-none-listed list.Open = refl
-none-listed list.Lapsed = refl
+none-listed _ = refl
 
 module _ (sessions : FinMap nat_cmp Session) (batch : BatchValue) where
   abbrev found : Option Session

@@ -2,9 +2,7 @@
 use Rattle.std.proofs.Common.{◌≡◌, ◌≢◌, Bool, true, false, cond, ◌||◌, [], ◌∷◌, Option, Some, None, refl, sym, ap, ◌∙◌}
 use Rattle.std.specs.Prelude.{◌&&◌, not}
 use Rattle.std.specs.List.{list_any}
-use Rattle.std.specs.declared.cmp.Ordering.{Ordering}
-use Rattle.std.specs.declared.cmp.Ordering.TheVariants.{Less, Equal, Greater}
-use Rattle.std.specs.Ordering.{eq_by_cmp, is_eq, nat_cmp, ordering_then}
+use Rattle.std.specs.Ordering.{eq_by_cmp}
 use Rattle.std.proofs.lemmas.Bool.{false≢true}
 use Rattle.smq_kit.specs.declared.place.Place.{Place}
 use Rattle.smq_kit.specs.Orders.{place_cmp}
@@ -18,7 +16,7 @@ use Rattle.smq_pair.proofs.Standing.{same-place, here-place}
 use Rattle.smq_pair.proofs.Turned.{not-request}
 use Rattle.smq_tally.specs.declared.list.List.{List as ListName}
 use Rattle.smq_tally.specs.declared.list.List.TheVariants as list
-use Rattle.smq_tally.specs.Lists.{list_rank, listed, listed_cmp}
+use Rattle.smq_tally.specs.Lists.{listed, listed_cmp}
 use Rattle.smq_book.specs.pairing.Traffic.{mismatched}
 use Rattle.smq_book.specs.join.Moves.{PutNote, TakeNote}
 use Rattle.smq_book.specs.edits.AppendedNotes.{met_moves}
@@ -26,7 +24,8 @@ use Rattle.smq_book.proofs.lemmas.edits.MarkedNotes.{mark, mark_by}
 use Rattle.smq_book.proofs.lemmas.edits.MetPairs.{met, own-none, own-apart}
 use Rattle.smq_book.proofs.lemmas.edits.MismatchedNotes.{noted-at-request, not-elsewhere, not-alone}
 use Rattle.smq_book.proofs.lemmas.edits.PushNotes.{mismatched-stay}
-use Rattle.smq_book.proofs.lemmas.edits.ReceiptNotes.{same_list_rank}
+use Rattle.smq_book.specs.join.Listings.{same_list}
+use Rattle.smq_book.proofs.lemmas.join.ReceiptLists.{same-listing}
 
 -- ---- what a list has after a PDU alone, and after a pair
 
@@ -255,24 +254,19 @@ module _ (v : PairingValue) (p : PlacedHeader) (o : AreInOrder v) (n : IsNext v 
 
 -- ---- the other lists stay
 
-other-list : (name other : ListName) (q k : Place) → same_list_rank name other ≡ false → eq_by_cmp listed_cmp (listed name q) (listed other k) ≡ false
-other-list name other q k h = by (nat_cmp (list_rank name) (list_rank other)) h
-  where
-    by : (r : Ordering) → is_eq r ≡ false → is_eq (ordering_then r (place_cmp q k)) ≡ false
-    by Less h = refl
-    by Equal h = absurd (false≢true (sym h))
-    by Greater h = refl
+other-list : (name other : ListName) (q k : Place) → same_list name other ≡ false → eq_by_cmp listed_cmp (listed name q) (listed other k) ≡ false
+other-list name other q k h = same-listing name other q k ∙ ap (λ b. b && eq_by_cmp place_cmp q k) h
 
-pub put-idle : (name other : ListName) (q k : Place) (b : Bool) → same_list_rank name other ≡ false
+pub put-idle : (name other : ListName) (q k : Place) (b : Bool) → same_list name other ≡ false
     → mark (listed name q) b (PutNote (listed other k)) ≡ b
 put-idle name other q k b h = ap (λ c. cond c true b) (other-list name other q k h)
 
-take-idle : (name other : ListName) (q k : Place) (b : Bool) → same_list_rank name other ≡ false
+take-idle : (name other : ListName) (q k : Place) (b : Bool) → same_list name other ≡ false
     → mark (listed name q) b (TakeNote (listed other k)) ≡ b
 take-idle name other q k b h = ap (λ c. cond c false b) (other-list name other q k h)
 
-module _ (name : ListName) (q : Place) (waits : same_list_rank name list.Waiting ≡ false) (strays : same_list_rank name list.StrayAnswers ≡ false)
-    (mismatched : same_list_rank name list.Mismatched ≡ false) where
+module _ (name : ListName) (q : Place) (waits : same_list name list.Waiting ≡ false) (strays : same_list name list.StrayAnswers ≡ false)
+    (mismatched : same_list name list.Mismatched ≡ false) where
   pub met-idle : (p : PlacedHeader) (m : Option Pair) (b : Bool) → mark_by (listed name q) b (met_moves p m) ≡ b
   met-idle p None b =
       elim (is_request p.header) as (λ r. mark_by (listed name q) b (cond r (PutNote (listed list.Waiting p.place) ∷ [])

@@ -25,7 +25,7 @@ use Rattle.smq_book.proofs.lemmas.edits.MarkedNotes.{mark_by, mark-both}
 use Rattle.smq_book.proofs.lemmas.edits.NotedPairs.{waiting-after, strays-after, mismatched-after, met-idle, put-idle}
 use Rattle.smq_book.proofs.lemmas.edits.NotedTraffic.{in_lists, is_noted}
 use Rattle.smq_book.proofs.lemmas.edits.PushNotes.{next-client, next-centre, client-grows, centre-grows, client-order, centre-order, longer}
-use Rattle.smq_book.proofs.lemmas.edits.ReceiptNotes.{same_list_rank}
+use Rattle.smq_book.specs.join.Listings.{same_list}
 
 -- ---- a PDU more of those whose content passes a test
 
@@ -115,7 +115,7 @@ module _ (origin : Origin) (next : KeptPdu) (q : Place) where
       ≡ mark_by (listed list.Unreadable q) u (cond t (PutNote (listed list.Unreadable place) ∷ []) [])) [ true ↦ refl | false ↦ refl ]
 
   -- other lists stay
-  undecodable-idle : (name : ListName) (dir : Dir) (b : Bool) → same_list_rank name list.Undecodable ≡ false
+  undecodable-idle : (name : ListName) (dir : Dir) (b : Bool) → same_list name list.Undecodable ≡ false
       → mark_by (listed name q) b (undecodable_moves origin dir next) ≡ b
   undecodable-idle name dir b h =
       elim (is_undecodable next.content) as
@@ -124,7 +124,7 @@ module _ (origin : Origin) (next : KeptPdu) (q : Place) where
         | false ↦ refl
       ]
 
-  unreadable-idle : (name : ListName) (dir : Dir) (b : Bool) → same_list_rank name list.Unreadable ≡ false
+  unreadable-idle : (name : ListName) (dir : Dir) (b : Bool) → same_list name list.Unreadable ≡ false
       → mark_by (listed name q) b (unreadable_moves origin dir next) ≡ b
   unreadable-idle name FromClient b h = refl
   unreadable-idle name FromCentre b h =
@@ -150,7 +150,7 @@ module _ (origin : Origin) (dir : Dir) (v : PairingValue) (next : KeptPdu) (o : 
 
   -- a list that contents don't change
   by_pair : (name : ListName) (b new : Bool) → new ≡ mark_by (listed name q) b (met_moves p (made_by v p))
-      → same_list_rank name list.Undecodable ≡ false → same_list_rank name list.Unreadable ≡ false
+      → same_list name list.Undecodable ≡ false → same_list name list.Unreadable ≡ false
       → new ≡ mark_by (listed name q) b (met_moves p (made_by v p) ++ undecodable_moves origin dir next ++ unreadable_moves origin dir next)
   by_pair name b new h d u =
       three (listed name q) (met_moves p (made_by v p)) (undecodable_moves origin dir next) (unreadable_moves origin dir next) b new new new
@@ -165,12 +165,6 @@ module _ (origin : Origin) (dir : Dir) (v : PairingValue) (next : KeptPdu) (o : 
       by_pair list.StrayAnswers (is_among q (strays v)) (is_among q (strays (pushed v p))) (strays-after v p o n q) refl refl
   pushed-lists list.Mismatched =
       by_pair list.Mismatched (is_among q (mismatched v)) (is_among q (mismatched (pushed v p))) (mismatched-after v p o n q) refl refl
-  pushed-lists list.StrayReceipts =
-      by_pair list.StrayReceipts false false (sym (met-idle list.StrayReceipts q refl refl refl p (made_by v p) false)) refl refl
-  pushed-lists list.AmbiguousReceipts =
-      by_pair list.AmbiguousReceipts false false (sym (met-idle list.AmbiguousReceipts q refl refl refl p (made_by v p) false)) refl refl
-  pushed-lists list.ExtraReceipts =
-      by_pair list.ExtraReceipts false false (sym (met-idle list.ExtraReceipts q refl refl refl p (made_by v p) false)) refl refl
   pushed-lists list.Unreadable =
       three (listed list.Unreadable q) (met_moves p (made_by v p)) (undecodable_moves origin dir next) (unreadable_moves origin dir next) u u u new_u
       (sym (met-idle list.Unreadable q refl refl refl p (made_by v p) u)) (sym (undecodable-idle origin next q list.Unreadable dir u refl)) read
@@ -180,8 +174,7 @@ module _ (origin : Origin) (dir : Dir) (v : PairingValue) (next : KeptPdu) (o : 
       (sym (met-idle list.Undecodable q refl refl refl p (made_by v p) d)) decoded
       (sym (unreadable-idle origin next q list.Undecodable dir new_d refl))
   pushed-lists list.Broken = by_pair list.Broken broken broken (sym (met-idle list.Broken q refl refl refl p (made_by v p) broken)) refl refl
-  pushed-lists list.Open = by_pair list.Open false false (sym (met-idle list.Open q refl refl refl p (made_by v p) false)) refl refl
-  pushed-lists list.Lapsed = by_pair list.Lapsed false false (sym (met-idle list.Lapsed q refl refl refl p (made_by v p) false)) refl refl
+  pushed-lists name = by_pair name false false (sym (met-idle name q refl refl refl p (made_by v p) false)) refl refl
 
 -- ---- PDUs more, in turn
 

@@ -1,4 +1,4 @@
--- What the traffic notes, list by list: in six lists what its sessions say, and nothing in those of receipts.
+-- What the traffic notes, list by list: in six lists what its sessions say, and nothing in the others.
 use Rattle.std.proofs.Common.{◌≡◌, ℕ, Bool, true, false, ◌||◌, List, Option, Some, None, refl, ap, ◌∙◌}
 use Rattle.std.specs.Prelude.{◌&&◌, option_and_then}
 use Rattle.std.specs.Ordering.{eq_by_cmp, nat_cmp}
@@ -12,7 +12,7 @@ use Rattle.smq_pair.specs.Growth.{is_among}
 use Rattle.smq_tally.specs.declared.list.List.{List as ListName}
 use Rattle.smq_tally.specs.declared.list.List.TheVariants as list
 use Rattle.smq_tally.specs.declared.list.Listed.{Listed}
-use Rattle.smq_tally.specs.Lists.{listed, listed_cmp}
+use Rattle.smq_tally.specs.Lists.{listed_cmp}
 use Rattle.smq_tally.specs.within.ListOrder.{listed_total}
 use Rattle.smq_tally.proofs.ListOrders.{listed_exact}
 use Rattle.smq_tally.proofs.Listings.{marked}
@@ -22,7 +22,8 @@ use Rattle.smq_book.specs.present.Kept.{kept_pdus}
 use Rattle.smq_book.specs.pairing.Traffic.{Origin, origin_of, pairing_among, mismatched, unreadable, undecodable, notes_among, broken, broken_notes, session_notes, traffic_of}
 use Rattle.smq_book.proofs.lemmas.edits.AppendNotes.{find-marks}
 use Rattle.smq_book.proofs.lemmas.edits.PushNotes.{any-notes}
-use Rattle.smq_book.proofs.lemmas.edits.ReceiptNotes.{same_list_rank, any-of-list}
+use Rattle.smq_book.specs.join.Listings.{same_list}
+use Rattle.smq_book.proofs.lemmas.join.ReceiptLists.{any-of-list}
 use Rattle.smq_book.proofs.lemmas.edits.SessionTraffic.{said-at}
 use Rattle.smq_book.proofs.lemmas.edits.Withdrawals.{note_number, noted, notes-own, notes-all}
 
@@ -33,14 +34,10 @@ abbrev pub in_lists : ListName → Bool → Bool → Bool → Bool → Bool → 
 in_lists list.Waiting w s m u d b = w
 in_lists list.StrayAnswers w s m u d b = s
 in_lists list.Mismatched w s m u d b = m
-in_lists list.StrayReceipts w s m u d b = false
-in_lists list.AmbiguousReceipts w s m u d b = false
-in_lists list.ExtraReceipts w s m u d b = false
 in_lists list.Unreadable w s m u d b = u
 in_lists list.Undecodable w s m u d b = d
 in_lists list.Broken w s m u d b = b
-in_lists list.Open w s m u d b = false
-in_lists list.Lapsed w s m u d b = false
+in_lists _ w s m u d b = false
 
 -- whether a note is one of a session whose PDUs are these and whose directions are broken at these places
 abbrev pub is_noted : Origin → List KeptPdu → List KeptPdu → List Place → Listed → Bool
@@ -54,21 +51,16 @@ or_false true = refl
 or_false false = refl
 
 six-lists : (name : ListName) (w s m u d b : Bool)
-    → (((((same_list_rank name list.Waiting && w) || (same_list_rank name list.StrayAnswers && s)) || (same_list_rank name list.Mismatched && m))
-    || ((same_list_rank name list.Unreadable && u) || (same_list_rank name list.Undecodable && d))) || (same_list_rank name list.Broken && b))
+    → (((((same_list name list.Waiting && w) || (same_list name list.StrayAnswers && s)) || (same_list name list.Mismatched && m))
+    || ((same_list name list.Unreadable && u) || (same_list name list.Undecodable && d))) || (same_list name list.Broken && b))
     ≡ in_lists name w s m u d b
 six-lists list.Waiting w s m u d b =
     or_false (((w || false) || false) || false) ∙ or_false ((w || false) || false) ∙ or_false (w || false) ∙ or_false w
 six-lists list.StrayAnswers w s m u d b = or_false ((s || false) || false) ∙ or_false (s || false) ∙ or_false s
 six-lists list.Mismatched w s m u d b = or_false (m || false) ∙ or_false m
-six-lists list.StrayReceipts w s m u d b = refl
-six-lists list.AmbiguousReceipts w s m u d b = refl
-six-lists list.ExtraReceipts w s m u d b = refl
 six-lists list.Unreadable w s m u d b = or_false (u || false) ∙ or_false u
 six-lists list.Undecodable w s m u d b = or_false d
-six-lists list.Broken w s m u d b = refl
-six-lists list.Open w s m u d b = refl
-six-lists list.Lapsed w s m u d b = refl
+six-lists _ w s m u d b = refl
 
 -- whether a note is one of a session
 abbrev pub session_noted : ℕ → Session → Listed → Bool
@@ -106,32 +98,3 @@ said-noted sessions e =
         ≡ option_and_then (λ s. marked (session_noted (note_number e) s e)) s
     by None = refl
     by (Some s) = said-in (note_number e) s e
-
--- a list in which no session notes
-nothing-said : (name : ListName) → ((w s m u d b : Bool) → in_lists name w s m u d b ≡ false) → (sessions : FinMap nat_cmp Session) (place : Place)
-    → get (traffic_of sessions).notes (listed name place) ≡ None
-nothing-said name none sessions place = said-noted sessions (listed name place) ∙ by (get sessions place.session.0)
-  where
-    by : (s : Option Session) → option_and_then (λ s. marked (session_noted place.session.0 s (listed name place))) s ≡ None
-    by None = refl
-    by (Some s) =
-        let origin = origin_of (place.session.0, s) in
-        let client = kept_pdus s.client in
-        let centre = kept_pdus s.centre in
-        let v = pairing_among origin client centre in
-        ap marked (none (is_among place (waiting v)) (is_among place (strays v)) (is_among place (mismatched v))
-        (is_among place (unreadable origin centre))
-        (is_among place (undecodable origin client centre)) (is_among place (broken origin (tail_of (values s.client)) (tail_of (values s.centre)))))
-
--- The traffic notes nothing at a place in the lists of receipts.
-pub record NoReceiptNotes (sessions : FinMap nat_cmp Session) (place : Place) : Type 0 where
-  pub stray : get (traffic_of sessions).notes (listed list.StrayReceipts place) ≡ None
-  pub ambiguous : get (traffic_of sessions).notes (listed list.AmbiguousReceipts place) ≡ None
-  pub extra : get (traffic_of sessions).notes (listed list.ExtraReceipts place) ≡ None
-
-pub said-lists : (sessions : FinMap nat_cmp Session) (place : Place) → NoReceiptNotes sessions place
-said-lists sessions place = record {
-  stray = nothing-said list.StrayReceipts (λ w s m u d b. refl) sessions place;
-  ambiguous = nothing-said list.AmbiguousReceipts (λ w s m u d b. refl) sessions place;
-  extra = nothing-said list.ExtraReceipts (λ w s m u d b. refl) sessions place;
-}

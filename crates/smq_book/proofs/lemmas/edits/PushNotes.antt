@@ -31,7 +31,8 @@ use Rattle.smq_book.specs.pairing.Traffic.{Origin, place_of, placed, pairing_amo
 use Rattle.smq_book.specs.within.Pairs.{Rises}
 use Rattle.smq_book.specs.edits.Appended.{noted_by, noted_in_turn}
 use Rattle.smq_book.proofs.lemmas.pairing.Paired.{of_both, above}
-use Rattle.smq_book.proofs.lemmas.edits.ReceiptNotes.{same_list_rank, any-of-list}
+use Rattle.smq_book.specs.join.Listings.{same_list}
+use Rattle.smq_book.proofs.lemmas.join.ReceiptLists.{any-of-list}
 
 -- ---- an element more, which isn't at a place
 
@@ -123,7 +124,7 @@ module _ (v : PairingValue) (p : PlacedHeader) (g : GrowsByOne v p) (q : Place) 
 -- ---- the notes of a session, list by list
 
 abbrev pub one_list : (e : Listed) → ListName → List Place → Bool
-one_list e name places = same_list_rank e.list name && list_any (eq_by_cmp place_cmp e.place) places
+one_list e name places = same_list e.list name && list_any (eq_by_cmp place_cmp e.place) places
 
 abbrev pub five : Listed → List Place → List Place → List Place → List Place → List Place → Bool
 five e w s m u d = ((one_list e list.Waiting w || one_list e list.StrayAnswers s) || one_list e list.Mismatched m) || (one_list e list.Unreadable u || one_list e list.Undecodable d)
@@ -160,8 +161,8 @@ module _ (origin : Origin) where
       ∙ sym (list_any-append (eq_by_cmp place_cmp e.place) (places_where is_undecodable origin FromClient client) (places_where is_undecodable origin FromCentre centre)) in
       any-notes origin (client ++ next ∷ []) centre e
       ∙ ap (λ w. five e (waiting w) (strays w) (mismatched w) (unreadable origin centre) (undecodable origin (client ++ next ∷ []) centre)) grown
-      ∙ (λ i. (((same_list_rank e.list list.Waiting && waiting-stay v p g e.place out i) || (same_list_rank e.list list.StrayAnswers && strays-stay v p g e.place out i)) || (same_list_rank e.list list.Mismatched && mismatched-stay v p g e.place out i))
-      || (one_list e list.Unreadable (unreadable origin centre) || (same_list_rank e.list list.Undecodable && undecoded i)))
+      ∙ (λ i. (((same_list e.list list.Waiting && waiting-stay v p g e.place out i) || (same_list e.list list.StrayAnswers && strays-stay v p g e.place out i)) || (same_list e.list list.Mismatched && mismatched-stay v p g e.place out i))
+      || (one_list e list.Unreadable (unreadable origin centre) || (same_list e.list list.Undecodable && undecoded i)))
       ∙ sym (any-notes origin client centre e)
 
   -- what the next PDU of the centre leaves
@@ -181,8 +182,8 @@ module _ (origin : Origin) where
       ∙ sym (list_any-append (eq_by_cmp place_cmp e.place) (places_where is_undecodable origin FromClient client) (places_where is_undecodable origin FromCentre centre)) in
       any-notes origin client (centre ++ next ∷ []) e
       ∙ ap (λ w. five e (waiting w) (strays w) (mismatched w) (unreadable origin (centre ++ next ∷ [])) (undecodable origin client (centre ++ next ∷ []))) grown
-      ∙ (λ i. (((same_list_rank e.list list.Waiting && waiting-stay v p g e.place out i) || (same_list_rank e.list list.StrayAnswers && strays-stay v p g e.place out i)) || (same_list_rank e.list list.Mismatched && mismatched-stay v p g e.place out i))
-      || ((same_list_rank e.list list.Unreadable && unread i) || (same_list_rank e.list list.Undecodable && undecoded i)))
+      ∙ (λ i. (((same_list e.list list.Waiting && waiting-stay v p g e.place out i) || (same_list e.list list.StrayAnswers && strays-stay v p g e.place out i)) || (same_list e.list list.Mismatched && mismatched-stay v p g e.place out i))
+      || ((same_list e.list list.Unreadable && unread i) || (same_list e.list list.Undecodable && undecoded i)))
       ∙ sym (any-notes origin client centre e)
 
   -- ---- PDUs of both directions stand in order

@@ -1,10 +1,8 @@
 -- Notes differ at the receipts whose standings do, and in the lists of receipts alone, where the traffic notes the same.
 use Rattle.std.proofs.Common.{◌≡◌, Bool, true, false, cond, ◌||◌, List, [], ◌∷◌, ◌++◌, Option, Some, None, refl, sym, ap, ◌∙◌}
-use Rattle.std.specs.Prelude.{T, is_some, ◌&&◌, map, option_map, option_and_then, option_to_list}
+use Rattle.std.specs.Prelude.{T, is_some, ◌&&◌, map, not, option_map, option_and_then, option_to_list}
 use Rattle.std.specs.List.{flat_map, list_any}
-use Rattle.std.specs.declared.cmp.Ordering.{Ordering}
-use Rattle.std.specs.declared.cmp.Ordering.TheVariants.{Less, Equal, Greater}
-use Rattle.std.specs.Ordering.{eq_by_cmp, is_eq, nat_cmp, ordering_then}
+use Rattle.std.specs.Ordering.{eq_by_cmp}
 use Rattle.std.specs.FinMap.{FinMap, entries, entries_sorted, find, get, is_sorted, keys, get-entries, contains_key, contains_key-keys, insert, remove, get-insert, get-remove}
 use Rattle.std.specs.FinSet.{FinSet}
 use Rattle.std.proofs.lemmas.Bool.{false≢true}
@@ -12,20 +10,19 @@ use Rattle.std.proofs.lemmas.List.Folds.{list_any-append}
 use Rattle.smq_kit.specs.declared.place.Place.{Place}
 use Rattle.smq_kit.specs.Maps.{kept_of, chosen, patched, SameOutside}
 use Rattle.smq_kit.specs.Orders.{place_cmp}
-use Rattle.smq_kit.proofs.Comparisons.{then_equal, or_first, or_second}
 use Rattle.smq_kit.proofs.MapLemmas as maps
 use Rattle.smq_kit.proofs.PlaceOrders.{places_total, places_exact}
 use Rattle.smq_tally.specs.declared.list.List as l
-use Rattle.smq_tally.specs.declared.list.List.TheVariants.{StrayReceipts, AmbiguousReceipts, ExtraReceipts}
 use Rattle.smq_tally.specs.declared.list.Listed.{Listed}
-use Rattle.smq_tally.specs.Lists.{list_rank, listed, listed_cmp}
+use Rattle.smq_tally.specs.Lists.{listed, listed_cmp}
 use Rattle.smq_tally.specs.within.ListOrder.{listed_total}
 use Rattle.smq_tally.proofs.ListOrders.{listed_exact}
 use Rattle.smq_tally.proofs.Listings.{marked, get-listed}
 use Rattle.smq_book.specs.present.Settings.{SettingsValue}
 use Rattle.smq_book.specs.pairing.Traffic.{TrafficValue}
 use Rattle.smq_book.specs.join.Keyed.{grouping_of}
-use Rattle.smq_book.specs.join.Listings.{list_of_standing, receipt_listing, receipt_listings, receipt_notes, notes_of}
+use Rattle.smq_book.specs.join.Listings.{is_named, is_receipt_list, list_of_standing, receipt_listing, receipt_listings, receipt_notes, notes_of, same_list}
+use Rattle.smq_book.proofs.lemmas.join.ReceiptLists.{listings-any, never-in, of-standing, same-listing}
 use Rattle.smq_group.specs.Matching.{Grouping, GroupedReceipt, ReceiptStanding, Stray, Deciding, Extra, Noted, KeyShared, receipt_standing}
 use Rattle.smq_book.specs.join.Moves.{receipt_standings_of, same_receipt_standing, receipt_changes_of}
 
@@ -56,13 +53,6 @@ module _ (g : Grouping) where
 
 -- ---- whether a place is listed
 
-abbrev pub same_list_rank : l.List → l.List → Bool
-same_list_rank a b = is_eq (nat_cmp (list_rank a) (list_rank b))
-
-unfoldable pub in_list_by : l.List → Option l.List → Bool
-in_list_by list None = false
-in_list_by list (Some other) = same_list_rank list other
-
 or_same : (b : Bool) → (b || b) ≡ b
 or_same true = refl
 or_same false = refl
@@ -71,48 +61,47 @@ or_false : (b : Bool) → (b || false) ≡ b
 or_false true = refl
 or_false false = refl
 
-apart-first : (n r : Ordering) → is_eq r ≡ false → is_eq (ordering_then n r) ≡ false
-apart-first Less r h = refl
-apart-first Equal r h = h
-apart-first Greater r h = refl
+and_true : (b : Bool) → (b && true) ≡ b
+and_true true = refl
+and_true false = refl
+
+and_false : (b : Bool) → (b && false) ≡ false
+and_false true = refl
+and_false false = refl
 
 module _ (list : l.List) (q : Place) where
-  here_by : (b : Bool) (other : l.List) → is_eq (nat_cmp (list_rank list) (list_rank other)) ≡ b → is_eq (ordering_then (nat_cmp (list_rank list) (list_rank other)) Equal) ≡ b
-  here_by b other h = ap is_eq (then_equal (nat_cmp (list_rank list) (list_rank other))) ∙ h
-
-  found_as : (x : Option l.List) (other : l.List) (found : (v : l.List) → x ≡ Some v → v ≡ other) → (same_list_rank list other || in_list_by list x) ≡ same_list_rank list other
-  unfolding in_list_by
-  found_as None other found = or_false (same_list_rank list other)
-  found_as (Some v) other found = ap (λ w. same_list_rank list other || same_list_rank list w) (found v refl) ∙ or_same (same_list_rank list other)
+  found_as : (x : Option l.List) (other : l.List) (found : (v : l.List) → x ≡ Some v → v ≡ other) → (same_list list other || is_named list x) ≡ same_list list other
+  found_as None other found = or_false (same_list list other)
+  found_as (Some v) other found = ap (λ w. same_list list other || same_list list w) (found v refl) ∙ or_same (same_list list other)
 
   some_is : (v w : l.List) (b : Bool) (x : Option l.List) → b ≡ true → cond b (Some v) x ≡ Some w → w ≡ v
   some_is v w true x t e = cc
   some_is v w false x t e = absurd (false≢true t)
 
-  any-listed : (es : List (Place × l.List)) → T (is_sorted place_cmp es) → list_any (eq_by_cmp listed_cmp (listed list q)) (map in_list_of es) ≡ in_list_by list (find place_cmp q es)
-  unfolding in_list_by
+  any-listed : (es : List (Place × l.List)) → T (is_sorted place_cmp es) → list_any (eq_by_cmp listed_cmp (listed list q)) (map in_list_of es) ≡ is_named list (find place_cmp q es)
   any-listed [] h = refl
   any-listed (e ∷ es) h =
-      let rest = any-listed es (maps.sorted-behind places_total places_exact e es h) in
-      elim (place_cmp q e.0) as (λ r. place_cmp q e.0 ≡ r → (is_eq (ordering_then (nat_cmp (list_rank list) (list_rank e.1)) r) || list_any (eq_by_cmp listed_cmp (listed list q)) (map in_list_of es)) ≡ in_list_by list (cond (is_eq r) (Some e.1) (find place_cmp q es))) [
-        | Less ↦ λ t. (λ i. apart-first (nat_cmp (list_rank list) (list_rank e.1)) Less refl i || rest i)
-        | Equal ↦ λ t.
-            (λ i. here_by (same_list_rank list e.1) e.1 refl i || rest i)
-            ∙ found_as (find place_cmp q es) e.1 (λ v is.
-            some_is e.1 v (eq_by_cmp place_cmp q e.0) (find place_cmp q es) (ap is_eq t) (maps.find-later places_total places_exact q v e es h is))
-        | Greater ↦ λ t. (λ i. apart-first (nat_cmp (list_rank list) (list_rank e.1)) Greater refl i || rest i)
-      ] refl
+      (λ i. same-listing list e.1 q e.0 i || any-listed es (maps.sorted-behind places_total places_exact e es h) i)
+      ∙ by (eq_by_cmp place_cmp q e.0) refl
+    where
+      by : (b : Bool) → eq_by_cmp place_cmp q e.0 ≡ b → ((same_list list e.1 && b) || is_named list (find place_cmp q es))
+          ≡ is_named list (cond b (Some e.1) (find place_cmp q es))
+      by true t =
+          ap (λ b. b || is_named list (find place_cmp q es)) (and_true (same_list list e.1))
+          ∙ found_as (find place_cmp q es) e.1 (λ v is.
+          some_is e.1 v (eq_by_cmp place_cmp q e.0) (find place_cmp q es) t (maps.find-later places_total places_exact q v e es h is))
+      by false t = ap (λ b. b || is_named list (find place_cmp q es)) (and_false (same_list list e.1))
 
 -- what the notes have of a place in a list
 note-at : (s : SettingsValue) (t : TrafficValue) (e : Listed)
-    → get (notes_of s t) e ≡ marked (list_any (eq_by_cmp listed_cmp e) (keys t.notes) || in_list_by e.list (get (lists_of (grouping_of s t)) e.place))
+    → get (notes_of s t) e ≡ marked (list_any (eq_by_cmp listed_cmp e) (keys t.notes) || is_named e.list (get (lists_of (grouping_of s t)) e.place))
 note-at s t e =
     get-listed (keys t.notes ++ receipt_notes (grouping_of s t)) e
     ∙ ap marked (list_any-append (eq_by_cmp listed_cmp e) (keys t.notes) (receipt_notes (grouping_of s t))
     ∙ ap (λ b. list_any (eq_by_cmp listed_cmp e) (keys t.notes) || b)
     (ap (list_any (eq_by_cmp listed_cmp e)) (notes-are (grouping_of s t))
     ∙ any-listed e.list e.place (entries (lists_of (grouping_of s t))) (entries_sorted (lists_of (grouping_of s t)))
-    ∙ ap (in_list_by e.list) (sym (get-entries (lists_of (grouping_of s t)) e.place))))
+    ∙ ap (is_named e.list) (sym (get-entries (lists_of (grouping_of s t)) e.place))))
 
 -- the list of a receipt is that of its standing
 list-of : (g : Grouping) (q : Place) → get (lists_of g) q ≡ option_and_then list_of_standing (get (receipt_standings_of g) q)
@@ -127,60 +116,25 @@ list-of g q =
 
 -- so what the notes have of it follows from how the receipt there stands
 pub note-by : (s : SettingsValue) (t : TrafficValue) (list : l.List) (q : Place) (x : Option ReceiptStanding) → get (receipt_standings_of (grouping_of s t)) q ≡ x
-    → get (notes_of s t) (listed list q) ≡ marked (contains_key t.notes (listed list q) || in_list_by list (option_and_then list_of_standing x))
+    → get (notes_of s t) (listed list q) ≡ marked (contains_key t.notes (listed list q) || is_named list (option_and_then list_of_standing x))
 note-by s t list q x is =
     note-at s t (listed list q)
-    ∙ (λ i. marked (sym (contains_key-keys t.notes (listed list q)) i || in_list_by list ((list-of (grouping_of s t) q ∙ ap (option_and_then list_of_standing) is) i)))
+    ∙ (λ i. marked (sym (contains_key-keys t.notes (listed list q)) i || is_named list ((list-of (grouping_of s t) q ∙ ap (option_and_then list_of_standing) is) i)))
 
 -- ---- outside of places
 
-pub any-of-list : (list other : l.List) (q : Place) (ks : List Place) → list_any (eq_by_cmp listed_cmp (listed list q)) (map (listed other) ks) ≡ (same_list_rank list other && list_any (eq_by_cmp place_cmp q) ks)
-any-of-list list other q [] = elim (is_eq (nat_cmp (list_rank list) (list_rank other))) as (λ b. false ≡ (b && false)) [ true ↦ refl | false ↦ refl ]
-any-of-list list other q (k ∷ ks) =
-    (λ i. is_eq (ordering_then (nat_cmp (list_rank list) (list_rank other)) (place_cmp q k)) || any-of-list list other q ks i)
-    ∙ by (nat_cmp (list_rank list) (list_rank other))
-  where
-    by : (r : Ordering) → (is_eq (ordering_then r (place_cmp q k)) || (is_eq r && list_any (eq_by_cmp place_cmp q) ks)) ≡ (is_eq r && list_any (eq_by_cmp place_cmp q) (k ∷ ks))
-    by Less = refl
-    by Equal = refl
-    by Greater = refl
-
-pub never : (list : l.List) (x : Option ReceiptStanding) → same_list_rank list StrayReceipts ≡ false → same_list_rank list AmbiguousReceipts ≡ false → same_list_rank list ExtraReceipts ≡ false
-    → in_list_by list (option_and_then list_of_standing x) ≡ false
-unfolding in_list_by
-never list None s a e = refl
-never list (Some Stray) s a e = s
-never list (Some Deciding) s a e = refl
-never list (Some Extra) s a e = e
-never list (Some Noted) s a e = refl
-never list (Some KeyShared) s a e = a
-
-and_true : (b : Bool) → (b && true) ≡ b
-and_true true = refl
-and_true false = refl
-
 same-in-list : (list : l.List) (q : Place) (ks : List Place) (x y : Option ReceiptStanding) → (list_any (eq_by_cmp place_cmp q) ks ≡ false → x ≡ y)
     → list_any (eq_by_cmp listed_cmp (listed list q)) (receipt_listings ks) ≡ false
-    → in_list_by list (option_and_then list_of_standing x) ≡ in_list_by list (option_and_then list_of_standing y)
+    → is_named list (option_and_then list_of_standing x) ≡ is_named list (option_and_then list_of_standing y)
 same-in-list list q ks x y same out = by (list_any (eq_by_cmp place_cmp q) ks) refl
   where
-    parts : (list_any (eq_by_cmp listed_cmp (listed list q)) (map (listed StrayReceipts) ks) || (list_any (eq_by_cmp listed_cmp (listed list q)) (map (listed AmbiguousReceipts) ks) || list_any (eq_by_cmp listed_cmp (listed list q)) (map (listed ExtraReceipts) ks))) ≡ false
-    parts =
-        ap (λ b. list_any (eq_by_cmp listed_cmp (listed list q)) (map (listed StrayReceipts) ks) || b)
-        (sym (list_any-append (eq_by_cmp listed_cmp (listed list q)) (map (listed AmbiguousReceipts) ks) (map (listed ExtraReceipts) ks)))
-        ∙ sym (list_any-append (eq_by_cmp listed_cmp (listed list q)) (map (listed StrayReceipts) ks) (map (listed AmbiguousReceipts) ks ++ map (listed ExtraReceipts) ks))
-        ∙ out
-
-    not-in : (other : l.List) → list_any (eq_by_cmp place_cmp q) ks ≡ true → list_any (eq_by_cmp listed_cmp (listed list q)) (map (listed other) ks) ≡ false → same_list_rank list other ≡ false
-    not-in other among h = sym (and_true (same_list_rank list other)) ∙ ap (λ b. same_list_rank list other && b) (sym among) ∙ sym (any-of-list list other q ks) ∙ h
-
-    by : (b : Bool) → list_any (eq_by_cmp place_cmp q) ks ≡ b → in_list_by list (option_and_then list_of_standing x) ≡ in_list_by list (option_and_then list_of_standing y)
-    by false e = ap (λ z. in_list_by list (option_and_then list_of_standing z)) (same e)
+    by : (b : Bool) → list_any (eq_by_cmp place_cmp q) ks ≡ b → is_named list (option_and_then list_of_standing x) ≡ is_named list (option_and_then list_of_standing y)
+    by false e = ap (λ z. is_named list (option_and_then list_of_standing z)) (same e)
     by true e =
-        let one = not-in StrayReceipts e (or_first _ _ parts) in
-        let two = not-in AmbiguousReceipts e (or_first _ _ (or_second (list_any (eq_by_cmp listed_cmp (listed list q)) (map (listed StrayReceipts) ks)) _ parts)) in
-        let three = not-in ExtraReceipts e (or_second (list_any (eq_by_cmp listed_cmp (listed list q)) (map (listed AmbiguousReceipts) ks)) _ (or_second (list_any (eq_by_cmp listed_cmp (listed list q)) (map (listed StrayReceipts) ks)) _ parts)) in
-        never list x one two three ∙ sym (never list y one two three)
+        let apart : is_receipt_list list ≡ false = sym (and_true (is_receipt_list list)) ∙ ap (λ b. is_receipt_list list && b) (sym e)
+        ∙ sym (listings-any (listed list q) ks) ∙ out in
+        never-in list (option_and_then list_of_standing x) (of-standing x) (ap not apart)
+        ∙ sym (never-in list (option_and_then list_of_standing y) (of-standing y) (ap not apart))
 
 -- where the traffic notes the same, notes stay but those of receipts whose standings may differ
 pub notes-outside : (s z : SettingsValue) (t u : TrafficValue) (ks : List Place) → t.notes ≡ u.notes
@@ -189,11 +143,11 @@ pub notes-outside : (s z : SettingsValue) (t u : TrafficValue) (ks : List Place)
 notes-outside s z t u ks same stand = record {
   at = λ e out.
       note-at s t e
-      ∙ (λ i. marked (list_any (eq_by_cmp listed_cmp e) (keys (same i)) || in_list_by e.list (get (lists_of (grouping_of s t)) e.place)))
+      ∙ (λ i. marked (list_any (eq_by_cmp listed_cmp e) (keys (same i)) || is_named e.list (get (lists_of (grouping_of s t)) e.place)))
       ∙ ap (λ b. marked (list_any (eq_by_cmp listed_cmp e) (keys u.notes) || b))
-      (ap (in_list_by e.list) (list-of (grouping_of s t) e.place)
+      (ap (is_named e.list) (list-of (grouping_of s t) e.place)
       ∙ same-in-list e.list e.place ks (get (receipt_standings_of (grouping_of s t)) e.place) (get (receipt_standings_of (grouping_of z u)) e.place) (λ h. stand.at e.place h) out
-      ∙ ap (in_list_by e.list) (sym (list-of (grouping_of z u) e.place)))
+      ∙ ap (is_named e.list) (sym (list-of (grouping_of z u) e.place)))
       ∙ sym (note-at z u e);
 }
 
@@ -211,26 +165,7 @@ receipt_standings_decided Deciding Deciding e = refl
 receipt_standings_decided Extra Extra e = refl
 receipt_standings_decided Noted Noted e = refl
 receipt_standings_decided KeyShared KeyShared e = refl
-receipt_standings_decided Stray Deciding e = absurd cc
-receipt_standings_decided Stray Extra e = absurd cc
-receipt_standings_decided Stray Noted e = absurd cc
-receipt_standings_decided Stray KeyShared e = absurd cc
-receipt_standings_decided Deciding Stray e = absurd cc
-receipt_standings_decided Deciding Extra e = absurd cc
-receipt_standings_decided Deciding Noted e = absurd cc
-receipt_standings_decided Deciding KeyShared e = absurd cc
-receipt_standings_decided Extra Stray e = absurd cc
-receipt_standings_decided Extra Deciding e = absurd cc
-receipt_standings_decided Extra Noted e = absurd cc
-receipt_standings_decided Extra KeyShared e = absurd cc
-receipt_standings_decided Noted Stray e = absurd cc
-receipt_standings_decided Noted Deciding e = absurd cc
-receipt_standings_decided Noted Extra e = absurd cc
-receipt_standings_decided Noted KeyShared e = absurd cc
-receipt_standings_decided KeyShared Stray e = absurd cc
-receipt_standings_decided KeyShared Deciding e = absurd cc
-receipt_standings_decided KeyShared Extra e = absurd cc
-receipt_standings_decided KeyShared Noted e = absurd cc
+receipt_standings_decided _ _ e = absurd (false≢true e)
 
 pub receipt-changes-cover : (g h : Grouping) → SameOutside (receipt_changes_of g h) (receipt_standings_of g) (receipt_standings_of h)
 receipt-changes-cover g h = maps.outside-differing places_total places_exact same_receipt_standing receipt_standings_decided (receipt_standings_of g) (receipt_standings_of h)
@@ -247,7 +182,7 @@ module _ (s : SettingsValue) (t : TrafficValue) (note : Listed) where
   note-outside notes same = record {
     at = λ e out.
         note-at s t e
-        ∙ ap (λ b. marked (b || in_list_by e.list (get (lists_of (grouping_of s t)) e.place)))
+        ∙ ap (λ b. marked (b || is_named e.list (get (lists_of (grouping_of s t)) e.place)))
         (sym (contains_key-keys t.notes e) ∙ ap is_some (same e (other_false (eq_by_cmp listed_cmp e note) out)) ∙ contains_key-keys notes e)
         ∙ sym (note-at s (record t { notes = notes }) e);
   }

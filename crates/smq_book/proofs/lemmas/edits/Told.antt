@@ -1,10 +1,9 @@
 -- What is told of standings covers the facts and the notes that a move changes, and gives them.
-use Rattle.std.proofs.Common.{◌≡◌, ℕ, Bool, true, false, cond, ◌||◌, List, [], ◌∷◌, Option, Some, None, refl, sym, ap, ◌∙◌, arith}
-use Rattle.std.specs.Prelude.{◌==◌, is_some, map, option_map, option_and_then}
+use Rattle.std.proofs.Common.{◌≡◌, Bool, true, false, cond, ◌||◌, List, [], ◌∷◌, Option, Some, None, refl, sym, ap, ◌∙◌}
+use Rattle.std.specs.Prelude.{is_some, map, option_map, option_and_then}
 use Rattle.std.specs.List.{list_any}
-use Rattle.std.specs.Ordering.{eq_by_cmp, is_eq, nat_cmp}
+use Rattle.std.specs.Ordering.{eq_by_cmp}
 use Rattle.std.specs.FinMap.{contains_key, get}
-use Rattle.std.proofs.lemmas.Bool.Decides.{nat_tests}
 use Rattle.smq_kit.specs.declared.link_key.LinkKey.{LinkKey}
 use Rattle.smq_kit.specs.declared.place.Place.{Place}
 use Rattle.smq_kit.specs.Maps.{same_option, patched, SameOutside}
@@ -13,8 +12,7 @@ use Rattle.smq_kit.proofs.Comparisons.{or_first, or_second}
 use Rattle.smq_kit.proofs.MapLemmas as maps
 use Rattle.smq_kit.proofs.PlaceOrders.{places_total, places_exact}
 use Rattle.smq_tally.specs.declared.list.List as l
-use Rattle.smq_tally.specs.declared.list.List.TheVariants.{StrayReceipts, AmbiguousReceipts, ExtraReceipts}
-use Rattle.smq_tally.specs.Lists.{list_rank, listed}
+use Rattle.smq_tally.specs.Lists.{listed}
 use Rattle.smq_tally.proofs.Listings.{marked}
 use Rattle.smq_group.specs.declared.change.Change.{Change}
 use Rattle.smq_group.specs.declared.change.Standing as told
@@ -28,12 +26,12 @@ use Rattle.smq_book.specs.pairing.Traffic.{Message, ReceivedReceipt, TrafficValu
 use Rattle.smq_book.specs.join.Circumstances.{circumstances, decider_in, lapsed_in, route_in, standing_in}
 use Rattle.smq_book.specs.join.Facts.{fact_by, facts_of}
 use Rattle.smq_book.specs.join.Keyed.{accepted_key, grouping_of, keyed_receipt}
-use Rattle.smq_book.specs.join.Listings.{list_of_standing, notes_of, receipt_listings}
+use Rattle.smq_book.specs.join.Listings.{is_named, list_of_standing, notes_of, receipt_listings}
 use Rattle.smq_book.specs.join.Moves.{IsMove, receipt_standings_of, standings_of}
-use Rattle.smq_book.specs.edits.Told.{circumstances_told, is_list_told, standing_told, told_places}
+use Rattle.smq_book.specs.edits.Told.{circumstances_told, is_list_told, list_told, standing_told, told_places}
 use Rattle.smq_book.proofs.lemmas.join.MoveLemmas.{fact-at, moves}
 use Rattle.smq_book.proofs.lemmas.edits.KeyMoves.{chosen-outside, once}
-use Rattle.smq_book.proofs.lemmas.edits.ReceiptNotes.{in_list_by, moved-notes, note-by, notes-outside}
+use Rattle.smq_book.proofs.lemmas.edits.ReceiptNotes.{moved-notes, note-by, notes-outside}
 
 -- ---- standings and what is told of them
 
@@ -197,17 +195,9 @@ now-at before (Some now) standing e = by (same_option same_standing before (Some
     by true e = absurd cc
     by false e = e
 
-rank_equal : (a b : ℕ) → is_eq (nat_cmp a b) ≡ (b == a)
-rank_equal a b = grind (arith, nat_tests)
-
-in-told-list : (list : l.List) (standing : told.Standing) → in_list_by list (option_and_then list_of_standing (receipt_standing_told standing)) ≡ is_list_told standing list
-unfolding in_list_by
-in-told-list list (v.Single place) = refl
-in-told-list list v.Shared = rank_equal (list_rank list) (list_rank AmbiguousReceipts)
-in-told-list list v.Stray = rank_equal (list_rank list) (list_rank StrayReceipts)
-in-told-list list v.Deciding = refl
-in-told-list list v.Extra = rank_equal (list_rank list) (list_rank ExtraReceipts)
-in-told-list list v.Noted = refl
+told-list : (standing : told.Standing) → option_and_then list_of_standing (receipt_standing_told standing) ≡ list_told standing
+told-list v.Stray = refl
+told-list _ = refl
 
 module _ (s : SettingsValue) (g : Grouping) (u : TrafficValue) (cs : List Change) (tells : TellsChanges g (grouping_of s u) cs) (p : Place) (standing : told.Standing) where
   abbrev h : Grouping
@@ -243,7 +233,7 @@ module _ (s : SettingsValue) (g : Grouping) (u : TrafficValue) (cs : List Change
   note-told list is =
       note-by s u list p (receipt_standing_told standing)
       (receipt-told h p ∙ ap (option_and_then receipt_standing_told) (now-at (receipt_at g p) (receipt_at h p) standing (sym (tells.each_receipt p) ∙ is)))
-      ∙ ap (λ b. marked (contains_key u.notes (listed list p) || b)) (in-told-list list standing)
+      ∙ ap (λ x. marked (contains_key u.notes (listed list p) || is_named list x)) (told-list standing)
 
 -- ---- where no delivery receipt stands
 
@@ -257,7 +247,6 @@ marked-back (Some x) = refl
 
 -- notes are the traffic's
 pub note-alone : (s : SettingsValue) (u : TrafficValue) (p : Place) (list : l.List) → get u.receipts p ≡ None → get (notes_of s u) (listed list p) ≡ get u.notes (listed list p)
-unfolding in_list_by
 note-alone s u p list none =
     note-by s u list p None (receipt-told (grouping_of s u) p
     ∙ ap (λ (x : Option GroupedReceipt). option_and_then receipt_standing_told (option_map (λ r. told_of_receipt (receipt_standing (grouping_of s u) p r)) x))

@@ -7,30 +7,20 @@ use Rattle.std.specs.Cmp.{tied_itself}
 use Rattle.std.specs.FinMap.{FinMap, get, keys}
 use Rattle.std.proofs.lemmas.Bool.{false≢true}
 use Rattle.smq_kit.specs.declared.names.LinkId.{LinkId}
-use Rattle.smq_kit.specs.declared.names.RouteId.{RouteId}
 use Rattle.smq_kit.specs.declared.place.Place.{Place}
 use Rattle.smq_kit.specs.Maps.{SameOutside, patched, set_at}
 use Rattle.smq_kit.specs.Orders.{place_cmp}
 use Rattle.smq_kit.proofs.MapLemmas as maps
 use Rattle.smq_kit.proofs.PlaceOrders.{places_total, places_exact}
-use Rattle.smq_route.specs.declared.version.Version.{Version}
-use Rattle.smq_route.specs.Edits.{added, changed}
-use Rattle.smq_route.specs.Numbers.{places_under}
-use Rattle.smq_route.specs.Versions.{Versions, begins, route_at}
-use Rattle.smq_book.specs.present.Settings.{SettingsValue, with_clock, with_versions, with_windows}
+use Rattle.smq_book.specs.present.Settings.{SettingsValue, with_clock, with_windows}
 use Rattle.smq_book.specs.pairing.Traffic.{TrafficValue}
 use Rattle.smq_book.specs.join.Facts.{facts_of}
-use Rattle.smq_book.specs.join.Keyed.{grouping_of}
-use Rattle.smq_book.specs.join.Listings.{notes_of}
-use Rattle.smq_book.specs.edits.Reached.{due_by, messages_due_on, messages_under}
+use Rattle.smq_book.specs.edits.Reached.{due_by, messages_due_on}
 use Rattle.smq_book.specs.index.Due.{due_of, places_due_on}
 use Rattle.smq_book.specs.index.Ends.{ends_of, places_ending}
-use Rattle.smq_book.specs.index.Numbered.{numbers_of}
 use Rattle.smq_book.proofs.lemmas.edits.Advances.{due-outside}
-use Rattle.smq_book.proofs.lemmas.edits.RouteEdits.{added-outside, changed-outside, routes-outside}
 use Rattle.smq_book.proofs.lemmas.index.Due.{due-on-link}
 use Rattle.smq_book.proofs.lemmas.index.Ends.{end-ending}
-use Rattle.smq_book.proofs.lemmas.index.Numbered.{under-is}
 
 module _ {X : Type 0} where
   set-in-turn : (g : Place → Option X) (m : FinMap place_cmp X) (ks : List Place) → fold (λ m q. set_at m q (g q)) m ks ≡ patched m g ks
@@ -45,48 +35,6 @@ module _ {X : Type 0} where
   pub outside-alike : (ks js : List Place) (m n : FinMap place_cmp X)
       → ((q : Place) → list_any (eq_by_cmp place_cmp q) ks ≡ list_any (eq_by_cmp place_cmp q) js) → SameOutside js m n → SameOutside ks m n
   outside-alike ks js m n alike same = record { at = λ q out. same.at q (sym (alike q) ∙ out) }
-
--- ---- an edit of routes
-
-module _ (s : SettingsValue) (t : TrafficValue) (prefix : List ℕ) where
-  abbrev reached : List Place
-  reached = places_under (numbers_of t) prefix
-
-  -- the places of the numbers that the prefix begins are enough
-  pub routed : (others : Versions)
-      → ((number : List ℕ) (moment : ℕ) → begins number prefix ≡ false → route_at others number moment ≡ route_at s.versions number moment)
-      → fold (λ m q. set_at m q (get (facts_of (with_versions s others) t) q)) (facts_of s t) (places_under (numbers_of t) prefix)
-      ≡ facts_of (with_versions s others) t
-  routed others elsewhere =
-      set-anew reached (facts_of s t) (facts_of (with_versions s others) t)
-      (outside-alike reached (keys (messages_under prefix t)) (facts_of s t) (facts_of (with_versions s others) t) (under-is t prefix)
-      (routes-outside s t others prefix elsewhere))
-
-  pub routed-added : (from : ℕ) (route : RouteId) (network : List ℕ)
-      → fold (λ m q. set_at m q (get (facts_of (with_versions s (added s.versions prefix from route network)) t) q)) (facts_of s t)
-      (places_under (numbers_of t) prefix)
-      ≡ facts_of (with_versions s (added s.versions prefix from route network)) t
-  routed-added from route network =
-      set-anew reached (facts_of s t) (facts_of (with_versions s (added s.versions prefix from route network)) t)
-      (outside-alike reached (keys (messages_under prefix t)) (facts_of s t)
-      (facts_of (with_versions s (added s.versions prefix from route network)) t) (under-is t prefix)
-      (added-outside s t prefix from route network))
-
-  pub routed-changed : (from : ℕ) (f : Version → Version)
-      → fold (λ m q. set_at m q (get (facts_of (with_versions s (changed s.versions prefix from f)) t) q)) (facts_of s t)
-      (places_under (numbers_of t) prefix)
-      ≡ facts_of (with_versions s (changed s.versions prefix from f)) t
-  routed-changed from f =
-      set-anew reached (facts_of s t) (facts_of (with_versions s (changed s.versions prefix from f)) t)
-      (outside-alike reached (keys (messages_under prefix t)) (facts_of s t) (facts_of (with_versions s (changed s.versions prefix from f)) t)
-      (under-is t prefix) (changed-outside s t prefix from f))
-
--- routes leave members, notes and numbers
-pub routed-members : (s : SettingsValue) (t : TrafficValue) (others : Versions) → grouping_of (with_versions s others) t ≡ grouping_of s t
-routed-members s t others = refl
-
-pub routed-notes : (s : SettingsValue) (t : TrafficValue) (others : Versions) → notes_of (with_versions s others) t ≡ notes_of s t
-routed-notes s t others = refl
 
 -- ---- a clock that goes on
 
@@ -108,13 +56,6 @@ module _ (s : SettingsValue) (t : TrafficValue) (clock : ℕ) where
       by : (ps : List Place) → ((q : Place) → list_any (eq_by_cmp place_cmp q) ps ≡ false) → ps ≡ []
       by [] h = refl
       by (p ∷ ps) h = absurd (false≢true (sym (h p) ∙ ap (λ b. b || list_any (eq_by_cmp place_cmp p) ps) (ap is_eq (tied_itself places_total p))))
-
-  -- it leaves members and notes
-  pub clocked-members : grouping_of (with_clock s clock) t ≡ grouping_of s t
-  clocked-members = refl
-
-  pub clocked-notes : notes_of (with_clock s clock) t ≡ notes_of s t
-  clocked-notes = refl
 
 -- ---- windows that differ in a link's
 

@@ -42,9 +42,9 @@ use Rattle.smq_book.specs.declared.present.session.Session.{Session}
 use Rattle.smq_book.specs.edits.Reach.{batch_places, groups, members, pair_in, reach, session_places, weight, weights}
 use Rattle.smq_book.specs.edits.Reached.{due_by, messages_under}
 use Rattle.smq_book.specs.index.Due.{due_cmp, due_of, places_due_on}
-use Rattle.smq_book.specs.index.Ends.{ends_of, places_ending}
+use Rattle.smq_book.specs.index.Ends.{end_cmp, ends_of, places_ending}
 use Rattle.smq_book.specs.index.Held.{Holding, dues_in, ends_in}
-use Rattle.smq_book.specs.index.Kept.{IsKept}
+use Rattle.smq_book.specs.index.Kept.{IsIndexed, IsKept}
 use Rattle.smq_book.specs.index.Numbered.{numbers_of}
 use Rattle.smq_book.specs.index.Touches.{HasNothingPending, index_cost, taken_of, message_load, pdu_load, receipt_key_at, receipt_load, touches_of}
 use Rattle.smq_book.specs.join.Keyed.{grouping_of}
@@ -59,7 +59,6 @@ use Rattle.smq_book.specs.present.Book.{BookValue}
 use Rattle.smq_book.specs.present.Present.{PresentValue, direction, octets_in, session_of}
 use Rattle.smq_book.specs.present.Steps.{change, session_after, session_with}
 use Rattle.smq_book.specs.present.Replies.{clock_back, reply}
-use Rattle.smq_book.specs.present.Settings.{SettingsValue}
 use Rattle.smq_book.proofs.lemmas.edits.ReachBounds.{due-number, keys-number}
 use Rattle.smq_book.proofs.lemmas.edits.Appends.{octets-before}
 use Rattle.smq_book.proofs.lemmas.present.Changes.{step-made}
@@ -74,34 +73,31 @@ pub no-refusal : {T : Type 0} (r : Option Refusal) (x : T) (Made Unchanged : Typ
 no-refusal None x Made Unchanged is = refl
 no-refusal (Some refusal) x Made Unchanged is = absurd is
 
-module _ (p : PresentValue) (s : SettingsValue) (same : s ≡ p.settings) (i j : Index) (k : Pairings) (kept : IsKept p i k) where
+module _ (p : PresentValue) (i j : Index) (is : IsIndexed p i) where
   abbrev said : TrafficValue
   said = traffic_of p.sessions
 
   ends-kept : ends_in i.ends.content ≡ ends_of p.settings said
-  ends-kept = ap (λ (h : Holding). h.ends) kept.held.held ∙ ap (ends_of p.settings) kept.traffic
+  ends-kept = ap (λ (h : Holding). h.ends) is.held.held ∙ ap (ends_of p.settings) is.traffic
 
   due-kept : dues_in i.due.content ≡ due_of p.settings said
-  due-kept = ap (λ (h : Holding). h.due) kept.held.held ∙ ap (due_of p.settings) kept.traffic
+  due-kept = ap (λ (h : Holding). h.due) is.held.held ∙ ap (due_of p.settings) is.traffic
 
   numbers-kept : i.numbers.numbers ≡ numbers_of said
-  numbers-kept = ap (λ (h : Holding). h.numbers) kept.held.held ∙ ap numbers_of kept.traffic
+  numbers-kept = ap (λ (h : Holding). h.numbers) is.held.held ∙ ap numbers_of is.traffic
 
   -- a clock
   pub advance-bound : (clock : ℕ) (result : Result (Unit {0}) Refusal) (Made Unchanged : Type 0)
-      → IsReply (clock_back s.clock clock) result Made Unchanged
-      → (HasNothingPending i → OnOk result (index_cost j ≤ index_cost i + 1 + 15 * length (places_ending s.clock clock (ends_in i.ends.content))))
+      → IsReply (clock_back p.settings.clock clock) result Made Unchanged
+      → (HasNothingPending i → OnOk result (index_cost j ≤ index_cost i + 1 + 15 * length (places_ending p.settings.clock clock (ends_in i.ends.content))))
       → OnOk result (index_cost j ≤ index_cost i + 64 * (1 + reach p (Advance clock)))
-  advance-bound clock (Err e) Made Unchanged is bound = tt
-  advance-bound clock (Ok x) Made Unchanged is bound =
-      let cost = bound kept.pending in
-      let many : length (places_ending s.clock clock (ends_in i.ends.content))
-      ≡ length (places_ending p.settings.clock clock (ends_of p.settings said)) =
-      (λ n. length (places_ending (same n).clock clock (ends-kept n))) in
+  advance-bound clock (Err e) Made Unchanged made bound = tt
+  advance-bound clock (Ok x) Made Unchanged made bound =
+      let cost = bound is.pending in
+      let many = ap (λ (ends : FinSet end_cmp). length (places_ending p.settings.clock clock ends)) ends-kept in
       let few = ending-number p.settings said clock in
       let all = keys-number (due_by p.settings said clock) in
-      let reached = due-number p clock
-      (ap (λ (z : SettingsValue). clock_back z.clock clock) (sym same) ∙ no-refusal (clock_back s.clock clock) x Made Unchanged is) in
+      let reached = due-number p clock (no-refusal (clock_back p.settings.clock clock) x Made Unchanged made) in
       omega (arith, cost, many, few, all, reached)
 
   -- a window
@@ -112,7 +108,7 @@ module _ (p : PresentValue) (s : SettingsValue) (same : s ≡ p.settings) (i j :
   window-bound link window (Ok x) bound =
       let many = ap (λ (due : FinSet due_cmp). length (places_due_on link due)) due-kept in
       let few = on-link-number p.settings said link in
-      let cost = bound kept.pending in
+      let cost = bound is.pending in
       omega (arith, cost, many, few)
 
   -- an edit of routes
@@ -123,7 +119,7 @@ module _ (p : PresentValue) (s : SettingsValue) (same : s ≡ p.settings) (i j :
   routes-bound prefix (Ok x) bound =
       let many = ap (λ (ns : FinSet number_cmp). length (places_under ns prefix)) numbers-kept in
       let few = under-number said prefix in
-      let none : numbers.vacancies i.numbers prefix ≡ 0 = ap (λ (vacant : List (List ℕ)). count_by (λ number. begins number prefix) vacant) kept.pending.vacant_numbers in
+      let none : numbers.vacancies i.numbers prefix ≡ 0 = ap (λ (vacant : List (List ℕ)). count_by (λ number. begins number prefix) vacant) is.pending.vacant_numbers in
       omega (arith, bound, many, few, none)
 
 -- ---- a withdrawal

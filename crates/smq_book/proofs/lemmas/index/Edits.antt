@@ -1,15 +1,12 @@
--- Traffic of sessions is as an index keeps it, and the moves of an append, of a withdrawal and of forms leave it so.
-use Rattle.std.proofs.Common.{◌≡◌, ℕ, Bool, true, false, cond, List, [], ◌∷◌, ◌++◌, Option, Some, None, refl, sym, ◌∙◌}
+-- The moves of an append, of a withdrawal and of forms leave traffic as an index keeps it.
+use Rattle.std.proofs.Common.{◌≡◌, ℕ, Bool, true, false, cond, List, [], ◌∷◌, ◌++◌, Option, Some, None, refl}
 use Rattle.std.specs.Prelude.{◌==◌, map, option_map, option_to_list}
 use Rattle.std.specs.List.{AllByRecursion, flat_map}
-use Rattle.std.specs.Ordering.{nat_cmp}
-use Rattle.std.specs.FinMap.{FinMap, entries, get}
+use Rattle.std.specs.FinMap.{entries, get}
 use Rattle.smq_kit.specs.declared.names.LinkId.{LinkId}
 use Rattle.smq_kit.specs.declared.place.Dir.{Dir}
 use Rattle.smq_kit.specs.declared.place.Dir.TheVariants.{FromClient, FromCentre}
 use Rattle.smq_kit.specs.declared.place.Place.{Place}
-use Rattle.smq_tally.specs.declared.list.List.TheVariants.{StrayReceipts, AmbiguousReceipts, ExtraReceipts}
-use Rattle.smq_tally.specs.Lists.{listed}
 use Rattle.smq_tally.specs.declared.list.Listed.{Listed}
 use Rattle.smq_pdu.specs.declared.body.Submit.{Submit}
 use Rattle.smq_receipt.specs.declared.reading.Receipt.{Receipt}
@@ -17,7 +14,7 @@ use Rattle.smq_book.specs.declared.present.kept.KeptPdu.{KeptPdu}
 use Rattle.smq_book.specs.declared.present.session.Session.{Session}
 use Rattle.smq_book.specs.present.Batch.{BatchValue, batch_pdus}
 use Rattle.smq_book.specs.present.Kept.{kept_pdus, receipt_in, submit_in}
-use Rattle.smq_book.specs.pairing.Traffic.{Message, Origin, ReceivedReceipt, TrafficValue, traffic_of, with_earlier}
+use Rattle.smq_book.specs.pairing.Traffic.{Message, Origin, ReceivedReceipt, TrafficValue, with_earlier}
 use Rattle.smq_book.specs.pairing.Traffic.{message_at, message_of, place_of, receipt_at, received, response_to}
 use Rattle.smq_book.specs.pairing.Traffic.{session_messages, session_notes, session_receipts}
 use Rattle.smq_book.specs.pairing.Pushes.{is_next_response}
@@ -27,7 +24,6 @@ use Rattle.smq_book.specs.edits.Reached.{link_messages, link_puts, link_receipts
 use Rattle.smq_book.specs.edits.Withdrawn.{withdrawal_moves}
 use Rattle.smq_book.specs.index.Held.{IsTraffic, KeepsTraffic}
 use Rattle.smq_book.proofs.lemmas.edits.Passing.{entries-passing}
-use Rattle.smq_book.proofs.lemmas.edits.SessionTraffic.{no-message, no-receipt}
 
 -- moves that each leave traffic so
 abbrev pub AllKeep : List Move → Type 0
@@ -140,27 +136,3 @@ pub append-keeps : (session : Option Session) (batch : BatchValue) → AllKeep (
 append-keeps session batch =
     push-keeps (batch_origin session batch) batch.dir (kept_pdus (session_before session batch.link).client)
     (kept_pdus (session_before session batch.link).centre) (batch_pdus batch)
-
--- ---- the traffic of sessions
-
-module _ (sessions : FinMap nat_cmp Session) where
-  message-dir : (q : Place) (m : Message) (dir : Dir) → q.dir ≡ dir → get (traffic_of sessions).messages q ≡ Some m → dir ≡ FromClient
-  message-dir q m FromClient is there = refl
-  message-dir q m FromCentre is there = let clash : Some m ≡ None = sym there ∙ no-message sessions q is in absurd cc
-
-  receipt-dir : (q : Place) (r : ReceivedReceipt) (dir : Dir) → q.dir ≡ dir → get (traffic_of sessions).receipts q ≡ Some r → dir ≡ FromCentre
-  receipt-dir q r FromCentre is there = refl
-  receipt-dir q r FromClient is there = let clash : Some r ≡ None = sym there ∙ no-receipt sessions q is in absurd cc
-
-  -- it is as an index keeps it, where it notes nothing in the lists of receipts
-  pub sessions-are-traffic : ((q : Place) → get (traffic_of sessions).notes (listed StrayReceipts q) ≡ None)
-      → ((q : Place) → get (traffic_of sessions).notes (listed AmbiguousReceipts q) ≡ None)
-      → ((q : Place) → get (traffic_of sessions).notes (listed ExtraReceipts q) ≡ None)
-      → IsTraffic (traffic_of sessions)
-  sessions-are-traffic strays ambiguous extras = record {
-    messages = λ q m there. message-dir q m q.dir refl there;
-    receipts = λ q r there. receipt-dir q r q.dir refl there;
-    strays = strays;
-    ambiguous = ambiguous;
-    extras = extras;
-  }

@@ -1,5 +1,5 @@
 -- What an index holds after a move, where it follows what groups tell.
-use Rattle.std.proofs.Common.{◌≡◌, ◌+◌, Bool, true, false, cond, ◌||◌, List, Option, Some, None, subst, refl, sym, ap, ◌∙◌}
+use Rattle.std.proofs.Common.{◌≡◌, Bool, true, false, cond, ◌||◌, List, Option, Some, None, subst, refl, sym, ap, ◌∙◌}
 use Rattle.std.specs.BTreeMap.{is_at, insert_entry}
 use Rattle.std.specs.Cmp.{tied_itself}
 use Rattle.std.specs.FinMap.{FinMap, empty, get, get-insert, insert, remove}
@@ -8,7 +8,6 @@ use Rattle.std.specs.Map.{keys_of, remove_entry}
 use Rattle.std.specs.FinSet.{FinSet}
 use Rattle.std.specs.Prelude.{option_and_then, option_map}
 use Rattle.std.specs.Ordering.{eq_by_cmp, is_eq}
-use Rattle.std.proofs.lemmas.Bool.{false≢true}
 use Rattle.smq_kit.specs.declared.link_key.LinkKey.{LinkKey}
 use Rattle.smq_kit.specs.declared.place.Dir.{Dir}
 use Rattle.smq_kit.specs.declared.place.Dir.TheVariants.{FromClient, FromCentre}
@@ -17,46 +16,44 @@ use Rattle.smq_kit.specs.Maps.{set_at}
 use Rattle.smq_kit.specs.Orders.{kept_place_cmp, place_cmp}
 use Rattle.smq_kit.proofs.MapLemmas.{same_key}
 use Rattle.smq_kit.proofs.PlaceOrders.{places_total, places_exact}
+use Rattle.smq_shelf.specs.Keeping.{KeepingMap}
+use Rattle.smq_tally.specs.Tally.{TallyValue}
 use Rattle.smq_tally.specs.declared.fact.Fact.{Fact}
-use Rattle.smq_tally.specs.declared.list.List as list
-use Rattle.smq_tally.specs.declared.list.List.TheVariants as l
 use Rattle.smq_tally.specs.Lists.{listed}
 use Rattle.smq_group.specs.declared.change.Change.{Change}
 use Rattle.smq_group.specs.Changes.{TellsChanges}
-use Rattle.smq_group.specs.Groups.{with_receipt, with_submit, without_receipt, without_submit}
+use Rattle.smq_group.specs.Groups.{GroupsValue, with_receipt, with_submit, without_receipt, without_submit}
 use Rattle.smq_group.specs.Matching.{Grouping}
 use Rattle.smq_group.specs.Standings.{StandApart}
-use Rattle.smq_route.specs.Numbers.{number_cmp}
+use Rattle.smq_route.specs.Numbers.{NumbersValue, number_cmp}
 use Rattle.smq_route.specs.Versions.{Versions}
 use Rattle.smq_book.specs.declared.index.index.Index.{Index}
-use Rattle.smq_book.specs.present.Settings.{SettingsValue, window_in}
+use Rattle.smq_book.specs.present.Settings.{SettingsValue}
 use Rattle.smq_book.specs.pairing.Traffic.{Message, ReceivedReceipt, TrafficValue}
 use Rattle.smq_book.specs.join.Circumstances.{circumstances, route_in}
 use Rattle.smq_book.specs.join.Facts.{fact_by, facts_of}
 use Rattle.smq_book.specs.join.Keyed.{accepted_key, grouping_of, keyed_receipt}
-use Rattle.smq_book.specs.join.Listings.{notes_of}
+use Rattle.smq_book.specs.join.Listings.{is_named, notes_of}
 use Rattle.smq_book.specs.join.Moves.{IsMove, TakeMessage, TakeReceipt, put_message, put_receipt, take_message, take_receipt}
-use Rattle.smq_book.specs.index.Due.{due_at, due_cmp, due_in, is_due_fact}
-use Rattle.smq_book.specs.index.Ends.{end_at, end_cmp, ends_by}
+use Rattle.smq_book.specs.index.Anew.{AreDue, IsAnew, IsDue, KeepsSaid}
+use Rattle.smq_book.specs.index.Due.{due_in, is_due_fact}
+use Rattle.smq_book.specs.index.Ends.{ends_by}
 use Rattle.smq_book.specs.index.Following.{AreTold, MayFollow}
 use Rattle.smq_book.specs.index.Held.{AreOf, Holding, IsTraffic, IsUnlisted, dues_in, ends_in, facts_anew, held_now, held_of}
-use Rattle.smq_book.specs.index.Held.{is_ambiguous, is_extra, is_stray, is_traffic_list, noted}
-use Rattle.smq_book.specs.index.Held.{list_held, messages_in, notes_anew, receipts_in, stored_traffic, with_listing}
+use Rattle.smq_book.specs.index.Held.{list_held, messages_in, noted, notes_anew, receipts_in, stored_traffic, with_listing}
 use Rattle.smq_book.specs.index.Numbered.{numbered, numbers_of}
 use Rattle.smq_book.specs.index.PlacedKeys.{with_key, without_key}
 use Rattle.smq_book.proofs.lemmas.join.MoveLemmas.{fact-at}
-use Rattle.smq_book.proofs.lemmas.index.Due.{due-again, due-fact-absent, due-put, due-still, due-taken}
-use Rattle.smq_book.proofs.lemmas.index.Ends.{end-again, end-fact-absent, end-put, end-still, end-taken}
+use Rattle.smq_book.proofs.lemmas.index.AreDue.{due-stays}
 use Rattle.smq_book.proofs.lemmas.index.Numbered.{number-again, number-comes, number-goes}
 use Rattle.smq_book.proofs.lemmas.index.Members.{kept-traffic, members-put, members-taken, members-unmoved, members-unput}
 use Rattle.smq_book.proofs.lemmas.index.Members.{members-untaken, received-put, received-taken, traffic-apart}
-use Rattle.smq_book.proofs.lemmas.index.Moves.{ambiguous-now, extra-now, stray-now}
-use Rattle.smq_book.proofs.lemmas.index.Moves.{alone-facts, alone-notes, taken-facts, taken-notes, tells_of, told-facts, told-notes}
+use Rattle.smq_book.proofs.lemmas.index.Moves.{alone-facts, alone-notes, receipt-now, taken-facts, taken-notes, tells_of, told-facts, told-notes}
 use Rattle.smq_book.proofs.lemmas.index.Following.{fact-route}
-use Rattle.smq_book.proofs.lemmas.index.Newcomers.{unlisted-alone}
+use Rattle.smq_book.proofs.lemmas.index.Newcomers.{unlisted-alone, unlisted-same}
 use Rattle.smq_book.proofs.lemmas.index.Stored.{at-receipts, at-submits, fact-absent, stored-gone, stored-put}
 use Rattle.smq_book.proofs.lemmas.index.ToldNow.{told-now}
-use Rattle.smq_book.proofs.lemmas.index.Unlisted.{unheld, unlisted-anew, unlisted-same}
+use Rattle.smq_book.proofs.lemmas.index.Unlisted.{unheld, unlisted-anew}
 
 -- what is put in is there
 pub put-there : {X : Type 0} (m : FinMap place_cmp X) (q : Place) (v : X) → get (insert m q v) q ≡ Some v
@@ -122,19 +119,6 @@ module _ {s : SettingsValue} {u : TrafficValue} {ms : List (Place × Message)} {
         ap (λ (r : FinMap place_cmp ReceivedReceipt). get r q) stores.receipts
         ∙ stores.stands.apart q m (ap (λ (x : FinMap place_cmp Message). get x q) (sym stores.messages) ∙ there);
   }
-
-  -- where no message stands, a fact that is taken out leaves those whose receipts are due
-  pub due-dropped : {later : FinMap place_cmp Fact} (q : Place) → get u.messages q ≡ None → (facts : FinMap place_cmp Fact) → later ≡ remove facts q
-      → due_in (messages_in ms) facts ≡ due_in (messages_in ms) later
-  due-dropped q none facts took =
-      sym (due-fact-absent (messages_in ms) facts q None (ap (λ (x : FinMap place_cmp Message). get x q) stores.messages ∙ none))
-      ∙ ap (due_in (messages_in ms)) (sym took)
-
-  pub ends-dropped : {later : FinMap place_cmp Fact} (q : Place) → get u.messages q ≡ None → (facts : FinMap place_cmp Fact) → later ≡ remove facts q
-      → ends_by s.windows (messages_in ms) facts ≡ ends_by s.windows (messages_in ms) later
-  ends-dropped q none facts took =
-      sym (end-fact-absent s.windows (messages_in ms) facts q None (ap (λ (x : FinMap place_cmp Message). get x q) stores.messages ∙ none))
-      ∙ ap (ends_by s.windows (messages_in ms)) (sym took)
 
 -- members that an index holds of traffic are those of what it stores
 pub are-held : (s : SettingsValue) (t : TrafficValue) (i : Index) → IsTraffic t → held_now i ≡ held_of s t
@@ -247,69 +231,15 @@ module _ {s : SettingsValue} {t : TrafficValue} {ms : List (Place × Message)} {
     stands = traffic-stands s (take_receipt q t) (kept-traffic t traffic (TakeReceipt q) tt);
   }
 
--- ---- messages whose receipts are due, and numbers
+-- ---- numbers
 
 module _ (s : SettingsValue) (t : TrafficValue) (i : Index) (held : held_now i ≡ held_of s t) where
-  due-local : dues_in i.due.content ≡ due_in t.messages i.tally.facts
-  due-local = ap (λ (h : Holding). h.due) held ∙ ap (due_in t.messages) (sym (ap (λ (h : Holding). h.facts) held))
-
-  ends-local : ends_in i.ends.content ≡ ends_by s.windows t.messages i.tally.facts
-  ends-local = ap (λ (h : Holding). h.ends) held ∙ ap (ends_by s.windows t.messages) (sym (ap (λ (h : Holding). h.facts) held))
-
   -- a message that isn't there has no fact
   pub unknown-before : (q : Place) → get t.messages q ≡ None → get i.tally.facts q ≡ None
   unknown-before q none =
       ap (λ (h : Holding). get h.facts q) held
       ∙ fact-at s t q
       ∙ ap (option_map (λ (m : Message). fact_by q m (circumstances s t m))) none
-
-  module _ {now : FinMap place_cmp Message} where
-    -- the same of their ends
-    pub ends-kept : now ≡ t.messages → ends_in i.ends.content ≡ ends_by s.windows now i.tally.facts
-    ends-kept same = ends-local ∙ ap (λ m. ends_by s.windows m i.tally.facts) (sym same)
-
-    pub ends-came : (q : Place) (m : Message) → get t.messages q ≡ None → now ≡ insert t.messages q m
-        → ends_in i.ends.content ≡ ends_by s.windows now i.tally.facts
-    ends-came q m none same =
-        ends-local ∙ sym (end-put s.windows t.messages i.tally.facts q m none (unknown-before q none)) ∙ ap (λ m. ends_by s.windows m i.tally.facts) (sym same)
-
-    pub ends-stay : (q : Place) (old m : Message) → get t.messages q ≡ Some old → old.link ≡ m.link → old.moment ≡ m.moment
-        → now ≡ insert t.messages q m → ends_in i.ends.content ≡ ends_by s.windows now i.tally.facts
-    ends-stay q old m is link moment same =
-        ends-local ∙ sym (end-again s.windows t.messages i.tally.facts q old m is link moment) ∙ ap (λ m. ends_by s.windows m i.tally.facts) (sym same)
-
-    pub ends-went : {ends : FinSet end_cmp} (q : Place) (m : Message) → get t.messages q ≡ Some m → now ≡ remove t.messages q
-        → ends ≡ remove (ends_in i.ends.content) (end_at (m.moment + window_in s.windows m.link) q) → ends ≡ ends_by s.windows now i.tally.facts
-    ends-went q m there same gone =
-        gone
-        ∙ ap (λ (d : FinSet end_cmp). remove d (end_at (m.moment + window_in s.windows m.link) q)) ends-local
-        ∙ sym (end-taken s.windows t.messages i.tally.facts q m there)
-        ∙ ap (λ m. ends_by s.windows m i.tally.facts) (sym same)
-
-    -- those whose receipts are due stay where messages do
-    pub due-kept : now ≡ t.messages → dues_in i.due.content ≡ due_in now i.tally.facts
-    due-kept same = due-local ∙ ap (λ m. due_in m i.tally.facts) (sym same)
-
-    -- a message that is put in has no fact yet
-    pub due-came : (q : Place) (m : Message) → get t.messages q ≡ None → now ≡ insert t.messages q m
-        → dues_in i.due.content ≡ due_in now i.tally.facts
-    due-came q m none same =
-        due-local ∙ sym (due-put t.messages i.tally.facts q m none (unknown-before q none)) ∙ ap (λ m. due_in m i.tally.facts) (sym same)
-
-    -- one in the place of a message of the same link and moment leaves those whose receipts are due
-    pub due-stays : (q : Place) (old m : Message) → get t.messages q ≡ Some old → old.link ≡ m.link → old.moment ≡ m.moment
-        → now ≡ insert t.messages q m → dues_in i.due.content ≡ due_in now i.tally.facts
-    due-stays q old m is link moment same =
-        due-local ∙ sym (due-again t.messages i.tally.facts q old m is link moment) ∙ ap (λ m. due_in m i.tally.facts) (sym same)
-
-    -- a message that is taken out takes its key with it
-    pub due-went : {dues : FinSet due_cmp} (q : Place) (m : Message) → get t.messages q ≡ Some m → now ≡ remove t.messages q
-        → dues ≡ remove (dues_in i.due.content) (due_at m.link m.moment q) → dues ≡ due_in now i.tally.facts
-    due-went q m there same gone =
-        gone
-        ∙ ap (λ (d : FinSet due_cmp). remove d (due_at m.link m.moment q)) due-local
-        ∙ sym (due-taken t.messages i.tally.facts q m there)
-        ∙ ap (λ m. due_in m i.tally.facts) (sym same)
 
   -- the numbers where a message is put in, and where one is taken out
   pub numbers-came : {numbers : FinSet number_cmp} (q : Place) (m : Message) → get t.messages q ≡ None
@@ -334,16 +264,12 @@ module _ (s : SettingsValue) (t : TrafficValue) (i : Index) (held : held_now i �
 module _ (s : SettingsValue) (t : TrafficValue) (i : Index) (held : held_now i ≡ held_of s t) (traffic : IsTraffic t) where
   -- where no receipt stands, none does
   pub unlisted-at : (p : Place) → get t.receipts p ≡ None → IsUnlisted i.tally.notes p
-  unlisted-at p none = record { none = λ name of_receipts. ap (λ (h : Holding). get h.notes (listed name p)) held ∙ by name of_receipts }
-    where
-      unlisted : list_held (grouping_of s t) p ≡ None
-      unlisted = unheld s t (grouping_of s t) (traffic-apart s t traffic) p none
-
-      by : (name : list.List) → is_traffic_list name ≡ false → get (notes_of s t) (listed name p) ≡ None
-      by l.StrayReceipts e = stray-now s t t refl traffic p ∙ ap (λ x. noted (is_stray x)) unlisted
-      by l.AmbiguousReceipts e = ambiguous-now s t t refl traffic p ∙ ap (λ x. noted (is_ambiguous x)) unlisted
-      by l.ExtraReceipts e = extra-now s t t refl traffic p ∙ ap (λ x. noted (is_extra x)) unlisted
-      by _ e = absurd (false≢true (sym e))
+  unlisted-at p none = record {
+    none = λ name one.
+        ap (λ (h : Holding). get h.notes (listed name p)) held
+        ∙ receipt-now s t t refl traffic name p one
+        ∙ ap (λ x. noted (is_named name x)) (unheld s t (grouping_of s t) (traffic-apart s t traffic) p none);
+  }
 
 -- ---- facts and notes that follow
 
@@ -364,20 +290,30 @@ module _ (s : SettingsValue) (t u : TrafficValue) (i : Index) {ms : List (Place 
 
   -- where messages, receipts, members, facts, notes and numbers of an index are those of the traffic, and the messages
   -- whose receipts are due are those of its facts, it holds that
-  pub holds : (j : Index) → j.messages.content ≡ ms → j.receipts.content ≡ rs → j.standings.members ≡ h → j.tally.facts ≡ facts_of s u
-      → j.tally.notes ≡ notes_of s u → dues_in j.due.content ≡ due_in (messages_in ms) j.tally.facts
-      → ends_in j.ends.content ≡ ends_by s.windows (messages_in ms) j.tally.facts → j.numbers.numbers ≡ numbers_of u
-      → held_now j ≡ held_of s u
-  holds j messages receipts members facts notes due ends numbers = λ k. record {
-    messages = (ap messages_in messages ∙ stores.messages) k;
-    receipts = (ap receipts_in receipts ∙ stores.receipts) k;
-    members = (members ∙ stores.members) k;
-    facts = facts k;
-    notes = notes k;
-    due = (due ∙ (λ l. due_in (stores.messages l) (facts l))) k;
-    ends = (ends ∙ (λ l. ends_by s.windows (stores.messages l) (facts l))) k;
-    numbers = numbers k;
-  }
+  holds : (j : Index) → j.messages.content ≡ ms → j.receipts.content ≡ rs → j.standings.members ≡ h → j.tally.facts ≡ facts_of s u
+      → j.tally.notes ≡ notes_of s u → IsDue s.windows j → j.numbers.numbers ≡ numbers_of u → held_now j ≡ held_of s u
+  holds j messages receipts members facts notes due numbers =
+      let said = ap messages_in messages ∙ stores.messages in
+      λ k. record {
+        messages = said k;
+        receipts = (ap receipts_in receipts ∙ stores.receipts) k;
+        members = (members ∙ stores.members) k;
+        facts = facts k;
+        notes = notes k;
+        due = (due.keys ∙ (λ l. due_in (said l) (facts l))) k;
+        ends = (due.ended ∙ (λ l. ends_by s.windows (said l) (facts l))) k;
+        numbers = numbers k;
+      }
+
+  -- the same where it keeps what another says, and has these facts and notes
+  pub holds-said : {before : Index} (j : Index) → KeepsSaid before j → before.messages.content ≡ ms → before.receipts.content ≡ rs
+      → before.standings.members ≡ h → (tally : TallyValue) → tally.facts ≡ facts_of s u → tally.notes ≡ notes_of s u
+      → IsDue s.windows (record j { tally = tally }) → before.numbers.numbers ≡ numbers_of u → held_now (record j { tally = tally }) ≡ held_of s u
+  holds-said j said messages receipts members tally facts notes due numbers =
+      holds (record j { tally = tally }) (ap (λ (k : KeepingMap Place Message). k.content) said.messages ∙ messages)
+      (ap (λ (k : KeepingMap Place ReceivedReceipt). k.content) said.receipts ∙ receipts)
+      (ap (λ (v : GroupsValue). v.members) said.standings ∙ members) facts notes due
+      (ap (λ (n : NumbersValue). n.numbers) said.numbers ∙ numbers)
 
   module _ (cs : List Change) (tells : TellsChanges i.standings.members h cs) where
     tells-moved : TellsChanges (grouping_of s t) (grouping_of s u) cs
@@ -386,11 +322,18 @@ module _ (s : SettingsValue) (t u : TrafficValue) (i : Index) {ms : List (Place 
         (subst (λ (x : Grouping). TellsChanges x h cs) (ap (λ (x : Holding). x.members) held) tells)
 
     -- of something that was put in
-    pub facts-told : tells_of q cs ≡ true → facts_anew now i.tally.facts cs ≡ facts_of s u
+    facts-told : tells_of q cs ≡ true → facts_anew now i.tally.facts cs ≡ facts_of s u
     facts-told there = (λ k. facts_anew (is-now k) (were k) cs) ∙ told-facts s q t u cs tells-moved move there
 
-    pub notes-told : tells_of q cs ≡ true → notes_anew h i.tally.notes cs ≡ notes_of s u
+    notes-told : tells_of q cs ≡ true → notes_anew h i.tally.notes cs ≡ notes_of s u
     notes-told there = (λ k. notes_anew (stores.members k) (were_noted k) cs) ∙ told-notes s t u same traffic q cs tells-moved move there
+
+    -- so it is held where facts and notes follow what is told
+    pub holds-told : {before : Index} {new : Option Place} (j : Index) → KeepsSaid before j → before.messages.content ≡ ms
+        → before.receipts.content ≡ rs → before.standings.members ≡ h → IsAnew s new j (facts_anew now i.tally.facts cs) (notes_anew h i.tally.notes cs)
+        → tells_of q cs ≡ true → IsDue s.windows j → before.numbers.numbers ≡ numbers_of u → held_now j ≡ held_of s u
+    holds-told j said messages receipts members set there due numbers =
+        holds-said j said messages receipts members j.tally (set.facts ∙ facts-told there) (set.notes ∙ notes-told there) due numbers
 
     -- of something that was taken out
     pub facts-taken : set_at (facts_anew now i.tally.facts cs) q (now q) ≡ facts_of s u
@@ -487,16 +430,13 @@ module _ (s : SettingsValue) (t u : TrafficValue) (i : Index) {ms : List (Place 
         → Some f ≡ get (facts_of s u) q → is_due_fact (Some f) ≡ is_due_fact (get i.tally.facts q)
         → j.messages.content ≡ ms → j.receipts.content ≡ rs → j.standings.members ≡ h
         → j.tally.facts ≡ insert i.tally.facts q f → j.tally.notes ≡ i.tally.notes
-        → dues_in j.due.content ≡ due_in (messages_in ms) i.tally.facts
-        → ends_in j.ends.content ≡ ends_by s.windows (messages_in ms) i.tally.facts
+        → AreDue s.windows (messages_in j.messages.content) i.tally.facts (dues_in j.due.content) (ends_in j.ends.content)
         → j.numbers.numbers ≡ numbers_of u → held_now j ≡ held_of s u
-    holds-unaccepted alike m f j there known still messages receipts members sets noted due ends numbers =
-        let here = ap (λ (x : FinMap place_cmp Message). get x q) stores.messages ∙ there in
+    holds-unaccepted alike m f j there known still messages receipts members sets noted due numbers =
+        let here = ap (λ (x : FinMap place_cmp Message). get x q) (ap messages_in messages ∙ stores.messages) ∙ there in
         holds j messages receipts members
         (sets ∙ (λ k. set_at (were k) q (known k)) ∙ alone-facts s q t u move alike) (noted ∙ notes-left alike)
-        (due ∙ sym (due-still (messages_in ms) i.tally.facts q (Some f) m here still) ∙ ap (due_in (messages_in ms)) (sym sets))
-        (ends ∙ sym (end-still s.windows (messages_in ms) i.tally.facts q (Some f) m here still) ∙ ap (ends_by s.windows (messages_in ms)) (sym sets))
-        numbers
+        (due-stays due q (Some f) sets m here still) numbers
 
     module _ (gone : get u.messages q ≡ None) where
       unknown : now q ≡ None

@@ -1,5 +1,5 @@
 -- What is known of a place follows its standing by its direction: one of the client has no listing, and one of the centre no fact.
-use Rattle.std.proofs.Common.{◌≡◌, Bool, true, false, cond, Option, Some, None, refl, sym, ap, ◌∙◌}
+use Rattle.std.proofs.Common.{◌≡◌, Bool, true, false, cond, Option, Some, None, refl, sym, ap, subst, ◌∙◌}
 use Rattle.std.specs.FinMap.{FinMap, get}
 use Rattle.std.specs.FinSet.{FinSet}
 use Rattle.std.specs.Ordering.{eq_by_cmp}
@@ -12,6 +12,7 @@ use Rattle.smq_kit.specs.declared.place.Place.{Place}
 use Rattle.smq_kit.proofs.MapLemmas as maps
 use Rattle.smq_kit.proofs.PlaceOrders.{places_total, places_exact}
 use Rattle.smq_tally.specs.Lists.{listed_cmp}
+use Rattle.smq_tally.specs.Tally.{TallyValue}
 use Rattle.smq_tally.specs.declared.fact.Fact.{Fact}
 use Rattle.smq_group.specs.declared.change.Standing as told
 use Rattle.smq_group.specs.Matching.{Grouping}
@@ -20,12 +21,52 @@ use Rattle.smq_book.specs.present.Settings.{SettingsValue}
 use Rattle.smq_book.specs.pairing.Traffic.{Message, ReceivedReceipt, TrafficValue}
 use Rattle.smq_book.specs.join.Circumstances.{circumstances, route_in}
 use Rattle.smq_book.specs.join.Facts.{fact_by, facts_of}
+use Rattle.smq_book.specs.declared.index.index.Index.{Index}
+use Rattle.smq_book.specs.index.Anew.{CanFollow, KeepsSaid, stored_in}
 use Rattle.smq_book.specs.index.Following.{MayFollow}
 use Rattle.smq_book.specs.index.Held.{list_by, list_held, with_listing}
 use Rattle.smq_book.proofs.lemmas.join.MoveLemmas.{fact-at}
-use Rattle.smq_book.proofs.lemmas.index.Newcomers.{alone-again}
+use Rattle.smq_book.proofs.lemmas.index.Newcomers.{alone-again, unlisted-same}
 use Rattle.smq_book.proofs.lemmas.index.Stored.{fact-absent, list-told}
-use Rattle.smq_book.proofs.lemmas.index.Unlisted.{unheld, unlisted-listing, unlisted-same}
+use Rattle.smq_book.proofs.lemmas.index.Unlisted.{unheld, unlisted-listing}
+
+-- what is said stays in turn
+pub both-keep : {i j k : Index} → KeepsSaid i j → KeepsSaid j k → KeepsSaid i k
+both-keep a b = record {
+  messages = b.messages ∙ a.messages;
+  receipts = b.receipts ∙ a.receipts;
+  standings = b.standings ∙ a.standings;
+  numbers = b.numbers ∙ a.numbers;
+  settled = b.settled ∙ a.settled;
+  settled_due = b.settled_due ∙ a.settled_due;
+  settled_ends = b.settled_ends ∙ a.settled_ends;
+}
+
+-- it does where facts and notes alone change
+pub said-by : (i : Index) (tally : TallyValue) → tally.settled ≡ i.tally.settled → KeepsSaid i (record i { tally = tally })
+said-by i tally settled = record {
+  messages = refl;
+  receipts = refl;
+  standings = refl;
+  numbers = refl;
+  settled = settled;
+  settled_due = refl;
+  settled_ends = refl;
+}
+
+pub said-itself : {i : Index} → KeepsSaid i i
+said-itself {i} = said-by i i.tally refl
+
+-- where it stays, with these facts and notes, others follow by it as before
+pub follow-still : {i j : Index} (s : SettingsValue) (new : Option Place) (facts : FinMap place_cmp Fact) (notes : FinSet listed_cmp)
+    → KeepsSaid i j → j.tally.facts ≡ facts → j.tally.notes ≡ notes → MayFollow s (stored_in i) i.standings.members new facts notes
+    → CanFollow s new j
+follow-still {i} {j} s new facts notes said sets noted may = subst (CanFollow s new) (λ k. record j {
+  standings = sym said.standings k;
+  messages = sym said.messages k;
+  receipts = sym said.receipts k;
+  tally = record j.tally { facts = sym sets k; notes = sym noted k };
+}) may
 
 -- a place has one direction
 apart : {X : Type 0} (p q : Place) → p.dir ≡ FromClient → q.dir ≡ FromCentre → p ≡ q → X

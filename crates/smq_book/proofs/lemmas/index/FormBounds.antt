@@ -5,11 +5,13 @@ use Rattle.std.specs.List.{AllByRecursion, flat_map, sum_by}
 use Rattle.std.specs.Option.{option_or}
 use Rattle.std.specs.FinMap.{FinMap, entries, get, keys}
 use Rattle.std.proofs.lemmas.Bool.{false≢true, eq-eqb, eqb-true}
-use Rattle.std.proofs.lemmas.List.{length-map}
+use Rattle.std.proofs.lemmas.List.{append_assoc, length-map}
 use Rattle.std.proofs.lemmas.List.Sums.{sum_by-append, sum_by-cons, sum_by-le-sum_by}
 use Rattle.smq_kit.specs.declared.link_key.LinkKey.{LinkKey}
 use Rattle.smq_kit.specs.declared.names.LinkId.{LinkId}
-use Rattle.smq_kit.specs.declared.form.Form.{Form}
+use Rattle.smq_kit.specs.declared.message_id.Form.{Form}
+use Rattle.smq_kit.specs.declared.place.Dir.{Dir}
+use Rattle.smq_kit.specs.declared.place.Dir.TheVariants.{FromClient, FromCentre}
 use Rattle.smq_kit.specs.declared.place.Place.{Place}
 use Rattle.smq_kit.specs.LinkKeys.{link_key, same_key}
 use Rattle.smq_kit.specs.Maps.{kept_of}
@@ -17,10 +19,11 @@ use Rattle.smq_kit.specs.Orders.{place_cmp}
 use Rattle.smq_kit.proofs.MapLemmas as maps
 use Rattle.smq_kit.proofs.PlaceOrders.{places_total, places_exact}
 use Rattle.smq_group.proofs.Earliest.{one_key}
-use Rattle.smq_group.specs.Groups.{GroupsValue}
+use Rattle.smq_group.specs.Groups.{GroupsValue, vacancies}
 use Rattle.smq_group.specs.Matching.{Grouping, GroupedReceipt}
 use Rattle.smq_book.specs.declared.index.index.Index.{Index}
-use Rattle.smq_book.specs.declared.index.pairings.Pairings.{Pairings}
+use Rattle.smq_book.specs.declared.index.stored.Said.{Said}
+use Rattle.smq_book.specs.declared.index.stored.Said.TheVariants as said
 use Rattle.smq_book.specs.declared.present.edit.Edit.TheVariants.{SetForm}
 use Rattle.smq_book.specs.present.Present.{PresentValue}
 use Rattle.smq_book.specs.present.Settings.{SettingsValue, forms_of}
@@ -29,14 +32,13 @@ use Rattle.smq_book.specs.pairing.Traffic.{Message, ReceivedReceipt, TrafficValu
 use Rattle.smq_book.specs.join.Keyed.{accepted_id, accepted_key, grouping_of, keyed_receipt, receipt_key}
 use Rattle.smq_book.specs.edits.Reach.{groups, link_places, members, pair_in, reach, weight, weights}
 use Rattle.smq_book.specs.edits.Reached.{link_messages, link_receipts, passing}
-use Rattle.smq_book.specs.index.Held.{IsTraffic}
-use Rattle.smq_book.specs.index.Kept.{IsKept}
-use Rattle.smq_book.specs.index.LinkOut.{accepted_on, is_accepted}
-use Rattle.smq_book.specs.index.Touches.{MembersGo, forgotten_load, taken_of, members_at, put_load, received_load, taken_load, walk_of}
-use Rattle.smq_book.proofs.lemmas.edits.Passing.{entries-passing}
+use Rattle.smq_book.specs.index.Held.{Holding, IsTraffic}
+use Rattle.smq_book.specs.index.Kept.{IsIndexed}
+use Rattle.smq_book.specs.index.LinkOut.{accepted_on, all_said, is_accepted, keyed_on, keyed_places, said_in}
+use Rattle.smq_book.specs.index.Touches.{MembersGo, key_in, members_at, put_load, receipt_key_at, said_key, taken_load, taken_of, walk_of}
 use Rattle.smq_book.proofs.lemmas.index.Accepted.{fewer, same-keys}
-use Rattle.smq_book.proofs.lemmas.index.Bounds.{load-kept, members-kept}
 use Rattle.smq_book.proofs.lemmas.index.KeyMeets.{few-meet, hits}
+use Rattle.smq_book.proofs.lemmas.index.LinkOut.{IsThere, all-there, length-all, places-of}
 use Rattle.smq_book.proofs.lemmas.index.Members.{no-message, receipt-there, submit-absent, submit-there}
 
 -- ---- the keys of entries, and of those that pass a test
@@ -120,6 +122,17 @@ message_keys s e = option_to_list (accepted_key s e.1)
 abbrev receipt_keys : SettingsValue → Place × ReceivedReceipt → List LinkKey
 receipt_keys s e = receipt_key s e.1 ∷ []
 
+abbrev said_keys : SettingsValue → Place × Said → List LinkKey
+said_keys s e = option_to_list (said_key s e.1)
+
+keys-of : (s : SettingsValue) (ms : List (Place × Message)) (rs : List (Place × ReceivedReceipt))
+    → flat_map (said_keys s) (all_said ms rs) ≡ flat_map (message_keys s) ms ++ flat_map (receipt_keys s) rs
+keys-of s [] [] = refl
+keys-of s [] (r ∷ rs) = ap (λ (ks : List LinkKey). receipt_key s r.1 ∷ ks) (keys-of s [] rs)
+keys-of s (m ∷ ms) rs =
+    ap (λ (ks : List LinkKey). message_keys s m ++ ks) (keys-of s ms rs)
+    ∙ sym (append_assoc (message_keys s m) (flat_map (message_keys s) ms) (flat_map (receipt_keys s) rs))
+
 matched : (s : SettingsValue) (k : LinkKey) (es : List (Place × Message))
     → count_by (same_key k) (map (λ e. e.1) (flat_map (kept_of (λ place m. accepted_key s m)) es)) ≡ hits k (flat_map (message_keys s) es)
 matched s k [] = refl
@@ -163,6 +176,11 @@ module _ (s : SettingsValue) (t : TrafficValue) where
     -- the keys of a link's messages and delivery receipts
     abbrev link_keys : List LinkKey
     link_keys = flat_map (message_keys s) (entries (link_messages link t)) ++ flat_map (receipt_keys s) (entries (link_receipts link t))
+
+    -- those of what has a key alone
+    keyed-keys : flat_map (said_keys s) (keyed_on link t) ≡ link_keys
+    keyed-keys = keys-of s (entries (accepted_on link t)) (entries (link_receipts link t))
+        ∙ ap (λ (ks : List LinkKey). ks ++ flat_map (receipt_keys s) (entries (link_receipts link t))) (same-keys s link t)
 
     keys-few : (k : LinkKey) → hits k link_keys ≤ members (grouping_of s t) k
     keys-few k =
@@ -239,76 +257,78 @@ few-were s z t link =
     let b = sum_by-le-sum_by (λ k. hits k old) (members (grouping_of s t)) old (keys-few s t link) in
     omega (arith, met, few, a, b)
 
--- ---- what all entries of a link cost, and weigh
-
-abbrev message_sum : Grouping → SettingsValue → List (Place × Message) → ℕ
-message_sum g s es = sum_by (members g) (flat_map (message_keys s) es)
-
-abbrev receipt_sum : Grouping → SettingsValue → List (Place × ReceivedReceipt) → ℕ
-receipt_sum g s es = sum_by (members g) (flat_map (receipt_keys s) es)
+-- ---- what all of a link costs, and weighs
 
 sum-more : (g : Grouping) (o : Option LinkKey) (ks : List LinkKey) → sum_by (members g) (option_to_list o ++ ks) ≡ members_at g o + sum_by (members g) ks
 sum-more g None ks = omega arith
 sum-more g (Some k) ks = sum_by-cons (members g) k ks
 
+-- the members of the keys of messages and delivery receipts
+abbrev said_sum : Grouping → SettingsValue → List (Place × Said) → ℕ
+said_sum g s es = sum_by (members g) (flat_map (said_keys s) es)
+
+-- what stands at a place is a member of its key
+module _ (s : SettingsValue) (t : TrafficValue) (q : Place) where
+  key-there : (d : Dir) (x : Said) → said_in d t q ≡ Some x → key_in d (grouping_of s t) q ≡ said_key s x
+  key-there FromClient x there = by (get t.messages q) refl there
+    where
+      by : (found : Option Message) → get t.messages q ≡ found → option_map said.Message found ≡ Some x → get (grouping_of s t).submits q ≡ said_key s x
+      by None at e = absurd cc
+      by (Some m) at e = let same : said.Message m ≡ x = cc in submit-there s q t m at ∙ ap (said_key s) same
+  key-there FromCentre x there = by (get t.receipts q) refl there
+    where
+      by : (found : Option ReceivedReceipt) → get t.receipts q ≡ found → option_map said.Receipt found ≡ Some x
+          → receipt_key_at (grouping_of s t) q ≡ said_key s x
+      by None at e = absurd cc
+      by (Some r) at e =
+          let same : said.Receipt r ≡ x = cc in ap (option_map (λ (r : GroupedReceipt). r.key)) (receipt-there s q t r at) ∙ ap (said_key s) same
+
 -- what takes and puts cost
-module _ (p : PresentValue) (i : Index) (pairings : Pairings) (kept : IsKept p i pairings) (z : SettingsValue) (h : GroupsValue) (n : Grouping)
-    (went : MembersGo i.standings h) where
+module _ (p : PresentValue) (i : Index) (is : IsIndexed p i) (z : SettingsValue) (h : GroupsValue) (n : Grouping) (went : MembersGo i.standings h) where
   abbrev t : TrafficValue
   t = traffic_of p.sessions
 
+  members-are-now : i.standings.members ≡ groups p
+  members-are-now = ap (λ (h : Holding). h.members) is.held.held ∙ ap (grouping_of p.settings) is.traffic
+
   loaded : (key : Option LinkKey) → taken_of i.standings key ≡ 33 * members_at (groups p) key
   loaded None = refl
-  loaded (Some key) = load-kept p i pairings kept key
+  loaded (Some key) =
+      let none : vacancies i.standings key ≡ 0 = ap (λ (vacant : List LinkKey). count_by (same_key key) vacant) is.pending.vacant in
+      let same = ap (λ (g : Grouping). members g key) members-are-now in
+      omega (arith, none, same)
 
   walked : (key : Option LinkKey) → walk_of h n key ≤ 2 * members_at (groups p) key + 15 * members_at n key
   walked None = omega arith
   walked (Some key) =
       let vacant = went.vacant key in
-      let load = load-kept p i pairings kept key in
-      let same = ap (λ (g : Grouping). members g key) (members-kept p i pairings kept) in
+      let load = loaded (Some key) in
+      let same = ap (λ (g : Grouping). members g key) members-are-now in
       omega (arith, vacant, load, same)
 
-  messages-cost : (es : List (Place × Message)) → AllByRecursion (λ e. get t.messages e.0 ≡ Some e.1) es
+  cost : (es : List (Place × Said)) → AllByRecursion (IsThere t) es
       → sum_by (taken_load i.standings) (map (λ e. e.0) es) + sum_by (put_load h n z) es
-      ≤ 85 * length es + 33 * message_sum (groups p) p.settings es + 2 * message_sum (groups p) z es + 15 * message_sum n z es
-  messages-cost [] a = omega arith
-  messages-cost (e ∷ es) a =
+      ≤ 92 * length es + 33 * said_sum (groups p) p.settings es + 2 * said_sum (groups p) z es + 15 * said_sum n z es
+  cost [] a = omega arith
+  cost (e ∷ es) a =
       let b = sum_by-cons (taken_load i.standings) e.0 (map (λ e. e.0) es) in
       let c = sum_by-cons (put_load h n z) e es in
-      let here = ap (taken_of i.standings) (ap (λ (g : Grouping). get g.submits e.0) (members-kept p i pairings kept) ∙ submit-there p.settings e.0 t e.1 a.0) in
-      let load = loaded (accepted_key p.settings e.1) in
-      let walk = walked (accepted_key z e.1) in
-      let x = sum-more (groups p) (accepted_key p.settings e.1) (flat_map (message_keys p.settings) es) in
-      let y = sum-more (groups p) (accepted_key z e.1) (flat_map (message_keys z) es) in
-      let w = sum-more n (accepted_key z e.1) (flat_map (message_keys z) es) in
-      let rest = messages-cost es a.1 in
-      omega (arith, b, c, here, load, walk, x, y, w, rest)
-
-  receipts-cost : (es : List (Place × ReceivedReceipt)) → AllByRecursion (λ e. get t.receipts e.0 ≡ Some e.1) es
-      → sum_by (forgotten_load i.standings) (map (λ e. e.0) es) + sum_by (received_load h n z) es
-      ≤ 92 * length es + 33 * receipt_sum (groups p) p.settings es + 2 * receipt_sum (groups p) z es + 15 * receipt_sum n z es
-  receipts-cost [] a = omega arith
-  receipts-cost (e ∷ es) a =
-      let b = sum_by-cons (forgotten_load i.standings) e.0 (map (λ e. e.0) es) in
-      let c = sum_by-cons (received_load h n z) e es in
-      let here = ap (λ (x : Option GroupedReceipt). taken_of i.standings (option_map (λ r. r.key) x))
-      (ap (λ (g : Grouping). get g.receipts e.0) (members-kept p i pairings kept) ∙ receipt-there p.settings e.0 t e.1 a.0) in
-      let load = loaded (Some (receipt_key p.settings e.1)) in
-      let walk = walked (Some (receipt_key z e.1)) in
-      let x = sum_by-cons (members (groups p)) (receipt_key p.settings e.1) (flat_map (receipt_keys p.settings) es) in
-      let y = sum_by-cons (members (groups p)) (receipt_key z e.1) (flat_map (receipt_keys z) es) in
-      let w = sum_by-cons (members n) (receipt_key z e.1) (flat_map (receipt_keys z) es) in
-      let rest = receipts-cost es a.1 in
+      let here = ap (taken_of i.standings) (ap (λ (g : Grouping). key_in e.0.dir g e.0) members-are-now ∙ key-there p.settings t e.0 e.0.dir e.1 a.0) in
+      let load = loaded (said_key p.settings e.1) in
+      let walk = walked (said_key z e.1) in
+      let x = sum-more (groups p) (said_key p.settings e.1) (flat_map (said_keys p.settings) es) in
+      let y = sum-more (groups p) (said_key z e.1) (flat_map (said_keys z) es) in
+      let w = sum-more n (said_key z e.1) (flat_map (said_keys z) es) in
+      let rest = cost es a.1 in
       omega (arith, b, c, here, load, walk, x, y, w, rest)
 
 -- what they weigh
 module _ (p : PresentValue) (is : IsTraffic (traffic_of p.sessions)) where
-  abbrev said : TrafficValue
-  said = traffic_of p.sessions
+  abbrev said_now : TrafficValue
+  said_now = traffic_of p.sessions
 
-  message-weighs : (q : Place) (m : Message) → get said.messages q ≡ Some m → 1 + members_at (groups p) (accepted_key p.settings m) ≤ weight p q
-  message-weighs q m there = by (accepted_key p.settings m) (submit-there p.settings q said m there)
+  weighs : (q : Place) (x : Said) (d : Dir) → q.dir ≡ d → said_in d said_now q ≡ Some x → 1 + members_at (groups p) (said_key p.settings x) ≤ weight p q
+  weighs q x FromClient stands there = by (said_key p.settings x) (key-there p.settings said_now q FromClient x there)
     where
       by : (o : Option LinkKey) → get (groups p).submits q ≡ o → 1 + members_at (groups p) o ≤ weight p q
       by None at = omega arith
@@ -318,84 +338,71 @@ module _ (p : PresentValue) (is : IsTraffic (traffic_of p.sessions)) where
           (option_or (option_map (λ r. r.key) (get (groups p).receipts q))
           (option_and_then (λ pair. get (groups p).submits pair.request) (pair_in p q))))) 0) at in
           omega (arith, own)
+  weighs q x FromCentre stands there = by (said_key p.settings x) (key-there p.settings said_now q FromCentre x there)
+    where
+      none : get (groups p).submits q ≡ None
+      none = submit-absent p.settings q said_now (no-message said_now is q stands)
 
-  receipt-weighs : (q : Place) (r : ReceivedReceipt) → get said.receipts q ≡ Some r → 1 + members (groups p) (receipt_key p.settings r) ≤ weight p q
-  receipt-weighs q r there =
-      let none : get (groups p).submits q ≡ None = submit-absent p.settings q said (no-message said is q (is.receipts q r there)) in
-      let at : get (groups p).receipts q ≡ Some (keyed_receipt p.settings r) = receipt-there p.settings q said r there in
-      let own : ◌≡◌ {A = ℕ} (weight p q) (1 + members (groups p) (receipt_key p.settings r)) =
-      (λ j. 1 + unwrap_or (option_map (members (groups p)) (option_or (none j)
-      (option_or (option_map (λ r. r.key) (at j))
-      (option_and_then (λ pair. get (groups p).submits pair.request) (pair_in p q))))) 0) in
-      omega (arith, own)
+      by : (o : Option LinkKey) → receipt_key_at (groups p) q ≡ o → 1 + members_at (groups p) o ≤ weight p q
+      by None at = omega arith
+      by (Some key) at =
+          let own : ◌≡◌ {A = ℕ} (weight p q) (1 + members (groups p) key) =
+          (λ j. 1 + unwrap_or (option_map (members (groups p)) (option_or (none j)
+          (option_or (at j) (option_and_then (λ pair. get (groups p).submits pair.request) (pair_in p q))))) 0) in
+          omega (arith, own)
 
-  messages-weigh : (es : List (Place × Message)) → AllByRecursion (λ e. get said.messages e.0 ≡ Some e.1) es
-      → length es + message_sum (groups p) p.settings es ≤ weights p (map (λ e. e.0) es)
-  messages-weigh [] a = omega arith
-  messages-weigh (e ∷ es) a =
-      let one = message-weighs e.0 e.1 a.0 in
-      let x = sum-more (groups p) (accepted_key p.settings e.1) (flat_map (message_keys p.settings) es) in
+  weigh : (es : List (Place × Said)) → AllByRecursion (IsThere said_now) es → length es + said_sum (groups p) p.settings es ≤ weights p (map (λ e. e.0) es)
+  weigh [] a = omega arith
+  weigh (e ∷ es) a =
+      let one = weighs e.0 e.1 e.0.dir refl a.0 in
+      let x = sum-more (groups p) (said_key p.settings e.1) (flat_map (said_keys p.settings) es) in
       let y = sum_by-cons (weight p) e.0 (map (λ e. e.0) es) in
-      let rest = messages-weigh es a.1 in
-      omega (arith, one, x, y, rest)
-
-  receipts-weigh : (es : List (Place × ReceivedReceipt)) → AllByRecursion (λ e. get said.receipts e.0 ≡ Some e.1) es
-      → length es + receipt_sum (groups p) p.settings es ≤ weights p (map (λ e. e.0) es)
-  receipts-weigh [] a = omega arith
-  receipts-weigh (e ∷ es) a =
-      let one = receipt-weighs e.0 e.1 a.0 in
-      let x = sum_by-cons (members (groups p)) (receipt_key p.settings e.1) (flat_map (receipt_keys p.settings) es) in
-      let y = sum_by-cons (weight p) e.0 (map (λ e. e.0) es) in
-      let rest = receipts-weigh es a.1 in
+      let rest = weigh es a.1 in
       omega (arith, one, x, y, rest)
 
   link-weighs : (link : LinkId)
-      → length (entries (link_messages link said)) + length (entries (link_receipts link said)) + sum_by (members (groups p)) (link_keys p.settings said link)
-      ≤ weights p (link_places link said)
+      → length (entries (link_messages link said_now)) + length (entries (link_receipts link said_now))
+      + sum_by (members (groups p)) (link_keys p.settings said_now link) ≤ weights p (link_places link said_now)
   link-weighs link =
-      let ms = entries (link_messages link said) in
-      let rs = entries (link_receipts link said) in
-      let a = messages-weigh ms (entries-passing (λ place (m : Message). m.link.0 == link.0) said.messages) in
-      let b = receipts-weigh rs (entries-passing (λ place (r : ReceivedReceipt). r.link.0 == link.0) said.receipts) in
-      let c = sum_by-append (weight p) (keys (link_messages link said)) (keys (link_receipts link said)) in
-      let d = sum_by-append (members (groups p)) (flat_map (message_keys p.settings) ms) (flat_map (receipt_keys p.settings) rs) in
-      omega (arith, a, b, c, d)
+      let ms = entries (link_messages link said_now) in
+      let rs = entries (link_receipts link said_now) in
+      let all = weigh (all_said ms rs)
+      (all-there said_now is (λ place (m : Message). m.link.0 == link.0) (λ place (r : ReceivedReceipt). r.link.0 == link.0)) in
+      let many = length-all ms rs in
+      let keys = ap (sum_by (members (groups p))) (keys-of p.settings ms rs) in
+      let places = ap (weights p) (places-of ms rs) in
+      omega (arith, all, many, keys, places)
 
 -- forms that are set
-pub forms-bound : (p : PresentValue) (i : Index) (pairings : Pairings) → IsKept p i pairings → (link : LinkId) (response receipt : Form)
+pub forms-bound : (p : PresentValue) (i : Index) → IsIndexed p i → (link : LinkId) (response receipt : Form)
     → (z : SettingsValue) (h : GroupsValue) (n : Grouping) → MembersGo i.standings h
     → z ≡ (change p (SetForm link response receipt)).settings → n ≡ groups (change p (SetForm link response receipt))
-    → 2 + length (keys (accepted_on link (traffic_of p.sessions))) + length (keys (link_receipts link (traffic_of p.sessions)))
-    + sum_by (taken_load i.standings) (keys (accepted_on link (traffic_of p.sessions)))
-    + sum_by (forgotten_load i.standings) (keys (link_receipts link (traffic_of p.sessions)))
-    + sum_by (put_load h n z) (entries (accepted_on link (traffic_of p.sessions)))
-    + sum_by (received_load h n z) (entries (link_receipts link (traffic_of p.sessions)))
+    → 2 + length (keyed_places link (traffic_of p.sessions)) + sum_by (taken_load i.standings) (keyed_places link (traffic_of p.sessions))
+    + sum_by (put_load h n z) (keyed_on link (traffic_of p.sessions))
     ≤ 64 * (1 + reach p (SetForm link response receipt))
-forms-bound p i pairings kept link response receipt z h n went settings members_then =
+forms-bound p i indexed link response receipt z h n went settings members_then =
     let q = change p (SetForm link response receipt) in
     let t = traffic_of p.sessions in
-    let is : IsTraffic t = subst IsTraffic kept.traffic kept.held.traffic in
+    let is : IsTraffic t = subst IsTraffic indexed.traffic indexed.held.traffic in
     let accepted = entries (accepted_on link t) in
-    let ms = entries (link_messages link t) in
     let rs = entries (link_receipts link t) in
-    let a = messages-cost p i pairings kept z h n went accepted
-    (entries-passing (λ place (m : Message). m.link.0 == link.0 && is_accepted m) t.messages) in
-    let b = receipts-cost p i pairings kept z h n went rs (entries-passing (λ place (r : ReceivedReceipt). r.link.0 == link.0) t.receipts) in
-    let some : length accepted ≤ length ms = fewer p.settings link t in
-    let looks : ◌≡◌ {A = ℕ} (length (keys (accepted_on link t))) (length accepted) = length-map accepted (λ (e : Place × Message). e.0) in
-    let receipt_looks : ◌≡◌ {A = ℕ} (length (keys (link_receipts link t))) (length rs) = length-map rs (λ (e : Place × ReceivedReceipt). e.0) in
-    let old_keys : message_sum (groups p) p.settings accepted ≡ message_sum (groups p) p.settings ms =
-    ap (sum_by (members (groups p))) (same-keys p.settings link t) in
-    let keys_then : message_sum (groups p) z accepted ≡ message_sum (groups p) z ms = ap (sum_by (members (groups p))) (same-keys z link t) in
-    let new_keys : message_sum n z accepted ≡ message_sum n z ms = ap (sum_by (members n)) (same-keys z link t) in
+    let keyed = keyed_on link t in
+    let all = cost p i indexed z h n went keyed
+    (all-there t is (λ place (m : Message). m.link.0 == link.0 && is_accepted m) (λ place (r : ReceivedReceipt). r.link.0 == link.0)) in
+    let places = places-of accepted rs in
+    let takes = ap (sum_by (taken_load i.standings)) places in
+    let looks = ap (λ (qs : List Place). length qs) places in
+    let placed = length-map keyed (λ (e : Place × Said). e.0) in
+    let many = length-all accepted rs in
+    let some : length accepted ≤ length (entries (link_messages link t)) = fewer p.settings link t in
+    let old_keys = ap (sum_by (members (groups p))) (keyed-keys p.settings t link) in
+    let keys_then = ap (sum_by (members (groups p))) (keyed-keys z t link) in
+    let new_keys = ap (sum_by (members n)) (keyed-keys z t link) in
     let before = link-weighs p is link in
     let after = link-weighs q is link in
     let were = few-were p.settings z t link in
-    let c = sum_by-append (members (groups p)) (flat_map (message_keys z) ms) (flat_map (receipt_keys z) rs) in
-    let d = sum_by-append (members (groups p)) (flat_map (message_keys p.settings) ms) (flat_map (receipt_keys p.settings) rs) in
-    let e = sum_by-append (members n) (flat_map (message_keys z) ms) (flat_map (receipt_keys z) rs) in
     let new : grouping_of z t ≡ n = ap (λ (s : SettingsValue). grouping_of s t) settings ∙ sym members_then in
     let f = ap (λ (g : Grouping). sum_by (members g) (link_keys z t link)) new in
     let g : sum_by (members n) (link_keys z t link) ≡ sum_by (members (groups q)) (link_keys q.settings t link) =
     (λ j. sum_by (members (members_then j)) (link_keys (settings j) t link)) in
-    omega (arith, a, b, some, looks, receipt_looks, old_keys, keys_then, new_keys, before, after, were, c, d, e, f, g)
+    omega (arith, all, takes, looks, placed, many, some, old_keys, keys_then, new_keys, before, after, were, f, g)

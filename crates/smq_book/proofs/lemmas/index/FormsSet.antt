@@ -1,21 +1,21 @@
 -- Forms of a link that are set while all of it is out, and forms that are brought back.
-use Rattle.std.proofs.Common.{◌≡◌, ◌≢◌, Bool, true, false, cond, List, Option, Some, refl, sym, ap, ◌∙◌, subst}
-use Rattle.std.specs.Prelude.{unwrap_or}
+use Rattle.std.proofs.Common.{◌≡◌, ◌≢◌, Bool, true, false, cond, Option, Some, refl, sym, ap, ◌∙◌, subst}
+use Rattle.std.specs.Prelude.{map, unwrap_or}
 use Rattle.std.specs.Option.{IsSome}
 use Rattle.std.specs.Cmp.{nat_cmp_total}
 use Rattle.std.specs.Ordering.{eq_by_cmp, nat_cmp}
 use Rattle.std.specs.FinMap.{FinMap, get, get-insert, nat_cmp-IsAntisymmetric}
 use Rattle.smq_kit.specs.declared.names.LinkId.{LinkId}
-use Rattle.smq_kit.specs.declared.place.Place.{Place}
 use Rattle.smq_kit.specs.Maps.{set_at}
 use Rattle.smq_kit.proofs.MapLemmas as maps
 use Rattle.smq_book.specs.declared.present.forms.Forms.{Forms}
 use Rattle.smq_book.specs.present.Settings.{SettingsValue, forms_of, opening_forms, set_forms_of}
 use Rattle.smq_book.specs.present.Steps.{with_forms}
-use Rattle.smq_book.specs.pairing.Traffic.{Message, ReceivedReceipt, TrafficValue}
-use Rattle.smq_book.specs.index.Held.{Holding, IsHeld, traffic_held}
-use Rattle.smq_book.specs.index.LinkOut.{IsOut}
-use Rattle.smq_book.proofs.lemmas.index.LinkOut.{held-idle}
+use Rattle.smq_book.specs.join.Moves.{moved_by}
+use Rattle.smq_book.specs.pairing.Traffic.{TrafficValue}
+use Rattle.smq_book.specs.index.Held.{Holding, IsHeld, IsTraffic, traffic_held}
+use Rattle.smq_book.specs.index.LinkOut.{keyed_places, take_at}
+use Rattle.smq_book.proofs.lemmas.index.LinkOut.{held-idle, no-message-left, no-receipt-left}
 use Rattle.smq_book.proofs.lemmas.present.NumberMaps.{set-back, set-there}
 
 module _ (s : SettingsValue) (link : LinkId) (f : Forms) (z : SettingsValue) (set : z ≡ with_forms s link f) where
@@ -29,12 +29,12 @@ module _ (s : SettingsValue) (link : LinkId) (f : Forms) (z : SettingsValue) (se
       by true t = absurd (apart (λ i. record { 0 = maps.same_key nat_cmp_total nat_cmp-IsAntisymmetric other.0 link.0 t i }))
       by false t = refl
 
-  -- what is held while nothing of the link is there, is held under its new forms
-  pub held-set : (t : TrafficValue) (ms : List (Place × Message)) (rs : List (Place × ReceivedReceipt)) (h : Holding) → IsHeld s h
-      → IsOut link t ms rs (traffic_held h) → IsHeld z h
-  held-set t ms rs h held out =
+  -- what is held while nothing of the link has a key is held under its new forms
+  pub held-set : (t : TrafficValue) → IsTraffic t → (h : Holding) → IsHeld s h → traffic_held h ≡ moved_by t (map take_at (keyed_places link t)) → IsHeld z h
+  held-set t is h held out =
       subst (λ (z : SettingsValue). IsHeld z h) (sym set)
-      (held-idle s (with_forms s link f) link h refl refl refl others-stay held out.no_message out.no_receipt)
+      (held-idle s (with_forms s link f) link h refl refl refl others-stay held
+      (no-message-left link t is (traffic_held h) out) (no-receipt-left link t is (traffic_held h) out))
 
   -- the link has forms
   pub forms-there : IsSome (set_forms_of z link.0)

@@ -1,12 +1,11 @@
 -- What is held of traffic tells that traffic again: its notes are those in no list of receipts.
-use Rattle.std.proofs.Common.{◌≡◌, false, ◌||◌, Option, Some, None, refl, sym, ap, ◌∙◌, subst}
+use Rattle.std.proofs.Common.{◌≡◌, Bool, true, false, ◌||◌, Option, Some, None, refl, sym, ap, ◌∙◌, subst}
 use Rattle.std.specs.Prelude.{⊤, if◌then◌else◌, is_some, option_and_then}
 use Rattle.std.specs.FinMap.{contains_key, get, same_map}
 use Rattle.smq_kit.specs.declared.place.Place.{Place}
 use Rattle.smq_group.specs.Matching.{ReceiptStanding}
 use Rattle.smq_kit.proofs.MapLemmas.{get-chosen}
 use Rattle.smq_tally.specs.declared.list.List as l
-use Rattle.smq_tally.specs.declared.list.List.TheVariants as list
 use Rattle.smq_tally.specs.declared.list.Listed.{Listed}
 use Rattle.smq_tally.specs.Lists.{listed}
 use Rattle.smq_tally.specs.within.ListOrder.{listed_total}
@@ -18,7 +17,8 @@ use Rattle.smq_book.specs.join.Keyed.{grouping_of}
 use Rattle.smq_book.specs.join.Listings.{list_of_standing, notes_of}
 use Rattle.smq_book.specs.join.Moves.{Move, moved, receipt_standings_of}
 use Rattle.smq_book.specs.index.Held.{Holding, IsHeld, IsTraffic, KeepsTraffic, held_of, is_traffic_list, traffic_held, traffic_notes}
-use Rattle.smq_book.proofs.lemmas.edits.ReceiptNotes.{in_list_by, never, note-by}
+use Rattle.smq_book.proofs.lemmas.join.ReceiptLists.{never-in, of-standing}
+use Rattle.smq_book.proofs.lemmas.edits.ReceiptNotes.{note-by}
 use Rattle.smq_book.proofs.lemmas.index.Members.{kept-traffic}
 
 abbrev chosen_note : Listed → ⊤ → Option ⊤
@@ -44,31 +44,20 @@ module _ (s : SettingsValue) (t : TrafficValue) (traffic : IsTraffic t) where
     abbrev stands : Option ReceiptStanding
     stands = get (receipt_standings_of (grouping_of s t)) q
 
-    -- a note in another list is the traffic's
-    other-list : (name : l.List) → in_list_by name (option_and_then list_of_standing stands) ≡ false
-        → option_and_then (λ _. Some tt) (get (notes_of s t) (listed name q)) ≡ get t.notes (listed name q)
-    other-list name apart =
+    -- a note in another list is the traffic's, and in those of receipts it has none
+    note-held : (name : l.List) (b : Bool) → is_traffic_list name ≡ b
+        → option_and_then (λ _. if b then Some tt else None) (get (notes_of s t) (listed name q)) ≡ get t.notes (listed name q)
+    note-held name true other =
         all_chosen (get (notes_of s t) (listed name q))
         ∙ note-by s t name q stands refl
-        ∙ ap (λ b. marked (contains_key t.notes (listed name q) || b)) apart
+        ∙ ap (λ b. marked (contains_key t.notes (listed name q) || b))
+        (never-in name (option_and_then list_of_standing stands) (of-standing stands) other)
         ∙ or_none (get t.notes (listed name q))
-
-    note-held : (name : l.List) → option_and_then (chosen_note (listed name q)) (get (notes_of s t) (listed name q)) ≡ get t.notes (listed name q)
-    note-held list.StrayReceipts = none_chosen (get (notes_of s t) (listed list.StrayReceipts q)) ∙ sym (traffic.strays q)
-    note-held list.AmbiguousReceipts = none_chosen (get (notes_of s t) (listed list.AmbiguousReceipts q)) ∙ sym (traffic.ambiguous q)
-    note-held list.ExtraReceipts = none_chosen (get (notes_of s t) (listed list.ExtraReceipts q)) ∙ sym (traffic.extras q)
-    note-held list.Waiting = other-list list.Waiting (never list.Waiting stands refl refl refl)
-    note-held list.StrayAnswers = other-list list.StrayAnswers (never list.StrayAnswers stands refl refl refl)
-    note-held list.Mismatched = other-list list.Mismatched (never list.Mismatched stands refl refl refl)
-    note-held list.Unreadable = other-list list.Unreadable (never list.Unreadable stands refl refl refl)
-    note-held list.Undecodable = other-list list.Undecodable (never list.Undecodable stands refl refl refl)
-    note-held list.Broken = other-list list.Broken (never list.Broken stands refl refl refl)
-    note-held list.Open = other-list list.Open (never list.Open stands refl refl refl)
-    note-held list.Lapsed = other-list list.Lapsed (never list.Lapsed stands refl refl refl)
+    note-held name false one = none_chosen (get (notes_of s t) (listed name q)) ∙ sym ((traffic.unlisted q).none name one)
 
   notes-held : traffic_notes (notes_of s t) ≡ t.notes
   notes-held = same_map listed_total listed_exact _ _
-      (λ e. get-chosen listed_total listed_exact chosen_note (notes_of s t) e ∙ note-held e.place e.list)
+      (λ e. get-chosen listed_total listed_exact chosen_note (notes_of s t) e ∙ note-held e.place e.list (is_traffic_list e.list) refl)
 
   pub traffic-again : traffic_held (held_of s t) ≡ t
   traffic-again = λ i. record { messages = t.messages; receipts = t.receipts; notes = notes-held i }

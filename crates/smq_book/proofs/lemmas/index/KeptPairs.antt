@@ -1,5 +1,5 @@
 -- The pairs of each session where one session is put in, or taken out.
-use Rattle.std.proofs.Common.{◌≡◌, ◌≢◌, ℕ, Bool, true, false, cond, Option, Some, None, Ok, Err, refl, sym, ap, subst, ◌∙◌}
+use Rattle.std.proofs.Common.{◌≡◌, ◌≢◌, ℕ, Bool, true, false, cond, Option, Some, None, Result, Ok, Err, refl, sym, ap, subst, ◌∙◌}
 use Rattle.std.specs.Prelude.{option_map, unwrap_or}
 use Rattle.std.specs.Cmp.{nat_cmp_total, tied_itself}
 use Rattle.std.specs.FinMap as fin
@@ -12,17 +12,19 @@ use Rattle.smq_kit.specs.declared.refusal.Refusal.TheVariants.{Memory, NoSession
 use Rattle.smq_kit.specs.Replies.{IsReply, IsReplyInPlace}
 use Rattle.smq_pair.specs.Paired.{no_pdus}
 use Rattle.smq_pair.specs.Pairing.{PairingValue}
+use Rattle.smq_book.specs.declared.present.edit.Edit.{Edit}
 use Rattle.smq_book.specs.declared.present.session.Session.{Session}
 use Rattle.smq_book.specs.declared.index.index.Index.{Index}
 use Rattle.smq_book.specs.declared.index.pairings.Pairings.{Pairings}
 use Rattle.smq_book.specs.index.Opening.{nothing_held}
 use Rattle.smq_book.specs.index.Held.{Holding, IsHeld, held_now, held_settled, traffic_held}
-use Rattle.smq_book.specs.index.Kept.{IsKept}
+use Rattle.smq_book.specs.index.Kept.{IsIndexed, IsKept}
 use Rattle.smq_book.specs.index.Pairs.{pairing_in, pairs_now, pairs_pending, pairs_settled}
 use Rattle.smq_book.specs.index.Touches.{HasNothingPending}
 use Rattle.smq_book.specs.pairing.Traffic.{session_pairing, traffic_of}
 use Rattle.smq_book.specs.present.Present.{PresentValue, empty}
-use Rattle.smq_book.specs.present.Replies.{no_session}
+use Rattle.smq_book.specs.present.Replies.{no_session, reply}
+use Rattle.smq_book.specs.present.Steps.{change}
 use Rattle.smq_book.proofs.lemmas.index.Nothing.{nothing-is-held, nothing-is-said}
 
 -- the PDUs of what stands under a number
@@ -99,18 +101,55 @@ module _ (p : PresentValue) (j : Index) (k : Pairings) (h : Holding) where
     pending_pairs = pending_pairs;
   }
 
--- what is kept where settings alone change
-pub kept-settings : (p q : PresentValue) (i j : Index) (k : Pairings) → p.sessions ≡ q.sessions → IsHeld q.settings (held_now j)
-    → traffic_held (held_now j) ≡ traffic_held (held_now i) → held_settled j ≡ held_now j → HasNothingPending j
-    → IsKept p i k → IsKept q j k
-kept-settings p q i j k same held traffic settled pending kept = record {
-  held = held;
-  traffic = traffic ∙ kept.traffic ∙ ap traffic_of same;
-  settled = settled;
+-- what is kept is indexed
+pub indexed : {p : PresentValue} {i : Index} {k : Pairings} → IsKept p i k → IsIndexed p i
+indexed kept = record { held = kept.held; traffic = kept.traffic; settled = kept.settled; pending = kept.pending }
+
+-- and what is indexed is kept, where sessions and pairs stay
+pub kept-again : {p q : PresentValue} {i j : Index} {k : Pairings} → p.sessions ≡ q.sessions → IsIndexed q j → IsKept p i k → IsKept q j k
+kept-again same is kept = record {
+  held = is.held;
+  traffic = is.traffic;
+  settled = is.settled;
   pairs = λ number. kept.pairs number ∙ ap (λ (m : FinMap nat_cmp Session). pairing_in m number) same;
   settled_pairs = λ number. kept.settled_pairs number ∙ ap (λ (m : FinMap nat_cmp Session). pairing_in m number) same;
-  pending = pending;
+  pending = is.pending;
   pending_pairs = kept.pending_pairs;
+}
+
+-- so it is after an edit of settings, whether made or refused
+pub kept-edit : {p q : PresentValue} {i j : Index} {k : Pairings} (edit e : Edit) → edit ≡ e → (r : Result (Unit {0}) Refusal)
+    → p.sessions ≡ (change p e).sessions → IsReply (reply p e) r (q ≡ change p e) (q ≡ p) → IsIndexed q j → IsKept p i k → IsKept q j k
+kept-edit {p} {q} edit e it r same told is kept = kept-again (by (reply p e) r told) is kept
+  where
+    stays : (made : PresentValue) → p.sessions ≡ made.sessions → q ≡ made → p.sessions ≡ q.sessions
+    stays made same made_is = same ∙ sym (ap (λ (x : PresentValue). x.sessions) made_is)
+
+    by : (refusal : Option Refusal) (x : Result (Unit {0}) Refusal) → IsReply refusal x (q ≡ change p e) (q ≡ p) → p.sessions ≡ q.sessions
+    by None (Ok x) told = stays (change p e) same told
+    by (Some refusal) (Ok x) told = absurd told
+    by None (Err x) told = stays p refl told.1
+    by (Some refusal) (Err x) told = stays p refl told.1
+
+-- what is undone is indexed as it was
+pub undone : {p q : PresentValue} {i j : Index} → q ≡ p → held_now j ≡ held_settled i → held_settled j ≡ held_settled i → HasNothingPending j
+    → IsIndexed p i → IsIndexed q j
+undone {p} {q} {i} {j} same now settled pending is = subst (λ (r : PresentValue). IsIndexed r j) (sym same) (record {
+  held = subst (IsHeld p.settings) (sym (now ∙ is.settled)) is.held;
+  traffic = ap traffic_held (now ∙ is.settled) ∙ is.traffic;
+  settled = settled ∙ sym now;
+  pending = pending;
+})
+
+-- and so is what is settled, where sessions stay
+pub settled-again : {p q : PresentValue} {i k : Index} (j : Index) → p.sessions ≡ q.sessions → IsHeld q.settings (held_now j)
+    → traffic_held (held_now j) ≡ traffic_held (held_now i) → held_now k ≡ held_now j → held_settled k ≡ held_now j → HasNothingPending k
+    → IsIndexed p i → IsIndexed q k
+settled-again {p} {q} j same held traffic now settled pending is = record {
+  held = subst (IsHeld q.settings) (sym now) held;
+  traffic = ap traffic_held now ∙ traffic ∙ is.traffic ∙ ap traffic_of same;
+  settled = settled ∙ sym now;
+  pending = pending;
 }
 
 no-pairs : (number : ℕ) → pairing_in fin.empty number ≡ no_pdus

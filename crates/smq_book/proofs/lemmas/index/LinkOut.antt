@@ -1,117 +1,155 @@
 -- What has a key on a link is taken out of traffic, and put in again.
-use Rattle.std.proofs.Common.{◌≡◌, ◌≢◌, ℕ, Bool, true, false, cond, List, [], ◌∷◌, ◌++◌, Option, Some, None, refl, sym, ap, ◌∙◌, subst}
-use Rattle.std.specs.Prelude.{◌==◌, ◌&&◌, not, map, is_some, option_map, option_to_list}
-use Rattle.std.specs.List.{AllByRecursion, list_any}
+use Rattle.std.proofs.Common.{◌≡◌, ◌≢◌, ℕ, Bool, true, false, cond, ◌+◌, List, [], ◌∷◌, ◌++◌, length, Option, Some, None, refl, sym, ap, ◌∙◌, subst, arith}
+use Rattle.std.specs.Prelude.{T, ◌==◌, ◌&&◌, not, map, is_some, option_map, option_to_list}
+use Rattle.std.specs.List.{AllByRecursion}
+use Rattle.std.specs.Cmp.{tied_itself}
+use Rattle.std.specs.declared.cmp.Ordering.TheVariants.{Equal, Less}
 use Rattle.std.specs.Ordering.{eq_by_cmp}
-use Rattle.std.specs.FinMap.{FinMap, get, get-insert, get-remove, insert, keys, remove, same_map}
+use Rattle.std.specs.FinMap.{FinMap, entries, entries_sorted, get, get-remove, is_sorted, keys, remove}
+use Rattle.std.specs.FinMap.Entries.{below_all}
 use Rattle.std.proofs.lemmas.Bool.{eq-eqb, false≢true}
-use Rattle.std.proofs.lemmas.List.{append-nil, map-append}
 use Rattle.smq_kit.specs.declared.names.LinkId.{LinkId}
+use Rattle.smq_kit.specs.declared.place.Dir.{Dir}
 use Rattle.smq_kit.specs.declared.place.Dir.TheVariants.{FromClient, FromCentre}
 use Rattle.smq_kit.specs.declared.place.Place.{Place}
-use Rattle.smq_kit.specs.Maps.{patched, set_at}
 use Rattle.smq_kit.specs.Orders.{place_cmp}
+use Rattle.smq_kit.proofs.Comparisons.{first_test, is_less, second_test}
 use Rattle.smq_kit.proofs.MapLemmas as maps
 use Rattle.smq_kit.proofs.PlaceOrders.{places_total, places_exact}
 use Rattle.smq_tally.specs.Lists.{listed_set}
+use Rattle.smq_book.specs.declared.index.stored.Said.{Said}
+use Rattle.smq_book.specs.declared.index.stored.Said.TheVariants as said
 use Rattle.smq_book.specs.present.Settings.{SettingsValue, forms_of}
 use Rattle.smq_book.specs.pairing.Traffic.{Message, ReceivedReceipt, TrafficValue}
 use Rattle.smq_book.specs.edits.Reached.{link_receipts, passing}
 use Rattle.smq_book.specs.join.Keyed.{accepted_id}
 use Rattle.smq_book.specs.join.Listings.{receipt_notes}
 use Rattle.smq_book.specs.join.Moves.{Move, PutMessage, PutReceipt, TakeMessage, TakeReceipt, moved, moved_by}
+use Rattle.smq_book.specs.index.Coming.{AreNew}
 use Rattle.smq_book.specs.index.Due.{due_in}
 use Rattle.smq_book.specs.index.Ends.{ends_by}
-use Rattle.smq_book.specs.index.Held.{Holding, IsHeld, IsTraffic, traffic_held}
-use Rattle.smq_book.specs.index.LinkOut.{AllFrom, IsOut, TakesOut, accepted_on, is_accepted, puts_of}
+use Rattle.smq_book.specs.index.Held.{Holding, IsHeld, IsTraffic, KeepsTraffic, traffic_held}
+use Rattle.smq_book.specs.index.LinkOut.{accepted_on, all_said, found_in_turn, is_accepted, keyed_on, keyed_places, put_of, said_at, said_in, take_at, take_in}
 use Rattle.smq_book.specs.index.Numbered.{numbers_of}
-use Rattle.smq_book.specs.index.Pushed.{IsHeldAfter}
-use Rattle.smq_book.proofs.lemmas.edits.Moved.{moved-both, puts-messages, puts-receipts}
-use Rattle.smq_book.proofs.lemmas.edits.Passing.{passing-does, without-passing}
+use Rattle.smq_book.proofs.lemmas.edits.LinkMoves.{passing-again, passing-taken}
+use Rattle.smq_book.proofs.lemmas.edits.Passing.{entries-passing, passing-does}
+use Rattle.smq_book.proofs.lemmas.index.Coming.{puts-back-new}
 use Rattle.smq_book.proofs.lemmas.join.OtherForms.{facts-ignore, grouping-ignores}
-
--- ---- entries that are taken out of a map
-
-module _ {X : Type 0} where
-  pub takes-none : (m : FinMap place_cmp X) → TakesOut m [] m
-  takes-none m = record { were = tt; left = refl }
-
-  patched-more : (g : Place → Option X) (m : FinMap place_cmp X) (ks : List Place) (q : Place)
-      → patched m g (ks ++ q ∷ []) ≡ set_at (patched m g ks) q (g q)
-  patched-more g m [] q = refl
-  patched-more g m (k ∷ ks) q = patched-more g (set_at m k (g k)) ks q
-
-  all-more : (P : Place × X → Type 0) (es : List (Place × X)) (e : Place × X) → AllByRecursion P es → P e → AllByRecursion P (es ++ e ∷ [])
-  all-more P [] e a h = (h, tt)
-  all-more P (x ∷ es) e a h = (a.0, all-more P es e a.1 h)
-
-  was-there : (b : Bool) (x : Option X) (v : X) → cond b None x ≡ Some v → x ≡ Some v
-  was-there true x v e = absurd cc
-  was-there false x v e = e
-
-  module _ (m : FinMap place_cmp X) (es : List (Place × X)) (n : FinMap place_cmp X) (takes : TakesOut m es n) where
-    -- what is there still was there
-    pub still-was : (q : Place) (v : X) → get n q ≡ Some v → get m q ≡ Some v
-    still-was q v e = was-there (list_any (eq_by_cmp place_cmp q) (map (λ (e : Place × X). e.0) es)) (get m q) v
-        (sym (maps.get-patched places_total places_exact m (λ q. None) (map (λ (e : Place × X). e.0) es) q)
-        ∙ ap (λ (x : FinMap place_cmp X). get x q) (sym takes.left) ∙ e)
-
-    -- what is there at a place is taken out, too
-    takes-more : (q : Place) (found : Option X) → get n q ≡ found
-        → TakesOut m (es ++ option_to_list (option_map (λ v. (q, v)) found)) (remove n q)
-    takes-more q None is =
-        subst (λ (fs : List (Place × X)). TakesOut m fs (remove n q)) (sym (append-nil es)) (record {
-          were = takes.were;
-          left = ap (set_at n q) (sym is) ∙ maps.set-same places_total places_exact n q ∙ takes.left;
-        })
-    takes-more q (Some v) is = record {
-      were = all-more (λ e. get m e.0 ≡ Some e.1) es (q, v) takes.were (still-was q v is);
-      left = ap (λ (x : FinMap place_cmp X). remove x q) takes.left
-          ∙ sym (ap (patched m (λ q. None)) (map-append (λ (e : Place × X). e.0) es ((q, v) ∷ []))
-          ∙ patched-more (λ q. None) m (map (λ (e : Place × X). e.0) es) q);
-    }
-
-    pub takes-next : (fs : List (Place × X)) (k : FinMap place_cmp X) (q : Place)
-        → fs ≡ es ++ option_to_list (option_map (λ v. (q, v)) (get n q)) → k ≡ remove n q → TakesOut m fs k
-    takes-next fs k q put is =
-        subst (λ (fs : List (Place × X)). TakesOut m fs k) (sym put)
-        (subst (λ (k : FinMap place_cmp X). TakesOut m (es ++ option_to_list (option_map (λ v. (q, v)) (get n q))) k) (sym is)
-        (takes-more q (get n q) refl))
-
-    -- put in again, the map is as it was
-    pub takes-back : patched n (get m) (map (λ (e : Place × X). e.0) es) ≡ m
-    takes-back = maps.patched-is places_total places_exact (map (λ (e : Place × X). e.0) es) n m (record {
-      at = λ q outside.
-          ap (λ (x : FinMap place_cmp X). get x q) takes.left
-          ∙ maps.get-patched places_total places_exact m (λ q. None) (map (λ (e : Place × X). e.0) es) q
-          ∙ ap (λ b. cond b None (get m q)) outside;
-    })
-
-  -- what stood at a place leaves nothing where something is put in there
-  pub put-anew : (m : FinMap place_cmp X) (q : Place) (v : X) → insert (remove m q) q v ≡ insert m q v
-  put-anew m q v = same_map places_total places_exact _ _ (λ p.
-      get-insert places_total (remove m q) q v p
-      ∙ ap (cond (eq_by_cmp place_cmp p q) (Some v)) (get-remove places_total m q p)
-      ∙ hidden (eq_by_cmp place_cmp p q) (get m p)
-      ∙ sym (get-insert places_total m q v p))
-    where
-      hidden : (b : Bool) (x : Option X) → cond b (Some v) (cond b None x) ≡ cond b (Some v) x
-      hidden true x = refl
-      hidden false x = refl
-
--- moves that take what stands at places out
-pub messages-gone : (t : TrafficValue) (ks : List Place) → moved_by t (map TakeMessage ks) ≡ record t { messages = patched t.messages (λ q. None) ks }
-messages-gone t [] = refl
-messages-gone t (k ∷ ks) = messages-gone (moved t (TakeMessage k)) ks
-
-pub receipts-gone : (t : TrafficValue) (ks : List Place) → moved_by t (map TakeReceipt ks) ≡ record t { receipts = patched t.receipts (λ q. None) ks }
-receipts-gone t [] = refl
-receipts-gone t (k ∷ ks) = receipts-gone (moved t (TakeReceipt k)) ks
 
 -- one move more is made, and the others are left
 pub moves-more : (g h : TrafficValue) (move : Move) (left rest : List Move) (all : TrafficValue) → h ≡ moved_by g (move ∷ []) → left ≡ move ∷ rest
     → moved_by g left ≡ all → moved_by h rest ≡ all
 moves-more g h move left rest all is next so = ap (λ (t : TrafficValue). moved_by t rest) is ∙ sym (ap (moved_by g) next) ∙ so
+
+-- ---- messages at their places, then delivery receipts
+
+abbrev pub IsThere : TrafficValue → Place × Said → Type 0
+IsThere t e = said_at t e.0 ≡ Some e.1
+
+-- what holds of all messages and of all receipts holds of all
+pub all-of : (P : Place × Said → Type 0) (ms : List (Place × Message)) (rs : List (Place × ReceivedReceipt))
+    → AllByRecursion (λ (e : Place × Message). P (e.0, said.Message e.1)) ms
+    → AllByRecursion (λ (e : Place × ReceivedReceipt). P (e.0, said.Receipt e.1)) rs → AllByRecursion P (all_said ms rs)
+all-of P [] [] a b = tt
+all-of P [] (r ∷ rs) a b = (b.0, all-of P [] rs a b.1)
+all-of P (m ∷ ms) rs a b = (a.0, all-of P ms rs a.1 b)
+
+-- what holds of each, where one statement gives the other
+pub weaker : {X : Type 0} (P Q : X → Type 0) → ((x : X) → P x → Q x) → (xs : List X) → AllByRecursion P xs → AllByRecursion Q xs
+weaker P Q f [] a = tt
+weaker P Q f (x ∷ xs) a = (f x a.0, weaker P Q f xs a.1)
+
+-- their places
+pub places-of : (ms : List (Place × Message)) (rs : List (Place × ReceivedReceipt))
+    → map (λ (e : Place × Said). e.0) (all_said ms rs) ≡ map (λ e. e.0) ms ++ map (λ e. e.0) rs
+places-of [] [] = refl
+places-of [] (r ∷ rs) = ap (λ (qs : List Place). r.0 ∷ qs) (places-of [] rs)
+places-of (m ∷ ms) rs = ap (λ (qs : List Place). m.0 ∷ qs) (places-of ms rs)
+
+pub length-all : (ms : List (Place × Message)) (rs : List (Place × ReceivedReceipt)) → length (all_said ms rs) ≡ length ms + length rs
+length-all [] [] = refl
+length-all [] (r ∷ rs) = let rest = length-all [] rs in omega (arith, rest)
+length-all (m ∷ ms) rs = let rest = length-all ms rs in omega (arith, rest)
+
+-- they are put in
+puts-of : (ms : List (Place × Message)) (rs : List (Place × ReceivedReceipt)) → map put_of (all_said ms rs) ≡ map PutMessage ms ++ map PutReceipt rs
+puts-of [] [] = refl
+puts-of [] (r ∷ rs) = ap (λ (ms : List Move). PutReceipt r ∷ ms) (puts-of [] rs)
+puts-of (m ∷ ms) rs = ap (λ (ms : List Move). PutMessage m ∷ ms) (puts-of ms rs)
+
+-- and taken out, in their directions
+takes-of : (ms : List (Place × Message)) (rs : List (Place × ReceivedReceipt))
+    → AllByRecursion (λ (e : Place × Message). e.0.dir ≡ FromClient) ms → AllByRecursion (λ (e : Place × ReceivedReceipt). e.0.dir ≡ FromCentre) rs
+    → map take_at (map (λ e. e.0) ms ++ map (λ e. e.0) rs) ≡ map (λ e. TakeMessage e.0) ms ++ map (λ e. TakeReceipt e.0) rs
+takes-of [] [] a b = refl
+takes-of [] (r ∷ rs) a b = λ i. take_in (b.0 i) r.0 ∷ takes-of [] rs a b.1 i
+takes-of (m ∷ ms) rs a b = λ i. take_in (a.0 i) m.0 ∷ takes-of ms rs a.1 b i
+
+-- ---- what is found where each is taken out in turn
+
+not-tied : (k q : Place) → place_cmp k q ≡ Less → (b : Bool) → eq_by_cmp place_cmp q k ≡ b → b ≡ false
+not-tied k q less true t =
+    let same : q ≡ k = maps.same_key places_total places_exact q k t in
+    absurd (less-not-equal (sym less ∙ ap (place_cmp k) same ∙ tied_itself places_total k))
+  where
+    less-not-equal : Less ≡ Equal → ⊥
+    less-not-equal e = absurd cc
+not-tied k q less false t = refl
+
+still-there : {X : Type 0} (m : FinMap place_cmp X) (k : Place) (es : List (Place × X)) → T (below_all place_cmp k es)
+    → AllByRecursion (λ e. get m e.0 ≡ Some e.1) es → AllByRecursion (λ e. get (remove m k) e.0 ≡ Some e.1) es
+still-there m k [] h a = tt
+still-there m k (e ∷ es) h a =
+    let apart = not-tied k e.0 (is_less (place_cmp k e.0) (first_test _ _ h)) (eq_by_cmp place_cmp e.0 k) refl in (
+      get-remove places_total m k e.0 ∙ ap (λ b. cond b None (get m e.0)) apart ∙ a.0,
+      still-there m k es (second_test _ _ h) a.1,
+    )
+
+-- the first of them
+found-first : (t : TrafficValue) (e : Place × Said) (d : Dir) (qs : List Place) (es : List (Place × Said)) → e.0.dir ≡ d → said_in d t e.0 ≡ Some e.1
+    → found_in_turn (moved t (take_in d e.0)) qs ≡ es → found_in_turn t (e.0 ∷ qs) ≡ e ∷ es
+found-first t e d qs es at there later =
+    (λ i. option_to_list (option_map (λ x. (e.0, x)) (said_in (at i) t e.0)) ++ found_in_turn (moved t (take_in (at i) e.0)) qs)
+    ∙ (λ i. option_to_list (option_map (λ x. (e.0, x)) (there i)) ++ later i)
+
+found : (t : TrafficValue) (ms : List (Place × Message)) (rs : List (Place × ReceivedReceipt)) → T (is_sorted place_cmp ms) → T (is_sorted place_cmp rs)
+    → AllByRecursion (λ (e : Place × Message). e.0.dir ≡ FromClient) ms → AllByRecursion (λ (e : Place × ReceivedReceipt). e.0.dir ≡ FromCentre) rs
+    → AllByRecursion (λ (e : Place × Message). get t.messages e.0 ≡ Some e.1) ms
+    → AllByRecursion (λ (e : Place × ReceivedReceipt). get t.receipts e.0 ≡ Some e.1) rs
+    → found_in_turn t (map (λ e. e.0) ms ++ map (λ e. e.0) rs) ≡ all_said ms rs
+found t [] [] h k a b c d = refl
+found t [] (r ∷ rs) h k a b c d =
+    found-first t (r.0, said.Receipt r.1) FromCentre (map (λ (e : Place × ReceivedReceipt). e.0) rs) (all_said [] rs) b.0 (ap (option_map said.Receipt) d.0)
+    (found (moved t (TakeReceipt r.0)) [] rs h (second_test _ _ k) a b.1 c (still-there t.receipts r.0 rs (first_test _ _ k) d.1))
+found t (m ∷ ms) rs h k a b c d =
+    found-first t (m.0, said.Message m.1) FromClient (map (λ (e : Place × Message). e.0) ms ++ map (λ (e : Place × ReceivedReceipt). e.0) rs) (all_said ms rs)
+    a.0 (ap (option_map said.Message) c.0)
+    (found (moved t (TakeMessage m.0)) ms rs (second_test _ _ h) k a.1 b (still-there t.messages m.0 ms (first_test _ _ h) c.1) d)
+
+-- ---- what passes a test in traffic as sessions say it
+
+module _ (t : TrafficValue) (is : IsTraffic t) (f : Place → Message → Bool) (g : Place → ReceivedReceipt → Bool) where
+  abbrev messages : List (Place × Message)
+  messages = entries (passing f t.messages)
+
+  abbrev receipts : List (Place × ReceivedReceipt)
+  receipts = entries (passing g t.receipts)
+
+  from-client : AllByRecursion (λ (e : Place × Message). e.0.dir ≡ FromClient) messages
+  from-client = weaker (λ (e : Place × Message). get t.messages e.0 ≡ Some e.1) (λ (e : Place × Message). e.0.dir ≡ FromClient)
+      (λ e there. is.messages e.0 e.1 there) messages (entries-passing f t.messages)
+
+  from-centre : AllByRecursion (λ (e : Place × ReceivedReceipt). e.0.dir ≡ FromCentre) receipts
+  from-centre = weaker (λ (e : Place × ReceivedReceipt). get t.receipts e.0 ≡ Some e.1) (λ (e : Place × ReceivedReceipt). e.0.dir ≡ FromCentre)
+      (λ e there. is.receipts e.0 e.1 there) receipts (entries-passing g t.receipts)
+
+  -- it stands where it is said to
+  pub all-there : AllByRecursion (IsThere t) (all_said messages receipts)
+  all-there = all-of (IsThere t) messages receipts
+      (weaker (λ (e : Place × Message). get t.messages e.0 ≡ Some e.1) (λ (e : Place × Message). IsThere t (e.0, said.Message e.1))
+      (λ e there. ap (λ (d : Dir). said_in d t e.0) (is.messages e.0 e.1 there) ∙ ap (option_map said.Message) there) messages (entries-passing f t.messages))
+      (weaker (λ (e : Place × ReceivedReceipt). get t.receipts e.0 ≡ Some e.1) (λ (e : Place × ReceivedReceipt). IsThere t (e.0, said.Receipt e.1))
+      (λ e there. ap (λ (d : Dir). said_in d t e.0) (is.receipts e.0 e.1 there) ∙ ap (option_map said.Receipt) there) receipts (entries-passing g t.receipts))
 
 -- ---- what has a key on a link is out, and put in again
 
@@ -127,76 +165,54 @@ not_on : (link : LinkId) (r : ReceivedReceipt) → not (r.link.0 == link.0) ≡ 
 not_on link r passes is =
     false≢true (ap not (sym (ap (λ (l : LinkId). l.0 == link.0) is ∙ eq-eqb link.0 link.0 refl)) ∙ passes)
 
-module _ (s : SettingsValue) (link : LinkId) (g h k : Holding) where
-  abbrev t : TrafficValue
-  t = traffic_held g
-
+module _ (link : LinkId) (t : TrafficValue) (is : IsTraffic t) where
   abbrev accepted : Place → Message → Bool
   accepted q m = m.link.0 == link.0 && is_accepted m
 
   abbrev on_link : Place → ReceivedReceipt → Bool
   on_link q r = r.link.0 == link.0
 
-  -- after it is taken out, nothing of the link has a key
-  pub link-out : (ms : List (Place × Message)) (rs : List (Place × ReceivedReceipt))
-      → IsHeldAfter s g (map TakeMessage (keys (accepted_on link t))) h → IsHeldAfter s h (map TakeReceipt (keys (link_receipts link t))) k
-      → TakesOut g.messages ms h.messages → TakesOut h.receipts rs k.receipts
-      → IsOut link t ms rs (traffic_held k)
-  link-out ms rs first second taken received =
-      let one : traffic_held h ≡ record t { messages = passing (λ q m. not (accepted q m)) t.messages } =
-      first.traffic ∙ messages-gone t (keys (accepted_on link t))
-      ∙ ap (λ (m : FinMap place_cmp Message). record t { messages = m }) (without-passing accepted t.messages) in
-      let two : traffic_held k ≡ record t {
-        messages = passing (λ q m. not (accepted q m)) t.messages;
-        receipts = passing (λ q r. not (on_link q r)) t.receipts;
-      } =
-      second.traffic ∙ ap (λ (u : TrafficValue). moved_by u (map TakeReceipt (keys (link_receipts link t)))) one
-      ∙ receipts-gone (record t { messages = passing (λ q m. not (accepted q m)) t.messages }) (keys (link_receipts link t))
-      ∙ ap (λ (m : FinMap place_cmp ReceivedReceipt). record t { messages = passing (λ q m. not (accepted q m)) t.messages; receipts = m })
-      (without-passing on_link t.receipts) in
-      let same_messages : h.messages ≡ k.messages =
-      ap (λ (u : TrafficValue). u.messages) (one ∙ sym (ap (λ (u : TrafficValue). record u { receipts = t.receipts }) two)) in
-      let same_receipts : h.receipts ≡ t.receipts = ap (λ (u : TrafficValue). u.receipts) one in
-      record {
-        messages = subst (λ (n : FinMap place_cmp Message). TakesOut g.messages ms n) same_messages taken;
-        receipts = subst (λ (m : FinMap place_cmp ReceivedReceipt). TakesOut m rs k.receipts) same_receipts received;
-        notes = ap (λ (u : TrafficValue). u.notes) two;
-        no_message = λ q m there. unaccepted link m
-            (passing-does (λ q m. not (accepted q m)) t.messages q m (ap (λ (u : TrafficValue). get u.messages q) (sym two) ∙ there));
-        no_receipt = λ q r there. not_on link r
-            (passing-does (λ q r. not (on_link q r)) t.receipts q r (ap (λ (u : TrafficValue). get u.receipts q) (sym two) ∙ there));
-      }
+  -- the traffic without it
+  abbrev without : TrafficValue
+  without = record t { messages = passing (λ q m. not (accepted q m)) t.messages; receipts = passing (λ q r. not (on_link q r)) t.receipts }
 
-messages-from : (t : TrafficValue) → IsTraffic t → (es : List (Place × Message)) → AllByRecursion (λ e. get t.messages e.0 ≡ Some e.1) es
-    → AllFrom FromClient es
-messages-from t is [] a = tt
-messages-from t is (e ∷ es) a = (is.messages e.0 e.1 a.0, messages-from t is es a.1)
+  pub keyed-found : found_in_turn t (keyed_places link t) ≡ keyed_on link t
+  keyed-found = found t (messages t is accepted on_link) (receipts t is accepted on_link)
+      (entries_sorted (accepted_on link t)) (entries_sorted (link_receipts link t))
+      (from-client t is accepted on_link) (from-centre t is accepted on_link) (entries-passing accepted t.messages) (entries-passing on_link t.receipts)
 
-receipts-from : (t : TrafficValue) → IsTraffic t → (es : List (Place × ReceivedReceipt)) → AllByRecursion (λ e. get t.receipts e.0 ≡ Some e.1) es
-    → AllFrom FromCentre es
-receipts-from t is [] a = tt
-receipts-from t is (e ∷ es) a = (is.receipts e.0 e.1 a.0, receipts-from t is es a.1)
+  -- each stands in its direction
+  pub keyed-stand : AllByRecursion (λ (e : Place × Said). KeepsTraffic (put_of e)) (keyed_on link t)
+  keyed-stand = all-of (λ (e : Place × Said). KeepsTraffic (put_of e)) (messages t is accepted on_link) (receipts t is accepted on_link)
+      (from-client t is accepted on_link) (from-centre t is accepted on_link)
 
-module _ (link : LinkId) (t : TrafficValue) (ms : List (Place × Message)) (rs : List (Place × ReceivedReceipt)) (u : TrafficValue)
-    (out : IsOut link t ms rs u) where
-  -- what was taken out stood in its direction
-  pub taken-messages : IsTraffic t → AllFrom FromClient ms
-  taken-messages is = messages-from t is ms out.messages.were
+  module _ (u : TrafficValue) (out : u ≡ moved_by t (map take_at (keyed_places link t))) where
+    left : u ≡ without
+    left = out
+        ∙ ap (moved_by t) (takes-of (messages t is accepted on_link) (receipts t is accepted on_link)
+        (from-client t is accepted on_link) (from-centre t is accepted on_link))
+        ∙ passing-taken accepted on_link t
 
-  pub taken-receipts : IsTraffic t → AllFrom FromCentre rs
-  taken-receipts is = receipts-from t is rs out.receipts.were
+    -- nothing of the link has a key then
+    pub no-message-left : (q : Place) (m : Message) → get u.messages q ≡ Some m → m.link ≡ link → accepted_id m.response ≡ None
+    no-message-left q m there = unaccepted link m
+        (passing-does (λ q m. not (accepted q m)) t.messages q m (ap (λ (u : TrafficValue). get u.messages q) (sym left) ∙ there))
 
-  -- put in again, the traffic is as it was
-  pub in-again : moved_by u (puts_of ms rs) ≡ t
-  in-again =
-      moved-both u (map PutMessage ms) (map PutReceipt rs)
-      ∙ ap (λ (w : TrafficValue). moved_by w (map PutReceipt rs)) (puts-messages (get t.messages) u ms out.messages.were)
-      ∙ puts-receipts (get t.receipts) (record u { messages = patched u.messages (get t.messages) (map (λ e. e.0) ms) }) rs out.receipts.were
-      ∙ (λ i. record {
-        messages = takes-back t.messages ms u.messages out.messages i;
-        receipts = takes-back t.receipts rs u.receipts out.receipts i;
-        notes = out.notes i;
-      })
+    pub no-receipt-left : (q : Place) (r : ReceivedReceipt) → get u.receipts q ≡ Some r → r.link ≢ link
+    no-receipt-left q r there = not_on link r
+        (passing-does (λ q r. not (on_link q r)) t.receipts q r (ap (λ (u : TrafficValue). get u.receipts q) (sym left) ∙ there))
+
+    -- what is put in again is new
+    pub keyed-new : AreNew u (map put_of (keyed_on link t))
+    keyed-new = subst (λ moves. AreNew u moves) (sym (puts-of (messages t is accepted on_link) (receipts t is accepted on_link)))
+        (puts-back-new accepted on_link t u (ap (λ (u : TrafficValue). u.messages) left) (ap (λ (u : TrafficValue). u.receipts) left))
+
+    -- and the traffic is as it was after it
+    pub in-again : moved_by u (map put_of (keyed_on link t)) ≡ t
+    in-again =
+        ap (moved_by u) (puts-of (messages t is accepted on_link) (receipts t is accepted on_link))
+        ∙ ap (λ (u : TrafficValue). moved_by u (map PutMessage (messages t is accepted on_link) ++ map PutReceipt (receipts t is accepted on_link))) left
+        ∙ passing-again accepted on_link t
 
 -- while it is out, its forms are idle
 module _ (s z : SettingsValue) (link : LinkId) (h : Holding)

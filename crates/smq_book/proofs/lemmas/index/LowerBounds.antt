@@ -12,7 +12,7 @@ use Rattle.smq_tally.specs.declared.fact.Fact.{Fact}
 use Rattle.smq_book.specs.declared.index.index.Index.{Index}
 use Rattle.smq_book.specs.declared.index.pairings.Pairings.{Pairings}
 use Rattle.smq_book.specs.index.Held.{Holding}
-use Rattle.smq_book.specs.index.Kept.{IsKept}
+use Rattle.smq_book.specs.index.Kept.{IsIndexed}
 use Rattle.smq_book.specs.index.Touches.{RisesWithFacts, touches_of}
 use Rattle.smq_book.specs.join.Facts.{facts_of}
 use Rattle.smq_book.specs.pairing.Traffic.{traffic_of}
@@ -24,15 +24,15 @@ use Rattle.smq_book.specs.present.Steps.{change}
 use Rattle.smq_book.specs.whole.Scratch.{scratch}
 
 -- the facts that are stored are those of what is present
-facts-kept : (p : PresentValue) (i : Index) (k : Pairings) → IsKept p i k → i.tally.facts ≡ facts_of p.settings (traffic_of p.sessions)
-facts-kept p i k kept = ap (λ (h : Holding). h.facts) kept.held.held ∙ ap (facts_of p.settings) kept.traffic
+facts-kept : (p : PresentValue) (i : Index) → IsIndexed p i → i.tally.facts ≡ facts_of p.settings (traffic_of p.sessions)
+facts-kept p i is = ap (λ (h : Holding). h.facts) is.held.held ∙ ap (facts_of p.settings) is.traffic
 
 -- the counts of facts
 abbrev counts_of : FinMap place_cmp Fact → FinMap count_cmp ℕ
 counts_of facts = (tables_of facts set.empty).counts
 
 module _ (now : BookValue) (p q : PresentValue) (i j : Index) (k l : Pairings) (seen : record { present = p; touches = touches_of i k } ≡ now)
-    (before : IsKept p i k) (after : IsKept q j l) where
+    (before : IsIndexed p i) (after : IsIndexed q j) where
   whole : p ≡ now.present
   whole = ap (λ (b : BookValue). b.present) seen
 
@@ -41,7 +41,7 @@ module _ (now : BookValue) (p q : PresentValue) (i j : Index) (k l : Pairings) (
 
   counts-same : j.tally.facts ≡ i.tally.facts → (scratch q).counts ≡ (scratch now.present).counts
   counts-same same =
-      ap counts_of (sym (facts-kept q j l after) ∙ same ∙ facts-kept p i k before) ∙ ap (λ (r : PresentValue). (scratch r).counts) whole
+      ap counts_of (sym (facts-kept q j after) ∙ same ∙ facts-kept p i before) ∙ ap (λ (r : PresentValue). (scratch r).counts) whole
 
   below : (d : ℕ) → d ≡ 2 ^ 64 - 1 - now.touches → now.touches ≢ 2 ^ 64 - 1 → now.touches < 2 ^ 64 - 1
   below zero is low = absurd (low (omega (arith, is, touched)))
@@ -70,7 +70,7 @@ stays (Ok x) k = omega arith
 stays (Err e) k = tt
 
 pub settings-rise : (now : BookValue) (p q : PresentValue) (i j : Index) (k : Pairings) → record { present = p; touches = touches_of i k } ≡ now
-    → IsKept p i k → IsKept q j k → (edit e : Edit) → edit ≡ e → (s : Result (Unit {0}) Refusal) → IsReply (reply p e) s (q ≡ change p e) (q ≡ p)
+    → IsIndexed p i → IsIndexed q j → (edit e : Edit) → edit ≡ e → (s : Result (Unit {0}) Refusal) → IsReply (reply p e) s (q ≡ change p e) (q ≡ p)
     → OnOk s (RisesWithFacts i j) → (scratch q).counts ≢ (scratch now.present).counts → now.touches ≢ 2 ^ 64 - 1 → 1 + now.touches ≤ touches_of j k
 settings-rise now p q i j k seen before after edit e same s is rises =
     rise-bound now p q i j k k seen before after (reply p e) s (q ≡ change p e) is rises (stays s k)

@@ -13,7 +13,6 @@ use Rattle.smq_kit.specs.Orders.{place_cmp}
 use Rattle.smq_kit.proofs.MapLemmas as maps
 use Rattle.smq_kit.proofs.PlaceOrders.{places_total, places_exact}
 use Rattle.smq_tally.specs.declared.list.List as l
-use Rattle.smq_tally.specs.declared.list.List.TheVariants.{StrayReceipts, AmbiguousReceipts, ExtraReceipts}
 use Rattle.smq_tally.specs.declared.list.Listed.{Listed}
 use Rattle.smq_tally.specs.Lists.{listed, listed_cmp}
 use Rattle.smq_tally.specs.within.ListOrder.{listed_total}
@@ -171,42 +170,30 @@ module _ (t : TrafficValue) (traffic : IsTraffic t) where
   kept-traffic (PutMessage e) keeps = record {
     messages = all-put t.messages client traffic.messages e.0 e.1 keeps;
     receipts = traffic.receipts;
-    strays = traffic.strays;
-    ambiguous = traffic.ambiguous;
-    extras = traffic.extras;
+    unlisted = traffic.unlisted;
   }
   kept-traffic (TakeMessage q) keeps = record {
     messages = all-taken t.messages client traffic.messages q;
     receipts = traffic.receipts;
-    strays = traffic.strays;
-    ambiguous = traffic.ambiguous;
-    extras = traffic.extras;
+    unlisted = traffic.unlisted;
   }
   kept-traffic (PutReceipt e) keeps = record {
     messages = traffic.messages;
     receipts = all-put t.receipts centre traffic.receipts e.0 e.1 keeps;
-    strays = traffic.strays;
-    ambiguous = traffic.ambiguous;
-    extras = traffic.extras;
+    unlisted = traffic.unlisted;
   }
   kept-traffic (TakeReceipt q) keeps = record {
     messages = traffic.messages;
     receipts = all-taken t.receipts centre traffic.receipts q;
-    strays = traffic.strays;
-    ambiguous = traffic.ambiguous;
-    extras = traffic.extras;
+    unlisted = traffic.unlisted;
   }
   kept-traffic (PutNote note) keeps = record {
     messages = traffic.messages;
     receipts = traffic.receipts;
-    strays = λ p. unnoted-put t.notes note StrayReceipts p (traffic.strays p) keeps refl;
-    ambiguous = λ p. unnoted-put t.notes note AmbiguousReceipts p (traffic.ambiguous p) keeps refl;
-    extras = λ p. unnoted-put t.notes note ExtraReceipts p (traffic.extras p) keeps refl;
+    unlisted = λ p. record { none = λ list one. unnoted-put t.notes note list p ((traffic.unlisted p).none list one) keeps one };
   }
   kept-traffic (TakeNote note) keeps = record {
     messages = traffic.messages;
     receipts = traffic.receipts;
-    strays = λ p. unnoted-taken t.notes note StrayReceipts p (traffic.strays p);
-    ambiguous = λ p. unnoted-taken t.notes note AmbiguousReceipts p (traffic.ambiguous p);
-    extras = λ p. unnoted-taken t.notes note ExtraReceipts p (traffic.extras p);
+    unlisted = λ p. record { none = λ list one. unnoted-taken t.notes note list p ((traffic.unlisted p).none list one) };
   }

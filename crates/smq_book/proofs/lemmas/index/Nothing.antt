@@ -14,7 +14,6 @@ use Rattle.smq_group.specs.Groups.{no_members}
 use Rattle.smq_group.specs.Matching.{GroupedReceipt}
 use Rattle.smq_route.proofs.NumberOrders.{numbers_exact, numbers_total}
 use Rattle.smq_tally.specs.declared.list.Listed.{Listed}
-use Rattle.smq_tally.specs.declared.list.List.TheVariants.{StrayReceipts, AmbiguousReceipts, ExtraReceipts}
 use Rattle.smq_tally.specs.Lists.{listed, listed_cmp, listed_set}
 use Rattle.smq_tally.specs.within.ListOrder.{listed_total}
 use Rattle.smq_tally.proofs.ListOrders.{listed_exact}
@@ -111,9 +110,7 @@ is-traffic : IsTraffic nothing_said
 is-traffic = record {
   messages = λ place m there. absurd (no_value m (sym (get-empty place_cmp place) ∙ there));
   receipts = λ place r there. absurd (no_value r (sym (get-empty place_cmp place) ∙ there));
-  strays = λ place. get-empty listed_cmp (listed StrayReceipts place);
-  ambiguous = λ place. get-empty listed_cmp (listed AmbiguousReceipts place);
-  extras = λ place. get-empty listed_cmp (listed ExtraReceipts place);
+  unlisted = λ place. record { none = λ list one. get-empty listed_cmp (listed list place) };
 }
 
 pub nothing-is-held : IsHeld opening_settings nothing_held

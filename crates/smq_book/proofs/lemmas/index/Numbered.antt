@@ -3,16 +3,15 @@ use Rattle.std.proofs.Common.{◌≡◌, ℕ, false, List, Option, Some, None, r
 use Rattle.std.specs.Prelude.{option_and_then, option_map, unwrap_or}
 use Rattle.std.specs.List.{list_any}
 use Rattle.std.specs.Ordering.{eq_by_cmp}
-use Rattle.std.specs.FinMap.{get, insert, remove, keys}
+use Rattle.std.specs.FinMap.{get, keys}
 use Rattle.smq_kit.specs.declared.place.Place.{Place}
 use Rattle.smq_kit.specs.Orders.{place_cmp}
 use Rattle.smq_route.specs.declared.numbers.NumberAt.{NumberAt}
 use Rattle.smq_route.specs.Numbers.{number_at, places_under}
 use Rattle.smq_route.specs.Versions.{begins}
 use Rattle.smq_route.proofs.NumberOrders.{numbers_exact, numbers_total}
-use Rattle.smq_tally.specs.declared.list.Listed.{Listed}
-use Rattle.smq_book.specs.pairing.Traffic.{Message, ReceivedReceipt, TrafficValue}
-use Rattle.smq_book.specs.join.Moves.{PutNote, TakeNote, moved, put_message, put_receipt, take_message, take_receipt}
+use Rattle.smq_book.specs.pairing.Traffic.{Message, TrafficValue}
+use Rattle.smq_book.specs.join.Moves.{put_message, take_message}
 use Rattle.smq_book.specs.edits.Reached.{is_under, messages_under}
 use Rattle.smq_book.specs.index.Numbered.{numbered, numbers_of}
 use Rattle.smq_book.specs.index.PlacedKeys.{passes, with_key, without_key}
@@ -29,18 +28,6 @@ own_number q (Some n) k e = let one : number_at n q ≡ k = cc in ap place_of_nu
 numbers-placed : made.HasItsPlace numbers_total numbers_exact place_of_number numbered
 numbers-placed = record { own = λ q m k e. own_number q m.number k e }
 
--- ---- no number at a place without a message, and that of a message where it has one
-
-pub number-absent : (t : TrafficValue) (q : Place) (number : List ℕ) → get t.messages q ≡ None → get (numbers_of t) (number_at number q) ≡ None
-number-absent t q number none =
-    made.made-absent numbers_total numbers_exact place_of_number numbered numbers-placed t.messages (number_at number q) none
-
-pub number-there : (t : TrafficValue) (q : Place) (m : Message) (number : List ℕ) → get t.messages q ≡ Some m → m.number ≡ Some number
-    → get (numbers_of t) (number_at number q) ≡ Some tt
-number-there t q m number is has =
-    made.made-there numbers_total numbers_exact place_of_number numbered numbers-placed t.messages q m (number_at number q) is
-    (ap (option_map (λ n. number_at n q)) has)
-
 -- ---- a message that is put in
 
 module _ (q : Place) (m : Message) (t : TrafficValue) (none : get t.messages q ≡ None) where
@@ -48,12 +35,6 @@ module _ (q : Place) (m : Message) (t : TrafficValue) (none : get t.messages q �
   number-comes =
       made.made-set numbers_total numbers_exact place_of_number numbered numbers-placed t.messages q (Some m)
       ∙ ap (λ x. with_key (numbered q m) (without_key (option_and_then (numbered q) x) (numbers_of t))) none
-
-  pub numbers-put : (number : List ℕ) → m.number ≡ Some number → numbers_of (put_message q m t) ≡ insert (numbers_of t) (number_at number q) tt
-  numbers-put number has = number-comes ∙ ap (λ x. with_key (option_map (λ n. number_at n q) x) (numbers_of t)) has
-
-  pub numbers-put-none : m.number ≡ None → numbers_of (put_message q m t) ≡ numbers_of t
-  numbers-put-none has = number-comes ∙ ap (λ x. with_key (option_map (λ n. number_at n q) x) (numbers_of t)) has
 
 -- ---- a message of the same number in its place
 
@@ -68,36 +49,6 @@ number-again q old m t is number =
 module _ (q : Place) (t : TrafficValue) where
   pub number-goes : numbers_of (take_message q t) ≡ without_key (option_and_then (numbered q) (get t.messages q)) (numbers_of t)
   number-goes = made.made-set numbers_total numbers_exact place_of_number numbered numbers-placed t.messages q None
-
-  pub numbers-taken : (m : Message) (number : List ℕ) → get t.messages q ≡ Some m → m.number ≡ Some number
-      → numbers_of (take_message q t) ≡ remove (numbers_of t) (number_at number q)
-  numbers-taken m number is has =
-      number-goes
-      ∙ ap (λ x. without_key (option_and_then (numbered q) x) (numbers_of t)) is
-      ∙ ap (λ x. without_key (option_map (λ n. number_at n q) x) (numbers_of t)) has
-
-  pub numbers-taken-none : (m : Message) → get t.messages q ≡ Some m → m.number ≡ None → numbers_of (take_message q t) ≡ numbers_of t
-  numbers-taken-none m is has =
-      number-goes
-      ∙ ap (λ x. without_key (option_and_then (numbered q) x) (numbers_of t)) is
-      ∙ ap (λ x. without_key (option_map (λ n. number_at n q) x) (numbers_of t)) has
-
-  pub numbers-taken-absent : get t.messages q ≡ None → numbers_of (take_message q t) ≡ numbers_of t
-  numbers-taken-absent none = number-goes ∙ ap (λ x. without_key (option_and_then (numbered q) x) (numbers_of t)) none
-
--- ---- delivery receipts and notes leave the numbers
-
-pub numbers-put-receipt : (q : Place) (r : ReceivedReceipt) (t : TrafficValue) → numbers_of (put_receipt q r t) ≡ numbers_of t
-numbers-put-receipt q r t = refl
-
-pub numbers-take-receipt : (q : Place) (t : TrafficValue) → numbers_of (take_receipt q t) ≡ numbers_of t
-numbers-take-receipt q t = refl
-
-pub numbers-put-note : (note : Listed) (t : TrafficValue) → numbers_of (moved t (PutNote note)) ≡ numbers_of t
-numbers-put-note note t = refl
-
-pub numbers-take-note : (note : Listed) (t : TrafficValue) → numbers_of (moved t (TakeNote note)) ≡ numbers_of t
-numbers-take-note note t = refl
 
 -- ---- the messages under a prefix
 

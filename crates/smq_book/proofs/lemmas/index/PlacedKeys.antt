@@ -145,10 +145,6 @@ module _ {X K : Type 0} {R : K → K → Ordering} (o : IsTotalOrder R) (exact :
         ∙ find-marked R k (flat_map (λ e. option_to_list (f e.0 e.1)) (entries m))
         ∙ ap marked (any-made k (entries m) (entries_sorted m) ∙ ap (λ x. is_one R k (option_and_then (f (at k)) x)) (sym (get-entries m (at k))))
 
-    -- where nothing stands at a key's place, the key isn't there
-    pub made-absent : (m : FinMap place_cmp X) (k : K) → get m (at k) ≡ None → get (keys_made {R = R} f m) k ≡ None
-    made-absent m k none = get-made m k ∙ ap (λ x. marked (is_one R k (option_and_then (f (at k)) x))) none
-
     -- where f makes a key of what stands at a place, the key is there
     pub made-there : (m : FinMap place_cmp X) (q : Place) (v : X) (k : K) → get m q ≡ Some v → f q v ≡ Some k
         → get (keys_made {R = R} f m) k ≡ Some tt
@@ -160,12 +156,6 @@ module _ {X K : Type 0} {R : K → K → Ordering} (o : IsTotalOrder R) (exact :
   -- ---- one place changes
 
   module _ (f g : Place → X → Option K) (placed : HasItsPlace f) (others : HasItsPlace g) (m n : FinMap place_cmp X) where
-    -- where the same is made outside of places, the set has the same at keys outside of them
-    pub made-outside : (ks : List Place)
-        → ((p : Place) → list_any (eq_by_cmp place_cmp p) ks ≡ false → option_and_then (f p) (get m p) ≡ option_and_then (g p) (get n p))
-        → (k : K) → list_any (eq_by_cmp place_cmp (at k)) ks ≡ false → get (keys_made {R = R} f m) k ≡ get (keys_made {R = R} g n) k
-    made-outside ks same k out = get-made f placed m k ∙ ap (λ one. marked (is_one R k one)) (same (at k) out) ∙ sym (get-made g others n k)
-
     -- where it is the same at all places but one, the key of that place goes and the new one comes
     pub made-changed : (q : Place)
         → ((p : Place) → eq_by_cmp place_cmp p q ≡ false → option_and_then (f p) (get m p) ≡ option_and_then (g p) (get n p))

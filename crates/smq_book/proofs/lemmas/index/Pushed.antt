@@ -22,15 +22,15 @@ use Rattle.smq_book.specs.present.Kept.{header_of, headers_of, is_undecodable, i
 use Rattle.smq_book.specs.pairing.Traffic.{Message, Origin, ReceivedReceipt, Response, TrafficValue, received}
 use Rattle.smq_book.specs.pairing.Traffic.{message_of, pairing_among, place_of, placed, response_in, response_to}
 use Rattle.smq_book.specs.within.Pairs.{Rises, SubmitsAreRequests}
-use Rattle.smq_book.specs.edits.Appended.{anew}
-use Rattle.smq_book.specs.edits.AppendedNotes.{met_moves, next_moves, undecodable_moves, unreadable_moves}
+use Rattle.smq_book.specs.edits.Appended.{anew, client_moves}
+use Rattle.smq_book.specs.edits.AppendedNotes.{met_moves, undecodable_moves, unreadable_moves}
 use Rattle.smq_book.proofs.lemmas.join.AgreeLists.{response-same}
 use Rattle.smq_book.proofs.lemmas.pairing.Paired.{pair_with, request-pair}
 use Rattle.smq_book.proofs.lemmas.pairing.Searched.{at-offset}
 use Rattle.smq_book.specs.present.Settings.{SettingsValue}
 use Rattle.smq_book.specs.join.Moves.{Move, PutMessage, TakeMessage, PutReceipt, TakeReceipt, PutNote, TakeNote, moved, moved_by}
 use Rattle.smq_book.specs.index.Held.{Holding, IsHeld, IsTraffic, KeepsTraffic, held_of, traffic_held}
-use Rattle.smq_book.specs.index.Pushed.{IsHeldAfter, answer_moves, message_with, noted_moves, pdu_moves}
+use Rattle.smq_book.specs.index.Pushed.{IsHeldAfter, answer_moves, message_with, noted_moves}
 use Rattle.smq_book.specs.index.Pushed.{receipt_moves, said_by, said_in, submit_moves, with_response}
 use Rattle.smq_book.proofs.lemmas.edits.Moved.{moved-both}
 use Rattle.smq_book.proofs.lemmas.index.Kept.{moved-held, moved-is}
@@ -210,26 +210,24 @@ module _ (origin : Origin) (next : KeptPdu) where
   submit-none response said = ap (λ (o : Option Submit). map PutMessage (option_to_list
       (option_map (λ (submit : Submit). (place_of origin FromClient next, message_with origin next submit response)) o))) said
 
-  -- its notes by the pair that it makes, and its message by what that pair says, are all that it changes
-  module _ (client centre : List KeptPdu) (made : Option Pair) (response : Option Response)
-      (rises : Rises 0 (client ++ next ∷ [])) (centre_rises : Rises 0 centre) (asks : SubmitsAreRequests (client ++ next ∷ []))
-      (made_is : made ≡ made_by (pairing_among origin client centre) (placed origin FromClient next)) (said : response ≡ said_in centre made) where
+  -- its message by what the pair that it makes says is what it puts in
+  module _ (client centre : List KeptPdu)
+      (rises : Rises 0 (client ++ next ∷ [])) (centre_rises : Rises 0 centre) (asks : SubmitsAreRequests (client ++ next ∷ [])) where
+    abbrev made : Option Pair
+    made = made_by (pairing_among origin client centre) (placed origin FromClient next)
+
     message-by : (o : Option Submit) → submit_in next.content ≡ o
         → map PutMessage (option_to_list (option_map
-        (λ (submit : Submit). (place_of origin FromClient next, message_with origin next submit response)) o))
+        (λ (submit : Submit). (place_of origin FromClient next, message_with origin next submit (said_in centre made))) o))
         ≡ map PutMessage (option_to_list (option_map
         (λ (submit : Submit). (place_of origin FromClient next, message_of origin next submit (response_to centre client next))) o))
     message-by None e = refl
     message-by (Some submit) e =
         ap (λ (r : Option Response). PutMessage (place_of origin FromClient next, message_with origin next submit r) ∷ [])
-        (said ∙ ap (said_in centre) made_is
-        ∙ said-to origin client centre next rises centre_rises (asks.each (length client) next submit (last-at client next) e))
+        (said-to origin client centre next rises centre_rises (asks.each (length client) next submit (last-at client next) e))
 
-    pub client-pushed : noted_moves origin FromClient next made ++ submit_moves origin next response
-        ≡ pdu_moves origin FromClient client centre next
-    client-pushed =
-        ap (λ (made : Option Pair). noted_moves origin FromClient next made ++ submit_moves origin next response) made_is
-        ∙ ap (λ (ms : List Move). next_moves origin FromClient client centre next ++ ms) (message-by (submit_in next.content) refl)
+    pub client-pushed : submit_moves origin next (said_in centre made) ≡ client_moves origin client centre next
+    client-pushed = message-by (submit_in next.content) refl
 
 -- ---- the next PDU of the centre
 

@@ -1,5 +1,5 @@
 -- What is held where the facts of places are set anew, by routes or by a clock, is that of the same traffic under what is set then.
-use Rattle.std.proofs.Common.{◌≡◌, ℕ, ◌+◌, ◌<◌, ◌≤◌, List, length, get_or, take, sym, ap, ◌∙◌}
+use Rattle.std.proofs.Common.{◌≡◌, ℕ, ◌+◌, ◌<◌, ◌≤◌, List, [], length, get_or, take, sym, ap, ◌∙◌}
 use Rattle.std.specs.FinMap.{FinMap, get, keys}
 use Rattle.std.specs.FinSet.{FinSet}
 use Rattle.std.specs.Ordering.{nat_cmp}
@@ -19,9 +19,10 @@ use Rattle.smq_book.specs.edits.Reached.{messages_due_on, messages_under}
 use Rattle.smq_book.specs.index.Due.{places_due_on}
 use Rattle.smq_book.specs.index.Ends.{places_ending}
 use Rattle.smq_book.specs.index.Held.{Holding, IsHeld, held_by, held_of, traffic_held}
+use Rattle.smq_book.specs.index.Pushed.{IsHeldAfter}
 use Rattle.smq_book.specs.index.Refreshed.{refreshed}
 use Rattle.smq_book.proofs.lemmas.index.Anew.{clocked, outside-alike, set-anew, windowed}
-use Rattle.smq_book.proofs.lemmas.index.Kept.{kept, traffic-again}
+use Rattle.smq_book.proofs.lemmas.index.Kept.{kept, kept-is}
 use Rattle.smq_book.proofs.lemmas.index.Numbered.{under-is}
 
 -- ---- in turn
@@ -43,12 +44,11 @@ module _ (z : SettingsValue) (t : TrafficValue) (facts : FinMap place_cmp Fact) 
 pub told-numbers : (g : Holding) (numbers : FinSet number_cmp) → numbers ≡ g.numbers → record g { numbers = numbers } ≡ g
 told-numbers g numbers same = λ i. record g { numbers = same i }
 
--- traffic stays, whatever is set and whatever the facts are
-pub traffic-stays : (s z : SettingsValue) (g h : Holding) (facts : FinMap place_cmp Fact) → IsHeld s g
-    → h ≡ held_by z (traffic_held g) facts → traffic_held h ≡ traffic_held g
-traffic-stays s z g h facts is set = ap traffic_held set ∙ traffic-again z (traffic_held g) is.traffic
-
 module _ (s : SettingsValue) (g h : Holding) (is : IsHeld s g) where
+  -- what is held of the same traffic
+  same-traffic : (z : SettingsValue) → h ≡ held_of z (traffic_held g) → IsHeldAfter z g [] h
+  same-traffic z held = record { held = kept z (traffic_held g) h is.traffic held; traffic = kept-is z (traffic_held g) h is.traffic held }
+
   -- routes that differ in versions of a prefix
   pub routes-held : (versions : Versions) (prefix : List ℕ) (places : List Place)
       → SameOutside (keys (messages_under prefix (traffic_held g))) (facts_of s (traffic_held g))
@@ -56,11 +56,11 @@ module _ (s : SettingsValue) (g h : Holding) (is : IsHeld s g) where
       → places ≡ places_under g.numbers prefix
       → h ≡ held_by (with_versions s versions) (traffic_held g)
       (refreshed (with_versions s versions) (traffic_held g) (facts_of s (traffic_held g)) places)
-      → IsHeld (with_versions s versions) h
+      → IsHeldAfter (with_versions s versions) g [] h
   routes-held versions prefix places same are set =
       let z = with_versions s versions in
       let t = traffic_held g in
-      kept z t h is.traffic
+      same-traffic z
       (set
       ∙ ap (λ (ps : List Place). held_by z t (refreshed z t (facts_of s t) ps))
       (are ∙ ap (λ (x : Holding). places_under x.numbers prefix) is.held)
@@ -72,11 +72,11 @@ module _ (s : SettingsValue) (g h : Holding) (is : IsHeld s g) where
   pub clock-held : (clock : ℕ) (places : List Place) → s.clock ≤ clock → places ≡ places_ending s.clock clock g.ends
       → h ≡ held_by (with_clock s clock) (traffic_held g)
       (refreshed (with_clock s clock) (traffic_held g) (facts_of s (traffic_held g)) places)
-      → IsHeld (with_clock s clock) h
+      → IsHeldAfter (with_clock s clock) g [] h
   clock-held clock places forward are set =
       let z = with_clock s clock in
       let t = traffic_held g in
-      kept z t h is.traffic
+      same-traffic z
       (set
       ∙ ap (λ (ps : List Place). held_by z t (refreshed z t (facts_of s t) ps))
       (are ∙ ap (λ (x : Holding). places_ending s.clock clock x.ends) is.held)
@@ -89,11 +89,11 @@ module _ (s : SettingsValue) (g h : Holding) (is : IsHeld s g) where
       → places ≡ places_due_on link g.due
       → h ≡ held_by (with_windows s windows) (traffic_held g)
       (refreshed (with_windows s windows) (traffic_held g) (facts_of s (traffic_held g)) places)
-      → IsHeld (with_windows s windows) h
+      → IsHeldAfter (with_windows s windows) g [] h
   window-held windows link places same are set =
       let z = with_windows s windows in
       let t = traffic_held g in
-      kept z t h is.traffic
+      same-traffic z
       (set
       ∙ ap (λ (ps : List Place). held_by z t (refreshed z t (facts_of s t) ps)) (are ∙ ap (λ (x : Holding). places_due_on link x.due) is.held)
       ∙ ap (held_by z t) (windowed s t windows link same))

@@ -19,7 +19,3 @@ both-rise i j k a b =
       facts = λ touches low.
           b.facts (omega (arith, x, y, touches)) (omega (arith, x, y, touches, low)) ∙ a.facts (omega (arith, x, y, touches)) low;
     }
-
--- where the facts of what lies between are those of before, and its touches too at least
-pub part-rise : (i j k : Index) → touches_in i ≤ touches_in j → j.tally.facts ≡ i.tally.facts → RisesWithFacts j k → RisesWithFacts i k
-part-rise i j k counted same b = both-rise i j k (stay-rise i j counted same) b

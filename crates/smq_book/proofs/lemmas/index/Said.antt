@@ -6,6 +6,7 @@ use Rattle.std.specs.FinMap.{FinMap, find, get, nat_cmp-IsAntisymmetric}
 use Rattle.std.specs.Cmp.{nat_cmp_total, tied_itself}
 use Rattle.std.specs.Ordering.{eq_by_cmp, is_eq, nat_cmp}
 use Rattle.std.proofs.lemmas.List.{drop_more, map-append, take_more}
+use Rattle.smq_kit.specs.declared.place.Dir.{Dir}
 use Rattle.smq_kit.specs.declared.place.Dir.TheVariants.{FromClient, FromCentre}
 use Rattle.smq_kit.specs.declared.place.Place.{Place}
 use Rattle.smq_kit.specs.Orders.{place_cmp}
@@ -14,22 +15,26 @@ use Rattle.smq_receipt.specs.declared.reading.Receipt.{Receipt}
 use Rattle.smq_pair.specs.declared.pairing.Pair.{Pair}
 use Rattle.smq_pair.specs.Growth.{IsNext, made_by, pushed}
 use Rattle.smq_book.specs.declared.present.kept.KeptPdu.{KeptPdu}
-use Rattle.smq_book.specs.present.Kept.{receipt_in}
+use Rattle.smq_book.specs.declared.present.session.Session.{Session}
+use Rattle.smq_book.specs.present.Kept.{kept_pdus, receipt_in}
+use Rattle.smq_book.specs.present.Present.{direction}
 use Rattle.smq_book.specs.present.Settings.{SettingsValue}
 use Rattle.smq_book.specs.pairing.Traffic.{Message, Origin, ReceivedReceipt, TrafficValue}
-use Rattle.smq_book.specs.pairing.Traffic.{messages_among, pairing_among, place_of, placed, received, receipts_among}
+use Rattle.smq_book.specs.pairing.Traffic.{messages_among, place_of, placed, received, receipts_among}
 use Rattle.smq_book.specs.within.Pairs.{Rises, SubmitsAreRequests}
 use Rattle.smq_book.specs.join.Moves.{Move, moved_by}
 use Rattle.smq_book.specs.edits.Appended.{centre_moves, client_moves}
 use Rattle.smq_book.specs.edits.AppendedNotes.{next_moves}
 use Rattle.smq_book.specs.index.Held.{Holding, IsTraffic}
-use Rattle.smq_book.specs.index.Pushed.{IsHeldAfter, IsSaidBy, centre_by, pdu_moves, pushed_moves, receipt_moves}
+use Rattle.smq_book.specs.index.Pushed.{IsHeldAfter, IsSaidBy, IsUnsaid, centre_with, client_with, moves_by, pairing_with, pdu_moves, pushed_moves, receipt_moves}
 use Rattle.smq_book.proofs.lemmas.edits.Appends.{HasPdus, centre-step, client-step, rises-front}
 use Rattle.smq_book.proofs.lemmas.edits.Moved.{moved-both}
 use Rattle.smq_book.proofs.lemmas.edits.PushNotes as places
 use Rattle.smq_book.proofs.lemmas.pairing.Paired.{above}
+use Rattle.smq_book.proofs.lemmas.pairing.PlacesRise.{kept-rise}
+use Rattle.smq_book.proofs.lemmas.pairing.Requests.{kept-ask}
 use Rattle.smq_book.proofs.lemmas.index.Answering.{answers-are, elsewhere, none-above, waits-for}
-use Rattle.smq_book.proofs.lemmas.index.Pushed.{AreOfNotes, after-both, after-same, messages-stay, receipts-stay}
+use Rattle.smq_book.proofs.lemmas.index.Pushed.{AreOfNotes, after-both, after-same, client-pushed, messages-stay, receipts-stay}
 use Rattle.smq_book.proofs.lemmas.index.PushedAll.{messages-by, next-of-notes, receipts-by}
 
 -- ---- told by the places of the session, or of all places
@@ -151,37 +156,53 @@ module _ (origin : Origin) where
   centre-absent client centre next t rises said =
       said.receipts (place_of origin FromCentre next) refl ∙ no-receipt-above centre 0 next rises
 
-  -- ---- PDUs so far, and one more
+-- ---- PDUs so far, and one more
 
-  clients-more : (client centre done : List KeptPdu) (next : KeptPdu)
-      → pushed_moves origin FromClient client centre (done ++ next ∷ [])
-      ≡ pushed_moves origin FromClient client centre done ++ pdu_moves origin FromClient (client ++ done) centre next
-  clients-more client centre [] next =
-      append-nil (pdu_moves origin FromClient client centre next)
-      ∙ ap (λ ps. pdu_moves origin FromClient ps centre next) (sym (append-nil client))
-  clients-more client centre (x ∷ done) next =
-      let first = pdu_moves origin FromClient client centre x in
-      let rest = pushed_moves origin FromClient (client ++ x ∷ []) centre done in
-      ap (λ ms. first ++ ms) (clients-more (client ++ x ∷ []) centre done next
-      ∙ ap (λ ps. rest ++ pdu_moves origin FromClient ps centre next) (append_assoc client (x ∷ []) done))
-      ∙ sym (append_assoc first rest (pdu_moves origin FromClient (client ++ x ∷ done) centre next))
+pub client-nil : (dir : Dir) (client : List KeptPdu) → client_with dir client [] ≡ client
+client-nil FromClient client = append-nil client
+client-nil FromCentre client = refl
 
-  centres-more : (client centre done : List KeptPdu) (next : KeptPdu)
-      → pushed_moves origin FromCentre client centre (done ++ next ∷ [])
-      ≡ pushed_moves origin FromCentre client centre done ++ pdu_moves origin FromCentre client (centre ++ done) next
-  centres-more client centre [] next =
-      append-nil (pdu_moves origin FromCentre client centre next)
-      ∙ ap (λ ps. pdu_moves origin FromCentre client ps next) (sym (append-nil centre))
-  centres-more client centre (x ∷ done) next =
-      let first = pdu_moves origin FromCentre client centre x in
-      let rest = pushed_moves origin FromCentre client (centre ++ x ∷ []) done in
-      ap (λ ms. first ++ ms) (centres-more client (centre ++ x ∷ []) done next
-      ∙ ap (λ ps. rest ++ pdu_moves origin FromCentre client ps next) (append_assoc centre (x ∷ []) done))
-      ∙ sym (append_assoc first rest (pdu_moves origin FromCentre client (centre ++ x ∷ done) next))
+pub centre-nil : (dir : Dir) (centre : List KeptPdu) → centre_with dir centre [] ≡ centre
+centre-nil FromClient centre = refl
+centre-nil FromCentre centre = append-nil centre
 
--- ---- PDUs by their number among those that come
+client-both : (dir : Dir) (client xs ys : List KeptPdu) → client_with dir (client_with dir client xs) ys ≡ client_with dir client (xs ++ ys)
+client-both FromClient client xs ys = append_assoc client xs ys
+client-both FromCentre client xs ys = refl
 
-module _ (origin : Origin) (client centre pdus : List KeptPdu) (i : ℕ) (x : KeptPdu) (within : i < length pdus) (is : x ≡ get_or pdus i x) where
+centre-both : (dir : Dir) (centre xs ys : List KeptPdu) → centre_with dir (centre_with dir centre xs) ys ≡ centre_with dir centre (xs ++ ys)
+centre-both FromClient centre xs ys = refl
+centre-both FromCentre centre xs ys = append_assoc centre xs ys
+
+pushed-more : (origin : Origin) (dir : Dir) (client centre done : List KeptPdu) (next : KeptPdu)
+    → pushed_moves origin dir client centre (done ++ next ∷ [])
+    ≡ pushed_moves origin dir client centre done ++ pdu_moves origin dir (client_with dir client done) (centre_with dir centre done) next
+pushed-more origin dir client centre [] next =
+    append-nil (pdu_moves origin dir client centre next)
+    ∙ (λ i. pdu_moves origin dir (sym (client-nil dir client) i) (sym (centre-nil dir centre) i) next)
+pushed-more origin dir client centre (x ∷ done) next =
+    let first = pdu_moves origin dir client centre x in
+    let rest = pushed_moves origin dir (client_with dir client (x ∷ [])) (centre_with dir centre (x ∷ [])) done in
+    ap (λ ms. first ++ ms)
+    (pushed-more origin dir (client_with dir client (x ∷ [])) (centre_with dir centre (x ∷ [])) done next
+    ∙ (λ i. rest ++ pdu_moves origin dir (client-both dir client (x ∷ []) done i) (centre-both dir centre (x ∷ []) done i) next))
+    ∙ sym (append_assoc first rest (pdu_moves origin dir (client_with dir client (x ∷ done)) (centre_with dir centre (x ∷ done)) next))
+
+-- ---- PDUs of a direction by their number among those that come
+
+module _ (origin : Origin) (s : Session) (pdus : List KeptPdu) (i : ℕ) (x : KeptPdu) (within : i < length pdus) (is : x ≡ get_or pdus i x) where
+  abbrev client : List KeptPdu
+  client = kept_pdus s.client
+
+  abbrev centre : List KeptPdu
+  centre = kept_pdus s.centre
+
+  abbrev clients : Dir → List KeptPdu
+  clients dir = client_with dir client (take i pdus)
+
+  abbrev centres : Dir → List KeptPdu
+  centres dir = centre_with dir centre (take i pdus)
+
   more : take (i + 1) pdus ≡ take i pdus ++ x ∷ []
   more = take_more pdus i x within ∙ ap (λ (y : KeptPdu). take i pdus ++ y ∷ []) (sym is)
 
@@ -198,87 +219,70 @@ module _ (origin : Origin) (client centre pdus : List KeptPdu) (i : ℕ) (x : Ke
     grown : (old ++ take i pdus) ++ x ∷ [] ≡ old ++ take (i + 1) pdus
     grown = append_assoc old (take i pdus) (x ∷ []) ∙ ap (λ ps. old ++ ps) (sym more)
 
-    pub rises-to : Rises 0 (old ++ pdus) → Rises 0 ((old ++ take i pdus) ++ x ∷ [])
+    rises-to : Rises 0 (old ++ pdus) → Rises 0 ((old ++ take i pdus) ++ x ∷ [])
     rises-to rises = rises-front 0 ((old ++ take i pdus) ++ x ∷ []) (drop (i + 1) pdus) (subst (λ ps. Rises 0 ps) in-parts rises)
 
-    pub asks-to : SubmitsAreRequests (old ++ pdus) → SubmitsAreRequests ((old ++ take i pdus) ++ x ∷ [])
+    asks-to : SubmitsAreRequests (old ++ pdus) → SubmitsAreRequests ((old ++ take i pdus) ++ x ∷ [])
     asks-to asks = asks-front ((old ++ take i pdus) ++ x ∷ []) (drop (i + 1) pdus) (subst SubmitsAreRequests in-parts asks)
 
-  -- ---- of the client
-
-  module _ (rises : Rises 0 (client ++ pdus)) where
-    pub client-next : IsNext (pairing_among origin (client ++ take i pdus) centre) (place_of origin FromClient x)
-    client-next = places.next-client origin (client ++ take i pdus) centre (drop (i + 1) pdus) x (subst (λ ps. Rises 0 ps) (all client) rises)
-
-    pub client-free : (t : TrafficValue) → IsSaidBy origin (client ++ take i pdus) centre t → get t.messages (place_of origin FromClient x) ≡ None
-    client-free t said = client-absent origin (client ++ take i pdus) centre x t (rises-to client rises) said
-
-    pub client-said : (t u : TrafficValue) → IsSaidBy origin (client ++ take i pdus) centre t
-        → u ≡ moved_by t (pdu_moves origin FromClient (client ++ take i pdus) centre x) → IsSaidBy origin (client ++ take (i + 1) pdus) centre u
-    client-said t u said after =
-        subst (IsSaidBy origin (client ++ take (i + 1) pdus) centre) (sym after)
-        (subst (λ ps. IsSaidBy origin ps centre (moved_by t (pdu_moves origin FromClient (client ++ take i pdus) centre x))) (grown client)
-        (said-client origin (client ++ take i pdus) centre x t (rises-to client rises) said))
-
-  pub client-pairs : pushed (pairing_among origin (client ++ take i pdus) centre) (placed origin FromClient x)
-      ≡ pairing_among origin (client ++ take (i + 1) pdus) centre
-  client-pairs =
+  pub pairs-more : (dir : Dir) → pushed (pairing_with origin dir client centre (take i pdus)) (placed origin dir x)
+      ≡ pairing_with origin dir client centre (take (i + 1) pdus)
+  pairs-more FromClient =
       let same = sym (map-append (placed origin FromClient) (client ++ take i pdus) (x ∷ [])) ∙ ap (map (placed origin FromClient)) (grown client) in
       λ k. record { client = same k; centre = map (placed origin FromCentre) centre }
-
-  module _ (s : SettingsValue) (g h k : Holding) where
-    pub client-held : IsHeldAfter s g (pushed_moves origin FromClient client centre (take i pdus)) h
-        → IsHeldAfter s h (pdu_moves origin FromClient (client ++ take i pdus) centre x) k
-        → IsHeldAfter s g (pushed_moves origin FromClient client centre (take (i + 1) pdus)) k
-    client-held done next =
-        after-same s g k (pushed_moves origin FromClient client centre (take i pdus) ++ pdu_moves origin FromClient (client ++ take i pdus) centre x)
-        (pushed_moves origin FromClient client centre (take (i + 1) pdus))
-        (sym (clients-more origin client centre (take i pdus) x) ∙ ap (pushed_moves origin FromClient client centre) (sym more))
-        (after-both s g h k done next)
-
-  -- ---- of the centre
-
-  module _ (client_rises : Rises 0 client) (rises : Rises 0 (centre ++ pdus)) where
-    pub centre-next : IsNext (pairing_among origin client (centre ++ take i pdus)) (place_of origin FromCentre x)
-    centre-next = places.next-centre origin client (centre ++ take i pdus) (drop (i + 1) pdus) x (subst (λ ps. Rises 0 ps) (all centre) rises)
-
-    pub centre-free : (t : TrafficValue) → IsSaidBy origin client (centre ++ take i pdus) t → get t.receipts (place_of origin FromCentre x) ≡ None
-    centre-free t said = centre-absent origin client (centre ++ take i pdus) x t (rises-to centre rises) said
-
-    pub centre-said : (t u : TrafficValue) → IsSaidBy origin client (centre ++ take i pdus) t
-        → u ≡ moved_by t (pdu_moves origin FromCentre client (centre ++ take i pdus) x) → IsSaidBy origin client (centre ++ take (i + 1) pdus) u
-    centre-said t u said after =
-        subst (IsSaidBy origin client (centre ++ take (i + 1) pdus)) (sym after)
-        (subst (λ ps. IsSaidBy origin client ps (moved_by t (pdu_moves origin FromCentre client (centre ++ take i pdus) x))) (grown centre)
-        (said-centre origin client (centre ++ take i pdus) x t client_rises (rises-to centre rises) said))
-
-    -- the message at the request of the pair that it makes had no response
-    pub centre-waits : (t : TrafficValue) → IsTraffic t → IsSaidBy origin client (centre ++ take i pdus) t → (pair : Pair) (m : Message)
-        → made_by (pairing_among origin client (centre ++ take i pdus)) (placed origin FromCentre x) ≡ Some pair
-        → get t.messages pair.request ≡ Some m → m.response ≡ None
-    centre-waits t is said pair m made there =
-        waits-for origin client (centre ++ take i pdus) x t is said client_rises (rises-to centre rises) pair m made there
-
-    -- the pair that it makes tells the message that it answers
-    pub centre-moves : (t : TrafficValue) → IsTraffic t → IsSaidBy origin client (centre ++ take i pdus) t → SubmitsAreRequests client
-        → centre_by origin t.messages x (made_by (pairing_among origin client (centre ++ take i pdus)) (placed origin FromCentre x))
-        ≡ pdu_moves origin FromCentre client (centre ++ take i pdus) x
-    centre-moves t is said asks =
-        ap (λ ms. next_moves origin FromCentre client (centre ++ take i pdus) x ++ (ms ++ receipt_moves origin x))
-        (answers-are origin client (centre ++ take i pdus) x t is said client_rises (rises-to centre rises) asks)
-
-  pub centre-pairs : pushed (pairing_among origin client (centre ++ take i pdus)) (placed origin FromCentre x)
-      ≡ pairing_among origin client (centre ++ take (i + 1) pdus)
-  centre-pairs =
+  pairs-more FromCentre =
       let same = sym (map-append (placed origin FromCentre) (centre ++ take i pdus) (x ∷ [])) ∙ ap (map (placed origin FromCentre)) (grown centre) in
       λ k. record { client = map (placed origin FromClient) client; centre = same k }
 
-  module _ (s : SettingsValue) (g h k : Holding) where
-    pub centre-held : IsHeldAfter s g (pushed_moves origin FromCentre client centre (take i pdus)) h
-        → IsHeldAfter s h (pdu_moves origin FromCentre client (centre ++ take i pdus) x) k
-        → IsHeldAfter s g (pushed_moves origin FromCentre client centre (take (i + 1) pdus)) k
-    centre-held done next =
-        after-same s g k (pushed_moves origin FromCentre client centre (take i pdus) ++ pdu_moves origin FromCentre client (centre ++ take i pdus) x)
-        (pushed_moves origin FromCentre client centre (take (i + 1) pdus))
-        (sym (centres-more origin client centre (take i pdus) x) ∙ ap (pushed_moves origin FromCentre client centre) (sym more))
-        (after-both s g h k done next)
+  pub held-more : (dir : Dir) (z : SettingsValue) (g h k : Holding) → IsHeldAfter z g (pushed_moves origin dir client centre (take i pdus)) h
+      → IsHeldAfter z h (pdu_moves origin dir (clients dir) (centres dir) x) k
+      → IsHeldAfter z g (pushed_moves origin dir client centre (take (i + 1) pdus)) k
+  held-more dir z g h k done next =
+      after-same z g k (pushed_moves origin dir client centre (take i pdus) ++ pdu_moves origin dir (clients dir) (centres dir) x)
+      (pushed_moves origin dir client centre (take (i + 1) pdus))
+      (sym (pushed-more origin dir client centre (take i pdus) x) ∙ ap (pushed_moves origin dir client centre) (sym more))
+      (after-both z g h k done next)
+
+  abbrev made : Dir → Option Pair
+  made dir = made_by (pairing_with origin dir client centre (take i pdus)) (placed origin dir x)
+
+  pub comes-next : (dir : Dir) → Rises 0 (kept_pdus (direction dir s) ++ pdus)
+      → IsNext (pairing_with origin dir client centre (take i pdus)) (place_of origin dir x)
+  comes-next FromClient rises =
+      places.next-client origin (client ++ take i pdus) centre (drop (i + 1) pdus) x (subst (λ ps. Rises 0 ps) (all client) rises)
+  comes-next FromCentre rises =
+      places.next-centre origin client (centre ++ take i pdus) (drop (i + 1) pdus) x (subst (λ ps. Rises 0 ps) (all centre) rises)
+
+  module _ (t : TrafficValue) where
+    -- nothing stands at its place yet, and the message at the request of the pair that it makes had no response
+    pub unsaid : (dir : Dir) → Rises 0 (kept_pdus (direction dir s) ++ pdus) → IsTraffic t → IsSaidBy origin (clients dir) (centres dir) t
+        → IsUnsaid t origin dir x (made dir)
+    unsaid FromClient rises is said = client-absent origin (client ++ take i pdus) centre x t (rises-to client rises) said
+    unsaid FromCentre rises is said = (
+      centre-absent origin client (centre ++ take i pdus) x t (rises-to centre rises) said,
+      λ pair m made there.
+          waits-for origin client (centre ++ take i pdus) x t is said (kept-rise s.client) (rises-to centre rises) pair m made there,
+    )
+
+    -- the pair that it makes tells the response that it has, or the message that it answers
+    pub moves-more : (dir : Dir) → Rises 0 (kept_pdus (direction dir s) ++ pdus) → SubmitsAreRequests (kept_pdus (direction dir s) ++ pdus)
+        → IsTraffic t → IsSaidBy origin (clients dir) (centres dir) t
+        → moves_by origin dir t.messages centre x (made dir) ≡ pdu_moves origin dir (clients dir) (centres dir) x
+    moves-more FromClient rises asks is said =
+        ap (λ ms. next_moves origin FromClient (client ++ take i pdus) centre x ++ ms)
+        (client-pushed origin x (client ++ take i pdus) centre (rises-to client rises) (kept-rise s.centre) (asks-to client asks))
+    moves-more FromCentre rises asks is said =
+        ap (λ ms. next_moves origin FromCentre client (centre ++ take i pdus) x ++ (ms ++ receipt_moves origin x))
+        (answers-are origin client (centre ++ take i pdus) x t is said (kept-rise s.client) (rises-to centre rises) (kept-ask s.client))
+
+    pub said-more : (dir : Dir) → Rises 0 (kept_pdus (direction dir s) ++ pdus) → IsSaidBy origin (clients dir) (centres dir) t
+        → (u : TrafficValue) → u ≡ moved_by t (pdu_moves origin dir (clients dir) (centres dir) x)
+        → IsSaidBy origin (client_with dir client (take (i + 1) pdus)) (centre_with dir centre (take (i + 1) pdus)) u
+    said-more FromClient rises said u after =
+        subst (IsSaidBy origin (client ++ take (i + 1) pdus) centre) (sym after)
+        (subst (λ ps. IsSaidBy origin ps centre (moved_by t (pdu_moves origin FromClient (client ++ take i pdus) centre x))) (grown client)
+        (said-client origin (client ++ take i pdus) centre x t (rises-to client rises) said))
+    said-more FromCentre rises said u after =
+        subst (IsSaidBy origin client (centre ++ take (i + 1) pdus)) (sym after)
+        (subst (λ ps. IsSaidBy origin client ps (moved_by t (pdu_moves origin FromCentre client (centre ++ take i pdus) x))) (grown centre)
+        (said-centre origin client (centre ++ take i pdus) x t (kept-rise s.client) (rises-to centre rises) said))

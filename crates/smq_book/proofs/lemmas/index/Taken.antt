@@ -96,7 +96,7 @@ module _ (sessions : FinMap nat_cmp Session) (n : ℕ) (s : Session) (there : ge
 
 -- ---- no note of a session is in a list of receipts
 
-both : (xs ys : List Listed) → AllTraffic xs → AllTraffic ys → AllTraffic (xs ++ ys)
+pub both : (xs ys : List Listed) → AllTraffic xs → AllTraffic ys → AllTraffic (xs ++ ys)
 both = all-append (λ (note : Listed). is_traffic_list note.list ≡ true)
 
 in-list : (name : l.List) → is_traffic_list name ≡ true → (places : List Place) → AllTraffic (map (listed name) places)

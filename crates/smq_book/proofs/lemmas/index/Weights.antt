@@ -12,6 +12,8 @@ use Rattle.std.proofs.lemmas.List.{length-append, length-map}
 use Rattle.std.proofs.lemmas.List.Sums.{sum_by-cons}
 use Rattle.std.proofs.lemmas.Map.Keys.{sorted_head, sorted_tail}
 use Rattle.smq_kit.specs.declared.link_key.LinkKey.{LinkKey}
+use Rattle.smq_kit.specs.declared.place.Dir.{Dir}
+use Rattle.smq_kit.specs.declared.place.Dir.TheVariants.{FromClient, FromCentre}
 use Rattle.smq_kit.specs.declared.place.Place.{Place}
 use Rattle.smq_kit.specs.LinkKeys.{same_key}
 use Rattle.smq_kit.specs.Maps.{SameOutside, set_at, share}
@@ -27,7 +29,7 @@ use Rattle.smq_book.specs.join.Moves.{receipt_standings_of, standings_of}
 use Rattle.smq_book.specs.pairing.Traffic.{Message, ReceivedReceipt, TrafficValue}
 use Rattle.smq_book.specs.edits.Reach.{members}
 use Rattle.smq_book.specs.edits.Reached.{IsMoveOf, key_receipts, key_submits}
-use Rattle.smq_book.specs.index.Touches.{MembersGo, is_key, taken_of, receipt_key_at}
+use Rattle.smq_book.specs.index.Touches.{MembersGo, is_key, key_in, taken_load, taken_of, receipt_key_at}
 use Rattle.smq_book.proofs.lemmas.edits.KeyMoves.{receipt-standings-outside, standings-outside}
 use Rattle.smq_book.proofs.lemmas.edits.ReachBounds.{members-number}
 use Rattle.smq_book.proofs.lemmas.index.Costs.{unchanged}
@@ -372,3 +374,10 @@ module _ (g h : GroupsValue) (go : MembersGo g h) where
           → receipt_key_at g.members q ≡ Some k
       by None there k is = absurd cc
       by (Some r) there k is = ap (option_map (λ (r : GroupedReceipt). r.key)) (go.receipts q r there) ∙ is
+
+  pub load-lighter : (q : Place) → taken_load h q ≤ taken_load g q
+  load-lighter q = let less = by q.dir in omega (arith, less)
+    where
+      by : (d : Dir) → taken_of h (key_in d h.members q) ≤ taken_of g (key_in d g.members q)
+      by FromClient = message-lighter q
+      by FromCentre = receipt-lighter q

@@ -16,7 +16,7 @@ use Rattle.smq_pdu.proofs.Pairs.{response-in-turn}
 use Rattle.smq_pdu.specs.declared.body.Submit.{Submit}
 use Rattle.smq_receipt.specs.declared.reading.Receipt.{Receipt}
 use Rattle.smq_kit.specs.declared.link_key.LinkKey.{LinkKey}
-use Rattle.smq_book.specs.declared.pairing.source.Source.{Source}
+use Rattle.smq_book.specs.declared.pairing.pairs.Source.{Source}
 use Rattle.smq_book.specs.declared.present.forms.Forms.{Forms}
 use Rattle.smq_book.specs.declared.present.kept.KeptPdu.{KeptPdu}
 use Rattle.smq_book.specs.present.Kept.{header_of, headers_of, submit_in, receipt_in}

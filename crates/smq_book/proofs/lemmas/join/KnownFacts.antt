@@ -5,13 +5,13 @@ use Rattle.std.specs.List.{enumerate_from, flat_map}
 use Rattle.std.specs.Cmp.{nat_cmp_total}
 use Rattle.std.specs.Ordering.{eq_by_cmp, nat_cmp}
 use Rattle.std.specs.FinMap.{FinMap, is_sorted, values, get, insert, get-empty, get-insert, empty}
-use Rattle.smq_kit.specs.declared.form.Form.{Form}
-use Rattle.smq_kit.specs.declared.form.Form.TheVariants.{Verbatim}
+use Rattle.smq_kit.specs.declared.message_id.Form.{Form}
+use Rattle.smq_kit.specs.declared.message_id.Form.TheVariants.{Verbatim}
 use Rattle.smq_kit.specs.declared.place.Place.{Place}
 use Rattle.smq_kit.specs.Orders.{place_cmp}
 use Rattle.smq_tally.specs.declared.fact.Fact.{Fact}
 use Rattle.smq_tally.specs.declared.outcome.Outcome.{Outcome}
-use Rattle.smq_book.specs.declared.pairing.source.Source.{Source}
+use Rattle.smq_book.specs.declared.pairing.pairs.Source.{Source}
 use Rattle.smq_book.specs.declared.present.kept.KeptPdu.{KeptPdu}
 use Rattle.smq_book.specs.known.Pairing.{known_origin, submit}
 use Rattle.smq_book.specs.known.Join.{settings_with, known_facts, outcomes_among, errors_among, outcomes_at, outcomes_by_window, delays_among, outcomes_under, outcomes_by_delivery, responded_and_reported}

@@ -10,7 +10,7 @@ use Rattle.smq_frame.specs.Tail.{TailValue, tail_from, tail_of, tail_after}
 use Rattle.smq_frame.proofs.Streams.{stream_grows, stamp_there, stream_frames-nil}
 use Rattle.smq_pdu.specs.Placed.{PlacedPdu, placed_pdu}
 use Rattle.smq_book.specs.declared.present.kept.KeptPdu.{KeptPdu}
-use Rattle.smq_book.specs.declared.present.stream.Piece.{Piece}
+use Rattle.smq_book.specs.declared.present.session.Piece.{Piece}
 use Rattle.smq_book.specs.present.Kept.{kept_pdu, kept_pdus}
 use Rattle.smq_book.specs.present.Stream.{stream_of, last_moment, Keeps}
 

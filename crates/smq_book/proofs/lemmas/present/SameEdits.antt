@@ -11,8 +11,8 @@ use Rattle.smq_kit.specs.declared.place.Dir.{Dir}
 use Rattle.smq_kit.specs.contracts.names.LinkIdPartialEq.TheImpl as link_eq
 use Rattle.smq_kit.specs.contracts.names.SessionIdPartialEq.TheImpl as session_eq
 use Rattle.smq_kit.specs.contracts.place.DirPartialEq.TheImpl as dir_eq
-use Rattle.smq_kit.specs.declared.form.Form.{Form}
-use Rattle.smq_kit.specs.contracts.form.FormPartialEq.TheImpl as form_eq
+use Rattle.smq_kit.specs.declared.message_id.Form.{Form}
+use Rattle.smq_kit.specs.contracts.message_id.FormPartialEq.TheImpl as form_eq
 use Rattle.smq_kit.specs.declared.names.RouteId.{RouteId}
 use Rattle.smq_kit.specs.contracts.names.RouteIdPartialEq.TheImpl as route_eq
 use Rattle.smq_frame.specs.Tail.{TailValue, tails_equal}

@@ -6,7 +6,7 @@ use Rattle.std.specs.Option.{option_zip}
 use Rattle.std.specs.Cmp.{nat_cmp_total}
 use Rattle.std.specs.Ordering.{nat_cmp}
 use Rattle.std.specs.FinMap.{entries, values, get-insert, get-empty, empty, nat_cmp-IsAntisymmetric}
-use Rattle.smq_kit.specs.declared.form.Form.TheVariants.{Decimal}
+use Rattle.smq_kit.specs.declared.message_id.Form.TheVariants.{Decimal}
 use Rattle.smq_kit.specs.declared.names.RouteId.{RouteId}
 use Rattle.smq_kit.proofs.MapLemmas.{entries-from_entries}
 use Rattle.smq_route.specs.Versions.{serves, longest}
@@ -46,7 +46,7 @@ use Rattle.smq_kit.specs.Orders.{place_cmp}
 use Rattle.smq_kit.specs.declared.place.Dir.TheVariants.{FromClient, FromCentre}
 use Rattle.smq_tally.specs.declared.outcome.Outcome.TheVariants as o
 use Rattle.smq_tally.specs.declared.value.SubmitError.TheVariants as s
-use Rattle.smq_book.specs.declared.pairing.source.Source.{Source}
+use Rattle.smq_book.specs.declared.pairing.pairs.Source.{Source}
 use Rattle.smq_book.specs.declared.present.forms.Forms.{Forms}
 use Rattle.smq_book.specs.present.Content.{Content}
 use Rattle.smq_book.specs.present.Content as c

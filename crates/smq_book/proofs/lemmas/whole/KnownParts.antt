@@ -2,7 +2,7 @@
 use Rattle.std.proofs.Common.{◌≡◌, Bool, List, ap, ◌∙◌}
 use Rattle.std.specs.Prelude.{T, filter, count_by}
 use Rattle.std.specs.FinMap.{from_entries, is_sorted, values}
-use Rattle.smq_kit.specs.declared.form.Form.TheVariants.{Verbatim}
+use Rattle.smq_kit.specs.declared.message_id.Form.TheVariants.{Verbatim}
 use Rattle.smq_kit.specs.declared.place.Place.{Place}
 use Rattle.smq_kit.specs.Orders.{place_cmp}
 use Rattle.smq_tally.specs.declared.fact.CountKey.{CountKey}

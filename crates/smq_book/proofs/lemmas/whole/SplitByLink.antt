@@ -24,7 +24,7 @@ use Rattle.smq_tally.specs.declared.view.View.{View}
 use Rattle.smq_tally.specs.Rows.{count_key, stands_in}
 use Rattle.smq_tally.specs.Tables.{count_at}
 use Rattle.smq_tally.proofs.Tallies.{count-tables}
-use Rattle.smq_book.specs.declared.pairing.source.Source.{Source}
+use Rattle.smq_book.specs.declared.pairing.pairs.Source.{Source}
 use Rattle.smq_book.specs.declared.present.kept.KeptPdu.{KeptPdu}
 use Rattle.smq_book.specs.declared.present.session.Session.{Session}
 use Rattle.smq_book.specs.present.Kept.{header_of, kept_pdus, receipt_in, submit_in}

@@ -1,4 +1,4 @@
-use Rattle.std.proofs.Common.{ℕ, length, Option, Some, None, Ok, refl, ap, arith}
+use Rattle.std.proofs.Common.{ℕ, length, Option, Some, None, Ok, ap, arith}
 use Rattle.smq_kit.specs.declared.refusal.Refusal.{Refusal}
 use Rattle.smq_kit.specs.Replies.{IsReply, IsReplyInPlace}
 use Rattle.smq_book.specs.index.Ends.{places_ending}
@@ -14,9 +14,9 @@ made None Made Unchanged is = is
 made (Some refusal) Made Unchanged is = is
 
 pub returns-clause-touches : goal.returns-clause-touches
-returns-clause-touches c = λ pairings kept.
+returns-clause-touches c =
     let p = c.args.present.now in
-    advance-bound p p.settings refl c.args.index.now c.settle.new.self pairings kept c.args.clock (Ok tt) _ _
+    advance-bound p c.args.index.now c.settle.new.self c.requires.indexed c.args.clock (Ok tt) _ _
     (made (clock_back p.settings.clock c.args.clock) _ _ c.in_ok-set_clock.ensures)
     (λ pending.
     let cost = c.in-Ok.ensures.touches pending in

@@ -2,33 +2,26 @@ use Rattle.std.proofs.Common.{◌≡◌, refl, sym, ap, subst, ◌∙◌}
 use Rattle.smq_kit.specs.Replies.{first_of}
 use Rattle.smq_route.specs.Edits.{end_refusals, ending}
 use Rattle.smq_route.specs.Versions.{version_of}
-use Rattle.smq_book.specs.index.Held.{IsHeld, held_now, traffic_held}
+use Rattle.smq_book.specs.index.Kept.{IsIndexed}
+use Rattle.smq_book.specs.pairing.Traffic.{traffic_of}
 use Rattle.smq_book.specs.present.Present.{PresentValue}
 use Rattle.smq_book.specs.present.Settings.{SettingsValue}
-use Rattle.smq_book.specs.within.InOrder.{forms_in}
-use Rattle.smq_book.proofs.lemmas.index.Bounds.{routes-bound}
-use Rattle.smq_book.proofs.lemmas.index.KeptPairs.{kept-settings}
+use Rattle.smq_book.specs.within.InOrder.{forms_in, sessions_in}
 use Rattle.smq_book.proofs.lemmas.index.Routed.{made, others-changed}
 use Rattle.smq_book.proofs.edits.routes.end_route.Goals as goal
 
-pub returns-clause-held : goal.returns-clause-held
-returns-clause-held c =
+pub returns-clause-indexed : goal.returns-clause-indexed
+returns-clause-indexed c =
     let s : SettingsValue = record { forms = forms_in c.settings.inside.forms; windows = c.settings.inside.windows; versions = c.settings.inside.routes.versions; clock = c.settings.inside.clock } in
-    let s_is : s ≡ c.args.present.now.settings = c.settings.view_is ∙ ap (λ (p : PresentValue). p.settings) c.present.view_is in
-    let was : IsHeld s (held_now c.args.index.now) = subst (λ (z : SettingsValue). IsHeld z (held_now c.args.index.now)) (sym s_is) c.requires.held in
-    let others = others-changed s (traffic_held (held_now c.args.index.now)) c.args.prefix.now c.end.new.self.versions c.args.from (ending c.args.until)
-    (made (first_of (end_refusals (version_of s.versions c.args.prefix.now c.args.from) c.args.from c.args.until)) tt _ _ c.in_ok-end.ensures.reply) in
-    c.follow.ensures.held s refl refl (sym (c.end.ensures.settled ∙ c.settings.invariant)) was
+    let p : PresentValue = record { sessions = sessions_in c.present.inside.sessions; settings = s } in
+    let was : p ≡ c.args.present.now = ap (λ (z : SettingsValue). record p { settings = z }) c.settings.view_is ∙ c.present.view_is in
+    let others = others-changed p.settings (traffic_of p.sessions) c.args.prefix.now c.end.new.self.versions c.args.from (ending c.args.until)
+    (made (first_of (end_refusals (version_of p.settings.versions c.args.prefix.now c.args.from) c.args.from c.args.until)) tt _ _
+    c.in_ok-end.ensures.reply) in
+    c.follow.ensures.indexed p refl refl (sym (c.end.ensures.settled ∙ c.settings.invariant))
+    (subst (λ (q : PresentValue). IsIndexed q c.args.index.now) (sym was) c.requires.indexed)
     others
 
-pub returns-clause-kept : goal.returns-clause-kept
-returns-clause-kept c = λ pairings kept.
-    kept-settings c.args.present.now _ c.args.index.now c.follow.new.index pairings (sym (ap (λ (p : PresentValue). p.sessions) c.present.view_is))
-    (returns-clause-held c) (c.follow.ensures.traffic c.args.present.now.settings c.requires.held) c.follow.ensures.held_settled
-    c.follow.ensures.pending kept
-
 pub returns-clause-touches : goal.returns-clause-touches
-returns-clause-touches c = λ pairings kept.
-    let s : SettingsValue = record { forms = forms_in c.settings.inside.forms; windows = c.settings.inside.windows; versions = c.settings.inside.routes.versions; clock = c.settings.inside.clock } in
-    routes-bound c.args.present.now s (c.settings.view_is ∙ ap (λ (p : PresentValue). p.settings) c.present.view_is) c.args.index.now c.follow.new.index pairings kept
-    c.args.prefix.now c.follow.result c.follow.ensures.touches
+returns-clause-touches c =
+    c.follow.ensures.touches c.args.present.now c.requires.indexed

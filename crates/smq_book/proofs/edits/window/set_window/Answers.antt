@@ -6,11 +6,11 @@ use Rattle.smq_kit.specs.declared.names.LinkId.{LinkId}
 use Rattle.smq_kit.specs.Maps.{set_at}
 use Rattle.smq_book.specs.index.Held.{IsHeld, held_now, traffic_held}
 use Rattle.smq_book.specs.present.Present.{PresentValue}
-use Rattle.smq_book.specs.present.Settings.{SettingsValue, window_in, with_windows}
+use Rattle.smq_book.specs.present.Settings.{SettingsValue, window_in}
 use Rattle.smq_book.specs.within.InOrder.{forms_in, sessions_in}
 use Rattle.smq_book.proofs.lemmas.edits.WindowEdits.{inserted-others, window-outside}
 use Rattle.smq_book.proofs.lemmas.index.Bounds.{window-bound}
-use Rattle.smq_book.proofs.lemmas.index.KeptPairs.{kept-settings}
+use Rattle.smq_book.proofs.lemmas.index.KeptPairs.{settled-again, undone}
 use Rattle.smq_book.proofs.lemmas.present.NumberMaps.{set-back, set-there}
 use Rattle.smq_book.proofs.edits.window.set_window.Goals as goal
 
@@ -31,41 +31,24 @@ returns-in_default-clause-reply c =
       ap p (ap s back ∙ c.settings.view_is) ∙ c.present.view_is,
     )
 
-pub returns-in_default-clause-held : goal.returns-in_default-clause-held
-returns-in_default-clause-held c =
-    let w = c.settings.inside.windows in
-    let s : FinMap nat_cmp ℕ → SettingsValue = λ m. record { forms = forms_in c.settings.inside.forms; windows = m; versions = c.settings.inside.routes.versions; clock = c.settings.inside.clock } in
-    let back : c.restore.new.self ≡ w = c.restore.ensures
-    ∙ (λ i. set_at (c.in_ok-before.ensures.reply i) c.args.link.0 (c.in_ok-before.ensures.before i)) ∙ set-back w c.args.link.0 c.args.window in
-    subst (λ (z : SettingsValue). IsHeld z (held_now c.undo.new.self))
-    (sym (ap s back ∙ c.settings.view_is ∙ ap (λ (p : PresentValue). p.settings) c.present.view_is))
-    (subst (IsHeld c.args.present.now.settings) (sym (c.undo.ensures.held ∙ c.set_window.ensures.settled ∙ c.requires.settled)) c.requires.held)
+pub returns-in_default-clause-indexed : goal.returns-in_default-clause-indexed
+returns-in_default-clause-indexed c =
+    undone (returns-in_default-clause-reply c).1 (c.undo.ensures.held ∙ c.set_window.ensures.settled)
+    (c.undo.ensures.settled ∙ c.set_window.ensures.settled) c.undo.ensures.pending c.requires.indexed
 
-pub returns-in_default-clause-kept : goal.returns-in_default-clause-kept
-returns-in_default-clause-kept c = λ pairings kept.
-    kept-settings c.args.present.now _ c.args.index.now c.undo.new.self pairings (sym (ap (λ (p : PresentValue). p.sessions) c.present.view_is))
-    (returns-in_default-clause-held c) (ap traffic_held (c.undo.ensures.held ∙ c.set_window.ensures.settled ∙ c.requires.settled))
-    (c.undo.ensures.settled ∙ sym c.undo.ensures.held) c.undo.ensures.pending kept
-
-pub returns-clause-held : goal.returns-clause-held
-returns-clause-held c =
+pub returns-clause-indexed : goal.returns-clause-indexed
+returns-clause-indexed c =
     let s : SettingsValue = record { forms = forms_in c.settings.inside.forms; windows = c.settings.inside.windows; versions = c.settings.inside.routes.versions; clock = c.settings.inside.clock } in
     let s_is : s ≡ c.args.present.now.settings = c.settings.view_is ∙ ap (λ (p : PresentValue). p.settings) c.present.view_is in
-    let was : IsHeld s (held_now c.args.index.now) = subst (λ (z : SettingsValue). IsHeld z (held_now c.args.index.now)) (sym s_is) c.requires.held in
+    let was : IsHeld s (held_now c.args.index.now) = subst (λ (z : SettingsValue). IsHeld z (held_now c.args.index.now)) (sym s_is) c.requires.indexed.held in
     let same : (l : LinkId) → l ≢ c.args.link → window_in c.set.new.self l ≡ window_in s.windows l =
     (λ l apart. ap (λ (m : FinMap nat_cmp ℕ). window_in m l) c.in_ok-before.ensures.reply ∙ inserted-others s c.args.link c.args.window l apart) in
     let outside = window-outside s c.set.new.self c.args.link (traffic_held (held_now c.args.index.now)) same in
-    subst (IsHeld (with_windows s c.set.new.self)) (sym c.settle.ensures.held)
-    (c.in-Ok.ensures.held s refl refl was (sym c.of-waited.ensures) (λ l apart. sym (same l apart)) outside)
-
-pub returns-clause-kept : goal.returns-clause-kept
-returns-clause-kept c = λ pairings kept.
-    kept-settings c.args.present.now _ c.args.index.now c.settle.new.self pairings (sym (ap (λ (p : PresentValue). p.sessions) c.present.view_is))
-    (returns-clause-held c) (ap traffic_held c.settle.ensures.held ∙ c.in-Ok.ensures.traffic c.args.present.now.settings c.requires.held)
-    (c.settle.ensures.settled ∙ sym c.settle.ensures.held) c.settle.ensures.pending kept
+    let after = c.in-Ok.ensures.held s refl refl was (sym c.of-waited.ensures) (λ l apart. sym (same l apart)) outside in
+    settled-again c.set_window.new.index (sym (ap (λ (p : PresentValue). p.sessions) c.present.view_is)) after.held after.traffic
+    c.settle.ensures.held c.settle.ensures.settled c.settle.ensures.pending c.requires.indexed
 
 pub returns-clause-touches : goal.returns-clause-touches
-returns-clause-touches c = λ pairings kept.
-    let s : SettingsValue = record { forms = forms_in c.settings.inside.forms; windows = c.settings.inside.windows; versions = c.settings.inside.routes.versions; clock = c.settings.inside.clock } in
-    window-bound c.args.present.now s (c.settings.view_is ∙ ap (λ (p : PresentValue). p.settings) c.present.view_is) c.args.index.now c.settle.new.self pairings kept
+returns-clause-touches c =
+    window-bound c.args.present.now c.args.index.now c.settle.new.self c.requires.indexed
     c.args.link c.args.window (Ok tt) (λ pending. let cost = c.in-Ok.ensures.touches pending in omega (arith, cost, c.settle.ensures.touches))

@@ -1,13 +1,11 @@
-use Rattle.std.proofs.Common.{◌≡◌, List, ◌++◌, sym, ap, subst, ◌∙◌, arith}
+use Rattle.std.proofs.Common.{◌≡◌, List, ◌++◌, sym, subst, ◌∙◌, arith}
 use Rattle.std.specs.List.{sum_by}
-use Rattle.smq_kit.specs.declared.names.SessionId.{SessionId}
 use Rattle.smq_book.specs.declared.present.kept.KeptPdu.{KeptPdu}
 use Rattle.smq_book.specs.present.Batch.{batch_pdus}
 use Rattle.smq_book.specs.present.Kept.{kept_pdus}
 use Rattle.smq_book.specs.present.Present.{direction}
-use Rattle.smq_book.specs.index.Pairs.{pairs_now}
 use Rattle.smq_book.specs.index.Pushed.{origin_at, pairing_with}
-use Rattle.smq_book.specs.index.Touches.{pairs_cost, pdu_load}
+use Rattle.smq_book.specs.index.Touches.{pdu_load}
 use Rattle.smq_book.specs.within.Pairs.{Rises, SubmitsAreRequests, from_session}
 use Rattle.smq_book.proofs.lemmas.index.Appending.{batch-asks, batch-pairs, batch-rises}
 use Rattle.smq_book.proofs.index.append.append_to.Goals as goal
@@ -32,8 +30,7 @@ pub returns-clause-pairs : goal.returns-clause-pairs
 returns-clause-pairs c =
     let s = c.args.session.now in
     let b = c.args.batch.now in
-    ap (λ (n : SessionId). pairs_now c.push_all.new.pairings n.0) (sym c.session-number.ensures)
-    ∙ c.in_ok-push_all.ensures.pairs
+    c.in_ok-push_all.ensures.pairs
     ∙ (λ i. pairing_with (origin_at (c.session-number.ensures i) s.link) (c.dir-dir.ensures i) (kept_pdus s.client) (kept_pdus s.centre)
     (c.pdus.ensures i))
     ∙ batch-pairs s b c.requires.in_step
@@ -41,12 +38,10 @@ returns-clause-pairs c =
 pub returns-clause-touches : goal.returns-clause-touches
 returns-clause-touches c = λ full.
     let all = c.in_ok-push_all.ensures.touches full in
-    let were = ap (λ (n : SessionId). pairs_cost c.args.pairings.now n.0) c.session-number.ensures in
-    let are = ap (λ (n : SessionId). pairs_cost c.push_all.new.pairings n.0) c.session-number.ensures in
     let g = c.note_broken.new.index.standings.members in
     let b = c.args.batch.now in
-    let sums : sum_by (pdu_load c.push_all.new.index.standings.members (pairs_now c.push_all.new.pairings c.session-number.result.0)
+    let sums : sum_by (pdu_load c.push_all.new.index.standings.members c.push_all.new.pairing.pdus
     (from_session c.session-number.result) c.dir-dir.result) c.pdus.result.now
-    ≡ sum_by (pdu_load g (pairs_now c.push_all.new.pairings b.session.0) (from_session b.session) b.dir) (batch_pdus b) = (λ i. sum_by (pdu_load (sym c.note_broken.ensures.standings i).members (pairs_now c.push_all.new.pairings (c.session-number.ensures i).0)
+    ≡ sum_by (pdu_load g c.push_all.new.pairing.pdus (from_session b.session) b.dir) (batch_pdus b) = (λ i. sum_by (pdu_load (sym c.note_broken.ensures.standings i).members c.push_all.new.pairing.pdus
     (from_session (c.session-number.ensures i)) (c.dir-dir.ensures i)) (c.pdus.ensures i)) in
-    omega (arith, all, were, are, sums, c.note_broken.ensures.touches)
+    omega (arith, all, sums, c.note_broken.ensures.touches)

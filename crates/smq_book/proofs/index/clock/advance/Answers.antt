@@ -20,9 +20,6 @@ returns-clause-held c = λ s routes windows from forward is.
     (restates s t s.versions s.windows c.args.clock)
     ((λ i. record g { ends = ends_in (c.ending_places.ensures.walked.content i) }) ∙ is.held))
 
-pub returns-clause-traffic : goal.returns-clause-traffic
-returns-clause-traffic c = λ s is. c.in_ok-refresh_at.ensures.traffic
-
 -- where no message's window ends, no place is told
 pub returns-in_err-places-clause-none : goal.returns-in_err-places-clause-none
 returns-in_err-places-clause-none c = λ s windows from is none.

@@ -1,45 +1,77 @@
-use Rattle.std.proofs.Common.{sym, subst, arith}
+use Rattle.std.proofs.Common.{◌≡◌, ◌≤◌, ◌∷◌, List, length, sym, ap, subst, ◌∙◌, rules, arith}
+use Rattle.std.specs.List.{AllByRecursion, sum_by}
 use Rattle.std.specs.Prelude.{map}
-use Rattle.std.proofs.lemmas.List.Sums.{sum_by-le-sum_by}
+use Rattle.std.specs.Vec.Iter.{into_iter_items}
+use Rattle.std.proofs.lemmas.List.{nil_from_length}
+use Rattle.std.proofs.lemmas.List.Sums.{sum_by-cons}
+use Rattle.smq_kit.specs.declared.link_key.LinkKey.{LinkKey}
+use Rattle.smq_kit.specs.declared.place.Place.{Place}
+use Rattle.smq_book.specs.declared.index.stored.Said.{Said}
+use Rattle.smq_book.specs.edits.Reach.{members}
 use Rattle.smq_book.specs.index.Coming.{AreNew}
-use Rattle.smq_book.specs.index.Held.{traffic_held}
-use Rattle.smq_book.specs.index.Touches.{received_load}
-use Rattle.smq_book.specs.join.Keyed.{receipt_key}
-use Rattle.smq_book.specs.join.Moves.{PutMessage, PutReceipt}
+use Rattle.smq_book.specs.index.Held.{KeepsTraffic, held_now, traffic_held}
+use Rattle.smq_book.specs.index.LinkOut.{put_of}
+use Rattle.smq_book.specs.index.Touches.{put_load, said_key}
+use Rattle.smq_book.specs.join.Moves.{moved_by}
 use Rattle.smq_book.specs.pairing.Traffic.{TrafficValue}
 use Rattle.smq_book.proofs.lemmas.index.Comes.{both-come}
-use Rattle.smq_book.proofs.lemmas.index.FormCosts.{new-back, new-front}
-use Rattle.smq_book.specs.index.Held.{held_now}
-use Rattle.smq_book.proofs.lemmas.index.Pushed.{after-both}
+use Rattle.smq_book.proofs.lemmas.index.FormCosts.{walks-more}
+use Rattle.smq_book.proofs.lemmas.index.LinkOut.{moves-more}
+use Rattle.smq_book.proofs.lemmas.index.Rises.{both-rise}
 use Rattle.smq_book.proofs.index.forms.put_link.Goals as goal
+
+pub put-requires-clause-stands : goal.put-requires-clause-stands
+put-requires-clause-stands c =
+    let stand = subst (AllByRecursion (λ (e : Place × Said). KeepsTraffic (put_of e))) c.in-Some.ensures.steps.0 c.loop-place.invariant.stand in stand.0
+
+pub put-requires-clause-new : goal.put-requires-clause-new
+put-requires-clause-new c =
+    let new = subst (λ (es : List (Place × Said)). AreNew (traffic_held (held_now c.loop-place.index)) (map put_of es)) c.in-Some.ensures.steps.0
+    c.loop-place.invariant.new in new.0
+
+pub loop-place-preserved : goal.loop-place-preserved
+loop-place-preserved c =
+    let t = traffic_held (held_now c.loop-place.index) in
+    let u = traffic_held (held_now c.put.new.self) in
+    let g = c.args.index.now.standings in
+    let here = c.loop-place.index.standings in
+    let e : Place × Said = (c.in-Some.place, c.in-Some.said) in
+    let rest = into_iter_items c.next.new.self in
+    let after = c.in_ok-put.ensures.held in
+    let come = c.in_ok-put.ensures.came in
+    let next : into_iter_items c.loop-place.place-iterator ≡ e ∷ rest = c.in-Some.ensures.steps.0 in
+    let stand = subst (AllByRecursion (λ (e : Place × Said). KeepsTraffic (put_of e))) next c.loop-place.invariant.stand in
+    let new = subst (λ (es : List (Place × Said)). AreNew t (map put_of es)) next c.loop-place.invariant.new in
+    record {
+      held = after.held;
+      traffic = moves-more t u (put_of e) (map put_of (into_iter_items c.loop-place.place-iterator)) (map put_of rest)
+          (moved_by (traffic_held (held_now c.args.index.now)) (map put_of c.args.taken.items)) after.traffic (ap (map put_of) next)
+          c.loop-place.invariant.traffic;
+      stand = stand.1;
+      new = subst (λ (w : TrafficValue). AreNew w (map put_of rest)) (sym after.traffic) new.1;
+      settled = c.put.ensures.settled ∙ c.loop-place.invariant.settled;
+      came = both-come g here c.put.new.self.standings c.loop-place.invariant.came come;
+      touches = λ n fewer.
+          let less : (k : LinkKey) → members here.members k ≤ members n k = λ k. (let a = come.more k in let b = fewer k in omega (arith, a, b)) in
+          let before = c.loop-place.invariant.touches n less in
+          let f = put_load g n c.args.settings.now in
+          let sums = ap (sum_by f) next ∙ sum_by-cons f e rest in
+          let walked = walks-more g here c.loop-place.invariant.came n less (said_key c.args.settings.now c.in-Some.said) in
+          omega (arith, before, sums, walked, c.in_ok-put.ensures.touches);
+      rises = both-rise c.args.index.now c.loop-place.index c.put.new.self c.loop-place.invariant.rises c.in_ok-put.ensures.rises;
+    }
 
 pub returns-clause-held : goal.returns-clause-held
 returns-clause-held c =
-    after-both c.args.settings.now (held_now c.args.index.now) (held_now c.put_messages.new.index) (held_now c.put_receipts.new.index)
-    c.in_ok-put_messages.ensures.held c.in_ok-put_receipts.ensures.held
-
-pub returns-clause-came : goal.returns-clause-came
-returns-clause-came c = λ fresh.
-    let t = traffic_held (held_now c.args.index.now) in
-    let puts = map PutMessage c.args.taken.messages.items in
-    let receives = map PutReceipt c.args.taken.receipts.items in
-    let later = subst (λ (u : TrafficValue). AreNew u receives) (sym c.in_ok-put_messages.ensures.held.traffic) (new-back t puts receives fresh) in
-    both-come c.args.index.now.standings c.put_messages.new.index.standings c.put_receipts.new.index.standings
-    (c.in_ok-put_messages.ensures.came (new-front t puts receives fresh)) (c.in_ok-put_receipts.ensures.came later)
+    let none : length (into_iter_items c.loop-place.place-iterator) ≡ 0 = search rules in
+    record {
+      held = c.loop-place.invariant.held;
+      traffic = ap (λ (es : List (Place × Said)). moved_by (traffic_held (held_now c.loop-place.index)) (map put_of es))
+          (sym (nil_from_length (into_iter_items c.loop-place.place-iterator) none))
+          ∙ c.loop-place.invariant.traffic;
+    }
 
 pub returns-clause-touches : goal.returns-clause-touches
-returns-clause-touches c = λ fresh.
-    let t = traffic_held (held_now c.args.index.now) in
-    let s = c.args.settings.now in
-    let puts = map PutMessage c.args.taken.messages.items in
-    let receives = map PutReceipt c.args.taken.receipts.items in
-    let later = subst (λ (u : TrafficValue). AreNew u receives) (sym c.in_ok-put_messages.ensures.held.traffic) (new-back t puts receives fresh) in
-    let n = c.put_receipts.new.index.standings.members in
-    let g = c.args.index.now.standings in
-    let h = c.put_messages.new.index.standings in
-    let came = c.in_ok-put_messages.ensures.came (new-front t puts receives fresh) in
-    let messages = c.in_ok-put_messages.ensures.touches n (new-front t puts receives fresh) (c.in_ok-put_receipts.ensures.came later).more in
-    let receipts = c.in_ok-put_receipts.ensures.touches n later (λ k. omega arith) in
-    let less = sum_by-le-sum_by (received_load h n s) (received_load g n s) c.args.taken.receipts.items (λ e.
-    (let a = came.vacant (receipt_key s e.1) in omega (arith, a))) in
-    omega (arith, messages, receipts, less)
+returns-clause-touches c =
+    let all = c.loop-place.invariant.touches c.loop-place.index.standings.members (λ k. omega arith) in
+    omega (arith, all)

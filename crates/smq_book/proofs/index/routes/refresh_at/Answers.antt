@@ -21,10 +21,8 @@ loop-place-preserved c = record {
       (c.in_ok-refresh_by.ensures.held z t (refreshed z t facts (take i places)) traffic routes windows clock
       (restates-all z t facts may (take i places))
       (c.loop-place.invariant.held z t facts traffic routes windows clock may held));
-  traffic = c.in_ok-refresh_by.ensures.traffic ∙ c.loop-place.invariant.traffic;
   settled = c.refresh_by.ensures.settled ∙ c.loop-place.invariant.settled;
   touches = omega (arith, c.in_ok-refresh_by.ensures.touches, c.loop-place.invariant.touches);
-  counted = omega (arith, c.refresh_by.ensures.counted, c.loop-place.invariant.counted);
   rises = both-rise c.args.index.now c.loop-place.index c.refresh_by.new.self c.loop-place.invariant.rises
       c.in_ok-refresh_by.ensures.rises;
 }

@@ -17,6 +17,3 @@ returns-clause-held c = λ s windows clock is same.
     (c.in_ok-refresh_at.ensures.held (with_versions s versions) (traffic_held g) (facts_of s (traffic_held g)) is.traffic refl windows clock
     (restates s (traffic_held g) versions s.windows s.clock)
     (unmoved ∙ is.held))
-
-pub returns-clause-traffic : goal.returns-clause-traffic
-returns-clause-traffic c = λ s is. c.in_ok-refresh_at.ensures.traffic

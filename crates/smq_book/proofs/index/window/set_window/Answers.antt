@@ -32,9 +32,6 @@ returns-clause-held c = λ s routes clock is waited others same.
     ((λ i. record g { due = dues_in (c.due_on.ensures.walked.content i); ends = ends i })
     ∙ (λ i. record (is.held i) { ends = ends_by windows t.messages (facts_of s t) })))
 
-pub returns-clause-traffic : goal.returns-clause-traffic
-returns-clause-traffic c = λ s is. c.in_ok-refresh_at.ensures.traffic
-
 pub returns-clause-settled : goal.returns-clause-settled
 returns-clause-settled c =
     c.refresh_at.ensures.settled

@@ -3,7 +3,7 @@ use Rattle.std.specs.Prelude.{unwrap_or}
 use Rattle.std.specs.Cmp.{nat_cmp_total}
 use Rattle.std.specs.FinMap.{empty, get-insert}
 use Rattle.smq_kit.proofs.MapLemmas.{entries-from_entries}
-use Rattle.smq_kit.specs.declared.form.Form.TheVariants.{Decimal, Hexadecimal}
+use Rattle.smq_kit.specs.declared.message_id.Form.TheVariants.{Decimal, Hexadecimal}
 use Rattle.smq_kit.specs.declared.place.Dir.TheVariants.{FromClient, FromCentre}
 use Rattle.smq_frame.specs.Stream.{handed_in}
 use Rattle.smq_book.specs.declared.present.edit.Edit.TheVariants.{Withdraw}

@@ -3,7 +3,7 @@ use Rattle.std.specs.Prelude.{codes, ◌&&◌, map, filter, option_map, unwrap_o
 use Rattle.std.specs.Cmp.{nat_cmp_total}
 use Rattle.std.specs.FinMap.{empty, entries, insert, find, put, from_entries, get-entries, entries-insert, get-insert}
 use Rattle.smq_kit.proofs.MapLemmas.{entries-from_entries}
-use Rattle.smq_kit.specs.declared.form.Form.TheVariants.{Decimal, Hexadecimal}
+use Rattle.smq_kit.specs.declared.message_id.Form.TheVariants.{Decimal, Hexadecimal}
 use Rattle.smq_kit.specs.declared.place.Dir.TheVariants.{FromCentre}
 use Rattle.smq_kit.specs.declared.refusal.Refusal.{Refusal}
 use Rattle.smq_kit.specs.declared.refusal.Refusal.TheVariants as r

@@ -2,7 +2,7 @@ use Rattle.std.proofs.Common.{inl, inr, Option, refl, ap}
 use Rattle.std.specs.Prelude.{unwrap_or}
 use Rattle.std.specs.Cmp.{nat_cmp_total}
 use Rattle.std.specs.FinMap.{empty, get-insert}
-use Rattle.smq_kit.specs.declared.form.Form.TheVariants.{Decimal, Hexadecimal}
+use Rattle.smq_kit.specs.declared.message_id.Form.TheVariants.{Decimal, Hexadecimal}
 use Rattle.smq_book.specs.declared.present.forms.Forms.{Forms}
 use Rattle.smq_book.specs.present.Settings.{opening_forms}
 use Rattle.smq_book.proofs.laws.present.known_edits_fold.Goals as goal

@@ -4,7 +4,7 @@ use Rattle.std.specs.Cmp.{nat_cmp_total}
 use Rattle.std.specs.FinMap.{empty, insert, get-insert, get-empty}
 use Rattle.std.specs.Ordering.{nat_cmp}
 use Rattle.smq_kit.proofs.MapLemmas.{entries-from_entries}
-use Rattle.smq_kit.specs.declared.form.Form.TheVariants.{Decimal, Hexadecimal}
+use Rattle.smq_kit.specs.declared.message_id.Form.TheVariants.{Decimal, Hexadecimal}
 use Rattle.smq_kit.specs.declared.place.Dir.TheVariants.{FromClient, FromCentre}
 use Rattle.smq_frame.specs.Framing.{rest_of, rest_within}
 use Rattle.smq_frame.specs.Stream.{handed_in}

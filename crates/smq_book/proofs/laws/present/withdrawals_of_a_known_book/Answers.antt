@@ -3,7 +3,7 @@ use Rattle.std.specs.Prelude.{unwrap_or, option_map}
 use Rattle.std.specs.Cmp.{nat_cmp_total}
 use Rattle.std.specs.FinMap.{empty, get-insert, get-empty}
 use Rattle.std.specs.Ordering.{nat_cmp}
-use Rattle.smq_kit.specs.declared.form.Form.TheVariants.{Decimal, Hexadecimal}
+use Rattle.smq_kit.specs.declared.message_id.Form.TheVariants.{Decimal, Hexadecimal}
 use Rattle.smq_kit.specs.declared.names.LinkId.{LinkId}
 use Rattle.smq_kit.specs.declared.place.Dir.{Dir}
 use Rattle.smq_kit.specs.declared.place.Dir.TheVariants.{FromClient, FromCentre}

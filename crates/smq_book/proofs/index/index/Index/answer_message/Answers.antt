@@ -1,39 +1,33 @@
 use Rattle.std.proofs.Common.{◌≡◌, ◌≤◌, List, [], Some, None, length, subst, refl, ap, sym, ◌∙◌, rules, arith}
 use Rattle.std.specs.FinMap.{get}
-use Rattle.smq_shelf.specs.Keeping.{KeepingMap}
-use Rattle.smq_kit.specs.declared.place.Place.{Place}
 use Rattle.smq_group.specs.declared.change.Change.{Change}
 use Rattle.smq_group.specs.Changes.{TellsChanges}
 use Rattle.smq_group.specs.Groups.{GroupsValue, vacancies}
 use Rattle.smq_group.specs.Matching.{Grouping}
-use Rattle.smq_route.specs.Numbers.{NumbersValue}
-use Rattle.smq_book.specs.index.Held.{Holding, stored_traffic}
+use Rattle.smq_book.specs.index.Held.{Holding}
 use Rattle.smq_book.specs.index.Pushed.{without_response}
 use Rattle.smq_book.specs.join.Keyed.{accepted_key, grouping_of}
 use Rattle.smq_book.specs.join.Moves.{PutMessage, put_message}
-use Rattle.smq_book.specs.pairing.Traffic.{Message, ReceivedReceipt}
-use Rattle.smq_book.proofs.lemmas.index.Followed.{due-stays, ends-stay, facts-alone, facts-told, holds, may-follow, notes-alone, numbers-stay}
-use Rattle.smq_book.proofs.lemmas.index.Followed.{notes-told, put-there, stored-accepted, stored-held, stored-unmoved}
-use Rattle.smq_book.proofs.lemmas.index.Members.{kept-traffic, members-unmoved, receipt-absent, submit-there}
+use Rattle.smq_book.proofs.lemmas.index.AreDue.{due-answered, due-held}
+use Rattle.smq_book.proofs.lemmas.index.Followed.{facts-alone, holds-said, holds-told, may-follow, notes-alone, numbers-stay}
+use Rattle.smq_book.proofs.lemmas.index.Followed.{put-there, stored-accepted, stored-held, stored-unmoved}
+use Rattle.smq_book.proofs.lemmas.index.Members.{kept-traffic, members-unmoved, submit-there}
 use Rattle.smq_book.proofs.lemmas.index.Moves.{came-submit}
 use Rattle.smq_book.proofs.lemmas.join.MoveLemmas.{put_message-moves}
 use Rattle.smq_book.proofs.lemmas.index.Costs.{tells-none}
 use Rattle.smq_book.specs.index.Touches.{vacancies_at}
 use Rattle.smq_book.specs.edits.Reached.{IsMoveOf}
 use Rattle.smq_book.specs.index.Touches.{load_of}
+use Rattle.smq_book.proofs.lemmas.index.StandingIn.{no-receipt-in, submit-in}
 use Rattle.smq_book.proofs.lemmas.index.Weights.{few-changes, submit-put}
 use Rattle.smq_book.proofs.lemmas.index.Followed.{nobody, one-route, told}
 use Rattle.smq_book.proofs.lemmas.index.Stored.{stands-none}
 use Rattle.smq_book.proofs.index.index.Index.answer_message.Goals as goal
 
 pub add_submit-requires : goal.add_submit-requires
-add_submit-requires c =
-    let i = c.args.self.now in
-    record {
-      absent = ap (λ (g : Grouping). get g.submits c.args.place) c.requires.are.grouped
-          ∙ submit-there c.args.settings.now c.args.place (stored_traffic i.messages.content i.receipts.content)
-          (without_response c.args.answered) c.requires.unanswered;
-    }
+add_submit-requires c = record {
+  absent = submit-in c.requires.are c.args.place (without_response c.args.answered) c.requires.unanswered;
+}
 
 pub returns-in_default-clause-held : goal.returns-in_default-clause-held
 returns-in_default-clause-held c = λ t traffic held.
@@ -52,24 +46,17 @@ returns-in_default-clause-held c = λ t traffic held.
     let stores = stored-unmoved stored q m refused none free c.in_ok-set.ensures.content in
     let move = put_message-moves q m t free in
     let alike = sym (members-unmoved s q t m refused none) in
-    let now = stands-none i.standings.members q
-    (ap (λ (x : Grouping). get x.submits q) c.requires.are.grouped
-    ∙ submit-there s q (stored_traffic i.messages.content i.receipts.content) old c.requires.unanswered)
-    (ap (λ (x : Grouping). get x.receipts q) c.requires.are.grouped
-    ∙ receipt-absent s q (stored_traffic i.messages.content i.receipts.content) (c.requires.are.apart q old c.requires.unanswered)) in
+    let now = stands-none i.standings.members q (submit-in c.requires.are q old c.requires.unanswered)
+    (no-receipt-in c.requires.are q (c.requires.are.apart q old c.requires.unanswered)) in
     let may = may-follow s t u i held stores traffic q move refl None (λ p e. nobody p e)
     (λ x y was is. one-route s.versions (get t.messages q) x old was is_before
     ∙ one-route s.versions (get u.messages q) m y (put-there t.messages q m) is) (kept-traffic t traffic (PutMessage (q, m)) (traffic.messages q old is_before)) in
-    holds s t u i held stores traffic q move refl c.refresh.new.self
-    (ap (λ (k : KeepingMap Place Message). k.content) c.refresh.ensures.messages)
-    (ap (λ (k : KeepingMap Place ReceivedReceipt). k.content) c.refresh.ensures.receipts)
-    (ap (λ (v : GroupsValue). v.members) c.refresh.ensures.standings)
-    (c.in_ok-refresh.ensures.facts now may ∙ facts-alone s t u i held stores traffic q move refl alike)
-    (c.in_ok-refresh.ensures.notes now may
-    ∙ notes-alone s t u i held stores traffic q move refl alike)
-    (c.in_ok-refresh.ensures.due (due-stays s t i held q old m is_before refl refl stores.messages))
-    (c.in_ok-refresh.ensures.ends (ends-stay s t i held q old m is_before refl refl stores.messages))
-    (ap (λ (n : NumbersValue). n.numbers) c.refresh.ensures.numbers ∙ numbers-stay s t i held q old m is_before refl)
+    let set = c.in_ok-refresh.ensures.anew now may in
+    holds-said s t u i held stores traffic q move refl c.refresh.new.self c.refresh.ensures.said refl refl refl c.refresh.new.self.tally
+    (set.facts ∙ facts-alone s t u i held stores traffic q move refl alike)
+    (set.notes ∙ notes-alone s t u i held stores traffic q move refl alike)
+    (c.in_ok-refresh.ensures.due (due-answered (due-held s t i held) q old m is_before refl refl stores.messages))
+    (numbers-stay s t i held q old m is_before refl)
 
 pub returns-clause-held : goal.returns-clause-held
 returns-clause-held c = λ t traffic held.
@@ -91,30 +78,23 @@ returns-clause-held c = λ t traffic held.
     let cs = c.as_slice.result.now in
     let tells : TellsChanges g h cs =
     subst (λ (l : List Change). TellsChanges g h l) (sym c.as_slice.ensures.value) c.in_ok-changes.ensures.changes in
-    let absent = ap (λ (x : Grouping). get x.submits q) c.requires.are.grouped
-    ∙ submit-there s q (stored_traffic i.messages.content i.receipts.content) old c.requires.unanswered in
+    let absent = submit-in c.requires.are q old c.requires.unanswered in
     let there = came-submit g h cs tells q key absent
     (ap (λ (x : Grouping). get x.submits q) c.in_ok-changes.ensures.ok ∙ put-there g.submits q key) in
     let now = told s t u i held stores traffic q move refl cs tells in
     let may = may-follow s t u i held stores traffic q move refl None (λ p e. nobody p e)
     (λ x y was is. one-route s.versions (get t.messages q) x old was is_before
     ∙ one-route s.versions (get u.messages q) m y (put-there t.messages q m) is) (kept-traffic t traffic (PutMessage (q, m)) (traffic.messages q old is_before)) in
-    holds s t u i held stores traffic q move refl c.follow.new.self
-    (ap (λ (k : KeepingMap Place Message). k.content) c.follow.ensures.messages)
-    (ap (λ (k : KeepingMap Place ReceivedReceipt). k.content) c.follow.ensures.receipts)
-    (ap (λ (v : GroupsValue). v.members) c.follow.ensures.standings)
-    (c.in_ok-follow.ensures.facts now may ∙ facts-told s t u i held stores traffic q move refl cs tells there)
-    (c.in_ok-follow.ensures.notes now may
-    ∙ notes-told s t u i held stores traffic q move refl cs tells there)
-    (c.in_ok-follow.ensures.due (due-stays s t i held q old m is_before refl refl stores.messages))
-    (c.in_ok-follow.ensures.ends (ends-stay s t i held q old m is_before refl refl stores.messages))
-    (ap (λ (n : NumbersValue). n.numbers) c.follow.ensures.numbers ∙ numbers-stay s t i held q old m is_before refl)
+    holds-told s t u i held stores traffic q move refl cs tells c.follow.new.self c.follow.ensures.said refl refl refl
+    (c.in_ok-follow.ensures.anew now may) there
+    (c.in_ok-follow.ensures.due (due-answered (due-held s t i held) q old m is_before refl refl stores.messages))
+    (numbers-stay s t i held q old m is_before refl)
 
 pub returns-in_default-clause-touches : goal.returns-in_default-clause-touches
 returns-in_default-clause-touches c = record {
   changes = [];
   told = tells-none c.args.self.now.standings.members c.refresh.new.self.standings.members
-      (ap (λ (v : GroupsValue). v.members) c.refresh.ensures.standings);
+      (ap (λ (v : GroupsValue). v.members) c.refresh.ensures.said.standings);
   bound = omega (arith, c.in_ok-refresh.ensures.touches);
 }
 
@@ -126,13 +106,13 @@ returns-clause-touches c =
     record {
       changes = c.in_ok-changes.changes.items;
       told = subst (λ (x : Grouping). TellsChanges g.members x c.in_ok-changes.changes.items)
-          (sym (ap (λ (v : GroupsValue). v.members) c.follow.ensures.standings)) c.in_ok-changes.ensures.changes;
+          (sym (ap (λ (v : GroupsValue). v.members) c.follow.ensures.said.standings)) c.in_ok-changes.ensures.changes;
       bound = omega (arith, walked, as-many, c.in_ok-changes.ensures.touches, c.in_ok-changes.ensures.pending, c.in_ok-follow.ensures.touches);
     }
 
 pub returns-clause-vacant : goal.returns-clause-vacant
 returns-clause-vacant c = λ k.
-    subst (λ (v : GroupsValue). vacancies v k ≤ vacancies c.args.self.now.standings k) (sym c.follow.ensures.standings)
+    subst (λ (v : GroupsValue). vacancies v k ≤ vacancies c.args.self.now.standings k) (sym c.follow.ensures.said.standings)
     (c.in_ok-changes.ensures.vacant k)
 
 pub returns-in_default-clause-weighs : goal.returns-in_default-clause-weighs
@@ -147,9 +127,8 @@ returns-clause-weighs c =
     let g = i.standings.members in
     let h = c.add_submit.new.self.members in
     let key = c.in-Some.accepted in
-    let t = stored_traffic i.messages.content i.receipts.content in
-    let absent = ap (λ (x : Grouping). get x.submits q) c.requires.are.grouped ∙ submit-there s q t old c.requires.unanswered in
-    let free = ap (λ (x : Grouping). get x.receipts q) c.requires.are.grouped ∙ receipt-absent s q t (c.requires.are.apart q old c.requires.unanswered) in
+    let absent = submit-in c.requires.are q old c.requires.unanswered in
+    let free = no-receipt-in c.requires.are q (c.requires.are.apart q old c.requires.unanswered) in
     let move = subst (λ (x : Grouping). IsMoveOf key q g x) (sym c.in_ok-changes.ensures.ok) (submit-put g q key absent free) in
     let told = few-changes g h c.in_ok-changes.changes.items c.in_ok-changes.ensures.changes key q move in
     let loaded = ap (load_of i.standings) (sym c.key-key.ensures ∙ c.in-Some.is) in

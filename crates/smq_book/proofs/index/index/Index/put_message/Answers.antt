@@ -1,37 +1,31 @@
 use Rattle.std.proofs.Common.{◌≡◌, ◌≤◌, List, [], None, length, subst, refl, ap, sym, ◌∙◌, rules, arith}
 use Rattle.std.specs.FinMap.{get, insert}
-use Rattle.smq_shelf.specs.Keeping.{KeepingMap}
 use Rattle.smq_kit.specs.declared.place.Place.{Place}
 use Rattle.smq_group.specs.declared.change.Change.{Change}
 use Rattle.smq_group.specs.Changes.{TellsChanges}
 use Rattle.smq_group.specs.Groups.{GroupsValue, vacancies}
 use Rattle.smq_group.specs.Matching.{Grouping}
-use Rattle.smq_route.specs.Numbers.{NumbersValue}
-use Rattle.smq_book.specs.index.Held.{Holding, stored_traffic}
+use Rattle.smq_book.specs.index.Held.{Holding}
 use Rattle.smq_book.specs.join.Keyed.{accepted_key}
 use Rattle.smq_book.specs.join.Moves.{PutMessage, put_message}
-use Rattle.smq_book.specs.pairing.Traffic.{Message, ReceivedReceipt}
-use Rattle.smq_book.proofs.lemmas.index.Followed.{due-came, ends-came, facts-told, holds, holds-unaccepted, may-follow, numbers-came}
-use Rattle.smq_book.proofs.lemmas.index.Followed.{notes-told, put-there, stored-accepted, stored-held, stored-refused}
-use Rattle.smq_book.proofs.lemmas.index.Members.{kept-traffic, members-unput, receipt-absent, submit-absent}
+use Rattle.smq_book.proofs.lemmas.index.AreDue.{due-came, due-held}
+use Rattle.smq_book.proofs.lemmas.index.Followed.{holds-told, holds-unaccepted, may-follow, numbers-came, unknown-before}
+use Rattle.smq_book.proofs.lemmas.index.Followed.{put-there, stored-accepted, stored-held, stored-refused}
+use Rattle.smq_book.proofs.lemmas.index.Members.{kept-traffic, members-unput}
 use Rattle.smq_book.proofs.lemmas.index.Moves.{came-submit}
 use Rattle.smq_book.proofs.lemmas.join.MoveLemmas.{put_message-moves}
 use Rattle.smq_book.proofs.lemmas.index.Costs.{tells-none}
 use Rattle.smq_book.specs.index.Touches.{vacancies_at}
 use Rattle.smq_book.specs.edits.Reached.{IsMoveOf}
 use Rattle.smq_book.specs.index.Touches.{load_of}
+use Rattle.smq_book.proofs.lemmas.index.StandingIn.{no-receipt-in, no-submit-in}
 use Rattle.smq_book.proofs.lemmas.index.Weights.{few-changes, submit-put}
 use Rattle.smq_book.proofs.lemmas.index.Followed.{nobody, one-none, told}
 use Rattle.smq_book.specs.index.Due.{is_due_fact}
 use Rattle.smq_book.proofs.index.index.Index.put_message.Goals as goal
 
 pub add_submit-requires : goal.add_submit-requires
-add_submit-requires c =
-    let i = c.args.self.now in
-    record {
-      absent = ap (λ (g : Grouping). get g.submits c.args.place) c.requires.are.grouped
-          ∙ submit-absent c.args.settings.now c.args.place (stored_traffic i.messages.content i.receipts.content) c.requires.absent;
-    }
+add_submit-requires c = record { absent = no-submit-in c.requires.are c.args.place c.requires.absent }
 
 pub returns-in_default-clause-held : goal.returns-in_default-clause-held
 returns-in_default-clause-held c = λ t traffic held.
@@ -54,7 +48,7 @@ returns-in_default-clause-held c = λ t traffic held.
     (fact.ensures.value s u (sym c.routes.ensures) refused there)
     (fact.ensures.due s refused ∙ sym (ap is_due_fact c.requires.unknown)) refl refl refl
     (c.in_ok-add.ensures.ok ∙ ap (λ (p : Place). insert i.tally.facts p fact.result) fact.ensures.place) c.add.ensures.notes
-    (due-came s t i held q m none stores.messages) (ends-came s t i held q m none stores.messages) (numbers-came s t i held q m none numbered)
+    (due-came (due-held s t i held) q m none (unknown-before s t i held q none) stores.messages) (numbers-came s t i held q m none numbered)
 
 pub returns-clause-held : goal.returns-clause-held
 returns-clause-held c = λ t traffic held.
@@ -75,23 +69,16 @@ returns-clause-held c = λ t traffic held.
     let cs = c.as_slice.result.now in
     let tells : TellsChanges g h cs =
     subst (λ (l : List Change). TellsChanges g h l) (sym c.as_slice.ensures.value) c.in_ok-changes.ensures.changes in
-    let absent = ap (λ (x : Grouping). get x.submits q) c.requires.are.grouped
-    ∙ submit-absent s q (stored_traffic i.messages.content i.receipts.content) c.requires.absent in
+    let absent = no-submit-in c.requires.are q c.requires.absent in
     let there = came-submit g h cs tells q key absent
     (ap (λ (x : Grouping). get x.submits q) c.in_ok-changes.ensures.ok ∙ put-there g.submits q key) in
     let now = told s t u i held stores traffic q move refl cs tells in
     let may = may-follow s t u i held stores traffic q move refl None (λ p e. nobody p e)
     (λ x y was is. one-none (get t.messages q) x none was) (kept-traffic t traffic (PutMessage (q, m)) c.requires.dir) in
-    holds s t u i held stores traffic q move refl c.follow.new.self
-    (ap (λ (k : KeepingMap Place Message). k.content) c.follow.ensures.messages)
-    (ap (λ (k : KeepingMap Place ReceivedReceipt). k.content) c.follow.ensures.receipts)
-    (ap (λ (v : GroupsValue). v.members) c.follow.ensures.standings)
-    (c.in_ok-follow.ensures.facts now may ∙ facts-told s t u i held stores traffic q move refl cs tells there)
-    (c.in_ok-follow.ensures.notes now may
-    ∙ notes-told s t u i held stores traffic q move refl cs tells there)
-    (c.in_ok-follow.ensures.due (due-came s t i held q m none stores.messages))
-    (c.in_ok-follow.ensures.ends (ends-came s t i held q m none stores.messages))
-    (ap (λ (n : NumbersValue). n.numbers) c.follow.ensures.numbers ∙ numbers-came s t i held q m none numbered)
+    holds-told s t u i held stores traffic q move refl cs tells c.follow.new.self c.follow.ensures.said refl refl refl
+    (c.in_ok-follow.ensures.anew now may) there
+    (c.in_ok-follow.ensures.due (due-came (due-held s t i held) q m none (unknown-before s t i held q none) stores.messages))
+    (numbers-came s t i held q m none numbered)
 
 pub returns-in_default-clause-touches : goal.returns-in_default-clause-touches
 returns-in_default-clause-touches c = record {
@@ -110,13 +97,13 @@ returns-clause-touches c =
     record {
       changes = c.in_ok-changes.changes.items;
       told = subst (λ (x : Grouping). TellsChanges g.members x c.in_ok-changes.changes.items)
-          (sym (ap (λ (v : GroupsValue). v.members) c.follow.ensures.standings)) c.in_ok-changes.ensures.changes;
+          (sym (ap (λ (v : GroupsValue). v.members) c.follow.ensures.said.standings)) c.in_ok-changes.ensures.changes;
       bound = omega (arith, walked, as-many, c.put_number.ensures.touches, c.in_ok-changes.ensures.touches, c.in_ok-changes.ensures.pending, c.in_ok-follow.ensures.touches);
     }
 
 pub returns-clause-vacant : goal.returns-clause-vacant
 returns-clause-vacant c = λ k.
-    subst (λ (v : GroupsValue). vacancies v k ≤ vacancies c.args.self.now.standings k) (sym c.follow.ensures.standings)
+    subst (λ (v : GroupsValue). vacancies v k ≤ vacancies c.args.self.now.standings k) (sym c.follow.ensures.said.standings)
     (c.in_ok-changes.ensures.vacant k)
 
 pub returns-in_default-clause-weighs : goal.returns-in_default-clause-weighs
@@ -130,9 +117,8 @@ returns-clause-weighs c =
     let g = i.standings.members in
     let h = c.add_submit.new.self.members in
     let key = c.in-Some.key in
-    let t = stored_traffic i.messages.content i.receipts.content in
-    let absent = ap (λ (x : Grouping). get x.submits q) c.requires.are.grouped ∙ submit-absent s q t c.requires.absent in
-    let free = ap (λ (x : Grouping). get x.receipts q) c.requires.are.grouped ∙ receipt-absent s q t c.requires.apart in
+    let absent = no-submit-in c.requires.are q c.requires.absent in
+    let free = no-receipt-in c.requires.are q c.requires.apart in
     let move = subst (λ (x : Grouping). IsMoveOf key q g x) (sym c.in_ok-changes.ensures.ok) (submit-put g q key absent free) in
     let told = few-changes g h c.in_ok-changes.changes.items c.in_ok-changes.ensures.changes key q move in
     let loaded = ap (load_of i.standings) (sym c.key-key.ensures ∙ c.in-Some.is) in

@@ -1,36 +1,30 @@
 use Rattle.std.proofs.Common.{◌≡◌, ◌≤◌, List, None, length, subst, refl, ap, sym, ◌∙◌, arith, Some}
 use Rattle.std.specs.FinMap.{get}
-use Rattle.smq_shelf.specs.Keeping.{KeepingMap}
-use Rattle.smq_kit.specs.declared.place.Place.{Place}
 use Rattle.smq_group.specs.declared.change.Change.{Change}
 use Rattle.smq_group.specs.Changes.{TellsChanges}
 use Rattle.smq_group.specs.Groups.{GroupsValue, with_receipt, vacancies}
 use Rattle.smq_group.specs.Matching.{Grouping}
-use Rattle.smq_route.specs.Numbers.{NumbersValue}
-use Rattle.smq_book.specs.index.Held.{Holding, stored_traffic}
+use Rattle.smq_book.specs.index.Held.{Holding}
 use Rattle.smq_book.specs.join.Keyed.{keyed_receipt}
 use Rattle.smq_book.specs.join.Moves.{PutReceipt, put_receipt}
-use Rattle.smq_book.specs.pairing.Traffic.{Message, ReceivedReceipt}
-use Rattle.smq_book.proofs.lemmas.index.Followed.{due-kept, ends-kept, facts-told, holds, may-follow, notes-told, put-there}
+use Rattle.smq_book.specs.pairing.Traffic.{ReceivedReceipt}
+use Rattle.smq_book.proofs.lemmas.index.AreDue.{due-held, due-same}
+use Rattle.smq_book.proofs.lemmas.index.Followed.{holds-told, may-follow, put-there}
 use Rattle.smq_book.proofs.lemmas.index.Followed.{stored-held, stored-received}
-use Rattle.smq_book.proofs.lemmas.index.Members.{kept-traffic, receipt-absent, submit-absent}
+use Rattle.smq_book.proofs.lemmas.index.Members.{kept-traffic}
 use Rattle.smq_book.proofs.lemmas.index.Moves.{came-receipt}
 use Rattle.smq_book.proofs.lemmas.join.MoveLemmas.{put_receipt-moves}
 use Rattle.smq_kit.specs.declared.link_key.LinkKey.{LinkKey}
 use Rattle.smq_group.specs.Matching.{GroupedReceipt}
 use Rattle.smq_book.specs.edits.Reached.{IsMoveOf}
 use Rattle.smq_book.specs.index.Touches.{load_of}
+use Rattle.smq_book.proofs.lemmas.index.StandingIn.{no-receipt-in, no-submit-in}
 use Rattle.smq_book.proofs.lemmas.index.Weights.{few-changes, receipt-put}
 use Rattle.smq_book.proofs.lemmas.index.Followed.{one-route, only, told}
 use Rattle.smq_book.proofs.index.index.Index.put_receipt.Goals as goal
 
 pub add_receipt-requires : goal.add_receipt-requires
-add_receipt-requires c =
-    let i = c.args.self.now in
-    record {
-      absent = ap (λ (g : Grouping). get g.receipts c.args.place) c.requires.are.grouped
-          ∙ receipt-absent c.args.settings.now c.args.place (stored_traffic i.messages.content i.receipts.content) c.requires.absent;
-    }
+add_receipt-requires c = record { absent = no-receipt-in c.requires.are c.args.place c.requires.absent }
 
 pub returns-clause-held : goal.returns-clause-held
 returns-clause-held c = λ t traffic held.
@@ -54,23 +48,15 @@ returns-clause-held c = λ t traffic held.
     let cs = c.as_slice.result.now in
     let tells : TellsChanges g h cs =
     subst (λ (l : List Change). TellsChanges g h l) (sym c.as_slice.ensures.value) c.in_ok-changes.ensures.changes in
-    let absent = ap (λ (x : Grouping). get x.receipts q) c.requires.are.grouped
-    ∙ receipt-absent s q (stored_traffic i.messages.content i.receipts.content) c.requires.absent in
+    let absent = no-receipt-in c.requires.are q c.requires.absent in
     let there = came-receipt g h cs tells q (keyed_receipt s r) absent
     (ap (λ (x : Grouping). get x.receipts q) came ∙ put-there g.receipts q (keyed_receipt s r)) in
     let now = told s t u i held stores traffic q move refl cs tells in
     let may = may-follow s t u i held stores traffic q move refl (Some q) (λ p e. ap (get t.receipts) (only q p e) ∙ none)
     (λ x y was is. one-route s.versions (get t.messages q) x y was is) (kept-traffic t traffic (PutReceipt (q, r)) c.requires.dir) in
-    holds s t u i held stores traffic q move refl c.follow.new.self
-    (ap (λ (k : KeepingMap Place Message). k.content) c.follow.ensures.messages)
-    (ap (λ (k : KeepingMap Place ReceivedReceipt). k.content) c.follow.ensures.receipts)
-    (ap (λ (v : GroupsValue). v.members) c.follow.ensures.standings)
-    (c.in_ok-follow.ensures.facts now may ∙ facts-told s t u i held stores traffic q move refl cs tells there)
-    (c.in_ok-follow.ensures.notes now may
-    ∙ notes-told s t u i held stores traffic q move refl cs tells there)
-    (c.in_ok-follow.ensures.due (due-kept s t i held stores.messages))
-    (c.in_ok-follow.ensures.ends (ends-kept s t i held stores.messages))
-    (ap (λ (n : NumbersValue). n.numbers) c.follow.ensures.numbers ∙ ap (λ (h : Holding). h.numbers) held)
+    holds-told s t u i held stores traffic q move refl cs tells c.follow.new.self c.follow.ensures.said refl refl refl
+    (c.in_ok-follow.ensures.anew now may) there (c.in_ok-follow.ensures.due (due-same (due-held s t i held) stores.messages))
+    (ap (λ (h : Holding). h.numbers) held)
 
 pub returns-clause-touches : goal.returns-clause-touches
 returns-clause-touches c =
@@ -80,13 +66,13 @@ returns-clause-touches c =
     record {
       changes = c.in_ok-changes.changes.items;
       told = subst (λ (x : Grouping). TellsChanges g.members x c.in_ok-changes.changes.items)
-          (sym (ap (λ (v : GroupsValue). v.members) c.follow.ensures.standings)) c.in_ok-changes.ensures.changes;
+          (sym (ap (λ (v : GroupsValue). v.members) c.follow.ensures.said.standings)) c.in_ok-changes.ensures.changes;
       bound = omega (arith, walked, as-many, c.in_ok-changes.ensures.touches, c.in_ok-changes.ensures.pending, c.in_ok-follow.ensures.touches);
     }
 
 pub returns-clause-vacant : goal.returns-clause-vacant
 returns-clause-vacant c = λ k.
-    subst (λ (v : GroupsValue). vacancies v k ≤ vacancies c.args.self.now.standings k) (sym c.follow.ensures.standings)
+    subst (λ (v : GroupsValue). vacancies v k ≤ vacancies c.args.self.now.standings k) (sym c.follow.ensures.said.standings)
     (c.in_ok-changes.ensures.vacant k)
 
 pub returns-clause-weighs : goal.returns-clause-weighs
@@ -98,9 +84,8 @@ returns-clause-weighs c =
     let h = c.add_receipt.new.self.members in
     let key = c.key-key.result in
     let r : GroupedReceipt = record { key = key; moment = c.receipt.inside.moment; decides = c.can_decide-decides.result } in
-    let t = stored_traffic i.messages.content i.receipts.content in
-    let absent = ap (λ (x : Grouping). get x.receipts q) c.requires.are.grouped ∙ receipt-absent s q t c.requires.absent in
-    let free = ap (λ (x : Grouping). get x.submits q) c.requires.are.grouped ∙ submit-absent s q t c.requires.apart in
+    let absent = no-receipt-in c.requires.are q c.requires.absent in
+    let free = no-submit-in c.requires.are q c.requires.apart in
     let move = subst (λ (x : Grouping). IsMoveOf key q g x) (sym c.in_ok-changes.ensures.ok) (receipt-put g q r absent free) in
     let told = few-changes g h c.in_ok-changes.changes.items c.in_ok-changes.ensures.changes key q move in
     let loaded = ap (λ (k : LinkKey). load_of i.standings (Some k)) c.key-key.ensures in

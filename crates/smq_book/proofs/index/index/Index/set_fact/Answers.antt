@@ -4,15 +4,15 @@ use Rattle.std.specs.Option.{option_copied}
 use Rattle.std.specs.Prelude.{option_map}
 use Rattle.smq_kit.specs.Maps.{set_at}
 use Rattle.smq_tally.specs.declared.fact.Fact.{Fact}
-use Rattle.smq_book.specs.index.Due.{due_at, due_in, is_due_fact}
-use Rattle.smq_book.specs.index.Ends.{end_at, ends_by}
+use Rattle.smq_book.specs.index.Due.{due_at, is_due_fact}
+use Rattle.smq_book.specs.index.Ends.{end_at}
 use Rattle.smq_route.specs.Versions.{Versions}
 use Rattle.smq_book.specs.join.Circumstances.{route_in}
 use Rattle.smq_book.specs.present.Settings.{window_in}
-use Rattle.smq_book.specs.index.Held.{messages_in, noted, stored_traffic}
+use Rattle.smq_book.specs.index.Anew.{stored_in}
+use Rattle.smq_book.specs.index.Held.{dues_in, ends_in, messages_in, noted}
 use Rattle.smq_book.specs.pairing.Traffic.{Message}
-use Rattle.smq_book.proofs.lemmas.index.Due.{due-fact, due-fact-absent, due-still, noted-marked}
-use Rattle.smq_book.proofs.lemmas.index.Ends.{end-fact, end-fact-absent, end-still}
+use Rattle.smq_book.proofs.lemmas.index.AreDue.{due-absent, due-set, due-stays}
 use Rattle.smq_book.proofs.lemmas.index.Stored.{fact-absent, stored-at}
 use Rattle.smq_book.proofs.index.index.Index.set_fact.Goals as goal
 
@@ -22,68 +22,44 @@ replace-requires c = record {
 }
 
 pub returns-in_default-clause-facts : goal.returns-in_default-clause-facts
-returns-in_default-clause-facts c = λ are told routes.
+returns-in_default-clause-facts c = λ new told may.
     let i = c.args.self.now in
     let q = c.args.place in
     let gone : ◌≡◌ {A = Option Message} None (option_copied c.get.result) = search rules in
     let none : get (messages_in i.messages.content) q ≡ None = sym (gone ∙ c.get.ensures ∙ stored-at i.messages.content q) in
     c.in_ok-take_fact.ensures.facts
-    ∙ ap (set_at i.tally.facts q)
-    (sym (fact-absent c.args.settings.now (stored_traffic i.messages.content i.receipts.content) i.standings.members are q none))
+    ∙ ap (set_at i.tally.facts q) (sym (fact-absent c.args.settings.now (stored_in i) i.standings.members may.are q none))
 
 pub returns-in_default-clause-due : goal.returns-in_default-clause-due
 returns-in_default-clause-due c = λ same.
-    let i = c.args.self.now in
-    let q = c.args.place in
     let gone : ◌≡◌ {A = Option Message} None (option_copied c.get.result) = search rules in
-    let none : get (messages_in i.messages.content) q ≡ None = sym (gone ∙ c.get.ensures ∙ stored-at i.messages.content q) in
-    same
-    ∙ sym (due-fact-absent (messages_in i.messages.content) i.tally.facts q None none)
-    ∙ ap (due_in (messages_in i.messages.content)) (sym c.in_ok-take_fact.ensures.facts)
-
-pub returns-in_default-clause-ends : goal.returns-in_default-clause-ends
-returns-in_default-clause-ends c = λ same.
-    let i = c.args.self.now in
-    let q = c.args.place in
-    let w = c.args.settings.now.windows in
-    let gone : ◌≡◌ {A = Option Message} None (option_copied c.get.result) = search rules in
-    let none : get (messages_in i.messages.content) q ≡ None = sym (gone ∙ c.get.ensures ∙ stored-at i.messages.content q) in
-    same
-    ∙ sym (end-fact-absent w (messages_in i.messages.content) i.tally.facts q None none)
-    ∙ ap (ends_by w (messages_in i.messages.content)) (sym c.in_ok-take_fact.ensures.facts)
+    due-absent same c.args.place None c.in_ok-take_fact.ensures.facts
+    (sym (gone ∙ c.get.ensures ∙ stored-at c.args.self.now.messages.content c.args.place))
 
 pub returns-in_ok-set_end-clause-facts : goal.returns-in_ok-set_end-clause-facts
-returns-in_ok-set_end-clause-facts c = λ are told routes.
+returns-in_ok-set_end-clause-facts c = λ new told may.
     let i = c.args.self.now in
     let q = c.args.place in
     let m = c.in-Some.message.now in
-    let ms = messages_in i.messages.content in
     let some : ◌≡◌ {A = Option Message} (Some m) (option_copied c.get.result) = search rules in
-    let there : get ms q ≡ Some m = sym (some ∙ c.get.ensures ∙ stored-at i.messages.content q) in
-    let fact : Fact = c.fact_at-fact.result in
-    let sets = c.in_ok-replace.ensures.ok
-    ∙ (λ j. insert (c.look_up-there.ensures.held j).facts (c.fact_at-fact.ensures.place j) fact) in
-    sets
-    ∙ ap (set_at i.tally.facts q)
-    (c.fact_at-fact.ensures.value (stored_traffic i.messages.content i.receipts.content) i.standings.members are told refl there
-    (c.route_by-route.ensures (λ f is. routes m f there (sym c.look_up-there.ensures.value ∙ is) ∙ ap (λ (v : Versions). route_in v m) (sym c.routes.ensures))
+    let there : get (messages_in i.messages.content) q ≡ Some m = sym (some ∙ c.get.ensures ∙ stored-at i.messages.content q) in
+    c.in_ok-replace.ensures.ok
+    ∙ (λ j. insert (c.look_up-there.ensures.held j).facts (c.fact_at-fact.ensures.place j) c.fact_at-fact.result)
+    ∙ ap (set_at i.tally.facts q) (c.fact_at-fact.ensures.value (stored_in i) i.standings.members may.are told refl there
+    (c.route_by-route.ensures (λ f is. may.routed q m f there (sym c.look_up-there.ensures.value ∙ is) ∙ ap (λ (v : Versions). route_in v m) (sym c.routes.ensures))
     ∙ ap (λ (v : Versions). route_in v m) c.routes.ensures))
 
 pub returns-else-is_now-is_due-clause-facts : goal.returns-else-is_now-is_due-clause-facts
-returns-else-is_now-is_due-clause-facts c = λ are told routes.
+returns-else-is_now-is_due-clause-facts c = λ new told may.
     let i = c.args.self.now in
     let q = c.args.place in
     let m = c.in-Some.message.now in
-    let ms = messages_in i.messages.content in
     let some : ◌≡◌ {A = Option Message} (Some m) (option_copied c.get.result) = search rules in
-    let there : get ms q ≡ Some m = sym (some ∙ c.get.ensures ∙ stored-at i.messages.content q) in
-    let fact : Fact = c.fact_at-fact.result in
-    let sets = c.in_ok-replace.ensures.ok
-    ∙ (λ j. insert (c.look_up-there.ensures.held j).facts (c.fact_at-fact.ensures.place j) fact) in
-    sets
-    ∙ ap (set_at i.tally.facts q)
-    (c.fact_at-fact.ensures.value (stored_traffic i.messages.content i.receipts.content) i.standings.members are told refl there
-    (c.route_by-route.ensures (λ f is. routes m f there (sym c.look_up-there.ensures.value ∙ is) ∙ ap (λ (v : Versions). route_in v m) (sym c.routes.ensures))
+    let there : get (messages_in i.messages.content) q ≡ Some m = sym (some ∙ c.get.ensures ∙ stored-at i.messages.content q) in
+    c.in_ok-replace.ensures.ok
+    ∙ (λ j. insert (c.look_up-there.ensures.held j).facts (c.fact_at-fact.ensures.place j) c.fact_at-fact.result)
+    ∙ ap (set_at i.tally.facts q) (c.fact_at-fact.ensures.value (stored_in i) i.standings.members may.are told refl there
+    (c.route_by-route.ensures (λ f is. may.routed q m f there (sym c.look_up-there.ensures.value ∙ is) ∙ ap (λ (v : Versions). route_in v m) (sym c.routes.ensures))
     ∙ ap (λ (v : Versions). route_in v m) c.routes.ensures))
 
 pub returns-in_ok-set_end-clause-due : goal.returns-in_ok-set_end-clause-due
@@ -91,70 +67,29 @@ returns-in_ok-set_end-clause-due c = λ same.
     let i = c.args.self.now in
     let q = c.args.place in
     let m = c.in-Some.message.now in
-    let ms = messages_in i.messages.content in
     let some : ◌≡◌ {A = Option Message} (Some m) (option_copied c.get.result) = search rules in
-    let there : get ms q ≡ Some m = sym (some ∙ c.get.ensures ∙ stored-at i.messages.content q) in
     let fact : Fact = c.fact_at-fact.result in
-    let sets = c.in_ok-replace.ensures.ok
-    ∙ (λ j. insert (c.look_up-there.ensures.held j).facts (c.fact_at-fact.ensures.place j) fact) in
     let is_now = c.is_due-is_now.ensures (Some fact) refl in
-    c.in_ok-set_due.ensures.value
-    ∙ (λ j. set_at (same j) (due_at (c.message.view_is j).link (c.message.view_is j).moment q) (noted (is_now j)))
-    ∙ ap (set_at (due_in ms i.tally.facts) (due_at m.link m.moment q)) (noted-marked (is_due_fact (Some fact)))
-    ∙ sym (due-fact ms i.tally.facts q (Some fact) m there)
-    ∙ ap (due_in ms) (sym sets)
-
-pub returns-in_ok-set_end-clause-ends : goal.returns-in_ok-set_end-clause-ends
-returns-in_ok-set_end-clause-ends c = λ same.
-    let i = c.args.self.now in
-    let q = c.args.place in
-    let m = c.in-Some.message.now in
-    let ms = messages_in i.messages.content in
-    let some : ◌≡◌ {A = Option Message} (Some m) (option_copied c.get.result) = search rules in
-    let there : get ms q ≡ Some m = sym (some ∙ c.get.ensures ∙ stored-at i.messages.content q) in
-    let fact : Fact = c.fact_at-fact.result in
-    let sets = c.in_ok-replace.ensures.ok
-    ∙ (λ j. insert (c.look_up-there.ensures.held j).facts (c.fact_at-fact.ensures.place j) fact) in
-    let w = c.args.settings.now.windows in
-    let is_now = c.is_due-is_now.ensures (Some fact) refl in
-    c.in_ok-set_end.ensures.value
-    ∙ (λ j. set_at (same j) (c.of-end.ensures j) (noted (is_now j)))
-    ∙ (λ j. set_at (ends_by w ms i.tally.facts) (end_at ((c.message.view_is j).moment + (c.of.ensures ∙ (λ k. window_in (c.windows_set.ensures k) (c.message.view_is k).link)) j) q) (noted (is_due_fact (Some fact))))
-    ∙ ap (set_at (ends_by w ms i.tally.facts) (end_at (m.moment + window_in w m.link) q)) (noted-marked (is_due_fact (Some fact)))
-    ∙ sym (end-fact w ms i.tally.facts q (Some fact) m there)
-    ∙ ap (ends_by w ms) (sym sets)
+    due-set same q (Some fact)
+    (c.in_ok-replace.ensures.ok ∙ (λ j. insert (c.look_up-there.ensures.held j).facts (c.fact_at-fact.ensures.place j) fact))
+    m (sym (some ∙ c.get.ensures ∙ stored-at i.messages.content q))
+    (c.in_ok-set_due.ensures.value
+    ∙ (λ j. set_at (dues_in i.due.content) (due_at (c.message.view_is j).link (c.message.view_is j).moment q) (noted (is_now j))))
+    (c.in_ok-set_end.ensures.value
+    ∙ (λ j. set_at (ends_in i.ends.content) (c.of-end.ensures j) (noted (is_now j)))
+    ∙ (λ j. set_at (ends_in i.ends.content) (end_at ((c.message.view_is j).moment
+    + (c.of.ensures ∙ (λ k. window_in (c.windows_set.ensures k) (c.message.view_is k).link)) j) q) (noted (is_due_fact (Some fact)))))
 
 pub returns-else-is_now-is_due-clause-due : goal.returns-else-is_now-is_due-clause-due
 returns-else-is_now-is_due-clause-due c = λ same.
     let i = c.args.self.now in
     let q = c.args.place in
     let m = c.in-Some.message.now in
-    let ms = messages_in i.messages.content in
     let some : ◌≡◌ {A = Option Message} (Some m) (option_copied c.get.result) = search rules in
-    let there : get ms q ≡ Some m = sym (some ∙ c.get.ensures ∙ stored-at i.messages.content q) in
     let fact : Fact = c.fact_at-fact.result in
-    let sets = c.in_ok-replace.ensures.ok
-    ∙ (λ j. insert (c.look_up-there.ensures.held j).facts (c.fact_at-fact.ensures.place j) fact) in
     let equal : c.is_due-is_now.result ≡ c.is_due.result = search rules in
     let before = c.outcome_of-before.ensures ∙ ap (option_map (λ (f : Fact). f.outcome)) c.look_up-there.ensures.value in
-    let still : is_due_fact (Some fact) ≡ is_due_fact (get i.tally.facts q) =
-    sym (c.is_due-is_now.ensures (Some fact) refl) ∙ equal ∙ c.is_due.ensures (get i.tally.facts q) before in
-    same ∙ sym (due-still ms i.tally.facts q (Some fact) m there still) ∙ ap (due_in ms) (sym sets)
-
-pub returns-else-is_now-is_due-clause-ends : goal.returns-else-is_now-is_due-clause-ends
-returns-else-is_now-is_due-clause-ends c = λ same.
-    let i = c.args.self.now in
-    let q = c.args.place in
-    let m = c.in-Some.message.now in
-    let ms = messages_in i.messages.content in
-    let some : ◌≡◌ {A = Option Message} (Some m) (option_copied c.get.result) = search rules in
-    let there : get ms q ≡ Some m = sym (some ∙ c.get.ensures ∙ stored-at i.messages.content q) in
-    let fact : Fact = c.fact_at-fact.result in
-    let sets = c.in_ok-replace.ensures.ok
-    ∙ (λ j. insert (c.look_up-there.ensures.held j).facts (c.fact_at-fact.ensures.place j) fact) in
-    let equal : c.is_due-is_now.result ≡ c.is_due.result = search rules in
-    let before = c.outcome_of-before.ensures ∙ ap (option_map (λ (f : Fact). f.outcome)) c.look_up-there.ensures.value in
-    let still : is_due_fact (Some fact) ≡ is_due_fact (get i.tally.facts q) =
-    sym (c.is_due-is_now.ensures (Some fact) refl) ∙ equal ∙ c.is_due.ensures (get i.tally.facts q) before in
-    let w = c.args.settings.now.windows in
-    same ∙ sym (end-still w ms i.tally.facts q (Some fact) m there still) ∙ ap (ends_by w ms) (sym sets)
+    due-stays same q (Some fact)
+    (c.in_ok-replace.ensures.ok ∙ (λ j. insert (c.look_up-there.ensures.held j).facts (c.fact_at-fact.ensures.place j) fact))
+    m (sym (some ∙ c.get.ensures ∙ stored-at i.messages.content q))
+    (sym (c.is_due-is_now.ensures (Some fact) refl) ∙ equal ∙ c.is_due.ensures (get i.tally.facts q) before)

@@ -1,7 +1,8 @@
 use Rattle.std.proofs.Common.{◌≡◌, ◌+◌, ℕ, if◌then◌else◌, Option, List, [], Some, None, length, subst, refl, ap, sym, ◌∙◌, rules, arith}
-use Rattle.std.specs.FinMap.{get, remove}
+use Rattle.std.specs.FinMap.{FinMap, get, remove}
 use Rattle.std.specs.Option.{option_copied}
 use Rattle.smq_shelf.specs.Keeping.{KeepingMap}
+use Rattle.smq_kit.specs.Orders.{place_cmp}
 use Rattle.smq_kit.specs.declared.place.Place.{Place}
 use Rattle.smq_kit.proofs.MapLemmas.{get-removed}
 use Rattle.smq_kit.proofs.PlaceOrders.{places_total, places_exact}
@@ -10,14 +11,15 @@ use Rattle.smq_group.specs.declared.change.Change.{Change}
 use Rattle.smq_group.specs.Changes.{TellsChanges}
 use Rattle.smq_group.specs.Groups.{GroupsValue, vacancies}
 use Rattle.smq_group.specs.Matching.{Grouping}
-use Rattle.smq_route.specs.Numbers.{NumbersValue}
 use Rattle.smq_book.specs.index.Due.{due_at}
 use Rattle.smq_book.specs.index.Ends.{end_at}
 use Rattle.smq_book.specs.present.Settings.{window_in}
-use Rattle.smq_book.specs.index.Held.{Holding, dues_in, ends_in, held_of, messages_in, stored_traffic}
+use Rattle.smq_book.specs.index.Held.{Holding, dues_in, ends_in, held_of, messages_in}
 use Rattle.smq_book.specs.join.Moves.{TakeMessage, take_message}
-use Rattle.smq_book.specs.pairing.Traffic.{Message, ReceivedReceipt}
-use Rattle.smq_book.proofs.lemmas.index.Followed.{due-dropped, due-went, ends-dropped, ends-went, facts-gone, facts-left, holds, may-follow, notes-gone, notes-left}
+use Rattle.smq_book.specs.pairing.Traffic.{Message}
+use Rattle.smq_book.proofs.lemmas.index.AreDue.{due-absent, due-held, due-went}
+use Rattle.smq_book.proofs.lemmas.index.Following.{said-itself}
+use Rattle.smq_book.proofs.lemmas.index.Followed.{facts-gone, facts-left, holds-said, may-follow, notes-gone, notes-left}
 use Rattle.smq_book.proofs.lemmas.index.Followed.{numbers-went, stored-dropped, stored-held, stored-withdrawn}
 use Rattle.smq_book.proofs.lemmas.index.Members.{kept-traffic, members-untaken, submit-there}
 use Rattle.smq_book.proofs.lemmas.index.Stored.{stored-at}
@@ -27,8 +29,8 @@ use Rattle.smq_book.specs.index.Touches.{is_key, vacancies_at}
 use Rattle.smq_kit.specs.declared.link_key.LinkKey.{LinkKey}
 use Rattle.smq_book.specs.edits.Reached.{IsMoveOf}
 use Rattle.smq_book.specs.index.Touches.{taken_of}
-use Rattle.smq_book.proofs.lemmas.index.Members.{receipt-absent}
-use Rattle.smq_book.proofs.lemmas.index.Weights.{few-changes, not-there, submit-counts, submit-taken}
+use Rattle.smq_book.proofs.lemmas.index.StandingIn.{no-receipt-in, submit-in}
+use Rattle.smq_book.proofs.lemmas.index.Weights.{few-changes, submit-counts, submit-taken}
 use Rattle.smq_book.proofs.lemmas.index.Followed.{nobody, one-none, told}
 use Rattle.smq_book.proofs.index.index.Index.take_message.Goals as goal
 
@@ -54,9 +56,7 @@ remove_submit-requires c =
     let some : ◌≡◌ {A = Option Message} (Some m) (option_copied c.get.result) = search rules in
     let there : get (messages_in i.messages.content) q ≡ Some m = sym (some ∙ c.get.ensures ∙ stored-at i.messages.content q) in
     record {
-      there = ap (λ (g : Grouping). get g.submits q) c.requires.are.grouped
-          ∙ submit-there s q (stored_traffic i.messages.content i.receipts.content) m there
-          ∙ sym c.key-key.ensures ∙ c.in-Some-key.is;
+      there = submit-in c.requires.are q m there ∙ sym c.key-key.ensures ∙ c.in-Some-key.is;
     }
 
 pub returns-in_default-key-clause-held : goal.returns-in_default-key-clause-held
@@ -82,21 +82,13 @@ returns-in_default-key-clause-held c = λ t traffic held.
     let move = take_message-moves q t apart in
     let alike = sym (members-untaken s q t none) in
     let taken = c.in_ok-take_fact.ensures.facts in
-    holds s t u i held stores traffic q move refl
-    (record {
-      standings = i.standings;
-      messages = c.remove.new.self;
-      receipts = i.receipts;
-      tally = c.take_fact.new.tally;
-      due = c.set_due.new.due;
-      ends = c.set_end.new.ends;
-      numbers = c.take_number.new.numbers;
-    })
-    refl refl refl
+    holds-said s t u i held stores traffic q move refl
+    (record i { messages = c.remove.new.self; due = c.set_due.new.due; ends = c.set_end.new.ends; numbers = c.take_number.new.numbers })
+    said-itself refl refl refl c.take_fact.new.tally
     (taken ∙ facts-left s t u i held stores traffic q move refl apart apart free alike)
     (c.take_fact.ensures.notes ∙ notes-left s t u i held stores traffic q move refl apart apart alike)
-    (due-went s t i held q m there stores.messages gone-due ∙ due-dropped stores q free i.tally.facts taken)
-    (ends-went s t i held q m there stores.messages gone-end ∙ ends-dropped stores q free i.tally.facts taken)
+    (due-absent (due-went (due-held s t i held) q m there stores.messages gone-due gone-end) q None taken
+    (ap (λ (x : FinMap place_cmp Message). get x q) stores.messages ∙ free))
     (numbers-went s t i held q m there c.in_ok-take_number.ensures.value)
 
 pub returns-clause-held : goal.returns-clause-held
@@ -128,30 +120,18 @@ returns-clause-held c = λ t traffic held.
     let now = told s t u i held stores traffic q move refl cs tells in
     let may = may-follow s t u i held stores traffic q move refl None (λ p e. nobody p e)
     (λ x y was is. one-none (get u.messages q) y free is) (kept-traffic t traffic (TakeMessage q) tt) in
-    holds s t u i held stores traffic q move refl
-    (record {
-      standings = c.follow.new.self.standings;
-      messages = c.follow.new.self.messages;
-      receipts = c.follow.new.self.receipts;
-      tally = c.take_fact-2.new.tally;
-      due = c.follow.new.self.due;
-      ends = c.follow.new.self.ends;
-      numbers = c.follow.new.self.numbers;
-    })
-    (ap (λ (k : KeepingMap Place Message). k.content) c.follow.ensures.messages)
-    (ap (λ (k : KeepingMap Place ReceivedReceipt). k.content) c.follow.ensures.receipts)
-    (ap (λ (v : GroupsValue). v.members) c.follow.ensures.standings)
+    let set = c.in_ok-follow.ensures.anew now may in
+    holds-said s t u i held stores traffic q move refl c.follow.new.self c.follow.ensures.said refl refl refl c.take_fact-2.new.tally
     (taken
-    ∙ (λ j. remove (c.in_ok-follow.ensures.facts now may j) q)
+    ∙ (λ j. remove (set.facts j) q)
     ∙ facts-gone s t u i held stores traffic q move refl apart apart free cs tells)
     (c.take_fact-2.ensures.notes
-    ∙ c.in_ok-follow.ensures.notes now may
+    ∙ set.notes
     ∙ notes-gone s t u i held stores traffic q move refl apart apart free cs tells)
-    (c.in_ok-follow.ensures.due (due-went s t i held q m there stores.messages gone-due)
-    ∙ due-dropped stores q free c.follow.new.self.tally.facts taken)
-    (c.in_ok-follow.ensures.ends (ends-went s t i held q m there stores.messages gone-end)
-    ∙ ends-dropped stores q free c.follow.new.self.tally.facts taken)
-    (ap (λ (n : NumbersValue). n.numbers) c.follow.ensures.numbers ∙ numbers-went s t i held q m there c.in_ok-take_number.ensures.value)
+    (due-absent (c.in_ok-follow.ensures.due (due-went (due-held s t i held) q m there stores.messages gone-due gone-end)) q None taken
+    (ap (λ (k : KeepingMap Place Message). get (messages_in k.content) q) c.follow.ensures.said.messages
+    ∙ ap (λ (x : FinMap place_cmp Message). get x q) stores.messages ∙ free))
+    (numbers-went s t i held q m there c.in_ok-take_number.ensures.value)
 
 pub returns-in_default-clause-touches : goal.returns-in_default-clause-touches
 returns-in_default-clause-touches c = record {
@@ -175,14 +155,13 @@ returns-clause-touches c =
     let m = c.in-Some.message.now in
     let some : ◌≡◌ {A = Option Message} (Some m) (option_copied c.get.result) = search rules in
     let there : get (messages_in i.messages.content) q ≡ Some m = sym (some ∙ c.get.ensures ∙ stored-at i.messages.content q) in
-    let keyed : get i.standings.members.submits q ≡ c.key-key.result = ap (λ (g : Grouping). get g.submits q) c.requires.are.grouped
-    ∙ submit-there s q (stored_traffic i.messages.content i.receipts.content) m there ∙ sym c.key-key.ensures in
+    let keyed = submit-in c.requires.are q m there ∙ sym c.key-key.ensures in
     let walked = ap (vacancies_at i.standings) (keyed ∙ c.in-Some-key.is) in
     let as-many = ap (length {A = Change}) c.as_slice.ensures.value in
     record {
       changes = c.in_ok-changes.changes.items;
       told = subst (λ (x : Grouping). TellsChanges i.standings.members x c.in_ok-changes.changes.items)
-          (sym (ap (λ (v : GroupsValue). v.members) c.follow.ensures.standings)) c.in_ok-changes.ensures.changes;
+          (sym (ap (λ (v : GroupsValue). v.members) c.follow.ensures.said.standings)) c.in_ok-changes.ensures.changes;
       bound = omega (
         arith,
         walked,
@@ -205,10 +184,9 @@ returns-clause-vacant c = λ k.
     let m = c.in-Some.message.now in
     let some : ◌≡◌ {A = Option Message} (Some m) (option_copied c.get.result) = search rules in
     let there : get (messages_in i.messages.content) q ≡ Some m = sym (some ∙ c.get.ensures ∙ stored-at i.messages.content q) in
-    let keyed : get i.standings.members.submits q ≡ c.key-key.result = ap (λ (g : Grouping). get g.submits q) c.requires.are.grouped
-    ∙ submit-there s q (stored_traffic i.messages.content i.receipts.content) m there ∙ sym c.key-key.ensures in
+    let keyed = submit-in c.requires.are q m there ∙ sym c.key-key.ensures in
     let taken = ap {B = ℕ} (λ (key : Option LinkKey). if is_key k key then 1 else 0) (keyed ∙ c.in-Some-key.is) in
-    let same = ap (λ (v : GroupsValue). vacancies v k) c.follow.ensures.standings in
+    let same = ap (λ (v : GroupsValue). vacancies v k) c.follow.ensures.said.standings in
     omega (arith, taken, same, c.in_ok-changes.ensures.vacant k)
 
 pub returns-in_default-key-clause-weighs : goal.returns-in_default-key-clause-weighs
@@ -223,12 +201,10 @@ returns-clause-weighs c =
     let g = i.standings.members in
     let h = c.remove_submit.new.self.members in
     let key = c.in-Some-key.key in
-    let t = stored_traffic i.messages.content i.receipts.content in
     let some : ◌≡◌ {A = Option Message} (Some m) (option_copied c.get.result) = search rules in
     let there : get (messages_in i.messages.content) q ≡ Some m = sym (some ∙ c.get.ensures ∙ stored-at i.messages.content q) in
-    let keyed : get g.submits q ≡ Some key = ap (λ (g : Grouping). get g.submits q) c.requires.are.grouped
-    ∙ submit-there s q t m there ∙ sym c.key-key.ensures ∙ c.in-Some-key.is in
-    let free = ap (λ (x : Grouping). get x.receipts q) c.requires.are.grouped ∙ receipt-absent s q t (c.requires.are.apart q m there) in
+    let keyed : get g.submits q ≡ Some key = submit-in c.requires.are q m there ∙ sym c.key-key.ensures ∙ c.in-Some-key.is in
+    let free = no-receipt-in c.requires.are q (c.requires.are.apart q m there) in
     let move = subst (λ (x : Grouping). IsMoveOf key q g x) (sym c.in_ok-changes.ensures.ok) (submit-taken g q key keyed free) in
     let told = few-changes g h c.in_ok-changes.changes.items c.in_ok-changes.ensures.changes key q move in
     let loaded = ap (taken_of i.standings) keyed in
@@ -248,21 +224,3 @@ returns-clause-weighs c =
       c.in_ok-follow.ensures.touches,
       c.in_ok-take_fact-2.ensures.touches,
     )
-
-pub returns-clause-idle : goal.returns-clause-idle
-returns-clause-idle c = λ none.
-    let i = c.args.self.now in
-    let q = c.args.place in
-    let m = c.in-Some.message.now in
-    let some : ◌≡◌ {A = Option Message} (Some m) (option_copied c.get.result) = search rules in
-    let there : get (messages_in i.messages.content) q ≡ Some m = sym (some ∙ c.get.ensures ∙ stored-at i.messages.content q) in
-    not-there (get (messages_in i.messages.content) q) m none there
-
-pub returns-in_default-key-clause-idle : goal.returns-in_default-key-clause-idle
-returns-in_default-key-clause-idle c = λ none.
-    let i = c.args.self.now in
-    let q = c.args.place in
-    let m = c.in-Some.message.now in
-    let some : ◌≡◌ {A = Option Message} (Some m) (option_copied c.get.result) = search rules in
-    let there : get (messages_in i.messages.content) q ≡ Some m = sym (some ∙ c.get.ensures ∙ stored-at i.messages.content q) in
-    not-there (get (messages_in i.messages.content) q) m none there

@@ -2,28 +2,24 @@ use Rattle.std.proofs.Common.{◌≡◌, ℕ, if◌then◌else◌, Option, List,
 use Rattle.std.specs.FinMap.{get}
 use Rattle.std.specs.Option.{option_copied}
 use Rattle.std.specs.Prelude.{option_map}
-use Rattle.smq_shelf.specs.Keeping.{KeepingMap}
 use Rattle.smq_kit.specs.Maps.{set_at}
-use Rattle.smq_kit.specs.declared.place.Place.{Place}
 use Rattle.smq_kit.proofs.MapLemmas.{get-removed}
 use Rattle.smq_kit.proofs.PlaceOrders.{places_total, places_exact}
 use Rattle.smq_tally.proofs.Undone.{remove-none}
 use Rattle.smq_group.specs.declared.change.Change.{Change}
 use Rattle.smq_group.specs.Changes.{TellsChanges}
-use Rattle.smq_group.specs.Groups.{GroupsValue, vacancies, without_receipt}
+use Rattle.smq_group.specs.Groups.{GroupsValue, vacancies}
 use Rattle.smq_group.specs.Standings.{standing_at}
 use Rattle.smq_group.specs.Matching.{Grouping, GroupedReceipt}
-use Rattle.smq_book.specs.declared.index.index.Index.{Index}
-use Rattle.smq_route.specs.Numbers.{NumbersValue}
-use Rattle.smq_book.specs.index.Due.{due_in}
-use Rattle.smq_book.specs.index.Ends.{ends_by}
-use Rattle.smq_book.specs.index.Following.{MayFollow}
-use Rattle.smq_book.specs.index.Held.{Holding, held_of, list_held, messages_in, receipts_in, stored_traffic, with_listing}
+use Rattle.smq_book.specs.index.Anew.{stored_in}
+use Rattle.smq_book.specs.index.Held.{Holding, held_of, list_held, receipts_in, stored_traffic, with_listing}
 use Rattle.smq_book.specs.join.Facts.{facts_of}
 use Rattle.smq_book.specs.join.Moves.{TakeReceipt, take_receipt}
-use Rattle.smq_book.specs.pairing.Traffic.{Message, ReceivedReceipt}
-use Rattle.smq_book.proofs.lemmas.index.Followed.{due-kept, ends-kept, facts-taken, holds, may-follow, notes-taken, stored-forgotten, stored-held}
-use Rattle.smq_book.proofs.lemmas.index.Members.{kept-traffic, receipt-there}
+use Rattle.smq_book.specs.pairing.Traffic.{ReceivedReceipt}
+use Rattle.smq_book.proofs.lemmas.index.AreDue.{due-held, due-same}
+use Rattle.smq_book.proofs.lemmas.index.Following.{both-keep}
+use Rattle.smq_book.proofs.lemmas.index.Followed.{facts-taken, holds-said, may-follow, notes-taken, stored-forgotten, stored-held}
+use Rattle.smq_book.proofs.lemmas.index.Members.{kept-traffic}
 use Rattle.smq_book.proofs.lemmas.index.Stored.{stands-none, stored-at}
 use Rattle.smq_book.proofs.lemmas.join.MoveLemmas.{take_receipt-moves}
 use Rattle.smq_book.proofs.lemmas.index.Costs.{tells-none}
@@ -32,8 +28,8 @@ use Rattle.smq_kit.specs.declared.link_key.LinkKey.{LinkKey}
 use Rattle.smq_book.specs.join.Keyed.{keyed_receipt, receipt_key}
 use Rattle.smq_book.specs.edits.Reached.{IsMoveOf}
 use Rattle.smq_book.specs.index.Touches.{taken_of}
-use Rattle.smq_book.proofs.lemmas.index.Members.{submit-absent}
-use Rattle.smq_book.proofs.lemmas.index.Weights.{few-changes, no-message-there, not-there, receipt-taken, receipt-counts}
+use Rattle.smq_book.proofs.lemmas.index.StandingIn.{no-submit-in, receipt-in}
+use Rattle.smq_book.proofs.lemmas.index.Weights.{few-changes, no-message-there, receipt-taken, receipt-counts}
 use Rattle.smq_book.proofs.lemmas.index.Followed.{nobody, one-route, told}
 use Rattle.smq_book.proofs.index.index.Index.take_receipt.Goals as goal
 
@@ -59,9 +55,7 @@ remove_receipt-requires c =
     let some : ◌≡◌ {A = Option ReceivedReceipt} (Some r) (option_copied c.get.result) = search rules in
     let there : get (receipts_in i.receipts.content) q ≡ Some r = sym (some ∙ c.get.ensures ∙ stored-at i.receipts.content q) in
     record {
-      there = ap (λ (g : Grouping). option_map (λ (x : GroupedReceipt). x.key) (get g.receipts q)) c.requires.are.grouped
-          ∙ ap (option_map (λ (x : GroupedReceipt). x.key)) (receipt-there s q (stored_traffic i.messages.content i.receipts.content) r there)
-          ∙ ap Some (sym c.key-key.ensures);
+      there = ap (option_map (λ (x : GroupedReceipt). x.key)) (receipt-in c.requires.are q r there) ∙ ap Some (sym c.key-key.ensures);
     }
 
 pub returns-clause-held : goal.returns-clause-held
@@ -81,47 +75,27 @@ returns-clause-held c = λ t traffic held.
     let now = told s t u i held stores traffic q move refl cs tells in
     let may = may-follow s t u i held stores traffic q move refl None (λ p e. nobody p e)
     (λ x y was is. one-route s.versions (get t.messages q) x y was is) (kept-traffic t traffic (TakeReceipt q) tt) in
-    let gs = ap (λ (v : GroupsValue). v.members) c.follow.ensures.standings in
-    let mc = ap (λ (k : KeepingMap Place Message). k.content) c.follow.ensures.messages in
-    let rc = ap (λ (k : KeepingMap Place ReceivedReceipt). k.content) c.follow.ensures.receipts in
-    let still = subst (λ (x : Index). MayFollow s (stored_traffic x.messages.content x.receipts.content) x.standings.members None
-    c.follow.new.self.tally.facts c.follow.new.self.tally.notes)
-    (λ j. record {
-      standings = sym c.follow.ensures.standings j;
-      messages = sym c.follow.ensures.messages j;
-      receipts = sym c.follow.ensures.receipts j;
-      tally = c.follow.new.self.tally;
-      due = c.follow.new.self.due;
-      ends = c.follow.new.self.ends;
-      numbers = c.follow.new.self.numbers;
-    })
-    (c.in_ok-follow.ensures.follows now may) in
+    let set = c.in_ok-follow.ensures.anew now may in
+    let said = c.follow.ensures.said in
+    let gs = ap (λ (v : GroupsValue). v.members) said.standings in
     let r = c.in-Some.receipt.now in
     let some : ◌≡◌ {A = Option ReceivedReceipt} (Some r) (option_copied c.get.result) = search rules in
     let there : get (receipts_in i.receipts.content) q ≡ Some r = sym (some ∙ c.get.ensures ∙ stored-at i.receipts.content q) in
-    let before = stored_traffic i.messages.content i.receipts.content in
     let gone = stands-none h q
-    (ap (λ (x : Grouping). get x.submits q) (c.in_ok-changes.ensures.ok ∙ ap (λ (x : Grouping). without_receipt x q) c.requires.are.grouped)
-    ∙ submit-absent s q before (no-message-there before q r (c.requires.are.apart q) there))
+    (ap (λ (x : Grouping). get x.submits q) c.in_ok-changes.ensures.ok
+    ∙ no-submit-in c.requires.are q (no-message-there (stored_in i) q r (c.requires.are.apart q) there))
     (ap (λ (x : Grouping). get x.receipts q) c.in_ok-changes.ensures.ok ∙ get-removed places_total places_exact g.receipts q)
     ∙ (λ j. standing_at (sym gs j) q) in
-    holds s t u i held stores traffic q move refl c.refresh.new.self
-    (ap (λ (k : KeepingMap Place Message). k.content) (c.refresh.ensures.messages ∙ c.follow.ensures.messages))
-    (ap (λ (k : KeepingMap Place ReceivedReceipt). k.content) (c.refresh.ensures.receipts ∙ c.follow.ensures.receipts))
-    (ap (λ (v : GroupsValue). v.members) (c.refresh.ensures.standings ∙ c.follow.ensures.standings))
-    (c.in_ok-refresh.ensures.facts gone still
-    ∙ (λ j. set_at (c.in_ok-follow.ensures.facts now may j) q (get (facts_of s (stored_traffic (mc j) (rc j))) q))
+    let last = c.in_ok-refresh.ensures.anew gone set.follows in
+    holds-said s t u i held stores traffic q move refl c.refresh.new.self (both-keep said c.refresh.ensures.said) refl refl refl c.refresh.new.self.tally
+    (last.facts
+    ∙ (λ j. set_at (set.facts j) q (get (facts_of s (stored_traffic (said.messages j).content (said.receipts j).content)) q))
     ∙ facts-taken s t u i held stores traffic q move refl cs tells)
-    (c.in_ok-refresh.ensures.notes gone still
-    ∙ (λ j. with_listing (c.in_ok-follow.ensures.notes now may j) q (list_held (gs j) q))
+    (last.notes
+    ∙ (λ j. with_listing (set.notes j) q (list_held (gs j) q))
     ∙ notes-taken s t u i held stores traffic q move refl cs tells)
-    (c.in_ok-refresh.ensures.due (c.in_ok-follow.ensures.due (due-kept s t i held stores.messages)
-    ∙ (λ j. due_in (messages_in (sym mc j)) c.follow.new.self.tally.facts))
-    ∙ (λ j. due_in (messages_in (mc j)) c.refresh.new.self.tally.facts))
-    (c.in_ok-refresh.ensures.ends (c.in_ok-follow.ensures.ends (ends-kept s t i held stores.messages)
-    ∙ (λ j. ends_by s.windows (messages_in (sym mc j)) c.follow.new.self.tally.facts))
-    ∙ (λ j. ends_by s.windows (messages_in (mc j)) c.refresh.new.self.tally.facts))
-    (ap (λ (n : NumbersValue). n.numbers) (c.refresh.ensures.numbers ∙ c.follow.ensures.numbers) ∙ ap (λ (h : Holding). h.numbers) held)
+    (c.in_ok-refresh.ensures.due (c.in_ok-follow.ensures.due (due-same (due-held s t i held) stores.messages)))
+    (ap (λ (h : Holding). h.numbers) held)
 
 pub returns-in_default-clause-touches : goal.returns-in_default-clause-touches
 returns-in_default-clause-touches c = record {
@@ -138,15 +112,13 @@ returns-clause-touches c =
     let r = c.in-Some.receipt.now in
     let some : ◌≡◌ {A = Option ReceivedReceipt} (Some r) (option_copied c.get.result) = search rules in
     let there : get (receipts_in i.receipts.content) q ≡ Some r = sym (some ∙ c.get.ensures ∙ stored-at i.receipts.content q) in
-    let keyed : receipt_key_at i.standings.members q ≡ Some c.key-key.result = ap (λ (g : Grouping). receipt_key_at g q) c.requires.are.grouped
-    ∙ ap (option_map (λ (x : GroupedReceipt). x.key)) (receipt-there s q (stored_traffic i.messages.content i.receipts.content) r there)
-    ∙ ap Some (sym c.key-key.ensures) in
+    let keyed = ap (option_map (λ (x : GroupedReceipt). x.key)) (receipt-in c.requires.are q r there) ∙ ap Some (sym c.key-key.ensures) in
     let walked = ap (vacancies_at i.standings) keyed in
     let as-many = ap (length {A = Change}) c.as_slice.ensures.value in
     record {
       changes = c.in_ok-changes.changes.items;
       told = subst (λ (x : Grouping). TellsChanges i.standings.members x c.in_ok-changes.changes.items)
-          (sym (ap (λ (v : GroupsValue). v.members) (c.refresh.ensures.standings ∙ c.follow.ensures.standings))) c.in_ok-changes.ensures.changes;
+          (sym (ap (λ (v : GroupsValue). v.members) (c.refresh.ensures.said.standings ∙ c.follow.ensures.said.standings))) c.in_ok-changes.ensures.changes;
       bound = omega (
         arith,
         walked,
@@ -166,11 +138,9 @@ returns-clause-vacant c = λ k.
     let r = c.in-Some.receipt.now in
     let some : ◌≡◌ {A = Option ReceivedReceipt} (Some r) (option_copied c.get.result) = search rules in
     let there : get (receipts_in i.receipts.content) q ≡ Some r = sym (some ∙ c.get.ensures ∙ stored-at i.receipts.content q) in
-    let keyed : receipt_key_at i.standings.members q ≡ Some c.key-key.result = ap (λ (g : Grouping). receipt_key_at g q) c.requires.are.grouped
-    ∙ ap (option_map (λ (x : GroupedReceipt). x.key)) (receipt-there s q (stored_traffic i.messages.content i.receipts.content) r there)
-    ∙ ap Some (sym c.key-key.ensures) in
+    let keyed = ap (option_map (λ (x : GroupedReceipt). x.key)) (receipt-in c.requires.are q r there) ∙ ap Some (sym c.key-key.ensures) in
     let taken = ap {B = ℕ} (λ (key : Option LinkKey). if is_key k key then 2 else 0) keyed in
-    let same = ap (λ (v : GroupsValue). vacancies v k) (c.refresh.ensures.standings ∙ c.follow.ensures.standings) in
+    let same = ap (λ (v : GroupsValue). vacancies v k) (c.refresh.ensures.said.standings ∙ c.follow.ensures.said.standings) in
     omega (arith, taken, same, c.in_ok-changes.ensures.vacant k)
 
 pub returns-clause-weighs : goal.returns-clause-weighs
@@ -181,11 +151,11 @@ returns-clause-weighs c =
     let r = c.in-Some.receipt.now in
     let g = i.standings.members in
     let h = c.remove_receipt.new.self.members in
-    let t = stored_traffic i.messages.content i.receipts.content in
+    let t = stored_in i in
     let some : ◌≡◌ {A = Option ReceivedReceipt} (Some r) (option_copied c.get.result) = search rules in
     let there : get (receipts_in i.receipts.content) q ≡ Some r = sym (some ∙ c.get.ensures ∙ stored-at i.receipts.content q) in
-    let keyed : get g.receipts q ≡ Some (keyed_receipt s r) = ap (λ (g : Grouping). get g.receipts q) c.requires.are.grouped ∙ receipt-there s q t r there in
-    let free = ap (λ (x : Grouping). get x.submits q) c.requires.are.grouped ∙ submit-absent s q t (no-message-there t q r (c.requires.are.apart q) there) in
+    let keyed = receipt-in c.requires.are q r there in
+    let free = no-submit-in c.requires.are q (no-message-there t q r (c.requires.are.apart q) there) in
     let move = subst (λ (x : Grouping). IsMoveOf (receipt_key s r) q g x) (sym c.in_ok-changes.ensures.ok) (receipt-taken g q (keyed_receipt s r) keyed free) in
     let told = few-changes g h c.in_ok-changes.changes.items c.in_ok-changes.ensures.changes (receipt_key s r) q move in
     let walked = ap (vacancies i.standings) c.key-key.ensures in
@@ -205,12 +175,3 @@ returns-clause-weighs c =
       c.in_ok-follow.ensures.touches,
       c.in_ok-refresh.ensures.touches,
     )
-
-pub returns-clause-idle : goal.returns-clause-idle
-returns-clause-idle c = λ none.
-    let i = c.args.self.now in
-    let q = c.args.place in
-    let r = c.in-Some.receipt.now in
-    let some : ◌≡◌ {A = Option ReceivedReceipt} (Some r) (option_copied c.get.result) = search rules in
-    let there : get (receipts_in i.receipts.content) q ≡ Some r = sym (some ∙ c.get.ensures ∙ stored-at i.receipts.content q) in
-    not-there (get (receipts_in i.receipts.content) q) r none there

@@ -3,8 +3,8 @@ use Rattle.std.specs.Bool.{Decides}
 use Rattle.std.proofs.lemmas.Bool.{false≢true}
 use Rattle.std.proofs.lemmas.Bool.Decides.{Decides-and}
 use Rattle.std.proofs.lemmas.Option.{same_Some, none-some}
-use Rattle.smq_kit.specs.declared.form.Form.{Form}
-use Rattle.smq_kit.specs.contracts.form.FormPartialEq.TheImpl as form_eq
+use Rattle.smq_kit.specs.declared.message_id.Form.{Form}
+use Rattle.smq_kit.specs.contracts.message_id.FormPartialEq.TheImpl as form_eq
 use Rattle.smq_book.specs.declared.present.forms.Forms.{Forms}
 use Rattle.smq_book.specs.present.Settings.{SettingsValue, set_forms_of}
 use Rattle.smq_book.proofs.lemmas.present.NumberMaps.{get-seen}

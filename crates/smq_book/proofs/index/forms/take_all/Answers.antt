@@ -1,0 +1,62 @@
+use Rattle.std.proofs.Common.{◌≡◌, ◌+◌, ◌++◌, List, ◌∷◌, drop, get_or, sym, ap, ◌∙◌, arith}
+use Rattle.std.specs.List.{sum_by}
+use Rattle.std.specs.Prelude.{map}
+use Rattle.std.proofs.lemmas.List.{append-nil, append_assoc, at_drop_all, drop_more, take_all}
+use Rattle.std.proofs.lemmas.List.Sums.{sum_by_more}
+use Rattle.smq_kit.specs.declared.place.Dir.TheVariants.{FromClient}
+use Rattle.smq_kit.specs.declared.place.Place.{Place}
+use Rattle.smq_book.specs.declared.index.stored.Said.{Said}
+use Rattle.smq_book.specs.index.Held.{held_now, traffic_held}
+use Rattle.smq_book.specs.index.LinkOut.{found_at, found_in_turn, take_at}
+use Rattle.smq_book.specs.index.Touches.{taken_load}
+use Rattle.smq_book.specs.join.Moves.{moved_by}
+use Rattle.smq_book.specs.pairing.Traffic.{TrafficValue}
+use Rattle.smq_book.proofs.lemmas.index.LinkOut.{moves-more}
+use Rattle.smq_book.proofs.lemmas.index.Weights.{both-go, load-lighter}
+use Rattle.smq_book.proofs.lemmas.index.Rises.{both-rise}
+use Rattle.smq_book.proofs.index.forms.take_all.Goals as goal
+
+-- the place that is read past the end of a list
+abbrev none : Place
+none = record { session = record { 0 = 0 }; dir = FromClient; offset = 0 }
+
+pub loop-place-preserved : goal.loop-place-preserved
+loop-place-preserved c =
+    let first = traffic_held (held_now c.args.index.now) in
+    let t = traffic_held (held_now c.loop-place.index) in
+    let u = traffic_held (held_now c.take_one.new.index) in
+    let xs = c.args.places.now in
+    let i = c.loop-place.place-index in
+    let q = get_or xs i none in
+    let rest = drop (i + 1) xs in
+    let after = c.in_ok-take_one.ensures.held in
+    let next : drop i xs ≡ q ∷ rest = drop_more xs i none c.loop-place-test.true in
+    record {
+      held = after.held;
+      traffic = moves-more t u (take_at q) (map take_at (drop i xs)) (map take_at rest) (moved_by first (map take_at xs)) after.traffic
+          (ap (map take_at) next) c.loop-place.invariant.traffic;
+      taken = ap (λ (es : List (Place × Said)). es ++ found_in_turn u rest) c.in_ok-take_one.ensures.taken
+          ∙ append_assoc c.loop-place.taken.items (found_at t q) (found_in_turn u rest)
+          ∙ ap (λ (w : TrafficValue). c.loop-place.taken.items ++ (found_at t q ++ found_in_turn w rest)) after.traffic
+          ∙ ap (λ (qs : List Place). c.loop-place.taken.items ++ found_in_turn t qs) (sym next)
+          ∙ c.loop-place.invariant.taken;
+      settled = c.take_one.ensures.settled ∙ c.loop-place.invariant.settled;
+      went = both-go c.args.index.now.standings c.loop-place.index.standings c.take_one.new.index.standings c.loop-place.invariant.went
+          c.in_ok-take_one.ensures.went;
+      touches = (let more = sum_by_more (taken_load c.args.index.now.standings) xs i none c.loop-place-test.true in
+          let less = load-lighter c.args.index.now.standings c.loop-place.index.standings c.loop-place.invariant.went q in
+          omega (arith, more, less, c.loop-place.invariant.touches, c.in_ok-take_one.ensures.touches));
+      rises = both-rise c.args.index.now c.loop-place.index c.take_one.new.index c.loop-place.invariant.rises c.in_ok-take_one.ensures.rises;
+    }
+
+pub returns-clause-taken : goal.returns-clause-taken
+returns-clause-taken c =
+    sym (append-nil c.loop-place.taken.items)
+    ∙ sym (at_drop_all (λ (qs : List Place). c.loop-place.taken.items ++ found_in_turn (traffic_held (held_now c.loop-place.index)) qs)
+    c.args.places.now c.loop-place.place-index (omega arith))
+    ∙ c.loop-place.invariant.taken
+
+pub returns-clause-touches : goal.returns-clause-touches
+returns-clause-touches c =
+    let all = ap (sum_by (taken_load c.args.index.now.standings)) (take_all c.loop-place.place-index c.args.places.now (omega arith)) in
+    omega (arith, all, c.loop-place.invariant.touches)
