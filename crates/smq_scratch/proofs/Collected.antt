@@ -68,10 +68,3 @@ pub collects-same : {S E V : Type 0} (items : V → List S) (s : List S) (refs :
 collects-same items s refs x (Ok v) e zip m =
     same_from_all_zip (λ a b. b ≡ a) s (items v) (collects (λ a b. b ≡ a) items s refs x (Ok v) e zip m) (λ a b same. same)
 collects-same items s refs x (Err q) e zip m = tt
-
--- and what one collects whose closure can't fail
-pub collects-all : {S F E V : Type 0} (R : S → F → Type 0) (items : V → List F) (t s : List S) (r : Result V E) → t ≡ s
-    → IfOk r (λ v. (xs : List F) × ((refs : List (Bor S)) × (map (λ (b : Bor S). b.now) refs ≡ t) × AllZip (λ (b : Bor S) y. R b.now y) refs xs)
-    × (items v ≡ xs)) → IfOk r (λ v. AllZip R s (items v))
-collects-all R items t s (Ok v) same h = rw h.2 (slice-AllZip h.1.0 s (h.1.1 ∙ same) R h.0 h.1.2)
-collects-all R items t s (Err e) same h = tt

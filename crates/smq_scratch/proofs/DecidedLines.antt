@@ -12,7 +12,7 @@ use Rattle.smq_pdu.specs.declared.body.Submit.{Submit}
 use Rattle.smq_tally.specs.declared.outcome.Outcome.{Outcome}
 use Rattle.smq_tally.specs.declared.outcome.Outcome.TheVariants as o
 use Rattle.smq_lines.specs.Lines.{MessageLineValue}
-use Rattle.smq_book.specs.declared.pairing.source.Source.{Source}
+use Rattle.smq_book.specs.declared.pairing.pairs.Source.{Source}
 use Rattle.smq_book.specs.declared.present.kept.KeptPdu.{KeptPdu}
 use Rattle.smq_book.specs.declared.present.session.Session.{Session}
 use Rattle.smq_book.specs.present.Kept.{header_of, id_in, kept_pdus, submit_in}

@@ -1,54 +1,29 @@
 -- What is made of messages and receipts one by one is what is made of all.
-use Rattle.std.proofs.Common.{◌≡◌, ◌++◌, ℕ, Global, List, [], ◌∷◌, Vec, map, refl, sym, ap, ◌∙◌, subst}
+use Rattle.std.proofs.Common.{◌≡◌, ◌++◌, ℕ, List, sym, ap, ◌∙◌, subst}
 use Rattle.std.specs.Prelude.{T}
 use Rattle.std.specs.BTreeMap.{BTreeMap}
 use Rattle.std.specs.FinMap.{from_entries, values}
-use Rattle.std.specs.List.{AllZip, flat_map}
-use Rattle.std.proofs.lemmas.Grind.{flat_map-append}
-use Rattle.std.proofs.lemmas.Slice.Zip.{AllZip-map}
-use Rattle.rayon.proofs.ListFacts.{AllZip-weaken}
+use Rattle.std.specs.List.{flat_map}
 use Rattle.smq_kit.specs.declared.link_key.LinkKey.{LinkKey}
 use Rattle.smq_tally.specs.declared.fact.Fact.{Fact}
 use Rattle.smq_tally.specs.declared.list.Listed.{Listed}
 use Rattle.smq_tally.specs.Lists.{listed_set}
 use Rattle.smq_tally.specs.Tables.{AreOfDifferentPlaces, facts_at, tables_of}
 use Rattle.smq_book.specs.present.Present.{PresentValue}
-use Rattle.smq_book.specs.present.Settings.{SettingsValue}
 use Rattle.smq_book.specs.pairing.Traffic.{traffic_of}
 use Rattle.smq_book.specs.join.Facts.{facts_of}
 use Rattle.smq_book.specs.whole.Scratch.{scratch}
 use Rattle.smq_book.specs.within.Accepted.{HasDeciders, HasNumbers}
-use Rattle.smq_book.specs.within.Listings.{note_kept, notes_kept}
+use Rattle.smq_book.specs.within.Listings.{notes_kept}
 use Rattle.smq_book.specs.within.Lists.{notes_of, receipt_notes_listed, receipts_of, submits_of}
 use Rattle.smq_book.specs.within.Messages.{SubmittedMessage}
-use Rattle.smq_book.specs.within.Outcomes.{fact_of}
-use Rattle.smq_book.specs.within.Receipts.{KeyedReceipt, PlacedReceipt}
-use Rattle.smq_book.proofs.lemmas.whole.AgreePresent.{facts-are, notes-are}
+use Rattle.smq_book.specs.within.Receipts.{PlacedReceipt}
+use Rattle.smq_book.proofs.lemmas.whole.AgreePresent.{notes-are}
 use Rattle.smq_book.proofs.lemmas.join.MoveLemmas.{fact-place}
 use Rattle.smq_book.proofs.lemmas.whole.Tallied.{facts-apart, facts-rise, made-of-entries, values-placed}
-use Rattle.smq_scratch.specs.Said.{Knows, Notes}
 use Rattle.smq_scratch.specs.Sourced.{SourcedSession, receipts_in, sourced_of}
 use Rattle.smq_scratch.proofs.Collected.{receipts-present}
 use Rattle.smq_scratch.proofs.ReceiptNotes.{kept-notes}
-
--- the listed receipts of each session are those of all
-pub notes-joined : (numbers : BTreeMap LinkKey ℕ) (deciders : BTreeMap LinkKey PlacedReceipt) (xs : List SourcedSession)
-    (ns : List (Vec Listed Global)) → AllZip (λ x (v : Vec Listed Global). Notes numbers deciders x v.items) xs ns
-    → flat_map (λ (v : Vec Listed Global). v.items) ns ≡ notes_kept numbers deciders (flat_map receipts_in xs)
-notes-joined numbers deciders [] [] h = refl
-notes-joined numbers deciders [] (v ∷ ns) h = elim h [ ]
-notes-joined numbers deciders (x ∷ xs) [] h = elim h [ ]
-notes-joined numbers deciders (x ∷ xs) (v ∷ ns) h =
-    (λ i. h.0 i ++ notes-joined numbers deciders xs ns h.1 i)
-    ∙ sym (flat_map-append (note_kept numbers deciders) (receipts_in x) (flat_map receipts_in xs))
-
--- what is known of each message is what is known of all
-pub facts-known : (s : SettingsValue) (numbers : BTreeMap LinkKey ℕ) (deciders : BTreeMap LinkKey PlacedReceipt)
-    (submits : List SubmittedMessage) (receipts : List KeyedReceipt) → HasNumbers numbers submits → HasDeciders deciders receipts
-    → (ms : List SubmittedMessage) (fs : List Fact) → AllZip (Knows s numbers deciders) ms fs → fs ≡ map (fact_of s submits receipts) ms
-facts-known s numbers deciders submits receipts n d ms fs h =
-    AllZip-map (fact_of s submits receipts) ms fs (AllZip-weaken (Knows s numbers deciders) (λ m f. f ≡ fact_of s submits receipts m)
-    (λ m f known. known submits receipts n d) ms fs h)
 
 -- facts of what is present are of different places
 pub apart : (p : PresentValue) (fs : List Fact) → fs ≡ values (facts_of p.settings (traffic_of p.sessions)) → AreOfDifferentPlaces fs
@@ -69,13 +44,6 @@ module _ (p : PresentValue) (numbers : BTreeMap LinkKey ℕ) (deciders : BTreeMa
     (d : HasDeciders deciders (flat_map receipts_in xs)) where
   of_all : HasNumbers numbers (submits_of p) × HasDeciders deciders (receipts_of p)
   of_all = (subst (HasNumbers numbers) submits n, subst (HasDeciders deciders) (receipts-present p xs sessions) d)
-
-  -- what is known of each message is what is known of what is present
-  pub facts-made : (s : SettingsValue) (fs : List Fact) → s ≡ p.settings → AllZip (Knows s numbers deciders) ms fs
-      → fs ≡ values (facts_of p.settings (traffic_of p.sessions))
-  facts-made s fs settings known =
-      facts-known s numbers deciders (submits_of p) (receipts_of p) of_all.0 of_all.1 ms fs known
-      ∙ (λ i. map (fact_of (settings i) (submits_of p) (receipts_of p)) (submits i)) ∙ sym (facts-are p)
 
   -- the notes of sessions and their listed receipts are those of what is present
   pub notes-made : (old new : List Listed) → old ≡ notes_of p → new ≡ old ++ notes_kept numbers deciders (flat_map receipts_in xs)

@@ -1,11 +1,10 @@
 -- What the lines have in common with the tables of what is present.
-use Rattle.std.proofs.Common.{◌≡◌, ℕ, zero, suc, ◌+◌, Bool, true, false, ◌⊎◌, inl, inr, cond, List, [], ◌∷◌, ◌++◌, Option, Some, None, refl, sym, ap, ◌∙◌, subst}
+use Rattle.std.proofs.Common.{◌≡◌, ℕ, zero, suc, ◌+◌, Bool, true, false, ◌||◌, ◌⊎◌, inl, inr, cond, List, [], ◌∷◌, ◌++◌, Option, Some, None, refl, sym, ap, ◌∙◌, subst}
 use Rattle.std.specs.Prelude.{◌↔◌, Contains, IsTrue, count_by, is_some, map, option_and_then, option_map, option_to_list}
-use Rattle.std.specs.FinMap.{contains_key, contains_key-keys, get, keys, values}
-use Rattle.std.specs.List.{flat_map, list_any}
+use Rattle.std.specs.FinMap.{contains_key, get, values}
+use Rattle.std.specs.List.{flat_map}
 use mathlib.Core.List.{map-map}
 use Rattle.std.proofs.lemmas.Bool.{false≢true, or_from}
-use Rattle.std.proofs.lemmas.List.Folds.{list_any-append}
 use Rattle.std.proofs.lemmas.List.Sums.{sum_by-cons}
 use Rattle.smq_kit.specs.declared.place.Place.{Place}
 use Rattle.smq_tally.specs.declared.fact.CountKey.{CountKey}
@@ -19,8 +18,7 @@ use Rattle.smq_tally.specs.Lists.{HasOutcomeAt, listed}
 use Rattle.smq_tally.specs.Rows.{stands_in}
 use Rattle.smq_tally.specs.Tables.{listed_in}
 use Rattle.smq_tally.specs.within.Counting.{count_of}
-use Rattle.smq_tally.specs.within.ListOrder.{same_listed}
-use Rattle.smq_tally.proofs.Listings.{get-listed, marked}
+use Rattle.smq_tally.proofs.Listings.{marked}
 use Rattle.smq_tally.proofs.Standing.{lapsed-listed, open-listed}
 use Rattle.smq_tally.proofs.Tallies.{count-tables}
 use Rattle.smq_lines.specs.Lines.{MessageLineValue}
@@ -31,6 +29,8 @@ use Rattle.smq_book.specs.join.Facts.{facts_of}
 use Rattle.smq_book.specs.join.Keyed.{can_decide, grouping_of}
 use Rattle.smq_book.specs.join.Listings as listings
 use Rattle.smq_book.specs.join.Listings.{receipt_notes}
+use Rattle.smq_book.specs.join.Moves.{receipt_standings_of}
+use Rattle.smq_book.specs.index.Held.{is_traffic_list}
 use Rattle.smq_book.specs.whole.Scratch.{scratch}
 use Rattle.smq_book.specs.within.Accepted.{number_accepted}
 use Rattle.smq_book.specs.within.Listings.{is_extra, list_by, note_of, stands_at}
@@ -38,6 +38,8 @@ use Rattle.smq_book.specs.within.Lists.{receipts_of, submits_of}
 use Rattle.smq_book.specs.within.Messages.{SubmittedMessage}
 use Rattle.smq_book.specs.within.Receipts.{KeyedReceipt, PlacedReceipt, candidates, least_receipt}
 use Rattle.smq_book.proofs.lemmas.edits.NotedTraffic.{said-noted, session_noted}
+use Rattle.smq_book.proofs.lemmas.edits.ReceiptNotes.{note-by}
+use Rattle.smq_book.proofs.lemmas.join.ReceiptLists.{never-in, of-standing}
 use Rattle.smq_book.proofs.lemmas.pairing.Members.{has-map, map-has}
 use Rattle.smq_book.proofs.lemmas.whole.AgreePresent.{facts-are, receipts-listed}
 use Rattle.smq_book.proofs.lemmas.whole.Tallied.{is-marked}
@@ -97,33 +99,17 @@ receipts-of-lines p = lists-are (submits_of p) (receipts_of p) (receipts_of p) �
 -- A list that has nothing that a session notes, and no receipts.
 record IsOfMessages (which : l.List) (place : Place) : Type 0 where
   session : (n : ℕ) (s : Session) → session_noted n s (listed which place) ≡ false
-  stray : (at : Place) → same_listed (listed which place) (listed list.StrayReceipts at) ≡ false
-  ambiguous : (at : Place) → same_listed (listed which place) (listed list.AmbiguousReceipts at) ≡ false
-  extra : (at : Place) → same_listed (listed which place) (listed list.ExtraReceipts at) ≡ false
+  other : is_traffic_list which ≡ true
 
 of-open : (place : Place) → IsOfMessages list.Open place
-of-open place = record { session = λ n s. refl; stray = λ at. refl; ambiguous = λ at. refl; extra = λ at. refl }
+of-open place = record { session = λ n s. refl; other = refl }
 
 of-lapsed : (place : Place) → IsOfMessages list.Lapsed place
-of-lapsed place = record { session = λ n s. refl; stray = λ at. refl; ambiguous = λ at. refl; extra = λ at. refl }
+of-lapsed place = record { session = λ n s. refl; other = refl }
 
 module _ (p : PresentValue) (which : l.List) (place : Place) (h : IsOfMessages which place) where
   abbrev it : Listed
   it = listed which place
-
-  receipt-none : (n : ℕ) (extra : Bool) (at : Place)
-      → list_any (same_listed it) (option_to_list (option_map (λ name. listed name at) (list_by n extra))) ≡ false
-  receipt-none zero extra at = or_from (same_listed it (listed list.StrayReceipts at)) false (h.stray at) refl
-  receipt-none (suc zero) true at = or_from (same_listed it (listed list.ExtraReceipts at)) false (h.extra at) refl
-  receipt-none (suc zero) false at = refl
-  receipt-none (suc (suc n)) extra at = or_from (same_listed it (listed list.AmbiguousReceipts at)) false (h.ambiguous at) refl
-
-  receipts-none : (es : List KeyedReceipt) → list_any (same_listed it) (flat_map (note_of (submits_of p) (receipts_of p)) es) ≡ false
-  receipts-none [] = refl
-  receipts-none (e ∷ es) =
-      list_any-append (same_listed it) (note_of (submits_of p) (receipts_of p) e) (flat_map (note_of (submits_of p) (receipts_of p)) es)
-      ∙ or_from _ _ (receipt-none (number_accepted e.0 (submits_of p)) (is_extra (least_receipt (candidates e.0 (receipts_of p))) e.1)
-      e.1.place) (receipts-none es)
 
   session-none : (s : Option Session) → option_and_then (λ s. marked (session_noted place.session.0 s it)) s ≡ None
   session-none None = refl
@@ -132,13 +118,12 @@ module _ (p : PresentValue) (which : l.List) (place : Place) (h : IsOfMessages w
   -- nothing is noted in it
   unnoted : contains_key (listings.notes_of p.settings (traffic_of p.sessions)) it ≡ false
   unnoted =
-      let notes = (traffic_of p.sessions).notes in
-      let receipts = receipt_notes (grouping_of p.settings (traffic_of p.sessions)) in
-      ap is_some (get-listed (keys notes ++ receipts) it) ∙ is-marked (list_any (same_listed it) (keys notes ++ receipts))
-      ∙ list_any-append (same_listed it) (keys notes) receipts
-      ∙ or_from _ _ (sym (contains_key-keys notes it)
-      ∙ ap is_some (said-noted p.sessions it ∙ session-none (get p.sessions place.session.0)))
-      (ap (list_any (same_listed it)) (receipts-listed p) ∙ receipts-none (receipts_of p))
+      let t = traffic_of p.sessions in
+      let x = get (receipt_standings_of (grouping_of p.settings t)) place in
+      ap is_some (note-by p.settings t which place x refl)
+      ∙ is-marked (contains_key t.notes it || listings.is_named which (option_and_then listings.list_of_standing x))
+      ∙ or_from _ _ (ap is_some (said-noted p.sessions it ∙ session-none (get p.sessions place.session.0)))
+      (never-in which (option_and_then listings.list_of_standing x) (of-standing x) h.other)
 
 module _ (p : PresentValue) (place : Place) where
   -- a fact there is that of a line, and that of a line is there

@@ -28,8 +28,8 @@ use Rattle.smq_book.specs.pairing.Traffic.{Origin, place_of, placed, pairing_amo
 use Rattle.smq_book.specs.within.Pairs.{Rises, from_session}
 use Rattle.smq_book.proofs.lemmas.pairing.Paired.{standing, filter-placed}
 use Rattle.smq_scratch.specs.declared.sides.Side.{Side}
-use Rattle.smq_scratch.specs.declared.turns.Kind.{Kind}
-use Rattle.smq_scratch.specs.declared.turns.Kind.TheVariants.{Request, Response}
+use Rattle.smq_scratch.specs.declared.sides.Kind.{Kind}
+use Rattle.smq_scratch.specs.declared.sides.Kind.TheVariants.{Request, Response}
 use Rattle.smq_scratch.specs.within.Turns.{is_turn, turns_of, partner_after, partner_at, HasPartners}
 use Rattle.smq_scratch.specs.within.Sides.{IsSide, IsPaired, pairing_in, disagrees_with, is_noted, is_noted_by, note_of, noted, noted_in}
 

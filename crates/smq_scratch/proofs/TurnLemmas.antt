@@ -13,9 +13,9 @@ use Rattle.smq_pdu.specs.Header.{header_with}
 use Rattle.smq_pair.proofs.Entered.{count-last}
 use Rattle.smq_book.specs.declared.present.kept.KeptPdu.{KeptPdu}
 use Rattle.smq_book.specs.present.Kept.{header_of, headers_of}
-use Rattle.smq_scratch.specs.declared.turns.Kind.{Kind}
-use Rattle.smq_scratch.specs.declared.turns.Kind.TheVariants.{Request, Response}
-use Rattle.smq_scratch.specs.declared.turns.Turns.{Turns}
+use Rattle.smq_scratch.specs.declared.sides.Kind.{Kind}
+use Rattle.smq_scratch.specs.declared.sides.Kind.TheVariants.{Request, Response}
+use Rattle.smq_scratch.specs.declared.sides.Turns.{Turns}
 use Rattle.smq_scratch.specs.within.Turns.{is_kind, is_turn, turns_of, BeginsAt, first_in, next_at, advanced, HasNext, HasTurns, taken_more, partner_at, partner_after, HasPartnersTo}
 
 get-drop : {X : Type 0} (n : ℕ) (xs : List X) → slice_get xs n ≡ slice_get (drop n xs) 0

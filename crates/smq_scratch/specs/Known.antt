@@ -7,7 +7,7 @@ use Rattle.smq_kit.specs.declared.error_code.ErrorCode.TheVariants as e
 use Rattle.smq_tally.specs.declared.outcome.Outcome.TheVariants as o
 use Rattle.smq_lines.specs.Lines.{MessageLineValue, ReceiptLineValue}
 use Rattle.smq_lines.specs.declared.lines.ReceiptStanding.TheVariants.{Stray, Deciding, Extra, Noted, Ambiguous}
-use Rattle.smq_book.specs.declared.pairing.source.Source.{Source}
+use Rattle.smq_book.specs.declared.pairing.pairs.Source.{Source}
 use Rattle.smq_book.specs.present.Content as c
 use Rattle.smq_book.specs.declared.present.kept.KeptPdu.{KeptPdu}
 use Rattle.smq_book.specs.known.Pairing.{place_at, receipt_pdu, receipt_saying, submit}

@@ -1,18 +1,23 @@
-//! The tables of what is present, counted from nothing, by which those that each edit keeps current are checked.
+//! The tables of what is present, counted from nothing, by which those that each edit keeps current are checked: by one thread from the
+//! PDUs that the sessions keep, or from their octets, which many threads decode and read again.
 ghost use Rattle.std.specs.Prelude.{◌≡◌, IfOk};
+ghost use Rattle.std.specs.List.{AllZip};
 ghost use Rattle.smq_book.specs.whole.Scratch.{scratch};
 ghost use Rattle.smq_book.specs.within.Lists.{notes_of, submits_of};
+ghost use Rattle.smq_scratch.specs.Said.{Says};
 ghost use Rattle.smq_scratch.specs.Sourced.{sourced_of};
 
-use crate::accepted::Accepted;
-use crate::deciders::Deciders;
+use crate::deciders::{Accepted, Deciders};
 use crate::facts::facts_with;
 use crate::listings::push_receipt_notes;
-use crate::sessions::{SourcedSession, sourced};
-use crate::traffic::{Traffic, joined, read_sessions};
-use smq_book::Present;
-use smq_tally::Tables;
+use crate::traffic::{
+    DecodedSession, SourcedSession, Traffic, joined, read_session, read_sessions, sourced,
+    sourced_again,
+};
+use rayon::prelude::*;
+use smq_book::{Present, Tables};
 use std::alloc::{AllocError, Global};
+use std::thread::Threads;
 
 /// The tables of what is present: it pairs the PDUs of each session as they were decoded when their octets came, joins the messages
 /// with their receipts and routes, and counts them. It looks at nothing that a book stores of them.
@@ -25,8 +30,25 @@ pub fn tables_anew(alloc: Global, present: &Present) -> Result<Tables, AllocErro
     tables_of_traffic(alloc, present, sessions.as_slice(), traffic)
 }
 
+/// The same from the octets that are present: these are decoded again, and paired and read, many sessions at once, and joined and
+/// counted then. It looks at nothing that a book stores but the octets with their moments and what is set.
+pub fn audit<R: Threads + Sync>(
+    rt: &R,
+    alloc: Global,
+    present: &Present,
+) -> Result<Tables, AllocError>
+    ensures { IfOk result (λ tables. tables.shown ≡ scratch present.now) }
+{
+    let kept = sourced(alloc, present)?;
+    let decoded = decode_all(rt, alloc, kept.as_slice())?;
+    let sessions = sourced_again(alloc, decoded.as_slice())?;
+    let read = read_all(rt, alloc, sessions.as_slice())?;
+    let traffic = joined(alloc, read)?;
+    tables_of_traffic(alloc, present, sessions.as_slice(), traffic)
+}
+
 /// The tables of what is present, where these are the sessions, and this is what they say.
-pub(crate) fn tables_of_traffic(
+fn tables_of_traffic(
     alloc: Global,
     present: &Present,
     sessions: &[SourcedSession<'_>],
@@ -45,4 +67,44 @@ pub(crate) fn tables_of_traffic(
     let facts = facts_with(alloc, present, submits, &accepted, &deciders)?;
     let tables = Tables::of(alloc, facts.as_slice(), notes.as_slice())?;
     Ok(tables)
+}
+
+/// Equal sessions, whose octets are decoded again, many at once.
+fn decode_all<R: Threads + Sync>(
+    rt: &R,
+    alloc: Global,
+    sessions: &[SourcedSession<'_>],
+) -> Result<Vec<DecodedSession>, AllocError>
+    ensures { IfOk result (λ decoded. decoded.items ≡ sessions.now) }
+{
+    let all: Result<Vec<DecodedSession>, AllocError> = sessions
+        .par_iter()
+        .with_min_len(1)
+        .map(
+            move |sourced: &SourcedSession<'_>| -> Result<DecodedSession, AllocError>
+                ensures { IfOk result (λ again. again ≡ sourced.now) }
+            { DecodedSession::of(alloc, sourced) },
+        )
+        .collect(rt, alloc)?;
+    all
+}
+
+/// What each of these sessions says, in their order, many read at once.
+fn read_all<'a, R: Threads + Sync>(
+    rt: &R,
+    alloc: Global,
+    sessions: &[SourcedSession<'a>],
+) -> Result<Vec<Traffic<'a>>, AllocError>
+    ensures { IfOk result (λ read. AllZip Says sessions.now read.items) }
+{
+    let all: Result<Vec<Traffic<'a>>, AllocError> = sessions
+        .par_iter()
+        .with_min_len(1)
+        .map(
+            move |sourced: &SourcedSession| -> Result<Traffic, AllocError>
+                ensures { IfOk result (λ traffic. Says sourced.now traffic) }
+            { read_session(alloc, sourced) },
+        )
+        .collect(rt, alloc)?;
+    all
 }

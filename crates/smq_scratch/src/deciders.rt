@@ -1,19 +1,96 @@
-//! Of each key of each link the earliest receipt that can decide, in one map.
-ghost use Rattle.std.specs.Prelude.{◌≡◌, ◌++◌, List, IfOk, OnOk};
-ghost use Rattle.std.specs.Option.{option_copied};
+//! What there is of each key of each link: how many messages are accepted with it, and the earliest delivery receipt that can decide.
+ghost use Rattle.std.specs.Prelude.{◌≡◌, ◌++◌, List, IfOk, OnOk, ◌<◌, ◌+◌, ◌^◌};
+ghost use Rattle.std.specs.Option.{option_copied, option_to_list};
 ghost use Rattle.std.specs.FinMap as map;
 ghost use Rattle.std.specs.List.{flat_map};
+ghost use Rattle.std.specs.Ordering.{is_gt};
 ghost use Rattle.smq_kit.specs.LinkKeys.{by_key};
-ghost use Rattle.smq_book.specs.within.Accepted.{HasDeciders, decider_kept, decider_with};
-ghost use Rattle.smq_book.specs.within.Receipts.{KeyedReceipt, receipts_among};
+ghost use Rattle.smq_book.specs.within.Accepted.{HasDeciders, decider_kept, decider_with, HasNumbers, number_kept};
+ghost use Rattle.smq_book.specs.within.Receipts.{KeyedReceipt, receipts_among, receipt_cmp, receipt_by};
 ghost use Rattle.smq_scratch.specs.Sourced.{receipts_in};
+ghost use Rattle.smq_book.specs.present.Kept.{receipt_in};
+ghost use Rattle.smq_book.specs.join.Keyed as keyed;
+ghost use Rattle.smq_scratch.specs.Lines.{deciding_receipt};
+ghost use Rattle.smq_book.specs.within.Accepted as among;
+ghost use Rattle.smq_book.specs.within.Messages.{SubmittedMessage as Submit};
 
-use crate::receipts::{PlacedReceipt, receipt_at};
-use crate::sessions::SourcedSession;
-use smq_book::{KeptPdu, Source};
-use smq_kit::HashedKey;
+use crate::submits::SubmittedMessage;
+use crate::traffic::SourcedSession;
+use smq_book::{KeptPdu, ReceivedReceipt, Source, place_of};
+use smq_kit::{Dir, HashedKey, Place};
+use smq_lines::DecidingReceipt;
 use std::alloc::{AllocError, Global};
 use std::collections::BTreeMap;
+use std::marker::Model;
+
+/// A delivery receipt that the centre sent.
+#[derive(Drop)]
+pub(crate) struct PlacedReceipt<'a> {
+    pub place: Place,
+    pub received: ReceivedReceipt<'a>,
+}
+
+impl<'a> Model for PlacedReceipt<'a> {
+    ghost use Rattle.smq_book.specs.within.Receipts.{PlacedReceipt};
+
+    ghost Value = { PlacedReceipt };
+
+    ghost view = { λ r. record {
+      link = r.received.link;
+      place = r.place;
+      moment = r.received.moment;
+      receipt = r.received.receipt;
+    } };
+}
+
+impl<'a> PlacedReceipt<'a> {
+    /// Whether its state is final and it isn't an intermediate notification.
+    pub(crate) fn can_decide(&self) -> bool
+        ensures { result ≡ keyed.can_decide self.now.receipt }
+    {
+        self.received.can_decide()
+    }
+
+    /// What the line for a message says of it, where it decides that.
+    pub(crate) fn deciding(&self) -> DecidingReceipt
+        ensures { result ≡ deciding_receipt self.now }
+    {
+        DecidingReceipt {
+            place: self.place,
+            moment: self.received.moment,
+            centre_delay: self.received.receipt.centre_delay,
+        }
+    }
+
+    /// Whether it comes after another, by moment, then by place.
+    fn is_after(&self, other: &PlacedReceipt<'_>) -> bool
+        ensures { result ≡ is_gt (receipt_cmp self.now other.now) }
+    {
+        let (mine, others) = (self.received.moment, other.received.moment);
+        mine > others || (mine == others && self.place > other.place)
+    }
+}
+
+/// The receipt that a PDU of the centre is, with the key of its id.
+pub(crate) fn receipt_at<'a>(
+    source: Source,
+    pdu: &'a KeptPdu,
+) -> Option<(HashedKey, PlacedReceipt<'a>)>
+    ensures { option_to_list result ≡ receipt_by (receipt_in pdu.now.content) source pdu.now }
+{
+    let receipt = pdu.content.receipt()?;
+    Some((
+        HashedKey::of(source.link, source.forms.receipt, &receipt.id),
+        PlacedReceipt {
+            place: place_of(source.session, Dir::FromCentre, pdu),
+            received: ReceivedReceipt {
+                link: source.link,
+                moment: pdu.moment,
+                receipt,
+            },
+        },
+    ))
+}
 
 /// The least receipt of each key, by moment and place, of those that can decide.
 #[derive(Drop)]
@@ -62,11 +139,7 @@ impl<'a> Deciders<'a> {
     }
 
     /// Takes the receipts of a session whose PDUs of the centre are these.
-    pub(crate) fn add_session(
-        &mut self,
-        source: Source,
-        centre: &'a [KeptPdu],
-    ) -> Result<(), AllocError>
+    fn add_session(&mut self, source: Source, centre: &'a [KeptPdu]) -> Result<(), AllocError>
         ensures { OnOk result ((receipts : List KeyedReceipt) → HasDeciders self.old.receipts receipts
             → HasDeciders self.new.receipts (receipts ++ receipts_among source centre.now)) }
     {
@@ -78,5 +151,57 @@ impl<'a> Deciders<'a> {
             }
         }
         Ok(())
+    }
+}
+
+/// How many submitted messages are accepted with each key, where there are any.
+#[derive(Drop)]
+pub(crate) struct Accepted {
+    pub numbers: BTreeMap<HashedKey, u64>,
+}
+
+impl Accepted {
+    /// Counts the keys of these messages.
+    pub(crate) fn of_submits(
+        alloc: Global,
+        submits: &[SubmittedMessage<'_>],
+    ) -> Result<Accepted, AllocError>
+        ensures { IfOk result (λ accepted. HasNumbers accepted.numbers submits.now) }
+    {
+        let mut accepted = Accepted {
+            numbers: BTreeMap::new(alloc),
+        };
+        for submit in submits {
+            if let Some(key) = submit.key() {
+                accepted.add(key)?;
+            }
+        }
+        Ok(accepted)
+    }
+
+    /// Counts one more with this key.
+    fn add(&mut self, key: HashedKey) -> Result<(), AllocError>
+        requires { number_kept self.old.numbers key + 1 < 2 ^ 64 }
+        ensures { OnOk result (by_key self.new.numbers
+            ≡ map.insert (by_key self.old.numbers) key (number_kept self.old.numbers key + 1)) }
+    {
+        let number = self.number(&key);
+        self.numbers.insert(key, number + 1)?;
+        Ok(())
+    }
+
+    /// How many messages are accepted with the key.
+    pub(crate) fn number(&self, key: &HashedKey) -> u64
+        ensures { result ≡ number_kept self.now.numbers key.now }
+    {
+        self.numbers.get(key).copied().unwrap_or(0)
+    }
+
+    /// Whether one message is accepted with the key and no other.
+    pub(crate) fn is_single(&self, key: &HashedKey) -> bool
+        ensures { (submits : List Submit) → HasNumbers self.now.numbers submits
+            → result ≡ among.is_single submits key.now }
+    {
+        self.number(key) == 1
     }
 }

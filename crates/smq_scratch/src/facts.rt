@@ -12,9 +12,7 @@ ghost use Rattle.smq_book.specs.within.Outcomes as listed;
 ghost use Rattle.smq_book.specs.within.Outcomes.{received, standing_of};
 ghost use Rattle.smq_book.specs.within.Receipts.{KeyedReceipt};
 
-use crate::accepted::Accepted;
-use crate::deciders::Deciders;
-use crate::receipts::PlacedReceipt;
+use crate::deciders::{Accepted, Deciders, PlacedReceipt};
 use crate::submits::SubmittedMessage;
 use smq_book::{Fact, Present, ReceivedReceipt, Settings, fact_under};
 use std::alloc::{AllocError, Global};

@@ -3,24 +3,18 @@
 //! tables.
 #![tactic(auto)]
 
-mod accepted;
 mod anew;
-mod at_once;
 mod deciders;
 mod facts;
 mod laws;
 mod listings;
 mod matches;
 mod notes;
-mod parallel;
-mod receipts;
 mod received;
-mod sessions;
 mod sides;
 mod submits;
 mod submitted;
 mod traffic;
-mod turns;
 
 // laws
 pub use laws::{
@@ -30,7 +24,6 @@ pub use laws::{
 };
 
 // calls
-pub use anew::tables_anew;
-pub use parallel::audit;
+pub use anew::{audit, tables_anew};
 pub use received::receipt_lines;
 pub use submitted::message_lines;

@@ -1,17 +1,14 @@
 //! The delivery receipts that need a look, in their lists.
-ghost use Rattle.std.specs.Prelude.{◌≡◌, ◌++◌, IfOk, OnOk, option_to_list, option_copied};
+ghost use Rattle.std.specs.Prelude.{◌≡◌, ◌++◌, OnOk, option_to_list, option_copied};
 ghost use Rattle.std.specs.List.{flat_map};
 ghost use Rattle.smq_book.specs.present.Kept.{receipt_in};
 ghost use Rattle.smq_book.specs.within.Listings as listings;
 ghost use Rattle.smq_book.specs.within.Listings.{notes_kept};
 ghost use Rattle.smq_book.specs.within.Receipts.{receipt_by, receipts_among};
-ghost use Rattle.smq_scratch.specs.Said.{Notes};
 ghost use Rattle.smq_scratch.specs.Sourced.{receipts_in};
 
-use crate::accepted::Accepted;
-use crate::deciders::Deciders;
-use crate::receipts::{PlacedReceipt, receipt_at};
-use crate::sessions::SourcedSession;
+use crate::deciders::{Accepted, Deciders, PlacedReceipt, receipt_at};
+use crate::traffic::SourcedSession;
 use smq_book::{KeptPdu, List, Listed, Source};
 use smq_kit::HashedKey;
 use std::alloc::{AllocError, Global};
@@ -31,22 +28,6 @@ pub(crate) fn push_receipt_notes(
         push_session_notes(notes, sourced.source, centre, accepted, deciders)?;
     }
     Ok(())
-}
-
-/// The receipts of a session that are in a list.
-pub(crate) fn session_notes(
-    alloc: Global,
-    sourced: &SourcedSession<'_>,
-    accepted: &Accepted,
-    deciders: &Deciders<'_>,
-) -> Result<Vec<Listed>, AllocError>
-    ensures { IfOk result (λ notes.
-        Notes accepted.now.numbers deciders.now.receipts sourced.now notes.items) }
-{
-    let mut notes = Vec::new(alloc);
-    let centre = sourced.session.centre.pdus();
-    push_session_notes(&mut notes, sourced.source, centre, accepted, deciders)?;
-    Ok(notes)
 }
 
 /// Puts those of a session whose PDUs of the centre are these after what is there.

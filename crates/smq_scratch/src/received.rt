@@ -8,11 +8,9 @@ ghost use Rattle.smq_scratch.specs.Lines.{standing_by};
 ghost use Rattle.smq_scratch.specs.Sourced.{receipts_in};
 ghost use Rattle.smq_scratch.specs.within.Matches.{lines_kept, number_in, place_in};
 
-use crate::deciders::Deciders;
+use crate::deciders::{Deciders, PlacedReceipt, receipt_at};
 use crate::matches::{Match, Matches};
-use crate::receipts::{PlacedReceipt, receipt_at};
-use crate::sessions::{SourcedSession, sourced};
-use crate::traffic::{joined, read_sessions};
+use crate::traffic::{SourcedSession, joined, read_sessions, sourced};
 use smq_book::{KeptPdu, Present, Source};
 use smq_kit::Place;
 use smq_lines::{ReceiptLine, ReceiptStanding};

@@ -7,12 +7,10 @@ ghost use Rattle.smq_book.specs.within.Receipts.{KeyedReceipt};
 ghost use Rattle.smq_scratch.specs.Lines as lines;
 ghost use Rattle.smq_scratch.specs.Sourced.{sourced_of};
 
-use crate::accepted::Accepted;
-use crate::deciders::Deciders;
+use crate::deciders::{Accepted, Deciders};
 use crate::facts::known_of;
-use crate::sessions::{SourcedSession, sourced};
 use crate::submits::SubmittedMessage;
-use crate::traffic::{joined, read_sessions};
+use crate::traffic::{SourcedSession, joined, read_sessions, sourced};
 use smq_book::{Present, Settings};
 use smq_lines::MessageLine;
 use std::alloc::{AllocError, Global};

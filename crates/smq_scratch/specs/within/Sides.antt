@@ -16,7 +16,7 @@ use Rattle.smq_book.specs.present.Kept.{header_of, is_undecodable, is_unreadable
 use Rattle.smq_book.specs.pairing.Traffic.{Origin, disagrees, pairing_among, place_of}
 use Rattle.smq_book.specs.within.Pairs.{Rises, from_session}
 use Rattle.smq_scratch.specs.declared.sides.Side.{Side}
-use Rattle.smq_scratch.specs.declared.turns.Kind.TheVariants.{Request, Response}
+use Rattle.smq_scratch.specs.declared.sides.Kind.TheVariants.{Request, Response}
 use Rattle.smq_scratch.specs.within.Turns.{HasPartners}
 
 -- A side is this direction of a session, whose PDUs are these, with their partners among those of the other direction.

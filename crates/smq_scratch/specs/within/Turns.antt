@@ -7,9 +7,9 @@ use Rattle.smq_pdu.specs.Header.{Header}
 use Rattle.smq_pdu.specs.Pairing.{is_request, is_response}
 use Rattle.smq_book.specs.declared.present.kept.KeptPdu.{KeptPdu}
 use Rattle.smq_book.specs.present.Kept.{header_of, headers_of}
-use Rattle.smq_scratch.specs.declared.turns.Kind.{Kind}
-use Rattle.smq_scratch.specs.declared.turns.Kind.TheVariants.{Request, Response}
-use Rattle.smq_scratch.specs.declared.turns.Turns.{Turns}
+use Rattle.smq_scratch.specs.declared.sides.Kind.{Kind}
+use Rattle.smq_scratch.specs.declared.sides.Kind.TheVariants.{Request, Response}
+use Rattle.smq_scratch.specs.declared.sides.Turns.{Turns}
 
 -- whether a PDU is of a kind
 abbrev pub is_kind : Kind → Header → Bool

@@ -2,7 +2,7 @@ use Rattle.std.proofs.Common.{◌+◌, ◌==◌, ◌∷◌, [], ℕ, length, con
 use Rattle.std.specs.Prelude.{slice_get, option_and_then}
 use Rattle.std.proofs.lemmas.Bool.{false≢true}
 use Rattle.std.proofs.lemmas.List.{length-append}
-use Rattle.smq_scratch.specs.declared.turns.Turns.{Turns}
+use Rattle.smq_scratch.specs.declared.sides.Turns.{Turns}
 use Rattle.smq_scratch.specs.within.Turns.{HasTurns, advanced, first_in, opposite, taken_more}
 use Rattle.smq_scratch.proofs.TurnLemmas.{counted, counted-turn, counted-other, first-at, of-command, partners-more, turns-same, turns-taken}
 use Rattle.smq_scratch.proofs.sides.partners_of.Goals as goal
