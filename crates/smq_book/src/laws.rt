@@ -1,6 +1,2 @@
-//! Laws of the definitions: each is the contract of a function with no body.
+//! Laws of edits: each is the contract of a function with no body.
 pub mod edits;
-pub mod join;
-pub mod pairing;
-pub mod present;
-pub mod whole;

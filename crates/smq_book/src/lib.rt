@@ -1,69 +1,18 @@
-//! One book of captured sessions: what is present, its edits and their replies, and the tables of it.
+//! One book of captured sessions: its edits and their replies, and the tables of what is present, which each edit keeps current.
 #![tactic(auto)]
 
 mod edits;
 mod index;
-mod join;
 mod laws;
-mod pairing;
-mod present;
 mod whole;
 
 // laws
-pub use laws::edits::{
-    advances_change_due_messages_alone, appends_note_few_places,
-    appends_put_in_the_notes_of_their_pdus, appends_put_in_what_their_pdus_say,
-    clocks_and_windows_commute, edits_change_as_few_places_as_they_reach,
-    edits_of_routes_stay_under_their_prefix, forms_are_set_while_their_link_is_out,
-    forms_change_their_link_alone, known_edits_reach_so_much, messages_and_receipts_stand_apart,
-    mismatched_pairs_are_noted_at_their_request, moves_change_their_key_alone,
-    moves_in_turn_change_what_each_changes, notes_follow_the_standings_of_receipts,
-    notes_of_known_appends, responses_answer_one_message, told_changes_cover,
-    told_standings_give_facts, windows_change_due_messages_of_their_link_alone,
-    windows_set_back_leave_all_as_it_was, withdrawals_take_what_their_session_says,
-};
-pub use laws::join::{
-    clock_lapses_open_messages_alone, delays_are_of_decided_messages, each_message_has_its_fact,
-    facts_rest_on_circumstances, forms_of_other_links_are_idle, keys_are_of_their_link,
-    known_submits_lapse_by_their_windows, messages_lapse_at_the_end_of_their_window,
-    moves_leave_other_facts, outcomes_are_in_order, outcomes_of_known_submits,
-    receipts_decide_known_submits, routes_are_of_the_moment, versions_change_routes_alone,
-    windows_lapse_and_open_messages_alone,
-};
-pub use laws::pairing::{
-    each_message_has_its_place, notes_of_a_known_session, pairs_stay_in_parts,
-    pushes_change_few_messages, responses_are_those_of_pairs, responses_come_in_turn,
-    responses_stand_in_pairs, unread_places_are_noted,
-};
-pub use laws::present::{
-    absent_sessions_have_no_octets, appends_of_sessions_commute, batches_that_fit_are_not_refused,
-    cutting_changes_nothing, edits_are_told_apart, edits_of_a_known_clock,
-    edits_of_a_known_session, edits_of_known_routes, forms_are_told_apart,
-    forms_are_verbatim_until_set, known_edits_fold, known_pdus_are_kept,
-    octets_are_put_after_their_direction, pieces_are_refused_in_order, replies_are_of_edits,
-    replies_stand_in_order, steps_are_plain_changes, windows_of_known_links,
-    withdrawals_leave_no_trace, withdrawals_of_a_known_book,
-};
-pub use laws::whole::{
-    counts_deal_by_key, counts_split_by_link, figures_of_a_known_book, known_receipts_are_listed,
-    lists_deal_by_key, lists_say_the_same, lists_split_by_link, parts_keep_keys_together,
-    parts_of_known_traffic, present_tables_are_of_traffic, receipts_are_listed_by_their_matches,
-    tables_list_receipts_by_their_matches,
-};
+pub use laws::edits::{advances_change_due_messages_alone, appends_note_few_places, appends_put_in_the_notes_of_their_pdus, appends_put_in_what_their_pdus_say, clocks_and_windows_commute, edits_change_as_few_places_as_they_reach, edits_of_routes_stay_under_their_prefix, forms_are_set_while_their_link_is_out, forms_change_their_link_alone, known_edits_reach_so_much, mismatched_pairs_are_noted_at_their_request, moves_change_their_key_alone, moves_in_turn_change_what_each_changes, notes_of_known_appends, responses_answer_one_message, told_changes_cover, told_standings_give_facts, windows_change_due_messages_of_their_link_alone, windows_lapse_and_open_messages_alone, windows_set_back_leave_all_as_it_was, withdrawals_take_what_their_session_says};
 
 // values and calls
-pub use join::fact::fact_under;
-pub use join::message::{Message, ReceivedReceipt, Response};
-pub use pairing::pairs::{Source, place_of};
-pub use present::batch::{Batch, PieceRow, prepare};
-pub use present::edit::Edit;
-pub use present::forms::Forms;
-pub use present::kept::{Content, KeptPdu};
-pub use present::present::Present;
-pub use present::session::{Direction, Piece, Session};
-pub use present::settings::Settings;
-pub use smq_tally::{
-    Band, CountKey, Fact, List, Listed, Outcome, Places, Rows, SubmitError, Tables, Value, View,
+pub use smq_present::{
+    Band, Batch, Content, CountKey, Direction, Edit, Fact, Forms, KeptPdu, List, Listed, Message, Outcome, Piece, PieceRow, Places,
+    PlainBook, Present, ReceivedReceipt, Response, Rows, Session, Settings, Source, SubmitError, Tables, Value, View, fact_under,
+    place_of, prepare,
 };
 pub use whole::book::{Book, book_of_edits};
-pub use whole::plain_book::PlainBook;

@@ -6,11 +6,11 @@ use Rattle.smq_kit.specs.declared.refusal.Refusal.{Refusal}
 use Rattle.smq_kit.specs.declared.refusal.Refusal.TheVariants.{Memory, HistoryFull}
 use Rattle.smq_kit.specs.Refusals.{number_of}
 use Rattle.smq_kit.specs.Replies.{IsReply}
-use Rattle.smq_book.specs.declared.present.edit.Edit.{Edit}
-use Rattle.smq_book.specs.present.Present.{PresentValue}
-use Rattle.smq_book.specs.present.Replies.{IsOfEdits, reply}
-use Rattle.smq_book.specs.present.Steps.{step, step_unless}
-use Rattle.smq_book.proofs.lemmas.present.Replied.{replies_of_edits}
+use Rattle.smq_present.specs.declared.present.edit.Edit.{Edit}
+use Rattle.smq_present.specs.present.Present.{PresentValue}
+use Rattle.smq_present.specs.present.Replies.{IsOfEdits, reply}
+use Rattle.smq_present.specs.present.Steps.{step, step_unless}
+use Rattle.smq_present.proofs.lemmas.present.Replied.{replies_of_edits}
 use Rattle.smq_desk.specs.declared.entry.Call.{Call}
 use Rattle.smq_desk.specs.declared.entry.Reply.{Reply}
 use Rattle.smq_desk.specs.declared.entry.Reply.TheVariants.{Done, Refused}

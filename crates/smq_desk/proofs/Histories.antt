@@ -1,8 +1,8 @@
 -- A history that is one entry longer.
 use Rattle.std.proofs.Common.{◌≡◌, List, [], ◌∷◌, ◌++◌, refl, sym, ◌∙◌}
-use Rattle.smq_book.specs.declared.present.edit.Edit.{Edit}
-use Rattle.smq_book.specs.present.Present.{PresentValue, empty}
-use Rattle.smq_book.specs.present.Steps.{step}
+use Rattle.smq_present.specs.declared.present.edit.Edit.{Edit}
+use Rattle.smq_present.specs.present.Present.{PresentValue, empty}
+use Rattle.smq_present.specs.present.Steps.{step}
 use Rattle.smq_desk.specs.declared.entry.Entry.{Entry}
 use Rattle.smq_desk.specs.History.{replay_from, replay, reply_to, IsLegalFrom, IsLegal}
 

@@ -4,10 +4,10 @@ use Rattle.std.proofs.Common.{◌≡◌, ◌⊎◌, ◌==◌, Bool, true, false,
 use Rattle.std.proofs.lemmas.Bool.{both_ways}
 use Rattle.std.proofs.lemmas.List.Elements.{filter-append}
 use Rattle.smq_kit.specs.declared.names.SessionId.{SessionId}
-use Rattle.smq_book.specs.declared.present.edit.Edit.{Edit}
-use Rattle.smq_book.specs.declared.present.edit.Edit.TheVariants.{Append, Withdraw, SetForm, SetWindow, AddRoute, EndRoute, CorrectRoute, Advance}
-use Rattle.smq_book.specs.present.Present.{PresentValue, session_of}
-use Rattle.smq_book.specs.present.Steps.{steps, is_of_session}
+use Rattle.smq_present.specs.declared.present.edit.Edit.{Edit}
+use Rattle.smq_present.specs.declared.present.edit.Edit.TheVariants.{Append, Withdraw, SetForm, SetWindow, AddRoute, EndRoute, CorrectRoute, Advance}
+use Rattle.smq_present.specs.present.Present.{PresentValue, session_of}
+use Rattle.smq_present.specs.present.Steps.{steps, is_of_session}
 use Rattle.smq_desk.specs.Interleaving.{is_of_settings, AreInterleaved, answered, InterleavingsAgree}
 use Rattle.smq_desk.proofs.FilterLemmas.{filter_within, filter_apart}
 use Rattle.smq_desk.proofs.Scopes.{Agree, is_within, agree_itself, same_present, follow}

@@ -9,10 +9,10 @@ use Rattle.smq_kit.specs.declared.refusal.Refusal.TheVariants.{EmptyPiece, Backw
 use Rattle.smq_frame.specs.Framing.{rest_of, rest_within}
 use Rattle.smq_frame.specs.Stream.{handed_in}
 use Rattle.smq_frame.specs.Tail.{tail_from}
-use Rattle.smq_book.specs.declared.present.batch.PieceRow.{PieceRow}
-use Rattle.smq_book.specs.declared.present.session.Session.{Session}
-use Rattle.smq_book.specs.present.Present.{empty}
-use Rattle.smq_book.specs.present.Stream.{last_moment}
+use Rattle.smq_present.specs.declared.present.batch.PieceRow.{PieceRow}
+use Rattle.smq_present.specs.declared.present.session.Session.{Session}
+use Rattle.smq_present.specs.present.Present.{empty}
+use Rattle.smq_present.specs.present.Stream.{last_moment}
 use Rattle.smq_desk.specs.KnownLoads.{row_of, first_rows, second_rows, lists, one_by_one, in_turns, Ends, shared}
 use Rattle.smq_desk.specs.Pieces.{list_replies, AreApart, HaveOwnSessions}
 use Rattle.smq_desk.specs.Schedules.{Begins, World, run, starting}

@@ -12,15 +12,15 @@ use Rattle.smq_kit.specs.declared.refusal.Refusal.TheVariants.{OutOfStep}
 use Rattle.smq_kit.specs.Replies.{first_of, refused_if}
 use Rattle.smq_frame.specs.Tail.{TailValue, tails_equal}
 use Rattle.smq_frame.proofs.TailTests.{tails_equal-true}
-use Rattle.smq_book.specs.declared.present.edit.Edit.{Edit}
-use Rattle.smq_book.specs.declared.present.edit.Edit.TheVariants.{Append, Withdraw, SetForm, SetWindow, AddRoute, EndRoute, CorrectRoute, Advance}
-use Rattle.smq_book.specs.declared.present.batch.PieceRow.{PieceRow}
-use Rattle.smq_book.specs.declared.present.session.Session.{Session}
-use Rattle.smq_book.specs.present.Batch.{prepare_refusal}
-use Rattle.smq_book.specs.present.Present.{PresentValue, empty, session_of, octets_of}
-use Rattle.smq_book.specs.present.Replies.{other_link, out_of_step, backward, reply}
-use Rattle.smq_book.specs.present.Steps.{step_unless, step, steps, is_of_session}
-use Rattle.smq_book.proofs.lemmas.present.Changes.{step-refused}
+use Rattle.smq_present.specs.declared.present.edit.Edit.{Edit}
+use Rattle.smq_present.specs.declared.present.edit.Edit.TheVariants.{Append, Withdraw, SetForm, SetWindow, AddRoute, EndRoute, CorrectRoute, Advance}
+use Rattle.smq_present.specs.declared.present.batch.PieceRow.{PieceRow}
+use Rattle.smq_present.specs.declared.present.session.Session.{Session}
+use Rattle.smq_present.specs.present.Batch.{prepare_refusal}
+use Rattle.smq_present.specs.present.Present.{PresentValue, empty, session_of, octets_of}
+use Rattle.smq_present.specs.present.Replies.{other_link, out_of_step, backward, reply}
+use Rattle.smq_present.specs.present.Steps.{step_unless, step, steps, is_of_session}
+use Rattle.smq_present.proofs.lemmas.present.Changes.{step-refused}
 use Rattle.smq_desk.specs.declared.entry.Entry.{Entry}
 use Rattle.smq_desk.specs.History.{reply_by, reply_to, edits_of, replay_from, replay, IsLegalFrom}
 use Rattle.smq_desk.specs.Interleaving.{is_of_settings}

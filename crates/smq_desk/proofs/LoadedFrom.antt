@@ -5,7 +5,7 @@ use Rattle.std.specs.List.{AllZip}
 use Rattle.std.proofs.lemmas.Bool.{both_ways, and_left, and_right, and_from, lt-ltb, le-ltb, le-leb, lt-leb}
 use Rattle.std.proofs.lemmas.List.{length-append}
 use Rattle.std.proofs.lemmas.List.Elements.{All-head, All-tail, All-map, All-contains, filter-append}
-use Rattle.smq_book.specs.declared.present.batch.PieceRow.{PieceRow}
+use Rattle.smq_present.specs.declared.present.batch.PieceRow.{PieceRow}
 use Rattle.smq_desk.specs.declared.entry.Call.{Call}
 use Rattle.smq_desk.specs.declared.entry.Entry.{Entry}
 use Rattle.smq_desk.specs.Loads.{has_octets, IsEntryOf, IsCallOf, is_of_rows, AreLoadedBy, SeatLoad, calls_between, IsLoadedFrom, rows_of_loads, SeatsLoadAsOneThread}

@@ -10,14 +10,14 @@ use Rattle.smq_kit.specs.Orders.{place_cmp}
 use Rattle.smq_tally.specs.Lists.{listed_cmp, listed_set}
 use Rattle.smq_tally.specs.Tables.{TablesValue, facts_at, tables_of}
 use Rattle.smq_tally.proofs.Undone.{no-entries}
-use Rattle.smq_book.specs.declared.present.session.Session.{Session}
-use Rattle.smq_book.specs.present.Settings.{SettingsValue, opening_settings}
-use Rattle.smq_book.specs.pairing.Traffic.{Message, ReceivedReceipt, TrafficValue, session_messages, session_notes, session_receipts, traffic_among, traffic_of}
-use Rattle.smq_book.specs.join.Circumstances.{circumstances}
-use Rattle.smq_book.specs.join.Facts.{fact_by, facts_of}
-use Rattle.smq_book.specs.join.Keyed.{grouping_of, keyed_receipt}
-use Rattle.smq_book.specs.join.Listings.{notes_of, receipt_listing, receipt_notes}
-use Rattle.smq_book.specs.whole.Scratch.{scratch}
+use Rattle.smq_present.specs.declared.present.session.Session.{Session}
+use Rattle.smq_present.specs.present.Settings.{SettingsValue, opening_settings}
+use Rattle.smq_present.specs.pairing.Traffic.{Message, ReceivedReceipt, TrafficValue, session_messages, session_notes, session_receipts, traffic_among, traffic_of}
+use Rattle.smq_present.specs.join.Circumstances.{circumstances}
+use Rattle.smq_present.specs.join.Facts.{fact_by, facts_of}
+use Rattle.smq_present.specs.join.Keyed.{grouping_of, keyed_receipt}
+use Rattle.smq_present.specs.join.Listings.{notes_of, receipt_listing, receipt_notes}
+use Rattle.smq_present.specs.whole.Scratch.{scratch}
 use Rattle.smq_desk.specs.declared.entry.Entry.{Entry}
 use Rattle.smq_desk.specs.Editions.{AreOfOneHistory}
 use Rattle.smq_desk.specs.History.{replay, IsLegal}

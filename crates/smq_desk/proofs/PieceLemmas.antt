@@ -8,13 +8,13 @@ use Rattle.smq_kit.specs.declared.refusal.Refusal.{Refusal}
 use Rattle.smq_kit.specs.Replies.{first_of}
 use Rattle.smq_frame.specs.Stream.{values}
 use Rattle.smq_frame.specs.Tail.{tail_of}
-use Rattle.smq_book.specs.declared.present.edit.Edit.TheVariants.{Append}
-use Rattle.smq_book.specs.declared.present.batch.PieceRow.{PieceRow}
-use Rattle.smq_book.specs.declared.present.session.Session.{Session}
-use Rattle.smq_book.specs.present.Batch.{prepare_refusal}
-use Rattle.smq_book.specs.present.Present.{PresentValue, session_of, octets_in}
-use Rattle.smq_book.specs.present.Replies.{append_refusals}
-use Rattle.smq_book.specs.present.Steps.{step_unless}
+use Rattle.smq_present.specs.declared.present.edit.Edit.TheVariants.{Append}
+use Rattle.smq_present.specs.declared.present.batch.PieceRow.{PieceRow}
+use Rattle.smq_present.specs.declared.present.session.Session.{Session}
+use Rattle.smq_present.specs.present.Batch.{prepare_refusal}
+use Rattle.smq_present.specs.present.Present.{PresentValue, session_of, octets_in}
+use Rattle.smq_present.specs.present.Replies.{append_refusals}
+use Rattle.smq_present.specs.present.Steps.{step_unless}
 use Rattle.smq_desk.specs.Pieces.{batch_on, tail_for, piece_refusal, after_piece, after_pieces, piece_replies, AreApart, HaveOwnSessions}
 use Rattle.smq_desk.proofs.Scopes.{same_present, append-here, append-elsewhere, append-settings}
 

@@ -6,12 +6,12 @@ use Rattle.std.proofs.lemmas.List.Elements.{All-head, All-tail}
 use Rattle.smq_kit.specs.declared.refusal.Refusal.{Refusal}
 use Rattle.smq_kit.specs.Replies.{first_of}
 use Rattle.smq_frame.specs.Tail.{TailValue}
-use Rattle.smq_book.specs.declared.present.edit.Edit.TheVariants.{Append}
-use Rattle.smq_book.specs.declared.present.batch.PieceRow.{PieceRow}
-use Rattle.smq_book.specs.present.Batch.{BatchValue, prepare_refusal}
-use Rattle.smq_book.specs.present.Present.{PresentValue}
-use Rattle.smq_book.specs.present.Replies.{reply}
-use Rattle.smq_book.specs.present.Steps.{step_unless, step}
+use Rattle.smq_present.specs.declared.present.edit.Edit.TheVariants.{Append}
+use Rattle.smq_present.specs.declared.present.batch.PieceRow.{PieceRow}
+use Rattle.smq_present.specs.present.Batch.{BatchValue, prepare_refusal}
+use Rattle.smq_present.specs.present.Present.{PresentValue}
+use Rattle.smq_present.specs.present.Replies.{reply}
+use Rattle.smq_present.specs.present.Steps.{step_unless, step}
 use Rattle.smq_desk.specs.Pieces.{batch_on, tail_for, piece_edit, piece_refusal, after_piece, after_pieces, piece_replies, after_lists, list_replies, HaveOwnSessions}
 use Rattle.smq_desk.specs.Schedules.{Stage, Begins, Took, Prepared, Unprepared, Worker, World, prepared, worker_after, present_after, moved, next, run, starting, SchedulesEndAsOneThread}
 use Rattle.smq_desk.proofs.PieceLemmas.{tail_same, refusal_same, piece_elsewhere, IsApartFrom, row_first, replies_kept, session_kept, Apart, Own, each, own_sessions}

@@ -7,15 +7,15 @@ use Rattle.std.specs.Ordering.{nat_cmp, is_eq}
 use Rattle.smq_kit.specs.declared.names.SessionId.{SessionId}
 use Rattle.smq_kit.specs.declared.refusal.Refusal.{Refusal}
 use Rattle.smq_kit.specs.Replies.{first_of}
-use Rattle.smq_book.specs.declared.present.edit.Edit.{Edit}
-use Rattle.smq_book.specs.declared.present.edit.Edit.TheVariants.{Append, Withdraw, SetForm, SetWindow, AddRoute, EndRoute, CorrectRoute, Advance}
-use Rattle.smq_book.specs.declared.present.session.Session.{Session}
-use Rattle.smq_book.specs.present.Batch.{BatchValue}
-use Rattle.smq_book.specs.present.Present.{PresentValue, session_of}
-use Rattle.smq_book.specs.present.Replies.{append_refusals, no_session, reply}
-use Rattle.smq_book.specs.present.Settings.{SettingsValue}
-use Rattle.smq_book.specs.present.Steps.{session_after, change, step_unless, step, steps}
-use Rattle.smq_book.proofs.lemmas.present.Changes.{appends-change, withdraws-change}
+use Rattle.smq_present.specs.declared.present.edit.Edit.{Edit}
+use Rattle.smq_present.specs.declared.present.edit.Edit.TheVariants.{Append, Withdraw, SetForm, SetWindow, AddRoute, EndRoute, CorrectRoute, Advance}
+use Rattle.smq_present.specs.declared.present.session.Session.{Session}
+use Rattle.smq_present.specs.present.Batch.{BatchValue}
+use Rattle.smq_present.specs.present.Present.{PresentValue, session_of}
+use Rattle.smq_present.specs.present.Replies.{append_refusals, no_session, reply}
+use Rattle.smq_present.specs.present.Settings.{SettingsValue}
+use Rattle.smq_present.specs.present.Steps.{session_after, change, step_unless, step, steps}
+use Rattle.smq_present.proofs.lemmas.present.Changes.{appends-change, withdraws-change}
 use Rattle.smq_desk.specs.declared.entry.Entry.{Entry}
 use Rattle.smq_desk.specs.History.{reply_by, IsLegalFrom}
 use Rattle.smq_desk.specs.Interleaving.{is_of_settings, answered}

@@ -5,7 +5,7 @@ use Rattle.smq_kit.specs.declared.place.Dir.TheVariants.{FromClient}
 use Rattle.smq_kit.specs.declared.refusal.Refusal.{Refusal}
 use Rattle.smq_kit.specs.declared.refusal.Refusal.TheVariants.{Backward, EmptyPiece, HistoryFull, Memory, NoSession, NoThread}
 use Rattle.smq_frame.specs.Tail.{tail_of}
-use Rattle.smq_book.specs.declared.present.batch.PieceRow.{PieceRow}
+use Rattle.smq_present.specs.declared.present.batch.PieceRow.{PieceRow}
 use Rattle.smq_desk.specs.declared.entry.Call.{Call}
 use Rattle.smq_desk.specs.declared.entry.Reply.{Reply}
 use Rattle.smq_desk.specs.declared.entry.Reply.TheVariants.{Done, Refused}

@@ -1,7 +1,7 @@
 -- What a contract sees of editions, and what is true of each.
 use Rattle.std.specs.Prelude.{◌≡◌, List}
 use Rattle.smq_tally.specs.Tables.{TablesValue}
-use Rattle.smq_book.specs.whole.Scratch.{scratch}
+use Rattle.smq_present.specs.whole.Scratch.{scratch}
 use Rattle.smq_desk.specs.declared.entry.Entry.{Entry}
 use Rattle.smq_desk.specs.History.{replay, IsLegal}
 

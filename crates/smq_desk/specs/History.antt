@@ -3,10 +3,10 @@ use Rattle.std.specs.Prelude.{◌≡◌, ℕ, List, [], ◌∷◌, ◌++◌, map
 use Rattle.std.specs.Iterator.{YieldsFirstRef}
 use Rattle.std.specs.Iterator.Runs.{YieldsRefsInOrder}
 use Rattle.smq_kit.specs.declared.refusal.Refusal.{Refusal}
-use Rattle.smq_book.specs.declared.present.edit.Edit.{Edit}
-use Rattle.smq_book.specs.present.Present.{PresentValue, empty}
-use Rattle.smq_book.specs.present.Replies.{reply}
-use Rattle.smq_book.specs.present.Steps.{step, steps}
+use Rattle.smq_present.specs.declared.present.edit.Edit.{Edit}
+use Rattle.smq_present.specs.present.Present.{PresentValue, empty}
+use Rattle.smq_present.specs.present.Replies.{reply}
+use Rattle.smq_present.specs.present.Steps.{step, steps}
 use Rattle.smq_desk.specs.declared.entry.Entry.{Entry}
 use Rattle.smq_desk.specs.declared.entry.Reply.{Reply}
 use Rattle.smq_desk.specs.declared.entry.Reply.TheVariants.{Done, Refused}

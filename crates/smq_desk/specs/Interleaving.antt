@@ -2,11 +2,11 @@
 use Rattle.std.specs.Prelude.{◌≡◌, Bool, true, false, List, [], ◌∷◌, filter, Option}
 use Rattle.smq_kit.specs.declared.names.SessionId.{SessionId}
 use Rattle.smq_kit.specs.declared.refusal.Refusal.{Refusal}
-use Rattle.smq_book.specs.declared.present.edit.Edit.{Edit}
-use Rattle.smq_book.specs.declared.present.edit.Edit.TheVariants.{Append, Withdraw, SetForm, SetWindow, AddRoute, EndRoute, CorrectRoute, Advance}
-use Rattle.smq_book.specs.present.Present.{PresentValue}
-use Rattle.smq_book.specs.present.Replies.{reply}
-use Rattle.smq_book.specs.present.Steps.{step, steps, is_of_session}
+use Rattle.smq_present.specs.declared.present.edit.Edit.{Edit}
+use Rattle.smq_present.specs.declared.present.edit.Edit.TheVariants.{Append, Withdraw, SetForm, SetWindow, AddRoute, EndRoute, CorrectRoute, Advance}
+use Rattle.smq_present.specs.present.Present.{PresentValue}
+use Rattle.smq_present.specs.present.Replies.{reply}
+use Rattle.smq_present.specs.present.Steps.{step, steps, is_of_session}
 
 -- whether an edit is of what is set: of forms, of windows, of routes or of the clock
 abbrev pub is_of_settings : Edit → Bool

@@ -4,10 +4,10 @@ use Rattle.std.specs.List.{AllZip}
 use Rattle.smq_kit.specs.declared.refusal.Refusal.{Refusal}
 use Rattle.smq_kit.specs.declared.refusal.Refusal.TheVariants.{HistoryFull, Memory, NoThread}
 use Rattle.smq_frame.specs.Tail.{TailValue}
-use Rattle.smq_book.specs.declared.present.edit.Edit.{Edit}
-use Rattle.smq_book.specs.declared.present.edit.Edit.TheVariants.{Append, Withdraw, SetForm, SetWindow, AddRoute, EndRoute, CorrectRoute, Advance}
-use Rattle.smq_book.specs.declared.present.batch.PieceRow.{PieceRow}
-use Rattle.smq_book.specs.present.Batch.{prepare_refusal}
+use Rattle.smq_present.specs.declared.present.edit.Edit.{Edit}
+use Rattle.smq_present.specs.declared.present.edit.Edit.TheVariants.{Append, Withdraw, SetForm, SetWindow, AddRoute, EndRoute, CorrectRoute, Advance}
+use Rattle.smq_present.specs.declared.present.batch.PieceRow.{PieceRow}
+use Rattle.smq_present.specs.present.Batch.{prepare_refusal}
 use Rattle.smq_desk.specs.declared.entry.Call.{Call}
 use Rattle.smq_desk.specs.declared.entry.Reply.{Reply}
 use Rattle.smq_desk.specs.declared.entry.Reply.TheVariants.{Done, Refused}

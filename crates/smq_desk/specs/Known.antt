@@ -1,7 +1,7 @@
 -- A history, its seats and their calls, written out: two clocks of seat 1, and between them one of seat 2 that is refused.
 use Rattle.std.specs.Prelude.{◌≡◌, ℕ, List, [], ◌∷◌}
 use Rattle.smq_kit.specs.declared.refusal.Refusal.TheVariants.{ClockBack}
-use Rattle.smq_book.specs.declared.present.edit.Edit.TheVariants.{Advance}
+use Rattle.smq_present.specs.declared.present.edit.Edit.TheVariants.{Advance}
 use Rattle.smq_desk.specs.declared.entry.Call.{Call}
 use Rattle.smq_desk.specs.declared.entry.Entry.{Entry}
 use Rattle.smq_desk.specs.declared.entry.Reply.TheVariants.{Done, Refused}

@@ -1,7 +1,7 @@
 -- Ledgers of the history of Known, the calls of its seats, and what closes them, written out.
 use Rattle.std.specs.Prelude.{◌≡◌, ℕ, List, [], ◌∷◌, take}
 use Rattle.smq_kit.specs.declared.refusal.Refusal.TheVariants.{ClockBack}
-use Rattle.smq_book.specs.declared.present.edit.Edit.TheVariants.{Advance}
+use Rattle.smq_present.specs.declared.present.edit.Edit.TheVariants.{Advance}
 use Rattle.smq_desk.specs.declared.closed.CloseFault.TheVariants.{SeatsOut, Torn}
 use Rattle.smq_desk.specs.declared.entry.Call.{Call}
 use Rattle.smq_desk.specs.declared.entry.Entry.{Entry}

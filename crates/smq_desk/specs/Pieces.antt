@@ -3,13 +3,13 @@ use Rattle.std.specs.Prelude.{◌≢◌, All, AllPairs, List, [], ◌∷◌, fol
 use Rattle.smq_kit.specs.declared.refusal.Refusal.{Refusal}
 use Rattle.smq_kit.specs.Replies.{first_of}
 use Rattle.smq_frame.specs.Tail.{TailValue}
-use Rattle.smq_book.specs.declared.present.edit.Edit.{Edit}
-use Rattle.smq_book.specs.declared.present.edit.Edit.TheVariants.{Append}
-use Rattle.smq_book.specs.declared.present.batch.PieceRow.{PieceRow}
-use Rattle.smq_book.specs.present.Batch.{BatchValue, batch_of, prepare_refusal}
-use Rattle.smq_book.specs.present.Present.{PresentValue, tail_in}
-use Rattle.smq_book.specs.present.Replies.{reply}
-use Rattle.smq_book.specs.present.Steps.{step_unless}
+use Rattle.smq_present.specs.declared.present.edit.Edit.{Edit}
+use Rattle.smq_present.specs.declared.present.edit.Edit.TheVariants.{Append}
+use Rattle.smq_present.specs.declared.present.batch.PieceRow.{PieceRow}
+use Rattle.smq_present.specs.present.Batch.{BatchValue, batch_of, prepare_refusal}
+use Rattle.smq_present.specs.present.Present.{PresentValue, tail_in}
+use Rattle.smq_present.specs.present.Replies.{reply}
+use Rattle.smq_present.specs.present.Steps.{step_unless}
 
 -- the batch that a row is, prepared on a tail
 abbrev pub batch_on : TailValue → PieceRow → BatchValue

@@ -1,12 +1,12 @@
 //! Editions: what was published of a history, which stays as it is whatever is committed later.
 ghost use Rattle.std.specs.Prelude.{◌≡◌, ◌<◌, ◌≤◌, ◌-◌, ◌⊎◌, length, slice_get, Some, IfOk, MatchOption};
 ghost use Rattle.std.specs.Arc.{arc_value};
-ghost use Rattle.smq_book.specs.whole.Scratch.{scratch};
+ghost use Rattle.smq_present.specs.whole.Scratch.{scratch};
 ghost use Rattle.smq_desk.specs.History.{replay, IsLegal};
 
 use crate::published_history::PublishedHistory;
 use crate::{Entry, History};
-use smq_book::Tables;
+use smq_present::Tables;
 use std::alloc::AllocError;
 use std::marker::Model;
 use std::sync::Arc;

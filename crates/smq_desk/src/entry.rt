@@ -2,7 +2,7 @@
 ghost use Rattle.std.specs.Prelude.{◌≡◌, ◌↔◌, IfOk, IsTrue};
 ghost use Rattle.smq_desk.specs.History.{reply_by};
 
-use smq_book::Edit;
+use smq_present::Edit;
 use smq_kit::Refusal;
 use std::alloc::AllocError;
 
@@ -67,7 +67,7 @@ impl Entry {
 }
 
 /// Whether both are one edit.
-#[tactic(auto, using(smq_book::proofs::lemmas::present::SameEdits::same_edits))]
+#[tactic(auto, using(smq_present::proofs::lemmas::present::SameEdits::same_edits))]
 pub(crate) fn is_same_edit(edit: &Edit, other: &Edit) -> bool
     ensures { IsTrue result ↔ (edit.now ≡ other.now) }
 {

@@ -1,6 +1,6 @@
 //! Jobs: rows that one worker does from a seat.
 use crate::Seat;
-use smq_book::PieceRow;
+use smq_present::PieceRow;
 use smq_kit::Refusal;
 
 /// Rows that one worker does from a seat, in their order.

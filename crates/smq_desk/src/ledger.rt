@@ -4,8 +4,8 @@
 //! edit that the book made is always in the history.
 ghost use Rattle.std.specs.Prelude.{◌≡◌, ◌≢◌, ◌↔◌, ◌≤◌, ◌<◌, ◌+◌, ◌⊎◌, length, IfOk, IfErr, IfSome, IfNone, OnErr, Err};
 ghost use Rattle.smq_kit.specs.declared.refusal.Refusal.TheVariants.{HistoryFull, Memory, NoSeat, NoWatcher};
-ghost use Rattle.smq_book.specs.present.Present.{tail_in};
-ghost use Rattle.smq_book.specs.present.Steps.{step};
+ghost use Rattle.smq_present.specs.present.Present.{tail_in};
+ghost use Rattle.smq_present.specs.present.Steps.{step};
 ghost use Rattle.smq_desk.specs.declared.entry.Reply.TheVariants.{Refused};
 ghost use Rattle.smq_desk.specs.History.{replay, reply_to, EntriesComeInOrder, IsLegal};
 ghost use Rattle.smq_desk.specs.Ledger.{opened, Adds};
@@ -13,7 +13,8 @@ ghost use Rattle.smq_desk.specs.Ledger.{opened, Adds};
 use crate::board::{BoardWriter, open_board, publish_on};
 use crate::published_history::PublishedHistory;
 use crate::{Edition, Entries, Entry, History, Note, Reply, Watcher};
-use smq_book::{Book, Edit};
+use smq_book::Book;
+use smq_present::Edit;
 use smq_frame::Tail;
 use smq_kit::{Dir, Refusal, SessionId};
 use std::alloc::{AllocError, Global};

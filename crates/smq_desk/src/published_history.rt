@@ -1,12 +1,13 @@
 //! What stands on a board: a history with its tables, as they were when they were published.
 ghost use Rattle.std.specs.Prelude.{◌≡◌, [], IfOk};
 ghost use Rattle.std.specs.Arc.{arc_value};
-ghost use Rattle.smq_book.specs.whole.Scratch.{scratch};
+ghost use Rattle.smq_present.specs.whole.Scratch.{scratch};
 ghost use Rattle.smq_desk.specs.History.{replay, IsLegal};
 
 use crate::History;
 use left_right::Absorb;
-use smq_book::{Book, Tables};
+use smq_book::Book;
+use smq_present::Tables;
 use std::alloc::{AllocError, Global};
 use std::marker::Model;
 use std::sync::Arc;

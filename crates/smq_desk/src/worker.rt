@@ -1,13 +1,13 @@
 //! What one worker does: the rows of its job, one after another.
 ghost use Rattle.std.specs.Prelude.{◌≡◌, ◌⊎◌, None, IfSome, IfOk, IfErr};
 ghost use Rattle.smq_kit.specs.declared.refusal.Refusal.TheVariants.{Memory};
-ghost use Rattle.smq_book.specs.declared.present.edit.Edit.TheVariants.{Append};
+ghost use Rattle.smq_present.specs.declared.present.edit.Edit.TheVariants.{Append};
 ghost use Rattle.smq_desk.specs.Jobs.{IsFresh, Puts, IsFate, Worked};
 ghost use Rattle.smq_desk.specs.within.Rows.{Commits, Ends, StopsRow};
 
 use crate::job::RowEnd;
 use crate::{Desk, Gate, LinkJob, Seat};
-use smq_book::{Batch, Edit, PieceRow, prepare};
+use smq_present::{Batch, Edit, PieceRow, prepare};
 use smq_kit::Refusal;
 use std::sync::Wait;
 

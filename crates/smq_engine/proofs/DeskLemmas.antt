@@ -3,7 +3,7 @@ use Rattle.std.proofs.Common.{◌≡◌, ◌↔◌, ◌++◌, ◌∙◌, ℕ, Li
 use Rattle.smq_tally.specs.Tables.{TablesKept, TablesValue}
 use Rattle.smq_tally.specs.within.Equal.{shown_eq}
 use Rattle.smq_tally.proofs.Equals.{equal-same}
-use Rattle.smq_book.specs.whole.Scratch.{scratch}
+use Rattle.smq_present.specs.whole.Scratch.{scratch}
 use Rattle.smq_desk.specs.History.{replay}
 use Rattle.smq_desk.specs.Seats.{SeatValue}
 use Rattle.smq_load.specs.declared.record.Row.{Row}

@@ -5,10 +5,10 @@ use Rattle.std.specs.Prelude.{◌≢◌, IfOk}
 use Rattle.smq_kit.specs.declared.refusal.Refusal.{Refusal}
 use Rattle.smq_kit.specs.declared.refusal.Refusal.TheVariants.{Memory}
 use Rattle.smq_kit.specs.Replies.{IsReply}
-use Rattle.smq_book.specs.declared.present.edit.Edit.{Edit}
-use Rattle.smq_book.specs.present.Present.{PresentValue}
-use Rattle.smq_book.specs.present.Replies.{reply}
-use Rattle.smq_book.specs.present.Steps.{step, step_unless, steps}
+use Rattle.smq_present.specs.declared.present.edit.Edit.{Edit}
+use Rattle.smq_present.specs.present.Present.{PresentValue}
+use Rattle.smq_present.specs.present.Replies.{reply}
+use Rattle.smq_present.specs.present.Steps.{step, step_unless, steps}
 use Rattle.smq_load.specs.declared.record.Row.{Row}
 use Rattle.smq_engine.specs.Play.{after_row, after_rows, edits_from, refusal_of, refused_from, row_edits, told}
 

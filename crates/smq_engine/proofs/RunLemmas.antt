@@ -1,8 +1,8 @@
 -- What a run that fails has written.
 use Rattle.std.proofs.Common.{◌≡◌, List, ℕ, Option, None, Some, Result, Ok, Err, inr, subst}
 use Rattle.std.specs.Prelude.{IfErr, IfSome}
-use Rattle.smq_book.specs.present.Present.{PresentValue}
-use Rattle.smq_book.specs.whole.Scratch.{scratch}
+use Rattle.smq_present.specs.present.Present.{PresentValue}
+use Rattle.smq_present.specs.whole.Scratch.{scratch}
 use Rattle.smq_load.specs.declared.record.Row.{Row}
 use Rattle.smq_load.specs.Script.{IsScript}
 use Rattle.smq_load.specs.Settings.{settings_of}

@@ -5,11 +5,11 @@ use Rattle.smq_kit.specs.declared.message_id.Form.TheVariants.{Decimal, Hexadeci
 use Rattle.smq_kit.specs.declared.place.Dir.{Dir}
 use Rattle.smq_kit.specs.declared.place.Dir.TheVariants.{FromClient, FromCentre}
 use Rattle.smq_kit.specs.declared.refusal.Refusal.TheVariants as refusal
-use Rattle.smq_book.specs.declared.present.edit.Edit.{Edit}
-use Rattle.smq_book.specs.declared.present.edit.Edit.TheVariants.{Advance, Append, SetForm}
-use Rattle.smq_book.specs.present.Batch.{prepare_refusal}
-use Rattle.smq_book.specs.present.Present.{PresentValue, empty, tail_in}
-use Rattle.smq_book.specs.declared.present.batch.PieceRow.{PieceRow}
+use Rattle.smq_present.specs.declared.present.edit.Edit.{Edit}
+use Rattle.smq_present.specs.declared.present.edit.Edit.TheVariants.{Advance, Append, SetForm}
+use Rattle.smq_present.specs.present.Batch.{prepare_refusal}
+use Rattle.smq_present.specs.present.Present.{PresentValue, empty, tail_in}
+use Rattle.smq_present.specs.declared.present.batch.PieceRow.{PieceRow}
 use Rattle.smq_desk.specs.declared.entry.Call.{Call}
 use Rattle.smq_desk.specs.declared.entry.Entry.{Entry}
 use Rattle.smq_desk.specs.declared.entry.Reply.TheVariants.{Done, Refused}

@@ -13,7 +13,7 @@ use crate::RunFault;
 use crate::desk_play::{close_desk, end_desk, make_at_desk};
 use crate::engine::play_all;
 use crate::row_copies::copy_rows;
-use smq_book::Tables;
+use smq_present::Tables;
 use smq_desk::{Desk, Gate, Seat};
 use smq_load::{Row, read_script, read_settings};
 use smq_scratch::audit;

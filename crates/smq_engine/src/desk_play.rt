@@ -3,7 +3,7 @@
 //!
 //! A desk ends by a call, so each function that owns one is short, and has it on the heap.
 ghost use Rattle.std.specs.Prelude.{◌≡◌, ◌∷◌, ◌++◌, ◌↔◌, [], List, IfErr, IfOk, OnOk, IsTrue, map, length};
-ghost use Rattle.smq_book.specs.whole.Scratch.{scratch};
+ghost use Rattle.smq_present.specs.whole.Scratch.{scratch};
 ghost use Rattle.smq_desk.specs.History.{replay, IsLegal};
 ghost use Rattle.smq_load.specs.declared.record.Row.{Row as RowOf};
 ghost use Rattle.smq_load.specs.declared.record.Row.TheVariants.{Plain};
@@ -12,7 +12,7 @@ ghost use Rattle.smq_engine.specs.within.Jobs.{AreJobsOf, AreReady, IsClosedFor,
 
 use crate::RunFault;
 use crate::workers::{fault_of, hand_over, make_pieces, new_jobs, new_seat};
-use smq_book::{Edit, Tables};
+use smq_present::{Edit, Tables};
 use smq_desk::{Closed, Desk, Gate, LONGEST_HISTORY, LinkJob, Seat};
 use smq_kit::Refusal;
 use smq_load::Row;

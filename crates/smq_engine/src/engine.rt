@@ -2,8 +2,8 @@
 //! written before all rows were read and played.
 ghost use Rattle.std.specs.Prelude.{◌≡◌, ◌≢◌, ◌⊎◌, ◌++◌, IfOk, IfErr, IfSome, IsErrAnd, None, OnOk};
 ghost use Rattle.std.specs.Io.KnownBytes.{Appends, Keeps};
-ghost use Rattle.smq_book.specs.present.Present.{empty};
-ghost use Rattle.smq_book.specs.whole.Scratch.{scratch};
+ghost use Rattle.smq_present.specs.present.Present.{empty};
+ghost use Rattle.smq_present.specs.whole.Scratch.{scratch};
 ghost use Rattle.smq_load.specs.Settings.{settings_of};
 ghost use Rattle.smq_report.specs.Beginnings.{AppendsBeginning};
 ghost use Rattle.smq_report.specs.Report.{report_text};
@@ -12,7 +12,7 @@ ghost use Rattle.smq_engine.specs.Play.{present_of, refused_of};
 
 use crate::RunFault;
 use crate::play::play_rows;
-use smq_book::{PlainBook, Tables};
+use smq_present::{PlainBook, Tables};
 use smq_kit::Refusal;
 use smq_load::{Row, read_script, read_settings};
 use smq_report::write_report;

@@ -1,15 +1,16 @@
 //! Rows are played on a book, one after the other, be it one that keeps its tables current or one that stores none. A row that is
 //! refused leaves what is present, and the rest goes on.
 ghost use Rattle.std.specs.Prelude.{◌≡◌, ◌≢◌, ◌++◌, IfOk, OnOk, Some};
-ghost use Rattle.smq_book.specs.declared.present.edit.Edit.TheVariants.{Append};
-ghost use Rattle.smq_book.specs.present.Present.{tail_in, PresentValue};
-ghost use Rattle.smq_book.specs.present.Replies.{reply};
-ghost use Rattle.smq_book.specs.present.Steps.{step};
+ghost use Rattle.smq_present.specs.declared.present.edit.Edit.TheVariants.{Append};
+ghost use Rattle.smq_present.specs.present.Present.{tail_in, PresentValue};
+ghost use Rattle.smq_present.specs.present.Replies.{reply};
+ghost use Rattle.smq_present.specs.present.Steps.{step};
 ghost use Rattle.smq_engine.specs.Play.{after_row, after_rows, refusal_of, refused_rows, told};
 ghost use Rattle.smq_load.specs.declared.record.Row.TheVariants.{Piece};
 ghost use Rattle.smq_kit.specs.Replies.{IsReply};
 
-use smq_book::{Batch, Book, Edit, PieceRow, PlainBook, prepare};
+use smq_book::Book;
+use smq_present::{Batch, Edit, PieceRow, PlainBook, prepare};
 use smq_frame::Tail;
 use smq_kit::{Dir, Refusal, SessionId};
 use smq_load::Row;

@@ -1,7 +1,7 @@
 //! Copies of rows.
 ghost use Rattle.std.specs.Prelude.{◌≡◌, IfOk};
 
-use smq_book::PieceRow;
+use smq_present::PieceRow;
 use smq_load::Row;
 use std::alloc::{AllocError, Global};
 

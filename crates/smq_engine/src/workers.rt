@@ -7,7 +7,7 @@ ghost use Rattle.smq_load.specs.declared.record.Row.TheVariants.{Piece};
 ghost use Rattle.smq_engine.specs.within.Jobs.{desk_fault, AreJobsOf, AreReady, IsDeskFault, IsDone, IsNew, IsRenewed};
 
 use crate::RunFault;
-use smq_book::PieceRow;
+use smq_present::PieceRow;
 use smq_desk::{Desk, Gate, LinkJob, Seat, load_links};
 use smq_kit::Refusal;
 use std::alloc::{AllocError, Global};

@@ -8,8 +8,8 @@ use Rattle.std.specs.Prelude.{IfErr, IfOk, IfSome, IsErrAnd, codes}
 use Rattle.std.specs.Fmt.{decimal}
 use Rattle.std.specs.Io.KnownBytes.{Appends}
 use Rattle.smq_kit.specs.declared.refusal.Refusal.{Refusal}
-use Rattle.smq_book.specs.present.Present.{PresentValue, empty}
-use Rattle.smq_book.specs.present.Steps.{step, steps}
+use Rattle.smq_present.specs.present.Present.{PresentValue, empty}
+use Rattle.smq_present.specs.present.Steps.{step, steps}
 use Rattle.smq_load.specs.declared.record.Row as rows
 use Rattle.smq_engine.specs.Play.{after_row, after_rows, edits_from, present_of, refusal_of, refused_from, refused_of, row_edits, told}
 use Rattle.smq_engine.proofs.PlayLemmas.{rows-then}

@@ -5,7 +5,7 @@ use Rattle.std.proofs.KnownBytes.{Appends-kept, Appends-nil, Appends-trans, Keep
 use Rattle.std.specs.Prelude.{IfErr, IfOk, IfSome}
 use Rattle.std.specs.Io.KnownBytes.{Appends, Keeps}
 use Rattle.csv.specs.declared.reader.Reader.{Reader}
-use Rattle.smq_book.specs.present.Present.{PresentValue, empty}
+use Rattle.smq_present.specs.present.Present.{PresentValue, empty}
 use Rattle.smq_load.specs.declared.record.Row as rows
 use Rattle.smq_load.specs.NextRecord.{HasGiven}
 use Rattle.smq_load.specs.Settings.{settings_of}

@@ -3,7 +3,7 @@ use Rattle.std.proofs.Common.{ℕ, List, Option, Some, None, inr, subst}
 use Rattle.std.specs.Prelude.{IfSome}
 use Rattle.std.specs.Io.KnownBytes.{Appends}
 use Rattle.smq_kit.specs.declared.refusal.Refusal.{Refusal}
-use Rattle.smq_book.specs.present.Present.{PresentValue}
+use Rattle.smq_present.specs.present.Present.{PresentValue}
 use Rattle.smq_report.specs.Beginnings.{AppendsBeginning}
 use Rattle.smq_follow.specs.Played.{WerePlayed}
 use Rattle.smq_follow.specs.Written.{HasBegunText, IsWritten, StopsText}

@@ -1,7 +1,7 @@
 -- Records and answers at known values.
 use Rattle.std.specs.Prelude.{◌≡◌, ℕ, List, [], ◌∷◌, ◌++◌, codes, None, Some}
-use Rattle.smq_book.specs.present.Present.{PresentValue}
-use Rattle.smq_book.specs.declared.present.edit.Edit.TheVariants.{Advance}
+use Rattle.smq_present.specs.present.Present.{PresentValue}
+use Rattle.smq_present.specs.declared.present.edit.Edit.TheVariants.{Advance}
 use Rattle.smq_load.specs.declared.record.Row as rows
 use Rattle.smq_load.specs.declared.record.Row.TheVariants.{Plain}
 use Rattle.smq_tally.specs.declared.list.List.TheVariants as list

@@ -1,7 +1,7 @@
 -- Laws of the answers, and of totals.
 use Rattle.std.specs.Prelude.{◌≡◌, ◌≤◌, ℕ, ◌+◌, List, [], ◌∷◌, ◌++◌, length, Option, Some}
 use Rattle.smq_kit.specs.declared.refusal.Refusal.{Refusal}
-use Rattle.smq_book.specs.whole.Scratch.{scratch}
+use Rattle.smq_present.specs.whole.Scratch.{scratch}
 use Rattle.smq_load.specs.declared.record.Row as rows
 use Rattle.smq_load.specs.Script.{IsFirstBad, most_records}
 use Rattle.smq_report.specs.declared.pick.Format.{Format}

@@ -2,8 +2,8 @@
 use Rattle.std.specs.Prelude.{◌≡◌, ◌⊎◌, ℕ, List, Option, Some}
 use Rattle.std.specs.Io.KnownBytes.{Appends, Keeps}
 use Rattle.smq_kit.specs.declared.refusal.Refusal.{Refusal}
-use Rattle.smq_book.specs.present.Present.{PresentValue}
-use Rattle.smq_book.specs.whole.Scratch.{scratch}
+use Rattle.smq_present.specs.present.Present.{PresentValue}
+use Rattle.smq_present.specs.whole.Scratch.{scratch}
 use Rattle.smq_lines.specs.Texts.{messages_text, receipts_text}
 use Rattle.smq_load.specs.declared.record.Row.{Row}
 use Rattle.smq_load.specs.Settings.{settings_of}

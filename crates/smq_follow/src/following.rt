@@ -1,7 +1,7 @@
 //! Rows and questions are read one by one. A row is played at once, and a question answered at once.
 ghost use Rattle.std.specs.Prelude.{◌≡◌, ◌≢◌, ◌⊎◌, ◌≤◌, ◌<◌, ◌+◌, ◌-◌, ◌^◌, ◌++◌, ◌∷◌, [], ℕ, List, IfErr, IfOk, IfSome, IsErrAnd, None, OnOk, length};
 ghost use Rattle.std.specs.Io.KnownBytes.{Appends};
-ghost use Rattle.smq_book.specs.present.Present.{empty};
+ghost use Rattle.smq_present.specs.present.Present.{empty};
 ghost use Rattle.smq_load.specs.declared.record.Row as rows;
 ghost use Rattle.smq_load.specs.NextRecord.{HasGiven};
 ghost use Rattle.smq_load.specs.Settings.{settings_of};

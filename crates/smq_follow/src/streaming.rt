@@ -1,7 +1,7 @@
 //! Settings and then the rows of a reader are played on a book that stores no tables. A row is played before the next is read, and
 //! isn't kept.
 ghost use Rattle.std.specs.Prelude.{◌≡◌, ◌≢◌, ◌⊎◌, ◌+◌, ◌++◌, ◌∷◌, [], IfErr, IfOk, IfSome, IsErrAnd, List, None, length, ℕ};
-ghost use Rattle.smq_book.specs.present.Present.{empty};
+ghost use Rattle.smq_present.specs.present.Present.{empty};
 ghost use Rattle.smq_engine.specs.Play.{after_rows};
 ghost use Rattle.smq_load.specs.NextRecord.{HasGiven, HasRead};
 ghost use Rattle.smq_load.specs.Settings.{settings_of};
@@ -10,7 +10,7 @@ ghost use Rattle.smq_follow.specs.within.Plays.{ArePlayedFrom};
 
 use crate::retried::Retried;
 use csv::{ByteRecord, Reader};
-use smq_book::PlainBook;
+use smq_present::PlainBook;
 use smq_engine::{RunFault, play_next, play_rows};
 use smq_kit::Refusal;
 use smq_load::{Row, read_record, read_row, read_settings, record_reader};

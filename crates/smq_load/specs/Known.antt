@@ -5,7 +5,7 @@ use Rattle.toml.specs.Parse.{parse_document}
 use Rattle.smq_kit.specs.declared.message_id.Form.TheVariants.{Verbatim, Decimal, Hexadecimal}
 use Rattle.smq_kit.specs.declared.place.Dir.{Dir}
 use Rattle.smq_kit.specs.declared.place.Dir.TheVariants.{FromClient, FromCentre}
-use Rattle.smq_book.specs.declared.present.edit.Edit.TheVariants.{Withdraw, SetForm, SetWindow, AddRoute, EndRoute, CorrectRoute, Advance}
+use Rattle.smq_present.specs.declared.present.edit.Edit.TheVariants.{Withdraw, SetForm, SetWindow, AddRoute, EndRoute, CorrectRoute, Advance}
 use Rattle.smq_load.specs.declared.input.TheConstants.{MOST_OCTETS, MOST_READS}
 use Rattle.smq_load.specs.declared.link_settings.TheConstants.{MOST_LINKS}
 use Rattle.smq_load.specs.declared.link_settings.LinkSettings.{LinkSettings}

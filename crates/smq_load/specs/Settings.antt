@@ -7,7 +7,7 @@ use Rattle.toml.specs.Parse.{parse_document}
 use Rattle.smq_kit.specs.declared.message_id.Form.{Form}
 use Rattle.smq_kit.specs.declared.message_id.Form.TheVariants.{Verbatim}
 use Rattle.smq_kit.specs.declared.names.LinkId.{LinkId}
-use Rattle.smq_book.specs.declared.present.edit.Edit.TheVariants.{SetForm, SetWindow, Advance}
+use Rattle.smq_present.specs.declared.present.edit.Edit.TheVariants.{SetForm, SetWindow, Advance}
 use Rattle.smq_load.specs.declared.link_settings.LinkSettings.{LinkSettings}
 use Rattle.smq_load.specs.declared.record.Row.{Row}
 use Rattle.smq_load.specs.declared.table.Keys.{Keys}

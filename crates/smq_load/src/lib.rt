@@ -22,4 +22,4 @@ pub use load_fault::LoadFault;
 pub use record::{Row, read_row};
 pub use script::{MOST_RECORDS, read_record, read_script, record_reader};
 pub use settings::{MOST_SETTINGS, read_settings};
-pub use smq_book::PieceRow;
+pub use smq_present::PieceRow;

@@ -10,7 +10,7 @@ use crate::field::{
 };
 use bytes::Bytes;
 use csv::ByteRecord;
-use smq_book::{Edit, PieceRow};
+use smq_present::{Edit, PieceRow};
 use smq_kit::{Dir, LinkId, Moment, SessionId};
 use std::alloc::{AllocError, Global};
 

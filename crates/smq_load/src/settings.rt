@@ -8,7 +8,7 @@ use crate::link_settings::{LinkSettings, read_links};
 use crate::load_fault::LoadFault;
 use crate::record::Row;
 use crate::table::{Keys, has_known_keys, read_number, value_at};
-use smq_book::Edit;
+use smq_present::Edit;
 use smq_kit::{LAST_MOMENT, Moment};
 use std::alloc::{AllocError, Global};
 use std::str;

@@ -8,8 +8,8 @@ use Rattle.std.proofs.lemmas.List.Elements.{same_from_all_zip}
 use Rattle.std.proofs.lemmas.List.Folds.{flat_map-map}
 use denote.Bor.{Bor}
 use Rattle.rayon.proofs.ToStd.{slice-AllZip}
-use Rattle.smq_book.specs.present.Present.{PresentValue}
-use Rattle.smq_book.specs.within.Lists.{notes_of, receipts_of, submits_of}
+use Rattle.smq_present.specs.present.Present.{PresentValue}
+use Rattle.smq_present.specs.within.Lists.{notes_of, receipts_of, submits_of}
 use Rattle.smq_scratch.specs.declared.traffic.Traffic.{Traffic}
 use Rattle.smq_scratch.specs.Said.{Says}
 use Rattle.smq_scratch.specs.Sourced.{SourcedSession, sourced_by, sourced_of, submits_in, receipts_in, notes_in}

@@ -12,19 +12,19 @@ use Rattle.smq_pdu.specs.declared.body.Submit.{Submit}
 use Rattle.smq_tally.specs.declared.outcome.Outcome.{Outcome}
 use Rattle.smq_tally.specs.declared.outcome.Outcome.TheVariants as o
 use Rattle.smq_lines.specs.Lines.{MessageLineValue}
-use Rattle.smq_book.specs.declared.pairing.pairs.Source.{Source}
-use Rattle.smq_book.specs.declared.present.kept.KeptPdu.{KeptPdu}
-use Rattle.smq_book.specs.declared.present.session.Session.{Session}
-use Rattle.smq_book.specs.present.Kept.{header_of, id_in, kept_pdus, submit_in}
-use Rattle.smq_book.specs.present.Present.{PresentValue}
-use Rattle.smq_book.specs.present.Settings.{SettingsValue}
-use Rattle.smq_book.specs.join.Circumstances.{lapsed_in}
-use Rattle.smq_book.specs.join.Outcomes.{first_that_holds, is_decided, is_delivered, is_shared, says_delivered}
-use Rattle.smq_book.specs.within.Accepted.{decider_of, is_single}
-use Rattle.smq_book.specs.within.Lists.{receipts_of, session_submits, source_of, submits_of}
-use Rattle.smq_book.specs.within.Messages.{SubmittedMessage, message_of, response_of, submit_by, submit_with}
-use Rattle.smq_book.specs.within.Outcomes.{message_from, received, standing_of}
-use Rattle.smq_book.specs.within.Receipts.{KeyedReceipt, PlacedReceipt, candidates, least_receipt}
+use Rattle.smq_present.specs.declared.pairing.pairs.Source.{Source}
+use Rattle.smq_present.specs.declared.present.kept.KeptPdu.{KeptPdu}
+use Rattle.smq_present.specs.declared.present.session.Session.{Session}
+use Rattle.smq_present.specs.present.Kept.{header_of, id_in, kept_pdus, submit_in}
+use Rattle.smq_present.specs.present.Present.{PresentValue}
+use Rattle.smq_present.specs.present.Settings.{SettingsValue}
+use Rattle.smq_present.specs.join.Circumstances.{lapsed_in}
+use Rattle.smq_present.specs.join.Outcomes.{first_that_holds, is_decided, is_delivered, is_shared, says_delivered}
+use Rattle.smq_present.specs.within.Accepted.{decider_of, is_single}
+use Rattle.smq_present.specs.within.Lists.{receipts_of, session_submits, source_of, submits_of}
+use Rattle.smq_present.specs.within.Messages.{SubmittedMessage, message_of, response_of, submit_by, submit_with}
+use Rattle.smq_present.specs.within.Outcomes.{message_from, received, standing_of}
+use Rattle.smq_present.specs.within.Receipts.{KeyedReceipt, PlacedReceipt, candidates, least_receipt}
 use Rattle.smq_scratch.specs.Lines.{deciding_receipt, message_line, message_lines}
 
 abbrev names : MessageLineValue → Bool

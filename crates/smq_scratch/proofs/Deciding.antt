@@ -10,14 +10,14 @@ use Rattle.std.proofs.lemmas.List.{take_more, map-append, append-nil, append_ass
 use Rattle.std.proofs.lemmas.List.Elements.{filter-append}
 use Rattle.std.proofs.lemmas.List.Sums.{fold-append}
 use Rattle.std.proofs.lemmas.Grind.{flat_map-append}
-use Rattle.smq_book.specs.declared.present.kept.KeptPdu.{KeptPdu}
+use Rattle.smq_present.specs.declared.present.kept.KeptPdu.{KeptPdu}
 use Rattle.smq_kit.specs.declared.link_key.LinkKey.{LinkKey}
-use Rattle.smq_book.specs.declared.pairing.pairs.Source.{Source}
-use Rattle.smq_book.specs.present.Kept.{receipt_in}
-use Rattle.smq_book.specs.join.Keyed.{can_decide}
+use Rattle.smq_present.specs.declared.pairing.pairs.Source.{Source}
+use Rattle.smq_present.specs.present.Kept.{receipt_in}
+use Rattle.smq_present.specs.join.Keyed.{can_decide}
 use Rattle.smq_kit.specs.LinkKeys.{link_key_cmp, by_key, same_key}
-use Rattle.smq_book.specs.within.Receipts.{PlacedReceipt, KeyedReceipt, candidates, earlier, least_receipt, receipt_cmp, receipt_by, receipts_among}
-use Rattle.smq_book.specs.within.Accepted.{HasDeciders, decider_kept, decider_with}
+use Rattle.smq_present.specs.within.Receipts.{PlacedReceipt, KeyedReceipt, candidates, earlier, least_receipt, receipt_cmp, receipt_by, receipts_among}
+use Rattle.smq_present.specs.within.Accepted.{HasDeciders, decider_kept, decider_with}
 use Rattle.smq_scratch.proofs.KeyMaps.{get-none}
 use Rattle.smq_kit.proofs.Comparisons.{is_equal}
 use Rattle.smq_kit.proofs.LinkKeyOrders.{link_keys_total, link_keys_exact}

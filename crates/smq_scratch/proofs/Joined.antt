@@ -9,18 +9,18 @@ use Rattle.smq_tally.specs.declared.fact.Fact.{Fact}
 use Rattle.smq_tally.specs.declared.list.Listed.{Listed}
 use Rattle.smq_tally.specs.Lists.{listed_set}
 use Rattle.smq_tally.specs.Tables.{AreOfDifferentPlaces, facts_at, tables_of}
-use Rattle.smq_book.specs.present.Present.{PresentValue}
-use Rattle.smq_book.specs.pairing.Traffic.{traffic_of}
-use Rattle.smq_book.specs.join.Facts.{facts_of}
-use Rattle.smq_book.specs.whole.Scratch.{scratch}
-use Rattle.smq_book.specs.within.Accepted.{HasDeciders, HasNumbers}
-use Rattle.smq_book.specs.within.Listings.{notes_kept}
-use Rattle.smq_book.specs.within.Lists.{notes_of, receipt_notes_listed, receipts_of, submits_of}
-use Rattle.smq_book.specs.within.Messages.{SubmittedMessage}
-use Rattle.smq_book.specs.within.Receipts.{PlacedReceipt}
-use Rattle.smq_book.proofs.lemmas.whole.AgreePresent.{notes-are}
-use Rattle.smq_book.proofs.lemmas.join.MoveLemmas.{fact-place}
-use Rattle.smq_book.proofs.lemmas.whole.Tallied.{facts-apart, facts-rise, made-of-entries, values-placed}
+use Rattle.smq_present.specs.present.Present.{PresentValue}
+use Rattle.smq_present.specs.pairing.Traffic.{traffic_of}
+use Rattle.smq_present.specs.join.Facts.{facts_of}
+use Rattle.smq_present.specs.whole.Scratch.{scratch}
+use Rattle.smq_present.specs.within.Accepted.{HasDeciders, HasNumbers}
+use Rattle.smq_present.specs.within.Listings.{notes_kept}
+use Rattle.smq_present.specs.within.Lists.{notes_of, receipt_notes_listed, receipts_of, submits_of}
+use Rattle.smq_present.specs.within.Messages.{SubmittedMessage}
+use Rattle.smq_present.specs.within.Receipts.{PlacedReceipt}
+use Rattle.smq_present.proofs.lemmas.whole.AgreePresent.{notes-are}
+use Rattle.smq_present.proofs.lemmas.join.MoveLemmas.{fact-place}
+use Rattle.smq_present.proofs.lemmas.whole.Tallied.{facts-apart, facts-rise, made-of-entries, values-placed}
 use Rattle.smq_scratch.specs.Sourced.{SourcedSession, receipts_in, sourced_of}
 use Rattle.smq_scratch.proofs.Collected.{receipts-present}
 use Rattle.smq_scratch.proofs.ReceiptNotes.{kept-notes}

@@ -22,27 +22,26 @@ use Rattle.smq_tally.proofs.Listings.{marked}
 use Rattle.smq_tally.proofs.Standing.{lapsed-listed, open-listed}
 use Rattle.smq_tally.proofs.Tallies.{count-tables}
 use Rattle.smq_lines.specs.Lines.{MessageLineValue}
-use Rattle.smq_book.specs.declared.present.session.Session.{Session}
-use Rattle.smq_book.specs.present.Present.{PresentValue}
-use Rattle.smq_book.specs.pairing.Traffic.{traffic_of}
-use Rattle.smq_book.specs.join.Facts.{facts_of}
-use Rattle.smq_book.specs.join.Keyed.{can_decide, grouping_of}
-use Rattle.smq_book.specs.join.Listings as listings
-use Rattle.smq_book.specs.join.Listings.{receipt_notes}
-use Rattle.smq_book.specs.join.Moves.{receipt_standings_of}
-use Rattle.smq_book.specs.index.Held.{is_traffic_list}
-use Rattle.smq_book.specs.whole.Scratch.{scratch}
-use Rattle.smq_book.specs.within.Accepted.{number_accepted}
-use Rattle.smq_book.specs.within.Listings.{is_extra, list_by, note_of, stands_at}
-use Rattle.smq_book.specs.within.Lists.{receipts_of, submits_of}
-use Rattle.smq_book.specs.within.Messages.{SubmittedMessage}
-use Rattle.smq_book.specs.within.Receipts.{KeyedReceipt, PlacedReceipt, candidates, least_receipt}
-use Rattle.smq_book.proofs.lemmas.edits.NotedTraffic.{said-noted, session_noted}
-use Rattle.smq_book.proofs.lemmas.edits.ReceiptNotes.{note-by}
-use Rattle.smq_book.proofs.lemmas.join.ReceiptLists.{never-in, of-standing}
-use Rattle.smq_book.proofs.lemmas.pairing.Members.{has-map, map-has}
-use Rattle.smq_book.proofs.lemmas.whole.AgreePresent.{facts-are, receipts-listed}
-use Rattle.smq_book.proofs.lemmas.whole.Tallied.{is-marked}
+use Rattle.smq_present.specs.declared.present.session.Session.{Session}
+use Rattle.smq_present.specs.present.Present.{PresentValue}
+use Rattle.smq_present.specs.pairing.Traffic.{traffic_of}
+use Rattle.smq_present.specs.join.Facts.{facts_of}
+use Rattle.smq_present.specs.join.Keyed.{can_decide, grouping_of}
+use Rattle.smq_present.specs.join.Listings as listings
+use Rattle.smq_present.specs.join.Listings.{is_traffic_list, receipt_notes}
+use Rattle.smq_present.specs.join.Moves.{receipt_standings_of}
+use Rattle.smq_present.specs.whole.Scratch.{scratch}
+use Rattle.smq_present.specs.within.Accepted.{number_accepted}
+use Rattle.smq_present.specs.within.Listings.{is_extra, list_by, note_of, stands_at}
+use Rattle.smq_present.specs.within.Lists.{receipts_of, submits_of}
+use Rattle.smq_present.specs.within.Messages.{SubmittedMessage}
+use Rattle.smq_present.specs.within.Receipts.{KeyedReceipt, PlacedReceipt, candidates, least_receipt}
+use Rattle.smq_present.proofs.lemmas.join.NotedTraffic.{said-noted, session_noted}
+use Rattle.smq_present.proofs.lemmas.join.ReceiptNotes.{note-by}
+use Rattle.smq_present.proofs.lemmas.join.ReceiptLists.{never-in, of-standing}
+use Rattle.smq_present.proofs.lemmas.pairing.Members.{has-map, map-has}
+use Rattle.smq_present.proofs.lemmas.whole.AgreePresent.{facts-are, receipts-listed}
+use Rattle.smq_present.proofs.lemmas.whole.Tallied.{is-marked}
 use Rattle.smq_scratch.specs.Lines.{HasLineAt, list_of, listing_of, message_line, message_lines, receipt_line, receipt_lines, standing_by}
 
 -- ---- messages

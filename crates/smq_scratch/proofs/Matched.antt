@@ -11,9 +11,9 @@ use Rattle.smq_kit.specs.declared.link_key.LinkKey.{LinkKey}
 use Rattle.smq_kit.specs.LinkKeys.{link_key_cmp, by_key, same_key}
 use Rattle.smq_kit.proofs.Comparisons.{is_equal}
 use Rattle.smq_kit.proofs.LinkKeyOrders.{link_keys_total, link_keys_exact}
-use Rattle.smq_book.specs.within.Accepted.{HasDeciders, accepted_with}
-use Rattle.smq_book.specs.within.Messages.{SubmittedMessage}
-use Rattle.smq_book.specs.within.Receipts.{KeyedReceipt, PlacedReceipt, candidates, least_receipt}
+use Rattle.smq_present.specs.within.Accepted.{HasDeciders, accepted_with}
+use Rattle.smq_present.specs.within.Messages.{SubmittedMessage}
+use Rattle.smq_present.specs.within.Receipts.{KeyedReceipt, PlacedReceipt, candidates, least_receipt}
 use Rattle.smq_lines.specs.Lines.{ReceiptLineValue}
 use Rattle.smq_scratch.specs.declared.matches.Match.{Match}
 use Rattle.smq_scratch.specs.Lines.{accepted_among, only_place, receipt_line, standing_by}

@@ -18,15 +18,15 @@ use Rattle.smq_lines.specs.Lines.{MessageLineValue, ReceiptLineValue}
 use Rattle.smq_lines.specs.declared.lines.DecidingReceipt.{DecidingReceipt}
 use Rattle.smq_lines.specs.declared.lines.ReceiptStanding.TheVariants.{Deciding, Extra, Noted}
 use Rattle.smq_group.proofs.Earliest.{one_key, own_key}
-use Rattle.smq_book.specs.present.Present.{PresentValue}
-use Rattle.smq_book.specs.present.Settings.{SettingsValue}
-use Rattle.smq_book.specs.join.Keyed.{can_decide}
-use Rattle.smq_book.specs.within.Accepted.{accepted_with, decider_of, is_single, number_accepted}
-use Rattle.smq_book.specs.within.Listings.{stands_at}
-use Rattle.smq_book.specs.within.Lists.{receipts_of, submits_of}
-use Rattle.smq_book.specs.within.Messages.{SubmittedMessage}
-use Rattle.smq_book.specs.within.Receipts.{KeyedReceipt, PlacedReceipt, candidates, earlier, least_receipt, receipt_cmp}
-use Rattle.smq_book.proofs.lemmas.pairing.Members.{filter-has, first-one, has-filter, has-map, later-one, map-has, none-in, one-is}
+use Rattle.smq_present.specs.present.Present.{PresentValue}
+use Rattle.smq_present.specs.present.Settings.{SettingsValue}
+use Rattle.smq_present.specs.join.Keyed.{can_decide}
+use Rattle.smq_present.specs.within.Accepted.{accepted_with, decider_of, is_single, number_accepted}
+use Rattle.smq_present.specs.within.Listings.{stands_at}
+use Rattle.smq_present.specs.within.Lists.{receipts_of, submits_of}
+use Rattle.smq_present.specs.within.Messages.{SubmittedMessage}
+use Rattle.smq_present.specs.within.Receipts.{KeyedReceipt, PlacedReceipt, candidates, earlier, least_receipt, receipt_cmp}
+use Rattle.smq_present.proofs.lemmas.pairing.Members.{filter-has, first-one, has-filter, has-map, later-one, map-has, none-in, one-is}
 use Rattle.smq_scratch.specs.Lines.{HasDecidingLine, HasLineNaming, accepted_among, deciding_receipt, message_line, message_lines, only_place, receipt_line, receipt_lines, standing_by}
 
 -- ---- the least receipt is one of them

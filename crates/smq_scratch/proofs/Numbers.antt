@@ -10,8 +10,8 @@ use Rattle.std.proofs.lemmas.List.Sums.{count_by-le-length}
 use Rattle.smq_kit.specs.declared.link_key.LinkKey.{LinkKey}
 use Rattle.smq_kit.specs.LinkKeys.{link_key_cmp, by_key, same_key}
 use Rattle.smq_pair.proofs.Entered.{count-last}
-use Rattle.smq_book.specs.within.Messages.{SubmittedMessage}
-use Rattle.smq_book.specs.within.Accepted.{HasNumbers, number_kept, number_accepted, accepted_with}
+use Rattle.smq_present.specs.within.Messages.{SubmittedMessage}
+use Rattle.smq_present.specs.within.Accepted.{HasNumbers, number_kept, number_accepted, accepted_with}
 use Rattle.smq_kit.proofs.Counted as counted
 use Rattle.smq_scratch.proofs.KeyMaps.{get-none}
 use Rattle.smq_kit.proofs.LinkKeyOrders.{link_keys_total, link_keys_exact}

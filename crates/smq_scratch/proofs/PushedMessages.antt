@@ -5,12 +5,12 @@ use Rattle.std.specs.List.{enumerate_from}
 use Rattle.std.proofs.lemmas.List.{drop_more, length-take}
 use Rattle.std.proofs.lemmas.Option.{slice_get_within}
 use Rattle.smq_pdu.specs.declared.body.Submit.{Submit}
-use Rattle.smq_book.specs.declared.present.kept.KeptPdu.{KeptPdu}
-use Rattle.smq_book.specs.declared.pairing.pairs.Source.{Source}
-use Rattle.smq_book.specs.present.Kept.{submit_in}
-use Rattle.smq_book.specs.within.Messages.{message_of, submit_by}
-use Rattle.smq_book.specs.within.Pairs.{SubmitsAreRequests}
-use Rattle.smq_book.proofs.lemmas.join.AgreeLists.{response-same}
+use Rattle.smq_present.specs.declared.present.kept.KeptPdu.{KeptPdu}
+use Rattle.smq_present.specs.declared.pairing.pairs.Source.{Source}
+use Rattle.smq_present.specs.present.Kept.{submit_in}
+use Rattle.smq_present.specs.within.Messages.{message_of, submit_by}
+use Rattle.smq_present.specs.within.Pairs.{SubmitsAreRequests}
+use Rattle.smq_present.proofs.lemmas.join.AgreeLists.{response-same}
 use Rattle.smq_scratch.specs.declared.sides.Kind.TheVariants.{Request}
 use Rattle.smq_scratch.specs.within.Turns.{HasPartners, partner_at}
 

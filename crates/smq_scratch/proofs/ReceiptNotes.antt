@@ -3,10 +3,10 @@ use Rattle.std.proofs.Common.{◌≡◌, ℕ, List}
 use Rattle.std.specs.List.{flat_map}
 use Rattle.std.specs.BTreeMap.{BTreeMap}
 use Rattle.smq_kit.specs.declared.link_key.LinkKey.{LinkKey}
-use Rattle.smq_book.specs.within.Accepted.{HasNumbers, HasDeciders}
-use Rattle.smq_book.specs.within.Listings.{note_by, note_kept, note_of}
-use Rattle.smq_book.specs.within.Messages.{SubmittedMessage}
-use Rattle.smq_book.specs.within.Receipts.{PlacedReceipt, KeyedReceipt}
+use Rattle.smq_present.specs.within.Accepted.{HasNumbers, HasDeciders}
+use Rattle.smq_present.specs.within.Listings.{note_by, note_kept, note_of}
+use Rattle.smq_present.specs.within.Messages.{SubmittedMessage}
+use Rattle.smq_present.specs.within.Receipts.{PlacedReceipt, KeyedReceipt}
 use Rattle.smq_scratch.proofs.Numbers.{number-is}
 
 -- what maps have of keys gives the notes that lists give

@@ -21,12 +21,12 @@ use Rattle.smq_tally.specs.declared.list.List.{List as ListName}
 use Rattle.smq_tally.specs.declared.list.List.TheVariants as list
 use Rattle.smq_tally.specs.declared.list.Listed.{Listed}
 use Rattle.smq_tally.specs.Lists.{listed}
-use Rattle.smq_book.specs.present.Content.{Content}
-use Rattle.smq_book.specs.declared.present.kept.KeptPdu.{KeptPdu}
-use Rattle.smq_book.specs.present.Kept.{header_of, headers_of, is_undecodable, is_unreadable}
-use Rattle.smq_book.specs.pairing.Traffic.{Origin, place_of, placed, pairing_among, disagrees, notes_among, places_where}
-use Rattle.smq_book.specs.within.Pairs.{Rises, from_session}
-use Rattle.smq_book.proofs.lemmas.pairing.Paired.{standing, filter-placed}
+use Rattle.smq_present.specs.present.Content.{Content}
+use Rattle.smq_present.specs.declared.present.kept.KeptPdu.{KeptPdu}
+use Rattle.smq_present.specs.present.Kept.{header_of, headers_of, is_undecodable, is_unreadable}
+use Rattle.smq_present.specs.pairing.Traffic.{Origin, place_of, placed, pairing_among, disagrees, notes_among, places_where}
+use Rattle.smq_present.specs.within.Pairs.{Rises, from_session}
+use Rattle.smq_present.proofs.lemmas.pairing.Paired.{standing, filter-placed}
 use Rattle.smq_scratch.specs.declared.sides.Side.{Side}
 use Rattle.smq_scratch.specs.declared.sides.Kind.{Kind}
 use Rattle.smq_scratch.specs.declared.sides.Kind.TheVariants.{Request, Response}

@@ -11,8 +11,8 @@ use Rattle.std.proofs.Math.ListN.{get_or-append}
 use Rattle.std.proofs.lemmas.Option.{slice_get_within, slice_get-get_or, unwrap_or-slice_get, get_or_from_slice_get}
 use Rattle.smq_pdu.specs.Header.{header_with}
 use Rattle.smq_pair.proofs.Entered.{count-last}
-use Rattle.smq_book.specs.declared.present.kept.KeptPdu.{KeptPdu}
-use Rattle.smq_book.specs.present.Kept.{header_of, headers_of}
+use Rattle.smq_present.specs.declared.present.kept.KeptPdu.{KeptPdu}
+use Rattle.smq_present.specs.present.Kept.{header_of, headers_of}
 use Rattle.smq_scratch.specs.declared.sides.Kind.{Kind}
 use Rattle.smq_scratch.specs.declared.sides.Kind.TheVariants.{Request, Response}
 use Rattle.smq_scratch.specs.declared.sides.Turns.{Turns}

@@ -7,13 +7,13 @@ use Rattle.smq_kit.specs.declared.error_code.ErrorCode.TheVariants as e
 use Rattle.smq_tally.specs.declared.outcome.Outcome.TheVariants as o
 use Rattle.smq_lines.specs.Lines.{MessageLineValue, ReceiptLineValue}
 use Rattle.smq_lines.specs.declared.lines.ReceiptStanding.TheVariants.{Stray, Deciding, Extra, Noted, Ambiguous}
-use Rattle.smq_book.specs.declared.pairing.pairs.Source.{Source}
-use Rattle.smq_book.specs.present.Content as c
-use Rattle.smq_book.specs.declared.present.kept.KeptPdu.{KeptPdu}
-use Rattle.smq_book.specs.known.Pairing.{place_at, receipt_pdu, receipt_saying, submit}
-use Rattle.smq_book.specs.present.Settings.{SettingsValue, opening_forms}
-use Rattle.smq_book.specs.within.Messages.{SubmittedMessage, message_of}
-use Rattle.smq_book.specs.within.Receipts.{KeyedReceipt, keyed_receipt}
+use Rattle.smq_present.specs.declared.pairing.pairs.Source.{Source}
+use Rattle.smq_present.specs.present.Content as c
+use Rattle.smq_present.specs.declared.present.kept.KeptPdu.{KeptPdu}
+use Rattle.smq_present.specs.known.Pairing.{place_at, receipt_pdu, receipt_saying, submit}
+use Rattle.smq_present.specs.present.Settings.{SettingsValue, opening_forms}
+use Rattle.smq_present.specs.within.Messages.{SubmittedMessage, message_of}
+use Rattle.smq_present.specs.within.Receipts.{KeyedReceipt, keyed_receipt}
 use Rattle.smq_scratch.specs.Lines.{message_line, receipt_line}
 
 -- a session of link 1, whose ids are taken verbatim

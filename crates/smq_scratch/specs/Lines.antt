@@ -11,15 +11,15 @@ use Rattle.smq_lines.specs.Lines.{MessageLineValue, ReceiptLineValue}
 use Rattle.smq_lines.specs.declared.lines.DecidingReceipt.{DecidingReceipt}
 use Rattle.smq_lines.specs.declared.lines.ReceiptStanding.{ReceiptStanding}
 use Rattle.smq_lines.specs.declared.lines.ReceiptStanding.TheVariants.{Stray, Deciding, Extra, Noted, Ambiguous}
-use Rattle.smq_book.specs.present.Present.{PresentValue}
-use Rattle.smq_book.specs.present.Settings.{SettingsValue}
-use Rattle.smq_book.specs.join.Keyed.{can_decide}
-use Rattle.smq_book.specs.within.Accepted.{accepted_with, number_accepted, decider_of}
-use Rattle.smq_book.specs.within.Listings.{stands_at}
-use Rattle.smq_book.specs.within.Lists.{receipts_of, submits_of}
-use Rattle.smq_book.specs.within.Messages.{SubmittedMessage, accepted_id}
-use Rattle.smq_book.specs.within.Outcomes.{fact_of}
-use Rattle.smq_book.specs.within.Receipts.{KeyedReceipt, PlacedReceipt, candidates, least_receipt}
+use Rattle.smq_present.specs.present.Present.{PresentValue}
+use Rattle.smq_present.specs.present.Settings.{SettingsValue}
+use Rattle.smq_present.specs.join.Keyed.{can_decide}
+use Rattle.smq_present.specs.within.Accepted.{accepted_with, number_accepted, decider_of}
+use Rattle.smq_present.specs.within.Listings.{stands_at}
+use Rattle.smq_present.specs.within.Lists.{receipts_of, submits_of}
+use Rattle.smq_present.specs.within.Messages.{SubmittedMessage, accepted_id}
+use Rattle.smq_present.specs.within.Outcomes.{fact_of}
+use Rattle.smq_present.specs.within.Receipts.{KeyedReceipt, PlacedReceipt, candidates, least_receipt}
 
 -- ---- messages
 

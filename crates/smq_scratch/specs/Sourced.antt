@@ -2,15 +2,15 @@
 use Rattle.std.specs.Prelude.{ℕ, List, map}
 use Rattle.std.specs.FinMap as fin
 use Rattle.smq_tally.specs.declared.list.Listed.{Listed}
-use Rattle.smq_book.specs.declared.pairing.pairs.Source.{Source}
-use Rattle.smq_book.specs.declared.present.session.Session.{Session}
-use Rattle.smq_book.specs.present.Kept.{kept_pdus}
-use Rattle.smq_book.specs.present.Present.{PresentValue}
-use Rattle.smq_book.specs.present.Settings.{SettingsValue}
-use Rattle.smq_book.specs.pairing.Traffic.{session_notes}
-use Rattle.smq_book.specs.within.Lists.{source_of}
-use Rattle.smq_book.specs.within.Messages.{SubmittedMessage, submits_among}
-use Rattle.smq_book.specs.within.Receipts.{KeyedReceipt, receipts_among}
+use Rattle.smq_present.specs.declared.pairing.pairs.Source.{Source}
+use Rattle.smq_present.specs.declared.present.session.Session.{Session}
+use Rattle.smq_present.specs.present.Kept.{kept_pdus}
+use Rattle.smq_present.specs.present.Present.{PresentValue}
+use Rattle.smq_present.specs.present.Settings.{SettingsValue}
+use Rattle.smq_present.specs.pairing.Traffic.{session_notes}
+use Rattle.smq_present.specs.within.Lists.{source_of}
+use Rattle.smq_present.specs.within.Messages.{SubmittedMessage, submits_among}
+use Rattle.smq_present.specs.within.Receipts.{KeyedReceipt, receipts_among}
 
 -- a session, with its number, its link and that link's forms
 pub record SourcedSession : Type 0 where

@@ -2,8 +2,8 @@
 //! PDUs that the sessions keep, or from their octets, which many threads decode and read again.
 ghost use Rattle.std.specs.Prelude.{◌≡◌, IfOk};
 ghost use Rattle.std.specs.List.{AllZip};
-ghost use Rattle.smq_book.specs.whole.Scratch.{scratch};
-ghost use Rattle.smq_book.specs.within.Lists.{notes_of, submits_of};
+ghost use Rattle.smq_present.specs.whole.Scratch.{scratch};
+ghost use Rattle.smq_present.specs.within.Lists.{notes_of, submits_of};
 ghost use Rattle.smq_scratch.specs.Said.{Says};
 ghost use Rattle.smq_scratch.specs.Sourced.{sourced_of};
 
@@ -15,7 +15,7 @@ use crate::traffic::{
     sourced_again,
 };
 use rayon::prelude::*;
-use smq_book::{Present, Tables};
+use smq_present::{Present, Tables};
 use std::alloc::{AllocError, Global};
 use std::thread::Threads;
 

@@ -2,19 +2,19 @@
 ghost use Rattle.std.specs.Prelude.{◌≡◌, List, option_map, IfOk};
 ghost use Rattle.std.specs.Option.{option_copied};
 ghost use Rattle.std.specs.FinMap as map;
-ghost use Rattle.smq_book.specs.join.Facts as facts;
-ghost use Rattle.smq_book.specs.join.Outcomes.{is_shared};
-ghost use Rattle.smq_book.specs.pairing.Traffic.{traffic_of};
-ghost use Rattle.smq_book.specs.within.Accepted.{HasNumbers, HasDeciders, decider_of};
-ghost use Rattle.smq_book.specs.within.Lists.{receipts_of, submits_of};
-ghost use Rattle.smq_book.specs.within.Messages.{SubmittedMessage as Submit};
-ghost use Rattle.smq_book.specs.within.Outcomes as listed;
-ghost use Rattle.smq_book.specs.within.Outcomes.{received, standing_of};
-ghost use Rattle.smq_book.specs.within.Receipts.{KeyedReceipt};
+ghost use Rattle.smq_present.specs.join.Facts as facts;
+ghost use Rattle.smq_present.specs.join.Outcomes.{is_shared};
+ghost use Rattle.smq_present.specs.pairing.Traffic.{traffic_of};
+ghost use Rattle.smq_present.specs.within.Accepted.{HasNumbers, HasDeciders, decider_of};
+ghost use Rattle.smq_present.specs.within.Lists.{receipts_of, submits_of};
+ghost use Rattle.smq_present.specs.within.Messages.{SubmittedMessage as Submit};
+ghost use Rattle.smq_present.specs.within.Outcomes as listed;
+ghost use Rattle.smq_present.specs.within.Outcomes.{received, standing_of};
+ghost use Rattle.smq_present.specs.within.Receipts.{KeyedReceipt};
 
 use crate::deciders::{Accepted, Deciders, PlacedReceipt};
 use crate::submits::SubmittedMessage;
-use smq_book::{Fact, Present, ReceivedReceipt, Settings, fact_under};
+use smq_present::{Fact, Present, ReceivedReceipt, Settings, fact_under};
 use std::alloc::{AllocError, Global};
 
 /// A fact of each submitted message that is present, in the order of places, where these are the submitted messages, how

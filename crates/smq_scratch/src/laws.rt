@@ -7,18 +7,18 @@ ghost use Rattle.smq_tally.specs.Tables.{count_at, listed_in};
 ghost use Rattle.smq_lines.specs.Lines.{MessageLineValue, ReceiptLineValue};
 ghost use Rattle.smq_lines.specs.declared.lines.DecidingReceipt.{DecidingReceipt as Named};
 ghost use Rattle.smq_lines.specs.declared.lines.ReceiptStanding.TheVariants.{Deciding};
-ghost use Rattle.smq_book.specs.join.Facts.{facts_of};
-ghost use Rattle.smq_book.specs.join.Keyed.{grouping_of};
-ghost use Rattle.smq_book.specs.join.Listings.{receipt_notes};
-ghost use Rattle.smq_book.specs.join.Outcomes.{is_decided};
-ghost use Rattle.smq_book.specs.pairing.Traffic.{traffic_of};
-ghost use Rattle.smq_book.specs.present.Present.{PresentValue};
-ghost use Rattle.smq_book.specs.present.Settings.{SettingsValue};
-ghost use Rattle.smq_book.specs.whole.Scratch.{scratch};
+ghost use Rattle.smq_present.specs.join.Facts.{facts_of};
+ghost use Rattle.smq_present.specs.join.Keyed.{grouping_of};
+ghost use Rattle.smq_present.specs.join.Listings.{receipt_notes};
+ghost use Rattle.smq_present.specs.join.Outcomes.{is_decided};
+ghost use Rattle.smq_present.specs.pairing.Traffic.{traffic_of};
+ghost use Rattle.smq_present.specs.present.Present.{PresentValue};
+ghost use Rattle.smq_present.specs.present.Settings.{SettingsValue};
+ghost use Rattle.smq_present.specs.whole.Scratch.{scratch};
 ghost use Rattle.smq_scratch.specs.Known.{KnownMessageLines, KnownReceiptLines};
 ghost use Rattle.smq_scratch.specs.Lines.{HasDecidingLine, HasLineAt, HasLineNaming, listing_of, message_lines, receipt_lines};
 
-use smq_book::{List, Outcome, Value, View};
+use smq_present::{List, Outcome, Value, View};
 use smq_kit::Place;
 
 /// The lines for messages have the facts that are known by place, in order: one for each message.

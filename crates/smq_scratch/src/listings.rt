@@ -1,15 +1,15 @@
 //! The delivery receipts that need a look, in their lists.
 ghost use Rattle.std.specs.Prelude.{◌≡◌, ◌++◌, OnOk, option_to_list, option_copied};
 ghost use Rattle.std.specs.List.{flat_map};
-ghost use Rattle.smq_book.specs.present.Kept.{receipt_in};
-ghost use Rattle.smq_book.specs.within.Listings as listings;
-ghost use Rattle.smq_book.specs.within.Listings.{notes_kept};
-ghost use Rattle.smq_book.specs.within.Receipts.{receipt_by, receipts_among};
+ghost use Rattle.smq_present.specs.present.Kept.{receipt_in};
+ghost use Rattle.smq_present.specs.within.Listings as listings;
+ghost use Rattle.smq_present.specs.within.Listings.{notes_kept};
+ghost use Rattle.smq_present.specs.within.Receipts.{receipt_by, receipts_among};
 ghost use Rattle.smq_scratch.specs.Sourced.{receipts_in};
 
 use crate::deciders::{Accepted, Deciders, PlacedReceipt, receipt_at};
 use crate::traffic::SourcedSession;
-use smq_book::{KeptPdu, List, Listed, Source};
+use smq_present::{KeptPdu, List, Listed, Source};
 use smq_kit::HashedKey;
 use std::alloc::{AllocError, Global};
 

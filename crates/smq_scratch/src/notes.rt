@@ -3,15 +3,15 @@ ghost use Rattle.std.specs.Prelude.{◌≡◌, ◌++◌, ◌∷◌, [], slice_ge
 ghost use Rattle.std.specs.Option.{option_copied};
 ghost use Rattle.smq_kit.specs.declared.place.Dir.TheVariants.{FromClient, FromCentre};
 ghost use Rattle.smq_tally.specs.Lists.{listed};
-ghost use Rattle.smq_book.specs.present.Kept.{kept_pdus};
-ghost use Rattle.smq_book.specs.pairing.Traffic.{broken_at, session_notes};
-ghost use Rattle.smq_book.specs.within.Pairs.{from_session};
+ghost use Rattle.smq_present.specs.present.Kept.{kept_pdus};
+ghost use Rattle.smq_present.specs.pairing.Traffic.{broken_at, session_notes};
+ghost use Rattle.smq_present.specs.within.Pairs.{from_session};
 ghost use Rattle.smq_scratch.specs.within.Sides as sides;
 ghost use Rattle.smq_scratch.specs.within.Sides.{IsPaired, IsSide, is_noted_by, note_of, noted, pairing_in};
 ghost use Rattle.smq_scratch.specs.within.Turns.{partner_at};
 
 use crate::sides::Side;
-use smq_book::{KeptPdu, List, Listed, Session, place_of};
+use smq_present::{KeptPdu, List, Listed, Session, place_of};
 use smq_frame::Tail;
 use smq_kit::{Dir, Place, SessionId};
 use smq_pdu::{agrees, is_request, is_response};

@@ -1,8 +1,8 @@
 //! A line for each delivery receipt that is present.
 ghost use Rattle.std.specs.Prelude.{◌≡◌, ◌++◌, IfOk, OnOk, option_to_list, option_copied};
 ghost use Rattle.std.specs.List.{flat_map};
-ghost use Rattle.smq_book.specs.present.Kept.{receipt_in};
-ghost use Rattle.smq_book.specs.within.Receipts.{receipt_by, receipts_among};
+ghost use Rattle.smq_present.specs.present.Kept.{receipt_in};
+ghost use Rattle.smq_present.specs.within.Receipts.{receipt_by, receipts_among};
 ghost use Rattle.smq_scratch.specs.Lines as lines;
 ghost use Rattle.smq_scratch.specs.Lines.{standing_by};
 ghost use Rattle.smq_scratch.specs.Sourced.{receipts_in};
@@ -11,7 +11,7 @@ ghost use Rattle.smq_scratch.specs.within.Matches.{lines_kept, number_in, place_
 use crate::deciders::{Deciders, PlacedReceipt, receipt_at};
 use crate::matches::{Match, Matches};
 use crate::traffic::{SourcedSession, joined, read_sessions, sourced};
-use smq_book::{KeptPdu, Present, Source};
+use smq_present::{KeptPdu, Present, Source};
 use smq_kit::Place;
 use smq_lines::{ReceiptLine, ReceiptStanding};
 use std::alloc::{AllocError, Global};

@@ -2,13 +2,13 @@
 //! here apart from the pairs of a book, which these check: the PDUs of a sequence number are taken in turn.
 ghost use Rattle.std.specs.Prelude.{◌≡◌, IfOk, ◌==◌, if◌then◌else◌, ℕ};
 ghost use Rattle.std.specs.Option.{option_copied};
-ghost use Rattle.smq_book.specs.within.Pairs.{Rises};
+ghost use Rattle.smq_present.specs.within.Pairs.{Rises};
 ghost use Rattle.smq_scratch.specs.within.Sides.{IsSide};
 ghost use Rattle.smq_scratch.specs.within.Turns.{HasPartners, partner_at, HasTurns, advanced, first_in};
 ghost use Rattle.smq_pdu.specs.Header.{header_with};
 ghost use Rattle.smq_scratch.specs.within.Turns as t;
 
-use smq_book::KeptPdu;
+use smq_present::KeptPdu;
 use smq_kit::{Dir, SessionId};
 use smq_pdu::{is_request, is_response};
 use std::alloc::{AllocError, Global};

@@ -1,15 +1,15 @@
 //! The submitted messages, each with its response.
 ghost use Rattle.std.specs.Prelude.{◌≡◌, ◌++◌, OnOk, Some, option_map, slice_get};
 ghost use Rattle.std.specs.Option.{option_copied, option_to_list};
-ghost use Rattle.smq_book.specs.present.Kept.{submit_in};
-ghost use Rattle.smq_book.specs.pairing.Traffic.{response_in};
-ghost use Rattle.smq_book.specs.within.Messages.{accepted_id, submit_by, submits_among};
-ghost use Rattle.smq_book.specs.within.Outcomes.{message_from};
-ghost use Rattle.smq_book.specs.within.Pairs.{SubmitsAreRequests};
+ghost use Rattle.smq_present.specs.present.Kept.{submit_in};
+ghost use Rattle.smq_present.specs.pairing.Traffic.{response_in};
+ghost use Rattle.smq_present.specs.within.Messages.{accepted_id, submit_by, submits_among};
+ghost use Rattle.smq_present.specs.within.Outcomes.{message_from};
+ghost use Rattle.smq_present.specs.within.Pairs.{SubmitsAreRequests};
 ghost use Rattle.smq_scratch.specs.within.Sides.{IsPaired};
 
 use crate::sides::Side;
-use smq_book::{KeptPdu, Message, Response, Source, place_of};
+use smq_present::{KeptPdu, Message, Response, Source, place_of};
 use smq_kit::{Dir, HashedKey, MessageId, Place};
 use smq_pdu::{Submit, agrees};
 use std::alloc::AllocError;
@@ -26,7 +26,7 @@ pub(crate) struct SubmittedMessage<'a> {
 
 impl<'a> Model for SubmittedMessage<'a> {
     ghost use Rattle.std.specs.Option.{option_copied};
-    ghost use Rattle.smq_book.specs.within.Messages.{SubmittedMessage, message_of};
+    ghost use Rattle.smq_present.specs.within.Messages.{SubmittedMessage, message_of};
 
     ghost Value = { SubmittedMessage };
 

@@ -1,9 +1,9 @@
 //! A line for each submitted message that is present.
 ghost use Rattle.std.specs.Prelude.{◌≡◌, List, IfOk};
-ghost use Rattle.smq_book.specs.within.Accepted.{HasDeciders, HasNumbers};
-ghost use Rattle.smq_book.specs.within.Lists.{submits_of};
-ghost use Rattle.smq_book.specs.within.Messages.{SubmittedMessage as Submit};
-ghost use Rattle.smq_book.specs.within.Receipts.{KeyedReceipt};
+ghost use Rattle.smq_present.specs.within.Accepted.{HasDeciders, HasNumbers};
+ghost use Rattle.smq_present.specs.within.Lists.{submits_of};
+ghost use Rattle.smq_present.specs.within.Messages.{SubmittedMessage as Submit};
+ghost use Rattle.smq_present.specs.within.Receipts.{KeyedReceipt};
 ghost use Rattle.smq_scratch.specs.Lines as lines;
 ghost use Rattle.smq_scratch.specs.Sourced.{sourced_of};
 
@@ -11,7 +11,7 @@ use crate::deciders::{Accepted, Deciders};
 use crate::facts::known_of;
 use crate::submits::SubmittedMessage;
 use crate::traffic::{SourcedSession, joined, read_sessions, sourced};
-use smq_book::{Present, Settings};
+use smq_present::{Present, Settings};
 use smq_lines::MessageLine;
 use std::alloc::{AllocError, Global};
 

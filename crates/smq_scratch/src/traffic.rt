@@ -8,7 +8,7 @@ ghost use Rattle.smq_scratch.specs.Said.{Says};
 use crate::notes::push_notes;
 use crate::sides::Side;
 use crate::submits::{SubmittedMessage, push_submits};
-use smq_book::{Listed, Present, Session, Source};
+use smq_present::{Listed, Present, Session, Source};
 use smq_kit::Dir;
 use std::alloc::{AllocError, Global};
 use std::marker::Model;

@@ -6,7 +6,8 @@
 //! reaches, and tools/check-refusals refuses memory to one edit.
 #![tactic(auto)]
 
-use smq_book::{Book, Edit, PieceRow, prepare};
+use smq_book::Book;
+use smq_present::{Edit, PieceRow, prepare};
 use smq_kit::Refusal;
 use smq_load::{LoadFault, Row, read_script};
 use smq_report::{Format, Pick, ReportFault, write_report};

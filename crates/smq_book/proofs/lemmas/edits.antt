@@ -4,9 +4,7 @@ pub mod RouteEdits
 pub mod Advances
 pub mod WindowEdits
 pub mod WindowsAgain
-pub mod ReceiptNotes
 pub mod FormEdits
-pub mod SessionTraffic
 pub mod Moved
 pub mod Withdrawals
 pub mod Appends
@@ -17,12 +15,12 @@ pub mod PushNotes
 pub mod AppendNotes
 pub mod MetPairs
 pub mod MarkedNotes
-pub mod NotedTraffic
 pub mod NotedPairs
 pub mod NotedPushes
 pub mod OwnNotes
 pub mod NotedAppends
 pub mod ReachBounds
+pub mod Unreached
 pub mod MismatchedNotes
 pub mod InTurn
 pub mod Told

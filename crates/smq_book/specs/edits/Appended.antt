@@ -5,14 +5,14 @@ use Rattle.smq_kit.specs.declared.names.LinkId.{LinkId}
 use Rattle.smq_kit.specs.declared.place.Dir.{Dir}
 use Rattle.smq_kit.specs.declared.place.Dir.TheVariants.{FromClient, FromCentre}
 use Rattle.smq_kit.specs.declared.place.Place.{Place}
-use Rattle.smq_book.specs.declared.present.kept.KeptPdu.{KeptPdu}
+use Rattle.smq_present.specs.declared.present.kept.KeptPdu.{KeptPdu}
 use Rattle.smq_pair.specs.Growth.{made_by, touched}
-use Rattle.smq_book.specs.declared.present.session.Session.{Session}
-use Rattle.smq_book.specs.present.Batch.{BatchValue, batch_pdus, next_tail}
-use Rattle.smq_book.specs.present.Kept.{kept_pdus}
-use Rattle.smq_book.specs.pairing.Traffic.{Message, Origin, origin_of, message_at, receipt_at, broken_at, placed, pairing_among, place_of, with_earlier}
-use Rattle.smq_book.specs.pairing.Pushes.{is_next_response}
-use Rattle.smq_book.specs.join.Moves.{Move, PutMessage, TakeMessage, PutReceipt}
+use Rattle.smq_present.specs.declared.present.session.Session.{Session}
+use Rattle.smq_present.specs.present.Batch.{BatchValue, batch_pdus, next_tail}
+use Rattle.smq_present.specs.present.Kept.{kept_pdus}
+use Rattle.smq_present.specs.pairing.Traffic.{Message, Origin, origin_of, message_at, receipt_at, broken_at, placed, pairing_among, place_of, with_earlier}
+use Rattle.smq_present.specs.pairing.Pushes.{is_next_response}
+use Rattle.smq_present.specs.join.Moves.{Move, PutMessage, TakeMessage, PutReceipt}
 
 -- the messages to which the next PDU of the centre is the response, with that response
 abbrev pub answered : Origin → List KeptPdu → List KeptPdu → KeptPdu → List (Place × Message)

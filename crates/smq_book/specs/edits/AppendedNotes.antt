@@ -9,12 +9,12 @@ use Rattle.smq_pair.specs.Pairing.{PlacedHeader}
 use Rattle.smq_pair.specs.Growth.{made_by}
 use Rattle.smq_tally.specs.declared.list.List.TheVariants as list
 use Rattle.smq_tally.specs.Lists.{listed}
-use Rattle.smq_book.specs.declared.present.kept.KeptPdu.{KeptPdu}
-use Rattle.smq_book.specs.declared.present.session.Session.{Session}
-use Rattle.smq_book.specs.present.Batch.{BatchValue, batch_pdus, next_tail}
-use Rattle.smq_book.specs.present.Kept.{kept_pdus, is_undecodable, is_unreadable}
-use Rattle.smq_book.specs.pairing.Traffic.{Origin, broken_at, place_of, placed, pairing_among}
-use Rattle.smq_book.specs.join.Moves.{Move, PutNote, TakeNote}
+use Rattle.smq_present.specs.declared.present.kept.KeptPdu.{KeptPdu}
+use Rattle.smq_present.specs.declared.present.session.Session.{Session}
+use Rattle.smq_present.specs.present.Batch.{BatchValue, batch_pdus, next_tail}
+use Rattle.smq_present.specs.present.Kept.{kept_pdus, is_undecodable, is_unreadable}
+use Rattle.smq_present.specs.pairing.Traffic.{Origin, broken_at, place_of, placed, pairing_among}
+use Rattle.smq_present.specs.join.Moves.{Move, PutNote, TakeNote}
 use Rattle.smq_book.specs.edits.Appended.{batch_origin, session_before}
 
 -- a PDU that makes no pair is put in at its place: a request as one that waits, a response as a stray

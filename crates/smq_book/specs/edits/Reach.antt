@@ -11,15 +11,15 @@ use Rattle.smq_kit.specs.LinkKeys.{same_key}
 use Rattle.smq_kit.specs.Maps.{number_of}
 use Rattle.smq_pair.specs.Pairing.{pair_at}
 use Rattle.smq_pair.specs.declared.pairing.Pair.{Pair}
-use Rattle.smq_book.specs.declared.present.edit.Edit.{Edit}
-use Rattle.smq_book.specs.declared.present.edit.Edit.TheVariants.{Append, Withdraw, SetForm, SetWindow, AddRoute, EndRoute, CorrectRoute, Advance}
-use Rattle.smq_book.specs.declared.present.session.Session.{Session}
-use Rattle.smq_book.specs.present.Batch.{BatchValue, batch_pdus}
-use Rattle.smq_book.specs.present.Kept.{kept_pdus}
-use Rattle.smq_book.specs.present.Present.{PresentValue, session_of}
-use Rattle.smq_book.specs.present.Steps.{step}
-use Rattle.smq_book.specs.pairing.Traffic.{TrafficValue, origin_of, place_of, session_pairing, traffic_of}
-use Rattle.smq_book.specs.join.Keyed.{grouping_of}
+use Rattle.smq_present.specs.declared.present.edit.Edit.{Edit}
+use Rattle.smq_present.specs.declared.present.edit.Edit.TheVariants.{Append, Withdraw, SetForm, SetWindow, AddRoute, EndRoute, CorrectRoute, Advance}
+use Rattle.smq_present.specs.declared.present.session.Session.{Session}
+use Rattle.smq_present.specs.present.Batch.{BatchValue, batch_pdus}
+use Rattle.smq_present.specs.present.Kept.{kept_pdus}
+use Rattle.smq_present.specs.present.Present.{PresentValue, session_of}
+use Rattle.smq_present.specs.present.Steps.{step}
+use Rattle.smq_present.specs.pairing.Traffic.{TrafficValue, origin_of, place_of, session_pairing, traffic_of}
+use Rattle.smq_present.specs.join.Keyed.{grouping_of}
 use Rattle.smq_group.specs.Matching.{Grouping, matches}
 use Rattle.smq_book.specs.edits.Reached.{link_messages, link_receipts, messages_due_on, messages_under, lapsing}
 

@@ -10,13 +10,13 @@ use Rattle.smq_kit.specs.Orders.{place_cmp}
 use Rattle.smq_route.specs.Versions.{begins}
 use Rattle.smq_tally.specs.declared.outcome.Outcome.{Outcome}
 use Rattle.smq_tally.specs.declared.outcome.Outcome.TheVariants as o
-use Rattle.smq_book.specs.present.Settings.{SettingsValue}
-use Rattle.smq_book.specs.pairing.Traffic.{Message, ReceivedReceipt, TrafficValue}
-use Rattle.smq_book.specs.join.Circumstances.{circumstances, window_of}
-use Rattle.smq_book.specs.join.Keyed.{accepted_key, receipt_key}
+use Rattle.smq_present.specs.present.Settings.{SettingsValue}
+use Rattle.smq_present.specs.pairing.Traffic.{Message, ReceivedReceipt, TrafficValue}
+use Rattle.smq_present.specs.join.Circumstances.{circumstances, window_of}
+use Rattle.smq_present.specs.join.Keyed.{accepted_key, receipt_key}
 use Rattle.smq_group.specs.Matching.{Grouping, GroupedReceipt}
-use Rattle.smq_book.specs.join.Moves.{Move, PutMessage, TakeMessage, PutReceipt, TakeReceipt}
-use Rattle.smq_book.specs.join.Outcomes.{outcome_by}
+use Rattle.smq_present.specs.join.Moves.{Move, PutMessage, TakeMessage, PutReceipt, TakeReceipt}
+use Rattle.smq_present.specs.join.Outcomes.{outcome_by}
 
 -- the entries of a map by place that pass a test
 abbrev pub passing : {X : Type 0} → (Place → X → Bool) → fin.FinMap place_cmp X → fin.FinMap place_cmp X

@@ -7,10 +7,10 @@ use Rattle.smq_group.specs.declared.change.Change.{Change}
 use Rattle.smq_group.specs.declared.change.Standing as told
 use Rattle.smq_group.specs.declared.change.Standing.TheVariants as t
 use Rattle.smq_group.specs.Matching as m
-use Rattle.smq_book.specs.present.Settings.{SettingsValue}
-use Rattle.smq_book.specs.pairing.Traffic.{Message, TrafficValue}
-use Rattle.smq_book.specs.join.Circumstances.{Circumstances, decider_in, route_in, lapsed_in}
-use Rattle.smq_book.specs.join.Listings.{is_named}
+use Rattle.smq_present.specs.present.Settings.{SettingsValue}
+use Rattle.smq_present.specs.pairing.Traffic.{Message, TrafficValue}
+use Rattle.smq_present.specs.join.Circumstances.{Circumstances, decider_in, route_in, lapsed_in}
+use Rattle.smq_present.specs.join.Listings.{is_named}
 
 -- the place of a move, and those of which changes tell
 abbrev pub told_places : Place → List Change → List Place

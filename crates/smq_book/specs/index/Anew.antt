@@ -11,8 +11,8 @@ use Rattle.smq_book.specs.index.Due.{due_cmp, due_in}
 use Rattle.smq_book.specs.index.Ends.{Windows, end_cmp, ends_by}
 use Rattle.smq_book.specs.index.Following.{MayFollow}
 use Rattle.smq_book.specs.index.Held.{AreOf, dues_in, ends_in, messages_in, stored_traffic}
-use Rattle.smq_book.specs.pairing.Traffic.{Message, TrafficValue}
-use Rattle.smq_book.specs.present.Settings.{SettingsValue}
+use Rattle.smq_present.specs.pairing.Traffic.{Message, TrafficValue}
+use Rattle.smq_present.specs.present.Settings.{SettingsValue}
 
 -- the traffic that an index stores, without notes
 abbrev pub stored_in : Index → TrafficValue

@@ -1,8 +1,8 @@
 -- Moves that put messages and delivery receipts in where none stands yet.
 use Rattle.std.specs.Prelude.{◌≡◌, ⊤, List, [], ◌∷◌, None}
 use Rattle.std.specs.FinMap as fin
-use Rattle.smq_book.specs.pairing.Traffic.{TrafficValue}
-use Rattle.smq_book.specs.join.Moves.{Move, PutMessage, TakeMessage, PutReceipt, TakeReceipt, PutNote, TakeNote, moved}
+use Rattle.smq_present.specs.pairing.Traffic.{TrafficValue}
+use Rattle.smq_present.specs.join.Moves.{Move, PutMessage, TakeMessage, PutReceipt, TakeReceipt, PutNote, TakeNote, moved}
 
 -- A message comes where no message stands, and a delivery receipt where no receipt does.
 abbrev pub IsNew : TrafficValue → Move → Type 0

@@ -10,9 +10,9 @@ use Rattle.smq_kit.specs.declared.place.Place.{Place}
 use Rattle.smq_kit.specs.Orders.{place_cmp}
 use Rattle.smq_tally.specs.declared.fact.Fact.{Fact}
 use Rattle.smq_book.specs.declared.index.due_at.DueAt.{DueAt}
-use Rattle.smq_book.specs.present.Settings.{SettingsValue}
-use Rattle.smq_book.specs.pairing.Traffic.{Message, TrafficValue}
-use Rattle.smq_book.specs.join.Facts.{facts_of}
+use Rattle.smq_present.specs.present.Settings.{SettingsValue}
+use Rattle.smq_present.specs.pairing.Traffic.{Message, TrafficValue}
+use Rattle.smq_present.specs.join.Facts.{facts_of}
 use Rattle.smq_book.specs.edits.Reached.{is_due}
 use Rattle.smq_book.specs.index.PlacedKeys.{keys_made}
 

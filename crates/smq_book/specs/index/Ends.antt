@@ -10,9 +10,9 @@ use Rattle.smq_kit.specs.Orders.{place_cmp}
 use Rattle.smq_tally.specs.declared.fact.Fact.{Fact}
 use Rattle.smq_book.specs.declared.index.due_at.DueAt.{DueAt}
 use Rattle.smq_book.specs.declared.index.end_at.EndAt.{EndAt}
-use Rattle.smq_book.specs.present.Settings.{SettingsValue, window_in}
-use Rattle.smq_book.specs.pairing.Traffic.{Message, TrafficValue}
-use Rattle.smq_book.specs.join.Facts.{facts_of}
+use Rattle.smq_present.specs.present.Settings.{SettingsValue, window_in}
+use Rattle.smq_present.specs.pairing.Traffic.{Message, TrafficValue}
+use Rattle.smq_present.specs.join.Facts.{facts_of}
 use Rattle.smq_book.specs.index.Due.{is_due_fact}
 use Rattle.smq_book.specs.index.PlacedKeys.{keys_made}
 

@@ -12,11 +12,11 @@ use Rattle.smq_tally.specs.Lists.{listed, listed_cmp}
 use Rattle.smq_group.specs.declared.change.Change.{Change}
 use Rattle.smq_group.specs.Matching.{Grouping}
 use Rattle.smq_group.specs.Standings.{standing_at}
-use Rattle.smq_book.specs.index.Held.{AreOf, IsUnlisted, is_traffic_list, list_held}
-use Rattle.smq_book.specs.join.Circumstances.{route_in}
-use Rattle.smq_book.specs.join.Listings.{is_named}
-use Rattle.smq_book.specs.pairing.Traffic.{Message, ReceivedReceipt, TrafficValue}
-use Rattle.smq_book.specs.present.Settings.{SettingsValue}
+use Rattle.smq_book.specs.index.Held.{AreOf, IsUnlisted, list_held}
+use Rattle.smq_present.specs.join.Circumstances.{route_in}
+use Rattle.smq_present.specs.join.Listings.{is_named, is_traffic_list}
+use Rattle.smq_present.specs.pairing.Traffic.{Message, ReceivedReceipt, TrafficValue}
+use Rattle.smq_present.specs.present.Settings.{SettingsValue}
 
 -- Changes tell how members stand.
 abbrev pub AreTold : Grouping → List Change → Type 0

@@ -1,5 +1,5 @@
 -- What an index holds, by place.
-use Rattle.std.specs.Prelude.{◌≡◌, ⊤, Bool, true, false, not, if◌then◌else◌, List, [], ◌∷◌, fold, Option, Some, None, option_and_then}
+use Rattle.std.specs.Prelude.{◌≡◌, ⊤, Bool, true, false, if◌then◌else◌, List, [], ◌∷◌, fold, Option, Some, None, option_and_then}
 use Rattle.std.specs.FinMap as fin
 use Rattle.std.specs.FinSet.{FinSet}
 use Rattle.smq_kit.specs.declared.place.Dir.TheVariants.{FromClient, FromCentre}
@@ -19,14 +19,14 @@ use Rattle.smq_book.specs.declared.index.end_at.EndAt.{EndAt}
 use Rattle.smq_book.specs.index.Due.{due_cmp, due_in, due_of}
 use Rattle.smq_book.specs.index.Ends.{end_cmp, ends_by, ends_of}
 use Rattle.smq_book.specs.index.Numbered.{numbers_of}
-use Rattle.smq_book.specs.present.Settings.{SettingsValue}
+use Rattle.smq_present.specs.present.Settings.{SettingsValue}
 use Rattle.smq_book.specs.declared.index.index.Index.{Index}
-use Rattle.smq_book.specs.pairing.Traffic.{Message, ReceivedReceipt, TrafficValue}
-use Rattle.smq_book.specs.join.Facts.{facts_of}
-use Rattle.smq_book.specs.join.Keyed.{grouping_of}
+use Rattle.smq_present.specs.pairing.Traffic.{Message, ReceivedReceipt, TrafficValue}
+use Rattle.smq_present.specs.join.Facts.{facts_of}
+use Rattle.smq_present.specs.join.Keyed.{grouping_of}
 use Rattle.smq_book.specs.edits.Told.{list_told}
-use Rattle.smq_book.specs.join.Listings.{is_named, is_receipt_list, list_of_standing, notes_of, receipt_listings}
-use Rattle.smq_book.specs.join.Moves.{Move, PutMessage, TakeMessage, PutReceipt, TakeReceipt, PutNote, TakeNote}
+use Rattle.smq_present.specs.join.Listings.{is_named, is_traffic_list, list_of_standing, notes_of, receipt_listings}
+use Rattle.smq_present.specs.join.Moves.{Move, PutMessage, TakeMessage, PutReceipt, TakeReceipt, PutNote, TakeNote}
 
 -- messages and receipts that are stored as finite maps
 abbrev pub messages_in : List (Place × Message) → fin.FinMap place_cmp Message
@@ -83,10 +83,6 @@ stored_traffic messages receipts =
 pub record AreOf (s : SettingsValue) (t : TrafficValue) (g : Grouping) : Type 0 where
   pub grouped : g ≡ grouping_of s t
   pub apart : (place : Place) (m : Message) → fin.get t.messages place ≡ Some m → fin.get t.receipts place ≡ None
-
--- a list isn't one of those of receipts
-abbrev pub is_traffic_list : l.List → Bool
-is_traffic_list list = not (is_receipt_list list)
 
 -- A place is noted in no list of receipts.
 pub record IsUnlisted (notes : FinSet listed_cmp) (place : Place) : Type 0 where

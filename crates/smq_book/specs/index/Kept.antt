@@ -5,8 +5,8 @@ use Rattle.smq_book.specs.declared.index.pairings.Pairings.{Pairings}
 use Rattle.smq_book.specs.index.Held.{IsHeld, held_now, held_settled, traffic_held}
 use Rattle.smq_book.specs.index.Pairs.{pairing_in, pairs_now, pairs_pending, pairs_settled}
 use Rattle.smq_book.specs.index.Touches.{HasNothingPending}
-use Rattle.smq_book.specs.pairing.Traffic.{traffic_of}
-use Rattle.smq_book.specs.present.Present.{PresentValue}
+use Rattle.smq_present.specs.pairing.Traffic.{traffic_of}
+use Rattle.smq_present.specs.present.Present.{PresentValue}
 
 -- What an index holds is that of the traffic of the sessions that are present, under what is set, and it is settled, so that no
 -- change is pending and no place is vacant.

@@ -9,9 +9,9 @@ use Rattle.smq_kit.specs.Orders.{place_cmp}
 use Rattle.smq_book.specs.declared.index.stored.Said.{Said}
 use Rattle.smq_book.specs.declared.index.stored.Said.TheVariants as said
 use Rattle.smq_book.specs.edits.Reached.{link_receipts, passing}
-use Rattle.smq_book.specs.join.Keyed.{accepted_id}
-use Rattle.smq_book.specs.join.Moves.{Move, PutMessage, PutReceipt, TakeMessage, TakeReceipt, moved}
-use Rattle.smq_book.specs.pairing.Traffic.{Message, ReceivedReceipt, TrafficValue}
+use Rattle.smq_present.specs.join.Keyed.{accepted_id}
+use Rattle.smq_present.specs.join.Moves.{Move, PutMessage, PutReceipt, TakeMessage, TakeReceipt, moved}
+use Rattle.smq_present.specs.pairing.Traffic.{Message, ReceivedReceipt, TrafficValue}
 
 -- whether a message is accepted, under whatever forms
 abbrev pub is_accepted : Message → Bool

@@ -4,7 +4,7 @@ use Rattle.std.specs.FinSet.{FinSet}
 use Rattle.smq_kit.specs.declared.place.Place.{Place}
 use Rattle.smq_route.specs.declared.numbers.NumberAt.{NumberAt}
 use Rattle.smq_route.specs.Numbers.{number_cmp, number_at}
-use Rattle.smq_book.specs.pairing.Traffic.{Message, TrafficValue}
+use Rattle.smq_present.specs.pairing.Traffic.{Message, TrafficValue}
 use Rattle.smq_book.specs.index.PlacedKeys.{keys_made}
 
 -- the number of a message at its place, if it has one

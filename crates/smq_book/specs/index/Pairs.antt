@@ -7,8 +7,8 @@ use Rattle.std.specs.Ordering.{nat_cmp}
 use Rattle.smq_pair.specs.Paired.{no_pdus, PairedValue}
 use Rattle.smq_pair.specs.Pairing.{PairingValue}
 use Rattle.smq_book.specs.declared.index.pairings.Pairings.{Pairings}
-use Rattle.smq_book.specs.declared.present.session.Session.{Session}
-use Rattle.smq_book.specs.pairing.Traffic.{session_pairing}
+use Rattle.smq_present.specs.declared.present.session.Session.{Session}
+use Rattle.smq_present.specs.pairing.Traffic.{session_pairing}
 
 -- the PDUs of the session of a number, as pairs are made of them: none where it is absent
 abbrev pub pairing_in : fin.FinMap nat_cmp Session → ℕ → PairingValue

@@ -15,13 +15,12 @@ use Rattle.smq_pdu.specs.Pairing.{is_request}
 use Rattle.smq_pdu.specs.declared.body.Submit.{Submit}
 use Rattle.smq_tally.specs.declared.list.List.TheVariants as list
 use Rattle.smq_tally.specs.Lists.{listed}
-use Rattle.smq_book.specs.declared.present.kept.KeptPdu.{KeptPdu}
-use Rattle.smq_book.specs.present.Kept.{id_in, submit_in}
-use Rattle.smq_book.specs.present.Settings.{SettingsValue}
-use Rattle.smq_book.specs.pairing.Traffic.{Message, Origin, Response, TrafficValue, asks_receipt, messages_among, pairing_among, place_of, placed}
-use Rattle.smq_book.specs.pairing.Traffic.{receipt_at, receipts_among}
-use Rattle.smq_book.specs.join.Moves.{Move, PutMessage, PutReceipt, PutNote, TakeNote, moved_by}
-use Rattle.smq_book.specs.within.Pairs.{pdu_at}
+use Rattle.smq_present.specs.declared.present.kept.KeptPdu.{KeptPdu}
+use Rattle.smq_present.specs.present.Kept.{id_in, submit_in}
+use Rattle.smq_present.specs.present.Settings.{SettingsValue}
+use Rattle.smq_present.specs.pairing.Traffic.{Message, Origin, Response, TrafficValue, asks_receipt, messages_among, pairing_among, place_of, placed, receipt_at, receipts_among}
+use Rattle.smq_present.specs.join.Moves.{Move, PutMessage, PutReceipt, PutNote, TakeNote, moved_by}
+use Rattle.smq_present.specs.within.Pairs.{pdu_at}
 use Rattle.smq_book.specs.edits.Appended.{anew, centre_moves, client_moves}
 use Rattle.smq_book.specs.edits.AppendedNotes.{met_moves, next_moves, undecodable_moves, unreadable_moves}
 use Rattle.smq_book.specs.index.Held.{Holding, IsHeld, traffic_held}

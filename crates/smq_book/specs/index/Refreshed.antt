@@ -10,10 +10,10 @@ use Rattle.smq_book.specs.declared.index.index.Index.{Index}
 use Rattle.smq_book.specs.edits.Reached.{messages_under}
 use Rattle.smq_book.specs.index.Ends.{Windows}
 use Rattle.smq_book.specs.index.Held.{IsTraffic, held_by, held_now}
-use Rattle.smq_book.specs.present.Settings.{SettingsValue, with_versions}
-use Rattle.smq_book.specs.pairing.Traffic.{Message, TrafficValue}
-use Rattle.smq_book.specs.join.Circumstances.{lapsed_in, route_in}
-use Rattle.smq_book.specs.join.Facts.{facts_of, with_lapse, with_route}
+use Rattle.smq_present.specs.present.Settings.{SettingsValue, with_versions}
+use Rattle.smq_present.specs.pairing.Traffic.{Message, TrafficValue}
+use Rattle.smq_present.specs.join.Circumstances.{lapsed_in, route_in}
+use Rattle.smq_present.specs.join.Facts.{facts_of, with_lapse, with_route}
 
 -- facts where those of places are set to those of traffic under what is set
 abbrev pub refreshed : SettingsValue → TrafficValue → fin.FinMap place_cmp Fact → List Place → fin.FinMap place_cmp Fact

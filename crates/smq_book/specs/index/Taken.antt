@@ -1,13 +1,12 @@
 -- What a withdrawal takes out, PDU by PDU: no response is looked at.
-use Rattle.std.specs.Prelude.{◌≡◌, true, List, map, option_map, option_to_list}
-use Rattle.std.specs.List.{AllByRecursion, flat_map}
+use Rattle.std.specs.Prelude.{List, map, option_map, option_to_list}
+use Rattle.std.specs.List.{flat_map}
 use Rattle.smq_kit.specs.declared.place.Dir.TheVariants.{FromClient, FromCentre}
 use Rattle.smq_tally.specs.declared.list.Listed.{Listed}
-use Rattle.smq_book.specs.declared.present.kept.KeptPdu.{KeptPdu}
-use Rattle.smq_book.specs.present.Kept.{receipt_in, submit_in}
-use Rattle.smq_book.specs.pairing.Traffic.{Origin, place_of}
-use Rattle.smq_book.specs.index.Held.{is_traffic_list}
-use Rattle.smq_book.specs.join.Moves.{Move, TakeMessage, TakeReceipt, TakeNote}
+use Rattle.smq_present.specs.declared.present.kept.KeptPdu.{KeptPdu}
+use Rattle.smq_present.specs.present.Kept.{receipt_in, submit_in}
+use Rattle.smq_present.specs.pairing.Traffic.{Origin, place_of}
+use Rattle.smq_present.specs.join.Moves.{Move, TakeMessage, TakeReceipt, TakeNote}
 
 -- the message that a PDU of the client is, is taken out
 abbrev pub submit_take : Origin → KeptPdu → List Move
@@ -28,7 +27,3 @@ receipt_takes origin centre = flat_map (receipt_take origin) centre
 -- notes are taken out
 abbrev pub note_takes : List Listed → List Move
 note_takes notes = map TakeNote notes
-
--- notes in no list of receipts
-abbrev pub AllTraffic : List Listed → Type 0
-AllTraffic notes = AllByRecursion (λ note. is_traffic_list note.list ≡ true) notes

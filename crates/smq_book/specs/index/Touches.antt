@@ -22,10 +22,10 @@ use Rattle.smq_book.specs.declared.index.stored.Said.TheVariants as said
 use Rattle.smq_book.specs.edits.Reach.{members}
 use Rattle.smq_book.specs.index.Held.{held_now, held_settled}
 use Rattle.smq_book.specs.index.Pairs.{pairs_pending}
-use Rattle.smq_book.specs.declared.present.kept.KeptPdu.{KeptPdu}
-use Rattle.smq_book.specs.join.Keyed.{accepted_key, receipt_key}
-use Rattle.smq_book.specs.present.Settings.{SettingsValue}
-use Rattle.smq_book.specs.pairing.Traffic.{Origin, place_of}
+use Rattle.smq_present.specs.declared.present.kept.KeptPdu.{KeptPdu}
+use Rattle.smq_present.specs.join.Keyed.{accepted_key, receipt_key}
+use Rattle.smq_present.specs.present.Settings.{SettingsValue}
+use Rattle.smq_present.specs.pairing.Traffic.{Origin, place_of}
 use Rattle.smq_kit.specs.declared.place.Dir.{Dir}
 use Rattle.smq_kit.specs.declared.place.Dir.TheVariants.{FromClient, FromCentre}
 

@@ -5,12 +5,12 @@ use Rattle.smq_kit.specs.declared.place.Dir.TheVariants.{FromClient, FromCentre}
 use Rattle.smq_frame.specs.Stream.{handed_in}
 use Rattle.smq_tally.specs.declared.list.List.TheVariants as l
 use Rattle.smq_tally.specs.Lists.{listed}
-use Rattle.smq_book.specs.declared.present.session.Session.{Session}
-use Rattle.smq_book.specs.present.Batch.{BatchValue, batch_of}
-use Rattle.smq_book.specs.join.Moves.{PutNote, TakeNote}
+use Rattle.smq_present.specs.declared.present.session.Session.{Session}
+use Rattle.smq_present.specs.present.Batch.{BatchValue, batch_of}
+use Rattle.smq_present.specs.join.Moves.{PutNote, TakeNote}
 use Rattle.smq_book.specs.edits.AppendedNotes.{append_notes}
-use Rattle.smq_book.specs.known.Pairing.{place_at, pdu_octets, receipt_octets, response_octets, submit_octets}
-use Rattle.smq_book.specs.known.Present.{waiting}
+use Rattle.smq_present.specs.known.Pairing.{place_at, pdu_octets, receipt_octets, response_octets, submit_octets}
+use Rattle.smq_present.specs.known.Present.{waiting}
 use Rattle.smq_book.specs.known.Reach.{submitted_session}
 
 -- octets for a direction of session 10 of link 1 that has none

@@ -3,17 +3,17 @@ use Rattle.std.specs.Prelude.{◌≡◌, ℕ, [], ◌∷◌, codes}
 use Rattle.std.specs.FinMap as map
 use Rattle.smq_kit.specs.declared.place.Dir.TheVariants.{FromClient, FromCentre}
 use Rattle.smq_frame.specs.Stream.{handed_in}
-use Rattle.smq_book.specs.declared.present.edit.Edit.{Edit}
-use Rattle.smq_book.specs.declared.present.edit.Edit.TheVariants.{Append, Withdraw, SetWindow, AddRoute, EndRoute, CorrectRoute, Advance}
-use Rattle.smq_book.specs.declared.present.session.Session.{Session}
-use Rattle.smq_book.specs.present.Batch.{batch_of}
-use Rattle.smq_book.specs.present.Present.{PresentValue, empty}
-use Rattle.smq_book.specs.present.Settings.{with_clock}
-use Rattle.smq_book.specs.present.Steps.{step}
-use Rattle.smq_book.specs.pairing.Traffic.{traffic_of}
+use Rattle.smq_present.specs.declared.present.edit.Edit.{Edit}
+use Rattle.smq_present.specs.declared.present.edit.Edit.TheVariants.{Append, Withdraw, SetWindow, AddRoute, EndRoute, CorrectRoute, Advance}
+use Rattle.smq_present.specs.declared.present.session.Session.{Session}
+use Rattle.smq_present.specs.present.Batch.{batch_of}
+use Rattle.smq_present.specs.present.Present.{PresentValue, empty}
+use Rattle.smq_present.specs.present.Settings.{with_clock}
+use Rattle.smq_present.specs.present.Steps.{step}
+use Rattle.smq_present.specs.pairing.Traffic.{traffic_of}
 use Rattle.smq_book.specs.edits.Reach.{link_places, reach}
-use Rattle.smq_book.specs.known.Present.{waiting}
-use Rattle.smq_book.specs.known.Pairing.{place_at, submit_octets, response_octets}
+use Rattle.smq_present.specs.known.Present.{waiting}
+use Rattle.smq_present.specs.known.Pairing.{place_at, submit_octets, response_octets}
 
 -- session 10 of link 1, with one message at 1000, and with its response at 1200, which gives the id `1`
 abbrev pub submitted_session : Session

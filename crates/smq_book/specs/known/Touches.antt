@@ -1,9 +1,9 @@
 -- How many touches edits of a book of one message add at most, worked out by hand: 64 for each that an edit reaches, and 64 more.
 use Rattle.std.specs.Prelude.{◌≡◌}
-use Rattle.smq_book.specs.declared.present.edit.Edit.TheVariants.{Advance, SetWindow, Withdraw}
+use Rattle.smq_present.specs.declared.present.edit.Edit.TheVariants.{Advance, SetWindow, Withdraw}
 use Rattle.smq_book.specs.edits.Reach.{most_touches}
 use Rattle.smq_book.specs.known.Reach.{accepted_book, accepting, submitted_book, submitting}
-use Rattle.smq_book.specs.present.Present.{empty}
+use Rattle.smq_present.specs.present.Present.{empty}
 
 pub record KnownTouches : Type 0 where
   pub submits : most_touches empty submitting ≡ 128

@@ -6,8 +6,8 @@ ghost use Rattle.smq_book.specs.edits.Reached.{due_by};
 ghost use Rattle.smq_book.specs.index.Held.{held_now, traffic_held};
 ghost use Rattle.smq_book.specs.index.Kept.{IsIndexed};
 ghost use Rattle.smq_book.specs.index.Touches.{RisesWithFacts, index_cost};
-ghost use Rattle.smq_book.specs.present.Replies.{reply};
-ghost use Rattle.smq_book.specs.present.Steps.{change};
+ghost use Rattle.smq_present.specs.present.Replies.{reply};
+ghost use Rattle.smq_present.specs.present.Steps.{change};
 ghost use Rattle.smq_kit.specs.Replies.{IsReply};
 
 use crate::index::clock::advance as lapse;

@@ -6,18 +6,18 @@ ghost use Rattle.smq_book.specs.edits.Reached.{messages_under};
 ghost use Rattle.smq_book.specs.index.Kept.{IsIndexed};
 ghost use Rattle.smq_book.specs.index.Refreshed.{LeaveOthers};
 ghost use Rattle.smq_book.specs.index.Touches.{RisesWithFacts, index_cost};
-ghost use Rattle.smq_book.specs.pairing.Traffic.{traffic_of};
-ghost use Rattle.smq_book.specs.present.Present.{PresentValue};
-ghost use Rattle.smq_book.specs.present.Replies.{reply};
-ghost use Rattle.smq_book.specs.present.Settings.{with_versions};
-ghost use Rattle.smq_book.specs.present.Steps.{change};
+ghost use Rattle.smq_present.specs.pairing.Traffic.{traffic_of};
+ghost use Rattle.smq_present.specs.present.Present.{PresentValue};
+ghost use Rattle.smq_present.specs.present.Replies.{reply};
+ghost use Rattle.smq_present.specs.present.Settings.{with_versions};
+ghost use Rattle.smq_present.specs.present.Steps.{change};
 ghost use Rattle.smq_kit.specs.Replies.{IsReply};
 
 use crate::index::index::Index;
 use crate::index::routes::set_routes;
-use crate::present::settings::Windows;
 use crate::{Edit, Present};
 use smq_kit::{Digits, Moment, Network, Refusal, RouteId};
+use smq_present::Windows;
 use smq_route::Routes;
 
 /// Puts an open version of a route in. A refusal changes nothing.

@@ -3,8 +3,8 @@ ghost use Rattle.std.specs.Prelude.{◌≡◌, ◌≤◌, ◌+◌, ◌*◌, OnOk
 ghost use Rattle.smq_book.specs.edits.Reach.{reach};
 ghost use Rattle.smq_book.specs.index.Kept.{IsKept};
 ghost use Rattle.smq_book.specs.index.Touches.{RisesWithFacts, index_cost};
-ghost use Rattle.smq_book.specs.present.Replies.{reply};
-ghost use Rattle.smq_book.specs.present.Steps.{change};
+ghost use Rattle.smq_present.specs.present.Replies.{reply};
+ghost use Rattle.smq_present.specs.present.Steps.{change};
 ghost use Rattle.smq_kit.specs.Replies.{IsReply};
 
 use crate::index::index::Index;

@@ -8,20 +8,20 @@ ghost use Rattle.smq_book.specs.edits.AppendedNotes.{broken_moves};
 ghost use Rattle.smq_book.specs.index.Held.{IsHeld, held_now, held_settled, traffic_held};
 ghost use Rattle.smq_book.specs.index.Touches.{HasNoneVacant, MembersCome, RisesWithFacts, index_cost, pairing_cost, pdu_load};
 ghost use Rattle.smq_book.specs.index.Pushed.{IsHeldAfter, IsSaidBy, origin_at, pairing_with, pushed_moves};
-ghost use Rattle.smq_book.specs.pairing.Traffic.{session_pairing};
-ghost use Rattle.smq_book.specs.present.Batch.{batch_pdus, next_tail};
-ghost use Rattle.smq_book.specs.present.Kept.{kept_pdus};
-ghost use Rattle.smq_book.specs.present.Present.{direction};
-ghost use Rattle.smq_book.specs.present.Steps.{session_with};
-ghost use Rattle.smq_book.specs.within.Pairs.{Rises, SubmitsAreRequests, from_session};
+ghost use Rattle.smq_present.specs.pairing.Traffic.{session_pairing};
+ghost use Rattle.smq_present.specs.present.Batch.{batch_pdus, next_tail};
+ghost use Rattle.smq_present.specs.present.Kept.{kept_pdus};
+ghost use Rattle.smq_present.specs.present.Present.{direction};
+ghost use Rattle.smq_present.specs.present.Steps.{session_with};
+ghost use Rattle.smq_present.specs.within.Pairs.{Rises, SubmitsAreRequests, from_session};
 
 use crate::index::index::Index;
 use crate::index::notes::note_broken;
 use crate::index::push::push_pdu;
-use crate::present::settings::Settings;
 use crate::{Batch, KeptPdu, Session};
 use smq_kit::{Dir, SessionId};
 use smq_pair::Pairing;
+use smq_present::Settings;
 use std::alloc::AllocError;
 
 /// Takes what a batch says, which is the next of its direction in this session. On an error what is held of its session is

@@ -8,13 +8,13 @@ ghost use Rattle.smq_book.specs.index.Ends.{is_between, places_ending};
 ghost use Rattle.smq_book.specs.index.Held.{IsHeld, ends_in, held_now, held_settled, traffic_held};
 ghost use Rattle.smq_book.specs.index.Pushed.{IsHeldAfter};
 ghost use Rattle.smq_book.specs.index.Touches.{HasNothingPending, RisesWithFacts, index_cost};
-ghost use Rattle.smq_book.specs.present.Settings.{SettingsValue, with_clock};
+ghost use Rattle.smq_present.specs.present.Settings.{SettingsValue, with_clock};
 
 use crate::index::end_at::{EndAt, EndsBetween};
 use crate::index::index::Index;
 use crate::index::routes::refresh_at;
-use crate::present::settings::Windows;
 use smq_kit::{Moment, Place};
+use smq_present::Windows;
 use smq_route::Routes;
 use smq_shelf::{Kept, keys_in};
 use std::alloc::{AllocError, Global};

@@ -9,12 +9,12 @@ ghost use Rattle.smq_book.specs.index.LinkOut as out;
 ghost use Rattle.smq_book.specs.index.LinkOut.{found_at, found_in_turn, keyed_on, keyed_places, put_of, take_at};
 ghost use Rattle.smq_book.specs.index.Pushed.{IsHeldAfter};
 ghost use Rattle.smq_book.specs.index.Touches.{IsRead, MembersGo, RisesWithFacts, index_cost, put_load, taken_load};
-ghost use Rattle.smq_book.specs.present.Settings.{SettingsValue};
+ghost use Rattle.smq_present.specs.present.Settings.{SettingsValue};
 
 use crate::index::index::Index;
 use crate::index::stored::Said;
-use crate::present::settings::Settings;
 use smq_kit::{Dir, LinkId, Place};
+use smq_present::Settings;
 use std::alloc::{AllocError, Global};
 
 /// Takes what has a key on a link out, and gives it: its accepted messages, then its delivery receipts.

@@ -19,20 +19,19 @@ ghost use Rattle.smq_book.specs.index.Anew.{CanFollow, IsAnew, IsDue, KeepsSaid,
 ghost use Rattle.smq_book.specs.index.Following.{AreTold, IsInNoOther, with_note};
 ghost use Rattle.smq_book.specs.index.Held.{AreOf, decider_held, dues_in, ends_in, facts_anew, held_now, held_settled, list_by, list_held, noted, notes_anew, receipts_in, with_listing};
 ghost use Rattle.smq_book.specs.index.Touches.{HasNothingPending, RisesWithFacts, index_cost, index_touches, kept_cost, pending_in, tally_cost, touches_in};
-ghost use Rattle.smq_book.specs.join.Circumstances.{route_in};
-ghost use Rattle.smq_book.specs.join.Facts.{facts_of};
-ghost use Rattle.smq_book.specs.join.Keyed.{accepted_key};
-ghost use Rattle.smq_book.specs.pairing.Traffic.{TrafficValue};
-ghost use Rattle.smq_book.specs.present.Settings.{SettingsValue};
+ghost use Rattle.smq_present.specs.join.Circumstances.{route_in};
+ghost use Rattle.smq_present.specs.join.Facts.{facts_of};
+ghost use Rattle.smq_present.specs.join.Keyed.{accepted_key};
+ghost use Rattle.smq_present.specs.pairing.Traffic.{TrafficValue};
+ghost use Rattle.smq_present.specs.present.Settings.{SettingsValue};
 
 use crate::index::due_at::DueAt;
 use crate::index::end_at::EndAt;
 use crate::index::stored::{StoredMessage, StoredReceipt, received_in};
-use crate::join::fact::{fact_of, restated};
-use crate::present::settings::{Settings, Windows};
 use crate::{Fact, List, Outcome};
 use smq_group::{Change, Groups, Standing};
 use smq_kit::{Dir, Moment, Network, Place, RouteId};
+use smq_present::{Settings, Windows, fact_of, restated};
 use smq_route::{Numbers, Routes};
 use smq_shelf::{Kept, KeptMap};
 use smq_tally::Tally;

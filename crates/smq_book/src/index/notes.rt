@@ -5,21 +5,22 @@ ghost use Rattle.smq_kit.specs.declared.place.Dir.TheVariants.{FromClient, FromC
 ghost use Rattle.smq_pair.specs.Pairing.{placed_header};
 ghost use Rattle.smq_pdu.specs.Header.{header_with};
 ghost use Rattle.smq_tally.specs.Lists.{listed};
+ghost use Rattle.smq_present.specs.join.Listings.{is_traffic_list};
 ghost use Rattle.smq_book.specs.edits.AppendedNotes.{alone_moves, broken_moves, met_moves, pair_moves, undecodable_moves, unreadable_moves};
-ghost use Rattle.smq_book.specs.index.Held.{IsHeld, held_now, held_settled, is_traffic_list};
+ghost use Rattle.smq_book.specs.index.Held.{IsHeld, held_now, held_settled};
 ghost use Rattle.smq_book.specs.index.Pushed.{IsHeldAfter, mismatch_moves, noted_moves, other_move};
 ghost use Rattle.smq_book.specs.index.Touches.{RisesWithFacts, index_cost};
-ghost use Rattle.smq_book.specs.join.Moves.{PutNote, TakeNote};
-ghost use Rattle.smq_book.specs.present.Settings.{SettingsValue};
-ghost use Rattle.smq_book.specs.within.Pairs.{from_session};
+ghost use Rattle.smq_present.specs.join.Moves.{PutNote, TakeNote};
+ghost use Rattle.smq_present.specs.present.Settings.{SettingsValue};
+ghost use Rattle.smq_present.specs.within.Pairs.{from_session};
 
 use crate::index::index::Index;
-use crate::pairing::pairs::place_of;
 use crate::{KeptPdu, List};
 use smq_frame::Tail;
 use smq_kit::{Dir, Place, SessionId};
 use smq_pair::Pair;
 use smq_pdu::{is_request, is_response};
+use smq_present::place_of;
 use std::alloc::AllocError;
 
 /// Notes a place in a list that isn't one of those of receipts.

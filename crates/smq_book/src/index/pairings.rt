@@ -1,14 +1,14 @@
 //! The pairs of each session that is present.
 ghost use Rattle.std.specs.Prelude.{◌≡◌, ◌≢◌, ◌≤◌, ◌++◌, ◌+◌, ◌-◌, ℕ, IsSome, OnOk};
 ghost use Rattle.smq_pair.specs.Paired.{no_pdus};
-ghost use Rattle.smq_book.specs.pairing.Traffic.{session_notes, session_pairing};
+ghost use Rattle.smq_present.specs.pairing.Traffic.{session_notes, session_pairing};
 ghost use Rattle.smq_book.specs.index.Touches.{counted, pairs_cost};
 ghost use Rattle.smq_book.specs.index.Pairs.{pairs_now, pairs_pending, pairs_settled, stored_of};
 
-use crate::pairing::notes::push_notes;
 use crate::{Listed, Session};
 use smq_kit::SessionId;
 use smq_pair::Pairing;
+use smq_present::push_notes;
 use std::alloc::{AllocError, Global};
 use std::collections::BTreeMap;
 

@@ -11,19 +11,18 @@ ghost use Rattle.smq_book.specs.index.Held.{IsHeld, held_now, held_settled, traf
 ghost use Rattle.smq_book.specs.index.Touches.{HasNoneVacant, MembersCome, RisesWithFacts, answered_key, index_cost, members_at, pairing_cost, pdu_load, receipt_key_at};
 ghost use Rattle.smq_book.specs.index.Pushed as pushed;
 ghost use Rattle.smq_book.specs.index.Pushed.{IsHeldAfter, IsUnsaid, answer_moves, moves_by, origin_at, receipt_moves, said_by, submit_moves};
-ghost use Rattle.smq_book.specs.pairing.Traffic as traffic;
-ghost use Rattle.smq_book.specs.pairing.Traffic.{Message as MessageOf, placed};
-ghost use Rattle.smq_book.specs.within.Pairs.{Rises, from_session};
+ghost use Rattle.smq_present.specs.pairing.Traffic as traffic;
+ghost use Rattle.smq_present.specs.pairing.Traffic.{Message as MessageOf, placed};
+ghost use Rattle.smq_present.specs.within.Pairs.{Rises, from_session};
 
 use crate::KeptPdu;
 use crate::index::index::Index;
 use crate::index::notes::{note_of_centre, note_of_client};
 use crate::index::stored::{StoredMessage, StoredReceipt, StoredResponse};
-use crate::pairing::pairs::{pdu_at, place_of};
-use crate::present::settings::Settings;
 use smq_kit::{Dir, LinkId, SessionId};
 use smq_pair::{Pair, Pairing};
 use smq_pdu::Submit;
+use smq_present::{Settings, pdu_at, place_of};
 use std::alloc::{AllocError, Global};
 use std::sync::Arc;
 

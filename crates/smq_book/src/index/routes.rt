@@ -5,11 +5,11 @@ ghost use Rattle.smq_book.specs.index.Held.{IsHeld, held_now, held_settled, traf
 ghost use Rattle.smq_book.specs.index.Pushed.{IsHeldAfter};
 ghost use Rattle.smq_book.specs.index.Refreshed.{LeaveOthers, SetsAnew};
 ghost use Rattle.smq_book.specs.index.Touches.{RisesWithFacts, index_cost};
-ghost use Rattle.smq_book.specs.present.Settings.{SettingsValue, with_versions};
+ghost use Rattle.smq_present.specs.present.Settings.{SettingsValue, with_versions};
 
 use crate::index::index::Index;
-use crate::present::settings::Windows;
 use smq_kit::{Digits, Moment, Place};
+use smq_present::Windows;
 use smq_route::Routes;
 use std::alloc::AllocError;
 

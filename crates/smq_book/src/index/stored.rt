@@ -1,15 +1,13 @@
 //! What is stored of messages and delivery receipts: what their PDUs say, whatever is set.
 ghost use Rattle.std.specs.Prelude.{◌≡◌, IfOk};
 ghost use Rattle.std.specs.Option.{option_copied};
-ghost use Rattle.smq_book.specs.join.Circumstances.{route_in};
-ghost use Rattle.smq_book.specs.join.Keyed as keyed;
-ghost use Rattle.smq_book.specs.join.Keyed.{accepted_key, receipt_key};
+ghost use Rattle.smq_present.specs.join.Circumstances.{route_in};
+ghost use Rattle.smq_present.specs.join.Keyed as keyed;
+ghost use Rattle.smq_present.specs.join.Keyed.{accepted_key, receipt_key};
 
-use crate::join::message::{Message, ReceivedReceipt, Response};
-use crate::present::kept::shared;
-use crate::present::settings::Settings;
 use smq_kit::{Digits, LinkId, LinkKey, MessageId, Moment, Network, RouteId};
 use smq_pdu::Submit;
+use smq_present::{Message, ReceivedReceipt, Response, Settings, shared};
 use smq_receipt::Receipt;
 use smq_route::Routes;
 use std::alloc::{AllocError, Global};
@@ -30,7 +28,7 @@ pub(crate) struct StoredResponse {
 impl Model for StoredResponse {
     ghost use Rattle.std.specs.Prelude.{option_map};
     ghost use Rattle.std.specs.Arc.{arc_value};
-    ghost use Rattle.smq_book.specs.pairing.Traffic.{Response};
+    ghost use Rattle.smq_present.specs.pairing.Traffic.{Response};
 
     ghost Value = { Response };
 
@@ -49,7 +47,7 @@ pub(crate) struct StoredMessage {
 
 impl Model for StoredMessage {
     ghost use Rattle.std.specs.Arc.{arc_value};
-    ghost use Rattle.smq_book.specs.pairing.Traffic.{Message, asks_receipt};
+    ghost use Rattle.smq_present.specs.pairing.Traffic.{Message, asks_receipt};
 
     ghost Value = { Message };
 
@@ -72,7 +70,7 @@ pub(crate) struct StoredReceipt {
 
 impl Model for StoredReceipt {
     ghost use Rattle.std.specs.Arc.{arc_value};
-    ghost use Rattle.smq_book.specs.pairing.Traffic.{ReceivedReceipt};
+    ghost use Rattle.smq_present.specs.pairing.Traffic.{ReceivedReceipt};
 
     ghost Value = { ReceivedReceipt };
 

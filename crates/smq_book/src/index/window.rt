@@ -11,15 +11,15 @@ ghost use Rattle.smq_book.specs.index.Ends.{ends_put, ends_taken};
 ghost use Rattle.smq_book.specs.index.Held.{IsHeld, dues_in, ends_in, held_now, held_settled, traffic_held};
 ghost use Rattle.smq_book.specs.index.Pushed.{IsHeldAfter};
 ghost use Rattle.smq_book.specs.index.Touches.{HasNothingPending, RisesWithFacts, index_cost, kept_cost};
-ghost use Rattle.smq_book.specs.join.Facts.{facts_of};
-ghost use Rattle.smq_book.specs.present.Settings.{SettingsValue, window_in, with_windows};
+ghost use Rattle.smq_present.specs.join.Facts.{facts_of};
+ghost use Rattle.smq_present.specs.present.Settings.{SettingsValue, window_in, with_windows};
 
 use crate::index::due_at::{DueAt, DueOn};
 use crate::index::end_at::EndAt;
 use crate::index::index::{Index, set_end};
 use crate::index::routes::refresh_at;
-use crate::present::settings::Windows;
 use smq_kit::{LinkId, Moment, Place, Window};
+use smq_present::Windows;
 use smq_route::Routes;
 use smq_shelf::{Kept, keys_in};
 use std::alloc::{AllocError, Global};

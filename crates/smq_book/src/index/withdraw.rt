@@ -2,22 +2,22 @@
 ghost use Rattle.std.specs.Prelude.{◌≡◌, ◌≤◌, ◌+◌, ℕ, length, OnOk, Some};
 ghost use Rattle.std.specs.List.{sum_by};
 ghost use Rattle.std.specs.FinMap as fin;
+ghost use Rattle.smq_present.specs.join.Listings.{AllTraffic};
 ghost use Rattle.smq_book.specs.index.Held.{IsHeld, held_now, held_settled, traffic_held};
 ghost use Rattle.smq_book.specs.index.Pairs.{pairs_now, pairs_pending, pairs_settled};
 ghost use Rattle.smq_book.specs.index.Pushed.{IsHeldAfter};
-ghost use Rattle.smq_book.specs.index.Taken.{AllTraffic, note_takes, receipt_take, receipt_takes, submit_take, submit_takes};
+ghost use Rattle.smq_book.specs.index.Taken.{note_takes, receipt_take, receipt_takes, submit_take, submit_takes};
 ghost use Rattle.smq_book.specs.index.Touches.{MembersGo, RisesWithFacts, index_cost, message_load, receipt_load};
-ghost use Rattle.smq_book.specs.pairing.Traffic.{session_notes, session_pairing, traffic_of};
-ghost use Rattle.smq_book.specs.present.Kept.{kept_pdus};
-ghost use Rattle.smq_book.specs.present.Settings.{SettingsValue};
-ghost use Rattle.smq_book.specs.within.Pairs.{from_session};
+ghost use Rattle.smq_present.specs.pairing.Traffic.{session_notes, session_pairing, traffic_of};
+ghost use Rattle.smq_present.specs.present.Kept.{kept_pdus};
+ghost use Rattle.smq_present.specs.present.Settings.{SettingsValue};
+ghost use Rattle.smq_present.specs.within.Pairs.{from_session};
 
 use crate::index::index::Index;
 use crate::index::pairings::Pairings;
-use crate::pairing::pairs::place_of;
-use crate::present::settings::Settings;
 use crate::{KeptPdu, Listed, Present, Session};
 use smq_kit::{Dir, SessionId};
+use smq_present::{Settings, place_of};
 use std::alloc::AllocError;
 
 /// Takes what a session says out, whose pairs these are. On an error the caller undoes what is held.

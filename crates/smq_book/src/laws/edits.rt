@@ -1,5 +1,5 @@
 //! Laws of edits: outside which places an edit changes nothing, and what it takes out and puts in there.
-ghost use Rattle.std.specs.Prelude.{◌≡◌, ◌≢◌, ◌+◌, ◌*◌, ◌≤◌, ℕ, false, not, List, [], ◌∷◌, ◌||◌, if◌then◌else◌, length, Some, None, option_map};
+ghost use Rattle.std.specs.Prelude.{◌≡◌, ◌≢◌, ◌+◌, ◌*◌, ◌≤◌, ℕ, false, not, List, [], ◌∷◌, ◌||◌, if◌then◌else◌, length, Some, None, option_map, ◌<◌, nat_le};
 ghost use Rattle.std.specs.FinMap as fin;
 ghost use Rattle.std.specs.List.{list_any};
 ghost use Rattle.std.specs.Ordering.{nat_cmp, eq_by_cmp};
@@ -8,7 +8,6 @@ ghost use Rattle.smq_kit.specs.declared.message_id.Form.{Form};
 ghost use Rattle.smq_kit.specs.declared.link_key.LinkKey.{LinkKey};
 ghost use Rattle.smq_kit.specs.declared.names.LinkId.{LinkId};
 ghost use Rattle.smq_kit.specs.declared.names.RouteId.{RouteId};
-ghost use Rattle.smq_kit.specs.declared.place.Dir.TheVariants.{FromClient, FromCentre};
 ghost use Rattle.smq_kit.specs.declared.place.Place.{Place};
 ghost use Rattle.smq_kit.specs.Orders.{place_cmp};
 ghost use Rattle.smq_group.specs.declared.change.Change.{Change};
@@ -25,23 +24,23 @@ ghost use Rattle.smq_frame.specs.Tail.{tail_of};
 ghost use Rattle.smq_route.specs.Edits.{added, changed};
 ghost use Rattle.smq_route.specs.Versions.{Versions};
 ghost use Rattle.smq_route.specs.declared.version.Version.{Version};
-ghost use Rattle.smq_book.specs.declared.present.session.Session.{Session as SessionValue};
-ghost use Rattle.smq_book.specs.declared.present.edit.Edit.TheVariants.{Append, Withdraw, SetForm, SetWindow, AddRoute, EndRoute, CorrectRoute, Advance};
-ghost use Rattle.smq_book.specs.declared.present.kept.KeptPdu.{KeptPdu};
-ghost use Rattle.smq_book.specs.present.Kept.{kept_pdus};
-ghost use Rattle.smq_book.specs.present.Batch.{BatchValue};
-ghost use Rattle.smq_book.specs.present.Present.{PresentValue, octets_in, session_of};
-ghost use Rattle.smq_book.specs.present.Replies.{reply};
-ghost use Rattle.smq_book.specs.present.Settings.{SettingsValue, opening_window, forms_of, set_window_of, window_in, with_versions, with_clock, with_windows};
-ghost use Rattle.smq_book.specs.present.Steps.{session_after, step, with_window};
-ghost use Rattle.smq_book.specs.pairing.Traffic.{Message, Origin, ReceivedReceipt, TrafficValue, mismatched, session_messages, session_receipts, traffic_of};
-ghost use Rattle.smq_book.specs.join.Circumstances.{window_of};
-ghost use Rattle.smq_book.specs.join.Facts.{fact_by, facts_of};
-ghost use Rattle.smq_book.specs.join.Keyed.{grouping_of};
-ghost use Rattle.smq_book.specs.join.Listings.{notes_of, receipt_listings};
+ghost use Rattle.smq_present.specs.declared.present.session.Session.{Session as SessionValue};
+ghost use Rattle.smq_present.specs.declared.present.edit.Edit.TheVariants.{Append, Withdraw, SetForm, SetWindow, AddRoute, EndRoute, CorrectRoute, Advance};
+ghost use Rattle.smq_present.specs.declared.present.kept.KeptPdu.{KeptPdu};
+ghost use Rattle.smq_present.specs.present.Kept.{kept_pdus};
+ghost use Rattle.smq_present.specs.present.Batch.{BatchValue};
+ghost use Rattle.smq_present.specs.present.Present.{PresentValue, octets_in, session_of};
+ghost use Rattle.smq_present.specs.present.Replies.{reply};
+ghost use Rattle.smq_present.specs.present.Settings.{SettingsValue, opening_window, forms_of, set_window_of, window_in, with_versions, with_clock, with_windows};
+ghost use Rattle.smq_present.specs.present.Steps.{session_after, step, with_window};
+ghost use Rattle.smq_present.specs.pairing.Traffic.{Message, Origin, ReceivedReceipt, TrafficValue, mismatched, session_messages, session_receipts, traffic_of};
+ghost use Rattle.smq_present.specs.join.Circumstances.{window_of, circumstances};
+ghost use Rattle.smq_present.specs.join.Facts.{fact_by, facts_of, with_lapse};
+ghost use Rattle.smq_present.specs.join.Keyed.{grouping_of};
+ghost use Rattle.smq_present.specs.join.Listings.{notes_of, receipt_listings};
 ghost use Rattle.smq_group.specs.Matching.{Grouping};
-ghost use Rattle.smq_book.specs.join.Moves.{IsMove, Move, standings_of, receipt_standings_of, receipt_changes_of, moved_by};
-ghost use Rattle.smq_book.specs.edits.Reached.{link_messages, link_receipts, link_takes, link_puts, without_link, key_submits, key_receipts, IsMoveOf, IsOfKey, messages_under, messages_due_on, due_by, lapsing};
+ghost use Rattle.smq_present.specs.join.Moves.{IsMove, Move, standings_of, receipt_standings_of, moved_by};
+ghost use Rattle.smq_book.specs.edits.Reached.{link_messages, link_receipts, link_takes, link_puts, without_link, key_submits, key_receipts, IsMoveOf, IsOfKey, messages_under, messages_due_on, due_by, lapsing, is_due};
 ghost use Rattle.smq_book.specs.edits.Appended.{answered, append_moves, append_places};
 ghost use Rattle.smq_book.specs.edits.AppendedNotes.{append_notes};
 ghost use Rattle.smq_book.specs.edits.InTurn.{AreFree, facts_changed, notes_changed};
@@ -51,6 +50,8 @@ ghost use Rattle.smq_book.specs.known.Appended.{KnownAppendNotes};
 ghost use Rattle.smq_book.specs.known.Reach.{KnownReach};
 ghost use Rattle.smq_book.specs.known.Touches.{KnownTouches};
 ghost use Rattle.smq_book.specs.edits.Reach.{link_places, members, reach};
+
+use crate::{Fact, Outcome};
 
 /// An edit of routes changes no fact but those of messages whose numbers its prefix begins, and no note.
 pub fn edits_of_routes_stay_under_their_prefix()
@@ -144,24 +145,6 @@ pub fn clocks_and_windows_commute()
         → step (step p (SetWindow link v)) (SetWindow link w) ≡ step p (SetWindow link w) }
 {}
 
-/// Where the traffic notes the same, the notes are one but for those of the receipts whose standings differ, in the three
-/// lists of receipts. A receipt that is put in or taken out is one of these.
-pub fn notes_follow_the_standings_of_receipts()
-    ensures outside { (s z : SettingsValue) (t u : TrafficValue) (places : List Place)
-        → t.notes ≡ u.notes
-        → SameOutside places (receipt_standings_of (grouping_of s t))
-        (receipt_standings_of (grouping_of z u))
-        → SameOutside (receipt_listings places) (notes_of s t) (notes_of z u) }
-    ensures patched { (s z : SettingsValue) (t u : TrafficValue) (places : List Place)
-        → t.notes ≡ u.notes
-        → SameOutside places (receipt_standings_of (grouping_of s t))
-        (receipt_standings_of (grouping_of z u))
-        → patched (notes_of s t) (fin.get (notes_of z u)) (receipt_listings places)
-        ≡ notes_of z u }
-    ensures changes { (g h : Grouping)
-        → SameOutside (receipt_changes_of g h) (receipt_standings_of g) (receipt_standings_of h) }
-{}
-
 /// The forms of a link change no fact but those of its messages, and no note but those of its delivery receipts.
 pub fn forms_change_their_link_alone()
     ensures facts { (s z : SettingsValue) (t : TrafficValue) (link : LinkId)
@@ -213,14 +196,6 @@ pub fn moves_change_their_key_alone()
         → IsMove q t u → IsOfKey s key t q → IsOfKey s key u q → t.notes ≡ u.notes
         → SameOutside (receipt_listings (q ∷ fin.keys (key_receipts (grouping_of s t) key)))
         (notes_of s t) (notes_of s u) }
-{}
-
-/// Messages stand in the client's direction and delivery receipts in the centre's, so none stands at the other's place.
-pub fn messages_and_receipts_stand_apart()
-    ensures messages { (sessions : fin.FinMap nat_cmp SessionValue) (place : Place)
-        → place.dir ≡ FromCentre → fin.get (traffic_of sessions).messages place ≡ None }
-    ensures receipts { (sessions : fin.FinMap nat_cmp SessionValue) (place : Place)
-        → place.dir ≡ FromClient → fin.get (traffic_of sessions).receipts place ≡ None }
 {}
 
 /// A PDU of the centre is the response to one message at most.
@@ -395,4 +370,30 @@ pub fn known_edits_touch_so_often()
 /// its request, and octets that can't all be read.
 pub fn notes_of_known_appends()
     ensures { KnownAppendNotes }
+{}
+
+/// Windows change open and lapsed messages alone, and their outcomes alone: such a message is lapsed where the clock is at the
+/// end of its link's window or past it, and open before. So a greater window opens a lapsed message again.
+pub fn windows_lapse_and_open_messages_alone()
+    ensures windowed { (s : SettingsValue) (windows : fin.FinMap nat_cmp ℕ) (t : TrafficValue)
+        (place : Place)
+        → fin.get (facts_of (with_windows s windows) t) place
+        ≡ option_map (λ m. with_lapse (nat_le (m.moment + window_in windows m.link) s.clock)
+        (fact_by place m (circumstances s t m))) (fin.get t.messages place) }
+    ensures others { (s : SettingsValue) (windows : fin.FinMap nat_cmp ℕ) (t : TrafficValue)
+        (place : Place) (fact : Fact)
+        → fin.get (facts_of s t) place ≡ Some fact → is_due fact.outcome ≡ false
+        → fin.get (facts_of (with_windows s windows) t) place ≡ Some fact }
+    ensures lapse { (s : SettingsValue) (windows : fin.FinMap nat_cmp ℕ) (t : TrafficValue)
+        (place : Place) (m : Message) (fact : Fact)
+        → fin.get t.messages place ≡ Some m → fin.get (facts_of s t) place ≡ Some fact
+        → fact.outcome ≡ Outcome.Open → m.moment + window_in windows m.link ≤ s.clock
+        → fin.get (facts_of (with_windows s windows) t) place
+        ≡ Some (record fact { outcome = Outcome.Lapsed }) }
+    ensures open_again { (s : SettingsValue) (windows : fin.FinMap nat_cmp ℕ) (t : TrafficValue)
+        (place : Place) (m : Message) (fact : Fact)
+        → fin.get t.messages place ≡ Some m → fin.get (facts_of s t) place ≡ Some fact
+        → fact.outcome ≡ Outcome.Lapsed → s.clock < m.moment + window_in windows m.link
+        → fin.get (facts_of (with_windows s windows) t) place
+        ≡ Some (record fact { outcome = Outcome.Open }) }
 {}

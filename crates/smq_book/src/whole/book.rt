@@ -2,11 +2,11 @@
 ghost use Rattle.std.specs.Prelude.{◌≡◌, ◌≢◌, ◌≤◌, ◌+◌, ◌-◌, ◌^◌, ℕ, [], ◌∷◌, Err, IfOk, MatchResult, OnOk};
 ghost use Rattle.smq_kit.specs.Replies.{IsReply};
 ghost use Rattle.smq_book.specs.edits.Reach.{most_touches, reach};
-ghost use Rattle.smq_book.specs.present.Present.{empty, tail_in};
-ghost use Rattle.smq_book.specs.present.Replies.{reply};
-ghost use Rattle.smq_book.specs.whole.Scratch.{scratch};
-ghost use Rattle.smq_book.specs.present.Steps.{step, steps};
-ghost use Rattle.smq_book.specs.present.Judged.{judged, AreAnswers, IsAnswer};
+ghost use Rattle.smq_present.specs.present.Present.{empty, tail_in};
+ghost use Rattle.smq_present.specs.present.Replies.{reply};
+ghost use Rattle.smq_present.specs.whole.Scratch.{scratch};
+ghost use Rattle.smq_present.specs.present.Steps.{step, steps};
+ghost use Rattle.smq_present.specs.present.Judged.{judged, AreAnswers, IsAnswer};
 
 use crate::whole::kept_book::KeptBook;
 use crate::{Edit, Present, Tables};
@@ -23,7 +23,7 @@ pub struct Book {
 }
 
 impl Model for Book {
-    ghost use Rattle.smq_book.specs.present.Book.{BookValue, book_code};
+    ghost use Rattle.smq_present.specs.present.Book.{BookValue, book_code};
 
     ghost Value = { BookValue };
 

@@ -3,10 +3,10 @@
 ghost use Rattle.std.specs.Prelude.{◌≡◌, ◌≢◌, ◌≤◌, ◌+◌, ◌-◌, ◌^◌, ℕ, Err, OnOk};
 ghost use Rattle.smq_kit.specs.Replies.{IsReply};
 ghost use Rattle.smq_book.specs.edits.Reach.{most_touches, reach};
-ghost use Rattle.smq_book.specs.present.Present.{empty, tail_in};
-ghost use Rattle.smq_book.specs.present.Replies.{reply};
-ghost use Rattle.smq_book.specs.present.Steps.{step};
-ghost use Rattle.smq_book.specs.whole.Scratch.{scratch};
+ghost use Rattle.smq_present.specs.present.Present.{empty, tail_in};
+ghost use Rattle.smq_present.specs.present.Replies.{reply};
+ghost use Rattle.smq_present.specs.present.Steps.{step};
+ghost use Rattle.smq_present.specs.whole.Scratch.{scratch};
 
 use crate::edits::append::append;
 use crate::edits::clock::advance;
@@ -38,7 +38,7 @@ impl Model for KeptBook {
     ghost use Rattle.smq_frame.specs.Tail.{tail_of};
     ghost use Rattle.smq_book.specs.index.Kept.{IsKept};
     ghost use Rattle.smq_book.specs.index.Touches.{touches_of};
-    ghost use Rattle.smq_book.specs.present.Book.{BookValue, book_code};
+    ghost use Rattle.smq_present.specs.present.Book.{BookValue, book_code};
 
     ghost Value = { BookValue };
 

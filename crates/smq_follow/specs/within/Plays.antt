@@ -2,7 +2,7 @@
 use Rattle.std.specs.Prelude.{◌≡◌, ◌+◌, ℕ, List, length, Option}
 use Rattle.csv.specs.declared.reader.Reader.{Reader}
 use Rattle.smq_kit.specs.declared.refusal.Refusal.{Refusal}
-use Rattle.smq_book.specs.present.Present.{PresentValue}
+use Rattle.smq_present.specs.present.Present.{PresentValue}
 use Rattle.smq_load.specs.declared.record.Row.{Row}
 use Rattle.smq_load.specs.NextRecord.{HasRead}
 use Rattle.smq_engine.specs.Play.{after_rows, refused_rows}

@@ -3,7 +3,7 @@ use Rattle.std.specs.Prelude.{◌≡◌, ◌+◌, ⊤, ℕ, List, [], ◌∷◌,
 use Rattle.std.specs.Io.KnownBytes.{Appends, Keeps}
 use Rattle.csv.specs.declared.reader.Reader.{Reader}
 use Rattle.smq_kit.specs.declared.refusal.Refusal.{Refusal}
-use Rattle.smq_book.specs.present.Present.{PresentValue}
+use Rattle.smq_present.specs.present.Present.{PresentValue}
 use Rattle.smq_load.specs.declared.record.Row as rows
 use Rattle.smq_load.specs.NextRecord.{HasGiven}
 use Rattle.smq_report.specs.Beginnings.{AppendsBeginning}

@@ -6,9 +6,9 @@ use Rattle.smq_kit.specs.LinkKeys.{by_key}
 use Rattle.smq_kit.specs.declared.link_key.LinkKey.{LinkKey}
 use Rattle.smq_kit.specs.declared.place.Place.{Place}
 use Rattle.smq_lines.specs.Lines.{ReceiptLineValue}
-use Rattle.smq_book.specs.within.Accepted.{decider_kept}
-use Rattle.smq_book.specs.within.Messages.{SubmittedMessage}
-use Rattle.smq_book.specs.within.Receipts.{KeyedReceipt, PlacedReceipt}
+use Rattle.smq_present.specs.within.Accepted.{decider_kept}
+use Rattle.smq_present.specs.within.Messages.{SubmittedMessage}
+use Rattle.smq_present.specs.within.Receipts.{KeyedReceipt, PlacedReceipt}
 use Rattle.smq_scratch.specs.Lines.{accepted_among, standing_by}
 use Rattle.smq_scratch.specs.declared.matches.Match.{Match}
 use Rattle.smq_scratch.specs.declared.matches.Match.TheVariants.{One, Many}

@@ -11,10 +11,10 @@ use Rattle.smq_tally.specs.declared.list.List as l
 use Rattle.smq_tally.specs.declared.list.List.TheVariants.{Waiting, StrayAnswers, Mismatched, Unreadable, Undecodable}
 use Rattle.smq_tally.specs.declared.list.Listed.{Listed}
 use Rattle.smq_tally.specs.Lists.{listed}
-use Rattle.smq_book.specs.declared.present.kept.KeptPdu.{KeptPdu}
-use Rattle.smq_book.specs.present.Kept.{header_of, is_undecodable, is_unreadable}
-use Rattle.smq_book.specs.pairing.Traffic.{Origin, disagrees, pairing_among, place_of}
-use Rattle.smq_book.specs.within.Pairs.{Rises, from_session}
+use Rattle.smq_present.specs.declared.present.kept.KeptPdu.{KeptPdu}
+use Rattle.smq_present.specs.present.Kept.{header_of, is_undecodable, is_unreadable}
+use Rattle.smq_present.specs.pairing.Traffic.{Origin, disagrees, pairing_among, place_of}
+use Rattle.smq_present.specs.within.Pairs.{Rises, from_session}
 use Rattle.smq_scratch.specs.declared.sides.Side.{Side}
 use Rattle.smq_scratch.specs.declared.sides.Kind.TheVariants.{Request, Response}
 use Rattle.smq_scratch.specs.within.Turns.{HasPartners}

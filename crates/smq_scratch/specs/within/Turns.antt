@@ -5,8 +5,8 @@ use Rattle.std.specs.BTreeMap.{BTreeMap}
 use Rattle.std.specs.BTreeMap as tree
 use Rattle.smq_pdu.specs.Header.{Header}
 use Rattle.smq_pdu.specs.Pairing.{is_request, is_response}
-use Rattle.smq_book.specs.declared.present.kept.KeptPdu.{KeptPdu}
-use Rattle.smq_book.specs.present.Kept.{header_of, headers_of}
+use Rattle.smq_present.specs.declared.present.kept.KeptPdu.{KeptPdu}
+use Rattle.smq_present.specs.present.Kept.{header_of, headers_of}
 use Rattle.smq_scratch.specs.declared.sides.Kind.{Kind}
 use Rattle.smq_scratch.specs.declared.sides.Kind.TheVariants.{Request, Response}
 use Rattle.smq_scratch.specs.declared.sides.Turns.{Turns}

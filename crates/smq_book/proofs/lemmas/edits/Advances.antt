@@ -12,14 +12,14 @@ use Rattle.smq_kit.specs.declared.place.Place.{Place}
 use Rattle.smq_kit.proofs.PlaceOrders.{places_total, places_exact}
 use Rattle.smq_tally.specs.declared.outcome.Outcome.{Outcome}
 use Rattle.smq_tally.specs.declared.outcome.Outcome.TheVariants as o
-use Rattle.smq_book.specs.present.Settings.{SettingsValue, with_clock}
-use Rattle.smq_book.specs.pairing.Traffic.{TrafficValue, Message}
-use Rattle.smq_book.specs.join.Circumstances.{circumstances, window_of}
-use Rattle.smq_book.specs.join.Facts.{fact_by, facts_of, by_lapse, with_lapse}
+use Rattle.smq_present.specs.present.Settings.{SettingsValue, with_clock}
+use Rattle.smq_present.specs.pairing.Traffic.{TrafficValue, Message}
+use Rattle.smq_present.specs.join.Circumstances.{circumstances, window_of}
+use Rattle.smq_present.specs.join.Facts.{fact_by, facts_of, by_lapse, with_lapse}
 use Rattle.smq_book.specs.edits.Reached.{is_open, is_lapsed, outcome_in, due_by, lapsing}
 use Rattle.smq_book.proofs.lemmas.edits.Passing.{passing-at, passing-alike}
-use Rattle.smq_book.proofs.lemmas.join.MoveLemmas.{fact-at}
-use Rattle.smq_book.proofs.lemmas.join.Lapsing.{lapsed, outcome-lapses, past-end}
+use Rattle.smq_present.proofs.lemmas.join.MoveLemmas.{fact-at}
+use Rattle.smq_present.proofs.lemmas.join.Lapsing.{lapsed, outcome-lapses, past-end}
 
 and_false : (a b : Bool) → (a && b) ≡ false → a ≡ true → b ≡ false
 and_false true b e h = e

@@ -9,11 +9,11 @@ use Rattle.smq_kit.specs.declared.place.Place.{Place}
 use Rattle.smq_pdu.specs.Header.{Header}
 use Rattle.smq_pdu.specs.Pairing.{is_request, is_response, is_request_of, is_response_of}
 use Rattle.smq_pdu.specs.declared.body.Submit.{Submit}
-use Rattle.smq_book.specs.declared.present.kept.KeptPdu.{KeptPdu}
-use Rattle.smq_book.specs.present.Kept.{header_of, headers_of, submit_in}
-use Rattle.smq_book.specs.pairing.Traffic.{Message, Origin, message_at, message_of, place_of, rank_after, response_to, with_earlier}
-use Rattle.smq_book.specs.pairing.Pushes.{is_next_response}
-use Rattle.smq_book.specs.within.Pairs.{SubmitsAreRequests}
+use Rattle.smq_present.specs.declared.present.kept.KeptPdu.{KeptPdu}
+use Rattle.smq_present.specs.present.Kept.{header_of, headers_of, submit_in}
+use Rattle.smq_present.specs.pairing.Traffic.{Message, Origin, message_at, message_of, place_of, rank_after, response_to, with_earlier}
+use Rattle.smq_present.specs.pairing.Pushes.{is_next_response}
+use Rattle.smq_present.specs.within.Pairs.{SubmitsAreRequests}
 use Rattle.smq_book.specs.edits.Appended.{answered}
 
 first_of_both : (a b : Bool) → (a && b) ≡ true → a ≡ true

@@ -1,5 +1,5 @@
 -- An append leaves the notes outside of the places of its PDUs and of their pairs, and of where its direction is broken.
-use Rattle.std.proofs.Common.{◌≡◌, ℕ, Bool, true, false, cond, ◌||◌, List, [], ◌∷◌, ◌++◌, Option, Some, None, refl, sym, ap, ◌∙◌, subst}
+use Rattle.std.proofs.Common.{◌≡◌, ℕ, Bool, true, false, cond, ◌||◌, List, [], ◌++◌, Option, Some, None, refl, sym, ap, ◌∙◌, subst}
 use Rattle.std.specs.Prelude.{◌&&◌, option_map, option_and_then, option_to_list}
 use Rattle.std.specs.List.{flat_map, list_any}
 use Rattle.std.specs.Cmp.{nat_cmp_total}
@@ -22,31 +22,24 @@ use Rattle.smq_tally.specs.Lists.{listed_cmp}
 use Rattle.smq_tally.specs.within.ListOrder.{listed_total}
 use Rattle.smq_tally.proofs.ListOrders.{listed_exact}
 use Rattle.smq_tally.proofs.Listings.{marked}
-use Rattle.smq_book.specs.declared.present.kept.KeptPdu.{KeptPdu}
-use Rattle.smq_book.specs.declared.present.session.Session.{Session}
-use Rattle.smq_book.specs.present.Batch.{BatchValue, batch_pdus, next_tail}
-use Rattle.smq_book.specs.present.Kept.{kept_pdus}
-use Rattle.smq_book.specs.present.Present.{octets_in}
-use Rattle.smq_book.specs.present.Steps.{session_after}
-use Rattle.smq_book.specs.pairing.Traffic.{Origin, origin_of, notes_among, broken, broken_at, broken_notes, session_notes, traffic_of}
-use Rattle.smq_book.specs.within.Pairs.{Rises}
+use Rattle.smq_present.specs.declared.present.kept.KeptPdu.{KeptPdu}
+use Rattle.smq_present.specs.declared.present.session.Session.{Session}
+use Rattle.smq_present.specs.present.Batch.{BatchValue, batch_pdus, next_tail}
+use Rattle.smq_present.specs.present.Kept.{kept_pdus}
+use Rattle.smq_present.specs.present.Present.{octets_in}
+use Rattle.smq_present.specs.present.Steps.{session_after}
+use Rattle.smq_present.specs.pairing.Traffic.{Origin, origin_of, notes_among, broken, broken_at, broken_notes, session_notes, traffic_of}
+use Rattle.smq_present.specs.within.Pairs.{Rises}
 use Rattle.smq_book.specs.edits.Appended.{session_before, batch_origin, noted_in_turn, append_places}
 use Rattle.smq_book.proofs.lemmas.edits.Appends.{grown-client, grown-centre, octets-before}
-use Rattle.smq_book.proofs.lemmas.present.Growth.{kept_frames, pdus-grown, tail-grown, kept_pdus-nil}
-use Rattle.smq_book.proofs.lemmas.pairing.PlacesRise.{kept-rise}
+use Rattle.smq_present.proofs.lemmas.present.Growth.{kept_frames, pdus-grown, tail-grown, kept_pdus-nil}
+use Rattle.smq_present.proofs.lemmas.pairing.PlacesRise.{kept-rise}
 use Rattle.smq_book.proofs.lemmas.edits.PushNotes.{client-notes-in-turn, centre-notes-in-turn, pdus-order}
-use Rattle.smq_book.specs.join.Listings.{same_list}
-use Rattle.smq_book.proofs.lemmas.join.ReceiptLists.{any-of-list}
-use Rattle.smq_book.proofs.lemmas.edits.SessionTraffic.{said-at, said-put}
-use Rattle.smq_book.proofs.lemmas.pairing.UnreadPlaces.{broken-stays}
-use Rattle.smq_book.proofs.lemmas.edits.Withdrawals.{marks, note_number, noted, notes-own, notes-all}
-
-pub find-marks : (notes : List Listed) (q : Listed) → find listed_cmp q (marks notes) ≡ marked (list_any (eq_by_cmp listed_cmp q) notes)
-find-marks [] q = refl
-find-marks (note ∷ notes) q = elim (eq_by_cmp listed_cmp q note) as (λ b. cond b (Some (tt {0})) (find listed_cmp q (marks notes)) ≡ marked (b || list_any (eq_by_cmp listed_cmp q) notes)) [
-  | true ↦ refl
-  | false ↦ find-marks notes q
-]
+use Rattle.smq_present.specs.join.Listings.{same_list}
+use Rattle.smq_present.proofs.lemmas.join.ReceiptLists.{any-of-list}
+use Rattle.smq_present.proofs.lemmas.pairing.SessionTraffic.{said-at, said-put}
+use Rattle.smq_present.proofs.lemmas.pairing.UnreadPlaces.{broken-stays}
+use Rattle.smq_present.proofs.lemmas.join.SessionLists.{find-marks, note_number, noted, notes-own, notes-all}
 
 -- ---- where a direction is broken
 

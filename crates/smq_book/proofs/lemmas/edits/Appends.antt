@@ -23,22 +23,22 @@ use Rattle.smq_frame.specs.Stream.{values, handed_in, frames_after}
 use Rattle.smq_frame.specs.Tail.{tail_of}
 use Rattle.smq_pdu.specs.declared.body.Submit.{Submit}
 use Rattle.smq_receipt.specs.declared.reading.Receipt.{Receipt}
-use Rattle.smq_book.specs.declared.present.kept.KeptPdu.{KeptPdu}
-use Rattle.smq_book.specs.declared.present.session.Session.{Session}
-use Rattle.smq_book.specs.present.Batch.{BatchValue, batch_pdus}
-use Rattle.smq_book.specs.present.Kept.{kept_pdus, submit_in, receipt_in}
-use Rattle.smq_book.specs.present.Present.{direction, octets_in}
-use Rattle.smq_book.specs.present.Steps.{session_after, session_with}
-use Rattle.smq_book.specs.pairing.Traffic.{TrafficValue, Message, ReceivedReceipt, Origin, place_of, message_of, message_at, receipt_at, received, messages_among, receipts_among, response_to, origin_of, with_earlier, session_messages, session_receipts, traffic_of}
-use Rattle.smq_book.specs.pairing.Pushes.{is_next_response}
-use Rattle.smq_book.specs.within.Pairs.{Rises}
-use Rattle.smq_book.specs.join.Moves.{moved_by, PutReceipt}
+use Rattle.smq_present.specs.declared.present.kept.KeptPdu.{KeptPdu}
+use Rattle.smq_present.specs.declared.present.session.Session.{Session}
+use Rattle.smq_present.specs.present.Batch.{BatchValue, batch_pdus}
+use Rattle.smq_present.specs.present.Kept.{kept_pdus, submit_in, receipt_in}
+use Rattle.smq_present.specs.present.Present.{direction, octets_in}
+use Rattle.smq_present.specs.present.Steps.{session_after, session_with}
+use Rattle.smq_present.specs.pairing.Traffic.{TrafficValue, Message, ReceivedReceipt, Origin, place_of, message_of, message_at, receipt_at, received, messages_among, receipts_among, response_to, origin_of, with_earlier, session_messages, session_receipts, traffic_of}
+use Rattle.smq_present.specs.pairing.Pushes.{is_next_response}
+use Rattle.smq_present.specs.within.Pairs.{Rises}
+use Rattle.smq_present.specs.join.Moves.{moved_by, PutReceipt}
 use Rattle.smq_book.specs.edits.Appended.{answered, anew, client_moves, centre_moves, push_moves, session_before, batch_origin, append_moves}
-use Rattle.smq_book.proofs.lemmas.present.Growth.{kept_frames, pdus-grown, kept_pdus-nil}
+use Rattle.smq_present.proofs.lemmas.present.Growth.{kept_frames, pdus-grown, kept_pdus-nil}
 use Rattle.smq_book.proofs.lemmas.edits.Moved.{moved-both, puts-anew, puts-message, puts-receipt, put_in}
-use Rattle.smq_book.proofs.lemmas.pairing.PlacesRise.{kept-rise, Rising, block-sorted, messages-rise, receipts-rise}
-use Rattle.smq_book.proofs.lemmas.pairing.PushLemmas.{client-push, response-stays, front}
-use Rattle.smq_book.proofs.lemmas.edits.SessionTraffic.{find-both, or_none, rising-own, session_number, messages-own, receipts-own, said-at, said-put}
+use Rattle.smq_present.proofs.lemmas.pairing.PlacesRise.{kept-rise, Rising, block-sorted, messages-rise, receipts-rise}
+use Rattle.smq_present.proofs.lemmas.pairing.PushLemmas.{client-push, response-stays, front}
+use Rattle.smq_present.proofs.lemmas.pairing.SessionTraffic.{find-both, or_none, rising-own, session_number, messages-own, receipts-own, said-at, said-put}
 
 -- ---- entries in order, of which one more comes last
 

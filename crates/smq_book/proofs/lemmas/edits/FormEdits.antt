@@ -16,20 +16,20 @@ use Rattle.smq_kit.specs.Maps.{kept_of, same_option, SameOutside}
 use Rattle.smq_kit.specs.Orders.{place_cmp}
 use Rattle.smq_kit.proofs.MapLemmas as maps
 use Rattle.smq_kit.proofs.PlaceOrders.{places_total, places_exact}
-use Rattle.smq_book.specs.declared.present.forms.Forms.{Forms}
-use Rattle.smq_book.specs.present.Settings.{SettingsValue, forms_of}
-use Rattle.smq_book.specs.pairing.Traffic.{TrafficValue, Message, ReceivedReceipt}
-use Rattle.smq_book.specs.join.Circumstances.{circumstances, standing_in, decider_in, route_in, lapsed_in}
-use Rattle.smq_book.specs.join.Facts.{facts_of}
-use Rattle.smq_book.specs.join.Keyed.{accepted_id, accepted_key, keyed_receipt, receipt_key, can_decide, grouping_of}
-use Rattle.smq_book.specs.join.Listings.{receipt_listings, notes_of}
+use Rattle.smq_present.specs.declared.present.forms.Forms.{Forms}
+use Rattle.smq_present.specs.present.Settings.{SettingsValue, forms_of}
+use Rattle.smq_present.specs.pairing.Traffic.{TrafficValue, Message, ReceivedReceipt}
+use Rattle.smq_present.specs.join.Circumstances.{circumstances, standing_in, decider_in, route_in, lapsed_in}
+use Rattle.smq_present.specs.join.Facts.{facts_of}
+use Rattle.smq_present.specs.join.Keyed.{accepted_id, accepted_key, keyed_receipt, receipt_key, can_decide, grouping_of}
+use Rattle.smq_present.specs.join.Listings.{receipt_listings, notes_of}
 use Rattle.smq_group.specs.Matching.{GroupedReceipt, Candidate, Single, Shared, ReceiptStanding, decider, earlier, matches, receipt_standing, submit_standing, Stray, KeyShared, Deciding, Extra, Noted}
-use Rattle.smq_book.specs.join.Moves.{receipt_standings_of}
+use Rattle.smq_present.specs.join.Moves.{receipt_standings_of}
 use Rattle.smq_book.specs.edits.Reached.{link_messages, link_receipts}
 use Rattle.smq_group.proofs.MatchingLemmas.{failing}
-use Rattle.smq_book.proofs.lemmas.join.MoveLemmas.{frame}
+use Rattle.smq_present.proofs.lemmas.join.MoveLemmas.{frame}
 use Rattle.smq_book.proofs.lemmas.edits.Passing.{passing-at}
-use Rattle.smq_book.proofs.lemmas.edits.ReceiptNotes.{notes-outside}
+use Rattle.smq_present.proofs.lemmas.join.ReceiptNotes.{notes-outside}
 
 -- a number of values is that of those that pass
 pub count-passing : {X : Type 0} (test : X → Bool) (es : List (Place × X)) → count_by test (map (λ e. e.1) es) ≡ count_by test (map (λ e. e.1) (filter (λ e. test e.1) es))

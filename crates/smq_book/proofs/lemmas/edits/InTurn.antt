@@ -7,15 +7,15 @@ use Rattle.std.specs.FinMap.{FinMap}
 use Rattle.std.proofs.lemmas.List.Folds.{list_any-append}
 use Rattle.smq_kit.specs.Maps.{SameOutside}
 use Rattle.smq_kit.proofs.Comparisons.{or_first, or_second}
-use Rattle.smq_book.specs.present.Settings.{SettingsValue}
-use Rattle.smq_book.specs.pairing.Traffic.{TrafficValue}
-use Rattle.smq_book.specs.join.Facts.{facts_of}
-use Rattle.smq_book.specs.join.Keyed.{grouping_of}
-use Rattle.smq_book.specs.join.Listings.{receipt_listings, notes_of}
-use Rattle.smq_book.specs.join.Moves.{Move, PutMessage, TakeMessage, PutReceipt, TakeReceipt, PutNote, TakeNote, moved, moved_by, changes_of, receipt_changes_of, put_message, take_message, put_receipt, take_receipt}
+use Rattle.smq_present.specs.present.Settings.{SettingsValue}
+use Rattle.smq_present.specs.pairing.Traffic.{TrafficValue}
+use Rattle.smq_present.specs.join.Facts.{facts_of}
+use Rattle.smq_present.specs.join.Keyed.{grouping_of}
+use Rattle.smq_present.specs.join.Listings.{receipt_listings, notes_of}
+use Rattle.smq_present.specs.join.Moves.{Move, PutMessage, TakeMessage, PutReceipt, TakeReceipt, PutNote, TakeNote, moved, moved_by, changes_of, receipt_changes_of, put_message, take_message, put_receipt, take_receipt}
 use Rattle.smq_book.specs.edits.InTurn.{IsFree, AreFree, moved_place, moved_note, facts_changed, notes_changed}
-use Rattle.smq_book.proofs.lemmas.join.MoveLemmas.{moves, changes-cover, put_message-moves, take_message-moves, put_receipt-moves, take_receipt-moves}
-use Rattle.smq_book.proofs.lemmas.edits.ReceiptNotes.{notes-outside, receipt-changes-cover, put-outside, take-outside}
+use Rattle.smq_present.proofs.lemmas.join.MoveLemmas.{moves, changes-cover, put_message-moves, take_message-moves, put_receipt-moves, take_receipt-moves}
+use Rattle.smq_present.proofs.lemmas.join.ReceiptNotes.{notes-outside, receipt-changes-cover, put-outside, take-outside}
 
 -- ---- outside of two lists, one after the other
 

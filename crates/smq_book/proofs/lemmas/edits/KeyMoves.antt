@@ -14,19 +14,19 @@ use Rattle.smq_kit.proofs.Comparisons.{or_first, or_second}
 use Rattle.smq_kit.proofs.MapLemmas as maps
 use Rattle.smq_kit.proofs.PlaceOrders.{places_total, places_exact}
 use Rattle.smq_group.specs.Matching.{Grouping, GroupedReceipt, Candidate, ReceiptStanding, Single, Shared, Stray, KeyShared, Deciding, Extra, Noted, decider, earlier, matches, receipt_standing, submit_standing}
-use Rattle.smq_book.specs.join.Moves.{standings_of, receipt_standings_of, IsMove}
-use Rattle.smq_book.specs.present.Settings.{SettingsValue}
-use Rattle.smq_book.specs.pairing.Traffic.{TrafficValue, Message, ReceivedReceipt}
-use Rattle.smq_book.specs.join.Facts.{facts_of}
-use Rattle.smq_book.specs.join.Keyed.{accepted_key, receipt_key, keyed_receipt, grouping_of}
-use Rattle.smq_book.specs.join.Listings.{receipt_listings, notes_of}
+use Rattle.smq_present.specs.join.Moves.{standings_of, receipt_standings_of, IsMove}
+use Rattle.smq_present.specs.present.Settings.{SettingsValue}
+use Rattle.smq_present.specs.pairing.Traffic.{TrafficValue, Message, ReceivedReceipt}
+use Rattle.smq_present.specs.join.Facts.{facts_of}
+use Rattle.smq_present.specs.join.Keyed.{accepted_key, receipt_key, keyed_receipt, grouping_of}
+use Rattle.smq_present.specs.join.Listings.{receipt_listings, notes_of}
 use Rattle.smq_book.specs.edits.Reached.{key_submits, key_receipts, IsMoveOf}
 use Rattle.smq_book.proofs.lemmas.edits.FormEdits.{count-passing}
 use Rattle.smq_group.proofs.Earliest.{own_key}
 use Rattle.smq_group.proofs.MatchingLemmas.{failing}
-use Rattle.smq_book.proofs.lemmas.join.MoveLemmas.{moves}
+use Rattle.smq_present.proofs.lemmas.join.MoveLemmas.{moves}
 use Rattle.smq_book.proofs.lemmas.edits.Passing.{passing-at}
-use Rattle.smq_book.proofs.lemmas.edits.ReceiptNotes.{notes-outside}
+use Rattle.smq_present.proofs.lemmas.join.ReceiptNotes.{notes-outside}
 
 or_false : (b : Bool) → b ≡ false → (b || false) ≡ false
 or_false true e = e

@@ -18,19 +18,19 @@ use Rattle.smq_receipt.specs.Readings.{text_of, usable_id, receipted_id, state_i
 use Rattle.smq_receipt.specs.declared.reading.Reading.TheVariants as v
 use Rattle.smq_tally.specs.declared.list.List.TheVariants as l
 use Rattle.smq_tally.specs.Lists.{listed}
-use Rattle.smq_book.specs.present.Content.{Content}
-use Rattle.smq_book.specs.present.Content as c
-use Rattle.smq_book.specs.declared.present.kept.KeptPdu.{KeptPdu}
+use Rattle.smq_present.specs.present.Content.{Content}
+use Rattle.smq_present.specs.present.Content as c
+use Rattle.smq_present.specs.declared.present.kept.KeptPdu.{KeptPdu}
 use Rattle.smq_book.specs.known.Appended.{first_batch, other_response, answered_session, unread_octets}
-use Rattle.smq_book.specs.known.Pairing.{place_at, known_origin, submit_octets, response_octets}
-use Rattle.smq_book.specs.known.Present.{waiting}
+use Rattle.smq_present.specs.known.Pairing.{place_at, known_origin, submit_octets, response_octets}
+use Rattle.smq_present.specs.known.Present.{waiting}
 use Rattle.smq_book.specs.known.Reach.{submitted_session}
-use Rattle.smq_book.specs.present.Batch.{batch_pdus, next_tail}
-use Rattle.smq_book.specs.present.Kept.{kept_pdus}
-use Rattle.smq_book.specs.join.Moves.{PutNote, TakeNote}
+use Rattle.smq_present.specs.present.Batch.{batch_pdus, next_tail}
+use Rattle.smq_present.specs.present.Kept.{kept_pdus}
+use Rattle.smq_present.specs.join.Moves.{PutNote, TakeNote}
 use Rattle.smq_book.specs.edits.AppendedNotes.{note_moves, broken_moves, append_notes}
 use Rattle.smq_book.proofs.lemmas.edits.KnownReach.{client-is}
-use Rattle.smq_book.proofs.lemmas.present.Growth.{kept_pdus-nil}
+use Rattle.smq_present.proofs.lemmas.present.Growth.{kept_pdus-nil}
 
 abbrev pdu : ℕ → ℕ → ℕ → ℕ → Content → KeptPdu
 pdu offset moment command seq content =

@@ -29,32 +29,32 @@ use Rattle.smq_pdu.specs.Numbers.{number_of, digits_of}
 use Rattle.smq_pdu.specs.Pairing.{nth_index}
 use Rattle.smq_pdu.specs.Pdu.{body_of, submit_of, deliver_of, id_of}
 use Rattle.smq_pdu.specs.Readers.{mandatory_at, address_at, c_octet_at, octets_at, number_at, tlv_at, tlvs_within, tlvs_of}
-use Rattle.smq_book.specs.declared.present.edit.Edit.TheVariants.{Advance, SetWindow, Withdraw}
-use Rattle.smq_book.specs.present.Content as c
-use Rattle.smq_book.specs.declared.present.kept.KeptPdu.{KeptPdu}
-use Rattle.smq_book.specs.declared.present.session.Session.{Session}
-use Rattle.smq_book.specs.known.Pairing.{place_at, known_origin, submit_octets, response_octets}
-use Rattle.smq_book.specs.known.Present.{waiting}
+use Rattle.smq_present.specs.declared.present.edit.Edit.TheVariants.{Advance, SetWindow, Withdraw}
+use Rattle.smq_present.specs.present.Content as c
+use Rattle.smq_present.specs.declared.present.kept.KeptPdu.{KeptPdu}
+use Rattle.smq_present.specs.declared.present.session.Session.{Session}
+use Rattle.smq_present.specs.known.Pairing.{place_at, known_origin, submit_octets, response_octets}
+use Rattle.smq_present.specs.known.Present.{waiting}
 use Rattle.smq_book.specs.known.Reach.{submitted_session, accepted_session, submitted_book, accepted_book, accepted_at, submitting, accepting}
-use Rattle.smq_book.specs.present.Batch.{batch_of}
-use Rattle.smq_book.specs.present.Kept.{kept_pdus}
-use Rattle.smq_book.specs.present.Present.{PresentValue}
-use Rattle.smq_book.specs.present.Present as present
-use Rattle.smq_book.specs.present.Replies.{append_refusals}
-use Rattle.smq_book.specs.present.Settings.{opening_forms, opening_window, with_clock}
-use Rattle.smq_book.specs.present.Steps.{session_after, step}
-use Rattle.smq_book.specs.present.Stream.{last_moment}
-use Rattle.smq_book.specs.pairing.Traffic.{Message, ReceivedReceipt, messages_among, receipts_among, pairing_among, place_of, traffic_of, session_messages, session_receipts}
-use Rattle.smq_book.specs.join.Circumstances.{decider_in, route_in}
-use Rattle.smq_book.specs.join.Keyed.{accepted_id, can_decide}
+use Rattle.smq_present.specs.present.Batch.{batch_of}
+use Rattle.smq_present.specs.present.Kept.{kept_pdus}
+use Rattle.smq_present.specs.present.Present.{PresentValue}
+use Rattle.smq_present.specs.present.Present as present
+use Rattle.smq_present.specs.present.Replies.{append_refusals}
+use Rattle.smq_present.specs.present.Settings.{opening_forms, opening_window, with_clock}
+use Rattle.smq_present.specs.present.Steps.{session_after, step}
+use Rattle.smq_present.specs.present.Stream.{last_moment}
+use Rattle.smq_present.specs.pairing.Traffic.{Message, ReceivedReceipt, messages_among, receipts_among, pairing_among, place_of, traffic_of, session_messages, session_receipts}
+use Rattle.smq_present.specs.join.Circumstances.{decider_in, route_in}
+use Rattle.smq_present.specs.join.Keyed.{accepted_id, can_decide}
 use Rattle.smq_group.specs.Matching.{Candidate, GroupedReceipt, Single, Shared, Standing, earlier}
-use Rattle.smq_book.specs.join.Outcomes.{outcome_by}
+use Rattle.smq_present.specs.join.Outcomes.{outcome_by}
 use Rattle.smq_book.specs.edits.Reached.{is_due, is_open, is_under, lapsing, due_by, messages_due_on, messages_under, passing}
 use Rattle.smq_book.specs.edits.Reach.{groups, link_places, pair_in, weight, weights, batch_places, places_in, session_places, reach}
 use Rattle.smq_book.proofs.lemmas.edits.Advances.{due-lapse}
 use Rattle.smq_book.proofs.lemmas.edits.WindowEdits.{same-due}
-use Rattle.smq_book.proofs.lemmas.present.Changes.{step-made}
-use Rattle.smq_book.proofs.lemmas.present.Growth.{kept_pdus-nil}
+use Rattle.smq_present.proofs.lemmas.present.Changes.{step-made}
+use Rattle.smq_present.proofs.lemmas.present.Growth.{kept_pdus-nil}
 
 -- ---- the PDUs
 

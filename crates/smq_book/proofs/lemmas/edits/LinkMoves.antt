@@ -7,16 +7,16 @@ use Rattle.smq_kit.specs.declared.names.LinkId.{LinkId}
 use Rattle.smq_kit.specs.declared.place.Place.{Place}
 use Rattle.smq_kit.specs.Maps.{patched}
 use Rattle.smq_tally.specs.Lists.{listed_set}
-use Rattle.smq_book.specs.present.Settings.{SettingsValue, forms_of}
-use Rattle.smq_book.specs.pairing.Traffic.{TrafficValue, Message, ReceivedReceipt}
-use Rattle.smq_book.specs.join.Facts.{facts_of}
-use Rattle.smq_book.specs.join.Keyed.{grouping_of}
-use Rattle.smq_book.specs.join.Listings.{notes_of, receipt_notes}
-use Rattle.smq_book.specs.join.Moves.{moved_by, PutMessage, PutReceipt, TakeMessage, TakeReceipt}
+use Rattle.smq_present.specs.present.Settings.{SettingsValue, forms_of}
+use Rattle.smq_present.specs.pairing.Traffic.{TrafficValue, Message, ReceivedReceipt}
+use Rattle.smq_present.specs.join.Facts.{facts_of}
+use Rattle.smq_present.specs.join.Keyed.{grouping_of}
+use Rattle.smq_present.specs.join.Listings.{notes_of, receipt_notes}
+use Rattle.smq_present.specs.join.Moves.{moved_by, PutMessage, PutReceipt, TakeMessage, TakeReceipt}
 use Rattle.smq_book.specs.edits.Reached.{link_takes, link_puts, passing, without_link}
 use Rattle.smq_book.proofs.lemmas.edits.FormEdits.{other_link}
 use Rattle.smq_book.proofs.lemmas.edits.Moved.{moved-both, takes-messages, takes-receipts, puts-messages, puts-receipts}
-use Rattle.smq_book.proofs.lemmas.join.OtherForms.{grouping-ignores, facts-ignore}
+use Rattle.smq_present.proofs.lemmas.join.OtherForms.{grouping-ignores, facts-ignore}
 use Rattle.smq_book.proofs.lemmas.edits.Passing.{without-passing, again-passing, passing-does, entries-passing}
 
 not_true : (b : Bool) → not b ≡ true → b ≡ false

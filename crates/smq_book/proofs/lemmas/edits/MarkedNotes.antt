@@ -12,8 +12,8 @@ use Rattle.smq_tally.specs.Lists.{listed_cmp}
 use Rattle.smq_tally.specs.within.ListOrder.{listed_total}
 use Rattle.smq_tally.proofs.ListOrders.{listed_exact}
 use Rattle.smq_tally.proofs.Listings.{marked}
-use Rattle.smq_book.specs.pairing.Traffic.{TrafficValue}
-use Rattle.smq_book.specs.join.Moves.{Move, PutMessage, TakeMessage, PutReceipt, TakeReceipt, PutNote, TakeNote, moved, moved_by}
+use Rattle.smq_present.specs.pairing.Traffic.{TrafficValue}
+use Rattle.smq_present.specs.join.Moves.{Move, PutMessage, TakeMessage, PutReceipt, TakeReceipt, PutNote, TakeNote, moved, moved_by}
 
 -- ---- one note
 

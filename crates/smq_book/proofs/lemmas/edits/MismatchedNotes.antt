@@ -22,7 +22,7 @@ use Rattle.smq_pair.specs.Growth.{AreInOrder}
 use Rattle.smq_pair.specs.within.Turns.{partner_of}
 use Rattle.smq_pair.proofs.Ranked.{finds-pairs, has-two-places}
 use Rattle.smq_pair.proofs.Standing.{pair_either, pair-here}
-use Rattle.smq_book.specs.pairing.Traffic.{disagrees, mismatched}
+use Rattle.smq_present.specs.pairing.Traffic.{disagrees, mismatched}
 
 itself : (q : Place) → eq_by_cmp place_cmp q q ≡ true
 itself q = ap is_eq (tied_itself places_total q)

@@ -9,8 +9,8 @@ use Rattle.smq_kit.specs.Maps.{patched, set_at}
 use Rattle.smq_kit.specs.Orders.{place_cmp}
 use Rattle.smq_kit.proofs.PlaceOrders.{places_total, places_exact}
 use Rattle.smq_tally.specs.declared.list.Listed.{Listed}
-use Rattle.smq_book.specs.pairing.Traffic.{TrafficValue, Message, ReceivedReceipt}
-use Rattle.smq_book.specs.join.Moves.{Move, PutMessage, TakeMessage, PutReceipt, TakeReceipt, TakeNote, moved, moved_by}
+use Rattle.smq_present.specs.pairing.Traffic.{TrafficValue, Message, ReceivedReceipt}
+use Rattle.smq_present.specs.join.Moves.{Move, PutMessage, TakeMessage, PutReceipt, TakeReceipt, TakeNote, moved, moved_by}
 use Rattle.smq_book.specs.edits.Appended.{anew}
 
 -- moves one list after the other

@@ -24,30 +24,30 @@ use Rattle.smq_tally.specs.Lists.{listed, listed_cmp}
 use Rattle.smq_tally.specs.within.ListOrder.{listed_total}
 use Rattle.smq_tally.proofs.ListOrders.{listed_exact}
 use Rattle.smq_tally.proofs.Listings.{marked}
-use Rattle.smq_book.specs.declared.present.kept.KeptPdu.{KeptPdu}
-use Rattle.smq_book.specs.declared.present.session.Session.{Session}
-use Rattle.smq_book.specs.present.Batch.{BatchValue, batch_pdus, next_tail}
-use Rattle.smq_book.specs.present.Kept.{kept_pdus}
-use Rattle.smq_book.specs.present.Present.{octets_in}
-use Rattle.smq_book.specs.present.Steps.{session_after}
-use Rattle.smq_book.specs.pairing.Traffic.{Origin, origin_of, pairing_among, mismatched, unreadable, undecodable, broken, traffic_of}
-use Rattle.smq_book.specs.within.Pairs.{Rises}
-use Rattle.smq_book.specs.join.Moves.{Move, PutNote, moved_by}
+use Rattle.smq_present.specs.declared.present.kept.KeptPdu.{KeptPdu}
+use Rattle.smq_present.specs.declared.present.session.Session.{Session}
+use Rattle.smq_present.specs.present.Batch.{BatchValue, batch_pdus, next_tail}
+use Rattle.smq_present.specs.present.Kept.{kept_pdus}
+use Rattle.smq_present.specs.present.Present.{octets_in}
+use Rattle.smq_present.specs.present.Steps.{session_after}
+use Rattle.smq_present.specs.pairing.Traffic.{Origin, origin_of, pairing_among, mismatched, unreadable, undecodable, broken, traffic_of}
+use Rattle.smq_present.specs.within.Pairs.{Rises}
+use Rattle.smq_present.specs.join.Moves.{Move, PutNote, moved_by}
 use Rattle.smq_book.specs.edits.Appended.{session_before, batch_origin}
 use Rattle.smq_book.specs.edits.AppendedNotes.{note_moves, broken_moves, append_notes}
 use Rattle.smq_book.proofs.lemmas.edits.Appends.{grown-client, grown-centre, octets-before}
 use Rattle.smq_book.proofs.lemmas.edits.MarkedNotes.{mark_by, mark-both, marked-by, IsOf, unmoved}
 use Rattle.smq_book.proofs.lemmas.edits.NotedPairs.{put-idle}
 use Rattle.smq_book.proofs.lemmas.edits.NotedPushes.{clients-noted, centres-noted}
-use Rattle.smq_book.proofs.lemmas.edits.NotedTraffic.{in_lists, is_noted, session_noted, said-in, said-noted}
+use Rattle.smq_present.proofs.lemmas.join.NotedTraffic.{in_lists, is_noted, session_noted, said-in, said-noted}
 use Rattle.smq_book.proofs.lemmas.edits.OwnNotes.{client-own, centre-own, broken-own}
 use Rattle.smq_book.proofs.lemmas.edits.PushNotes.{pdus-order}
-use Rattle.smq_book.specs.join.Listings.{same_list}
-use Rattle.smq_book.proofs.lemmas.edits.SessionTraffic.{said-put}
-use Rattle.smq_book.proofs.lemmas.edits.Withdrawals.{note_number, noted, notes-own, notes-all, all-append}
-use Rattle.smq_book.proofs.lemmas.pairing.PlacesRise.{kept-rise}
-use Rattle.smq_book.proofs.lemmas.pairing.UnreadPlaces.{broken-stays}
-use Rattle.smq_book.proofs.lemmas.present.Growth.{kept_frames, pdus-grown, tail-grown, kept_pdus-nil}
+use Rattle.smq_present.specs.join.Listings.{same_list}
+use Rattle.smq_present.proofs.lemmas.pairing.SessionTraffic.{said-put}
+use Rattle.smq_present.proofs.lemmas.join.SessionLists.{note_number, noted, notes-own, notes-all, all-append}
+use Rattle.smq_present.proofs.lemmas.pairing.PlacesRise.{kept-rise}
+use Rattle.smq_present.proofs.lemmas.pairing.UnreadPlaces.{broken-stays}
+use Rattle.smq_present.proofs.lemmas.present.Growth.{kept_frames, pdus-grown, tail-grown, kept_pdus-nil}
 
 -- ---- where a direction is broken
 

@@ -17,15 +17,15 @@ use Rattle.smq_pair.proofs.Turned.{not-request}
 use Rattle.smq_tally.specs.declared.list.List.{List as ListName}
 use Rattle.smq_tally.specs.declared.list.List.TheVariants as list
 use Rattle.smq_tally.specs.Lists.{listed, listed_cmp}
-use Rattle.smq_book.specs.pairing.Traffic.{mismatched}
-use Rattle.smq_book.specs.join.Moves.{PutNote, TakeNote}
+use Rattle.smq_present.specs.pairing.Traffic.{mismatched}
+use Rattle.smq_present.specs.join.Moves.{PutNote, TakeNote}
 use Rattle.smq_book.specs.edits.AppendedNotes.{met_moves}
 use Rattle.smq_book.proofs.lemmas.edits.MarkedNotes.{mark, mark_by}
 use Rattle.smq_book.proofs.lemmas.edits.MetPairs.{met, own-none, own-apart}
 use Rattle.smq_book.proofs.lemmas.edits.MismatchedNotes.{noted-at-request, not-elsewhere, not-alone}
 use Rattle.smq_book.proofs.lemmas.edits.PushNotes.{mismatched-stay}
-use Rattle.smq_book.specs.join.Listings.{same_list}
-use Rattle.smq_book.proofs.lemmas.join.ReceiptLists.{same-listing}
+use Rattle.smq_present.specs.join.Listings.{same_list}
+use Rattle.smq_present.proofs.lemmas.join.ReceiptLists.{same-listing}
 
 -- ---- what a list has after a PDU alone, and after a pair
 

@@ -14,18 +14,18 @@ use Rattle.smq_tally.specs.declared.list.List.{List as ListName}
 use Rattle.smq_tally.specs.declared.list.List.TheVariants as list
 use Rattle.smq_tally.specs.declared.list.Listed.{Listed}
 use Rattle.smq_tally.specs.Lists.{listed}
-use Rattle.smq_book.specs.present.Content.{Content}
-use Rattle.smq_book.specs.declared.present.kept.KeptPdu.{KeptPdu}
-use Rattle.smq_book.specs.present.Kept.{is_undecodable, is_unreadable}
-use Rattle.smq_book.specs.pairing.Traffic.{Origin, place_of, placed, pairing_among, places_where, mismatched, unreadable, undecodable}
-use Rattle.smq_book.specs.within.Pairs.{Rises}
-use Rattle.smq_book.specs.join.Moves.{Move, PutNote}
+use Rattle.smq_present.specs.present.Content.{Content}
+use Rattle.smq_present.specs.declared.present.kept.KeptPdu.{KeptPdu}
+use Rattle.smq_present.specs.present.Kept.{is_undecodable, is_unreadable}
+use Rattle.smq_present.specs.pairing.Traffic.{Origin, place_of, placed, pairing_among, places_where, mismatched, unreadable, undecodable}
+use Rattle.smq_present.specs.within.Pairs.{Rises}
+use Rattle.smq_present.specs.join.Moves.{Move, PutNote}
 use Rattle.smq_book.specs.edits.AppendedNotes.{met_moves, undecodable_moves, unreadable_moves, next_moves, note_moves}
 use Rattle.smq_book.proofs.lemmas.edits.MarkedNotes.{mark_by, mark-both}
 use Rattle.smq_book.proofs.lemmas.edits.NotedPairs.{waiting-after, strays-after, mismatched-after, met-idle, put-idle}
-use Rattle.smq_book.proofs.lemmas.edits.NotedTraffic.{in_lists, is_noted}
+use Rattle.smq_present.proofs.lemmas.join.NotedTraffic.{in_lists, is_noted}
 use Rattle.smq_book.proofs.lemmas.edits.PushNotes.{next-client, next-centre, client-grows, centre-grows, client-order, centre-order, longer}
-use Rattle.smq_book.specs.join.Listings.{same_list}
+use Rattle.smq_present.specs.join.Listings.{same_list}
 
 -- ---- a PDU more of those whose content passes a test
 

@@ -12,16 +12,16 @@ use Rattle.smq_pair.specs.Pairing.{PlacedHeader, PairingValue, pair_of}
 use Rattle.smq_pair.specs.Growth.{AreInOrder, IsNext, made_by}
 use Rattle.smq_tally.specs.declared.list.List.TheVariants as list
 use Rattle.smq_tally.specs.Lists.{listed}
-use Rattle.smq_book.specs.declared.present.kept.KeptPdu.{KeptPdu}
-use Rattle.smq_book.specs.present.Kept.{is_undecodable, is_unreadable}
-use Rattle.smq_book.specs.pairing.Traffic.{Origin, place_of, placed, pairing_among}
-use Rattle.smq_book.specs.within.Pairs.{Rises}
-use Rattle.smq_book.specs.join.Moves.{Move, PutNote, TakeNote}
+use Rattle.smq_present.specs.declared.present.kept.KeptPdu.{KeptPdu}
+use Rattle.smq_present.specs.present.Kept.{is_undecodable, is_unreadable}
+use Rattle.smq_present.specs.pairing.Traffic.{Origin, place_of, placed, pairing_among}
+use Rattle.smq_present.specs.within.Pairs.{Rises}
+use Rattle.smq_present.specs.join.Moves.{Move, PutNote, TakeNote}
 use Rattle.smq_book.specs.edits.AppendedNotes.{met_moves, undecodable_moves, unreadable_moves, next_moves, note_moves, broken_moves}
 use Rattle.smq_book.proofs.lemmas.edits.MarkedNotes.{IsOf}
 use Rattle.smq_book.proofs.lemmas.edits.MetPairs.{met}
 use Rattle.smq_book.proofs.lemmas.edits.PushNotes.{next-client, next-centre, client-grows, centre-grows, client-order, centre-order, longer}
-use Rattle.smq_book.proofs.lemmas.edits.Withdrawals.{all-append}
+use Rattle.smq_present.proofs.lemmas.join.SessionLists.{all-append}
 
 module _ (v : PairingValue) (p : PlacedHeader) (o : AreInOrder v) (n : IsNext v p.place) where
   -- both parts of its pair are of its session

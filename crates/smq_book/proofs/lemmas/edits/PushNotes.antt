@@ -21,18 +21,17 @@ use Rattle.smq_pair.specs.declared.pairing.Pair.{Pair}
 use Rattle.smq_pair.specs.Pairing.{PlacedHeader, PairingValue, pair_at, places_of, waiting, strays}
 use Rattle.smq_pair.specs.Growth.{AreInOrder, IsNext, GrowsByOne, pushed, pushed_in, made_by, touched, is_request_in, is_response_in, is_alone_at}
 use Rattle.smq_pair.proofs.Grown.{grows}
-use Rattle.smq_tally.specs.declared.list.List.{List as ListName}
 use Rattle.smq_tally.specs.declared.list.List.TheVariants as list
 use Rattle.smq_tally.specs.declared.list.Listed.{Listed}
-use Rattle.smq_tally.specs.Lists.{listed, listed_cmp}
-use Rattle.smq_book.specs.declared.present.kept.KeptPdu.{KeptPdu}
-use Rattle.smq_book.specs.present.Kept.{is_undecodable, is_unreadable}
-use Rattle.smq_book.specs.pairing.Traffic.{Origin, place_of, placed, pairing_among, places_where, disagrees, mismatched, unreadable, undecodable, notes_among}
-use Rattle.smq_book.specs.within.Pairs.{Rises}
+use Rattle.smq_tally.specs.Lists.{listed_cmp}
+use Rattle.smq_present.specs.declared.present.kept.KeptPdu.{KeptPdu}
+use Rattle.smq_present.specs.present.Kept.{is_undecodable, is_unreadable}
+use Rattle.smq_present.specs.pairing.Traffic.{Origin, place_of, placed, pairing_among, places_where, disagrees, mismatched, unreadable, undecodable, notes_among}
+use Rattle.smq_present.specs.within.Pairs.{Rises}
+use Rattle.smq_present.proofs.lemmas.join.NotedTraffic.{any-notes, five, one_list}
 use Rattle.smq_book.specs.edits.Appended.{noted_by, noted_in_turn}
-use Rattle.smq_book.proofs.lemmas.pairing.Paired.{of_both, above}
-use Rattle.smq_book.specs.join.Listings.{same_list}
-use Rattle.smq_book.proofs.lemmas.join.ReceiptLists.{any-of-list}
+use Rattle.smq_present.proofs.lemmas.pairing.Paired.{of_both, above}
+use Rattle.smq_present.specs.join.Listings.{same_list}
 
 -- ---- an element more, which isn't at a place
 
@@ -122,28 +121,6 @@ module _ (v : PairingValue) (p : PlacedHeader) (g : GrowsByOne v p) (q : Place) 
     mismatched-stay = mismatched-at (pushed v p) ∙ (λ i. disagrees (g.others q out i) && requests-stay i) ∙ sym (mismatched-at v)
 
 -- ---- the notes of a session, list by list
-
-abbrev pub one_list : (e : Listed) → ListName → List Place → Bool
-one_list e name places = same_list e.list name && list_any (eq_by_cmp place_cmp e.place) places
-
-abbrev pub five : Listed → List Place → List Place → List Place → List Place → List Place → Bool
-five e w s m u d = ((one_list e list.Waiting w || one_list e list.StrayAnswers s) || one_list e list.Mismatched m) || (one_list e list.Unreadable u || one_list e list.Undecodable d)
-
-pub any-notes : (origin : Origin) (client centre : List KeptPdu) (e : Listed) → list_any (eq_by_cmp listed_cmp e) (notes_among origin client centre)
-    ≡ five e (waiting (pairing_among origin client centre)) (strays (pairing_among origin client centre)) (mismatched (pairing_among origin client centre)) (unreadable origin centre) (undecodable origin client centre)
-any-notes origin client centre e =
-    let test = eq_by_cmp listed_cmp e in
-    let v = pairing_among origin client centre in
-    let w = map (listed list.Waiting) (waiting v) in
-    let s = map (listed list.StrayAnswers) (strays v) in
-    let m = map (listed list.Mismatched) (mismatched v) in
-    let u = map (listed list.Unreadable) (unreadable origin centre) in
-    let d = map (listed list.Undecodable) (undecodable origin client centre) in
-    list_any-append test ((w ++ s) ++ m) (u ++ d)
-    ∙ (λ i. list_any-append test (w ++ s) m i || list_any-append test u d i)
-    ∙ (λ i. (list_any-append test w s i || list_any test m) || (list_any test u || list_any test d))
-    ∙ (λ i. ((any-of-list e.list list.Waiting e.place (waiting v) i || any-of-list e.list list.StrayAnswers e.place (strays v) i) || any-of-list e.list list.Mismatched e.place (mismatched v) i)
-    || (any-of-list e.list list.Unreadable e.place (unreadable origin centre) i || any-of-list e.list list.Undecodable e.place (undecodable origin client centre) i))
 
 module _ (origin : Origin) where
   -- what the next PDU of the client leaves

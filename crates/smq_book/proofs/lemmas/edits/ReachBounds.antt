@@ -16,21 +16,21 @@ use Rattle.smq_kit.proofs.MapLemmas as maps
 use Rattle.smq_kit.proofs.PlaceOrders.{places_total, places_exact}
 use Rattle.smq_pair.specs.declared.pairing.Pair.{Pair}
 use Rattle.smq_pair.specs.Growth.{made_by, touched}
-use Rattle.smq_book.specs.declared.present.edit.Edit.TheVariants.{Append, Advance, Withdraw}
-use Rattle.smq_book.specs.declared.present.kept.KeptPdu.{KeptPdu}
-use Rattle.smq_book.specs.declared.present.session.Session.{Session}
-use Rattle.smq_book.specs.present.Batch.{BatchValue, batch_pdus, next_tail}
-use Rattle.smq_book.specs.present.Kept.{kept_pdus}
-use Rattle.smq_book.specs.present.Present.{PresentValue, session_of}
-use Rattle.smq_book.specs.present.Replies.{reply}
-use Rattle.smq_book.specs.present.Steps.{step}
-use Rattle.smq_book.specs.pairing.Traffic.{Origin, broken_at, origin_of, message_at, place_of, placed, pairing_among, receipt_at, session_messages, session_receipts, traffic_of, with_earlier}
+use Rattle.smq_present.specs.declared.present.edit.Edit.TheVariants.{Append, Advance, Withdraw}
+use Rattle.smq_present.specs.declared.present.kept.KeptPdu.{KeptPdu}
+use Rattle.smq_present.specs.declared.present.session.Session.{Session}
+use Rattle.smq_present.specs.present.Batch.{BatchValue, batch_pdus, next_tail}
+use Rattle.smq_present.specs.present.Kept.{kept_pdus}
+use Rattle.smq_present.specs.present.Present.{PresentValue, session_of}
+use Rattle.smq_present.specs.present.Replies.{reply}
+use Rattle.smq_present.specs.present.Steps.{step}
+use Rattle.smq_present.specs.pairing.Traffic.{Origin, broken_at, origin_of, message_at, place_of, placed, pairing_among, receipt_at, session_messages, session_receipts, traffic_of, with_earlier}
 use Rattle.smq_group.specs.Matching.{Grouping, GroupedReceipt}
 use Rattle.smq_book.specs.edits.Appended.{append_places, batch_origin, noted_by, noted_in_turn, session_before}
 use Rattle.smq_book.specs.edits.Reached.{passing, key_submits, key_receipts, due_by, lapsing}
 use Rattle.smq_book.specs.edits.Reach.{members, weight, weights, batch_places, session_places, places_in, reach}
 use Rattle.smq_book.proofs.lemmas.edits.Advances.{due-lapse}
-use Rattle.smq_book.proofs.lemmas.present.Changes.{step-made}
+use Rattle.smq_present.proofs.lemmas.present.Changes.{step-made}
 
 -- ---- numbers of places
 

@@ -8,13 +8,13 @@ use Rattle.smq_route.specs.declared.version.Version.{Version}
 use Rattle.smq_route.specs.Versions.{Versions, begins, route_at}
 use Rattle.smq_route.specs.Edits.{added, changed}
 use Rattle.smq_route.proofs.Elsewhere.{put-elsewhere, changed-elsewhere}
-use Rattle.smq_book.specs.present.Settings.{SettingsValue, with_versions}
-use Rattle.smq_book.specs.pairing.Traffic.{TrafficValue, Message}
-use Rattle.smq_book.specs.join.Circumstances.{route_in}
-use Rattle.smq_book.specs.join.Facts.{facts_of}
+use Rattle.smq_present.specs.present.Settings.{SettingsValue, with_versions}
+use Rattle.smq_present.specs.pairing.Traffic.{TrafficValue, Message}
+use Rattle.smq_present.specs.join.Circumstances.{route_in}
+use Rattle.smq_present.specs.join.Facts.{facts_of}
 use Rattle.smq_book.specs.edits.Reached.{is_under, messages_under}
 use Rattle.smq_book.proofs.lemmas.edits.Passing.{passing-at}
-use Rattle.smq_book.proofs.lemmas.join.Routed.{same}
+use Rattle.smq_present.proofs.lemmas.join.Routed.{same}
 
 module _ (versions others : Versions) (prefix : List ℕ) (elsewhere : (number : List ℕ) (t : ℕ) → begins number prefix ≡ false → route_at others number t ≡ route_at versions number t) where
   by_number : (number : Option (List ℕ)) (moment : ℕ) → unwrap_or (option_map (λ (n : List ℕ). begins n prefix) number) false ≡ false

@@ -21,17 +21,17 @@ use Rattle.smq_group.specs.Changes.{TellsChanges, changed, receipt_at, same_stan
 use Rattle.smq_group.specs.Matching as matching
 use Rattle.smq_group.specs.Matching.{Grouping, GroupedReceipt, receipt_standing, submit_standing}
 use Rattle.smq_group.proofs.Turning.{same_at}
-use Rattle.smq_book.specs.present.Settings.{SettingsValue}
-use Rattle.smq_book.specs.pairing.Traffic.{Message, ReceivedReceipt, TrafficValue}
-use Rattle.smq_book.specs.join.Circumstances.{circumstances, decider_in, lapsed_in, route_in, standing_in}
-use Rattle.smq_book.specs.join.Facts.{fact_by, facts_of}
-use Rattle.smq_book.specs.join.Keyed.{accepted_key, grouping_of, keyed_receipt}
-use Rattle.smq_book.specs.join.Listings.{is_named, list_of_standing, notes_of, receipt_listings}
-use Rattle.smq_book.specs.join.Moves.{IsMove, receipt_standings_of, standings_of}
+use Rattle.smq_present.specs.present.Settings.{SettingsValue}
+use Rattle.smq_present.specs.pairing.Traffic.{Message, ReceivedReceipt, TrafficValue}
+use Rattle.smq_present.specs.join.Circumstances.{circumstances, decider_in, lapsed_in, route_in, standing_in}
+use Rattle.smq_present.specs.join.Facts.{fact_by, facts_of}
+use Rattle.smq_present.specs.join.Keyed.{accepted_key, grouping_of, keyed_receipt}
+use Rattle.smq_present.specs.join.Listings.{is_named, list_of_standing, notes_of, receipt_listings}
+use Rattle.smq_present.specs.join.Moves.{IsMove, receipt_standings_of, standings_of}
 use Rattle.smq_book.specs.edits.Told.{circumstances_told, is_list_told, list_told, standing_told, told_places}
-use Rattle.smq_book.proofs.lemmas.join.MoveLemmas.{fact-at, moves}
+use Rattle.smq_present.proofs.lemmas.join.MoveLemmas.{fact-at, moves}
 use Rattle.smq_book.proofs.lemmas.edits.KeyMoves.{chosen-outside, once}
-use Rattle.smq_book.proofs.lemmas.edits.ReceiptNotes.{moved-notes, note-by, notes-outside}
+use Rattle.smq_present.proofs.lemmas.join.ReceiptNotes.{moved-notes, note-by, notes-outside}
 
 -- ---- standings and what is told of them
 

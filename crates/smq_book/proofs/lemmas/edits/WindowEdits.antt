@@ -13,16 +13,16 @@ use Rattle.smq_kit.proofs.PlaceOrders.{places_total, places_exact}
 use Rattle.smq_tally.specs.declared.fact.Fact.{Fact}
 use Rattle.smq_tally.specs.declared.outcome.Outcome.{Outcome}
 use Rattle.smq_tally.specs.declared.outcome.Outcome.TheVariants as o
-use Rattle.smq_book.specs.present.Settings.{SettingsValue, opening_window, window_in, with_clock, with_windows}
-use Rattle.smq_book.specs.pairing.Traffic.{TrafficValue, Message}
-use Rattle.smq_book.specs.join.Circumstances.{circumstances, lapsed_in}
-use Rattle.smq_book.specs.join.Facts.{fact_by, facts_of, by_lapse, with_lapse}
+use Rattle.smq_present.specs.present.Settings.{SettingsValue, opening_window, window_in, with_clock, with_windows}
+use Rattle.smq_present.specs.pairing.Traffic.{TrafficValue, Message}
+use Rattle.smq_present.specs.join.Circumstances.{circumstances, lapsed_in}
+use Rattle.smq_present.specs.join.Facts.{fact_by, facts_of, by_lapse, with_lapse}
 use Rattle.smq_book.specs.edits.Reached.{is_due, outcome_in, messages_due_on}
 use Rattle.smq_book.proofs.lemmas.edits.FormEdits.{other_link}
 use Rattle.smq_book.proofs.lemmas.edits.Passing.{passing-alike, passing-at}
-use Rattle.smq_book.proofs.lemmas.join.MoveLemmas.{fact-at, frame}
-use Rattle.smq_book.proofs.lemmas.join.Lapsing.{fact-lapses, outcome-lapses}
-use Rattle.smq_book.proofs.lemmas.present.Changes.{get-elsewhere}
+use Rattle.smq_present.proofs.lemmas.join.MoveLemmas.{fact-at, frame}
+use Rattle.smq_present.proofs.lemmas.join.Lapsing.{fact-lapses, outcome-lapses}
+use Rattle.smq_present.proofs.lemmas.present.Changes.{get-elsewhere}
 
 -- a window of a link leaves those of all others
 pub inserted-others : (s : SettingsValue) (link : LinkId) (window : ℕ) (l : LinkId) → l ≢ link

@@ -7,17 +7,17 @@ use Rattle.std.specs.FinMap.{FinMap, get, insert, get-insert, same_map, nat_cmp-
 use Rattle.std.proofs.lemmas.Bool.{eqb-true}
 use Rattle.smq_kit.specs.declared.names.LinkId.{LinkId}
 use Rattle.smq_kit.specs.declared.refusal.Refusal.{Refusal}
-use Rattle.smq_book.specs.declared.present.edit.Edit.TheVariants.{SetWindow, Advance}
-use Rattle.smq_book.specs.pairing.Traffic.{TrafficValue}
-use Rattle.smq_book.specs.present.Present.{PresentValue}
-use Rattle.smq_book.specs.present.Replies.{reply}
-use Rattle.smq_book.specs.present.Settings.{SettingsValue, opening_window, set_window_of, window_in, with_windows}
-use Rattle.smq_book.specs.present.Steps.{step, step_unless, with_window}
-use Rattle.smq_book.specs.join.Circumstances.{window_of}
-use Rattle.smq_book.specs.join.Facts.{facts_of}
+use Rattle.smq_present.specs.declared.present.edit.Edit.TheVariants.{SetWindow, Advance}
+use Rattle.smq_present.specs.pairing.Traffic.{TrafficValue}
+use Rattle.smq_present.specs.present.Present.{PresentValue}
+use Rattle.smq_present.specs.present.Replies.{reply}
+use Rattle.smq_present.specs.present.Settings.{SettingsValue, opening_window, set_window_of, window_in, with_windows}
+use Rattle.smq_present.specs.present.Steps.{step, step_unless, with_window}
+use Rattle.smq_present.specs.join.Circumstances.{window_of}
+use Rattle.smq_present.specs.join.Facts.{facts_of}
 use Rattle.smq_book.proofs.lemmas.edits.WindowEdits.{same-windows}
-use Rattle.smq_book.proofs.lemmas.present.Changes.{insert-insert}
-use Rattle.smq_book.proofs.lemmas.present.NumberMaps.{insert-same}
+use Rattle.smq_present.proofs.lemmas.present.Changes.{insert-insert}
+use Rattle.smq_present.proofs.lemmas.present.NumberMaps.{insert-same}
 
 -- ---- a window that is set back
 

@@ -12,9 +12,9 @@ use Rattle.smq_kit.proofs.MapLemmas as maps
 use Rattle.smq_kit.proofs.PlaceOrders.{places_total, places_exact}
 use Rattle.smq_group.specs.Links.{receipts_on, submits_on}
 use Rattle.smq_group.specs.Matching.{GroupedReceipt}
-use Rattle.smq_book.specs.present.Settings.{SettingsValue, forms_of}
-use Rattle.smq_book.specs.pairing.Traffic.{Message, ReceivedReceipt, TrafficValue}
-use Rattle.smq_book.specs.join.Keyed.{accepted_id, accepted_key, grouping_of, keyed_receipt}
+use Rattle.smq_present.specs.present.Settings.{SettingsValue, forms_of}
+use Rattle.smq_present.specs.pairing.Traffic.{Message, ReceivedReceipt, TrafficValue}
+use Rattle.smq_present.specs.join.Keyed.{accepted_id, accepted_key, grouping_of, keyed_receipt}
 use Rattle.smq_book.specs.edits.Reached.{link_messages, link_receipts}
 use Rattle.smq_book.specs.index.LinkOut.{accepted_on, is_accepted}
 

@@ -12,9 +12,9 @@ use Rattle.smq_kit.specs.Maps.{SameOutside, patched, set_at}
 use Rattle.smq_kit.specs.Orders.{place_cmp}
 use Rattle.smq_kit.proofs.MapLemmas as maps
 use Rattle.smq_kit.proofs.PlaceOrders.{places_total, places_exact}
-use Rattle.smq_book.specs.present.Settings.{SettingsValue, with_clock, with_windows}
-use Rattle.smq_book.specs.pairing.Traffic.{TrafficValue}
-use Rattle.smq_book.specs.join.Facts.{facts_of}
+use Rattle.smq_present.specs.present.Settings.{SettingsValue, with_clock, with_windows}
+use Rattle.smq_present.specs.pairing.Traffic.{TrafficValue}
+use Rattle.smq_present.specs.join.Facts.{facts_of}
 use Rattle.smq_book.specs.edits.Reached.{due_by, messages_due_on}
 use Rattle.smq_book.specs.index.Due.{due_of, places_due_on}
 use Rattle.smq_book.specs.index.Ends.{ends_of, places_ending}

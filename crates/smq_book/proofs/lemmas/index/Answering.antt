@@ -1,6 +1,5 @@
 -- The pair that the next PDU of the centre makes is that of the message which it answers, if any.
-use Rattle.std.proofs.Common.{◌≡◌, ℕ, zero, suc, ◌+◌, ◌<◌, ◌≤◌, Bool, true, false, cond, List, [], ◌∷◌, ◌++◌, take, Option, Some, None}
-use Rattle.std.proofs.Common.{refl, sym, ap, ◌∙◌, subst, arith}
+use Rattle.std.proofs.Common.{◌≡◌, ℕ, zero, suc, ◌+◌, ◌<◌, ◌≤◌, Bool, true, false, cond, List, [], ◌∷◌, ◌++◌, take, Option, Some, None, refl, sym, ap, ◌∙◌, subst, arith}
 use Rattle.std.specs.Prelude.{◌==◌, ◌&&◌, not, map, filter, slice_get, count_by, option_and_then, option_map, option_to_list}
 use Rattle.std.specs.List.{flat_map}
 use Rattle.std.specs.FinMap.{FinMap, find, get}
@@ -25,19 +24,18 @@ use Rattle.smq_pair.specs.Pairing as pairs
 use Rattle.smq_pair.specs.Pairing.{PlacedHeader, headers, pair_of, pair_after, pair_at}
 use Rattle.smq_pair.specs.Growth.{made_by, pushed}
 use Rattle.smq_pair.proofs.Turned.{and_both, and_second}
-use Rattle.smq_book.specs.declared.present.kept.KeptPdu.{KeptPdu}
-use Rattle.smq_book.specs.present.Kept.{header_of, headers_of, submit_in}
-use Rattle.smq_book.specs.pairing.Traffic.{Message, Origin, TrafficValue, message_at, message_of, messages_among, pairing_among, place_of, placed}
-use Rattle.smq_book.specs.pairing.Traffic.{rank_after, response_to, with_earlier}
-use Rattle.smq_book.specs.pairing.Pushes.{is_next_response}
-use Rattle.smq_book.specs.within.Pairs.{Rises, SubmitsAreRequests}
-use Rattle.smq_book.specs.join.Moves.{Move}
+use Rattle.smq_present.specs.declared.present.kept.KeptPdu.{KeptPdu}
+use Rattle.smq_present.specs.present.Kept.{header_of, headers_of, submit_in}
+use Rattle.smq_present.specs.pairing.Traffic.{Message, Origin, TrafficValue, message_at, message_of, messages_among, pairing_among, place_of, placed, rank_after, response_to, with_earlier}
+use Rattle.smq_present.specs.pairing.Pushes.{is_next_response}
+use Rattle.smq_present.specs.within.Pairs.{Rises, SubmitsAreRequests}
+use Rattle.smq_present.specs.join.Moves.{Move}
 use Rattle.smq_book.specs.edits.Appended.{anew, answered}
 use Rattle.smq_book.specs.index.Held.{IsTraffic}
 use Rattle.smq_book.specs.index.Pushed.{IsSaidBy, answer_moves, said_by, with_response}
 use Rattle.smq_book.proofs.lemmas.edits.Answered.{answers, count-push, in_turn, later-asks, none-later, of_number, turn}
-use Rattle.smq_book.proofs.lemmas.pairing.Paired.{above, filter-placed, standing}
-use Rattle.smq_book.proofs.lemmas.pairing.Searched.{at-offset}
+use Rattle.smq_present.proofs.lemmas.pairing.Paired.{above, filter-placed, standing}
+use Rattle.smq_present.proofs.lemmas.pairing.Searched.{at-offset}
 
 -- ---- what passes a test, with one PDU more
 

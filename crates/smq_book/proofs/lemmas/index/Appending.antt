@@ -9,24 +9,24 @@ use Rattle.smq_kit.specs.declared.place.Dir.TheVariants.{FromClient, FromCentre}
 use Rattle.smq_frame.specs.Stream.{Octet, frames_after, handed_in, values}
 use Rattle.smq_frame.specs.Tail.{TailValue, tail_of}
 use Rattle.smq_pair.specs.Paired.{no_pdus}
-use Rattle.smq_book.specs.declared.present.kept.KeptPdu.{KeptPdu}
-use Rattle.smq_book.specs.declared.present.session.Session.{Session}
-use Rattle.smq_book.specs.present.Batch.{BatchValue, batch_pdus, next_tail}
-use Rattle.smq_book.specs.present.Kept.{kept_pdus}
-use Rattle.smq_book.specs.present.Present.{direction, octets_in}
-use Rattle.smq_book.specs.present.Settings.{SettingsValue}
-use Rattle.smq_book.specs.present.Steps.{session_after, session_with}
-use Rattle.smq_book.specs.pairing.Traffic.{origin_of, pairing_among, session_pairing, traffic_of}
-use Rattle.smq_book.specs.within.Pairs.{Rises, SubmitsAreRequests}
-use Rattle.smq_book.specs.join.Moves.{Move, moved_by}
+use Rattle.smq_present.specs.declared.present.kept.KeptPdu.{KeptPdu}
+use Rattle.smq_present.specs.declared.present.session.Session.{Session}
+use Rattle.smq_present.specs.present.Batch.{BatchValue, batch_pdus, next_tail}
+use Rattle.smq_present.specs.present.Kept.{kept_pdus}
+use Rattle.smq_present.specs.present.Present.{direction, octets_in}
+use Rattle.smq_present.specs.present.Settings.{SettingsValue}
+use Rattle.smq_present.specs.present.Steps.{session_after, session_with}
+use Rattle.smq_present.specs.pairing.Traffic.{origin_of, pairing_among, session_pairing, traffic_of}
+use Rattle.smq_present.specs.within.Pairs.{Rises, SubmitsAreRequests}
+use Rattle.smq_present.specs.join.Moves.{Move, moved_by}
 use Rattle.smq_book.specs.edits.Appended.{batch_origin, session_before}
 use Rattle.smq_book.specs.edits.AppendedNotes.{broken_moves}
 use Rattle.smq_book.specs.index.Held.{Holding, traffic_held}
 use Rattle.smq_book.specs.index.Pairs.{pairing_in}
 use Rattle.smq_book.specs.index.Pushed.{IsHeldAfter, IsSaidBy, origin_at, pairing_with, pushed_moves}
-use Rattle.smq_book.proofs.lemmas.present.Growth.{kept_frames, kept_pdus-nil, pdus-grown}
-use Rattle.smq_book.proofs.lemmas.pairing.PlacesRise.{kept-rise}
-use Rattle.smq_book.proofs.lemmas.pairing.Requests.{kept-ask}
+use Rattle.smq_present.proofs.lemmas.present.Growth.{kept_frames, kept_pdus-nil, pdus-grown}
+use Rattle.smq_present.proofs.lemmas.pairing.PlacesRise.{kept-rise}
+use Rattle.smq_present.proofs.lemmas.pairing.Requests.{kept-ask}
 use Rattle.smq_book.proofs.lemmas.edits.Appends.{at-first, octets-before}
 use Rattle.smq_book.proofs.lemmas.index.PushedAll.{pushed-all}
 use Rattle.smq_book.proofs.lemmas.index.Said.{has-said}

@@ -7,8 +7,8 @@ use Rattle.smq_kit.specs.Maps.{set_at}
 use Rattle.smq_kit.specs.Orders.{place_cmp}
 use Rattle.smq_tally.specs.declared.fact.Fact.{Fact}
 use Rattle.smq_book.specs.declared.index.index.Index.{Index}
-use Rattle.smq_book.specs.present.Settings.{SettingsValue, window_in}
-use Rattle.smq_book.specs.pairing.Traffic.{Message, TrafficValue}
+use Rattle.smq_present.specs.present.Settings.{SettingsValue, window_in}
+use Rattle.smq_present.specs.pairing.Traffic.{Message, TrafficValue}
 use Rattle.smq_book.specs.index.Anew.{AreDue}
 use Rattle.smq_book.specs.index.Due.{due_at, due_cmp, due_in, is_due_fact}
 use Rattle.smq_book.specs.index.Ends.{Windows, end_at, end_cmp, ends_by}

@@ -34,11 +34,11 @@ use Rattle.smq_route.specs.Numbers.{number_cmp, places_under}
 use Rattle.smq_route.specs.Versions.{begins}
 use Rattle.smq_book.specs.declared.index.index.Index.{Index}
 use Rattle.smq_book.specs.declared.index.pairings.Pairings.{Pairings}
-use Rattle.smq_book.specs.declared.present.edit.Edit.{Edit}
-use Rattle.smq_book.specs.declared.present.edit.Edit.TheVariants.{Append, SetWindow, Withdraw, Advance}
-use Rattle.smq_book.specs.present.Content.{Content}
-use Rattle.smq_book.specs.declared.present.kept.KeptPdu.{KeptPdu}
-use Rattle.smq_book.specs.declared.present.session.Session.{Session}
+use Rattle.smq_present.specs.declared.present.edit.Edit.{Edit}
+use Rattle.smq_present.specs.declared.present.edit.Edit.TheVariants.{Append, SetWindow, Withdraw, Advance}
+use Rattle.smq_present.specs.present.Content.{Content}
+use Rattle.smq_present.specs.declared.present.kept.KeptPdu.{KeptPdu}
+use Rattle.smq_present.specs.declared.present.session.Session.{Session}
 use Rattle.smq_book.specs.edits.Reach.{batch_places, groups, members, pair_in, reach, session_places, weight, weights}
 use Rattle.smq_book.specs.edits.Reached.{due_by, messages_under}
 use Rattle.smq_book.specs.index.Due.{due_cmp, due_of, places_due_on}
@@ -47,22 +47,21 @@ use Rattle.smq_book.specs.index.Held.{Holding, dues_in, ends_in}
 use Rattle.smq_book.specs.index.Kept.{IsIndexed, IsKept}
 use Rattle.smq_book.specs.index.Numbered.{numbers_of}
 use Rattle.smq_book.specs.index.Touches.{HasNothingPending, index_cost, taken_of, message_load, pdu_load, receipt_key_at, receipt_load, touches_of}
-use Rattle.smq_book.specs.join.Keyed.{grouping_of}
-use Rattle.smq_book.specs.pairing.Traffic.{Origin, TrafficValue, broken, broken_at, broken_notes, content_notes, disagrees, mismatched, notes_among, origin_of}
-use Rattle.smq_book.specs.pairing.Traffic.{pairing_among, pairing_notes, place_of, placed, places_where, session_notes, session_pairing, traffic_of, undecodable, unreadable}
-use Rattle.smq_book.specs.present.Kept.{is_undecodable, is_unreadable, kept_pdus}
-use Rattle.smq_book.specs.within.Pairs.{from_session}
+use Rattle.smq_present.specs.join.Keyed.{grouping_of}
+use Rattle.smq_present.specs.pairing.Traffic.{Origin, TrafficValue, broken, broken_at, broken_notes, content_notes, disagrees, mismatched, notes_among, origin_of, pairing_among, pairing_notes, place_of, placed, places_where, session_notes, session_pairing, traffic_of, undecodable, unreadable}
+use Rattle.smq_present.specs.present.Kept.{is_undecodable, is_unreadable, kept_pdus}
+use Rattle.smq_present.specs.within.Pairs.{from_session}
 use Rattle.smq_book.specs.edits.Appended.{session_before}
 use Rattle.smq_book.specs.index.Pairs.{pairing_in}
-use Rattle.smq_book.specs.present.Batch.{BatchValue, batch_pdus}
-use Rattle.smq_book.specs.present.Book.{BookValue}
-use Rattle.smq_book.specs.present.Present.{PresentValue, direction, octets_in, session_of}
-use Rattle.smq_book.specs.present.Steps.{change, session_after, session_with}
-use Rattle.smq_book.specs.present.Replies.{clock_back, reply}
+use Rattle.smq_present.specs.present.Batch.{BatchValue, batch_pdus}
+use Rattle.smq_present.specs.present.Book.{BookValue}
+use Rattle.smq_present.specs.present.Present.{PresentValue, direction, octets_in, session_of}
+use Rattle.smq_present.specs.present.Steps.{change, session_after, session_with}
+use Rattle.smq_present.specs.present.Replies.{clock_back, reply}
 use Rattle.smq_book.proofs.lemmas.edits.ReachBounds.{due-number, keys-number}
 use Rattle.smq_book.proofs.lemmas.edits.Appends.{octets-before}
-use Rattle.smq_book.proofs.lemmas.present.Changes.{step-made}
-use Rattle.smq_book.proofs.lemmas.edits.SessionTraffic.{no-message}
+use Rattle.smq_present.proofs.lemmas.present.Changes.{step-made}
+use Rattle.smq_present.proofs.lemmas.pairing.SessionTraffic.{no-message}
 use Rattle.smq_book.proofs.lemmas.index.Members.{submit-absent}
 use Rattle.smq_book.proofs.lemmas.index.Appending.{grown}
 use Rattle.smq_book.proofs.lemmas.index.PushBounds.{pdus-bound}

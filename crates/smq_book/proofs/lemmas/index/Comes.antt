@@ -17,11 +17,11 @@ use Rattle.smq_group.specs.Groups.{GroupsValue, vacancies, with_receipt, with_su
 use Rattle.smq_group.specs.Matching.{Grouping, GroupedReceipt}
 use Rattle.smq_pair.specs.Pairing.{PairingValue, pair_at}
 use Rattle.smq_pair.specs.declared.pairing.Pair.{Pair}
-use Rattle.smq_book.specs.declared.present.kept.KeptPdu.{KeptPdu}
-use Rattle.smq_book.specs.present.Settings.{SettingsValue}
-use Rattle.smq_book.specs.pairing.Traffic.{Message, Origin, ReceivedReceipt, TrafficValue, place_of}
-use Rattle.smq_book.specs.join.Keyed.{accepted_key, grouping_of, keyed_receipt, receipt_key}
-use Rattle.smq_book.specs.join.Moves.{put_message, put_receipt}
+use Rattle.smq_present.specs.declared.present.kept.KeptPdu.{KeptPdu}
+use Rattle.smq_present.specs.present.Settings.{SettingsValue}
+use Rattle.smq_present.specs.pairing.Traffic.{Message, Origin, ReceivedReceipt, TrafficValue, place_of}
+use Rattle.smq_present.specs.join.Keyed.{accepted_key, grouping_of, keyed_receipt, receipt_key}
+use Rattle.smq_present.specs.join.Moves.{put_message, put_receipt}
 use Rattle.smq_book.specs.edits.Reach.{members}
 use Rattle.smq_book.specs.index.Touches.{HasNoneVacant, MembersCome, answered_key, load_of, members_at, pdu_load, receipt_key_at}
 use Rattle.smq_book.proofs.lemmas.index.Members.{members-put, members-unmoved, received-put, submit-there}

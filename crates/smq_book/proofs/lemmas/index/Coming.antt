@@ -19,23 +19,21 @@ use Rattle.smq_frame.specs.Stream.{Octet, values, handed_in, frames_after}
 use Rattle.smq_frame.specs.Tail.{TailValue, tail_of}
 use Rattle.smq_pdu.specs.declared.body.Submit.{Submit}
 use Rattle.smq_receipt.specs.declared.reading.Receipt.{Receipt}
-use Rattle.smq_book.specs.declared.present.kept.KeptPdu.{KeptPdu}
-use Rattle.smq_book.specs.declared.present.session.Session.{Session}
-use Rattle.smq_book.specs.present.Batch.{BatchValue, batch_pdus}
-use Rattle.smq_book.specs.present.Kept.{kept_pdus, receipt_in, submit_in}
-use Rattle.smq_book.specs.present.Present.{direction, octets_in}
-use Rattle.smq_book.specs.pairing.Traffic.{Message, Origin, ReceivedReceipt, TrafficValue, messages_among, receipts_among, traffic_of}
-use Rattle.smq_book.specs.pairing.Traffic.{message_at, message_of, place_of, receipt_at, received, response_to}
-use Rattle.smq_book.specs.within.Pairs.{Rises}
-use Rattle.smq_book.specs.join.Moves.{Move, PutMessage, PutReceipt, moved, moved_by}
+use Rattle.smq_present.specs.declared.present.kept.KeptPdu.{KeptPdu}
+use Rattle.smq_present.specs.declared.present.session.Session.{Session}
+use Rattle.smq_present.specs.present.Batch.{BatchValue, batch_pdus}
+use Rattle.smq_present.specs.present.Kept.{kept_pdus, receipt_in, submit_in}
+use Rattle.smq_present.specs.present.Present.{direction, octets_in}
+use Rattle.smq_present.specs.pairing.Traffic.{Message, Origin, ReceivedReceipt, TrafficValue, messages_among, receipts_among, traffic_of, message_at, message_of, place_of, receipt_at, received, response_to}
+use Rattle.smq_present.specs.within.Pairs.{Rises}
+use Rattle.smq_present.specs.join.Moves.{Move, PutMessage, PutReceipt, moved, moved_by}
 use Rattle.smq_book.specs.edits.Appended.{anew, answered, append_moves, batch_origin, centre_moves, client_moves, push_moves, session_before}
 use Rattle.smq_book.specs.edits.Reached.{passing}
 use Rattle.smq_book.specs.index.Coming.{AreNew}
-use Rattle.smq_book.proofs.lemmas.present.Growth.{kept_frames, pdus-grown}
-use Rattle.smq_book.proofs.lemmas.pairing.PlacesRise.{kept-rise, messages-rise, receipts-rise}
-use Rattle.smq_book.proofs.lemmas.pairing.PushLemmas.{client-push}
-use Rattle.smq_book.proofs.lemmas.edits.Appends.{HasPdus, at-first, centre-step, client-step, octets-before}
-use Rattle.smq_book.proofs.lemmas.edits.Appends.{receipts-push, rises-front, rising-sorted}
+use Rattle.smq_present.proofs.lemmas.present.Growth.{kept_frames, pdus-grown}
+use Rattle.smq_present.proofs.lemmas.pairing.PlacesRise.{kept-rise, messages-rise, receipts-rise}
+use Rattle.smq_present.proofs.lemmas.pairing.PushLemmas.{client-push}
+use Rattle.smq_book.proofs.lemmas.edits.Appends.{HasPdus, at-first, centre-step, client-step, octets-before, receipts-push, rises-front, rising-sorted}
 use Rattle.smq_book.proofs.lemmas.edits.Passing.{get-passing, passing-does, passing-is}
 
 new-both : (t : TrafficValue) (xs ys : List Move) → AreNew t xs → AreNew (moved_by t xs) ys → AreNew t (xs ++ ys)

@@ -25,19 +25,19 @@ use Rattle.smq_shelf.proofs.Seen.{inserted, removed}
 use Rattle.smq_tally.specs.declared.fact.Fact.{Fact}
 use Rattle.smq_tally.proofs.Listings.{marked}
 use Rattle.smq_book.specs.declared.index.due_at.DueAt.{DueAt}
-use Rattle.smq_book.specs.present.Settings.{SettingsValue}
-use Rattle.smq_book.specs.pairing.Traffic.{Message, TrafficValue}
-use Rattle.smq_book.specs.join.Circumstances.{circumstances, lapsed_in}
-use Rattle.smq_book.specs.join.Facts.{fact_by, facts_of}
-use Rattle.smq_book.specs.join.Outcomes.{is_shared, responded, says_delivered}
+use Rattle.smq_present.specs.present.Settings.{SettingsValue}
+use Rattle.smq_present.specs.pairing.Traffic.{Message, TrafficValue}
+use Rattle.smq_present.specs.join.Circumstances.{circumstances, lapsed_in}
+use Rattle.smq_present.specs.join.Facts.{fact_by, facts_of}
+use Rattle.smq_present.specs.join.Outcomes.{is_shared, responded, says_delivered}
 use Rattle.smq_book.specs.edits.Reached.{is_due, is_open, messages_due_on, outcome_in}
 use Rattle.smq_book.specs.index.Due.{due_at, due_by_fact, due_cmp, due_in, due_of, is_due_fact, places_due_on}
 use Rattle.smq_book.specs.index.DueKeys.{kept_due_cmp, one_due}
 use Rattle.smq_book.specs.index.Held.{dues_in, noted}
 use Rattle.smq_book.specs.index.PlacedKeys.{passes, with_key, without_key}
 use Rattle.smq_book.proofs.lemmas.edits.Passing.{passing-at, passing-none}
-use Rattle.smq_book.proofs.lemmas.join.Lapsing.{outcome_of}
-use Rattle.smq_book.proofs.lemmas.join.MoveLemmas.{fact-at}
+use Rattle.smq_present.proofs.lemmas.join.Lapsing.{outcome_of}
+use Rattle.smq_present.proofs.lemmas.join.MoveLemmas.{fact-at}
 use Rattle.smq_book.proofs.lemmas.index.PlacedKeys as made
 
 -- ---- their order

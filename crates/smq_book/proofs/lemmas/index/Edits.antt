@@ -10,15 +10,13 @@ use Rattle.smq_kit.specs.declared.place.Place.{Place}
 use Rattle.smq_tally.specs.declared.list.Listed.{Listed}
 use Rattle.smq_pdu.specs.declared.body.Submit.{Submit}
 use Rattle.smq_receipt.specs.declared.reading.Receipt.{Receipt}
-use Rattle.smq_book.specs.declared.present.kept.KeptPdu.{KeptPdu}
-use Rattle.smq_book.specs.declared.present.session.Session.{Session}
-use Rattle.smq_book.specs.present.Batch.{BatchValue, batch_pdus}
-use Rattle.smq_book.specs.present.Kept.{kept_pdus, receipt_in, submit_in}
-use Rattle.smq_book.specs.pairing.Traffic.{Message, Origin, ReceivedReceipt, TrafficValue, with_earlier}
-use Rattle.smq_book.specs.pairing.Traffic.{message_at, message_of, place_of, receipt_at, received, response_to}
-use Rattle.smq_book.specs.pairing.Traffic.{session_messages, session_notes, session_receipts}
-use Rattle.smq_book.specs.pairing.Pushes.{is_next_response}
-use Rattle.smq_book.specs.join.Moves.{Move, PutMessage, PutReceipt, TakeMessage, TakeNote, TakeReceipt}
+use Rattle.smq_present.specs.declared.present.kept.KeptPdu.{KeptPdu}
+use Rattle.smq_present.specs.declared.present.session.Session.{Session}
+use Rattle.smq_present.specs.present.Batch.{BatchValue, batch_pdus}
+use Rattle.smq_present.specs.present.Kept.{kept_pdus, receipt_in, submit_in}
+use Rattle.smq_present.specs.pairing.Traffic.{Message, Origin, ReceivedReceipt, TrafficValue, with_earlier, message_at, message_of, place_of, receipt_at, received, response_to, session_messages, session_notes, session_receipts}
+use Rattle.smq_present.specs.pairing.Pushes.{is_next_response}
+use Rattle.smq_present.specs.join.Moves.{Move, PutMessage, PutReceipt, TakeMessage, TakeNote, TakeReceipt}
 use Rattle.smq_book.specs.edits.Appended.{anew, answered, append_moves, batch_origin, centre_moves, client_moves, push_moves, session_before}
 use Rattle.smq_book.specs.edits.Reached.{link_messages, link_puts, link_receipts, link_takes}
 use Rattle.smq_book.specs.edits.Withdrawn.{withdrawal_moves}

@@ -24,10 +24,10 @@ use Rattle.smq_shelf.proofs.Seen.{inserted, removed}
 use Rattle.smq_tally.specs.declared.fact.Fact.{Fact}
 use Rattle.smq_tally.proofs.Listings.{marked}
 use Rattle.smq_book.specs.declared.index.end_at.EndAt.{EndAt}
-use Rattle.smq_book.specs.present.Settings.{SettingsValue, window_in}
-use Rattle.smq_book.specs.pairing.Traffic.{Message, TrafficValue}
-use Rattle.smq_book.specs.join.Circumstances.{lapsed_in, window_of}
-use Rattle.smq_book.specs.join.Facts.{facts_of}
+use Rattle.smq_present.specs.present.Settings.{SettingsValue, window_in}
+use Rattle.smq_present.specs.pairing.Traffic.{Message, TrafficValue}
+use Rattle.smq_present.specs.join.Circumstances.{lapsed_in, window_of}
+use Rattle.smq_present.specs.join.Facts.{facts_of}
 use Rattle.smq_book.specs.edits.Reached.{due_by, is_due, is_open, outcome_in}
 use Rattle.smq_book.specs.declared.index.due_at.DueAt.{DueAt}
 use Rattle.smq_book.specs.index.Due.{due_at, due_by_fact, due_in, is_due_fact, keys_on}

@@ -28,26 +28,24 @@ use Rattle.smq_group.specs.Standings.{StandApart}
 use Rattle.smq_route.specs.Numbers.{NumbersValue, number_cmp}
 use Rattle.smq_route.specs.Versions.{Versions}
 use Rattle.smq_book.specs.declared.index.index.Index.{Index}
-use Rattle.smq_book.specs.present.Settings.{SettingsValue}
-use Rattle.smq_book.specs.pairing.Traffic.{Message, ReceivedReceipt, TrafficValue}
-use Rattle.smq_book.specs.join.Circumstances.{circumstances, route_in}
-use Rattle.smq_book.specs.join.Facts.{fact_by, facts_of}
-use Rattle.smq_book.specs.join.Keyed.{accepted_key, grouping_of, keyed_receipt}
-use Rattle.smq_book.specs.join.Listings.{is_named, notes_of}
-use Rattle.smq_book.specs.join.Moves.{IsMove, TakeMessage, TakeReceipt, put_message, put_receipt, take_message, take_receipt}
+use Rattle.smq_present.specs.present.Settings.{SettingsValue}
+use Rattle.smq_present.specs.pairing.Traffic.{Message, ReceivedReceipt, TrafficValue}
+use Rattle.smq_present.specs.join.Circumstances.{circumstances, route_in}
+use Rattle.smq_present.specs.join.Facts.{fact_by, facts_of}
+use Rattle.smq_present.specs.join.Keyed.{accepted_key, grouping_of, keyed_receipt}
+use Rattle.smq_present.specs.join.Listings.{is_named, notes_of}
+use Rattle.smq_present.specs.join.Moves.{IsMove, TakeMessage, TakeReceipt, put_message, put_receipt, take_message, take_receipt}
 use Rattle.smq_book.specs.index.Anew.{AreDue, IsAnew, IsDue, KeepsSaid}
 use Rattle.smq_book.specs.index.Due.{due_in, is_due_fact}
 use Rattle.smq_book.specs.index.Ends.{ends_by}
 use Rattle.smq_book.specs.index.Following.{AreTold, MayFollow}
-use Rattle.smq_book.specs.index.Held.{AreOf, Holding, IsTraffic, IsUnlisted, dues_in, ends_in, facts_anew, held_now, held_of}
-use Rattle.smq_book.specs.index.Held.{list_held, messages_in, noted, notes_anew, receipts_in, stored_traffic, with_listing}
+use Rattle.smq_book.specs.index.Held.{AreOf, Holding, IsTraffic, IsUnlisted, dues_in, ends_in, facts_anew, held_now, held_of, list_held, messages_in, noted, notes_anew, receipts_in, stored_traffic, with_listing}
 use Rattle.smq_book.specs.index.Numbered.{numbered, numbers_of}
 use Rattle.smq_book.specs.index.PlacedKeys.{with_key, without_key}
-use Rattle.smq_book.proofs.lemmas.join.MoveLemmas.{fact-at}
+use Rattle.smq_present.proofs.lemmas.join.MoveLemmas.{fact-at}
 use Rattle.smq_book.proofs.lemmas.index.AreDue.{due-stays}
 use Rattle.smq_book.proofs.lemmas.index.Numbered.{number-again, number-comes, number-goes}
-use Rattle.smq_book.proofs.lemmas.index.Members.{kept-traffic, members-put, members-taken, members-unmoved, members-unput}
-use Rattle.smq_book.proofs.lemmas.index.Members.{members-untaken, received-put, received-taken, traffic-apart}
+use Rattle.smq_book.proofs.lemmas.index.Members.{kept-traffic, members-put, members-taken, members-unmoved, members-unput, members-untaken, received-put, received-taken, traffic-apart}
 use Rattle.smq_book.proofs.lemmas.index.Moves.{alone-facts, alone-notes, receipt-now, taken-facts, taken-notes, tells_of, told-facts, told-notes}
 use Rattle.smq_book.proofs.lemmas.index.Following.{fact-route}
 use Rattle.smq_book.proofs.lemmas.index.Newcomers.{unlisted-alone, unlisted-same}

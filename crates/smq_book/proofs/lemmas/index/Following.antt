@@ -17,15 +17,15 @@ use Rattle.smq_tally.specs.declared.fact.Fact.{Fact}
 use Rattle.smq_group.specs.declared.change.Standing as told
 use Rattle.smq_group.specs.Matching.{Grouping}
 use Rattle.smq_group.specs.Standings.{standing_at}
-use Rattle.smq_book.specs.present.Settings.{SettingsValue}
-use Rattle.smq_book.specs.pairing.Traffic.{Message, ReceivedReceipt, TrafficValue}
-use Rattle.smq_book.specs.join.Circumstances.{circumstances, route_in}
-use Rattle.smq_book.specs.join.Facts.{fact_by, facts_of}
+use Rattle.smq_present.specs.present.Settings.{SettingsValue}
+use Rattle.smq_present.specs.pairing.Traffic.{Message, ReceivedReceipt, TrafficValue}
+use Rattle.smq_present.specs.join.Circumstances.{circumstances, route_in}
+use Rattle.smq_present.specs.join.Facts.{fact_by, facts_of}
 use Rattle.smq_book.specs.declared.index.index.Index.{Index}
 use Rattle.smq_book.specs.index.Anew.{CanFollow, KeepsSaid, stored_in}
 use Rattle.smq_book.specs.index.Following.{MayFollow}
 use Rattle.smq_book.specs.index.Held.{list_by, list_held, with_listing}
-use Rattle.smq_book.proofs.lemmas.join.MoveLemmas.{fact-at}
+use Rattle.smq_present.proofs.lemmas.join.MoveLemmas.{fact-at}
 use Rattle.smq_book.proofs.lemmas.index.Newcomers.{alone-again, unlisted-same}
 use Rattle.smq_book.proofs.lemmas.index.Stored.{fact-absent, list-told}
 use Rattle.smq_book.proofs.lemmas.index.Unlisted.{unheld, unlisted-listing}

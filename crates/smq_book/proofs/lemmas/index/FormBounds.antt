@@ -24,12 +24,12 @@ use Rattle.smq_group.specs.Matching.{Grouping, GroupedReceipt}
 use Rattle.smq_book.specs.declared.index.index.Index.{Index}
 use Rattle.smq_book.specs.declared.index.stored.Said.{Said}
 use Rattle.smq_book.specs.declared.index.stored.Said.TheVariants as said
-use Rattle.smq_book.specs.declared.present.edit.Edit.TheVariants.{SetForm}
-use Rattle.smq_book.specs.present.Present.{PresentValue}
-use Rattle.smq_book.specs.present.Settings.{SettingsValue, forms_of}
-use Rattle.smq_book.specs.present.Steps.{change}
-use Rattle.smq_book.specs.pairing.Traffic.{Message, ReceivedReceipt, TrafficValue, traffic_of}
-use Rattle.smq_book.specs.join.Keyed.{accepted_id, accepted_key, grouping_of, keyed_receipt, receipt_key}
+use Rattle.smq_present.specs.declared.present.edit.Edit.TheVariants.{SetForm}
+use Rattle.smq_present.specs.present.Present.{PresentValue}
+use Rattle.smq_present.specs.present.Settings.{SettingsValue, forms_of}
+use Rattle.smq_present.specs.present.Steps.{change}
+use Rattle.smq_present.specs.pairing.Traffic.{Message, ReceivedReceipt, TrafficValue, traffic_of}
+use Rattle.smq_present.specs.join.Keyed.{accepted_id, accepted_key, grouping_of, keyed_receipt, receipt_key}
 use Rattle.smq_book.specs.edits.Reach.{groups, link_places, members, pair_in, reach, weight, weights}
 use Rattle.smq_book.specs.edits.Reached.{link_messages, link_receipts, passing}
 use Rattle.smq_book.specs.index.Held.{Holding, IsTraffic}

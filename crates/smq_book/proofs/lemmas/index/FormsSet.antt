@@ -8,15 +8,15 @@ use Rattle.std.specs.FinMap.{FinMap, get, get-insert, nat_cmp-IsAntisymmetric}
 use Rattle.smq_kit.specs.declared.names.LinkId.{LinkId}
 use Rattle.smq_kit.specs.Maps.{set_at}
 use Rattle.smq_kit.proofs.MapLemmas as maps
-use Rattle.smq_book.specs.declared.present.forms.Forms.{Forms}
-use Rattle.smq_book.specs.present.Settings.{SettingsValue, forms_of, opening_forms, set_forms_of}
-use Rattle.smq_book.specs.present.Steps.{with_forms}
-use Rattle.smq_book.specs.join.Moves.{moved_by}
-use Rattle.smq_book.specs.pairing.Traffic.{TrafficValue}
+use Rattle.smq_present.specs.declared.present.forms.Forms.{Forms}
+use Rattle.smq_present.specs.present.Settings.{SettingsValue, forms_of, opening_forms, set_forms_of}
+use Rattle.smq_present.specs.present.Steps.{with_forms}
+use Rattle.smq_present.specs.join.Moves.{moved_by}
+use Rattle.smq_present.specs.pairing.Traffic.{TrafficValue}
 use Rattle.smq_book.specs.index.Held.{Holding, IsHeld, IsTraffic, traffic_held}
 use Rattle.smq_book.specs.index.LinkOut.{keyed_places, take_at}
 use Rattle.smq_book.proofs.lemmas.index.LinkOut.{held-idle, no-message-left, no-receipt-left}
-use Rattle.smq_book.proofs.lemmas.present.NumberMaps.{set-back, set-there}
+use Rattle.smq_present.proofs.lemmas.present.NumberMaps.{set-back, set-there}
 
 module _ (s : SettingsValue) (link : LinkId) (f : Forms) (z : SettingsValue) (set : z ≡ with_forms s link f) where
   -- the forms of other links stay

@@ -11,14 +11,14 @@ use Rattle.smq_tally.specs.Lists.{listed}
 use Rattle.smq_tally.specs.within.ListOrder.{listed_total}
 use Rattle.smq_tally.proofs.ListOrders.{listed_exact}
 use Rattle.smq_tally.proofs.Listings.{marked}
-use Rattle.smq_book.specs.present.Settings.{SettingsValue}
-use Rattle.smq_book.specs.pairing.Traffic.{TrafficValue}
-use Rattle.smq_book.specs.join.Keyed.{grouping_of}
-use Rattle.smq_book.specs.join.Listings.{list_of_standing, notes_of}
-use Rattle.smq_book.specs.join.Moves.{Move, moved, receipt_standings_of}
-use Rattle.smq_book.specs.index.Held.{Holding, IsHeld, IsTraffic, KeepsTraffic, held_of, is_traffic_list, traffic_held, traffic_notes}
-use Rattle.smq_book.proofs.lemmas.join.ReceiptLists.{never-in, of-standing}
-use Rattle.smq_book.proofs.lemmas.edits.ReceiptNotes.{note-by}
+use Rattle.smq_present.specs.present.Settings.{SettingsValue}
+use Rattle.smq_present.specs.pairing.Traffic.{TrafficValue}
+use Rattle.smq_present.specs.join.Keyed.{grouping_of}
+use Rattle.smq_present.specs.join.Listings.{is_traffic_list, list_of_standing, notes_of}
+use Rattle.smq_present.specs.join.Moves.{Move, moved, receipt_standings_of}
+use Rattle.smq_book.specs.index.Held.{Holding, IsHeld, IsTraffic, KeepsTraffic, held_of, traffic_held, traffic_notes}
+use Rattle.smq_present.proofs.lemmas.join.ReceiptLists.{never-in, of-standing}
+use Rattle.smq_present.proofs.lemmas.join.ReceiptNotes.{note-by}
 use Rattle.smq_book.proofs.lemmas.index.Members.{kept-traffic}
 
 abbrev chosen_note : Listed → ⊤ → Option ⊤

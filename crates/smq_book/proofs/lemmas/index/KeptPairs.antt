@@ -12,8 +12,8 @@ use Rattle.smq_kit.specs.declared.refusal.Refusal.TheVariants.{Memory, NoSession
 use Rattle.smq_kit.specs.Replies.{IsReply, IsReplyInPlace}
 use Rattle.smq_pair.specs.Paired.{no_pdus}
 use Rattle.smq_pair.specs.Pairing.{PairingValue}
-use Rattle.smq_book.specs.declared.present.edit.Edit.{Edit}
-use Rattle.smq_book.specs.declared.present.session.Session.{Session}
+use Rattle.smq_present.specs.declared.present.edit.Edit.{Edit}
+use Rattle.smq_present.specs.declared.present.session.Session.{Session}
 use Rattle.smq_book.specs.declared.index.index.Index.{Index}
 use Rattle.smq_book.specs.declared.index.pairings.Pairings.{Pairings}
 use Rattle.smq_book.specs.index.Opening.{nothing_held}
@@ -21,10 +21,10 @@ use Rattle.smq_book.specs.index.Held.{Holding, IsHeld, held_now, held_settled, t
 use Rattle.smq_book.specs.index.Kept.{IsIndexed, IsKept}
 use Rattle.smq_book.specs.index.Pairs.{pairing_in, pairs_now, pairs_pending, pairs_settled}
 use Rattle.smq_book.specs.index.Touches.{HasNothingPending}
-use Rattle.smq_book.specs.pairing.Traffic.{session_pairing, traffic_of}
-use Rattle.smq_book.specs.present.Present.{PresentValue, empty}
-use Rattle.smq_book.specs.present.Replies.{no_session, reply}
-use Rattle.smq_book.specs.present.Steps.{change}
+use Rattle.smq_present.specs.pairing.Traffic.{session_pairing, traffic_of}
+use Rattle.smq_present.specs.present.Present.{PresentValue, empty}
+use Rattle.smq_present.specs.present.Replies.{no_session, reply}
+use Rattle.smq_present.specs.present.Steps.{change}
 use Rattle.smq_book.proofs.lemmas.index.Nothing.{nothing-is-held, nothing-is-said}
 
 -- the PDUs of what stands under a number

@@ -18,10 +18,10 @@ use Rattle.smq_tally.proofs.Undone.{no-entries}
 use Rattle.smq_route.specs.Numbers.{places_under}
 use Rattle.smq_route.specs.Versions.{begins}
 use Rattle.smq_route.proofs.NumberOrders.{numbers_total}
-use Rattle.smq_book.specs.present.Settings.{SettingsValue}
-use Rattle.smq_book.specs.pairing.Traffic.{TrafficValue}
-use Rattle.smq_book.specs.join.Circumstances.{window_of}
-use Rattle.smq_book.specs.join.Facts.{facts_of}
+use Rattle.smq_present.specs.present.Settings.{SettingsValue}
+use Rattle.smq_present.specs.pairing.Traffic.{TrafficValue}
+use Rattle.smq_present.specs.join.Circumstances.{window_of}
+use Rattle.smq_present.specs.join.Facts.{facts_of}
 use Rattle.smq_book.specs.edits.Reached.{due_by, is_due, is_open, is_under, messages_due_on, messages_under, outcome_in, passing}
 use Rattle.smq_book.specs.index.Due.{due_by_fact, due_of, places_due_on}
 use Rattle.smq_book.specs.index.Ends.{end_by_fact, ends_of, is_between, places_ending}

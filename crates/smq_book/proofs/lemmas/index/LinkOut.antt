@@ -19,12 +19,12 @@ use Rattle.smq_kit.proofs.PlaceOrders.{places_total, places_exact}
 use Rattle.smq_tally.specs.Lists.{listed_set}
 use Rattle.smq_book.specs.declared.index.stored.Said.{Said}
 use Rattle.smq_book.specs.declared.index.stored.Said.TheVariants as said
-use Rattle.smq_book.specs.present.Settings.{SettingsValue, forms_of}
-use Rattle.smq_book.specs.pairing.Traffic.{Message, ReceivedReceipt, TrafficValue}
+use Rattle.smq_present.specs.present.Settings.{SettingsValue, forms_of}
+use Rattle.smq_present.specs.pairing.Traffic.{Message, ReceivedReceipt, TrafficValue}
 use Rattle.smq_book.specs.edits.Reached.{link_receipts, passing}
-use Rattle.smq_book.specs.join.Keyed.{accepted_id}
-use Rattle.smq_book.specs.join.Listings.{receipt_notes}
-use Rattle.smq_book.specs.join.Moves.{Move, PutMessage, PutReceipt, TakeMessage, TakeReceipt, moved, moved_by}
+use Rattle.smq_present.specs.join.Keyed.{accepted_id}
+use Rattle.smq_present.specs.join.Listings.{receipt_notes}
+use Rattle.smq_present.specs.join.Moves.{Move, PutMessage, PutReceipt, TakeMessage, TakeReceipt, moved, moved_by}
 use Rattle.smq_book.specs.index.Coming.{AreNew}
 use Rattle.smq_book.specs.index.Due.{due_in}
 use Rattle.smq_book.specs.index.Ends.{ends_by}
@@ -34,7 +34,7 @@ use Rattle.smq_book.specs.index.Numbered.{numbers_of}
 use Rattle.smq_book.proofs.lemmas.edits.LinkMoves.{passing-again, passing-taken}
 use Rattle.smq_book.proofs.lemmas.edits.Passing.{entries-passing, passing-does}
 use Rattle.smq_book.proofs.lemmas.index.Coming.{puts-back-new}
-use Rattle.smq_book.proofs.lemmas.join.OtherForms.{facts-ignore, grouping-ignores}
+use Rattle.smq_present.proofs.lemmas.join.OtherForms.{facts-ignore, grouping-ignores}
 
 -- one move more is made, and the others are left
 pub moves-more : (g h : TrafficValue) (move : Move) (left rest : List Move) (all : TrafficValue) → h ≡ moved_by g (move ∷ []) → left ≡ move ∷ rest

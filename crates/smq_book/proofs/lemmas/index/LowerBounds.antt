@@ -14,14 +14,14 @@ use Rattle.smq_book.specs.declared.index.pairings.Pairings.{Pairings}
 use Rattle.smq_book.specs.index.Held.{Holding}
 use Rattle.smq_book.specs.index.Kept.{IsIndexed}
 use Rattle.smq_book.specs.index.Touches.{RisesWithFacts, touches_of}
-use Rattle.smq_book.specs.join.Facts.{facts_of}
-use Rattle.smq_book.specs.pairing.Traffic.{traffic_of}
-use Rattle.smq_book.specs.present.Book.{BookValue}
-use Rattle.smq_book.specs.declared.present.edit.Edit.{Edit}
-use Rattle.smq_book.specs.present.Present.{PresentValue}
-use Rattle.smq_book.specs.present.Replies.{reply}
-use Rattle.smq_book.specs.present.Steps.{change}
-use Rattle.smq_book.specs.whole.Scratch.{scratch}
+use Rattle.smq_present.specs.join.Facts.{facts_of}
+use Rattle.smq_present.specs.pairing.Traffic.{traffic_of}
+use Rattle.smq_present.specs.present.Book.{BookValue}
+use Rattle.smq_present.specs.declared.present.edit.Edit.{Edit}
+use Rattle.smq_present.specs.present.Present.{PresentValue}
+use Rattle.smq_present.specs.present.Replies.{reply}
+use Rattle.smq_present.specs.present.Steps.{change}
+use Rattle.smq_present.specs.whole.Scratch.{scratch}
 
 -- the facts that are stored are those of what is present
 facts-kept : (p : PresentValue) (i : Index) → IsIndexed p i → i.tally.facts ≡ facts_of p.settings (traffic_of p.sessions)

@@ -18,12 +18,12 @@ use Rattle.smq_tally.specs.Lists.{listed, listed_cmp}
 use Rattle.smq_tally.specs.within.ListOrder.{listed_total}
 use Rattle.smq_tally.proofs.ListOrders.{listed_exact}
 use Rattle.smq_group.specs.Groups.{with_receipt, with_submit, without_receipt, without_submit}
-use Rattle.smq_book.specs.present.Settings.{SettingsValue}
-use Rattle.smq_book.specs.pairing.Traffic.{Message, ReceivedReceipt, TrafficValue}
-use Rattle.smq_book.specs.join.Keyed.{accepted_key, grouping_of, keyed_receipt}
-use Rattle.smq_book.specs.join.Moves.{Move, PutMessage, TakeMessage, PutReceipt, TakeReceipt, PutNote, TakeNote, moved}
-use Rattle.smq_book.specs.join.Moves.{put_message, take_message, put_receipt, take_receipt}
-use Rattle.smq_book.specs.index.Held.{AreOf, IsTraffic, KeepsTraffic, is_traffic_list}
+use Rattle.smq_present.specs.join.Listings.{is_traffic_list}
+use Rattle.smq_present.specs.present.Settings.{SettingsValue}
+use Rattle.smq_present.specs.pairing.Traffic.{Message, ReceivedReceipt, TrafficValue}
+use Rattle.smq_present.specs.join.Keyed.{accepted_key, grouping_of, keyed_receipt}
+use Rattle.smq_present.specs.join.Moves.{Move, PutMessage, TakeMessage, PutReceipt, TakeReceipt, PutNote, TakeNote, moved, put_message, take_message, put_receipt, take_receipt}
+use Rattle.smq_book.specs.index.Held.{AreOf, IsTraffic, KeepsTraffic}
 
 -- ---- members
 

@@ -26,19 +26,18 @@ use Rattle.smq_tally.proofs.Listings.{marked}
 use Rattle.smq_group.specs.declared.change.Change.{Change}
 use Rattle.smq_group.specs.declared.change.Standing as told
 use Rattle.smq_group.specs.Changes.{TellsChanges, changed, receipt_at, submit_at, told_at, told_of_receipt, told_of_submit}
-use Rattle.smq_group.specs.Matching.{Grouping, GroupedReceipt, receipt_standing, submit_standing}
-use Rattle.smq_group.specs.Matching.{ReceiptStanding}
-use Rattle.smq_book.specs.present.Settings.{SettingsValue}
-use Rattle.smq_book.specs.pairing.Traffic.{TrafficValue}
-use Rattle.smq_book.specs.join.Facts.{facts_of}
-use Rattle.smq_book.specs.join.Keyed.{grouping_of}
-use Rattle.smq_book.specs.join.Listings.{is_named, is_receipt_list, list_of_standing, notes_of}
-use Rattle.smq_book.specs.join.Moves.{IsMove, PutNote, TakeNote, moved, receipt_standings_of, standings_of}
+use Rattle.smq_group.specs.Matching.{Grouping, GroupedReceipt, receipt_standing, submit_standing, ReceiptStanding}
+use Rattle.smq_present.specs.present.Settings.{SettingsValue}
+use Rattle.smq_present.specs.pairing.Traffic.{TrafficValue}
+use Rattle.smq_present.specs.join.Facts.{facts_of}
+use Rattle.smq_present.specs.join.Keyed.{grouping_of}
+use Rattle.smq_present.specs.join.Listings.{is_named, is_receipt_list, is_traffic_list, list_of_standing, notes_of}
+use Rattle.smq_present.specs.join.Moves.{IsMove, PutNote, TakeNote, moved, receipt_standings_of, standings_of}
 use Rattle.smq_book.specs.edits.Told.{told_places}
-use Rattle.smq_book.specs.index.Held.{IsTraffic, facts_anew, is_traffic_list, list_held, noted, notes_anew, with_listing}
-use Rattle.smq_book.proofs.lemmas.join.MoveLemmas.{moved-facts}
-use Rattle.smq_book.proofs.lemmas.join.ReceiptLists.{listings-any, listings-one, never-in, of-standing}
-use Rattle.smq_book.proofs.lemmas.edits.ReceiptNotes.{note-by, notes-outside}
+use Rattle.smq_book.specs.index.Held.{IsTraffic, facts_anew, list_held, noted, notes_anew, with_listing}
+use Rattle.smq_present.proofs.lemmas.join.MoveLemmas.{moved-facts}
+use Rattle.smq_present.proofs.lemmas.join.ReceiptLists.{listings-any, listings-one, never-in, of-standing}
+use Rattle.smq_present.proofs.lemmas.join.ReceiptNotes.{note-by, notes-outside}
 use Rattle.smq_book.proofs.lemmas.edits.Told.{facts-covered, notes-covered}
 use Rattle.smq_book.proofs.lemmas.index.Unlisted.{listed-at}
 

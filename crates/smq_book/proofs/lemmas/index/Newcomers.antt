@@ -17,10 +17,10 @@ use Rattle.smq_tally.specs.within.ListOrder.{listed_total}
 use Rattle.smq_tally.proofs.ListOrders.{listed_exact}
 use Rattle.smq_group.specs.declared.change.Standing as told
 use Rattle.smq_group.specs.declared.change.Standing.TheVariants as t
-use Rattle.smq_book.specs.join.Listings.{is_named, is_receipt_list}
+use Rattle.smq_present.specs.join.Listings.{is_named, is_receipt_list, is_traffic_list}
 use Rattle.smq_book.specs.index.Following.{IsInNoOther, with_note}
-use Rattle.smq_book.specs.index.Held.{IsUnlisted, is_traffic_list, list_by, noted, with_listing}
-use Rattle.smq_book.proofs.lemmas.join.ReceiptLists.{named-of-receipts, of_receipts, same-listing}
+use Rattle.smq_book.specs.index.Held.{IsUnlisted, list_by, noted, with_listing}
+use Rattle.smq_present.proofs.lemmas.join.ReceiptLists.{named-of-receipts, of_receipts, same-listing}
 use Rattle.smq_book.proofs.lemmas.index.Unlisted.{listed-at, unnoted}
 
 -- a place that no list notes is in no other

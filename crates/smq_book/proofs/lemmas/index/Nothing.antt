@@ -18,16 +18,16 @@ use Rattle.smq_tally.specs.Lists.{listed, listed_cmp, listed_set}
 use Rattle.smq_tally.specs.within.ListOrder.{listed_total}
 use Rattle.smq_tally.proofs.ListOrders.{listed_exact}
 use Rattle.smq_tally.proofs.Undone.{no-entries}
-use Rattle.smq_book.specs.declared.present.session.Session.{Session}
-use Rattle.smq_book.specs.pairing.Traffic.{Message, ReceivedReceipt, TrafficValue, session_messages, session_notes, session_receipts, traffic_of}
-use Rattle.smq_book.specs.present.Settings.{SettingsValue, opening_settings}
-use Rattle.smq_book.specs.join.Circumstances.{circumstances}
-use Rattle.smq_book.specs.join.Facts.{fact_by, facts_of}
-use Rattle.smq_book.specs.join.Keyed.{accepted_key, grouping_of, keyed_receipt}
-use Rattle.smq_book.specs.join.Listings.{notes_of, receipt_listing, receipt_notes}
+use Rattle.smq_present.specs.declared.present.session.Session.{Session}
+use Rattle.smq_present.specs.pairing.Traffic.{Message, ReceivedReceipt, TrafficValue, session_messages, session_notes, session_receipts, traffic_of}
+use Rattle.smq_present.specs.present.Settings.{SettingsValue, opening_settings}
+use Rattle.smq_present.specs.join.Circumstances.{circumstances}
+use Rattle.smq_present.specs.join.Facts.{fact_by, facts_of}
+use Rattle.smq_present.specs.join.Keyed.{accepted_key, grouping_of, keyed_receipt}
+use Rattle.smq_present.specs.join.Listings.{is_traffic_list, notes_of, receipt_listing, receipt_notes}
 use Rattle.smq_book.specs.index.Due.{due_by_fact}
 use Rattle.smq_book.specs.index.Ends.{end_by_fact}
-use Rattle.smq_book.specs.index.Held.{IsHeld, IsTraffic, held_of, is_traffic_list, traffic_held, traffic_notes}
+use Rattle.smq_book.specs.index.Held.{IsHeld, IsTraffic, held_of, traffic_held, traffic_notes}
 use Rattle.smq_book.specs.index.Numbered.{numbered}
 use Rattle.smq_book.specs.index.Opening.{nothing_held}
 use Rattle.smq_book.specs.index.PlacedKeys.{keys_made}

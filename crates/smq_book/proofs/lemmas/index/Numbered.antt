@@ -10,8 +10,8 @@ use Rattle.smq_route.specs.declared.numbers.NumberAt.{NumberAt}
 use Rattle.smq_route.specs.Numbers.{number_at, places_under}
 use Rattle.smq_route.specs.Versions.{begins}
 use Rattle.smq_route.proofs.NumberOrders.{numbers_exact, numbers_total}
-use Rattle.smq_book.specs.pairing.Traffic.{Message, TrafficValue}
-use Rattle.smq_book.specs.join.Moves.{put_message, take_message}
+use Rattle.smq_present.specs.pairing.Traffic.{Message, TrafficValue}
+use Rattle.smq_present.specs.join.Moves.{put_message, take_message}
 use Rattle.smq_book.specs.edits.Reached.{is_under, messages_under}
 use Rattle.smq_book.specs.index.Numbered.{numbered, numbers_of}
 use Rattle.smq_book.specs.index.PlacedKeys.{passes, with_key, without_key}

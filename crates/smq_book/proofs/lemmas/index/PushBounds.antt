@@ -19,20 +19,19 @@ use Rattle.smq_pair.specs.Pairing.{PairingValue, PlacedHeader, pair_at}
 use Rattle.smq_pair.specs.declared.pairing.Pair.{Pair}
 use Rattle.smq_receipt.specs.declared.reading.Receipt.{Receipt}
 use Rattle.smq_pdu.specs.Pairing.{is_request}
-use Rattle.smq_book.specs.declared.present.kept.KeptPdu.{KeptPdu}
-use Rattle.smq_book.specs.declared.present.session.Session.{Session}
-use Rattle.smq_book.specs.present.Kept.{header_of, kept_pdus, receipt_in}
-use Rattle.smq_book.specs.present.Present.{PresentValue, direction, session_of}
-use Rattle.smq_book.specs.pairing.Traffic.{Origin, ReceivedReceipt, origin_of, place_of, placed, received, receipts_among, session_pairing}
-use Rattle.smq_book.specs.pairing.Traffic.{session_receipts, traffic_of}
-use Rattle.smq_book.specs.within.Pairs.{Rises}
+use Rattle.smq_present.specs.declared.present.kept.KeptPdu.{KeptPdu}
+use Rattle.smq_present.specs.declared.present.session.Session.{Session}
+use Rattle.smq_present.specs.present.Kept.{header_of, kept_pdus, receipt_in}
+use Rattle.smq_present.specs.present.Present.{PresentValue, direction, session_of}
+use Rattle.smq_present.specs.pairing.Traffic.{Origin, ReceivedReceipt, origin_of, place_of, placed, received, receipts_among, session_pairing, session_receipts, traffic_of}
+use Rattle.smq_present.specs.within.Pairs.{Rises}
 use Rattle.smq_book.specs.edits.Reach.{groups, members, pair_in, weight, weights}
 use Rattle.smq_book.specs.index.Touches.{answered_key, members_at, pdu_load, receipt_key_at}
-use Rattle.smq_book.proofs.lemmas.edits.SessionTraffic.{no-message, no-receipt, receipts-own, said-at, session_number}
-use Rattle.smq_book.proofs.lemmas.pairing.Paired.{above, standing}
-use Rattle.smq_book.proofs.lemmas.pairing.PairsStay.{AllOf, own-request, request-side}
-use Rattle.smq_book.proofs.lemmas.pairing.PlacesRise.{kept-rise}
-use Rattle.smq_book.proofs.lemmas.pairing.Requests.{kept-delivers}
+use Rattle.smq_present.proofs.lemmas.pairing.SessionTraffic.{no-message, no-receipt, receipts-own, said-at, session_number}
+use Rattle.smq_present.proofs.lemmas.pairing.Paired.{above, standing}
+use Rattle.smq_present.proofs.lemmas.pairing.PairsStay.{AllOf, own-request, request-side}
+use Rattle.smq_present.proofs.lemmas.pairing.PlacesRise.{kept-rise}
+use Rattle.smq_present.proofs.lemmas.pairing.Requests.{kept-delivers}
 use Rattle.smq_book.proofs.lemmas.index.Answering.{elsewhere}
 use Rattle.smq_book.proofs.lemmas.index.Members.{receipt-absent, submit-absent}
 use Rattle.smq_book.proofs.lemmas.index.Weights.{not-there}

@@ -17,21 +17,19 @@ use Rattle.smq_pair.specs.Pairing.{PlacedHeader, pair_at, placed_header}
 use Rattle.smq_pair.specs.Growth.{made_by, pushed}
 use Rattle.smq_pdu.specs.declared.body.Submit.{Submit}
 use Rattle.smq_pdu.specs.Pairing.{is_request, is_response, request_rank, response_index}
-use Rattle.smq_book.specs.declared.present.kept.KeptPdu.{KeptPdu}
-use Rattle.smq_book.specs.present.Kept.{header_of, headers_of, is_undecodable, is_unreadable, receipt_in, submit_in}
-use Rattle.smq_book.specs.pairing.Traffic.{Message, Origin, ReceivedReceipt, Response, TrafficValue, received}
-use Rattle.smq_book.specs.pairing.Traffic.{message_of, pairing_among, place_of, placed, response_in, response_to}
-use Rattle.smq_book.specs.within.Pairs.{Rises, SubmitsAreRequests}
+use Rattle.smq_present.specs.declared.present.kept.KeptPdu.{KeptPdu}
+use Rattle.smq_present.specs.present.Kept.{header_of, headers_of, is_undecodable, is_unreadable, receipt_in, submit_in}
+use Rattle.smq_present.specs.pairing.Traffic.{Message, Origin, ReceivedReceipt, Response, TrafficValue, received, message_of, pairing_among, place_of, placed, response_in, response_to}
+use Rattle.smq_present.specs.within.Pairs.{Rises, SubmitsAreRequests}
 use Rattle.smq_book.specs.edits.Appended.{anew, client_moves}
 use Rattle.smq_book.specs.edits.AppendedNotes.{met_moves, undecodable_moves, unreadable_moves}
-use Rattle.smq_book.proofs.lemmas.join.AgreeLists.{response-same}
-use Rattle.smq_book.proofs.lemmas.pairing.Paired.{pair_with, request-pair}
-use Rattle.smq_book.proofs.lemmas.pairing.Searched.{at-offset}
-use Rattle.smq_book.specs.present.Settings.{SettingsValue}
-use Rattle.smq_book.specs.join.Moves.{Move, PutMessage, TakeMessage, PutReceipt, TakeReceipt, PutNote, TakeNote, moved, moved_by}
+use Rattle.smq_present.proofs.lemmas.join.AgreeLists.{response-same}
+use Rattle.smq_present.proofs.lemmas.pairing.Paired.{pair_with, request-pair}
+use Rattle.smq_present.proofs.lemmas.pairing.Searched.{at-offset}
+use Rattle.smq_present.specs.present.Settings.{SettingsValue}
+use Rattle.smq_present.specs.join.Moves.{Move, PutMessage, TakeMessage, PutReceipt, TakeReceipt, PutNote, TakeNote, moved, moved_by}
 use Rattle.smq_book.specs.index.Held.{Holding, IsHeld, IsTraffic, KeepsTraffic, held_of, traffic_held}
-use Rattle.smq_book.specs.index.Pushed.{IsHeldAfter, answer_moves, message_with, noted_moves}
-use Rattle.smq_book.specs.index.Pushed.{receipt_moves, said_by, said_in, submit_moves, with_response}
+use Rattle.smq_book.specs.index.Pushed.{IsHeldAfter, answer_moves, message_with, noted_moves, receipt_moves, said_by, said_in, submit_moves, with_response}
 use Rattle.smq_book.proofs.lemmas.edits.Moved.{moved-both}
 use Rattle.smq_book.proofs.lemmas.index.Kept.{moved-held, moved-is}
 

@@ -12,15 +12,14 @@ use Rattle.smq_frame.specs.Tail.{tail_of}
 use Rattle.smq_pair.specs.Growth.{made_by}
 use Rattle.smq_tally.specs.declared.list.List.TheVariants as list
 use Rattle.smq_tally.specs.Lists.{listed}
-use Rattle.smq_book.specs.declared.present.kept.KeptPdu.{KeptPdu}
-use Rattle.smq_book.specs.declared.present.session.Session.{Session}
-use Rattle.smq_book.specs.present.Batch.{BatchValue, batch_pdus, next_tail}
-use Rattle.smq_book.specs.present.Kept.{kept_pdus}
-use Rattle.smq_book.specs.present.Present.{octets_in}
-use Rattle.smq_book.specs.present.Steps.{session_after}
-use Rattle.smq_book.specs.pairing.Traffic.{Message, Origin, ReceivedReceipt, TrafficValue, broken_at}
-use Rattle.smq_book.specs.pairing.Traffic.{message_at, pairing_among, placed, receipt_at, traffic_of}
-use Rattle.smq_book.specs.join.Moves.{Move, PutMessage, TakeMessage, PutReceipt, TakeReceipt, PutNote, TakeNote, moved, moved_by}
+use Rattle.smq_present.specs.declared.present.kept.KeptPdu.{KeptPdu}
+use Rattle.smq_present.specs.declared.present.session.Session.{Session}
+use Rattle.smq_present.specs.present.Batch.{BatchValue, batch_pdus, next_tail}
+use Rattle.smq_present.specs.present.Kept.{kept_pdus}
+use Rattle.smq_present.specs.present.Present.{octets_in}
+use Rattle.smq_present.specs.present.Steps.{session_after}
+use Rattle.smq_present.specs.pairing.Traffic.{Message, Origin, ReceivedReceipt, TrafficValue, broken_at, message_at, pairing_among, placed, receipt_at, traffic_of}
+use Rattle.smq_present.specs.join.Moves.{Move, PutMessage, TakeMessage, PutReceipt, TakeReceipt, PutNote, TakeNote, moved, moved_by}
 use Rattle.smq_book.specs.edits.Appended.{anew, answered, batch_origin, centre_moves, client_moves, push_moves, session_before}
 use Rattle.smq_book.specs.edits.AppendedNotes.{broken_moves, next_moves, note_moves}
 use Rattle.smq_book.specs.index.Pushed.{pushed_moves}

@@ -12,9 +12,9 @@ use Rattle.smq_kit.specs.Orders.{place_cmp}
 use Rattle.smq_tally.specs.declared.fact.Fact.{Fact}
 use Rattle.smq_route.specs.Numbers.{number_cmp, places_under}
 use Rattle.smq_route.specs.Versions.{Versions}
-use Rattle.smq_book.specs.present.Settings.{SettingsValue, with_clock, with_versions, with_windows}
-use Rattle.smq_book.specs.pairing.Traffic.{TrafficValue}
-use Rattle.smq_book.specs.join.Facts.{facts_of}
+use Rattle.smq_present.specs.present.Settings.{SettingsValue, with_clock, with_versions, with_windows}
+use Rattle.smq_present.specs.pairing.Traffic.{TrafficValue}
+use Rattle.smq_present.specs.join.Facts.{facts_of}
 use Rattle.smq_book.specs.edits.Reached.{messages_due_on, messages_under}
 use Rattle.smq_book.specs.index.Due.{places_due_on}
 use Rattle.smq_book.specs.index.Ends.{places_ending}

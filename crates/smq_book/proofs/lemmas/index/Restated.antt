@@ -14,10 +14,10 @@ use Rattle.smq_route.specs.Versions.{Versions}
 use Rattle.smq_tally.specs.declared.fact.Fact.{Fact}
 use Rattle.smq_tally.specs.declared.outcome.Outcome.{Outcome}
 use Rattle.smq_tally.specs.declared.outcome.Outcome.TheVariants as o
-use Rattle.smq_book.specs.present.Settings.{SettingsValue}
-use Rattle.smq_book.specs.pairing.Traffic.{Message, TrafficValue}
-use Rattle.smq_book.specs.join.Circumstances.{circumstances, lapsed_in, route_in}
-use Rattle.smq_book.specs.join.Facts.{by_lapse, fact_by, facts_of, with_lapse, with_route}
+use Rattle.smq_present.specs.present.Settings.{SettingsValue}
+use Rattle.smq_present.specs.pairing.Traffic.{Message, TrafficValue}
+use Rattle.smq_present.specs.join.Circumstances.{circumstances, lapsed_in, route_in}
+use Rattle.smq_present.specs.join.Facts.{by_lapse, fact_by, facts_of, with_lapse, with_route}
 use Rattle.smq_book.specs.edits.Reached.{is_due}
 use Rattle.smq_tally.specs.Tally.{TallyValue}
 use Rattle.smq_book.specs.declared.index.index.Index.{Index}
@@ -25,8 +25,8 @@ use Rattle.smq_book.specs.index.Due.{due_in, is_due_fact}
 use Rattle.smq_book.specs.index.Ends.{ends_by}
 use Rattle.smq_book.specs.index.Held.{Holding, held_by, held_now}
 use Rattle.smq_book.specs.index.Refreshed.{MayRestate, refreshed, restated}
-use Rattle.smq_book.proofs.lemmas.join.Lapsing.{fact-lapses}
-use Rattle.smq_book.proofs.lemmas.join.MoveLemmas.{fact-at, fact-place}
+use Rattle.smq_present.proofs.lemmas.join.Lapsing.{fact-lapses}
+use Rattle.smq_present.proofs.lemmas.join.MoveLemmas.{fact-at, fact-place}
 
 -- whether a receipt is due doesn't hang on whether its message has lapsed
 pub is_due-lapses : (b : Bool) (x : Outcome) → is_due (by_lapse b x) ≡ is_due x

@@ -1,6 +1,5 @@
 -- Traffic that says what the PDUs of a session say goes on to say it as PDUs more come, each with its notes.
-use Rattle.std.proofs.Common.{◌≡◌, ℕ, zero, suc, ◌+◌, ◌<◌, Bool, true, false, cond, List, [], ◌∷◌, ◌++◌, length, take, drop, get_or}
-use Rattle.std.proofs.Common.{Option, Some, None, refl, sym, ap, ◌∙◌, subst, arith, append_assoc, append-nil, take-append-drop}
+use Rattle.std.proofs.Common.{◌≡◌, ℕ, zero, suc, ◌+◌, ◌<◌, Bool, true, false, cond, List, [], ◌∷◌, ◌++◌, length, take, drop, get_or, Option, Some, None, refl, sym, ap, ◌∙◌, subst, arith, append_assoc, append-nil, take-append-drop}
 use Rattle.std.specs.Prelude.{map, slice_get, option_map, option_to_list}
 use Rattle.std.specs.FinMap.{FinMap, find, get, nat_cmp-IsAntisymmetric}
 use Rattle.std.specs.Cmp.{nat_cmp_total, tied_itself}
@@ -14,15 +13,14 @@ use Rattle.smq_kit.proofs.MapLemmas.{same_key}
 use Rattle.smq_receipt.specs.declared.reading.Receipt.{Receipt}
 use Rattle.smq_pair.specs.declared.pairing.Pair.{Pair}
 use Rattle.smq_pair.specs.Growth.{IsNext, made_by, pushed}
-use Rattle.smq_book.specs.declared.present.kept.KeptPdu.{KeptPdu}
-use Rattle.smq_book.specs.declared.present.session.Session.{Session}
-use Rattle.smq_book.specs.present.Kept.{kept_pdus, receipt_in}
-use Rattle.smq_book.specs.present.Present.{direction}
-use Rattle.smq_book.specs.present.Settings.{SettingsValue}
-use Rattle.smq_book.specs.pairing.Traffic.{Message, Origin, ReceivedReceipt, TrafficValue}
-use Rattle.smq_book.specs.pairing.Traffic.{messages_among, place_of, placed, received, receipts_among}
-use Rattle.smq_book.specs.within.Pairs.{Rises, SubmitsAreRequests}
-use Rattle.smq_book.specs.join.Moves.{Move, moved_by}
+use Rattle.smq_present.specs.declared.present.kept.KeptPdu.{KeptPdu}
+use Rattle.smq_present.specs.declared.present.session.Session.{Session}
+use Rattle.smq_present.specs.present.Kept.{kept_pdus, receipt_in}
+use Rattle.smq_present.specs.present.Present.{direction}
+use Rattle.smq_present.specs.present.Settings.{SettingsValue}
+use Rattle.smq_present.specs.pairing.Traffic.{Message, Origin, ReceivedReceipt, TrafficValue, messages_among, place_of, placed, received, receipts_among}
+use Rattle.smq_present.specs.within.Pairs.{Rises, SubmitsAreRequests}
+use Rattle.smq_present.specs.join.Moves.{Move, moved_by}
 use Rattle.smq_book.specs.edits.Appended.{centre_moves, client_moves}
 use Rattle.smq_book.specs.edits.AppendedNotes.{next_moves}
 use Rattle.smq_book.specs.index.Held.{Holding, IsTraffic}
@@ -30,9 +28,9 @@ use Rattle.smq_book.specs.index.Pushed.{IsHeldAfter, IsSaidBy, IsUnsaid, centre_
 use Rattle.smq_book.proofs.lemmas.edits.Appends.{HasPdus, centre-step, client-step, rises-front}
 use Rattle.smq_book.proofs.lemmas.edits.Moved.{moved-both}
 use Rattle.smq_book.proofs.lemmas.edits.PushNotes as places
-use Rattle.smq_book.proofs.lemmas.pairing.Paired.{above}
-use Rattle.smq_book.proofs.lemmas.pairing.PlacesRise.{kept-rise}
-use Rattle.smq_book.proofs.lemmas.pairing.Requests.{kept-ask}
+use Rattle.smq_present.proofs.lemmas.pairing.Paired.{above}
+use Rattle.smq_present.proofs.lemmas.pairing.PlacesRise.{kept-rise}
+use Rattle.smq_present.proofs.lemmas.pairing.Requests.{kept-ask}
 use Rattle.smq_book.proofs.lemmas.index.Answering.{answers-are, elsewhere, none-above, waits-for}
 use Rattle.smq_book.proofs.lemmas.index.Pushed.{AreOfNotes, after-both, after-same, client-pushed, messages-stay, receipts-stay}
 use Rattle.smq_book.proofs.lemmas.index.PushedAll.{messages-by, next-of-notes, receipts-by}

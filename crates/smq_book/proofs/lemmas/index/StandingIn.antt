@@ -3,9 +3,9 @@ use Rattle.std.proofs.Common.{◌≡◌, Some, None, ap, ◌∙◌}
 use Rattle.std.specs.FinMap.{get}
 use Rattle.smq_kit.specs.declared.place.Place.{Place}
 use Rattle.smq_group.specs.Matching.{Grouping}
-use Rattle.smq_book.specs.present.Settings.{SettingsValue}
-use Rattle.smq_book.specs.pairing.Traffic.{Message, ReceivedReceipt, TrafficValue}
-use Rattle.smq_book.specs.join.Keyed.{accepted_key, keyed_receipt}
+use Rattle.smq_present.specs.present.Settings.{SettingsValue}
+use Rattle.smq_present.specs.pairing.Traffic.{Message, ReceivedReceipt, TrafficValue}
+use Rattle.smq_present.specs.join.Keyed.{accepted_key, keyed_receipt}
 use Rattle.smq_book.specs.index.Held.{AreOf}
 use Rattle.smq_book.proofs.lemmas.index.Members.{receipt-absent, receipt-there, submit-absent, submit-there}
 

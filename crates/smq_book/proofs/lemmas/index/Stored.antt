@@ -23,13 +23,13 @@ use Rattle.smq_group.specs.Changes.{receipt_at, submit_at, told_of_receipt, told
 use Rattle.smq_group.specs.Matching as m
 use Rattle.smq_group.specs.Matching.{Grouping, GroupedReceipt, receipt_standing, submit_standing}
 use Rattle.smq_group.specs.Standings.{standing_at}
-use Rattle.smq_book.specs.present.Settings.{SettingsValue}
-use Rattle.smq_book.specs.pairing.Traffic.{Message, ReceivedReceipt, TrafficValue}
-use Rattle.smq_book.specs.join.Circumstances.{circumstances, circumstances_by, decider_in, lapsed_in, route_in, standing_in}
-use Rattle.smq_book.specs.join.Facts.{fact_by, facts_of}
-use Rattle.smq_book.specs.join.Keyed.{accepted_key, grouping_of, keyed_receipt}
-use Rattle.smq_book.specs.join.Listings.{list_of_standing}
-use Rattle.smq_book.specs.join.Outcomes.{is_shared}
+use Rattle.smq_present.specs.present.Settings.{SettingsValue}
+use Rattle.smq_present.specs.pairing.Traffic.{Message, ReceivedReceipt, TrafficValue}
+use Rattle.smq_present.specs.join.Circumstances.{circumstances, circumstances_by, decider_in, lapsed_in, route_in, standing_in}
+use Rattle.smq_present.specs.join.Facts.{fact_by, facts_of}
+use Rattle.smq_present.specs.join.Keyed.{accepted_key, grouping_of, keyed_receipt}
+use Rattle.smq_present.specs.join.Listings.{list_of_standing}
+use Rattle.smq_present.specs.join.Outcomes.{is_shared}
 use Rattle.smq_book.specs.edits.Told.{list_told}
 use Rattle.smq_book.specs.index.Stored.{is_told_shared}
 use Rattle.smq_book.specs.index.Held.{AreOf, decider_held, list_by, list_held}

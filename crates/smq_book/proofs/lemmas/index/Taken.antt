@@ -1,6 +1,5 @@
 -- What a withdrawal takes out is what each PDU of its session says in turn, and the session's notes, none in a list of receipts.
-use Rattle.std.proofs.Common.{◌≡◌, ℕ, ◌+◌, ◌<◌, ◌≤◌, true, List, [], ◌∷◌, ◌++◌, length, get_or, take, Option, Some, None}
-use Rattle.std.proofs.Common.{suc, zero, refl, sym, ap, ◌∙◌}
+use Rattle.std.proofs.Common.{◌≡◌, ℕ, ◌+◌, ◌<◌, ◌≤◌, true, List, [], ◌∷◌, ◌++◌, length, get_or, take, Option, Some, None, suc, zero, refl, sym, ap, ◌∙◌}
 use Rattle.std.specs.Prelude.{map, option_map, option_to_list, slice_get}
 use Rattle.std.specs.List.{flat_map}
 use Rattle.std.specs.Ordering.{nat_cmp}
@@ -9,29 +8,22 @@ use Rattle.std.proofs.lemmas.List.{flat_map_more, map-append, map_more, take_all
 use Rattle.std.proofs.lemmas.Option.{slice_get-get_or}
 use Rattle.smq_kit.specs.declared.place.Dir.TheVariants.{FromClient, FromCentre}
 use Rattle.smq_kit.specs.declared.place.Place.{Place}
-use Rattle.smq_frame.specs.Stream.{values}
-use Rattle.smq_frame.specs.Tail.{tail_of}
-use Rattle.smq_pair.specs.Pairing.{strays, waiting}
 use Rattle.smq_pdu.specs.declared.body.Submit.{Submit}
 use Rattle.smq_receipt.specs.declared.reading.Receipt.{Receipt}
-use Rattle.smq_tally.specs.declared.list.List as l
 use Rattle.smq_tally.specs.declared.list.List.TheVariants as list
 use Rattle.smq_tally.specs.declared.list.Listed.{Listed}
-use Rattle.smq_tally.specs.Lists.{listed}
-use Rattle.smq_book.specs.declared.present.kept.KeptPdu.{KeptPdu}
-use Rattle.smq_book.specs.declared.present.session.Session.{Session}
-use Rattle.smq_book.specs.present.Kept.{kept_pdus, receipt_in, submit_in}
-use Rattle.smq_book.specs.pairing.Traffic.{Message, Origin, ReceivedReceipt}
-use Rattle.smq_book.specs.pairing.Traffic.{broken, broken_notes, content_notes, mismatched, notes_among, origin_of, pairing_among}
-use Rattle.smq_book.specs.pairing.Traffic.{message_at, message_of, messages_among, pairing_notes, place_of, received, receipt_at}
-use Rattle.smq_book.specs.pairing.Traffic.{receipts_among, response_to, session_notes, traffic_of, undecodable, unreadable, with_earlier}
-use Rattle.smq_book.specs.present.Settings.{SettingsValue}
-use Rattle.smq_book.specs.join.Moves.{Move, TakeMessage, TakeNote, TakeReceipt, moved_by}
+use Rattle.smq_present.specs.join.Listings.{is_traffic_list, AllTraffic}
+use Rattle.smq_present.specs.declared.present.kept.KeptPdu.{KeptPdu}
+use Rattle.smq_present.specs.declared.present.session.Session.{Session}
+use Rattle.smq_present.specs.present.Kept.{kept_pdus, receipt_in, submit_in}
+use Rattle.smq_present.specs.pairing.Traffic.{Message, Origin, ReceivedReceipt, origin_of, message_at, message_of, messages_among, place_of, received, receipt_at, receipts_among, response_to, session_notes, traffic_of, with_earlier}
+use Rattle.smq_present.specs.present.Settings.{SettingsValue}
+use Rattle.smq_present.specs.join.Moves.{Move, TakeMessage, TakeNote, TakeReceipt, moved_by}
 use Rattle.smq_book.specs.edits.Withdrawn.{withdrawal_moves}
-use Rattle.smq_book.specs.index.Held.{Holding, is_traffic_list, traffic_held}
+use Rattle.smq_book.specs.index.Held.{Holding, traffic_held}
 use Rattle.smq_book.specs.index.Pushed.{IsHeldAfter}
-use Rattle.smq_book.specs.index.Taken.{AllTraffic, note_takes, receipt_take, receipt_takes, submit_take, submit_takes}
-use Rattle.smq_book.proofs.lemmas.edits.Withdrawals.{all-append, withdrawn}
+use Rattle.smq_book.specs.index.Taken.{note_takes, receipt_take, receipt_takes, submit_take, submit_takes}
+use Rattle.smq_book.proofs.lemmas.edits.Withdrawals.{withdrawn}
 use Rattle.smq_book.proofs.lemmas.index.Pushed.{after-both, after-same}
 
 module _ (origin : Origin) where
@@ -95,29 +87,6 @@ module _ (sessions : FinMap nat_cmp Session) (n : ℕ) (s : Session) (there : ge
       ∙ withdrawn sessions n s there
 
 -- ---- no note of a session is in a list of receipts
-
-pub both : (xs ys : List Listed) → AllTraffic xs → AllTraffic ys → AllTraffic (xs ++ ys)
-both = all-append (λ (note : Listed). is_traffic_list note.list ≡ true)
-
-in-list : (name : l.List) → is_traffic_list name ≡ true → (places : List Place) → AllTraffic (map (listed name) places)
-in-list name is [] = tt
-in-list name is (q ∷ places) = (is, in-list name is places)
-
-pub session-lists : (e : ℕ × Session) → AllTraffic (session_notes e)
-session-lists e =
-    let o = origin_of e in
-    let client = kept_pdus e.1.client in
-    let centre = kept_pdus e.1.centre in
-    let v = pairing_among o client centre in
-    both (notes_among o client centre) (broken_notes o (tail_of (values e.1.client)) (tail_of (values e.1.centre)))
-    (both (pairing_notes v) (content_notes o client centre)
-    (both (map (listed list.Waiting) (waiting v) ++ map (listed list.StrayAnswers) (strays v)) (map (listed list.Mismatched) (mismatched v))
-    (both (map (listed list.Waiting) (waiting v)) (map (listed list.StrayAnswers) (strays v))
-    (in-list list.Waiting refl (waiting v)) (in-list list.StrayAnswers refl (strays v)))
-    (in-list list.Mismatched refl (mismatched v)))
-    (both (map (listed list.Unreadable) (unreadable o centre)) (map (listed list.Undecodable) (undecodable o client centre))
-    (in-list list.Unreadable refl (unreadable o centre)) (in-list list.Undecodable refl (undecodable o client centre))))
-    (in-list list.Broken refl (broken o (tail_of (values e.1.client)) (tail_of (values e.1.centre))))
 
 pub traffic-at : (notes : List Listed) (i : ℕ) (d : Listed) → AllTraffic notes → i < length notes → is_traffic_list (get_or notes i d).list ≡ true
 traffic-at notes i d all within = by notes i all (slice_get-get_or notes i d within)

@@ -6,16 +6,16 @@ use Rattle.std.proofs.lemmas.Bool.{false≢true}
 use Rattle.smq_kit.specs.declared.place.Place.{Place}
 use Rattle.smq_tally.specs.declared.fact.Fact.{Fact}
 use Rattle.smq_group.specs.Matching.{submit_standing}
-use Rattle.smq_book.specs.present.Settings.{SettingsValue}
-use Rattle.smq_book.specs.pairing.Traffic.{Message, Response, TrafficValue}
-use Rattle.smq_book.specs.join.Circumstances.{Circumstances, circumstances, circumstances_by, decider_in, lapsed_in, route_in}
-use Rattle.smq_book.specs.join.Facts.{fact_by, facts_of}
-use Rattle.smq_book.specs.join.Keyed.{accepted_id, accepted_key, grouping_of}
-use Rattle.smq_book.specs.join.Outcomes.{is_shared, outcome_by, responded, says_delivered}
+use Rattle.smq_present.specs.present.Settings.{SettingsValue}
+use Rattle.smq_present.specs.pairing.Traffic.{Message, Response, TrafficValue}
+use Rattle.smq_present.specs.join.Circumstances.{Circumstances, circumstances, circumstances_by, decider_in, lapsed_in, route_in}
+use Rattle.smq_present.specs.join.Facts.{fact_by, facts_of}
+use Rattle.smq_present.specs.join.Keyed.{accepted_id, accepted_key, grouping_of}
+use Rattle.smq_present.specs.join.Outcomes.{is_shared, outcome_by, responded, says_delivered}
 use Rattle.smq_book.specs.edits.Reached.{is_due}
 use Rattle.smq_book.proofs.lemmas.edits.WindowEdits.{undue}
-use Rattle.smq_book.proofs.lemmas.join.Lapsing.{fact-lapses, outcome_of}
-use Rattle.smq_book.proofs.lemmas.join.MoveLemmas.{fact-at}
+use Rattle.smq_present.proofs.lemmas.join.Lapsing.{fact-lapses, outcome_of}
+use Rattle.smq_present.proofs.lemmas.join.MoveLemmas.{fact-at}
 
 no-id : (s : SettingsValue) (m : Message) (id : Option (List ℕ)) → accepted_id m.response ≡ id → accepted_key s m ≡ None → id ≡ None
 no-id s m None is refused = refl

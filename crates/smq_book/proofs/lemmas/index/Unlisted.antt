@@ -15,12 +15,12 @@ use Rattle.smq_tally.specs.within.ListOrder.{listed_total}
 use Rattle.smq_tally.proofs.ListOrders.{listed_exact}
 use Rattle.smq_group.specs.declared.change.Change.{Change}
 use Rattle.smq_group.specs.Matching.{Grouping, GroupedReceipt, receipt_standing}
-use Rattle.smq_book.specs.present.Settings.{SettingsValue}
-use Rattle.smq_book.specs.pairing.Traffic.{ReceivedReceipt, TrafficValue}
-use Rattle.smq_book.specs.join.Keyed.{keyed_receipt}
-use Rattle.smq_book.specs.join.Listings.{is_named, is_receipt_list, list_of_standing, receipt_listings}
+use Rattle.smq_present.specs.present.Settings.{SettingsValue}
+use Rattle.smq_present.specs.pairing.Traffic.{ReceivedReceipt, TrafficValue}
+use Rattle.smq_present.specs.join.Keyed.{keyed_receipt}
+use Rattle.smq_present.specs.join.Listings.{is_named, is_receipt_list, list_of_standing, receipt_listings}
 use Rattle.smq_book.specs.index.Held.{AreOf, IsUnlisted, list_held, noted, notes_anew, with_listing}
-use Rattle.smq_book.proofs.lemmas.join.ReceiptLists.{listings-one}
+use Rattle.smq_present.proofs.lemmas.join.ReceiptLists.{listings-one}
 use Rattle.smq_book.proofs.lemmas.index.Stored.{at-receipts}
 
 -- where no receipt stands at a place, it has no list

@@ -25,8 +25,8 @@ use Rattle.smq_group.specs.declared.change.Standing.{Standing}
 use Rattle.smq_group.specs.Changes.{TellsChanges, changed, receipt_at, submit_at, told_at, told_of_receipt, told_of_submit}
 use Rattle.smq_group.specs.Groups.{GroupsValue, vacancies, with_receipt, with_submit, without_receipt, without_submit}
 use Rattle.smq_group.specs.Matching.{Grouping, GroupedReceipt, receipt_standing, submit_standing}
-use Rattle.smq_book.specs.join.Moves.{receipt_standings_of, standings_of}
-use Rattle.smq_book.specs.pairing.Traffic.{Message, ReceivedReceipt, TrafficValue}
+use Rattle.smq_present.specs.join.Moves.{receipt_standings_of, standings_of}
+use Rattle.smq_present.specs.pairing.Traffic.{Message, ReceivedReceipt, TrafficValue}
 use Rattle.smq_book.specs.edits.Reach.{members}
 use Rattle.smq_book.specs.edits.Reached.{IsMoveOf, key_receipts, key_submits}
 use Rattle.smq_book.specs.index.Touches.{MembersGo, is_key, key_in, taken_load, taken_of, receipt_key_at}

@@ -1,4 +1,4 @@
-use Rattle.smq_book.specs.declared.present.edit.Edit.TheVariants.{Append}
+use Rattle.smq_present.specs.declared.present.edit.Edit.TheVariants.{Append}
 use Rattle.smq_desk.proofs.RowsInTurn.{ends_by_commit}
 use Rattle.smq_desk.proofs.worker.do_row.Goals as goal
 

@@ -1,4 +1,4 @@
-use Rattle.smq_book.specs.declared.present.edit.Edit.TheVariants.{Append}
+use Rattle.smq_present.specs.declared.present.edit.Edit.TheVariants.{Append}
 use Rattle.smq_engine.proofs.PlayLemmas.{made_edit, refused_edit}
 use Rattle.smq_engine.proofs.play.put.Goals as goal
 

@@ -1,6 +1,6 @@
 use Rattle.std.proofs.Common.{◌≡◌, ◌∙◌, None, ap}
 use Rattle.std.specs.Prelude.{IfSome}
-use Rattle.smq_book.specs.present.Present.{empty}
+use Rattle.smq_present.specs.present.Present.{empty}
 use Rattle.smq_load.specs.Settings.{settings_of}
 use Rattle.smq_engine.specs.Play.{after_rows}
 use Rattle.smq_engine.specs.declared.run_fault.RunFault.TheVariants as fault

@@ -1,6 +1,6 @@
 -- The records so far are played, and all is said of them.
 use Rattle.std.proofs.Common.{◌≡◌, ◌<◌, List, [], ℕ}
-use Rattle.smq_book.specs.present.Present.{empty}
+use Rattle.smq_present.specs.present.Present.{empty}
 use Rattle.smq_load.specs.declared.record.Row as rows
 use Rattle.smq_load.specs.NextRecord.{HasGiven}
 use Rattle.smq_engine.specs.Play.{after_rows}

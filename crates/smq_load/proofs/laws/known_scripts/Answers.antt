@@ -2,7 +2,7 @@ use Rattle.std.proofs.Common.{[], ◌∷◌, ◌++◌, codes, inl, refl, arith}
 use Rattle.csv.specs.Machine.{next_record}
 use Rattle.csv.specs.Reading.{Reached, strip_bom}
 use Rattle.csv.specs.declared.parser.State.TheVariants as st
-use Rattle.smq_book.specs.declared.present.edit.Edit.TheVariants.{Advance}
+use Rattle.smq_present.specs.declared.present.edit.Edit.TheVariants.{Advance}
 use Rattle.smq_load.specs.declared.record.Row.TheVariants.{Plain}
 use Rattle.smq_load.proofs.laws.known_scripts.Goals as goal
 

@@ -1,6 +1,6 @@
 use Rattle.std.proofs.Common.{◌≡◌, ◌∙◌, subst, rules}
-use Rattle.smq_book.specs.within.Accepted.{HasDeciders}
-use Rattle.smq_book.specs.within.Lists.{submits_of}
+use Rattle.smq_present.specs.within.Accepted.{HasDeciders}
+use Rattle.smq_present.specs.within.Lists.{submits_of}
 use Rattle.smq_scratch.proofs.Collected.{receipts-present}
 use Rattle.smq_scratch.proofs.Joined.{apart, notes-made, tables-are}
 use Rattle.smq_scratch.proofs.anew.tables_of_traffic.Goals as goal

@@ -1,8 +1,8 @@
 use Rattle.std.proofs.Common.{ap, ◌∙◌, List, arith}
-use Rattle.smq_book.specs.within.Lists.{receipts_of}
-use Rattle.smq_book.specs.within.Messages.{SubmittedMessage}
-use Rattle.smq_book.specs.within.Outcomes.{fact_of, facts_among}
-use Rattle.smq_book.proofs.lemmas.whole.AgreePresent.{facts-are}
+use Rattle.smq_present.specs.within.Lists.{receipts_of}
+use Rattle.smq_present.specs.within.Messages.{SubmittedMessage}
+use Rattle.smq_present.specs.within.Outcomes.{fact_of, facts_among}
+use Rattle.smq_present.proofs.lemmas.whole.AgreePresent.{facts-are}
 use Rattle.smq_scratch.proofs.Collected.{all-mapped}
 use Rattle.smq_scratch.proofs.facts.facts_with.Goals as goal
 

@@ -1,6 +1,6 @@
 use Rattle.std.proofs.Common.{◌≡◌, ◌++◌, map, drop}
-use Rattle.smq_book.specs.within.Lists.{receipts_of}
-use Rattle.smq_book.specs.within.Outcomes.{fact_of, facts_among}
+use Rattle.smq_present.specs.within.Lists.{receipts_of}
+use Rattle.smq_present.specs.within.Outcomes.{fact_of, facts_among}
 use Rattle.smq_scratch.proofs.facts.facts_with.Given as goal
 
 abbrev pub invariant-loop-submit : goal.invariant-loop-submit

@@ -1,7 +1,7 @@
 -- The notes so far, and those of the receipts of the sessions that are left, are what was there and those of all.
 use Rattle.std.proofs.Common.{◌≡◌, ◌++◌, drop}
 use Rattle.std.specs.List.{flat_map}
-use Rattle.smq_book.specs.within.Listings.{note_kept}
+use Rattle.smq_present.specs.within.Listings.{note_kept}
 use Rattle.smq_scratch.specs.Sourced.{receipts_in}
 use Rattle.smq_scratch.proofs.listings.push_receipt_notes.Given as goal
 

@@ -1,7 +1,7 @@
 use Rattle.std.proofs.Common.{◌≡◌, ◌++◌, drop}
 use Rattle.std.specs.List.{flat_map}
-use Rattle.smq_book.specs.within.Listings.{note_kept}
-use Rattle.smq_book.specs.within.Receipts.{receipts_among}
+use Rattle.smq_present.specs.within.Listings.{note_kept}
+use Rattle.smq_present.specs.within.Receipts.{receipts_among}
 use Rattle.smq_scratch.proofs.listings.push_session_notes.Given as goal
 
 abbrev pub invariant-loop-pdu : goal.invariant-loop-pdu

@@ -1,8 +1,8 @@
 use Rattle.std.proofs.Common.{Bool, cond, [], ◌∷◌, sym, ap, ◌∙◌}
 use Rattle.smq_kit.specs.declared.place.Place.{Place}
 use Rattle.smq_tally.specs.Lists.{listed}
-use Rattle.smq_book.specs.pairing.Traffic.{place_of}
-use Rattle.smq_book.specs.within.Pairs.{from_session}
+use Rattle.smq_present.specs.pairing.Traffic.{place_of}
+use Rattle.smq_present.specs.within.Pairs.{from_session}
 use Rattle.smq_scratch.proofs.SideLemmas.{noted-at}
 use Rattle.smq_scratch.proofs.notes.note_at.Goals as goal
 

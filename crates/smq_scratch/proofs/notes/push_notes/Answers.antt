@@ -8,10 +8,10 @@ use Rattle.smq_tally.specs.declared.list.List.{List as ListName}
 use Rattle.smq_tally.specs.declared.list.List.TheVariants as list
 use Rattle.smq_tally.specs.declared.list.Listed.{Listed}
 use Rattle.smq_tally.specs.Lists.{listed}
-use Rattle.smq_book.specs.declared.present.kept.KeptPdu.{KeptPdu}
-use Rattle.smq_book.specs.present.Kept.{kept_pdus}
-use Rattle.smq_book.specs.pairing.Traffic.{Origin, broken_at, broken_notes}
-use Rattle.smq_book.specs.within.Pairs.{from_session}
+use Rattle.smq_present.specs.declared.present.kept.KeptPdu.{KeptPdu}
+use Rattle.smq_present.specs.present.Kept.{kept_pdus}
+use Rattle.smq_present.specs.pairing.Traffic.{Origin, broken_at, broken_notes}
+use Rattle.smq_present.specs.within.Pairs.{from_session}
 use Rattle.smq_scratch.specs.within.Sides.{noted, noted_in}
 use Rattle.smq_scratch.proofs.SideLemmas.{broken-are, noted-side, noted_both, notes-are}
 use Rattle.smq_scratch.proofs.notes.push_notes.Goals as goal

@@ -1,7 +1,7 @@
 -- The notes so far, and those of the PDUs that are left, are what was there and those of all.
 use Rattle.std.proofs.Common.{◌≡◌, ◌++◌, drop}
 use Rattle.std.specs.List.{flat_map}
-use Rattle.smq_book.specs.within.Pairs.{from_session}
+use Rattle.smq_present.specs.within.Pairs.{from_session}
 use Rattle.smq_scratch.specs.within.Sides.{note_of, noted, pairing_in}
 use Rattle.smq_scratch.proofs.notes.push_side.Given as goal
 

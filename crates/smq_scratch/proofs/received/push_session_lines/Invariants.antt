@@ -1,5 +1,5 @@
 use Rattle.std.proofs.Common.{◌≡◌, ◌++◌, drop, map}
-use Rattle.smq_book.specs.within.Receipts.{receipts_among}
+use Rattle.smq_present.specs.within.Receipts.{receipts_among}
 use Rattle.smq_scratch.specs.within.Matches.{line_kept}
 use Rattle.smq_scratch.proofs.received.push_session_lines.Given as goal
 

@@ -1,9 +1,9 @@
 use Rattle.std.proofs.Common.{◌≡◌, ◌++◌, List, subst, ◌∙◌}
-use Rattle.smq_book.specs.present.Present.{PresentValue}
-use Rattle.smq_book.specs.within.Accepted.{HasDeciders}
-use Rattle.smq_book.specs.within.Lists.{receipts_of, submits_of}
-use Rattle.smq_book.specs.within.Messages.{SubmittedMessage}
-use Rattle.smq_book.specs.within.Receipts.{KeyedReceipt}
+use Rattle.smq_present.specs.present.Present.{PresentValue}
+use Rattle.smq_present.specs.within.Accepted.{HasDeciders}
+use Rattle.smq_present.specs.within.Lists.{receipts_of, submits_of}
+use Rattle.smq_present.specs.within.Messages.{SubmittedMessage}
+use Rattle.smq_present.specs.within.Receipts.{KeyedReceipt}
 use Rattle.smq_scratch.specs.within.Matches.{HasMatches, lines_kept}
 use Rattle.smq_scratch.proofs.Collected.{receipts-present, submits-present}
 use Rattle.smq_scratch.proofs.Matched.{lines-kept}

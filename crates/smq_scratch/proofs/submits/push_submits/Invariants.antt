@@ -1,8 +1,8 @@
 -- The messages so far, and those of the PDUs that are left, are what was there and those of all.
 use Rattle.std.proofs.Common.{◌≡◌, ◌++◌, drop}
 use Rattle.std.specs.List.{enumerate_from, flat_map}
-use Rattle.smq_book.specs.present.Kept.{submit_in}
-use Rattle.smq_book.specs.within.Messages.{submit_by, submits_among}
+use Rattle.smq_present.specs.present.Kept.{submit_in}
+use Rattle.smq_present.specs.within.Messages.{submit_by, submits_among}
 use Rattle.smq_scratch.proofs.submits.push_submits.Given as goal
 
 abbrev pub invariant-loop-index : goal.invariant-loop-index

@@ -1,5 +1,5 @@
 use Rattle.std.proofs.Common.{[], ◌∷◌, ◌∙◌}
-use Rattle.smq_book.specs.within.Messages.{message_of}
+use Rattle.smq_present.specs.within.Messages.{message_of}
 use Rattle.smq_scratch.proofs.PushedMessages.{submit-is}
 use Rattle.smq_scratch.proofs.submits.submit_at.Goals as goal
 

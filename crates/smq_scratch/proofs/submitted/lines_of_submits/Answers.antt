@@ -2,8 +2,8 @@ use Rattle.std.proofs.Common.{◌≡◌, ◌+◌, ◌++◌, [], ◌∷◌, List,
 use Rattle.std.specs.List.{flat_map}
 use Rattle.std.proofs.lemmas.List.{append_assoc, drop_more}
 use Rattle.smq_lines.specs.Lines.{MessageLineValue}
-use Rattle.smq_book.specs.present.Settings.{SettingsValue}
-use Rattle.smq_book.specs.within.Messages.{SubmittedMessage}
+use Rattle.smq_present.specs.present.Settings.{SettingsValue}
+use Rattle.smq_present.specs.within.Messages.{SubmittedMessage}
 use Rattle.smq_scratch.specs.Lines.{message_line}
 use Rattle.smq_scratch.specs.Sourced.{receipts_in}
 use Rattle.smq_scratch.proofs.Collected.{all-mapped, receipts-present}

@@ -1,10 +1,10 @@
 use Rattle.std.proofs.Common.{◌++◌, List, ap, sym, ◌∙◌, subst}
-use Rattle.smq_book.specs.declared.present.kept.KeptPdu.{KeptPdu}
-use Rattle.smq_book.specs.pairing.Traffic.{session_notes}
-use Rattle.smq_book.specs.within.Messages.{submits_among}
-use Rattle.smq_book.specs.within.Pairs.{Rises, SubmitsAreRequests}
-use Rattle.smq_book.proofs.lemmas.pairing.PlacesRise.{kept-rise}
-use Rattle.smq_book.proofs.lemmas.pairing.Requests.{kept-ask}
+use Rattle.smq_present.specs.declared.present.kept.KeptPdu.{KeptPdu}
+use Rattle.smq_present.specs.pairing.Traffic.{session_notes}
+use Rattle.smq_present.specs.within.Messages.{submits_among}
+use Rattle.smq_present.specs.within.Pairs.{Rises, SubmitsAreRequests}
+use Rattle.smq_present.proofs.lemmas.pairing.PlacesRise.{kept-rise}
+use Rattle.smq_present.proofs.lemmas.pairing.Requests.{kept-ask}
 use Rattle.smq_scratch.specs.Sourced.{submits_in, notes_in}
 use Rattle.smq_scratch.proofs.traffic.read_session.Goals as goal
 

@@ -1,9 +1,9 @@
 use Rattle.std.proofs.Common.{◌≡◌, ℕ, ◌++◌, List, ◌∷◌, [], map, ap, sym, ◌∙◌, rules}
 use Rattle.std.proofs.lemmas.List.{append_assoc}
-use Rattle.smq_book.specs.declared.present.session.Session.{Session}
-use Rattle.smq_book.specs.declared.pairing.pairs.Source.{Source}
-use Rattle.smq_book.specs.present.Settings.{SettingsValue}
-use Rattle.smq_book.specs.within.Lists.{source_of}
+use Rattle.smq_present.specs.declared.present.session.Session.{Session}
+use Rattle.smq_present.specs.declared.pairing.pairs.Source.{Source}
+use Rattle.smq_present.specs.present.Settings.{SettingsValue}
+use Rattle.smq_present.specs.within.Lists.{source_of}
 use Rattle.smq_scratch.specs.Sourced.{SourcedSession, sourced_by}
 use Rattle.smq_scratch.proofs.traffic.sourced.Goals as goal
 

@@ -4,19 +4,19 @@ use Rattle.std.specs.FinMap.{get}
 use Rattle.smq_kit.specs.LinkKeys.{same_key}
 use Rattle.smq_kit.specs.declared.link_key.LinkKey.{LinkKey}
 use Rattle.smq_kit.specs.declared.names.SessionId.{SessionId}
-use Rattle.smq_book.specs.declared.present.edit.Edit.TheVariants.{Append}
+use Rattle.smq_present.specs.declared.present.edit.Edit.TheVariants.{Append}
 use Rattle.smq_book.specs.edits.Reach.{reach}
 use Rattle.smq_book.specs.index.Held.{Holding, held_now}
 use Rattle.smq_book.specs.index.Kept.{IsKept}
 use Rattle.smq_book.specs.index.Pairs.{pairs_now, pairs_pending, pairs_settled}
 use Rattle.smq_book.specs.index.Touches.{HasNoneVacant, pairs_cost}
-use Rattle.smq_book.specs.join.Keyed.{grouping_of}
-use Rattle.smq_book.specs.present.Present.{PresentValue}
-use Rattle.smq_book.specs.present.Replies.{reply}
-use Rattle.smq_book.specs.present.Steps.{change, session_after}
-use Rattle.smq_book.specs.within.InOrder.{sessions_in}
-use Rattle.smq_book.proofs.lemmas.present.Appended.{present_becomes}
-use Rattle.smq_book.proofs.lemmas.present.RefusedBatches.{in-step}
+use Rattle.smq_present.specs.join.Keyed.{grouping_of}
+use Rattle.smq_present.specs.present.Present.{PresentValue}
+use Rattle.smq_present.specs.present.Replies.{reply}
+use Rattle.smq_present.specs.present.Steps.{change, session_after}
+use Rattle.smq_present.specs.within.InOrder.{sessions_in}
+use Rattle.smq_present.proofs.lemmas.present.Appended.{present_becomes}
+use Rattle.smq_present.proofs.lemmas.present.RefusedBatches.{in-step}
 use Rattle.smq_book.proofs.lemmas.index.Bounds.{append-bound, no-refusal}
 use Rattle.smq_book.proofs.lemmas.index.KeptPairs.{as-was, kept-settled, none-pending, pairs-put, unmade}
 use Rattle.smq_book.proofs.lemmas.index.Routed.{made}

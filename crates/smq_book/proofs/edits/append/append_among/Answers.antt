@@ -9,14 +9,14 @@ use Rattle.smq_kit.specs.declared.names.LinkId.{LinkId}
 use Rattle.smq_kit.specs.declared.names.SessionId.{SessionId}
 use Rattle.smq_book.specs.index.Held.{held_now}
 use Rattle.smq_book.specs.index.Pushed.{IsSaidBy, origin_at}
-use Rattle.smq_book.specs.present.Kept.{kept_pdus}
-use Rattle.smq_book.specs.present.Replies.{append_refusals}
-use Rattle.smq_book.specs.within.InOrder.{sessions_in}
+use Rattle.smq_present.specs.present.Kept.{kept_pdus}
+use Rattle.smq_present.specs.present.Replies.{append_refusals}
+use Rattle.smq_present.specs.within.InOrder.{sessions_in}
 use Rattle.smq_book.proofs.lemmas.index.Appending.{first-pairs, first-said, found-before, last-pairs, last-traffic, new-before}
 use Rattle.smq_book.proofs.lemmas.index.Bounds.{no-refusal}
-use Rattle.smq_book.proofs.lemmas.present.BatchReplies.{on-made}
-use Rattle.smq_book.proofs.lemmas.present.RefusedBatches.{in-step}
-use Rattle.smq_book.proofs.lemmas.present.Appended.{absent-put, absent-refused, at_known, found-at}
+use Rattle.smq_present.proofs.lemmas.present.BatchReplies.{on-made}
+use Rattle.smq_present.proofs.lemmas.present.RefusedBatches.{in-step}
+use Rattle.smq_present.proofs.lemmas.present.Appended.{absent-put, absent-refused, at_known, found-at}
 use Rattle.smq_book.proofs.edits.append.append_among.Goals as goal
 
 pub append_next-requires-clause-said : goal.append_next-requires-clause-said

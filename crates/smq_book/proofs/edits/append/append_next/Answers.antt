@@ -8,10 +8,10 @@ use Rattle.smq_kit.specs.declared.names.SessionId.{SessionId}
 use Rattle.smq_pair.specs.Pairing.{PairingValue}
 use Rattle.smq_book.specs.index.Pairs.{pairs_pending, pdus_of, pending_of, stored_of}
 use Rattle.smq_book.specs.index.Touches.{pdu_load}
-use Rattle.smq_book.specs.present.Batch.{batch_pdus}
-use Rattle.smq_book.specs.within.Pairs.{from_session}
+use Rattle.smq_present.specs.present.Batch.{batch_pdus}
+use Rattle.smq_present.specs.within.Pairs.{from_session}
 use Rattle.smq_book.proofs.lemmas.index.Pairs.{own}
-use Rattle.smq_book.proofs.lemmas.present.RefusedBatches.{in-step}
+use Rattle.smq_present.proofs.lemmas.present.RefusedBatches.{in-step}
 use Rattle.smq_book.proofs.edits.append.append_next.Goals as goal
 
 pub put-requires : goal.put-requires

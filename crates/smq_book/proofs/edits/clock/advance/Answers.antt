@@ -3,7 +3,7 @@ use Rattle.smq_kit.specs.declared.refusal.Refusal.{Refusal}
 use Rattle.smq_kit.specs.Replies.{IsReply, IsReplyInPlace}
 use Rattle.smq_book.specs.index.Ends.{places_ending}
 use Rattle.smq_book.specs.index.Held.{ends_in}
-use Rattle.smq_book.specs.present.Replies.{clock_back}
+use Rattle.smq_present.specs.present.Replies.{clock_back}
 use Rattle.smq_book.proofs.lemmas.index.Bounds.{advance-bound}
 use Rattle.smq_book.proofs.edits.clock.advance.Goals as goal
 

@@ -4,24 +4,24 @@ use Rattle.std.specs.List.{AllByRecursion, sum_by}
 use Rattle.std.specs.Prelude.{map}
 use Rattle.smq_kit.specs.declared.place.Place.{Place}
 use Rattle.smq_book.specs.declared.index.stored.Said.{Said}
-use Rattle.smq_book.specs.declared.present.edit.Edit.TheVariants.{SetForm}
+use Rattle.smq_present.specs.declared.present.edit.Edit.TheVariants.{SetForm}
 use Rattle.smq_book.specs.edits.Reach.{groups}
 use Rattle.smq_book.specs.index.Coming.{AreNew}
 use Rattle.smq_book.specs.index.Held.{Holding, IsHeld, KeepsTraffic, held_now, traffic_held}
 use Rattle.smq_book.specs.index.LinkOut.{keyed_on, keyed_places, put_of}
 use Rattle.smq_book.specs.index.Touches.{index_cost, put_load, taken_load}
-use Rattle.smq_book.specs.join.Keyed.{grouping_of}
-use Rattle.smq_book.specs.join.Moves.{moved_by}
-use Rattle.smq_book.specs.pairing.Traffic.{TrafficValue}
-use Rattle.smq_book.specs.present.Present.{PresentValue}
-use Rattle.smq_book.specs.present.Settings.{SettingsValue, set_forms_of}
-use Rattle.smq_book.specs.present.Steps.{change, with_forms}
-use Rattle.smq_book.specs.within.InOrder.{sessions_in}
+use Rattle.smq_present.specs.join.Keyed.{grouping_of}
+use Rattle.smq_present.specs.join.Moves.{moved_by}
+use Rattle.smq_present.specs.pairing.Traffic.{TrafficValue}
+use Rattle.smq_present.specs.present.Present.{PresentValue}
+use Rattle.smq_present.specs.present.Settings.{SettingsValue, set_forms_of}
+use Rattle.smq_present.specs.present.Steps.{change, with_forms}
+use Rattle.smq_present.specs.within.InOrder.{sessions_in}
 use Rattle.smq_book.proofs.lemmas.index.FormBounds.{forms-bound}
 use Rattle.smq_book.proofs.lemmas.index.FormsSet.{forms-back, forms-there, held-set}
 use Rattle.smq_book.proofs.lemmas.index.KeptPairs.{settled-again, undone}
 use Rattle.smq_book.proofs.lemmas.index.LinkOut.{in-again, keyed-new, keyed-stand}
-use Rattle.smq_book.proofs.lemmas.present.NumberMaps.{insert-same}
+use Rattle.smq_present.proofs.lemmas.present.NumberMaps.{insert-same}
 use Rattle.smq_book.proofs.edits.forms.set_forms.Goals as goal
 
 pub take_link-requires : goal.take_link-requires

@@ -7,10 +7,10 @@ use Rattle.smq_book.specs.index.Kept.{IsIndexed}
 use Rattle.smq_book.specs.edits.Reached.{messages_under}
 use Rattle.smq_book.specs.index.Refreshed.{LeaveOthers}
 use Rattle.smq_book.specs.index.Touches.{index_cost}
-use Rattle.smq_book.specs.pairing.Traffic.{traffic_of}
-use Rattle.smq_book.specs.present.Present.{PresentValue}
-use Rattle.smq_book.specs.present.Settings.{SettingsValue}
-use Rattle.smq_book.specs.within.InOrder.{forms_in, sessions_in}
+use Rattle.smq_present.specs.pairing.Traffic.{traffic_of}
+use Rattle.smq_present.specs.present.Present.{PresentValue}
+use Rattle.smq_present.specs.present.Settings.{SettingsValue}
+use Rattle.smq_present.specs.within.InOrder.{forms_in, sessions_in}
 use Rattle.smq_book.proofs.lemmas.index.Routed.{made, others-added}
 use Rattle.smq_book.proofs.edits.routes.add_route.Goals as goal
 

@@ -3,10 +3,10 @@ use Rattle.smq_kit.specs.Replies.{first_of}
 use Rattle.smq_route.specs.Edits.{end_refusals, ending}
 use Rattle.smq_route.specs.Versions.{version_of}
 use Rattle.smq_book.specs.index.Kept.{IsIndexed}
-use Rattle.smq_book.specs.pairing.Traffic.{traffic_of}
-use Rattle.smq_book.specs.present.Present.{PresentValue}
-use Rattle.smq_book.specs.present.Settings.{SettingsValue}
-use Rattle.smq_book.specs.within.InOrder.{forms_in, sessions_in}
+use Rattle.smq_present.specs.pairing.Traffic.{traffic_of}
+use Rattle.smq_present.specs.present.Present.{PresentValue}
+use Rattle.smq_present.specs.present.Settings.{SettingsValue}
+use Rattle.smq_present.specs.within.InOrder.{forms_in, sessions_in}
 use Rattle.smq_book.proofs.lemmas.index.Routed.{made, others-changed}
 use Rattle.smq_book.proofs.edits.routes.end_route.Goals as goal
 

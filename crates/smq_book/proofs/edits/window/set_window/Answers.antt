@@ -5,13 +5,13 @@ use Rattle.std.specs.Ordering.{nat_cmp}
 use Rattle.smq_kit.specs.declared.names.LinkId.{LinkId}
 use Rattle.smq_kit.specs.Maps.{set_at}
 use Rattle.smq_book.specs.index.Held.{IsHeld, held_now, traffic_held}
-use Rattle.smq_book.specs.present.Present.{PresentValue}
-use Rattle.smq_book.specs.present.Settings.{SettingsValue, window_in}
-use Rattle.smq_book.specs.within.InOrder.{forms_in, sessions_in}
+use Rattle.smq_present.specs.present.Present.{PresentValue}
+use Rattle.smq_present.specs.present.Settings.{SettingsValue, window_in}
+use Rattle.smq_present.specs.within.InOrder.{forms_in, sessions_in}
 use Rattle.smq_book.proofs.lemmas.edits.WindowEdits.{inserted-others, window-outside}
 use Rattle.smq_book.proofs.lemmas.index.Bounds.{window-bound}
 use Rattle.smq_book.proofs.lemmas.index.KeptPairs.{settled-again, undone}
-use Rattle.smq_book.proofs.lemmas.present.NumberMaps.{set-back, set-there}
+use Rattle.smq_present.proofs.lemmas.present.NumberMaps.{set-back, set-there}
 use Rattle.smq_book.proofs.edits.window.set_window.Goals as goal
 
 pub restore-requires : goal.restore-requires

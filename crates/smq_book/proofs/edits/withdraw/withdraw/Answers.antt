@@ -2,14 +2,14 @@ use Rattle.std.proofs.Common.{◌≡◌, Option, refl, sym, ap, subst, ◌∙◌
 use Rattle.std.specs.Prelude.{option_map, unwrap_or}
 use Rattle.std.specs.FinMap.{get}
 use Rattle.smq_pair.specs.Paired.{no_pdus}
-use Rattle.smq_book.specs.declared.present.session.Session.{Session}
-use Rattle.smq_book.specs.declared.present.edit.Edit.TheVariants.{Withdraw}
+use Rattle.smq_present.specs.declared.present.session.Session.{Session}
+use Rattle.smq_present.specs.declared.present.edit.Edit.TheVariants.{Withdraw}
 use Rattle.smq_book.specs.index.Held.{held_now}
 use Rattle.smq_book.specs.index.Kept.{IsKept}
 use Rattle.smq_book.specs.index.Pairs.{pairs_now, pairs_pending, pairs_settled}
-use Rattle.smq_book.specs.pairing.Traffic.{session_pairing}
-use Rattle.smq_book.specs.present.Present.{PresentValue}
-use Rattle.smq_book.specs.present.Steps.{change}
+use Rattle.smq_present.specs.pairing.Traffic.{session_pairing}
+use Rattle.smq_present.specs.present.Present.{PresentValue}
+use Rattle.smq_present.specs.present.Steps.{change}
 use Rattle.smq_book.proofs.lemmas.index.Bounds.{withdraw-bound}
 use Rattle.smq_book.proofs.lemmas.index.KeptPairs.{absent-reply, kept-settled, made-there, none-pending, not-refused, pairs-removed, wanting-reply}
 use Rattle.smq_book.proofs.edits.withdraw.withdraw.Goals as goal

@@ -1,12 +1,12 @@
 use Rattle.std.proofs.Common.{◌≡◌, List, ◌++◌, sym, subst, ◌∙◌, arith}
 use Rattle.std.specs.List.{sum_by}
-use Rattle.smq_book.specs.declared.present.kept.KeptPdu.{KeptPdu}
-use Rattle.smq_book.specs.present.Batch.{batch_pdus}
-use Rattle.smq_book.specs.present.Kept.{kept_pdus}
-use Rattle.smq_book.specs.present.Present.{direction}
+use Rattle.smq_present.specs.declared.present.kept.KeptPdu.{KeptPdu}
+use Rattle.smq_present.specs.present.Batch.{batch_pdus}
+use Rattle.smq_present.specs.present.Kept.{kept_pdus}
+use Rattle.smq_present.specs.present.Present.{direction}
 use Rattle.smq_book.specs.index.Pushed.{origin_at, pairing_with}
 use Rattle.smq_book.specs.index.Touches.{pdu_load}
-use Rattle.smq_book.specs.within.Pairs.{Rises, SubmitsAreRequests, from_session}
+use Rattle.smq_present.specs.within.Pairs.{Rises, SubmitsAreRequests, from_session}
 use Rattle.smq_book.proofs.lemmas.index.Appending.{batch-asks, batch-pairs, batch-rises}
 use Rattle.smq_book.proofs.index.append.append_to.Goals as goal
 

@@ -6,15 +6,15 @@ use Rattle.smq_kit.specs.declared.place.Place.{Place}
 use Rattle.smq_pair.specs.Growth.{IsNext, made_by, pushed}
 use Rattle.smq_pair.specs.Pairing.{PairingValue, pair_at}
 use Rattle.smq_pair.specs.declared.pairing.Pair.{Pair}
-use Rattle.smq_book.specs.declared.present.kept.KeptPdu.{KeptPdu}
-use Rattle.smq_book.specs.present.Kept.{kept_pdus}
+use Rattle.smq_present.specs.declared.present.kept.KeptPdu.{KeptPdu}
+use Rattle.smq_present.specs.present.Kept.{kept_pdus}
 use Rattle.smq_book.specs.index.Held.{held_now, traffic_held}
 use Rattle.smq_book.specs.index.Touches.{pdu_load}
 use Rattle.smq_book.specs.index.Pushed.{IsHeldAfter, IsUnsaid, centre_with, client_with, moves_by, origin_at, pdu_moves}
-use Rattle.smq_book.specs.pairing.Traffic.{place_of, placed}
-use Rattle.smq_book.specs.within.Pairs.{Rises, from_session}
-use Rattle.smq_book.proofs.lemmas.pairing.PlacesRise.{kept-rise}
-use Rattle.smq_book.proofs.lemmas.pairing.PairsStay.{pair-stays}
+use Rattle.smq_present.specs.pairing.Traffic.{place_of, placed}
+use Rattle.smq_present.specs.within.Pairs.{Rises, from_session}
+use Rattle.smq_present.proofs.lemmas.pairing.PlacesRise.{kept-rise}
+use Rattle.smq_present.proofs.lemmas.pairing.PairsStay.{pair-stays}
 use Rattle.smq_book.proofs.lemmas.index.Comes.{both-come, pdu-heavier, still-none}
 use Rattle.smq_book.proofs.lemmas.index.Pushed.{after-same}
 use Rattle.smq_book.proofs.lemmas.index.Rises.{both-rise}

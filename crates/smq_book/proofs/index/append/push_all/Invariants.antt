@@ -4,8 +4,8 @@ use Rattle.std.specs.List.{sum_by}
 use Rattle.smq_book.specs.index.Held.{held_now, held_settled, traffic_held}
 use Rattle.smq_book.specs.index.Touches.{HasNoneVacant, MembersCome, RisesWithFacts, index_cost, pairing_cost, pdu_load}
 use Rattle.smq_book.specs.index.Pushed.{IsHeldAfter, IsSaidBy, centre_with, client_with, origin_at, pairing_with, pushed_moves}
-use Rattle.smq_book.specs.present.Kept.{kept_pdus}
-use Rattle.smq_book.specs.within.Pairs.{from_session}
+use Rattle.smq_present.specs.present.Kept.{kept_pdus}
+use Rattle.smq_present.specs.within.Pairs.{from_session}
 use Rattle.smq_book.proofs.index.append.push_all.Given as goal
 
 abbrev pub invariant-loop-pdu : goal.invariant-loop-pdu

@@ -1,8 +1,8 @@
 use Rattle.std.proofs.Common.{length, ap, refl, sym, ◌∙◌, arith}
 use Rattle.std.specs.Prelude.{is_ok}
 use Rattle.std.proofs.lemmas.Bool.{false≢true}
-use Rattle.smq_book.specs.present.Settings.{with_clock}
-use Rattle.smq_book.specs.join.Facts.{facts_of}
+use Rattle.smq_present.specs.present.Settings.{with_clock}
+use Rattle.smq_present.specs.join.Facts.{facts_of}
 use Rattle.smq_book.specs.index.Ends.{places_ending}
 use Rattle.smq_book.specs.index.Held.{Holding, ends_in, held_now, traffic_held}
 use Rattle.smq_book.proofs.lemmas.index.Anew.{none-ending}

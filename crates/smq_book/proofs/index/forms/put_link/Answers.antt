@@ -12,8 +12,8 @@ use Rattle.smq_book.specs.index.Coming.{AreNew}
 use Rattle.smq_book.specs.index.Held.{KeepsTraffic, held_now, traffic_held}
 use Rattle.smq_book.specs.index.LinkOut.{put_of}
 use Rattle.smq_book.specs.index.Touches.{put_load, said_key}
-use Rattle.smq_book.specs.join.Moves.{moved_by}
-use Rattle.smq_book.specs.pairing.Traffic.{TrafficValue}
+use Rattle.smq_present.specs.join.Moves.{moved_by}
+use Rattle.smq_present.specs.pairing.Traffic.{TrafficValue}
 use Rattle.smq_book.proofs.lemmas.index.Comes.{both-come}
 use Rattle.smq_book.proofs.lemmas.index.FormCosts.{walks-more}
 use Rattle.smq_book.proofs.lemmas.index.LinkOut.{moves-more}

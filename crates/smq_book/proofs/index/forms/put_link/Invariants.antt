@@ -10,7 +10,7 @@ use Rattle.smq_book.specs.index.Coming.{AreNew}
 use Rattle.smq_book.specs.index.Held.{IsHeld, KeepsTraffic, held_now, held_settled, traffic_held}
 use Rattle.smq_book.specs.index.LinkOut.{put_of}
 use Rattle.smq_book.specs.index.Touches.{MembersCome, RisesWithFacts, index_cost, put_load}
-use Rattle.smq_book.specs.join.Moves.{moved_by}
+use Rattle.smq_present.specs.join.Moves.{moved_by}
 use Rattle.smq_book.proofs.index.forms.put_link.Given as goal
 
 abbrev pub invariant-loop-place : goal.invariant-loop-place

@@ -5,7 +5,7 @@ use Rattle.smq_kit.specs.declared.place.Dir.{Dir}
 use Rattle.smq_book.specs.declared.index.stored.Said.TheVariants as said
 use Rattle.smq_book.specs.index.Held.{held_now, traffic_held}
 use Rattle.smq_book.specs.index.LinkOut.{said_in}
-use Rattle.smq_book.specs.pairing.Traffic.{Message, ReceivedReceipt}
+use Rattle.smq_present.specs.pairing.Traffic.{Message, ReceivedReceipt}
 use Rattle.smq_book.proofs.lemmas.index.Stored.{stored-at}
 use Rattle.smq_book.proofs.index.forms.said_at.Goals as goal
 

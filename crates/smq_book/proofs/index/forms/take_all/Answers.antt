@@ -9,8 +9,8 @@ use Rattle.smq_book.specs.declared.index.stored.Said.{Said}
 use Rattle.smq_book.specs.index.Held.{held_now, traffic_held}
 use Rattle.smq_book.specs.index.LinkOut.{found_at, found_in_turn, take_at}
 use Rattle.smq_book.specs.index.Touches.{taken_load}
-use Rattle.smq_book.specs.join.Moves.{moved_by}
-use Rattle.smq_book.specs.pairing.Traffic.{TrafficValue}
+use Rattle.smq_present.specs.join.Moves.{moved_by}
+use Rattle.smq_present.specs.pairing.Traffic.{TrafficValue}
 use Rattle.smq_book.proofs.lemmas.index.LinkOut.{moves-more}
 use Rattle.smq_book.proofs.lemmas.index.Weights.{both-go, load-lighter}
 use Rattle.smq_book.proofs.lemmas.index.Rises.{both-rise}

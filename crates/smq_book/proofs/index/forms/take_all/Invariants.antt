@@ -5,7 +5,7 @@ use Rattle.std.specs.Prelude.{map}
 use Rattle.smq_book.specs.index.Held.{IsHeld, held_now, held_settled, traffic_held}
 use Rattle.smq_book.specs.index.LinkOut.{found_in_turn, take_at}
 use Rattle.smq_book.specs.index.Touches.{MembersGo, RisesWithFacts, index_cost, taken_load}
-use Rattle.smq_book.specs.join.Moves.{moved_by}
+use Rattle.smq_present.specs.join.Moves.{moved_by}
 use Rattle.smq_book.proofs.index.forms.take_all.Given as goal
 
 abbrev pub invariant-loop-place : goal.invariant-loop-place

@@ -4,10 +4,10 @@ use Rattle.smq_kit.specs.Orders.{place_cmp}
 use Rattle.std.specs.FinMap.{FinMap}
 use Rattle.smq_book.specs.index.Held.{decider_held}
 use Rattle.smq_book.specs.index.Stored.{is_told_shared}
-use Rattle.smq_book.specs.join.Circumstances.{circumstances_by, has_ended, standing_in}
-use Rattle.smq_book.specs.join.Facts.{fact_by}
-use Rattle.smq_book.specs.pairing.Traffic.{Message, ReceivedReceipt}
-use Rattle.smq_book.specs.present.Settings.{window_in}
+use Rattle.smq_present.specs.join.Circumstances.{circumstances_by, has_ended, standing_in}
+use Rattle.smq_present.specs.join.Facts.{fact_by}
+use Rattle.smq_present.specs.pairing.Traffic.{Message, ReceivedReceipt}
+use Rattle.smq_present.specs.present.Settings.{window_in}
 use Rattle.smq_book.proofs.lemmas.index.Stored.{fact-is, shared-there}
 use Rattle.smq_book.proofs.index.index.fact_at.Goals as goal
 

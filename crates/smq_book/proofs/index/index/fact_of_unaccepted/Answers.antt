@@ -1,9 +1,9 @@
 use Rattle.std.proofs.Common.{None, false, refl, sym, ap, ◌∙◌}
 use Rattle.smq_tally.specs.declared.fact.Fact.{Fact}
 use Rattle.smq_book.specs.edits.Reached.{is_due}
-use Rattle.smq_book.specs.join.Circumstances.{circumstances_by, route_in}
-use Rattle.smq_book.specs.join.Facts.{fact_by}
-use Rattle.smq_book.specs.join.Keyed.{accepted_key}
+use Rattle.smq_present.specs.join.Circumstances.{circumstances_by, route_in}
+use Rattle.smq_present.specs.join.Facts.{fact_by}
+use Rattle.smq_present.specs.join.Keyed.{accepted_key}
 use Rattle.smq_book.proofs.lemmas.index.Unaccepted.{refused-fact, refused-undue}
 use Rattle.smq_book.proofs.index.index.fact_of_unaccepted.Goals as goal
 

@@ -1,6 +1,6 @@
 use Rattle.smq_tally.specs.Lists.{listed}
 use Rattle.smq_book.specs.index.Held.{held_now, traffic_held}
-use Rattle.smq_book.specs.join.Moves.{TakeNote}
+use Rattle.smq_present.specs.join.Moves.{TakeNote}
 use Rattle.smq_book.proofs.lemmas.index.Pushed.{after-one}
 use Rattle.smq_book.proofs.index.notes.forget_place.Goals as goal
 

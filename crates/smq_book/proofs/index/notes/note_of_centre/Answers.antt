@@ -4,7 +4,7 @@ use Rattle.smq_pair.specs.Pairing.{placed_header}
 use Rattle.smq_book.specs.edits.AppendedNotes.{met_moves, undecodable_moves, unreadable_moves}
 use Rattle.smq_book.specs.index.Held.{held_now}
 use Rattle.smq_book.specs.index.Pushed.{noted_moves}
-use Rattle.smq_book.specs.within.Pairs.{from_session}
+use Rattle.smq_present.specs.within.Pairs.{from_session}
 use Rattle.smq_book.proofs.lemmas.index.Pushed.{after-both, after-same, noted-centre}
 use Rattle.smq_book.proofs.index.notes.note_of_centre.Goals as goal
 

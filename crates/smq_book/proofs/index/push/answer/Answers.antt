@@ -4,8 +4,8 @@ use Rattle.std.specs.Option.{option_copied}
 use Rattle.smq_group.specs.Matching.{Grouping}
 use Rattle.smq_book.specs.index.Held.{Holding, held_now, traffic_held}
 use Rattle.smq_book.specs.index.Pushed.{answer_moves, with_response, without_response}
-use Rattle.smq_book.specs.join.Moves.{PutMessage, TakeMessage}
-use Rattle.smq_book.specs.pairing.Traffic.{Message}
+use Rattle.smq_present.specs.join.Moves.{PutMessage, TakeMessage}
+use Rattle.smq_present.specs.pairing.Traffic.{Message}
 use Rattle.smq_book.proofs.lemmas.index.Comes.{message-comes, message-weighed, none-come}
 use Rattle.smq_book.proofs.lemmas.index.Followed.{are-held}
 use Rattle.smq_book.proofs.lemmas.index.Members.{submit-there}

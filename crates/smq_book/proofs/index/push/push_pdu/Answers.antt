@@ -10,8 +10,8 @@ use Rattle.smq_group.specs.Groups.{GroupsValue}
 use Rattle.smq_book.specs.index.Held.{held_now, traffic_held}
 use Rattle.smq_book.specs.index.Touches.{HasNoneVacant, MembersCome, answered_key, members_at, pdu_load}
 use Rattle.smq_book.specs.index.Pushed.{IsUnsaid}
-use Rattle.smq_book.specs.pairing.Traffic.{Message, ReceivedReceipt, TrafficValue, place_of, placed}
-use Rattle.smq_book.specs.within.Pairs.{from_session}
+use Rattle.smq_present.specs.pairing.Traffic.{Message, ReceivedReceipt, TrafficValue, place_of, placed}
+use Rattle.smq_present.specs.within.Pairs.{from_session}
 use Rattle.smq_book.proofs.lemmas.index.Comes.{answered-heavier, both-come, still-none}
 use Rattle.smq_book.proofs.lemmas.index.Pushed.{messages-noted, receipts-answered, receipts-noted}
 use Rattle.smq_book.proofs.index.push.push_pdu.Goals as goal

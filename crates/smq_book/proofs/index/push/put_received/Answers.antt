@@ -8,8 +8,8 @@ use Rattle.smq_group.specs.Matching.{Grouping}
 use Rattle.smq_book.specs.index.Held.{Holding, held_now, traffic_held}
 use Rattle.smq_book.specs.index.Pushed.{origin_at, receipt_moves}
 use Rattle.smq_book.specs.index.Touches.{members_at, receipt_key_at}
-use Rattle.smq_book.specs.join.Moves.{PutReceipt}
-use Rattle.smq_book.specs.pairing.Traffic.{ReceivedReceipt, received}
+use Rattle.smq_present.specs.join.Moves.{PutReceipt}
+use Rattle.smq_present.specs.pairing.Traffic.{ReceivedReceipt, received}
 use Rattle.smq_book.proofs.lemmas.index.Comes.{none-come, received-comes, received-weighed}
 use Rattle.smq_book.proofs.lemmas.index.Members.{receipt-absent}
 use Rattle.smq_book.proofs.lemmas.index.Pushed.{after-one, after-same, receipt-one}

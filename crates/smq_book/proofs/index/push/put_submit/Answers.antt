@@ -8,7 +8,7 @@ use Rattle.smq_group.specs.Matching.{Grouping}
 use Rattle.smq_book.specs.index.Held.{Holding, held_now, traffic_held}
 use Rattle.smq_book.specs.index.Pushed.{origin_at, submit_moves}
 use Rattle.smq_book.specs.index.Touches.{members_at}
-use Rattle.smq_book.specs.join.Moves.{PutMessage}
+use Rattle.smq_present.specs.join.Moves.{PutMessage}
 use Rattle.smq_book.proofs.lemmas.index.Comes.{message-comes, message-weighed, none-come}
 use Rattle.smq_book.proofs.lemmas.index.Followed.{unknown-before}
 use Rattle.smq_book.proofs.lemmas.index.Members.{submit-absent}

@@ -1,7 +1,7 @@
 use Rattle.std.proofs.Common.{ap, refl, ◌∙◌}
 use Rattle.smq_route.specs.Numbers.{NumbersValue}
-use Rattle.smq_book.specs.present.Settings.{with_versions}
-use Rattle.smq_book.specs.join.Facts.{facts_of}
+use Rattle.smq_present.specs.present.Settings.{with_versions}
+use Rattle.smq_present.specs.join.Facts.{facts_of}
 use Rattle.smq_book.specs.index.Held.{held_now, traffic_held}
 use Rattle.smq_book.proofs.lemmas.index.Restated.{restates}
 use Rattle.smq_book.proofs.lemmas.index.Refreshed.{routes-held, told-numbers}

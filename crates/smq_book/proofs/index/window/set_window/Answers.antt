@@ -1,8 +1,8 @@
 use Rattle.std.proofs.Common.{◌≡◌, length, map, ap, refl, sym, ◌∙◌, arith}
 use Rattle.std.proofs.lemmas.List.{length-map}
 use Rattle.smq_book.specs.declared.index.due_at.DueAt.{DueAt}
-use Rattle.smq_book.specs.present.Settings.{window_in, with_windows}
-use Rattle.smq_book.specs.join.Facts.{facts_of}
+use Rattle.smq_present.specs.present.Settings.{window_in, with_windows}
+use Rattle.smq_present.specs.join.Facts.{facts_of}
 use Rattle.smq_book.specs.index.Due.{keys_on}
 use Rattle.smq_book.specs.index.Ends.{ends_by, ends_put, ends_taken}
 use Rattle.smq_book.specs.index.Held.{dues_in, ends_in, held_now, held_settled, traffic_held}

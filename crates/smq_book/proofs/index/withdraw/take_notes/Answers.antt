@@ -4,7 +4,7 @@ use Rattle.smq_tally.specs.Lists.{listed}
 use Rattle.smq_tally.specs.declared.list.List.TheVariants.{Waiting}
 use Rattle.smq_tally.specs.declared.list.Listed.{Listed}
 use Rattle.smq_book.specs.index.Held.{held_now, traffic_held}
-use Rattle.smq_book.specs.join.Moves.{TakeNote}
+use Rattle.smq_present.specs.join.Moves.{TakeNote}
 use Rattle.smq_book.proofs.lemmas.index.Pushed.{after-none, after-one}
 use Rattle.smq_book.proofs.lemmas.index.Taken.{all-notes, next-note, traffic-at}
 use Rattle.smq_book.proofs.lemmas.index.Rises.{both-rise, none-rise}

@@ -1,6 +1,6 @@
 -- What is held is what the notes so far leave of it.
 use Rattle.std.proofs.Common.{◌≡◌, ◌≤◌, ◌+◌, take}
-use Rattle.smq_book.specs.present.Settings.{SettingsValue}
+use Rattle.smq_present.specs.present.Settings.{SettingsValue}
 use Rattle.smq_book.specs.index.Held.{IsHeld, held_now, held_settled}
 use Rattle.smq_book.specs.index.Pushed.{IsHeldAfter}
 use Rattle.smq_book.specs.index.Touches.{RisesWithFacts, index_cost}

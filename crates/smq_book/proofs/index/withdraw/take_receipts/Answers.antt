@@ -6,8 +6,8 @@ use Rattle.smq_kit.specs.declared.place.Dir.TheVariants.{FromCentre}
 use Rattle.smq_book.specs.index.Held.{held_now}
 use Rattle.smq_book.specs.index.Taken.{receipt_take}
 use Rattle.smq_book.specs.index.Touches.{receipt_load}
-use Rattle.smq_book.specs.pairing.Traffic.{place_of}
-use Rattle.smq_book.specs.within.Pairs.{from_session}
+use Rattle.smq_present.specs.pairing.Traffic.{place_of}
+use Rattle.smq_present.specs.within.Pairs.{from_session}
 use Rattle.smq_book.proofs.lemmas.index.Pushed.{after-none}
 use Rattle.smq_book.proofs.lemmas.index.Taken.{all-taken, next-taken}
 use Rattle.smq_book.proofs.lemmas.index.Weights.{both-go, receipt-lighter, none-go}

@@ -5,7 +5,7 @@ use Rattle.smq_book.specs.index.Held.{held_now, held_settled}
 use Rattle.smq_book.specs.index.Pushed.{IsHeldAfter}
 use Rattle.smq_book.specs.index.Taken.{receipt_takes}
 use Rattle.smq_book.specs.index.Touches.{MembersGo, RisesWithFacts, index_cost, receipt_load}
-use Rattle.smq_book.specs.within.Pairs.{from_session}
+use Rattle.smq_present.specs.within.Pairs.{from_session}
 use Rattle.smq_book.proofs.index.withdraw.take_receipts.Given as goal
 
 abbrev pub invariant-loop-pdu : goal.invariant-loop-pdu

@@ -1,17 +1,16 @@
 use Rattle.std.proofs.Common.{◌≡◌, [], ◌∷◌, Option, Some, None, refl, sym, ap, ◌∙◌, rules, arith}
 use Rattle.std.specs.Option.{option_copied}
 use Rattle.smq_receipt.specs.declared.reading.Receipt.{Receipt}
-use Rattle.smq_book.specs.index.Held.{held_now, traffic_held}
+use Rattle.smq_book.specs.index.Held.{held_now, traffic_held, Holding}
 use Rattle.smq_book.specs.index.Taken.{receipt_take}
-use Rattle.smq_book.specs.join.Moves.{TakeReceipt}
-use Rattle.smq_book.specs.within.Pairs.{from_session}
+use Rattle.smq_present.specs.join.Moves.{TakeReceipt}
+use Rattle.smq_present.specs.within.Pairs.{from_session}
 use Rattle.smq_book.proofs.lemmas.index.Followed.{are-held}
 use Rattle.smq_book.proofs.lemmas.index.Pushed.{after-none, after-one, after-same}
 use Rattle.smq_book.proofs.lemmas.index.Taken.{receipt-absent, receipt-taken}
 use Rattle.smq_kit.specs.declared.place.Place.{Place}
 use Rattle.smq_group.specs.Groups.{without_receipt}
 use Rattle.smq_group.specs.Matching.{Grouping}
-use Rattle.smq_book.specs.index.Held.{Holding}
 use Rattle.smq_book.specs.index.Touches.{taken_of, receipt_key_at}
 use Rattle.smq_book.proofs.lemmas.index.Members.{received-taken}
 use Rattle.smq_book.proofs.lemmas.index.Weights.{none-go, receipt-goes}

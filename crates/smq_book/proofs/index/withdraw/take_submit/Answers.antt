@@ -1,10 +1,10 @@
 use Rattle.std.proofs.Common.{◌≡◌, [], ◌∷◌, Option, Some, None, refl, sym, ap, ◌∙◌, rules, arith}
 use Rattle.std.specs.Option.{option_copied}
 use Rattle.smq_pdu.specs.declared.body.Submit.{Submit}
-use Rattle.smq_book.specs.index.Held.{held_now, traffic_held}
+use Rattle.smq_book.specs.index.Held.{held_now, traffic_held, Holding}
 use Rattle.smq_book.specs.index.Taken.{submit_take}
-use Rattle.smq_book.specs.join.Moves.{TakeMessage}
-use Rattle.smq_book.specs.within.Pairs.{from_session}
+use Rattle.smq_present.specs.join.Moves.{TakeMessage}
+use Rattle.smq_present.specs.within.Pairs.{from_session}
 use Rattle.smq_book.proofs.lemmas.index.Followed.{are-held}
 use Rattle.smq_book.proofs.lemmas.index.Pushed.{after-none, after-one, after-same}
 use Rattle.smq_book.proofs.lemmas.index.Taken.{submit-absent, submit-taken}
@@ -12,7 +12,6 @@ use Rattle.std.specs.FinMap.{get}
 use Rattle.smq_kit.specs.declared.place.Place.{Place}
 use Rattle.smq_group.specs.Groups.{without_submit}
 use Rattle.smq_group.specs.Matching.{Grouping}
-use Rattle.smq_book.specs.index.Held.{Holding}
 use Rattle.smq_book.specs.index.Touches.{taken_of}
 use Rattle.smq_book.proofs.lemmas.index.Members.{members-taken}
 use Rattle.smq_book.proofs.lemmas.index.Weights.{none-go, submit-goes}

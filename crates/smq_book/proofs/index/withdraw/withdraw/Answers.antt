@@ -3,14 +3,15 @@ use Rattle.std.specs.List.{sum_by}
 use Rattle.std.proofs.lemmas.List.Sums.{sum_by-le-sum_by}
 use Rattle.smq_kit.specs.declared.place.Dir.TheVariants.{FromCentre}
 use Rattle.smq_tally.specs.declared.list.Listed.{Listed}
-use Rattle.smq_book.specs.present.Settings.{SettingsValue}
-use Rattle.smq_book.specs.pairing.Traffic.{place_of, session_notes}
-use Rattle.smq_book.specs.within.Pairs.{from_session}
+use Rattle.smq_present.specs.join.Listings.{AllTraffic}
+use Rattle.smq_present.specs.present.Settings.{SettingsValue}
+use Rattle.smq_present.specs.pairing.Traffic.{place_of, session_notes}
+use Rattle.smq_present.specs.within.Pairs.{from_session}
 use Rattle.smq_book.specs.index.Touches.{message_load, receipt_load}
 use Rattle.smq_book.specs.index.Held.{IsHeld, held_now}
-use Rattle.smq_book.specs.index.Taken.{AllTraffic}
 use Rattle.smq_book.proofs.lemmas.index.Pushed.{after-both}
-use Rattle.smq_book.proofs.lemmas.index.Taken.{session-lists, withdrawn-after}
+use Rattle.smq_present.proofs.lemmas.join.SessionLists.{session-lists}
+use Rattle.smq_book.proofs.lemmas.index.Taken.{withdrawn-after}
 use Rattle.smq_book.proofs.lemmas.index.Weights.{receipt-lighter}
 use Rattle.smq_book.proofs.index.withdraw.withdraw.Goals as goal
 

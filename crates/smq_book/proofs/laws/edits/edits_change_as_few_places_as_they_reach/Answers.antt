@@ -1,5 +1,5 @@
 use Rattle.std.proofs.Common.{arith}
-use Rattle.smq_book.specs.pairing.Traffic.{traffic_of}
+use Rattle.smq_present.specs.pairing.Traffic.{traffic_of}
 use Rattle.smq_book.specs.edits.Reached.{messages_due_on, messages_under}
 use Rattle.smq_book.specs.edits.Reach.{link_places}
 use Rattle.smq_book.proofs.lemmas.edits.ReachBounds.{keys-number, weights-least, members-number, due-number, withdrawn-number, appended-number}

@@ -1,6 +1,6 @@
-use Rattle.smq_book.specs.present.Kept.{kept_pdus}
+use Rattle.smq_present.specs.present.Kept.{kept_pdus}
 use Rattle.smq_book.proofs.lemmas.edits.Answered.{answers-one}
-use Rattle.smq_book.proofs.lemmas.pairing.Requests.{kept-ask}
+use Rattle.smq_present.proofs.lemmas.pairing.Requests.{kept-ask}
 use Rattle.smq_book.proofs.laws.edits.responses_answer_one_message.Goals as goal
 
 pub returns : goal.returns

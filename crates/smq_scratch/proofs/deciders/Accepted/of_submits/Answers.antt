@@ -2,7 +2,7 @@ use Rattle.std.proofs.Common.{◌≡◌, ◌+◌, length, take, subst, ap, sym, 
 use Rattle.std.specs.FinMap.{insert}
 use Rattle.smq_scratch.specs.declared.deciders.Accepted.{Accepted}
 use Rattle.smq_kit.specs.LinkKeys.{by_key}
-use Rattle.smq_book.specs.within.Accepted.{HasNumbers, number_kept}
+use Rattle.smq_present.specs.within.Accepted.{HasNumbers, number_kept}
 use Rattle.smq_scratch.proofs.Numbers.{numbers-none, numbers-more, numbers-same, room}
 use Rattle.smq_scratch.proofs.deciders.Accepted.of_submits.Goals as goal
 use Rattle.smq_scratch.proofs.deciders.Accepted.of_submits.Goals.{in-Some+in_ok-add, in_default}

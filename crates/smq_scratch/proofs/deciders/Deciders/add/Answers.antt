@@ -1,8 +1,8 @@
 use Rattle.std.proofs.Common.{◌≡◌, true, false, Option, ap, sym, ◌∙◌}
 use Rattle.std.specs.FinMap.{insert}
 use Rattle.smq_kit.specs.LinkKeys.{by_key}
-use Rattle.smq_book.specs.within.Receipts.{PlacedReceipt}
-use Rattle.smq_book.specs.within.Accepted.{decider_kept, decider_with}
+use Rattle.smq_present.specs.within.Receipts.{PlacedReceipt}
+use Rattle.smq_present.specs.within.Accepted.{decider_kept, decider_with}
 use Rattle.smq_scratch.proofs.KeyMaps.{put-key, same-put}
 use Rattle.smq_scratch.proofs.Deciding.{one-before}
 use Rattle.smq_scratch.proofs.deciders.Deciders.add.Goals as goal

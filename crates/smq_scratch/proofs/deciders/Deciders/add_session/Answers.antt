@@ -1,7 +1,7 @@
 use Rattle.std.proofs.Common.{◌++◌, List, take, subst, sym, ◌∙◌}
 use Rattle.std.proofs.lemmas.List.{append-nil}
-use Rattle.smq_book.specs.within.Receipts.{KeyedReceipt, receipts_among}
-use Rattle.smq_book.specs.within.Accepted.{HasDeciders}
+use Rattle.smq_present.specs.within.Receipts.{KeyedReceipt, receipts_among}
+use Rattle.smq_present.specs.within.Accepted.{HasDeciders}
 use Rattle.smq_scratch.proofs.Deciding.{deciders-add, deciders-skip, receipts-more}
 use Rattle.smq_scratch.proofs.deciders.Deciders.add_session.Goals as goal
 use Rattle.smq_scratch.proofs.deciders.Deciders.add_session.Goals.{in-Some+then-can_decide+in_ok-add, in-Some+else-can_decide, in_default}

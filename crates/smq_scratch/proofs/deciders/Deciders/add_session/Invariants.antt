@@ -1,6 +1,6 @@
 use Rattle.std.proofs.Common.{◌++◌, List, take}
-use Rattle.smq_book.specs.within.Receipts.{KeyedReceipt, receipts_among}
-use Rattle.smq_book.specs.within.Accepted.{HasDeciders}
+use Rattle.smq_present.specs.within.Receipts.{KeyedReceipt, receipts_among}
+use Rattle.smq_present.specs.within.Accepted.{HasDeciders}
 use Rattle.smq_scratch.proofs.deciders.Deciders.add_session.Given as goal
 
 abbrev pub invariant-loop-pdu : goal.invariant-loop-pdu

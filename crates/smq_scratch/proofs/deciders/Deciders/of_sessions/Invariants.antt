@@ -1,8 +1,8 @@
 -- The deciding receipts so far are those of receipts which, with those of the sessions that are left, are all.
 use Rattle.std.proofs.Common.{◌≡◌, ◌++◌, List, drop}
 use Rattle.std.specs.List.{flat_map}
-use Rattle.smq_book.specs.within.Receipts.{KeyedReceipt}
-use Rattle.smq_book.specs.within.Accepted.{HasDeciders}
+use Rattle.smq_present.specs.within.Receipts.{KeyedReceipt}
+use Rattle.smq_present.specs.within.Accepted.{HasDeciders}
 use Rattle.smq_scratch.specs.Sourced.{receipts_in}
 use Rattle.smq_scratch.proofs.deciders.Deciders.of_sessions.Given as goal
 

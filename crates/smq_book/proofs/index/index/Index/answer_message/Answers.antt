@@ -6,21 +6,18 @@ use Rattle.smq_group.specs.Groups.{GroupsValue, vacancies}
 use Rattle.smq_group.specs.Matching.{Grouping}
 use Rattle.smq_book.specs.index.Held.{Holding}
 use Rattle.smq_book.specs.index.Pushed.{without_response}
-use Rattle.smq_book.specs.join.Keyed.{accepted_key, grouping_of}
-use Rattle.smq_book.specs.join.Moves.{PutMessage, put_message}
+use Rattle.smq_present.specs.join.Keyed.{accepted_key, grouping_of}
+use Rattle.smq_present.specs.join.Moves.{PutMessage, put_message}
 use Rattle.smq_book.proofs.lemmas.index.AreDue.{due-answered, due-held}
-use Rattle.smq_book.proofs.lemmas.index.Followed.{facts-alone, holds-said, holds-told, may-follow, notes-alone, numbers-stay}
-use Rattle.smq_book.proofs.lemmas.index.Followed.{put-there, stored-accepted, stored-held, stored-unmoved}
+use Rattle.smq_book.proofs.lemmas.index.Followed.{facts-alone, holds-said, holds-told, may-follow, notes-alone, numbers-stay, put-there, stored-accepted, stored-held, stored-unmoved, nobody, one-route, told}
 use Rattle.smq_book.proofs.lemmas.index.Members.{kept-traffic, members-unmoved, submit-there}
 use Rattle.smq_book.proofs.lemmas.index.Moves.{came-submit}
-use Rattle.smq_book.proofs.lemmas.join.MoveLemmas.{put_message-moves}
+use Rattle.smq_present.proofs.lemmas.join.MoveLemmas.{put_message-moves}
 use Rattle.smq_book.proofs.lemmas.index.Costs.{tells-none}
-use Rattle.smq_book.specs.index.Touches.{vacancies_at}
+use Rattle.smq_book.specs.index.Touches.{vacancies_at, load_of}
 use Rattle.smq_book.specs.edits.Reached.{IsMoveOf}
-use Rattle.smq_book.specs.index.Touches.{load_of}
 use Rattle.smq_book.proofs.lemmas.index.StandingIn.{no-receipt-in, submit-in}
 use Rattle.smq_book.proofs.lemmas.index.Weights.{few-changes, submit-put}
-use Rattle.smq_book.proofs.lemmas.index.Followed.{nobody, one-route, told}
 use Rattle.smq_book.proofs.lemmas.index.Stored.{stands-none}
 use Rattle.smq_book.proofs.index.index.Index.answer_message.Goals as goal
 

@@ -11,7 +11,7 @@ use Rattle.smq_tally.specs.declared.fact.Fact.{Fact}
 use Rattle.smq_group.specs.declared.change.Change.{Change}
 use Rattle.smq_group.specs.declared.change.Standing.TheVariants.{Single}
 use Rattle.smq_group.specs.Standings.{standing_at}
-use Rattle.smq_book.specs.join.Facts.{facts_of}
+use Rattle.smq_present.specs.join.Facts.{facts_of}
 use Rattle.smq_book.specs.index.Anew.{stored_in}
 use Rattle.smq_book.specs.index.Held.{list_held, stored_traffic, with_listing}
 use Rattle.smq_book.proofs.lemmas.index.Following.{both-keep}

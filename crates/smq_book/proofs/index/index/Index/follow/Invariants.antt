@@ -5,7 +5,7 @@ use Rattle.smq_book.specs.index.Anew.{CanFollow, IsAnew, IsDue, KeepsSaid, store
 use Rattle.smq_book.specs.index.Following.{AreTold}
 use Rattle.smq_book.specs.index.Held.{facts_anew, notes_anew}
 use Rattle.smq_book.specs.index.Touches.{RisesWithFacts, index_cost}
-use Rattle.smq_book.specs.join.Facts.{facts_of}
+use Rattle.smq_present.specs.join.Facts.{facts_of}
 use Rattle.smq_book.proofs.index.index.Index.follow.Given as goal
 
 abbrev pub invariant-loop-change : goal.invariant-loop-change

@@ -6,7 +6,7 @@ use Rattle.smq_book.specs.index.Coming.{IsNew}
 use Rattle.smq_book.specs.index.Held.{Holding, KeepsTraffic, held_now, traffic_held}
 use Rattle.smq_book.specs.index.LinkOut.{put_in}
 use Rattle.smq_book.specs.index.Touches.{load_of, said_key}
-use Rattle.smq_book.specs.join.Moves.{PutMessage, PutReceipt}
+use Rattle.smq_present.specs.join.Moves.{PutMessage, PutReceipt}
 use Rattle.smq_book.proofs.lemmas.index.Comes.{message-comes, received-comes}
 use Rattle.smq_book.proofs.lemmas.index.Followed.{are-held, unknown-before}
 use Rattle.smq_book.proofs.lemmas.index.Members.{no-message, no-receipt, receipt-absent, submit-absent}

@@ -6,21 +6,18 @@ use Rattle.smq_group.specs.Changes.{TellsChanges}
 use Rattle.smq_group.specs.Groups.{GroupsValue, vacancies}
 use Rattle.smq_group.specs.Matching.{Grouping}
 use Rattle.smq_book.specs.index.Held.{Holding}
-use Rattle.smq_book.specs.join.Keyed.{accepted_key}
-use Rattle.smq_book.specs.join.Moves.{PutMessage, put_message}
+use Rattle.smq_present.specs.join.Keyed.{accepted_key}
+use Rattle.smq_present.specs.join.Moves.{PutMessage, put_message}
 use Rattle.smq_book.proofs.lemmas.index.AreDue.{due-came, due-held}
-use Rattle.smq_book.proofs.lemmas.index.Followed.{holds-told, holds-unaccepted, may-follow, numbers-came, unknown-before}
-use Rattle.smq_book.proofs.lemmas.index.Followed.{put-there, stored-accepted, stored-held, stored-refused}
+use Rattle.smq_book.proofs.lemmas.index.Followed.{holds-told, holds-unaccepted, may-follow, numbers-came, unknown-before, put-there, stored-accepted, stored-held, stored-refused, nobody, one-none, told}
 use Rattle.smq_book.proofs.lemmas.index.Members.{kept-traffic, members-unput}
 use Rattle.smq_book.proofs.lemmas.index.Moves.{came-submit}
-use Rattle.smq_book.proofs.lemmas.join.MoveLemmas.{put_message-moves}
+use Rattle.smq_present.proofs.lemmas.join.MoveLemmas.{put_message-moves}
 use Rattle.smq_book.proofs.lemmas.index.Costs.{tells-none}
-use Rattle.smq_book.specs.index.Touches.{vacancies_at}
+use Rattle.smq_book.specs.index.Touches.{vacancies_at, load_of}
 use Rattle.smq_book.specs.edits.Reached.{IsMoveOf}
-use Rattle.smq_book.specs.index.Touches.{load_of}
 use Rattle.smq_book.proofs.lemmas.index.StandingIn.{no-receipt-in, no-submit-in}
 use Rattle.smq_book.proofs.lemmas.index.Weights.{few-changes, submit-put}
-use Rattle.smq_book.proofs.lemmas.index.Followed.{nobody, one-none, told}
 use Rattle.smq_book.specs.index.Due.{is_due_fact}
 use Rattle.smq_book.proofs.index.index.Index.put_message.Goals as goal
 

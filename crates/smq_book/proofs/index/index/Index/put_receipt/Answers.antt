@@ -3,24 +3,21 @@ use Rattle.std.specs.FinMap.{get}
 use Rattle.smq_group.specs.declared.change.Change.{Change}
 use Rattle.smq_group.specs.Changes.{TellsChanges}
 use Rattle.smq_group.specs.Groups.{GroupsValue, with_receipt, vacancies}
-use Rattle.smq_group.specs.Matching.{Grouping}
+use Rattle.smq_group.specs.Matching.{Grouping, GroupedReceipt}
 use Rattle.smq_book.specs.index.Held.{Holding}
-use Rattle.smq_book.specs.join.Keyed.{keyed_receipt}
-use Rattle.smq_book.specs.join.Moves.{PutReceipt, put_receipt}
-use Rattle.smq_book.specs.pairing.Traffic.{ReceivedReceipt}
+use Rattle.smq_present.specs.join.Keyed.{keyed_receipt}
+use Rattle.smq_present.specs.join.Moves.{PutReceipt, put_receipt}
+use Rattle.smq_present.specs.pairing.Traffic.{ReceivedReceipt}
 use Rattle.smq_book.proofs.lemmas.index.AreDue.{due-held, due-same}
-use Rattle.smq_book.proofs.lemmas.index.Followed.{holds-told, may-follow, put-there}
-use Rattle.smq_book.proofs.lemmas.index.Followed.{stored-held, stored-received}
+use Rattle.smq_book.proofs.lemmas.index.Followed.{holds-told, may-follow, put-there, stored-held, stored-received, one-route, only, told}
 use Rattle.smq_book.proofs.lemmas.index.Members.{kept-traffic}
 use Rattle.smq_book.proofs.lemmas.index.Moves.{came-receipt}
-use Rattle.smq_book.proofs.lemmas.join.MoveLemmas.{put_receipt-moves}
+use Rattle.smq_present.proofs.lemmas.join.MoveLemmas.{put_receipt-moves}
 use Rattle.smq_kit.specs.declared.link_key.LinkKey.{LinkKey}
-use Rattle.smq_group.specs.Matching.{GroupedReceipt}
 use Rattle.smq_book.specs.edits.Reached.{IsMoveOf}
 use Rattle.smq_book.specs.index.Touches.{load_of}
 use Rattle.smq_book.proofs.lemmas.index.StandingIn.{no-receipt-in, no-submit-in}
 use Rattle.smq_book.proofs.lemmas.index.Weights.{few-changes, receipt-put}
-use Rattle.smq_book.proofs.lemmas.index.Followed.{one-route, only, told}
 use Rattle.smq_book.proofs.index.index.Index.put_receipt.Goals as goal
 
 pub add_receipt-requires : goal.add_receipt-requires

@@ -6,15 +6,15 @@ use Rattle.smq_kit.specs.Maps.{set_at}
 use Rattle.smq_tally.specs.declared.fact.Fact.{Fact}
 use Rattle.smq_tally.specs.Tally.{Held}
 use Rattle.smq_book.specs.index.Held.{Holding}
-use Rattle.smq_book.specs.join.Circumstances.{circumstances, has_ended, route_in}
-use Rattle.smq_book.specs.join.Facts.{fact_by, facts_of}
-use Rattle.smq_book.specs.pairing.Traffic.{Message}
-use Rattle.smq_book.specs.present.Settings.{window_in}
+use Rattle.smq_present.specs.join.Circumstances.{circumstances, has_ended, route_in}
+use Rattle.smq_present.specs.join.Facts.{fact_by, facts_of}
+use Rattle.smq_present.specs.pairing.Traffic.{Message}
+use Rattle.smq_present.specs.present.Settings.{window_in}
 use Rattle.smq_book.proofs.lemmas.index.Due.{due-fact-absent, due-still}
 use Rattle.smq_book.proofs.lemmas.index.Ends.{end-fact-absent, end-still}
 use Rattle.smq_book.proofs.lemmas.index.Restated.{due-restated, held-restated, none-known, none-set, restated-known}
 use Rattle.smq_book.proofs.lemmas.index.Stored.{stored-at}
-use Rattle.smq_book.proofs.lemmas.join.MoveLemmas.{fact-at}
+use Rattle.smq_present.proofs.lemmas.join.MoveLemmas.{fact-at}
 use Rattle.smq_book.proofs.index.index.Index.refresh_by.Goals as goal
 
 pub replace-requires : goal.replace-requires

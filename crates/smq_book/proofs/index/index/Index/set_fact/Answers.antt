@@ -7,11 +7,11 @@ use Rattle.smq_tally.specs.declared.fact.Fact.{Fact}
 use Rattle.smq_book.specs.index.Due.{due_at, is_due_fact}
 use Rattle.smq_book.specs.index.Ends.{end_at}
 use Rattle.smq_route.specs.Versions.{Versions}
-use Rattle.smq_book.specs.join.Circumstances.{route_in}
-use Rattle.smq_book.specs.present.Settings.{window_in}
+use Rattle.smq_present.specs.join.Circumstances.{route_in}
+use Rattle.smq_present.specs.present.Settings.{window_in}
 use Rattle.smq_book.specs.index.Anew.{stored_in}
 use Rattle.smq_book.specs.index.Held.{dues_in, ends_in, messages_in, noted}
-use Rattle.smq_book.specs.pairing.Traffic.{Message}
+use Rattle.smq_present.specs.pairing.Traffic.{Message}
 use Rattle.smq_book.proofs.lemmas.index.AreDue.{due-absent, due-set, due-stays}
 use Rattle.smq_book.proofs.lemmas.index.Stored.{fact-absent, stored-at}
 use Rattle.smq_book.proofs.index.index.Index.set_fact.Goals as goal

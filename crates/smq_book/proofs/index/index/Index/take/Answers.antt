@@ -5,7 +5,7 @@ use Rattle.smq_group.specs.Matching.{Grouping}
 use Rattle.smq_book.specs.index.Held.{Holding, held_now, traffic_held}
 use Rattle.smq_book.specs.index.LinkOut.{take_at, take_in}
 use Rattle.smq_book.specs.index.Touches.{key_in, taken_of}
-use Rattle.smq_book.specs.join.Moves.{Move, TakeMessage, TakeReceipt}
+use Rattle.smq_present.specs.join.Moves.{Move, TakeMessage, TakeReceipt}
 use Rattle.smq_book.proofs.lemmas.index.Followed.{are-held}
 use Rattle.smq_book.proofs.lemmas.index.Members.{members-taken, received-taken}
 use Rattle.smq_book.proofs.lemmas.index.Pushed.{after-one, after-same}

@@ -13,25 +13,22 @@ use Rattle.smq_group.specs.Groups.{GroupsValue, vacancies}
 use Rattle.smq_group.specs.Matching.{Grouping}
 use Rattle.smq_book.specs.index.Due.{due_at}
 use Rattle.smq_book.specs.index.Ends.{end_at}
-use Rattle.smq_book.specs.present.Settings.{window_in}
+use Rattle.smq_present.specs.present.Settings.{window_in}
 use Rattle.smq_book.specs.index.Held.{Holding, dues_in, ends_in, held_of, messages_in}
-use Rattle.smq_book.specs.join.Moves.{TakeMessage, take_message}
-use Rattle.smq_book.specs.pairing.Traffic.{Message}
+use Rattle.smq_present.specs.join.Moves.{TakeMessage, take_message}
+use Rattle.smq_present.specs.pairing.Traffic.{Message}
 use Rattle.smq_book.proofs.lemmas.index.AreDue.{due-absent, due-held, due-went}
 use Rattle.smq_book.proofs.lemmas.index.Following.{said-itself}
-use Rattle.smq_book.proofs.lemmas.index.Followed.{facts-gone, facts-left, holds-said, may-follow, notes-gone, notes-left}
-use Rattle.smq_book.proofs.lemmas.index.Followed.{numbers-went, stored-dropped, stored-held, stored-withdrawn}
+use Rattle.smq_book.proofs.lemmas.index.Followed.{facts-gone, facts-left, holds-said, may-follow, notes-gone, notes-left, numbers-went, stored-dropped, stored-held, stored-withdrawn, nobody, one-none, told}
 use Rattle.smq_book.proofs.lemmas.index.Members.{kept-traffic, members-untaken, submit-there}
 use Rattle.smq_book.proofs.lemmas.index.Stored.{stored-at}
-use Rattle.smq_book.proofs.lemmas.join.MoveLemmas.{take_message-moves}
+use Rattle.smq_present.proofs.lemmas.join.MoveLemmas.{take_message-moves}
 use Rattle.smq_book.proofs.lemmas.index.Costs.{tells-none}
-use Rattle.smq_book.specs.index.Touches.{is_key, vacancies_at}
+use Rattle.smq_book.specs.index.Touches.{is_key, vacancies_at, taken_of}
 use Rattle.smq_kit.specs.declared.link_key.LinkKey.{LinkKey}
 use Rattle.smq_book.specs.edits.Reached.{IsMoveOf}
-use Rattle.smq_book.specs.index.Touches.{taken_of}
 use Rattle.smq_book.proofs.lemmas.index.StandingIn.{no-receipt-in, submit-in}
 use Rattle.smq_book.proofs.lemmas.index.Weights.{few-changes, submit-counts, submit-taken}
-use Rattle.smq_book.proofs.lemmas.index.Followed.{nobody, one-none, told}
 use Rattle.smq_book.proofs.index.index.Index.take_message.Goals as goal
 
 pub returns-in_default-clause-held : goal.returns-in_default-clause-held

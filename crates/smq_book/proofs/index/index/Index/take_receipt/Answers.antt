@@ -13,24 +13,22 @@ use Rattle.smq_group.specs.Standings.{standing_at}
 use Rattle.smq_group.specs.Matching.{Grouping, GroupedReceipt}
 use Rattle.smq_book.specs.index.Anew.{stored_in}
 use Rattle.smq_book.specs.index.Held.{Holding, held_of, list_held, receipts_in, stored_traffic, with_listing}
-use Rattle.smq_book.specs.join.Facts.{facts_of}
-use Rattle.smq_book.specs.join.Moves.{TakeReceipt, take_receipt}
-use Rattle.smq_book.specs.pairing.Traffic.{ReceivedReceipt}
+use Rattle.smq_present.specs.join.Facts.{facts_of}
+use Rattle.smq_present.specs.join.Moves.{TakeReceipt, take_receipt}
+use Rattle.smq_present.specs.pairing.Traffic.{ReceivedReceipt}
 use Rattle.smq_book.proofs.lemmas.index.AreDue.{due-held, due-same}
 use Rattle.smq_book.proofs.lemmas.index.Following.{both-keep}
-use Rattle.smq_book.proofs.lemmas.index.Followed.{facts-taken, holds-said, may-follow, notes-taken, stored-forgotten, stored-held}
+use Rattle.smq_book.proofs.lemmas.index.Followed.{facts-taken, holds-said, may-follow, notes-taken, stored-forgotten, stored-held, nobody, one-route, told}
 use Rattle.smq_book.proofs.lemmas.index.Members.{kept-traffic}
 use Rattle.smq_book.proofs.lemmas.index.Stored.{stands-none, stored-at}
-use Rattle.smq_book.proofs.lemmas.join.MoveLemmas.{take_receipt-moves}
+use Rattle.smq_present.proofs.lemmas.join.MoveLemmas.{take_receipt-moves}
 use Rattle.smq_book.proofs.lemmas.index.Costs.{tells-none}
-use Rattle.smq_book.specs.index.Touches.{is_key, receipt_key_at, vacancies_at}
+use Rattle.smq_book.specs.index.Touches.{is_key, receipt_key_at, vacancies_at, taken_of}
 use Rattle.smq_kit.specs.declared.link_key.LinkKey.{LinkKey}
-use Rattle.smq_book.specs.join.Keyed.{keyed_receipt, receipt_key}
+use Rattle.smq_present.specs.join.Keyed.{keyed_receipt, receipt_key}
 use Rattle.smq_book.specs.edits.Reached.{IsMoveOf}
-use Rattle.smq_book.specs.index.Touches.{taken_of}
 use Rattle.smq_book.proofs.lemmas.index.StandingIn.{no-submit-in, receipt-in}
 use Rattle.smq_book.proofs.lemmas.index.Weights.{few-changes, no-message-there, receipt-taken, receipt-counts}
-use Rattle.smq_book.proofs.lemmas.index.Followed.{nobody, one-route, told}
 use Rattle.smq_book.proofs.index.index.Index.take_receipt.Goals as goal
 
 pub returns-in_default-clause-held : goal.returns-in_default-clause-held

@@ -1,6 +1,6 @@
 use Rattle.std.proofs.Common.{◌≡◌, ◌∷◌, length, ap, arith, rules}
 use Rattle.std.specs.Vec.Iter.{into_iter_items}
-use Rattle.smq_book.proofs.lemmas.present.Folded.{folds-next, folds-last}
+use Rattle.smq_present.proofs.lemmas.present.Folded.{folds-next, folds-last}
 use Rattle.smq_book.proofs.whole.book.Book.apply_all.Goals as goal
 
 pub loop-edit-preserved : goal.loop-edit-preserved

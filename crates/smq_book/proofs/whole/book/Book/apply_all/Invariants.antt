@@ -2,7 +2,7 @@
 use Rattle.std.proofs.Common.{◌+◌, ◌≤◌, length}
 use Rattle.std.specs.Vec.Iter.{into_iter_items}
 use Rattle.std.specs.Vec.{vec_len, vec_capacity}
-use Rattle.smq_book.proofs.lemmas.present.Folded.{Folds}
+use Rattle.smq_present.proofs.lemmas.present.Folded.{Folds}
 use Rattle.smq_book.proofs.whole.book.Book.apply_all.Given as goal
 
 abbrev pub invariant-loop-edit : goal.invariant-loop-edit

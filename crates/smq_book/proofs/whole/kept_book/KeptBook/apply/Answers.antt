@@ -2,18 +2,18 @@ use Rattle.std.proofs.Common.{◌≡◌, ◌≢◌, ◌≤◌, ◌+◌, ◌-◌,
 use Rattle.std.specs.Prelude.{OnOk}
 use Rattle.smq_frame.specs.Tail.{tail_of}
 use Rattle.smq_book.specs.declared.whole.kept_book.KeptBook.TheInside.{Inside}
-use Rattle.smq_book.specs.declared.present.edit.Edit.TheVariants.{Advance}
+use Rattle.smq_present.specs.declared.present.edit.Edit.TheVariants.{Advance}
 use Rattle.smq_book.specs.edits.Reach.{reach}
 use Rattle.smq_book.specs.index.Held.{held_now, traffic_held}
 use Rattle.smq_book.specs.index.Kept.{IsKept}
 use Rattle.smq_book.specs.index.Touches.{touches_of}
-use Rattle.smq_book.specs.present.Book.{BookValue}
-use Rattle.smq_book.specs.present.Present.{PresentValue}
-use Rattle.smq_book.specs.whole.Scratch.{scratch}
+use Rattle.smq_present.specs.present.Book.{BookValue}
+use Rattle.smq_present.specs.present.Present.{PresentValue}
+use Rattle.smq_present.specs.whole.Scratch.{scratch}
 use Rattle.smq_book.proofs.lemmas.index.Bounds.{book-bound, settings-bound}
 use Rattle.smq_book.proofs.lemmas.index.KeptPairs.{indexed, kept-edit}
 use Rattle.smq_book.proofs.lemmas.index.LowerBounds.{rise-bound, settings-rise}
-use Rattle.smq_book.proofs.lemmas.whole.Unreached.{another, clock_of, unreached}
+use Rattle.smq_book.proofs.lemmas.edits.Unreached.{another, clock_of, unreached}
 use Rattle.smq_book.proofs.whole.kept_book.KeptBook.apply.Goals.{in-Append, in-Withdraw, in-SetForm, in-SetWindow, in-AddRoute, in-EndRoute, in-CorrectRoute, in-Advance}
 use Rattle.smq_book.proofs.whole.kept_book.KeptBook.apply.Goals as goal
 

@@ -1,5 +1,0 @@
-use Rattle.smq_book.proofs.lemmas.join.Routed.{route-told}
-use Rattle.smq_book.proofs.laws.join.routes_are_of_the_moment.Goals as goal
-
-pub returns-clause-fact : goal.returns-clause-fact
-returns-clause-fact c = route-told

@@ -1,6 +1,0 @@
-use Rattle.std.proofs.Common.{refl}
-use Rattle.smq_book.proofs.lemmas.pairing.KnownNotes.{notes-read}
-use Rattle.smq_book.proofs.laws.pairing.notes_of_a_known_session.Goals as goal
-
-pub returns : goal.returns
-returns c = record { notes = refl; contents = refl; octets = notes-read }

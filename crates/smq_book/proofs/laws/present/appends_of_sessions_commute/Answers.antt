@@ -1,5 +1,0 @@
-use Rattle.smq_book.proofs.lemmas.present.Changes.{appends_commute}
-use Rattle.smq_book.proofs.laws.present.appends_of_sessions_commute.Goals as goal
-
-pub returns : goal.returns
-returns c = appends_commute

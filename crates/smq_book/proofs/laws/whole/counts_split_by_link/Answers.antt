@@ -1,5 +1,0 @@
-use Rattle.smq_book.proofs.lemmas.whole.SplitByLink.{counts-split}
-use Rattle.smq_book.proofs.laws.whole.counts_split_by_link.Goals as goal
-
-pub returns : goal.returns
-returns c = λ p here view value outcome. counts-split p here view value outcome

@@ -1,5 +1,0 @@
-use Rattle.smq_book.proofs.lemmas.whole.ListsSplitByLink.{lists-split}
-use Rattle.smq_book.proofs.laws.whole.lists_split_by_link.Goals as goal
-
-pub returns : goal.returns
-returns c = λ p here list place. lists-split p here list place

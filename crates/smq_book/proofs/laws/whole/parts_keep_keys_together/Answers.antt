@@ -1,5 +1,0 @@
-use Rattle.smq_book.proofs.lemmas.whole.DealtByKey.{part-together}
-use Rattle.smq_book.proofs.laws.whole.parts_keep_keys_together.Goals as goal
-
-pub returns : goal.returns
-returns c = λ s t here there together. part-together s t here there together

@@ -1,5 +1,0 @@
-use Rattle.smq_book.proofs.lemmas.present.NumberMaps.{insert-seen}
-use Rattle.smq_book.proofs.present.present.insert_session.Goals as goal
-
-pub returns-in-Ok : goal.returns-in-Ok
-returns-in-Ok c = insert-seen c.args.sessions.now.entries c.insert.new.self.entries c.args.number c.args.session c.in-Ok.ensures.updates.0

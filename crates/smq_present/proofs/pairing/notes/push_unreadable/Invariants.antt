@@ -1,0 +1,12 @@
+use Rattle.std.proofs.Common.{◌≡◌, ◌++◌}
+use Rattle.smq_kit.specs.declared.place.Dir.TheVariants.{FromCentre}
+use Rattle.smq_tally.specs.declared.list.List.TheVariants as list
+use Rattle.smq_present.specs.present.Kept.{is_unreadable}
+use Rattle.smq_present.specs.within.Pairs.{from_session}
+use Rattle.smq_present.proofs.lemmas.pairing.PushedNotes.{passing_left}
+use Rattle.smq_present.proofs.pairing.notes.push_unreadable.Given as goal
+
+abbrev pub invariant-loop-pdu : goal.invariant-loop-pdu
+invariant-loop-pdu l =
+    l.notes.items ++ passing_left list.Unreadable is_unreadable (from_session l.session) FromCentre l.centre l.pdu-index
+    ≡ l.initial.notes.items ++ passing_left list.Unreadable is_unreadable (from_session l.session) FromCentre l.centre 0
