@@ -25,7 +25,7 @@ use std::marker::Model;
 /// What is present: the sessions, by their numbers, and what is set.
 #[derive(Drop)]
 pub struct Present {
-    pub sessions: BTreeMap<u64, Session>,
+    sessions: BTreeMap<u64, Session>,
     pub settings: Settings,
 }
 
@@ -106,7 +106,7 @@ impl Present {
     }
 
     /// What refuses a batch, if anything: lack of memory aside.
-    fn append_refusal(&self, alloc: Global, batch: &Batch) -> Option<Refusal>
+    pub fn append_refusal(&self, alloc: Global, batch: &Batch) -> Option<Refusal>
         ensures { result ≡ reply self.now (Edit.Append batch.now) }
     {
         match self.sessions.get(&batch.session.0) {
@@ -127,7 +127,7 @@ impl Present {
     }
 
     /// Puts a batch after the direction on whose tail it was prepared, in its session or in a new one.
-    pub(crate) fn put_batch_in_step(&mut self, alloc: Global, batch: Batch) -> Result<(), Refusal>
+    pub fn put_batch_in_step(&mut self, alloc: Global, batch: Batch) -> Result<(), Refusal>
         requires in_step { batch.tail ≡ tail_in self.old batch.session.0 batch.dir }
         ensures { IsReply (reply self.old (Edit.Append batch)) result
             (self.new ≡ change self.old (Edit.Append batch)) (self.new ≡ self.old) }
@@ -255,7 +255,7 @@ fn put_in_step(
 }
 
 /// Puts a new session in. An error changes nothing.
-pub fn insert_session(
+fn insert_session(
     sessions: &mut BTreeMap<u64, Session>,
     number: u64,
     session: Session,

@@ -54,7 +54,7 @@ impl Session {
     }
 
     /// What refuses a batch, if anything: lack of memory aside.
-    pub fn refusal(&self, batch: &Batch) -> Option<Refusal>
+    pub(crate) fn refusal(&self, batch: &Batch) -> Option<Refusal>
         ensures { result ≡ first_of (append_refusals (Some self.now) batch.now) }
     {
         if self.link.0 != batch.link.0 {
@@ -91,7 +91,7 @@ impl Session {
     }
 
     /// Puts a batch that nothing refuses after its direction. Want of memory changes nothing.
-    pub fn put(&mut self, batch: Batch) -> Result<(), Refusal>
+    fn put(&mut self, batch: Batch) -> Result<(), Refusal>
         requires in_step { batch.tail ≡ tail_of (values (direction batch.dir self.old)) }
         ensures { MatchResult result (λ _. self.new ≡ session_after (Some self.old) batch)
             (λ refusal. (refusal ≡ Refusal.Memory) × (self.new ≡ self.old)) }

@@ -13,7 +13,7 @@ use Rattle.smq_present.specs.declared.present.kept.KeptPdu.{KeptPdu}
 use Rattle.smq_present.specs.declared.present.session.Session.{Session}
 use Rattle.smq_present.specs.present.Batch.{BatchValue, batch_pdus, next_tail}
 use Rattle.smq_present.specs.present.Kept.{kept_pdus}
-use Rattle.smq_present.specs.present.Present.{direction, octets_in}
+use Rattle.smq_present.specs.present.Present.{direction}
 use Rattle.smq_present.specs.present.Settings.{SettingsValue}
 use Rattle.smq_present.specs.present.Steps.{session_after, session_with}
 use Rattle.smq_present.specs.pairing.Traffic.{origin_of, pairing_among, session_pairing, traffic_of}
@@ -27,7 +27,10 @@ use Rattle.smq_book.specs.index.Pushed.{IsHeldAfter, IsSaidBy, origin_at, pairin
 use Rattle.smq_present.proofs.lemmas.present.Growth.{kept_frames, kept_pdus-nil, pdus-grown}
 use Rattle.smq_present.proofs.lemmas.pairing.PlacesRise.{kept-rise}
 use Rattle.smq_present.proofs.lemmas.pairing.Requests.{kept-ask}
-use Rattle.smq_book.proofs.lemmas.edits.Appends.{at-first, octets-before}
+use Rattle.smq_book.proofs.lemmas.edits.Appends.{at-first}
+use Rattle.smq_present.specs.present.Replies.{append_refusals}
+use Rattle.smq_present.proofs.lemmas.present.RefusedBatches.{in-step}
+use Rattle.smq_kit.specs.Replies.{first_of}
 use Rattle.smq_book.proofs.lemmas.index.PushedAll.{pushed-all}
 use Rattle.smq_book.proofs.lemmas.index.Said.{has-said}
 
@@ -108,12 +111,7 @@ module _ (sessions : FinMap nat_cmp Session) (batch : BatchValue) where
         (sym (get-insert nat_cmp_total sessions batch.session.0 (session_after found batch) batch.session.0
         ∙ ap (λ b. cond b (Some (session_after found batch)) found) (ap is_eq (tied_itself nat_cmp_total batch.session.0))))
 
-    module _ (in_step : batch.tail ≡ tail_of (values (direction batch.dir s))) where
-      first-step : batch.tail ≡ tail_of (values (octets_in batch.dir found))
-      first-step =
-          in_step ∙ ap (λ (s : Session). tail_of (values (direction batch.dir s))) is
-          ∙ ap (λ (octets : List Octet). tail_of (values octets)) (sym (octets-before found batch.link batch.dir))
-
+    module _ (free : first_of (append_refusals found batch) ≡ None) where
       abbrev moves : Session → List Move
       moves s =
           pushed_moves (origin_at batch.session s.link) batch.dir (kept_pdus s.client) (kept_pdus s.centre) (batch_pdus batch)
@@ -125,4 +123,4 @@ module _ (sessions : FinMap nat_cmp Session) (batch : BatchValue) where
       last-traffic z g h was left =
           left.traffic
           ∙ (λ i. moved_by (was i) (moves (is i)))
-          ∙ pushed-all sessions batch first-step
+          ∙ pushed-all sessions batch (in-step found batch free)
