@@ -23,7 +23,7 @@ pub use present::edit::Edit;
 pub use present::forms::Forms;
 pub use present::kept::{Content, KeptPdu, shared};
 pub use present::plain_book::PlainBook;
-pub use present::present::Present;
+pub use present::present::{Present, append_refusal};
 pub use present::session::{Direction, Piece, Session};
 pub use present::settings::{Settings, Windows};
 pub use smq_tally::{

@@ -1,9 +1,10 @@
 //! A batch is put after its direction.
 ghost use Rattle.std.specs.Prelude.{◌≡◌, ◌≢◌, ◌≤◌, ◌+◌, ◌*◌, ◌++◌, ℕ, None, OnOk};
 ghost use Rattle.std.specs.List.{sum_by};
+ghost use Rattle.std.specs.Option.{option_copied};
 ghost use Rattle.smq_frame.specs.Stream.{handed_in, values};
 ghost use Rattle.smq_frame.specs.Tail.{tail_of};
-ghost use Rattle.smq_present.specs.present.Present.{direction};
+ghost use Rattle.smq_present.specs.present.Present.{direction, session_of};
 ghost use Rattle.smq_book.specs.edits.AppendedNotes.{broken_moves};
 ghost use Rattle.smq_book.specs.edits.Reach.{reach};
 ghost use Rattle.smq_book.specs.index.Held.{IsHeld, held_now, held_settled, traffic_held};
@@ -25,7 +26,7 @@ use crate::index::pairings::{Pairings, count};
 use crate::{Batch, Edit, Present, Session};
 use smq_kit::{Refusal, SessionId};
 use smq_pair::Pairing;
-use smq_present::Settings;
+use smq_present::{Settings, append_refusal};
 use std::alloc::{AllocError, Global};
 
 /// Puts a batch after its direction, in its session or in a new one, and what it says in what is kept. A refusal changes
@@ -47,11 +48,12 @@ pub(crate) fn append(
     ensures rises { OnOk result (RisesWithFacts index.old index.new) }
     ensures pairs_counted { OnOk result (pairings.old.touches ≤ pairings.new.touches) }
 {
-    if let Some(refusal) = present.append_refusal(alloc, &batch) {
+    let number = batch.session();
+    let found = present.session(number);
+    if let Some(refusal) = append_refusal(alloc, found, &batch) {
         return Err(refusal);
     }
-    let number = batch.session();
-    let Ok(()) = append_said(alloc, present, index, pairings, &batch) else {
+    let Ok(()) = append_said(alloc, present, found, index, pairings, &batch) else {
         undo(index, pairings, number);
         return Err(Refusal::Memory);
     };
@@ -64,10 +66,12 @@ pub(crate) fn append(
     Ok(())
 }
 
-/// Puts what a batch says that nothing refuses in what is kept. On an error the caller undoes what is kept of its session.
+/// Puts what a batch says that nothing refuses in what is kept, where this is its session, if it is there. On an error the caller
+/// undoes what is kept of it.
 fn append_said(
     alloc: Global,
     present: &Present,
+    found: Option<&Session>,
     index: &mut Index,
     pairings: &mut Pairings,
     batch: &Batch,
@@ -76,6 +80,7 @@ fn append_said(
     requires traffic { traffic_held (held_now index.old) ≡ traffic_of present.now.sessions }
     requires pairs { pairs_now pairings.old batch.now.session.0
         ≡ pairing_in present.now.sessions batch.now.session.0 }
+    requires found { option_copied found ≡ session_of present.now batch.now.session.0 }
     requires unrefused { reply present.now (Edit.Append batch.now) ≡ None }
     ensures held { OnOk result (IsHeld present.now.settings (held_now index.new)) }
     ensures traffic { OnOk result (traffic_held (held_now index.new)
@@ -98,7 +103,7 @@ fn append_said(
         → pairs_settled pairings.new number ≡ pairs_settled pairings.old number }
 {
     let settings = present.settings();
-    match present.session(batch.session()) {
+    match found {
         Some(session) => append_next(session, settings, index, pairings, batch),
         None => {
             let session = Session::new(alloc, batch.link());

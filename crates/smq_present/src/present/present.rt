@@ -105,22 +105,12 @@ impl Present {
         self.settings.clock()
     }
 
-    /// What refuses a batch, if anything: lack of memory aside.
-    pub fn append_refusal(&self, alloc: Global, batch: &Batch) -> Option<Refusal>
-        ensures { result ≡ reply self.now (Edit.Append batch.now) }
-    {
-        match self.sessions.get(&batch.session.0) {
-            Some(session) => session.refusal(batch),
-            None => Session::new(alloc, batch.link).refusal(batch),
-        }
-    }
-
     /// Puts a batch after its direction, in its session or in a new one.
     pub(crate) fn put_batch(&mut self, alloc: Global, batch: Batch) -> Result<(), Refusal>
         ensures { IsReply (reply self.old (Edit.Append batch)) result
             (self.new ≡ change self.old (Edit.Append batch)) (self.new ≡ self.old) }
     {
-        if let Some(refusal) = self.append_refusal(alloc, &batch) {
+        if let Some(refusal) = append_refusal(alloc, self.session(batch.session), &batch) {
             return Err(refusal);
         }
         self.put_batch_in_step(alloc, batch)
@@ -224,6 +214,20 @@ impl Present {
         }
         self.settings.clock = clock;
         Ok(())
+    }
+}
+
+/// What refuses a batch after its session, or after none, if anything: lack of memory aside.
+pub fn append_refusal(
+    alloc: Global,
+    session: Option<&Session>,
+    batch: &Batch,
+) -> Option<Refusal>
+    ensures { result ≡ first_of (append_refusals (option_copied session.entry) batch.now) }
+{
+    match session {
+        Some(session) => session.refusal(batch),
+        None => Session::new(alloc, batch.link).refusal(batch),
     }
 }
 

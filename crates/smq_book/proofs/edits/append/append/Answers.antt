@@ -1,13 +1,15 @@
-use Rattle.std.proofs.Common.{◌≡◌, List, sym, ap, subst, ◌∙◌, arith}
+use Rattle.std.proofs.Common.{◌≡◌, List, Option, sym, ap, subst, ◌∙◌, arith}
 use Rattle.std.specs.Prelude.{count_by}
 use Rattle.std.specs.FinMap.{get}
 use Rattle.smq_kit.specs.LinkKeys.{same_key}
 use Rattle.smq_kit.specs.declared.link_key.LinkKey.{LinkKey}
 use Rattle.smq_kit.specs.declared.names.SessionId.{SessionId}
+use Rattle.smq_kit.specs.Replies.{first_of}
+use Rattle.smq_present.specs.declared.present.session.Session.{Session}
 use Rattle.smq_present.specs.declared.present.edit.Edit.TheVariants.{Append}
 use Rattle.smq_present.specs.join.Keyed.{grouping_of}
-use Rattle.smq_present.specs.present.Present.{PresentValue}
-use Rattle.smq_present.specs.present.Replies.{reply}
+use Rattle.smq_present.specs.present.Present.{PresentValue, session_of}
+use Rattle.smq_present.specs.present.Replies.{append_refusals, reply}
 use Rattle.smq_present.specs.present.Steps.{change, session_after}
 use Rattle.smq_book.specs.index.Held.{Holding, held_now}
 use Rattle.smq_book.specs.index.Kept.{IsKept}
@@ -18,6 +20,13 @@ use Rattle.smq_book.proofs.lemmas.index.Bounds.{append-bound}
 use Rattle.smq_book.proofs.lemmas.index.KeptPairs.{as-was, kept-settled, none-pending, pairs-put, unmade}
 use Rattle.smq_book.proofs.lemmas.index.Routed.{made}
 use Rattle.smq_book.proofs.edits.append.append.Goals as goal
+
+pub put_batch_in_step-requires : goal.put_batch_in_step-requires
+put_batch_in_step-requires c =
+    let p = c.args.present.now in
+    let batch = c.args.batch in
+    record { in_step = in-step (session_of p batch.session.0) batch (ap (λ (s : Option Session). first_of (append_refusals s batch))
+    (ap (λ (m : SessionId). session_of p m.0) (sym c.session-number.ensures) ∙ sym c.session-found.ensures) ∙ sym c.append_refusal.ensures ∙ c.in_default.is) }
 
 pub returns-clause-kept : goal.returns-clause-kept
 returns-clause-kept c =
@@ -75,7 +84,8 @@ returns-clause-touches c =
     let p = c.args.present.now in
     let batch = c.args.batch in
     let n = batch.session.0 in
-    let free : reply p (Append batch) ≡ _ = sym c.append_refusal.ensures ∙ c.in_default.is in
+    let free = (ap (λ (s : Option Session). first_of (append_refusals s batch))
+    (ap (λ (m : SessionId). session_of p m.0) (sym c.session-number.ensures) ∙ sym c.session-found.ensures) ∙ sym c.append_refusal.ensures ∙ c.in_default.is) in
     let full : HasNoneVacant c.args.index.now.standings =
     record { each = λ k. ap (λ (vacant : List LinkKey). count_by (same_key k) vacant) c.requires.kept.pending.vacant } in
     let sum = c.in-Ok.ensures.touches full in
