@@ -11,3 +11,7 @@ pub mod Listings
 pub mod EqualBatches
 pub mod Equal
 pub mod Lists
+pub mod Turns
+pub mod Sides
+pub mod Sourced
+pub mod Said

@@ -10,9 +10,9 @@ use denote.Bor.{Bor}
 use Rattle.rayon.proofs.ToStd.{slice-AllZip}
 use Rattle.smq_present.specs.present.Present.{PresentValue}
 use Rattle.smq_present.specs.within.Lists.{notes_of, receipts_of, submits_of}
-use Rattle.smq_scratch.specs.declared.traffic.Traffic.{Traffic}
-use Rattle.smq_scratch.specs.Said.{Says}
-use Rattle.smq_scratch.specs.Sourced.{SourcedSession, sourced_by, sourced_of, submits_in, receipts_in, notes_in}
+use Rattle.smq_present.specs.declared.pairing.traffic.Traffic.{Traffic}
+use Rattle.smq_present.specs.within.Said.{Says}
+use Rattle.smq_present.specs.within.Sourced.{SourcedSession, sourced_by, sourced_of, submits_in, receipts_in, notes_in}
 
 -- what is made of each, where none is left, is what is made of all
 pub all-mapped : {A B : Type 0} (f : A → B) (made all : List B) (xs : List A) (i : ℕ) → length xs ≤ i

@@ -21,7 +21,7 @@ use Rattle.smq_present.specs.within.Receipts.{PlacedReceipt}
 use Rattle.smq_present.proofs.lemmas.whole.AgreePresent.{notes-are}
 use Rattle.smq_present.proofs.lemmas.join.MoveLemmas.{fact-place}
 use Rattle.smq_present.proofs.lemmas.whole.Tallied.{facts-apart, facts-rise, made-of-entries, values-placed}
-use Rattle.smq_scratch.specs.Sourced.{SourcedSession, receipts_in, sourced_of}
+use Rattle.smq_present.specs.within.Sourced.{SourcedSession, receipts_in, sourced_of}
 use Rattle.smq_scratch.proofs.Collected.{receipts-present}
 use Rattle.smq_scratch.proofs.ReceiptNotes.{kept-notes}
 

@@ -6,8 +6,5 @@ pub mod LineLaws
 pub mod DecidedLines
 pub mod NamedLines
 pub mod ReceiptNotes
-pub mod PushedMessages
 pub mod Collected
 pub mod Joined
-pub mod TurnLemmas
-pub mod SideLemmas

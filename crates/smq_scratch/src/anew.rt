@@ -4,18 +4,17 @@ ghost use Rattle.std.specs.Prelude.{◌≡◌, IfOk};
 ghost use Rattle.std.specs.List.{AllZip};
 ghost use Rattle.smq_present.specs.whole.Scratch.{scratch};
 ghost use Rattle.smq_present.specs.within.Lists.{notes_of, submits_of};
-ghost use Rattle.smq_scratch.specs.Said.{Says};
-ghost use Rattle.smq_scratch.specs.Sourced.{sourced_of};
+ghost use Rattle.smq_present.specs.within.Said.{Says};
+ghost use Rattle.smq_present.specs.within.Sourced.{sourced_of};
 
 use crate::deciders::{Accepted, Deciders};
 use crate::facts::facts_with;
 use crate::listings::push_receipt_notes;
-use crate::traffic::{
-    DecodedSession, SourcedSession, Traffic, joined, read_session, read_sessions, sourced,
-    sourced_again,
-};
 use rayon::prelude::*;
-use smq_present::{Present, Tables};
+use smq_present::{
+    DecodedSession, Present, SourcedSession, Tables, Traffic, joined, read_session, read_sessions,
+    sourced, sourced_again,
+};
 use std::alloc::{AllocError, Global};
 use std::thread::Threads;
 

@@ -7,16 +7,16 @@ ghost use Rattle.std.specs.Ordering.{is_gt};
 ghost use Rattle.smq_kit.specs.LinkKeys.{by_key};
 ghost use Rattle.smq_present.specs.within.Accepted.{HasDeciders, decider_kept, decider_with, HasNumbers, number_kept};
 ghost use Rattle.smq_present.specs.within.Receipts.{KeyedReceipt, receipts_among, receipt_cmp, receipt_by};
-ghost use Rattle.smq_scratch.specs.Sourced.{receipts_in};
+ghost use Rattle.smq_present.specs.within.Sourced.{receipts_in};
 ghost use Rattle.smq_present.specs.present.Kept.{receipt_in};
 ghost use Rattle.smq_present.specs.join.Keyed as keyed;
 ghost use Rattle.smq_scratch.specs.Lines.{deciding_receipt};
 ghost use Rattle.smq_present.specs.within.Accepted as among;
 ghost use Rattle.smq_present.specs.within.Messages.{SubmittedMessage as Submit};
 
-use crate::submits::SubmittedMessage;
-use crate::traffic::SourcedSession;
-use smq_present::{KeptPdu, ReceivedReceipt, Source, place_of};
+use smq_present::{
+    KeptPdu, ReceivedReceipt, Source, SourcedSession, SubmittedMessage, place_of,
+};
 use smq_kit::{Dir, HashedKey, Place};
 use smq_lines::DecidingReceipt;
 use std::alloc::{AllocError, Global};

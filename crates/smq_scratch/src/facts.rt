@@ -13,8 +13,7 @@ ghost use Rattle.smq_present.specs.within.Outcomes.{received, standing_of};
 ghost use Rattle.smq_present.specs.within.Receipts.{KeyedReceipt};
 
 use crate::deciders::{Accepted, Deciders, PlacedReceipt};
-use crate::submits::SubmittedMessage;
-use smq_present::{Fact, Present, ReceivedReceipt, Settings, fact_under};
+use smq_present::{Fact, Present, ReceivedReceipt, Settings, SubmittedMessage, fact_under};
 use std::alloc::{AllocError, Global};
 
 /// A fact of each submitted message that is present, in the order of places, where these are the submitted messages, how

@@ -9,12 +9,8 @@ mod facts;
 mod laws;
 mod listings;
 mod matches;
-mod notes;
 mod received;
-mod sides;
-mod submits;
 mod submitted;
-mod traffic;
 
 // laws
 pub use laws::{

@@ -5,11 +5,10 @@ ghost use Rattle.smq_present.specs.present.Kept.{receipt_in};
 ghost use Rattle.smq_present.specs.within.Listings as listings;
 ghost use Rattle.smq_present.specs.within.Listings.{notes_kept};
 ghost use Rattle.smq_present.specs.within.Receipts.{receipt_by, receipts_among};
-ghost use Rattle.smq_scratch.specs.Sourced.{receipts_in};
+ghost use Rattle.smq_present.specs.within.Sourced.{receipts_in};
 
 use crate::deciders::{Accepted, Deciders, PlacedReceipt, receipt_at};
-use crate::traffic::SourcedSession;
-use smq_present::{KeptPdu, List, Listed, Source};
+use smq_present::{KeptPdu, List, Listed, Source, SourcedSession};
 use smq_kit::HashedKey;
 use std::alloc::{AllocError, Global};
 

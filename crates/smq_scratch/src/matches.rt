@@ -4,8 +4,8 @@ ghost use Rattle.std.specs.FinMap as map;
 ghost use Rattle.smq_kit.specs.LinkKeys.{by_key};
 ghost use Rattle.smq_scratch.specs.within.Matches.{HasMatches, match_kept, match_with};
 
-use crate::submits::SubmittedMessage;
 use smq_kit::{HashedKey, Place};
+use smq_present::SubmittedMessage;
 use std::alloc::{AllocError, Global};
 use std::collections::BTreeMap;
 

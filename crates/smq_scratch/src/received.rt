@@ -5,13 +5,12 @@ ghost use Rattle.smq_present.specs.present.Kept.{receipt_in};
 ghost use Rattle.smq_present.specs.within.Receipts.{receipt_by, receipts_among};
 ghost use Rattle.smq_scratch.specs.Lines as lines;
 ghost use Rattle.smq_scratch.specs.Lines.{standing_by};
-ghost use Rattle.smq_scratch.specs.Sourced.{receipts_in};
+ghost use Rattle.smq_present.specs.within.Sourced.{receipts_in};
 ghost use Rattle.smq_scratch.specs.within.Matches.{lines_kept, number_in, place_in};
 
 use crate::deciders::{Deciders, PlacedReceipt, receipt_at};
 use crate::matches::{Match, Matches};
-use crate::traffic::{SourcedSession, joined, read_sessions, sourced};
-use smq_present::{KeptPdu, Present, Source};
+use smq_present::{KeptPdu, Present, Source, SourcedSession, joined, read_sessions, sourced};
 use smq_kit::Place;
 use smq_lines::{ReceiptLine, ReceiptStanding};
 use std::alloc::{AllocError, Global};

@@ -5,13 +5,13 @@ ghost use Rattle.smq_present.specs.within.Lists.{submits_of};
 ghost use Rattle.smq_present.specs.within.Messages.{SubmittedMessage as Submit};
 ghost use Rattle.smq_present.specs.within.Receipts.{KeyedReceipt};
 ghost use Rattle.smq_scratch.specs.Lines as lines;
-ghost use Rattle.smq_scratch.specs.Sourced.{sourced_of};
+ghost use Rattle.smq_present.specs.within.Sourced.{sourced_of};
 
 use crate::deciders::{Accepted, Deciders};
 use crate::facts::known_of;
-use crate::submits::SubmittedMessage;
-use crate::traffic::{SourcedSession, joined, read_sessions, sourced};
-use smq_present::{Present, Settings};
+use smq_present::{
+    Present, Settings, SourcedSession, SubmittedMessage, joined, read_sessions, sourced,
+};
 use smq_lines::MessageLine;
 use std::alloc::{AllocError, Global};
 

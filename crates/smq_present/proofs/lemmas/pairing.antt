@@ -4,7 +4,6 @@ pub mod SessionTraffic
 pub mod Requests
 pub mod Searched
 pub mod Paired
-pub mod PushedNotes
 pub mod Members
 pub mod SessionNotes
 pub mod UnreadPlaces
@@ -14,3 +13,6 @@ pub mod KnownNotes
 pub mod PairsStay
 pub mod PairsTaken
 pub mod NotesTaken
+pub mod TurnLemmas
+pub mod SideLemmas
+pub mod PushedMessages

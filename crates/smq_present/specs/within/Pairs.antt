@@ -1,14 +1,11 @@
--- The PDUs of a session as its code finds them: by their offsets, and where a response doesn't agree.
-use Rattle.std.specs.Prelude.{◌≡◌, ◌≤◌, ◌+◌, ℕ, ◌==◌, true, List, [], ◌∷◌, map, filter, slice_get, Option, Some}
+-- The PDUs of a session as its code finds them: by their offsets.
+use Rattle.std.specs.Prelude.{◌≡◌, ◌≤◌, ◌+◌, ℕ, ◌==◌, true, List, [], ◌∷◌, filter, slice_get, Option, Some}
 use Rattle.smq_kit.specs.declared.names.SessionId.{SessionId}
-use Rattle.smq_kit.specs.declared.place.Dir.{Dir}
-use Rattle.smq_kit.specs.declared.place.Place.{Place}
 use Rattle.smq_pdu.specs.Pairing.{is_request}
 use Rattle.smq_pdu.specs.declared.body.Submit.{Submit}
-use Rattle.smq_pair.specs.Pairing.{PairingValue, pair_at}
 use Rattle.smq_present.specs.declared.present.kept.KeptPdu.{KeptPdu}
 use Rattle.smq_present.specs.present.Kept.{header_of, submit_in}
-use Rattle.smq_present.specs.pairing.Traffic.{Origin, place_of, disagrees}
+use Rattle.smq_present.specs.pairing.Traffic.{Origin}
 
 -- where the PDUs of a session come from; no place says anything of its link
 abbrev pub from_session : SessionId → Origin
@@ -27,8 +24,3 @@ pub record SubmitsAreRequests (pdus : List KeptPdu) : Type 0 where
 -- the PDU at an offset
 abbrev pub pdu_at : List KeptPdu → ℕ → Option KeptPdu
 pdu_at pdus offset = slice_get (filter (λ p. p.offset == offset) pdus) 0
-
--- the places of the requests among these PDUs of a direction whose response doesn't agree
-abbrev pub mismatched_in : PairingValue → Origin → Dir → List KeptPdu → List Place
-mismatched_in v origin dir pdus =
-    filter (λ q. disagrees (pair_at v q)) (map (place_of origin dir) (filter (λ p. is_request (header_of p)) pdus))

@@ -61,12 +61,7 @@ pub fn fact_of(
 }
 
 /// A fact that is at this place, with another route and network, by whether its message has lapsed.
-pub fn restated(
-    place: Place,
-    fact: &Fact,
-    route: Option<(RouteId, Network)>,
-    lapsed: bool,
-) -> Fact
+pub fn restated(place: Place, fact: &Fact, route: Option<(RouteId, Network)>, lapsed: bool) -> Fact
     ensures { result ≡ record (with_route route (with_lapse lapsed fact.now)) { place = place } }
 {
     let mut restated = fact.copy();

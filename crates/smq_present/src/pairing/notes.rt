@@ -1,156 +1,137 @@
 //! The places of a session that need a look.
-ghost use Rattle.std.specs.Prelude.{◌≡◌, ◌++◌, ◌&&◌, map, option_to_list, OnOk};
-ghost use Rattle.smq_pdu.specs.Header.{header_with};
-ghost use Rattle.smq_pdu.specs.Pairing as pdu;
-ghost use Rattle.smq_pair.specs.Pairing.{pair_at};
-ghost use Rattle.smq_kit.specs.declared.place.Dir.TheVariants.{FromCentre};
+ghost use Rattle.std.specs.Prelude.{◌≡◌, ◌++◌, slice_get, option_to_list, map, IfOk, OnOk};
+ghost use Rattle.std.specs.Option.{option_copied};
+ghost use Rattle.smq_kit.specs.declared.place.Dir.TheVariants.{FromClient, FromCentre};
 ghost use Rattle.smq_tally.specs.Lists.{listed};
-ghost use Rattle.smq_present.specs.present.Kept.{is_undecodable, is_unreadable};
-ghost use Rattle.smq_present.specs.pairing.Traffic.{broken_at, disagrees, pairing_among, pairing_notes, places_where, session_notes, session_pairing};
-ghost use Rattle.smq_present.specs.within.Pairs.{from_session, mismatched_in};
+ghost use Rattle.smq_present.specs.present.Kept.{kept_pdus};
+ghost use Rattle.smq_present.specs.pairing.Traffic.{broken_at, session_notes};
+ghost use Rattle.smq_present.specs.within.Pairs.{from_session};
+ghost use Rattle.smq_present.specs.within.Sides as sides;
+ghost use Rattle.smq_present.specs.within.Sides.{IsPaired, IsSide, is_noted_by, note_of, noted, pairing_in};
 
 use crate::pairing::pairs::place_of;
+use crate::pairing::sides::{Side, sides_of};
 use crate::{KeptPdu, List, Listed, Session};
 use smq_frame::Tail;
 use smq_kit::{Dir, Place, SessionId};
-use smq_pair::{Pairing, Places};
-use smq_pdu::is_request;
-use std::alloc::AllocError;
+use smq_pdu::{agrees, is_request, is_response};
+use std::alloc::{AllocError, Global};
 
-/// Puts the notes of a session, whose pairs these are, after what is there.
-pub fn push_notes(
-    notes: &mut Vec<Listed>,
-    pairing: &mut Pairing,
+/// The notes of a session.
+pub fn read_notes(
+    alloc: Global,
     number: SessionId,
     session: &Session,
-) -> Result<(), AllocError>
-    requires { pairing.old.pdus ≡ session_pairing (number.0, session.now) }
-    ensures notes { OnOk result
-        (notes.new.items ≡ notes.old.items ++ session_notes (number.0, session.now)) }
-    ensures stays { pairing.new ≡ pairing.old }
+) -> Result<Vec<Listed>, AllocError>
+    ensures { IfOk result (λ notes. notes.items ≡ session_notes (number.0, session.now)) }
 {
-    let client = session.client.pdus();
-    let centre = session.centre.pdus();
-    push_pairing_notes(notes, pairing, number, client, centre)?;
-    push_unreadable(notes, number, centre)?;
-    push_undecodable(notes, number, Dir::FromClient, client)?;
-    push_undecodable(notes, number, Dir::FromCentre, centre)?;
-    push_broken(notes, number, Dir::FromClient, session.client.tail())?;
-    push_broken(notes, number, Dir::FromCentre, session.centre.tail())
+    let (client, centre) = sides_of(alloc, number, session)?;
+    let mut notes = Vec::new(alloc);
+    push_notes(&mut notes, number, session, &client, &centre)?;
+    Ok(notes)
 }
 
-/// Puts the notes of these pairs after what is there.
-fn push_pairing_notes(
+/// Puts the notes of a session, whose sides these are, after what is there.
+pub(crate) fn push_notes(
     notes: &mut Vec<Listed>,
-    pairing: &mut Pairing,
-    session: SessionId,
-    client: &[KeptPdu],
-    centre: &[KeptPdu],
+    number: SessionId,
+    session: &Session,
+    client: &Side<'_>,
+    centre: &Side<'_>,
 ) -> Result<(), AllocError>
-    requires { pairing.old.pdus ≡ pairing_among (from_session session) client.now centre.now }
-    ensures notes { OnOk result (notes.new.items ≡ notes.old.items ++ pairing_notes pairing.old.pdus) }
-    ensures stays { pairing.new ≡ pairing.old }
+    requires client { IsSide number FromClient (kept_pdus session.now.client) (kept_pdus session.now.centre) client.now }
+    requires centre { IsSide number FromCentre (kept_pdus session.now.centre) (kept_pdus session.now.client) centre.now }
+    ensures { OnOk result
+        (notes.new.items ≡ notes.old.items ++ session_notes (number.0, session.now)) }
 {
-    push_places(notes, List::Waiting, pairing.waiting())?;
-    push_places(notes, List::StrayAnswers, pairing.strays())?;
-    push_mismatched(notes, pairing, session, Dir::FromClient, client)?;
-    push_mismatched(notes, pairing, session, Dir::FromCentre, centre)
-}
-
-/// Puts these places after what is there, in a list.
-fn push_places(notes: &mut Vec<Listed>, list: List, places: Places<'_>) -> Result<(), AllocError>
-    ensures { OnOk result (notes.new.items ≡ notes.old.items ++ map (listed list) places.entry) }
-{
-    for place in places {
-        notes.push(Listed { list, place })?;
-    }
+    push_both(notes, List::Waiting, client, centre)?;
+    push_both(notes, List::StrayAnswers, client, centre)?;
+    push_both(notes, List::Mismatched, client, centre)?;
+    push_side(notes, List::Unreadable, centre)?;
+    push_both(notes, List::Undecodable, client, centre)?;
+    push_broken(notes, number, Dir::FromClient, session.client.tail())?;
+    push_broken(notes, number, Dir::FromCentre, session.centre.tail())?;
     Ok(())
 }
 
-/// Puts the requests of a direction whose response doesn't agree after what is there.
-fn push_mismatched(
+/// Puts the PDUs of both sides that are in a list after what is there: the client's first.
+fn push_both(
     notes: &mut Vec<Listed>,
-    pairing: &mut Pairing,
-    session: SessionId,
-    dir: Dir,
-    pdus: &[KeptPdu],
+    list: List,
+    client: &Side<'_>,
+    centre: &Side<'_>,
 ) -> Result<(), AllocError>
-    ensures notes { OnOk result (notes.new.items ≡ notes.old.items
-        ++ map (listed List.Mismatched) (mismatched_in pairing.old.pdus (from_session session) dir pdus.now)) }
-    ensures stays { pairing.new ≡ pairing.old }
+    requires client { IsPaired client.now }
+    requires centre { IsPaired centre.now }
+    ensures { OnOk result
+        (notes.new.items ≡ notes.old.items ++ (noted list client.now ++ noted list centre.now)) }
 {
-    for pdu in pdus {
-        let place = place_of(session, dir, pdu);
-        if is_mismatched(pairing, place, pdu.command) {
-            let note = Listed {
-                list: List::Mismatched,
-                place,
-            };
+    push_side(notes, list, client)?;
+    push_side(notes, list, centre)?;
+    Ok(())
+}
+
+/// Puts the PDUs of a side that are in a list after what is there.
+fn push_side(notes: &mut Vec<Listed>, list: List, side: &Side<'_>) -> Result<(), AllocError>
+    requires { IsPaired side.now }
+    ensures { OnOk result (notes.new.items ≡ notes.old.items ++ noted list side.now) }
+{
+    let pdus = side.pdus;
+    for index in 0..pdus.len() {
+        if let Some(note) = note_at(list, side, index, &pdus[index]) {
             notes.push(note)?;
         }
     }
     Ok(())
 }
 
-/// Whether the PDU at a place, which has this command_id, is a request whose response doesn't agree.
-fn is_mismatched(pairing: &mut Pairing, place: Place, command: u32) -> bool
-    ensures answer { result
-        ≡ (pdu.is_request (header_with command) && disagrees (pair_at pairing.old.pdus place)) }
-    ensures stays { pairing.new ≡ pairing.old }
+/// The PDU at an index in a list, if it is in it.
+fn note_at(list: List, side: &Side<'_>, index: usize, pdu: &KeptPdu) -> Option<Listed>
+    requires paired { IsPaired side.now }
+    requires pdu { slice_get side.now.pdus.now index ≡ Some pdu.now }
+    ensures { let o = from_session side.now.session in
+        let v = pairing_in side.now.dir o side.now.pdus.now side.now.other.now in
+        option_to_list result ≡ note_of list v o side.now.dir pdu.now }
 {
-    if !is_request(command) {
-        return false;
+    if !is_noted(list, pdu, side.response(index), side.request(index)) {
+        return None;
     }
-    match pairing.pair_of(place) {
-        Some(pair) => !pair.agrees,
+    Some(Listed {
+        list,
+        place: place_of(side.session, side.dir, pdu),
+    })
+}
+
+/// Whether a PDU is in a list, by the PDU that responds to it and the one that it responds to.
+fn is_noted(
+    list: List,
+    pdu: &KeptPdu,
+    response: Option<&KeptPdu>,
+    request: Option<&KeptPdu>,
+) -> bool
+    ensures { result ≡ is_noted_by list (option_copied response.entry) (option_copied request.entry) pdu.now }
+{
+    match list {
+        List::Waiting => is_request(pdu.command) && response.is_none(),
+        List::StrayAnswers => is_response(pdu.command) && request.is_none(),
+        List::Mismatched => is_request(pdu.command) && disagrees(pdu, response),
+        List::Unreadable => pdu.content.is_unreadable(),
+        List::Undecodable => pdu.content.is_undecodable(),
+        _ => false,
+    }
+}
+
+/// Whether a response doesn't agree with a request.
+fn disagrees(request: &KeptPdu, response: Option<&KeptPdu>) -> bool
+    ensures { result ≡ sides.disagrees_with request.now (option_copied response.entry) }
+{
+    match response {
+        Some(response) => !agrees(request.command, response.command),
         None => false,
     }
 }
 
-/// Puts the centre's delivery receipts without a usable id or state after what is there.
-fn push_unreadable(
-    notes: &mut Vec<Listed>,
-    session: SessionId,
-    centre: &[KeptPdu],
-) -> Result<(), AllocError>
-    ensures { OnOk result (notes.new.items ≡ notes.old.items ++ map (listed List.Unreadable)
-        (places_where is_unreadable (from_session session) FromCentre centre.now)) }
-{
-    for pdu in centre {
-        if pdu.content.is_unreadable() {
-            let note = Listed {
-                list: List::Unreadable,
-                place: place_of(session, Dir::FromCentre, pdu),
-            };
-            notes.push(note)?;
-        }
-    }
-    Ok(())
-}
-
-/// Puts the PDUs of a direction whose body can't be read after what is there.
-fn push_undecodable(
-    notes: &mut Vec<Listed>,
-    session: SessionId,
-    dir: Dir,
-    pdus: &[KeptPdu],
-) -> Result<(), AllocError>
-    ensures { OnOk result (notes.new.items ≡ notes.old.items ++ map (listed List.Undecodable)
-        (places_where is_undecodable (from_session session) dir pdus.now)) }
-{
-    for pdu in pdus {
-        if pdu.content.is_undecodable() {
-            let note = Listed {
-                list: List::Undecodable,
-                place: place_of(session, dir, pdu),
-            };
-            notes.push(note)?;
-        }
-    }
-    Ok(())
-}
-
-/// Puts the place at which a direction with this tail is broken after what is there, if it is.
+/// Puts the place at which a direction with this tail is broken, where it is, after what is there.
 fn push_broken(
     notes: &mut Vec<Listed>,
     session: SessionId,

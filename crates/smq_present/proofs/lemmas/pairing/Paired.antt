@@ -76,10 +76,6 @@ module _ (o : Origin) (d : Dir) where
   headers-placed [] = refl
   headers-placed (p ∷ ps) = ap (λ hs. header_of p ∷ hs) (headers-placed ps)
 
-  pub places-placed : (ps : List KeptPdu) → map (λ (p : PlacedHeader). p.place) (map (placed o d) ps) ≡ map (place_of o d) ps
-  places-placed [] = refl
-  places-placed (p ∷ ps) = ap (λ qs. place_of o d p ∷ qs) (places-placed ps)
-
 -- ---- the pair of a request
 
 module _ (o : Origin) where

@@ -1,5 +1,5 @@
 use Rattle.std.proofs.Common.{◌≡◌, ◌∙◌}
-use Rattle.smq_scratch.specs.Sourced.{sourced_of}
+use Rattle.smq_present.specs.within.Sourced.{sourced_of}
 use Rattle.smq_scratch.proofs.Collected.{notes-present, submits-present}
 use Rattle.smq_scratch.proofs.anew.audit.Goals as goal
 

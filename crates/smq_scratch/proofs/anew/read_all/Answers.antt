@@ -1,5 +1,5 @@
 use Rattle.std.proofs.Common.{◌≡◌, ap, ◌∙◌}
-use Rattle.smq_scratch.specs.Said.{Says}
+use Rattle.smq_present.specs.within.Said.{Says}
 use Rattle.smq_scratch.proofs.Collected.{collects}
 use Rattle.smq_scratch.proofs.anew.read_all.Goals as goal
 

@@ -2,7 +2,7 @@
 use Rattle.std.proofs.Common.{◌≡◌, ◌++◌, drop}
 use Rattle.std.specs.List.{flat_map}
 use Rattle.smq_present.specs.within.Listings.{note_kept}
-use Rattle.smq_scratch.specs.Sourced.{receipts_in}
+use Rattle.smq_present.specs.within.Sourced.{receipts_in}
 use Rattle.smq_scratch.proofs.listings.push_receipt_notes.Given as goal
 
 abbrev pub invariant-loop-sourced : goal.invariant-loop-sourced

@@ -5,7 +5,7 @@ use Rattle.smq_lines.specs.Lines.{MessageLineValue}
 use Rattle.smq_present.specs.present.Settings.{SettingsValue}
 use Rattle.smq_present.specs.within.Messages.{SubmittedMessage}
 use Rattle.smq_scratch.specs.Lines.{message_line}
-use Rattle.smq_scratch.specs.Sourced.{receipts_in}
+use Rattle.smq_present.specs.within.Sourced.{receipts_in}
 use Rattle.smq_scratch.proofs.Collected.{all-mapped, receipts-present}
 use Rattle.smq_scratch.proofs.submitted.lines_of_submits.Goals as goal
 

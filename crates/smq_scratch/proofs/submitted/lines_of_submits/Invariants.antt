@@ -2,7 +2,7 @@
 use Rattle.std.proofs.Common.{◌≡◌, ◌++◌, drop, map}
 use Rattle.std.specs.List.{flat_map}
 use Rattle.smq_scratch.specs.Lines.{message_line}
-use Rattle.smq_scratch.specs.Sourced.{receipts_in}
+use Rattle.smq_present.specs.within.Sourced.{receipts_in}
 use Rattle.smq_scratch.proofs.submitted.lines_of_submits.Given as goal
 
 abbrev pub invariant-loop-submit : goal.invariant-loop-submit

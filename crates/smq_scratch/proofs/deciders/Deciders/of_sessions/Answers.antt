@@ -3,7 +3,7 @@ use Rattle.std.specs.List.{flat_map}
 use Rattle.std.proofs.lemmas.List.{append_assoc, drop_more}
 use Rattle.smq_present.specs.declared.present.kept.KeptPdu.{KeptPdu}
 use Rattle.smq_present.specs.within.Receipts.{KeyedReceipt, receipts_among}
-use Rattle.smq_scratch.specs.Sourced.{SourcedSession, receipts_in}
+use Rattle.smq_present.specs.within.Sourced.{SourcedSession, receipts_in}
 use Rattle.smq_scratch.proofs.Deciding.{deciders-none}
 use Rattle.smq_scratch.proofs.deciders.Deciders.of_sessions.Goals as goal
 

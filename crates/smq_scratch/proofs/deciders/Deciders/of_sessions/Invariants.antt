@@ -3,7 +3,7 @@ use Rattle.std.proofs.Common.{◌≡◌, ◌++◌, List, drop}
 use Rattle.std.specs.List.{flat_map}
 use Rattle.smq_present.specs.within.Receipts.{KeyedReceipt}
 use Rattle.smq_present.specs.within.Accepted.{HasDeciders}
-use Rattle.smq_scratch.specs.Sourced.{receipts_in}
+use Rattle.smq_present.specs.within.Sourced.{receipts_in}
 use Rattle.smq_scratch.proofs.deciders.Deciders.of_sessions.Given as goal
 
 abbrev pub invariant-loop-sourced : goal.invariant-loop-sourced

@@ -1,8 +1,0 @@
--- What is read so far is what the sessions up to here say.
-use Rattle.std.proofs.Common.{take}
-use Rattle.std.specs.List.{AllZip}
-use Rattle.smq_scratch.specs.Said.{Says}
-use Rattle.smq_scratch.proofs.traffic.read_sessions.Given as goal
-
-abbrev pub invariant-loop-sourced : goal.invariant-loop-sourced
-invariant-loop-sourced l = AllZip Says (take l.sourced-index l.sessions) l.read.items

@@ -1,8 +1,0 @@
--- What is read of a session.
-use Rattle.std.specs.Prelude.{◌≡◌}
-use Rattle.smq_scratch.specs.declared.traffic.Traffic.{Traffic}
-use Rattle.smq_scratch.specs.Sourced.{SourcedSession, submits_in, notes_in}
-
--- these are the submitted messages and the notes of a session
-abbrev pub Says : SourcedSession → Traffic → Type 0
-Says x traffic = (traffic.submits.items ≡ submits_in x) × (traffic.notes.items ≡ notes_in x)
