@@ -14,11 +14,9 @@ ghost use Rattle.smq_scratch.specs.Lines.{deciding_receipt};
 ghost use Rattle.smq_present.specs.within.Accepted as among;
 ghost use Rattle.smq_present.specs.within.Messages.{SubmittedMessage as Submit};
 
-use smq_present::{
-    KeptPdu, ReceivedReceipt, Source, SourcedSession, SubmittedMessage, place_of,
-};
 use smq_kit::{Dir, HashedKey, Place};
 use smq_lines::DecidingReceipt;
+use smq_present::{KeptPdu, ReceivedReceipt, Source, SourcedSession, SubmittedMessage, place_of};
 use std::alloc::{AllocError, Global};
 use std::collections::BTreeMap;
 use std::marker::Model;

@@ -18,8 +18,8 @@ ghost use Rattle.smq_present.specs.whole.Scratch.{scratch};
 ghost use Rattle.smq_scratch.specs.Known.{KnownMessageLines, KnownReceiptLines};
 ghost use Rattle.smq_scratch.specs.Lines.{HasDecidingLine, HasLineAt, HasLineNaming, listing_of, message_lines, receipt_lines};
 
-use smq_present::{List, Outcome, Value, View};
 use smq_kit::Place;
+use smq_present::{List, Outcome, Value, View};
 
 /// The lines for messages have the facts that are known by place, in order: one for each message.
 pub fn message_lines_have_the_facts()

@@ -8,8 +8,8 @@ ghost use Rattle.smq_present.specs.within.Receipts.{receipt_by, receipts_among};
 ghost use Rattle.smq_present.specs.within.Sourced.{receipts_in};
 
 use crate::deciders::{Accepted, Deciders, PlacedReceipt, receipt_at};
-use smq_present::{KeptPdu, List, Listed, Source, SourcedSession};
 use smq_kit::HashedKey;
+use smq_present::{KeptPdu, List, Listed, Source, SourcedSession};
 use std::alloc::{AllocError, Global};
 
 /// Puts the receipts of sessions that are in a list after what is there.

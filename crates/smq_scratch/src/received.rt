@@ -10,9 +10,9 @@ ghost use Rattle.smq_scratch.specs.within.Matches.{lines_kept, number_in, place_
 
 use crate::deciders::{Deciders, PlacedReceipt, receipt_at};
 use crate::matches::{Match, Matches};
-use smq_present::{KeptPdu, Present, Source, SourcedSession, joined, read_sessions, sourced};
 use smq_kit::Place;
 use smq_lines::{ReceiptLine, ReceiptStanding};
+use smq_present::{KeptPdu, Present, Source, SourcedSession, joined, read_sessions, sourced};
 use std::alloc::{AllocError, Global};
 
 /// A line for each delivery receipt that is present, in the order of their places: how it stands to the messages that are accepted

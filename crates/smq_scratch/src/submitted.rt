@@ -9,10 +9,10 @@ ghost use Rattle.smq_present.specs.within.Sourced.{sourced_of};
 
 use crate::deciders::{Accepted, Deciders};
 use crate::facts::known_of;
+use smq_lines::MessageLine;
 use smq_present::{
     Present, Settings, SourcedSession, SubmittedMessage, joined, read_sessions, sourced,
 };
-use smq_lines::MessageLine;
 use std::alloc::{AllocError, Global};
 
 /// A line for each submitted message that is present, in the order of their places: what is known of it, as `tables_anew` counts
