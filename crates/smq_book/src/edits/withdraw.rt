@@ -34,7 +34,7 @@ pub(crate) fn withdraw(
         Some(found) => found,
         None => return Err(Refusal::NoSession),
     };
-    let Ok(()) = take(index, pairings, present, session, found) else {
+    let Ok(()) = take(pairings.alloc, index, present, session, found) else {
         index.undo();
         return Err(Refusal::Memory);
     };

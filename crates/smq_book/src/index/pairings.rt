@@ -1,14 +1,11 @@
 //! The pairs of each session that is present.
-ghost use Rattle.std.specs.Prelude.{◌≡◌, ◌≢◌, ◌≤◌, ◌++◌, ◌+◌, ◌-◌, ℕ, IsSome, OnOk};
+ghost use Rattle.std.specs.Prelude.{◌≡◌, ◌≢◌, ◌≤◌, ◌+◌, ◌-◌, ℕ, IsSome, OnOk};
 ghost use Rattle.smq_pair.specs.Paired.{no_pdus};
-ghost use Rattle.smq_present.specs.pairing.Traffic.{session_notes, session_pairing};
 ghost use Rattle.smq_book.specs.index.Touches.{counted, pairs_cost};
 ghost use Rattle.smq_book.specs.index.Pairs.{pairs_now, pairs_pending, pairs_settled, stored_of};
 
-use crate::{Listed, Session};
 use smq_kit::SessionId;
 use smq_pair::Pairing;
-use smq_present::push_notes;
 use std::alloc::{AllocError, Global};
 use std::collections::BTreeMap;
 
@@ -111,34 +108,6 @@ impl Pairings {
         ensures touches { self.new.touches ≡ self.old.touches }
     {
         self.by_session.remove(&session.0);
-    }
-
-    /// Puts the notes of a session after what is there.
-    pub(crate) fn push_notes(
-        &mut self,
-        notes: &mut Vec<Listed>,
-        number: SessionId,
-        session: &Session,
-    ) -> Result<(), AllocError>
-        requires { pairs_now self.old number.0 ≡ session_pairing (number.0, session.now) }
-        ensures notes { OnOk result
-            (notes.new.items ≡ notes.old.items ++ session_notes (number.0, session.now)) }
-        ensures now { (other : ℕ) → pairs_now self.new other ≡ pairs_now self.old other }
-        ensures settled { (other : ℕ) → pairs_settled self.new other ≡ pairs_settled self.old other }
-        ensures pending { (other : ℕ)
-            → pairs_pending self.new other ≡ pairs_pending self.old other }
-        ensures touches { self.new.touches ≡ self.old.touches }
-    {
-        self.ensure(number)?;
-        match self.by_session.get_mut(&number.0) {
-            Some(pairing) => {
-                let before = pairing.touches();
-                let pushed = push_notes(notes, pairing, number, session);
-                count(&mut self.touches, before, pairing.touches());
-                pushed
-            }
-            None => Ok(()),
-        }
     }
 }
 

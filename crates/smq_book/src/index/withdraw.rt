@@ -1,29 +1,27 @@
 //! What a withdrawal takes out: the messages, the delivery receipts and the notes of its session.
-ghost use Rattle.std.specs.Prelude.{◌≡◌, ◌≤◌, ◌+◌, ℕ, length, OnOk, Some};
+ghost use Rattle.std.specs.Prelude.{◌≡◌, ◌≤◌, ◌+◌, length, OnOk, Some};
 ghost use Rattle.std.specs.List.{sum_by};
 ghost use Rattle.std.specs.FinMap as fin;
 ghost use Rattle.smq_present.specs.join.Listings.{AllTraffic};
 ghost use Rattle.smq_book.specs.index.Held.{IsHeld, held_now, held_settled, traffic_held};
-ghost use Rattle.smq_book.specs.index.Pairs.{pairs_now, pairs_pending, pairs_settled};
 ghost use Rattle.smq_book.specs.index.Pushed.{IsHeldAfter};
 ghost use Rattle.smq_book.specs.index.Taken.{note_takes, receipt_take, receipt_takes, submit_take, submit_takes};
 ghost use Rattle.smq_book.specs.index.Touches.{MembersGo, RisesWithFacts, index_cost, message_load, receipt_load};
-ghost use Rattle.smq_present.specs.pairing.Traffic.{session_notes, session_pairing, traffic_of};
+ghost use Rattle.smq_present.specs.pairing.Traffic.{session_notes, traffic_of};
 ghost use Rattle.smq_present.specs.present.Kept.{kept_pdus};
 ghost use Rattle.smq_present.specs.present.Settings.{SettingsValue};
 ghost use Rattle.smq_present.specs.within.Pairs.{from_session};
 
 use crate::index::index::Index;
-use crate::index::pairings::Pairings;
 use crate::{KeptPdu, Listed, Present, Session};
 use smq_kit::{Dir, SessionId};
-use smq_present::{Settings, place_of};
-use std::alloc::AllocError;
+use smq_present::{Settings, place_of, read_notes};
+use std::alloc::{AllocError, Global};
 
-/// Takes what a session says out, whose pairs these are. On an error the caller undoes what is held.
+/// Takes what a session says out. On an error the caller undoes what is held.
 pub(crate) fn withdraw(
+    alloc: Global,
     index: &mut Index,
-    pairings: &mut Pairings,
     present: &Present,
     number: SessionId,
     session: &Session,
@@ -31,27 +29,21 @@ pub(crate) fn withdraw(
     requires held { IsHeld present.now.settings (held_now index.old) }
     requires traffic { traffic_held (held_now index.old) ≡ traffic_of present.now.sessions }
     requires there { fin.get present.now.sessions number.0 ≡ Some session.now }
-    requires pairs { pairs_now pairings.old number.0 ≡ session_pairing (number.0, session.now) }
     ensures held { OnOk result (IsHeld present.now.settings (held_now index.new)) }
     ensures traffic { OnOk result (traffic_held (held_now index.new)
         ≡ traffic_of (fin.remove present.now.sessions number.0)) }
     ensures settled { held_settled index.new ≡ held_settled index.old }
     ensures rises { OnOk result (RisesWithFacts index.old index.new) }
-    ensures pairs { (other : ℕ) → pairs_now pairings.new other ≡ pairs_now pairings.old other }
-    ensures settled_pairs { (other : ℕ) → pairs_settled pairings.new other ≡ pairs_settled pairings.old other }
-    ensures pending_pairs { (other : ℕ) → pairs_pending pairings.new other ≡ pairs_pending pairings.old other }
     ensures touches { let g = index.old.standings in let origin = from_session number in
         OnOk result (index_cost index.new ≤ index_cost index.old
         + sum_by (message_load g origin) (kept_pdus session.now.client)
         + sum_by (receipt_load g origin) (kept_pdus session.now.centre)
         + length (session_notes (number.0, session.now))) }
-    ensures pairs_touches { pairings.new.touches ≡ pairings.old.touches }
 {
     let settings = present.settings();
     take_messages(index, settings, number, session.client.pdus())?;
     take_receipts(index, settings, number, session.centre.pdus())?;
-    let mut notes = Vec::new(pairings.alloc);
-    pairings.push_notes(&mut notes, number, session)?;
+    let notes = read_notes(alloc, number, session)?;
     take_notes(index, notes.as_slice())?;
     Ok(())
 }

@@ -1,13 +1,9 @@
-use Rattle.std.proofs.Common.{◌≡◌, Option, refl, sym, ap, subst, ◌∙◌, arith}
-use Rattle.std.specs.Prelude.{option_map, unwrap_or}
+use Rattle.std.proofs.Common.{◌≡◌, refl, sym, subst, arith}
 use Rattle.std.specs.FinMap.{get}
-use Rattle.smq_pair.specs.Paired.{no_pdus}
-use Rattle.smq_present.specs.declared.present.session.Session.{Session}
 use Rattle.smq_present.specs.declared.present.edit.Edit.TheVariants.{Withdraw}
 use Rattle.smq_book.specs.index.Held.{held_now}
 use Rattle.smq_book.specs.index.Kept.{IsKept}
 use Rattle.smq_book.specs.index.Pairs.{pairs_now, pairs_pending, pairs_settled}
-use Rattle.smq_present.specs.pairing.Traffic.{session_pairing}
 use Rattle.smq_present.specs.present.Present.{PresentValue}
 use Rattle.smq_present.specs.present.Steps.{change}
 use Rattle.smq_book.proofs.lemmas.index.Bounds.{withdraw-bound}
@@ -16,12 +12,6 @@ use Rattle.smq_book.proofs.edits.withdraw.withdraw.Goals as goal
 
 pub withdraw-requires-clause-there : goal.withdraw-requires-clause-there
 withdraw-requires-clause-there c = sym c.in-Some.ensures
-
-pub withdraw-requires-clause-pairs : goal.withdraw-requires-clause-pairs
-withdraw-requires-clause-pairs c =
-    let n = c.args.session.0 in
-    c.requires.kept.pairs n
-    ∙ ap (λ (found : Option Session). unwrap_or (option_map (λ (s : Session). session_pairing (n, s)) found) no_pdus) (sym c.in-Some.ensures)
 
 pub returns-in-None-clause-reply : goal.returns-in-None-clause-reply
 returns-in-None-clause-reply c = absent-reply _ (get c.args.present.now.sessions c.args.session.0) _ _ (sym c.in-None.ensures) refl
@@ -45,14 +35,14 @@ returns-clause-kept c =
     (kept-settled (change p (Withdraw c.args.session)) c.settle.new.self c.remove.new.self
     (held_now c.withdraw.new.index) c.settle.ensures.held c.settle.ensures.settled c.in-Ok.ensures.held c.in-Ok.ensures.traffic
     (pairs-removed n (pairs_now c.args.pairings.now) (pairs_now c.remove.new.self) p.sessions
-    (λ other apart. c.remove.ensures.others other apart ∙ c.withdraw.ensures.pairs other) kept.pairs c.remove.ensures.now)
+    c.remove.ensures.others kept.pairs c.remove.ensures.now)
     (pairs-removed n (pairs_settled c.args.pairings.now) (pairs_settled c.remove.new.self) p.sessions
-    (λ other apart. c.remove.ensures.others_settled other apart ∙ c.withdraw.ensures.settled_pairs other) kept.settled_pairs c.remove.ensures.settled)
+    c.remove.ensures.others_settled kept.settled_pairs c.remove.ensures.settled)
     c.settle.ensures.pending
     (none-pending n (pairs_pending c.args.pairings.now) (pairs_pending c.remove.new.self) c.remove.ensures.pending
-    (λ other apart. c.remove.ensures.other_pending other apart ∙ c.withdraw.ensures.pending_pairs other) kept.pending_pairs))
+    c.remove.ensures.other_pending kept.pending_pairs))
 
 pub returns-clause-touches : goal.returns-clause-touches
 returns-clause-touches c =
     let bound = withdraw-bound c.args.present.now c.args.index.now c.args.pairings.now c.requires.kept c.args.session c.in-Some.found.now (sym c.in-Some.ensures) in
-    omega (arith, bound, c.in-Ok.ensures.touches, c.settle.ensures.touches, c.withdraw.ensures.pairs_touches, c.remove.ensures.touches)
+    omega (arith, bound, c.in-Ok.ensures.touches, c.settle.ensures.touches, c.remove.ensures.touches)

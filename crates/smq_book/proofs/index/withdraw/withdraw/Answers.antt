@@ -1,4 +1,4 @@
-use Rattle.std.proofs.Common.{◌≡◌, ◌++◌, List, length, subst, ap, sym, ◌∙◌, arith}
+use Rattle.std.proofs.Common.{◌≡◌, length, subst, ap, sym, ◌∙◌, arith}
 use Rattle.std.specs.List.{sum_by}
 use Rattle.std.proofs.lemmas.List.Sums.{sum_by-le-sum_by}
 use Rattle.smq_kit.specs.declared.place.Dir.TheVariants.{FromCentre}
@@ -24,8 +24,7 @@ take_receipts-requires c = c.in_ok-take_messages.ensures.held.held
 pub take_notes-requires : goal.take_notes-requires
 take_notes-requires c =
     let noted : c.as_slice.result.now ≡ session_notes (c.args.number.0, c.args.session.now) =
-    c.as_slice.ensures.value ∙ c.in_ok-push_notes.ensures.notes
-    ∙ ap (λ (before : List Listed). before ++ session_notes (c.args.number.0, c.args.session.now)) c.new-notes.ensures.items in
+    c.as_slice.ensures.value ∙ c.in_ok-notes.ensures in
     subst AllTraffic (sym noted) (session-lists (c.args.number.0, c.args.session.now))
 
 pub returns-clause-held : goal.returns-clause-held
@@ -41,8 +40,7 @@ returns-clause-traffic c =
     let received = held_now c.take_receipts.new.index in
     let last = held_now c.take_notes.new.index in
     let noted : c.as_slice.result.now ≡ session_notes (c.args.number.0, c.args.session.now) =
-    c.as_slice.ensures.value ∙ c.in_ok-push_notes.ensures.notes
-    ∙ ap (λ (before : List Listed). before ++ session_notes (c.args.number.0, c.args.session.now)) c.new-notes.ensures.items in
+    c.as_slice.ensures.value ∙ c.in_ok-notes.ensures in
     withdrawn-after c.args.present.now.sessions c.args.number.0 c.args.session.now c.requires.there s g last
     c.pdus.result.now c.pdus-2.result.now c.as_slice.result.now c.pdus.ensures c.pdus-2.ensures noted c.requires.traffic
     (after-both s g taken last c.in_ok-take_messages.ensures.held
@@ -55,8 +53,7 @@ returns-clause-touches c =
     let h = c.take_messages.new.index.standings in
     let origin = from_session c.args.number in
     let noted : c.as_slice.result.now ≡ session_notes (c.args.number.0, c.args.session.now) =
-    c.as_slice.ensures.value ∙ c.in_ok-push_notes.ensures.notes
-    ∙ ap (λ (before : List Listed). before ++ session_notes (c.args.number.0, c.args.session.now)) c.new-notes.ensures.items in
+    c.as_slice.ensures.value ∙ c.in_ok-notes.ensures in
     let messages = ap (sum_by (message_load g origin)) c.pdus.ensures in
     let receipts = ap (sum_by (receipt_load g origin)) c.pdus-2.ensures in
     let lighter = sum_by-le-sum_by (receipt_load h origin) (receipt_load g origin) c.pdus-2.result.now (λ p.
