@@ -1,12 +1,12 @@
 //! The pairs of each session that is present.
-ghost use Rattle.std.specs.Prelude.{◌≡◌, ◌≢◌, ◌≤◌, ◌+◌, ◌-◌, ℕ, IsSome, OnOk};
+ghost use Rattle.std.specs.Prelude.{◌≡◌, ◌≢◌, ◌≤◌, ◌+◌, ◌-◌, ℕ};
 ghost use Rattle.smq_pair.specs.Paired.{no_pdus};
 ghost use Rattle.smq_book.specs.index.Touches.{counted, pairs_cost};
-ghost use Rattle.smq_book.specs.index.Pairs.{pairs_now, pairs_pending, pairs_settled, stored_of};
+ghost use Rattle.smq_book.specs.index.Pairs.{pairs_now, pairs_pending, pairs_settled};
 
 use smq_kit::SessionId;
 use smq_pair::Pairing;
-use std::alloc::{AllocError, Global};
+use std::alloc::Global;
 use std::collections::BTreeMap;
 
 /// The pairs among the PDUs of each session, by its number. A session that isn't there has no PDUs.
@@ -31,23 +31,6 @@ impl Pairings {
             by_session: BTreeMap::new(alloc),
             touches: 0,
         }
-    }
-
-    /// Makes room for the pairs of a session, where there is none. It changes no pair.
-    pub(crate) fn ensure(&mut self, session: SessionId) -> Result<(), AllocError>
-        ensures there { OnOk result (IsSome (stored_of self.new.by_session session.0)) }
-        ensures now { (number : ℕ) → pairs_now self.new number ≡ pairs_now self.old number }
-        ensures settled { (number : ℕ) → pairs_settled self.new number ≡ pairs_settled self.old number }
-        ensures pending { (number : ℕ)
-            → pairs_pending self.new number ≡ pairs_pending self.old number }
-        ensures touches { self.new.touches ≡ self.old.touches }
-    {
-        if self.by_session.get(&session.0).is_some() {
-            return Ok(());
-        }
-        let pairing = Pairing::new(self.alloc);
-        self.by_session.insert(session.0, pairing)?;
-        Ok(())
     }
 
     /// Brings back the pairs of a session that were settled. It takes no memory.

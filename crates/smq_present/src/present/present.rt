@@ -218,11 +218,7 @@ impl Present {
 }
 
 /// What refuses a batch after its session, or after none, if anything: lack of memory aside.
-pub fn append_refusal(
-    alloc: Global,
-    session: Option<&Session>,
-    batch: &Batch,
-) -> Option<Refusal>
+pub fn append_refusal(alloc: Global, session: Option<&Session>, batch: &Batch) -> Option<Refusal>
     ensures { result ≡ first_of (append_refusals (option_copied session.entry) batch.now) }
 {
     match session {

@@ -25,8 +25,10 @@ pub put_batch_in_step-requires : goal.put_batch_in_step-requires
 put_batch_in_step-requires c =
     let p = c.args.present.now in
     let batch = c.args.batch in
-    record { in_step = in-step (session_of p batch.session.0) batch (ap (λ (s : Option Session). first_of (append_refusals s batch))
-    (ap (λ (m : SessionId). session_of p m.0) (sym c.session-number.ensures) ∙ sym c.session-found.ensures) ∙ sym c.append_refusal.ensures ∙ c.in_default.is) }
+    record {
+      in_step = in-step (session_of p batch.session.0) batch (ap (λ (s : Option Session). first_of (append_refusals s batch))
+          (ap (λ (m : SessionId). session_of p m.0) (sym c.session-number.ensures) ∙ sym c.session-found.ensures) ∙ sym c.append_refusal.ensures ∙ c.in_default.is);
+    }
 
 pub returns-clause-kept : goal.returns-clause-kept
 returns-clause-kept c =
