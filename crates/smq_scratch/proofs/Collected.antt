@@ -1,9 +1,8 @@
 -- What sessions say, one after the other.
-use Rattle.std.proofs.Common.{◌≡◌, ℕ, ◌≤◌, List, [], ◌∷◌, ◌++◌, drop, length, map, Ok, Err, IfOk, MatchResult, refl, sym, ap, ◌∙◌, subst}
+use Rattle.std.proofs.Common.{◌≡◌, List, [], ◌∷◌, ◌++◌, map, Ok, Err, IfOk, MatchResult, refl, ap, ◌∙◌, subst}
 use Rattle.std.specs.Prelude.{Result}
 use Rattle.std.specs.FinMap.{entries}
 use Rattle.std.specs.List.{AllZip, Contains, flat_map}
-use Rattle.std.proofs.lemmas.List.{append-nil, drop_all}
 use Rattle.std.proofs.lemmas.List.Elements.{same_from_all_zip}
 use Rattle.std.proofs.lemmas.List.Folds.{flat_map-map}
 use denote.Bor.{Bor}
@@ -13,11 +12,6 @@ use Rattle.smq_present.specs.within.Lists.{notes_of, receipts_of, submits_of}
 use Rattle.smq_present.specs.declared.pairing.traffic.Traffic.{Traffic}
 use Rattle.smq_present.specs.within.Said.{Says}
 use Rattle.smq_present.specs.within.Sourced.{SourcedSession, sourced_by, sourced_of, submits_in, receipts_in, notes_in}
-
--- what is made of each, where none is left, is what is made of all
-pub all-mapped : {A B : Type 0} (f : A → B) (made all : List B) (xs : List A) (i : ℕ) → length xs ≤ i
-    → made ++ map f (drop i xs) ≡ all → made ≡ all
-all-mapped f made all xs i h e = sym (append-nil made) ∙ ap (λ ys. made ++ map f ys) (sym (drop_all i xs h)) ∙ e
 
 -- what is said of each is what is said of all
 flat-said : {X Y C : Type 0} (R : X → Y → Type 0) (f : X → List C) (g : Y → List C) → ((x : X) (y : Y) → R x y → g y ≡ f x)

@@ -1,10 +1,8 @@
 pub mod KeyMaps
-pub mod Numbers
 pub mod Deciding
 pub mod Matched
 pub mod LineLaws
 pub mod DecidedLines
 pub mod NamedLines
-pub mod ReceiptNotes
 pub mod Collected
-pub mod Joined
+pub mod JoinedLemmas

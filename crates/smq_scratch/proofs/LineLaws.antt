@@ -82,7 +82,7 @@ list-is (suc zero) decider r = by (stands_at decider r.place) (can_decide r.rece
     by false false s c = rw (s, c) refl
 list-is (suc (suc n)) decider r = refl
 
-lists-are : (submits : List SubmittedMessage) (receipts es : List KeyedReceipt)
+pub lists-are : (submits : List SubmittedMessage) (receipts es : List KeyedReceipt)
     → flat_map listing_of (map (receipt_line submits receipts) es) ≡ flat_map (note_of submits receipts) es
 lists-are submits receipts [] = refl
 lists-are submits receipts (e ∷ es) =

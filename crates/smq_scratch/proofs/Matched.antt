@@ -1,9 +1,10 @@
 -- Which messages are accepted with each key, one message at a time, and the lines for receipts that are made by that.
-use Rattle.std.proofs.Common.{◌≡◌, ℕ, ◌+◌, ◌<◌, Bool, true, false, cond, List, [], ◌∷◌, ◌++◌, length, take, get_or, Option, Some, None, refl, sym, ap, ◌∙◌}
-use Rattle.std.specs.Prelude.{map, option_to_list}
+use Rattle.std.proofs.Common.{◌≡◌, ℕ, suc, ◌+◌, ◌<◌, Bool, true, false, ◌||◌, cond, List, [], ◌∷◌, ◌++◌, length, take, get_or, Option, Some, None, refl, sym, ap, ◌∙◌, arith}
+use Rattle.std.specs.Prelude.{◌==◌, map, option_to_list}
 use Rattle.std.specs.List.{list_any}
 use Rattle.std.specs.BTreeMap.{BTreeMap}
 use Rattle.std.specs.FinMap.{FinMap, get, insert, get-insert}
+use Rattle.std.proofs.lemmas.Bool.{eqb-true}
 use Rattle.std.proofs.lemmas.List.{take_more, append-nil}
 use Rattle.std.proofs.lemmas.List.Elements.{filter-append}
 use Rattle.std.proofs.lemmas.List.Sums.{length-filter}
@@ -11,19 +12,24 @@ use Rattle.smq_kit.specs.declared.link_key.LinkKey.{LinkKey}
 use Rattle.smq_kit.specs.LinkKeys.{link_key_cmp, by_key, same_key}
 use Rattle.smq_kit.proofs.Comparisons.{is_equal}
 use Rattle.smq_kit.proofs.LinkKeyOrders.{link_keys_total, link_keys_exact}
-use Rattle.smq_present.specs.within.Accepted.{HasDeciders, accepted_with}
+use Rattle.smq_present.specs.within.Accepted.{HasDeciders, accepted_with, is_single}
 use Rattle.smq_present.specs.within.Messages.{SubmittedMessage}
 use Rattle.smq_present.specs.within.Receipts.{KeyedReceipt, PlacedReceipt, candidates, least_receipt}
 use Rattle.smq_lines.specs.Lines.{ReceiptLineValue}
 use Rattle.smq_scratch.specs.declared.matches.Match.{Match}
 use Rattle.smq_scratch.specs.Lines.{accepted_among, only_place, receipt_line, standing_by}
-use Rattle.smq_scratch.specs.within.Matches.{HasMatches, line_by, lines_kept, match_kept, match_of, match_with}
+use Rattle.smq_scratch.specs.within.Matches.{HasMatches, line_by, lines_kept, match_kept, match_of, match_with, number_in}
 use Rattle.smq_scratch.proofs.KeyMaps.{get-none}
-use Rattle.smq_scratch.proofs.Numbers.{one_key}
 
 -- no message is accepted yet
 pub matches-none : (kept : BTreeMap LinkKey Match) → kept.entries ≡ [] → HasMatches kept []
 matches-none kept e = record { at = λ q. get-none kept.entries q e }
+
+-- whether a message is accepted with a key, by its own
+one_key : (q k : LinkKey) (x : SubmittedMessage) → x.key ≡ Some k → accepted_with q x ≡ same_key q k
+one_key q k x e =
+    ap (λ (o : Option LinkKey). list_any (same_key q) (option_to_list o)) e
+    ∙ elim (same_key q k) as (λ b. (b || false) ≡ b) [ true ↦ refl | false ↦ refl ]
 
 -- one message more that matches
 match-more : (ms : List SubmittedMessage) (x : SubmittedMessage) → match_of (ms ++ x ∷ []) ≡ Some (match_with (match_of ms) x.place)
@@ -71,6 +77,25 @@ module _ (submits : List SubmittedMessage) (i : ℕ) (x : SubmittedMessage) (h :
   matches-same kept key so = record {
     at = λ q. so.at q ∙ stays q (ap (λ (o : Option LinkKey). list_any (same_key q) (option_to_list o)) (sym key));
   }
+
+-- ---- whether it is one alone
+
+not-one : (n : ℕ) (b : Bool) → (suc (suc n) == 1) ≡ b → b ≡ false
+not-one n true e = absurd (let one = eqb-true (suc (suc n)) 1 e in omega (arith, one))
+not-one n false e = refl
+
+one-of : (ms : List SubmittedMessage) → (length ms == 1) ≡ (number_in (match_of ms) == 1)
+one-of [] = refl
+one-of (m ∷ []) = refl
+one-of (m ∷ n ∷ ms) = not-one (length ms) _ refl ∙ sym (not-one 0 _ refl)
+
+-- a key is single where one message matches it
+pub single-kept : (submits : List SubmittedMessage) (matches : BTreeMap LinkKey Match) (key : LinkKey) → HasMatches matches submits
+    → is_single submits key ≡ (number_in (match_kept matches key) == 1)
+single-kept submits matches key n =
+    ap (λ k. k == 1) (sym (length-filter (accepted_with key) submits))
+    ∙ one-of (accepted_among key submits)
+    ∙ ap (λ (o : Option Match). number_in o == 1) (sym (n.at key))
 
 -- ---- lines
 

@@ -1,2 +1,3 @@
 -- What the code keeps, which no public contract names.
 pub mod Matches
+pub mod Joined

@@ -3,17 +3,15 @@
 ghost use Rattle.std.specs.Prelude.{◌≡◌, IfOk};
 ghost use Rattle.std.specs.List.{AllZip};
 ghost use Rattle.smq_present.specs.whole.Scratch.{scratch};
-ghost use Rattle.smq_present.specs.within.Lists.{notes_of, submits_of};
 ghost use Rattle.smq_present.specs.within.Said.{Says};
-ghost use Rattle.smq_present.specs.within.Sourced.{sourced_of};
+ghost use Rattle.smq_scratch.specs.within.Joined.{IsJoined};
 
-use crate::deciders::{Accepted, Deciders};
-use crate::facts::facts_with;
-use crate::listings::push_receipt_notes;
+use crate::joined::Joined;
+use crate::received::push_receipt_notes;
+use crate::submitted::facts_of;
 use rayon::prelude::*;
 use smq_present::{
-    DecodedSession, Present, SourcedSession, Tables, Traffic, joined, read_session, read_sessions,
-    sourced, sourced_again,
+    DecodedSession, Present, SourcedSession, Tables, Traffic, read_session, sourced, sourced_again,
 };
 use std::alloc::{AllocError, Global};
 use std::thread::Threads;
@@ -23,10 +21,8 @@ use std::thread::Threads;
 pub fn tables_anew(alloc: Global, present: &Present) -> Result<Tables, AllocError>
     ensures { IfOk result (λ tables. tables.shown ≡ scratch present.now) }
 {
-    let sessions = sourced(alloc, present)?;
-    let read = read_sessions(alloc, sessions.as_slice())?;
-    let traffic = joined(alloc, read)?;
-    tables_of_traffic(alloc, present, sessions.as_slice(), traffic)
+    let joined = Joined::of(alloc, present)?;
+    tables_of(alloc, present, joined)
 }
 
 /// The same from the octets that are present: these are decoded again, and paired and read, many sessions at once, and joined and
@@ -42,28 +38,23 @@ pub fn audit<R: Threads + Sync>(
     let decoded = decode_all(rt, alloc, kept.as_slice())?;
     let sessions = sourced_again(alloc, decoded.as_slice())?;
     let read = read_all(rt, alloc, sessions.as_slice())?;
-    let traffic = joined(alloc, read)?;
-    tables_of_traffic(alloc, present, sessions.as_slice(), traffic)
+    let joined = Joined::of_read(alloc, sessions, read)?;
+    tables_of(alloc, present, joined)
 }
 
-/// The tables of what is present, where these are the sessions, and this is what they say.
-fn tables_of_traffic(
-    alloc: Global,
-    present: &Present,
-    sessions: &[SourcedSession<'_>],
-    traffic: Traffic<'_>,
-) -> Result<Tables, AllocError>
-    requires sessions { sessions.now ≡ sourced_of present.now }
-    requires submits { traffic.submits.items ≡ submits_of present.now }
-    requires notes { traffic.notes.items ≡ notes_of present.now }
+/// The tables of what is present, where it is joined so.
+fn tables_of(alloc: Global, present: &Present, joined: Joined<'_>) -> Result<Tables, AllocError>
+    requires { IsJoined present.now joined }
     ensures { IfOk result (λ tables. tables.shown ≡ scratch present.now) }
 {
-    let Traffic { submits, mut notes } = traffic;
-    let submits = submits.as_slice();
-    let accepted = Accepted::of_submits(alloc, submits)?;
-    let deciders = Deciders::of_sessions(alloc, sessions)?;
-    push_receipt_notes(&mut notes, sessions, &accepted, &deciders)?;
-    let facts = facts_with(alloc, present, submits, &accepted, &deciders)?;
+    let Joined {
+        sessions,
+        submits,
+        mut notes,
+        keys,
+    } = joined;
+    push_receipt_notes(&mut notes, sessions.as_slice(), &keys)?;
+    let facts = facts_of(alloc, present, submits.as_slice(), &keys)?;
     let tables = Tables::of(alloc, facts.as_slice(), notes.as_slice())?;
     Ok(tables)
 }

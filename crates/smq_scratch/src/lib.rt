@@ -5,9 +5,8 @@
 
 mod anew;
 mod deciders;
-mod facts;
+mod joined;
 mod laws;
-mod listings;
 mod matches;
 mod received;
 mod submitted;

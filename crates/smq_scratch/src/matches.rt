@@ -1,8 +1,8 @@
 //! Which message is accepted with each key of each link, in one map.
-ghost use Rattle.std.specs.Prelude.{◌≡◌, IfOk, OnOk};
+ghost use Rattle.std.specs.Prelude.{◌≡◌, ◌==◌, IfOk, OnOk, option_copied};
 ghost use Rattle.std.specs.FinMap as map;
 ghost use Rattle.smq_kit.specs.LinkKeys.{by_key};
-ghost use Rattle.smq_scratch.specs.within.Matches.{HasMatches, match_kept, match_with};
+ghost use Rattle.smq_scratch.specs.within.Matches.{HasMatches, match_kept, match_with, number_in};
 
 use smq_kit::{HashedKey, Place};
 use smq_present::SubmittedMessage;
@@ -48,18 +48,25 @@ impl Matches {
         ensures { OnOk result (by_key self.new.messages ≡ map.insert (by_key self.old.messages) key
             (match_with (match_kept self.old.messages key) place)) }
     {
-        let found = match self.get(&key) {
-            Some(_) => Match::Many,
-            None => Match::One(place),
-        };
-        self.messages.insert(key, found)?;
+        let again = key.copy();
+        let before = self.messages.insert(key, Match::One(place))?;
+        if before.is_some() {
+            self.messages.insert(again, Match::Many)?;
+        }
         Ok(())
     }
 
     /// The messages that are accepted with the key, where any are.
-    pub(crate) fn get(&self, key: &HashedKey) -> Option<Match>
-        ensures { result ≡ match_kept self.now.messages key.now }
+    pub(crate) fn get(&self, key: &HashedKey) -> Option<&Match>
+        ensures { option_copied result ≡ match_kept self.now.messages key.now }
     {
-        self.messages.get(key).copied()
+        self.messages.get(key)
+    }
+
+    /// Whether one message is accepted with the key and no other.
+    pub(crate) fn is_single(&self, key: &HashedKey) -> bool
+        ensures { result ≡ (number_in (match_kept self.now.messages key.now) == 1) }
+    {
+        matches!(self.get(key), Some(Match::One(_)))
     }
 }

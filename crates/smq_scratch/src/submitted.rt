@@ -1,18 +1,17 @@
-//! A line for each submitted message that is present.
-ghost use Rattle.std.specs.Prelude.{◌≡◌, List, IfOk};
-ghost use Rattle.smq_present.specs.within.Accepted.{HasDeciders, HasNumbers};
-ghost use Rattle.smq_present.specs.within.Lists.{submits_of};
-ghost use Rattle.smq_present.specs.within.Messages.{SubmittedMessage as Submit};
-ghost use Rattle.smq_present.specs.within.Receipts.{KeyedReceipt};
+//! What is known of each submitted message that is present, and the lines for them.
+ghost use Rattle.std.specs.Prelude.{◌≡◌, option_map, IfOk};
+ghost use Rattle.std.specs.Option.{option_copied};
+ghost use Rattle.smq_present.specs.join.Outcomes.{is_shared};
+ghost use Rattle.smq_present.specs.within.Accepted.{decider_of};
+ghost use Rattle.smq_present.specs.within.Lists.{facts_listed, receipts_of, submits_of};
+ghost use Rattle.smq_present.specs.within.Outcomes.{fact_of, received, standing_of};
 ghost use Rattle.smq_scratch.specs.Lines as lines;
-ghost use Rattle.smq_present.specs.within.Sourced.{sourced_of};
+ghost use Rattle.smq_scratch.specs.within.Joined.{HasKeys};
 
-use crate::deciders::{Accepted, Deciders};
-use crate::facts::known_of;
+use crate::deciders::PlacedReceipt;
+use crate::joined::{Joined, Keys};
 use smq_lines::MessageLine;
-use smq_present::{
-    Present, Settings, SourcedSession, SubmittedMessage, joined, read_sessions, sourced,
-};
+use smq_present::{Fact, Present, ReceivedReceipt, SubmittedMessage, fact_under};
 use std::alloc::{AllocError, Global};
 
 /// A line for each submitted message that is present, in the order of their places: what is known of it, as `tables_anew` counts
@@ -23,50 +22,42 @@ pub fn message_lines<'a>(
 ) -> Result<Vec<MessageLine<'a>>, AllocError>
     ensures { IfOk result (λ made. made.items ≡ lines.message_lines present.now) }
 {
-    let sessions = sourced(alloc, present)?;
-    let read = read_sessions(alloc, sessions.as_slice())?;
-    let traffic = joined(alloc, read)?;
-    lines_of_submits(
-        alloc,
-        present,
-        sessions.as_slice(),
-        traffic.submits.as_slice(),
-    )
-}
-
-/// The same, where these are the sessions, and these the submitted messages.
-fn lines_of_submits<'a>(
-    alloc: Global,
-    present: &Present,
-    sessions: &[SourcedSession<'a>],
-    submits: &[SubmittedMessage<'a>],
-) -> Result<Vec<MessageLine<'a>>, AllocError>
-    requires sessions { sessions.now ≡ sourced_of present.now }
-    requires submits { submits.now ≡ submits_of present.now }
-    ensures { IfOk result (λ made. made.items ≡ lines.message_lines present.now) }
-{
-    let accepted = Accepted::of_submits(alloc, submits)?;
-    let deciders = Deciders::of_sessions(alloc, sessions)?;
-    let settings = present.settings();
-    let mut made = Vec::with_capacity(alloc, submits.len())?;
-    for submit in submits {
-        made.push(message_line(settings, submit, &accepted, &deciders))?;
+    let joined = Joined::of(alloc, present)?;
+    let mut made = Vec::with_capacity(alloc, joined.submits.len())?;
+    for submit in joined.submits.as_slice() {
+        made.push(message_line(present, submit, &joined.keys))?;
     }
     Ok(made)
 }
 
-/// The line for a message, under what is set, among all that were submitted and all receipts.
-fn message_line<'a>(
-    settings: &Settings,
-    submit: &SubmittedMessage<'a>,
-    accepted: &Accepted,
-    deciders: &Deciders<'_>,
-) -> MessageLine<'a>
-    ensures { (submits : List Submit) (receipts : List KeyedReceipt)
-        → HasNumbers accepted.now.numbers submits → HasDeciders deciders.now.receipts receipts
-        → result ≡ lines.message_line settings.now submits receipts submit.now }
+/// A fact of each submitted message that is present, in the order of places, where these are the messages.
+pub(crate) fn facts_of(
+    alloc: Global,
+    present: &Present,
+    submits: &[SubmittedMessage<'_>],
+    keys: &Keys<'_>,
+) -> Result<Vec<Fact>, AllocError>
+    requires submits { submits.now ≡ submits_of present.now }
+    requires keys { HasKeys present.now keys.now }
+    ensures { IfOk result (λ made. made.items ≡ facts_listed present.now) }
 {
-    let (fact, decider) = known_of(settings, submit, accepted, deciders);
+    let mut facts = Vec::with_capacity(alloc, submits.len())?;
+    for submit in submits {
+        facts.push(known_of(present, submit, keys).0)?;
+    }
+    Ok(facts)
+}
+
+/// The line for a message.
+fn message_line<'a>(
+    present: &Present,
+    submit: &SubmittedMessage<'a>,
+    keys: &Keys<'_>,
+) -> MessageLine<'a>
+    requires { HasKeys present.now keys.now }
+    ensures { result ≡ lines.message_line present.now.settings (submits_of present.now) (receipts_of present.now) submit.now }
+{
+    let (fact, decider) = known_of(present, submit, keys);
     MessageLine {
         fact,
         moment: submit.request.moment,
@@ -78,4 +69,53 @@ fn message_line<'a>(
             None => None,
         },
     }
+}
+
+/// What is known of a message, and the receipt that decides it.
+fn known_of<'d, 'a>(
+    present: &Present,
+    submit: &SubmittedMessage<'_>,
+    keys: &'d Keys<'a>,
+) -> (Fact, Option<&'d PlacedReceipt<'a>>)
+    requires { HasKeys present.now keys.now }
+    ensures fact { result.0
+        ≡ fact_of present.now.settings (submits_of present.now) (receipts_of present.now) submit.now }
+    ensures decider { option_copied result.1
+        ≡ decider_of (submits_of present.now) (receipts_of present.now) submit.now.key }
+{
+    let (shared, decider) = decision(present, submit, keys);
+    let settings = present.settings();
+    let message = submit.message();
+    let received = received_in(decider);
+    let fact = fact_under(settings, submit.place(), &message, shared, received);
+    (fact, decider)
+}
+
+/// Whether a message shares its key, and the receipt that decides it.
+fn decision<'d, 'a>(
+    present: &Present,
+    submit: &SubmittedMessage<'_>,
+    keys: &'d Keys<'a>,
+) -> (bool, Option<&'d PlacedReceipt<'a>>)
+    requires { HasKeys present.now keys.now }
+    ensures shared { result.0
+        ≡ is_shared (option_map (standing_of (submits_of present.now) (receipts_of present.now)) submit.now.key) }
+    ensures decider { option_copied result.1
+        ≡ decider_of (submits_of present.now) (receipts_of present.now) submit.now.key }
+{
+    let Some(key) = submit.key() else {
+        return (false, None);
+    };
+    if keys.matches.is_single(&key) {
+        (false, keys.deciders.receipt(&key))
+    } else {
+        (true, None)
+    }
+}
+
+/// What the receipt says that decides, where one does.
+fn received_in<'d, 'a>(decider: Option<&'d PlacedReceipt<'a>>) -> Option<&'d ReceivedReceipt<'a>>
+    ensures { option_copied result ≡ option_map received (option_copied decider.entry) }
+{
+    Some(&decider?.received)
 }

@@ -1,5 +1,5 @@
 -- Which receipts decide which submitted messages.
-use Rattle.std.specs.Prelude.{◌≡◌, ℕ, ◌==◌, Bool, List, count_by, if◌then◌else◌, Option, Some, None, option_to_list, unwrap_or}
+use Rattle.std.specs.Prelude.{◌≡◌, ℕ, ◌==◌, Bool, List, count_by, if◌then◌else◌, Option, Some, None, option_to_list}
 use Rattle.std.specs.List.{list_any}
 use Rattle.std.specs.BTreeMap.{BTreeMap}
 use Rattle.std.specs.FinMap as map
@@ -7,7 +7,6 @@ use Rattle.smq_kit.specs.declared.link_key.LinkKey.{LinkKey}
 use Rattle.smq_kit.specs.LinkKeys.{same_key, by_key}
 use Rattle.smq_present.specs.within.Messages.{SubmittedMessage}
 use Rattle.smq_present.specs.within.Receipts.{PlacedReceipt, KeyedReceipt, candidates, least_receipt, earlier}
-use Rattle.smq_kit.specs.Maps.{positive}
 
 -- a submitted message is accepted with this key
 abbrev pub accepted_with : LinkKey → SubmittedMessage → Bool
@@ -29,10 +28,6 @@ decider_of submits receipts (Some key) =
 
 -- ---- what maps have at keys
 
--- the number at a key, which is 0 where there is none
-abbrev pub number_kept : BTreeMap LinkKey ℕ → LinkKey → ℕ
-number_kept kept key = unwrap_or (map.get (by_key kept) key) 0
-
 -- the receipt at a key, where there is one
 abbrev pub decider_kept : BTreeMap LinkKey PlacedReceipt → LinkKey → Option PlacedReceipt
 decider_kept kept key = map.get (by_key kept) key
@@ -41,10 +36,6 @@ decider_kept kept key = map.get (by_key kept) key
 abbrev pub decider_with : Option PlacedReceipt → PlacedReceipt → PlacedReceipt
 decider_with None receipt = receipt
 decider_with (Some decider) receipt = earlier decider receipt
-
--- A map has at each key the number of the submitted messages that are accepted with it, where that isn't 0.
-pub record HasNumbers (kept : BTreeMap LinkKey ℕ) (submits : List SubmittedMessage) : Type 0 where
-  pub at : (key : LinkKey) → map.get (by_key kept) key ≡ positive (number_accepted key submits)
 
 -- A map has at each key the least receipt that can decide, where there is one.
 pub record HasDeciders (kept : BTreeMap LinkKey PlacedReceipt) (receipts : List KeyedReceipt) : Type 0 where

@@ -1,18 +1,15 @@
 -- The lists of the delivery receipts of a list, stated apart from the definition by place.
 use Rattle.std.specs.Prelude.{ℕ, zero, suc, Bool, true, false, ◌&&◌, not, List, Option, Some, None, option_map, option_to_list}
-use Rattle.std.specs.BTreeMap.{BTreeMap}
-use Rattle.std.specs.List.{flat_map}
 use Rattle.std.specs.Ordering.{eq_by_cmp}
 use Rattle.smq_kit.specs.Maps.{same_option}
 use Rattle.smq_kit.specs.Orders.{place_cmp}
-use Rattle.smq_kit.specs.declared.link_key.LinkKey.{LinkKey}
 use Rattle.smq_kit.specs.declared.place.Place.{Place}
 use Rattle.smq_tally.specs.declared.list.List as l
 use Rattle.smq_tally.specs.declared.list.List.TheVariants.{StrayReceipts, AmbiguousReceipts, ExtraReceipts}
 use Rattle.smq_tally.specs.declared.list.Listed.{Listed}
 use Rattle.smq_tally.specs.Lists.{listed}
 use Rattle.smq_present.specs.join.Keyed.{can_decide}
-use Rattle.smq_present.specs.within.Accepted.{number_accepted, number_kept, decider_kept}
+use Rattle.smq_present.specs.within.Accepted.{number_accepted}
 use Rattle.smq_present.specs.within.Messages.{SubmittedMessage}
 use Rattle.smq_present.specs.within.Receipts.{PlacedReceipt, KeyedReceipt, candidates, least_receipt}
 
@@ -39,11 +36,3 @@ note_by number decider e =
 -- a receipt in its list, if it has one, among all messages and receipts
 abbrev pub note_of : List SubmittedMessage → List KeyedReceipt → KeyedReceipt → List Listed
 note_of submits receipts e = note_by (number_accepted e.0 submits) (least_receipt (candidates e.0 receipts)) e
-
--- the same by what maps have at its key
-abbrev pub note_kept : BTreeMap LinkKey ℕ → BTreeMap LinkKey PlacedReceipt → KeyedReceipt → List Listed
-note_kept numbers deciders e = note_by (number_kept numbers e.0) (decider_kept deciders e.0) e
-
--- these receipts in their lists, by what maps have at their keys
-abbrev pub notes_kept : BTreeMap LinkKey ℕ → BTreeMap LinkKey PlacedReceipt → List KeyedReceipt → List Listed
-notes_kept numbers deciders es = flat_map (note_kept numbers deciders) es

@@ -1,30 +1,33 @@
-use Rattle.std.proofs.Common.{◌≡◌, ◌+◌, ◌++◌, [], ◌∷◌, List, refl, ap, sym, ◌∙◌, drop}
+use Rattle.std.proofs.Common.{◌++◌, List, ap, sym, ◌∙◌, subst, take}
 use Rattle.std.specs.List.{flat_map}
-use Rattle.std.proofs.lemmas.List.{append_assoc, drop_more}
-use Rattle.smq_present.specs.declared.present.kept.KeptPdu.{KeptPdu}
-use Rattle.smq_present.specs.within.Receipts.{KeyedReceipt, receipts_among}
-use Rattle.smq_present.specs.within.Sourced.{SourcedSession, receipts_in}
-use Rattle.smq_scratch.proofs.Deciding.{deciders-none}
+use Rattle.std.proofs.lemmas.List.{append-nil}
+use Rattle.smq_present.specs.join.Keyed.{can_decide}
+use Rattle.smq_present.specs.within.Accepted.{HasDeciders}
+use Rattle.smq_present.specs.within.Receipts.{KeyedReceipt, PlacedReceipt, receipts_among}
+use Rattle.smq_present.specs.within.Sourced.{receipts_in}
+use Rattle.smq_scratch.proofs.Deciding.{deciders-add, deciders-none, deciders-skip, receipts-more}
 use Rattle.smq_scratch.proofs.deciders.Deciders.of_sessions.Goals as goal
+use Rattle.smq_scratch.proofs.deciders.Deciders.of_sessions.Goals.{in-Some+then-can_decide+in_ok-add, in-Some+else-can_decide, in_default}
 
 pub loop-sourced-init : goal.loop-sourced-init
-loop-sourced-init c = ([], deciders-none c.new.result c.new.ensures.empty, refl)
+loop-sourced-init c = deciders-none c.new.result c.new.ensures.empty
 
-pub loop-sourced-preserved : goal.loop-sourced-preserved
-loop-sourced-preserved c =
-    let so_far = c.loop-sourced.invariant.0 in
-    let x : SourcedSession = c.sourced-item.result in
-    let rest = drop (c.loop-sourced.sourced-index + 1) c.args.sessions.now in
-    let left : drop c.loop-sourced.sourced-index c.args.sessions.now ≡ x ∷ rest =
-    drop_more c.args.sessions.now c.loop-sourced.sourced-index x c.loop-sourced-test.true
-    ∙ ap (λ (y : SourcedSession). y ∷ rest) (sym c.sourced-item.is) in
-    let more : List KeyedReceipt = receipts_among c.sourced.inside.source c.pdus.result.now in
-    let this : receipts_in x ≡ more =
-    ap receipts_in (sym c.sourced.view_is) ∙ ap (λ (ps : List KeptPdu). receipts_among c.sourced.inside.source ps) (sym c.pdus.ensures) in (
-      so_far ++ more,
-      c.in_ok-add_session.ensures so_far c.loop-sourced.invariant.1,
-      append_assoc so_far more (flat_map receipts_in rest)
-          ∙ ap (λ (ys : List KeyedReceipt). so_far ++ (ys ++ flat_map receipts_in rest)) (sym this)
-          ∙ ap (λ (xs : List SourcedSession). so_far ++ flat_map receipts_in xs) (sym left)
-          ∙ c.loop-sourced.invariant.2,
-    )
+pub loop-pdu-preserved : goal.loop-pdu-preserved
+loop-pdu-preserved c =
+    let before = flat_map receipts_in (take c.loop-sourced.sourced-index c.args.sessions.now) in
+    let source = c.sourced.inside.source in
+    let so_far = before ++ receipts_among source (take c.loop-pdu.pdu-index c.pdus-pdu-items.result.now) in
+    subst (λ (ys : List KeyedReceipt). HasDeciders c.match-receipt_at.deciders.receipts ys)
+    (receipts-more source c.pdus-pdu-items.result.now c.loop-pdu.pdu-index c.pdu-item.result c.receipt_at.result before c.loop-pdu-test.true
+    c.pdu-item.is c.receipt_at.ensures)
+    (elim c.match-receipt_at.branch [
+      | in-Some+then-can_decide+in_ok-add w ↦ rw (w.in-Some.is, w.deciders-is)
+          (deciders-add c.loop-pdu.deciders.receipts w.add.new.self.receipts so_far w.in-Some.key w.in-Some.receipt
+          (ap (λ (r : PlacedReceipt). can_decide r.receipt) (sym w.receipt.view_is) ∙ sym w.can_decide.ensures ∙ w.if-can_decide.true)
+          w.in_ok-add.ensures c.loop-pdu.invariant)
+      | in-Some+else-can_decide w ↦ rw (w.in-Some.is, w.deciders-is)
+          (deciders-skip c.loop-pdu.deciders.receipts so_far w.in-Some.key w.in-Some.receipt
+          (ap (λ (r : PlacedReceipt). can_decide r.receipt) (sym w.receipt.view_is) ∙ sym w.can_decide.ensures ∙ w.if-can_decide.false)
+          c.loop-pdu.invariant)
+      | in_default w ↦ rw (w.in_default.is, w.deciders-is, append-nil so_far) c.loop-pdu.invariant
+    ])

@@ -1,12 +1,14 @@
--- The deciding receipts so far are those of receipts which, with those of the sessions that are left, are all.
-use Rattle.std.proofs.Common.{◌≡◌, ◌++◌, List, drop}
+-- The deciding receipts so far are those of the sessions before, and of the PDUs of one session before.
+use Rattle.std.proofs.Common.{◌++◌, take}
 use Rattle.std.specs.List.{flat_map}
-use Rattle.smq_present.specs.within.Receipts.{KeyedReceipt}
+use Rattle.smq_present.specs.within.Receipts.{receipts_among}
 use Rattle.smq_present.specs.within.Accepted.{HasDeciders}
 use Rattle.smq_present.specs.within.Sourced.{receipts_in}
 use Rattle.smq_scratch.proofs.deciders.Deciders.of_sessions.Given as goal
 
+abbrev pub invariant-loop-pdu : goal.invariant-loop-pdu
+invariant-loop-pdu l = HasDeciders l.deciders.receipts
+    (flat_map receipts_in (take l.sourced-index l.sessions) ++ receipts_among l.sourced-inside.source (take l.pdu-index l.pdu-items))
+
 abbrev pub invariant-loop-sourced : goal.invariant-loop-sourced
-invariant-loop-sourced l = (receipts : List KeyedReceipt)
-    × HasDeciders l.deciders.receipts receipts × (receipts ++ flat_map receipts_in (drop l.sourced-index l.sessions)
-    ≡ flat_map receipts_in l.sessions)
+invariant-loop-sourced l = HasDeciders l.deciders.receipts (flat_map receipts_in (take l.sourced-index l.sessions))

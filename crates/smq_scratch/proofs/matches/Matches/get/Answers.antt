@@ -3,4 +3,4 @@ use Rattle.smq_scratch.proofs.KeyMaps.{get-key}
 use Rattle.smq_scratch.proofs.matches.Matches.get.Goals as goal
 
 pub returns : goal.returns
-returns c = c.copied.ensures ∙ c.get.ensures.value ∙ sym (get-key c.args.self.now.messages.entries c.args.key.now)
+returns c = c.get.ensures.value ∙ sym (get-key c.args.self.now.messages.entries c.args.key.now)
