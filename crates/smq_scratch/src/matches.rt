@@ -48,6 +48,7 @@ impl Matches {
         ensures { OnOk result (by_key self.new.messages ≡ map.insert (by_key self.old.messages) key
             (match_with (match_kept self.old.messages key) place)) }
     {
+        // Nearly all keys are new, and take one search.
         let again = key.copy();
         let before = self.messages.insert(key, Match::One(place))?;
         if before.is_some() {
