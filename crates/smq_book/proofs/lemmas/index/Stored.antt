@@ -15,9 +15,6 @@ use Rattle.smq_kit.proofs.PlaceOrders.{place-order, places_total, places_exact}
 use Rattle.smq_kit.proofs.MapLemmas.{get-chosen, set-same}
 use Rattle.smq_shelf.proofs.Seen.{inserted, looked_up, removed}
 use Rattle.smq_tally.specs.declared.fact.Fact.{Fact}
-use Rattle.smq_tally.specs.Lists.{listed_cmp}
-use Rattle.smq_tally.specs.within.ListOrder.{listed_total}
-use Rattle.smq_tally.proofs.ListOrders.{listed_exact}
 use Rattle.smq_group.specs.declared.change.Standing as told
 use Rattle.smq_group.specs.Changes.{receipt_at, submit_at, told_of_receipt, told_of_submit}
 use Rattle.smq_group.specs.Matching as m

@@ -1,5 +1,5 @@
 -- What the traffic notes, list by list: in six lists what its sessions say, and nothing in the others.
-use Rattle.std.proofs.Common.{◌≡◌, ℕ, Bool, true, false, ◌||◌, List, Option, Some, None, refl, ap, ◌∙◌, ◌+◌, ◌++◌}
+use Rattle.std.proofs.Common.{◌≡◌, ℕ, Bool, true, false, ◌||◌, List, Option, Some, None, refl, ap, ◌∙◌, ◌++◌}
 use Rattle.std.specs.Prelude.{◌&&◌, option_and_then, map}
 use Rattle.std.specs.Ordering.{eq_by_cmp, nat_cmp}
 use Rattle.std.specs.FinMap.{FinMap, find, get}
