@@ -67,7 +67,7 @@ pub fn sourced(alloc: Global, present: &Present) -> Result<Vec<SourcedSession<'_
     Ok(made)
 }
 
-/// Sessions whose octets were decoded again.
+/// The same sessions, where their octets were decoded again.
 pub fn sourced_again(
     alloc: Global,
     decoded: &[DecodedSession],
@@ -84,14 +84,14 @@ pub fn sourced_again(
     Ok(made)
 }
 
-/// The submitted messages, and the places that need a look.
+/// What a session says, or sessions do: the submitted messages, and the places that need a look.
 #[derive(Drop)]
 pub struct Traffic<'a> {
     pub submits: Vec<SubmittedMessage<'a>>,
     pub notes: Vec<Listed>,
 }
 
-/// Those of a session.
+/// What a session says, in the order of its PDUs.
 pub fn read_session<'a>(
     alloc: Global,
     sourced: &SourcedSession<'a>,
@@ -108,7 +108,7 @@ pub fn read_session<'a>(
     Ok(Traffic { submits, notes })
 }
 
-/// Those of each of these sessions, in their order.
+/// What each of these sessions says, in their order.
 pub fn read_sessions<'a>(
     alloc: Global,
     sessions: &[SourcedSession<'a>],
@@ -122,7 +122,7 @@ pub fn read_sessions<'a>(
     Ok(read)
 }
 
-/// Those of all of these sessions as one.
+/// What sessions say, of each in turn, as one.
 pub fn joined<'a>(alloc: Global, read: Vec<Traffic<'a>>) -> Result<Traffic<'a>, AllocError>
     ensures submits { IfOk result (λ all. all.submits.items
         ≡ flat_map (λ traffic. traffic.submits.items) read.entry.items) }

@@ -26,6 +26,7 @@ use std::marker::Model;
 #[derive(Drop)]
 pub struct Present {
     sessions: BTreeMap<u64, Session>,
+    /// What is set, which an edit of a part of it changes alone.
     pub settings: Settings,
 }
 

@@ -20,8 +20,11 @@ use std::marker::Model;
 #[derive(Drop)]
 pub struct Settings {
     forms: BTreeMap<u32, Forms>,
+    /// How long messages of links wait for their receipts.
     pub windows: Windows,
+    /// The dated routes. Whoever changes them settles or undoes them.
     pub routes: Routes,
+    /// The moment up to which what is present is known, in ms since 1970 in UTC.
     pub clock: Moment,
 }
 
