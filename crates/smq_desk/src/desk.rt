@@ -15,9 +15,9 @@ ghost use Rattle.smq_desk.specs.declared.ledger.TheConstants.{LONGEST_HISTORY, M
 use crate::matching::fault_of;
 use crate::torn_calls::torn_call;
 use crate::{Call, CloseFault, Closed, Ledger, Note, Seat, Watcher};
-use smq_present::Edit;
 use smq_frame::Tail;
 use smq_kit::{Dir, Refusal, SessionId};
+use smq_present::Edit;
 use std::alloc::{AllocGlobal, Global};
 use std::sync::{Mutex, MutexGuard, Wait};
 

@@ -2,8 +2,8 @@
 ghost use Rattle.std.specs.Prelude.{◌≡◌, ◌↔◌, IfOk, IsTrue};
 ghost use Rattle.smq_desk.specs.History.{reply_by};
 
-use smq_present::Edit;
 use smq_kit::Refusal;
+use smq_present::Edit;
 use std::alloc::AllocError;
 
 /// What a book replies to an edit.

@@ -1,7 +1,7 @@
 //! Jobs: rows that one worker does from a seat.
 use crate::Seat;
-use smq_present::PieceRow;
 use smq_kit::Refusal;
+use smq_present::PieceRow;
 
 /// Rows that one worker does from a seat, in their order.
 #[derive(Drop)]

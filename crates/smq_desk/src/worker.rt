@@ -7,8 +7,8 @@ ghost use Rattle.smq_desk.specs.within.Rows.{Commits, Ends, StopsRow};
 
 use crate::job::RowEnd;
 use crate::{Desk, Gate, LinkJob, Seat};
-use smq_present::{Batch, Edit, PieceRow, prepare};
 use smq_kit::Refusal;
+use smq_present::{Batch, Edit, PieceRow, prepare};
 use std::sync::Wait;
 
 /// Prepares a row on the tail that its direction has now.

@@ -12,10 +12,10 @@ ghost use Rattle.smq_engine.specs.within.Jobs.{AreJobsOf, AreReady, IsClosedFor,
 
 use crate::RunFault;
 use crate::workers::{fault_of, hand_over, make_pieces, new_jobs, new_seat};
-use smq_present::{Edit, Tables};
 use smq_desk::{Closed, Desk, Gate, LONGEST_HISTORY, LinkJob, Seat};
 use smq_kit::Refusal;
 use smq_load::Row;
+use smq_present::{Edit, Tables};
 use std::alloc::{AllocError, Global};
 use std::sync::Wait;
 use std::thread::Threads;

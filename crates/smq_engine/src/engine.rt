@@ -12,9 +12,9 @@ ghost use Rattle.smq_engine.specs.Play.{present_of, refused_of};
 
 use crate::RunFault;
 use crate::play::play_rows;
-use smq_present::{PlainBook, Tables};
 use smq_kit::Refusal;
 use smq_load::{Row, read_script, read_settings};
+use smq_present::{PlainBook, Tables};
 use smq_report::write_report;
 use smq_scratch::tables_anew;
 use smq_words::Query;

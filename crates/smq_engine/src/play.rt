@@ -10,10 +10,10 @@ ghost use Rattle.smq_load.specs.declared.record.Row.TheVariants.{Piece};
 ghost use Rattle.smq_kit.specs.Replies.{IsReply};
 
 use smq_book::Book;
-use smq_present::{Batch, Edit, PieceRow, PlainBook, prepare};
 use smq_frame::Tail;
 use smq_kit::{Dir, Refusal, SessionId};
 use smq_load::Row;
+use smq_present::{Batch, Edit, PieceRow, PlainBook, prepare};
 use std::alloc::{AllocError, Global};
 
 /// A book on which rows are played.

@@ -1,8 +1,8 @@
 //! Copies of rows.
 ghost use Rattle.std.specs.Prelude.{◌≡◌, IfOk};
 
-use smq_present::PieceRow;
 use smq_load::Row;
+use smq_present::PieceRow;
 use std::alloc::{AllocError, Global};
 
 /// Equal rows. Pieces share their octets.

@@ -7,9 +7,9 @@ ghost use Rattle.smq_load.specs.declared.record.Row.TheVariants.{Piece};
 ghost use Rattle.smq_engine.specs.within.Jobs.{desk_fault, AreJobsOf, AreReady, IsDeskFault, IsDone, IsNew, IsRenewed};
 
 use crate::RunFault;
-use smq_present::PieceRow;
 use smq_desk::{Desk, Gate, LinkJob, Seat, load_links};
 use smq_kit::Refusal;
+use smq_present::PieceRow;
 use std::alloc::{AllocError, Global};
 use std::sync::Wait;
 use std::thread::Threads;

@@ -9,9 +9,9 @@ ghost use Rattle.smq_follow.specs.Written as written;
 ghost use Rattle.smq_follow.specs.Written.{HasBegunText, IsWritten, StopsText};
 
 use crate::streaming::play_stream;
-use smq_present::{PlainBook, Present};
 use smq_engine::{Ran, RunFault};
 use smq_lines::{write_messages, write_receipts};
+use smq_present::{PlainBook, Present};
 use smq_scratch::{message_lines, receipt_lines};
 use std::alloc::Global;
 use std::io::{Read, Write};

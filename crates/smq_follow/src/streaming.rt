@@ -10,10 +10,10 @@ ghost use Rattle.smq_follow.specs.within.Plays.{ArePlayedFrom};
 
 use crate::retried::Retried;
 use csv::{ByteRecord, Reader};
-use smq_present::PlainBook;
 use smq_engine::{RunFault, play_next, play_rows};
 use smq_kit::Refusal;
 use smq_load::{Row, read_record, read_row, read_settings, record_reader};
+use smq_present::PlainBook;
 use std::alloc::{AllocError, Global};
 use std::io::Read;
 

@@ -6,8 +6,8 @@ ghost use Rattle.smq_load.specs.Settings.{are_distinct, fitting, form_in, form_r
 use crate::field::read_form;
 use crate::record::Row;
 use crate::table::{Keys, has_known_keys, read_number, value_at};
-use smq_present::Edit;
 use smq_kit::{Form, LAST_MOMENT, LinkId, Window};
+use smq_present::Edit;
 use std::alloc::{AllocError, Global};
 use std::collections::BTreeSet;
 use toml::value::Array;

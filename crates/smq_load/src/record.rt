@@ -10,8 +10,8 @@ use crate::field::{
 };
 use bytes::Bytes;
 use csv::ByteRecord;
-use smq_present::{Edit, PieceRow};
 use smq_kit::{Dir, LinkId, Moment, SessionId};
+use smq_present::{Edit, PieceRow};
 use std::alloc::{AllocError, Global};
 
 /// What a record of a script, or a setting, says: a piece, or an edit as it stands.

@@ -7,9 +7,9 @@
 #![tactic(auto)]
 
 use smq_book::Book;
-use smq_present::{Edit, PieceRow, prepare};
 use smq_kit::Refusal;
 use smq_load::{LoadFault, Row, read_script};
+use smq_present::{Edit, PieceRow, prepare};
 use smq_report::{Format, Pick, ReportFault, write_report};
 use smq_scratch::tables_anew;
 use std::alloc::{AllocError, Global};
