@@ -1,6 +1,8 @@
 -- How often the shelves of what is stored were touched, and what a move of it costs: its touches, with those that settle it.
 use Rattle.std.specs.Prelude.{◌≡◌, ◌<◌, ◌≤◌, ◌+◌, ◌*◌, ◌-◌, ◌^◌, ℕ, Bool, false, List, [], length, min, Option, Some, None, option_and_then, option_map}
 use Rattle.std.specs.FinMap as fin
+use Rattle.std.specs.List.{sum_by}
+use Rattle.std.specs.Map.{values_of}
 use Rattle.smq_kit.specs.LinkKeys.{same_key}
 use Rattle.smq_kit.specs.declared.link_key.LinkKey.{LinkKey}
 use Rattle.smq_kit.specs.declared.place.Place.{Place}
@@ -41,9 +43,13 @@ touches_in i = i.standings.touches + i.tally.touches + i.numbers.touches + i.due
 abbrev pub index_touches : Index → ℕ
 index_touches i = counted (touches_in i)
 
--- and those of pairs, of sessions that went too
+-- those of the pairs of all sessions, and of sessions that went
+abbrev pub pairs_touches : Pairings → ℕ
+pairs_touches p = counted (p.gone + sum_by (λ (v : PairedValue). v.touches) (values_of p.by_session.entries))
+
+-- and those of all of these
 abbrev pub touches_of : Index → Pairings → ℕ
-touches_of i p = counted (index_touches i + p.touches)
+touches_of i p = counted (index_touches i + pairs_touches p)
 
 -- the touches so far, and those that settling what is pending adds at most: two for each change, where undoing adds one
 abbrev pub tally_cost : TallyValue → ℕ
@@ -66,7 +72,7 @@ pairing_cost v = v.touches + 2 * v.pending
 
 -- and of all pairs, where those of one session are pending
 abbrev pub pairs_cost : Pairings → ℕ → ℕ
-pairs_cost p number = p.touches + 2 * pairs_pending p number
+pairs_cost p number = pairs_touches p + 2 * pairs_pending p number
 
 -- how many changes `undo` would take back
 abbrev pub pending_in : Index → ℕ

@@ -11,7 +11,7 @@ ghost use Rattle.smq_book.specs.index.Held.{IsHeld, held_now, held_settled, traf
 ghost use Rattle.smq_book.specs.index.Kept.{IsKept};
 ghost use Rattle.smq_book.specs.index.Pairs.{pairing_in, pairs_now, pairs_pending, pairs_settled};
 ghost use Rattle.smq_book.specs.index.Pushed.{IsHeldAfter, IsSaidBy, origin_at, pushed_moves};
-ghost use Rattle.smq_book.specs.index.Touches.{HasNoneVacant, HasNothingPending, RisesWithFacts, index_cost, pairs_cost, pdu_load};
+ghost use Rattle.smq_book.specs.index.Touches.{HasNoneVacant, HasNothingPending, RisesWithFacts, index_cost, pairs_cost, pairs_touches, pdu_load};
 ghost use Rattle.smq_present.specs.pairing.Traffic.{session_pairing, traffic_of};
 ghost use Rattle.smq_present.specs.present.Batch.{batch_pdus, next_tail};
 ghost use Rattle.smq_present.specs.present.Kept.{kept_pdus};
@@ -22,10 +22,9 @@ ghost use Rattle.smq_kit.specs.Replies.{IsReply};
 
 use crate::index::append::append_to;
 use crate::index::index::Index;
-use crate::index::pairings::{Pairings, count};
+use crate::index::pairings::Pairings;
 use crate::{Batch, Edit, Present, Session};
 use smq_kit::{Refusal, SessionId};
-use smq_pair::Pairing;
 use smq_present::{Settings, append_refusal};
 use std::alloc::{AllocError, Global};
 
@@ -42,11 +41,11 @@ pub(crate) fn append(
     ensures reply { IsReply (reply present.old (Edit.Append batch)) result
         (present.new ≡ change present.old (Edit.Append batch)) (present.new ≡ present.old) }
     ensures kept { IsKept present.new index.new pairings.new }
-    ensures touches { OnOk result (index_cost index.new + pairings.new.touches
-        ≤ index_cost index.old + pairings.old.touches
+    ensures touches { OnOk result (index_cost index.new + pairs_touches pairings.new
+        ≤ index_cost index.old + pairs_touches pairings.old
         + 64 * (1 + reach present.old (Edit.Append batch))) }
     ensures rises { OnOk result (RisesWithFacts index.old index.new) }
-    ensures pairs_counted { OnOk result (pairings.old.touches ≤ pairings.new.touches) }
+    ensures pairs_counted { pairs_touches pairings.old ≤ pairs_touches pairings.new }
 {
     let number = batch.session();
     let found = present.session(number);
@@ -54,11 +53,11 @@ pub(crate) fn append(
         return Err(refusal);
     }
     let Ok(()) = append_said(alloc, present, found, index, pairings, &batch) else {
-        undo(index, pairings, number);
+        undo(present, index, pairings, number);
         return Err(Refusal::Memory);
     };
     let Ok(()) = present.put_batch_in_step(alloc, batch) else {
-        undo(index, pairings, number);
+        undo(present, index, pairings, number);
         return Err(Refusal::Memory);
     };
     index.settle();
@@ -89,7 +88,7 @@ fn append_said(
         ≡ pairing_in (change present.now (Edit.Append batch.now)).sessions number) }
     ensures settled { held_settled index.new ≡ held_settled index.old }
     ensures rises { OnOk result (RisesWithFacts index.old index.new) }
-    ensures pairs_counted { pairings.old.touches ≤ pairings.new.touches }
+    ensures pairs_counted { pairs_touches pairings.old ≤ pairs_touches pairings.new }
     ensures touches { let number = batch.now.session.0 in HasNoneVacant index.old.standings
         → OnOk result (index_cost index.new + pairs_cost pairings.new number
         ≤ index_cost index.old + pairs_cost pairings.old number
@@ -138,7 +137,7 @@ fn append_next(
         (batch.now.session.0, session_with batch.now.dir octets session.now)) }
     ensures settled { held_settled index.new ≡ held_settled index.old }
     ensures rises { OnOk result (RisesWithFacts index.old index.new) }
-    ensures pairs_counted { pairings.old.touches ≤ pairings.new.touches }
+    ensures pairs_counted { pairs_touches pairings.old ≤ pairs_touches pairings.new }
     ensures touches { let number = batch.now.session.0 in HasNoneVacant index.old.standings
         → OnOk result (index_cost index.new + pairs_cost pairings.new number
         ≤ index_cost index.old + pairs_cost pairings.old number
@@ -151,22 +150,17 @@ fn append_next(
     ensures settled_pairs { (number : ℕ)
         → pairs_settled pairings.new number ≡ pairs_settled pairings.old number }
 {
-    let number = batch.session().0;
-    if let Some(pairing) = pairings.by_session.get_mut(&number) {
-        let before = pairing.touches();
-        let appended = append_to(index, pairing, settings, session, batch);
-        count(&mut pairings.touches, before, pairing.touches());
-        return appended;
-    }
-    let mut pairing = Pairing::new(pairings.alloc);
-    append_to(index, &mut pairing, settings, session, batch)?;
-    count(&mut pairings.touches, 0, pairing.touches());
-    pairings.by_session.insert(number, pairing)?;
-    Ok(())
+    pairings.open(batch.session())?;
+    let Some(pairing) = pairings.by_session.get_mut(&batch.session().0) else {
+        // (it has just been opened)
+        return Err(AllocError);
+    };
+    append_to(index, pairing, settings, session, batch)
 }
 
-/// Brings back what was kept of a session, and all that was held.
-fn undo(index: &mut Index, pairings: &mut Pairings, session: SessionId)
+/// Brings back what was kept of a session, and all that was held. No pairs stay of a session that isn't present.
+fn undo(present: &Present, index: &mut Index, pairings: &mut Pairings, session: SessionId)
+    requires settled { pairs_settled pairings.old session.0 ≡ pairing_in present.now.sessions session.0 }
     ensures held { held_now index.new ≡ held_settled index.old }
     ensures settled { held_settled index.new ≡ held_settled index.old }
     ensures pairs { pairs_now pairings.new session.0 ≡ pairs_settled pairings.old session.0 }
@@ -178,7 +172,11 @@ fn undo(index: &mut Index, pairings: &mut Pairings, session: SessionId)
     ensures pending_pairs { pairs_pending pairings.new session.0 ≡ 0 }
     ensures other_pending { (number : ℕ) → number ≢ session.0
         → pairs_pending pairings.new number ≡ pairs_pending pairings.old number }
+    ensures pairs_counted { pairs_touches pairings.old ≤ pairs_touches pairings.new }
 {
     index.undo();
     pairings.undo(session);
+    if present.session(session).is_none() {
+        pairings.remove(session);
+    }
 }

@@ -2,7 +2,7 @@
 ghost use Rattle.std.specs.Prelude.{◌≡◌, ◌≤◌, ◌+◌, ◌*◌, OnOk};
 ghost use Rattle.smq_book.specs.edits.Reach.{reach};
 ghost use Rattle.smq_book.specs.index.Kept.{IsKept};
-ghost use Rattle.smq_book.specs.index.Touches.{RisesWithFacts, index_cost};
+ghost use Rattle.smq_book.specs.index.Touches.{RisesWithFacts, index_cost, pairs_touches};
 ghost use Rattle.smq_present.specs.present.Replies.{reply};
 ghost use Rattle.smq_present.specs.present.Steps.{change};
 ghost use Rattle.smq_kit.specs.Replies.{IsReply};
@@ -24,11 +24,11 @@ pub(crate) fn withdraw(
     ensures reply { IsReply (reply present.old (Edit.Withdraw session)) result
         (present.new ≡ change present.old (Edit.Withdraw session)) (present.new ≡ present.old) }
     ensures kept { IsKept present.new index.new pairings.new }
-    ensures touches { OnOk result (index_cost index.new + pairings.new.touches
-        ≤ index_cost index.old + pairings.old.touches
+    ensures touches { OnOk result (index_cost index.new + pairs_touches pairings.new
+        ≤ index_cost index.old + pairs_touches pairings.old
         + 64 * (1 + reach present.old (Edit.Withdraw session))) }
     ensures rises { OnOk result (RisesWithFacts index.old index.new) }
-    ensures pairs_counted { OnOk result (pairings.old.touches ≤ pairings.new.touches) }
+    ensures pairs_counted { pairs_touches pairings.old ≤ pairs_touches pairings.new }
 {
     let found = match present.session(session) {
         Some(found) => found,

@@ -1,12 +1,12 @@
 //! The pairs of each session that is present.
-ghost use Rattle.std.specs.Prelude.{◌≡◌, ◌≢◌, ◌≤◌, ◌+◌, ◌-◌, ℕ};
+ghost use Rattle.std.specs.Prelude.{◌≡◌, ◌≢◌, ◌≤◌, ◌+◌, ℕ, IsSome, OnOk};
 ghost use Rattle.smq_pair.specs.Paired.{no_pdus};
-ghost use Rattle.smq_book.specs.index.Touches.{counted, pairs_cost};
-ghost use Rattle.smq_book.specs.index.Pairs.{pairs_now, pairs_pending, pairs_settled};
+ghost use Rattle.smq_book.specs.index.Touches.{pairs_cost, pairs_touches};
+ghost use Rattle.smq_book.specs.index.Pairs.{pairs_now, pairs_pending, pairs_settled, stored_of};
 
 use smq_kit::SessionId;
 use smq_pair::Pairing;
-use std::alloc::Global;
+use std::alloc::{AllocError, Global};
 use std::collections::BTreeMap;
 
 /// The pairs among the PDUs of each session, by its number. A session that isn't there has no PDUs.
@@ -14,8 +14,8 @@ use std::collections::BTreeMap;
 pub(crate) struct Pairings {
     pub alloc: Global,
     pub by_session: BTreeMap<u64, Pairing>,
-    /// How often the shelves of these pairs were touched, and of those that went, up to the greatest u64.
-    pub touches: u64,
+    /// The touches of pairs that went, up to the greatest u64.
+    pub gone: u64,
 }
 
 impl Pairings {
@@ -23,14 +23,39 @@ impl Pairings {
     pub(crate) fn new(alloc: Global) -> Pairings
         ensures now { (number : ℕ) → pairs_now result number ≡ no_pdus }
         ensures settled { (number : ℕ) → pairs_settled result number ≡ no_pdus }
-        ensures touches { result.touches ≡ 0 }
+        ensures touches { pairs_touches result ≡ 0 }
         ensures pending { (number : ℕ) → pairs_pending result number ≡ 0 }
     {
         Pairings {
             alloc,
             by_session: BTreeMap::new(alloc),
-            touches: 0,
+            gone: 0,
         }
+    }
+
+    /// How often the shelves of all pairs were touched, up to the greatest u64: of those that are here, and of those that went.
+    pub(crate) fn touches(&self) -> u64
+        ensures { result ≡ pairs_touches self.now }
+    {
+        let mut touches = self.gone;
+        for pairing in self.by_session.values() {
+            touches = touches.saturating_add(pairing.touches());
+        }
+        touches
+    }
+
+    /// Puts in the pairs of a session, of no PDUs, where it has none yet.
+    pub(crate) fn open(&mut self, session: SessionId) -> Result<(), AllocError>
+        ensures now { (number : ℕ) → pairs_now self.new number ≡ pairs_now self.old number }
+        ensures settled { (number : ℕ) → pairs_settled self.new number ≡ pairs_settled self.old number }
+        ensures pending { (number : ℕ) → pairs_pending self.new number ≡ pairs_pending self.old number }
+        ensures touches { pairs_touches self.new ≡ pairs_touches self.old }
+        ensures there { OnOk result (IsSome (stored_of self.new.by_session session.0)) }
+    {
+        if !self.by_session.contains_key(&session.0) {
+            self.by_session.insert(session.0, Pairing::new(self.alloc))?;
+        }
+        Ok(())
     }
 
     /// Brings back the pairs of a session that were settled. It takes no memory.
@@ -42,15 +67,11 @@ impl Pairings {
         ensures pending { pairs_pending self.new session.0 ≡ 0 }
         ensures other_pending { (number : ℕ) → number ≢ session.0
             → pairs_pending self.new number ≡ pairs_pending self.old number }
-        ensures touches { self.new.touches ≤ self.old.touches + pairs_pending self.old session.0 }
-        ensures counted { self.old.touches ≤ self.new.touches }
+        ensures touches { pairs_touches self.new ≤ pairs_touches self.old + pairs_pending self.old session.0 }
+        ensures counted { pairs_touches self.old ≤ pairs_touches self.new }
     {
         match self.by_session.get_mut(&session.0) {
-            Some(pairing) => {
-                let before = pairing.touches();
-                pairing.undo();
-                count(&mut self.touches, before, pairing.touches());
-            }
+            Some(pairing) => pairing.undo(),
             None => {}
         }
     }
@@ -64,15 +85,11 @@ impl Pairings {
         ensures pending { pairs_pending self.new session.0 ≡ 0 }
         ensures other_pending { (number : ℕ) → number ≢ session.0
             → pairs_pending self.new number ≡ pairs_pending self.old number }
-        ensures touches { self.new.touches ≤ pairs_cost self.old session.0 }
-        ensures counted { self.old.touches ≤ self.new.touches }
+        ensures touches { pairs_touches self.new ≤ pairs_cost self.old session.0 }
+        ensures counted { pairs_touches self.old ≤ pairs_touches self.new }
     {
         match self.by_session.get_mut(&session.0) {
-            Some(pairing) => {
-                let before = pairing.touches();
-                pairing.settle();
-                count(&mut self.touches, before, pairing.touches());
-            }
+            Some(pairing) => pairing.settle(),
             None => {}
         }
     }
@@ -88,16 +105,10 @@ impl Pairings {
         ensures pending { pairs_pending self.new session.0 ≡ 0 }
         ensures other_pending { (number : ℕ) → number ≢ session.0
             → pairs_pending self.new number ≡ pairs_pending self.old number }
-        ensures touches { self.new.touches ≡ self.old.touches }
+        ensures touches { pairs_touches self.new ≡ pairs_touches self.old }
     {
-        self.by_session.remove(&session.0);
+        if let Some(pairing) = self.by_session.remove(&session.0) {
+            self.gone = self.gone.saturating_add(pairing.touches());
+        }
     }
-}
-
-/// Adds the touches of a pairing from one number to another.
-pub(crate) fn count(touches: &mut u64, before: u64, after: u64)
-    ensures value { touches.new ≡ counted (touches.old + (after - before)) }
-    ensures counted { touches.old ≤ touches.new }
-{
-    *touches = touches.saturating_add(after.saturating_sub(before));
 }

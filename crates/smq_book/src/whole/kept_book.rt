@@ -133,7 +133,7 @@ impl KeptBook {
     pub(crate) fn touches(&self) -> u64
         ensures { result ≡ self.now.touches }
     {
-        self.index.touches().saturating_add(self.pairings.touches)
+        self.index.touches().saturating_add(self.pairings.touches())
     }
 
     /// The tables of what is present.

@@ -46,7 +46,7 @@ use Rattle.smq_book.specs.index.Ends.{end_cmp, ends_of, places_ending}
 use Rattle.smq_book.specs.index.Held.{Holding, dues_in, ends_in}
 use Rattle.smq_book.specs.index.Kept.{IsIndexed, IsKept}
 use Rattle.smq_book.specs.index.Numbered.{numbers_of}
-use Rattle.smq_book.specs.index.Touches.{HasNothingPending, index_cost, taken_of, message_load, pdu_load, receipt_key_at, receipt_load, touches_of}
+use Rattle.smq_book.specs.index.Touches.{HasNothingPending, index_cost, taken_of, message_load, pairs_touches, pdu_load, receipt_key_at, receipt_load, touches_of}
 use Rattle.smq_present.specs.join.Keyed.{grouping_of}
 use Rattle.smq_present.specs.pairing.Traffic.{Origin, TrafficValue, broken, broken_at, broken_notes, content_notes, disagrees, mismatched, notes_among, origin_of, pairing_among, pairing_notes, place_of, placed, places_where, session_notes, session_pairing, traffic_of, undecodable, unreadable}
 use Rattle.smq_present.specs.present.Kept.{is_undecodable, is_unreadable, kept_pdus}
@@ -312,13 +312,13 @@ module _ (p : PresentValue) (batch : BatchValue) where
 module _ (now : BookValue) (p : PresentValue) (i : Index) (k : Pairings) (seen : record { present = p; touches = touches_of i k } ≡ now)
     (kept : IsKept p i k) (edit e : Edit) (is : edit ≡ e) (r s : Result (Unit {0}) Refusal) (told : r ≡ s) (j : Index) where
   -- what is counted of touches rises no more than they do
-  pub book-bound : (l : Pairings) → OnOk s (index_cost j + l.touches ≤ index_cost i + k.touches + 64 * (1 + reach p e))
+  pub book-bound : (l : Pairings) → OnOk s (index_cost j + pairs_touches l ≤ index_cost i + pairs_touches k + 64 * (1 + reach p e))
       → OnOk r (touches_of j l ≤ now.touches + 64 * (1 + reach now.present edit))
   book-bound l bound =
       subst (λ (x : Result (Unit {0}) Refusal). OnOk x (touches_of j l ≤ now.touches + 64 * (1 + reach now.present edit))) (sym told)
       (on_ok_weaker s by bound)
     where
-      by : index_cost j + l.touches ≤ index_cost i + k.touches + 64 * (1 + reach p e) → touches_of j l ≤ now.touches + 64 * (1 + reach now.present edit)
+      by : index_cost j + pairs_touches l ≤ index_cost i + pairs_touches k + 64 * (1 + reach p e) → touches_of j l ≤ now.touches + 64 * (1 + reach now.present edit)
       by more =
           let groups = kept.pending.standings in
           let facts = kept.pending.facts in

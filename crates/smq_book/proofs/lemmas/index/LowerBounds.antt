@@ -13,7 +13,7 @@ use Rattle.smq_book.specs.declared.index.index.Index.{Index}
 use Rattle.smq_book.specs.declared.index.pairings.Pairings.{Pairings}
 use Rattle.smq_book.specs.index.Held.{Holding}
 use Rattle.smq_book.specs.index.Kept.{IsIndexed}
-use Rattle.smq_book.specs.index.Touches.{RisesWithFacts, touches_of}
+use Rattle.smq_book.specs.index.Touches.{RisesWithFacts, pairs_touches, touches_of}
 use Rattle.smq_present.specs.join.Facts.{facts_of}
 use Rattle.smq_present.specs.pairing.Traffic.{traffic_of}
 use Rattle.smq_present.specs.present.Book.{BookValue}
@@ -47,7 +47,7 @@ module _ (now : BookValue) (p q : PresentValue) (i j : Index) (k l : Pairings) (
   below zero is low = absurd (low (omega (arith, is, touched)))
   below (suc d) is low = omega (arith, is)
 
-  risen : (d : ℕ) → d ≡ touches_of j l - now.touches → RisesWithFacts i j → k.touches ≤ l.touches
+  risen : (d : ℕ) → d ≡ touches_of j l - now.touches → RisesWithFacts i j → pairs_touches k ≤ pairs_touches l
       → (scratch q).counts ≢ (scratch now.present).counts → now.touches < 2 ^ 64 - 1 → 1 + now.touches ≤ touches_of j l
   risen zero is rises more differ low =
       let counted = rises.counted in
@@ -56,7 +56,7 @@ module _ (now : BookValue) (p q : PresentValue) (i j : Index) (k l : Pairings) (
 
   -- what was made rises; what was refused changes no count
   pub rise-bound : (refusal : Option Refusal) (s : Result (Unit {0}) Refusal) (Made : Type 0) → IsReply refusal s Made (q ≡ p)
-      → OnOk s (RisesWithFacts i j) → OnOk s (k.touches ≤ l.touches)
+      → OnOk s (RisesWithFacts i j) → pairs_touches k ≤ pairs_touches l
       → (scratch q).counts ≢ (scratch now.present).counts → now.touches ≢ 2 ^ 64 - 1 → 1 + now.touches ≤ touches_of j l
   rise-bound None (Ok x) Made is rises more differ low =
       risen (touches_of j l - now.touches) refl rises more differ (below (2 ^ 64 - 1 - now.touches) refl low)
@@ -65,12 +65,8 @@ module _ (now : BookValue) (p q : PresentValue) (i j : Index) (k l : Pairings) (
   rise-bound (Some r) (Err e) Made is rises more differ low = absurd (differ (ap (λ (r : PresentValue). (scratch r).counts) (is.1 ∙ whole)))
 
 -- where pairs stay
-stays : (s : Result (Unit {0}) Refusal) (k : Pairings) → OnOk s (k.touches ≤ k.touches)
-stays (Ok x) k = omega arith
-stays (Err e) k = tt
-
 pub settings-rise : (now : BookValue) (p q : PresentValue) (i j : Index) (k : Pairings) → record { present = p; touches = touches_of i k } ≡ now
     → IsIndexed p i → IsIndexed q j → (edit e : Edit) → edit ≡ e → (s : Result (Unit {0}) Refusal) → IsReply (reply p e) s (q ≡ change p e) (q ≡ p)
     → OnOk s (RisesWithFacts i j) → (scratch q).counts ≢ (scratch now.present).counts → now.touches ≢ 2 ^ 64 - 1 → 1 + now.touches ≤ touches_of j k
 settings-rise now p q i j k seen before after edit e same s is rises =
-    rise-bound now p q i j k k seen before after (reply p e) s (q ≡ change p e) is rises (stays s k)
+    rise-bound now p q i j k k seen before after (reply p e) s (q ≡ change p e) is rises (omega arith)

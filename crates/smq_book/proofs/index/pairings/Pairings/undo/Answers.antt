@@ -4,7 +4,7 @@ use Rattle.std.specs.Option.{IsSome}
 use Rattle.std.specs.Ordering.{nat_cmp}
 use Rattle.smq_pair.specs.Paired.{PairedValue}
 use Rattle.smq_book.specs.index.Pairs.{pdus_of, pending_of, settled_of, stored_of}
-use Rattle.smq_book.proofs.lemmas.index.Pairs.{own, other, stays}
+use Rattle.smq_book.proofs.lemmas.index.Pairs.{own, other, stays, written}
 use Rattle.smq_book.proofs.index.pairings.Pairings.undo.Goals as goal
 
 pub returns-in-Some-clause-now : goal.returns-in-Some-clause-now
@@ -60,7 +60,15 @@ returns-in-Some-clause-other_pending c =
 pub returns-in-Some-clause-touches : goal.returns-in-Some-clause-touches
 returns-in-Some-clause-touches c =
     let was = ap pending_of c.in-Some.ensures.value in
-    omega (arith, was, c.touches-before.ensures, c.touches.ensures, c.undo.ensures.touches, c.count.ensures.value)
+    let wrote = (c.get_mut.follows.holds c.undo.new.self).0 in
+    let sum = written c.args.session.0 _ _ _ c.undo.new.self (sym c.in-Some.ensures.value) wrote in
+    omega (arith, was, sum, c.undo.ensures.touches)
+
+pub returns-in-Some-clause-counted : goal.returns-in-Some-clause-counted
+returns-in-Some-clause-counted c =
+    let wrote = (c.get_mut.follows.holds c.undo.new.self).0 in
+    let sum = written c.args.session.0 _ _ _ c.undo.new.self (sym c.in-Some.ensures.value) wrote in
+    omega (arith, sum, c.undo.ensures.counted)
 
 pub returns-in-None-clause-pending : goal.returns-in-None-clause-pending
 returns-in-None-clause-pending c =
