@@ -1,13 +1,14 @@
 """Which wrong bodies were seen refused, and what has changed since: the file wrong-bodies.tried.
 
 It has a line for each edit, with two sums. The first is of what the verdict rests on in the edit's own crate: the edit; the code of
-wrong_bodies.py; what rt version and HANDLES say; the function that it names, with its body and what is written of its proof; the
-bodies that it changes; what its proof reaches; and what `use` lines and attributes say of these names. The second is of that and of
-what is reached, without bodies, in the crates below. An edit of which no more can be told rests on all of its crate, and on all
-below but bodies. Comments count for nothing, nor does in which module of its crate something stands.
+wrong_bodies.py; the logic that rt version names, and HANDLES; the function that it names, with its body and what is written of its
+proof; the bodies that it changes; what its proof reaches; and what `use` lines and attributes say of these names. The second is of
+that and of what is reached, without bodies, in the crates below. An edit of which no more can be told rests on all of its crate, and
+on all below but bodies. Comments count for nothing, nor does in which module of its crate something stands.
 
-A line is written only by a run that saw the edit refused, where the sums were the same before and after; a line that doesn't fit
-counts for nothing. What no sum shows: lemmas that nothing names but `search` finds, and limits of time and memory.
+A line is written only by a run that saw the edit refused, where the sums were the same before and after. It ends with a mark, a sum of
+the line: one without it is no run's, is told, and counts for nothing. What no sum shows: lemmas that nothing names but `search` finds,
+and limits of time and memory.
 """
 import collections
 import functools
@@ -81,7 +82,8 @@ class Sums:
         self.means, self.plain = functools.cache(self.means_of), functools.cache(without_places)
         told = subprocess.run(["rt", "version"], stdin=subprocess.DEVNULL, stdout=subprocess.PIPE, encoding="utf-8", check=True).stdout
         handles = text_of(f"{root}/HANDLES") if os.path.isfile(f"{root}/HANDLES") else ""
-        self.version = told + code_of(wrong_bodies.__file__) + handles
+        # (a kit with another name and the same logic gives the same verdicts)
+        self.version = re.sub(r"^\S+ (?=logic \w)", "", told) + code_of(wrong_bodies.__file__) + handles
         self.known = {name: Crate(f"{root}/crates/{name}") for name in crates}
 
     def rests_on(self, edit, crate, below):
@@ -151,10 +153,21 @@ def sums_of(root, crates, names):
     return {it.label: sums.of(it) for name in names for it in read_edits(sums.known[name])[0]}
 
 
+def mark_of(label, sums):
+    """Returns what ends a line that a run wrote."""
+    return hashlib.sha256(f"{TRIED} {label} {' '.join(sums)}".encode()).hexdigest()[:8]
+
+
 def read_tried(root):
-    """Returns the sums of the edits that were seen refused, by their labels."""
-    lines = text_of(f"{root}/{TRIED}").split("\n") if os.path.isfile(f"{root}/{TRIED}") else []
-    return {label: tuple(sums) for label, *sums in (it.rsplit(" ", 2) for it in lines) if label}
+    """Returns the sums of the edits that were seen refused, by their labels, and the lines that no run wrote."""
+    tried, others = {}, []
+    for line in filter(None, text_of(f"{root}/{TRIED}").split("\n") if os.path.isfile(f"{root}/{TRIED}") else []):
+        label, *sums, mark = line.rsplit(" ", 3)
+        if len(sums) == 2 and mark == mark_of(label, sums):
+            tried[label] = tuple(sums)
+        else:
+            others.append(line)
+    return tried, others
 
 
 def changes_of(sums, tried):
@@ -177,19 +190,20 @@ class Record:
         files += [it for it in (f"{self.root}/crates.txt", f"{self.root}/HANDLES", wrong_bodies.__file__) if os.path.isfile(it)]
         return hashlib.sha256("\0".join(f"{it}\n{text_of(it)}" for it in files).encode()).hexdigest()
 
-    def note(self, verdicts):
-        """Writes the lines of what was seen refused, where these sums, of before, still hold, and keeps those that still say something."""
+    def note(self, verdicts, untried=()):
+        """Writes the lines of what was seen refused, where these sums, of before, still hold, and keeps those that still say something,
+        but for edits that are to be tried first the next time."""
         self.verdicts.update(verdicts)
         now = self.sums if self.sum_of_texts() == self.texts else sums_of(self.root, self.crates, self.names)
-        tried = read_tried(self.root)
+        tried, _ = read_tried(self.root)
         lines = {it: was for it, was in tried.items() if it.split(" ")[0] not in self.names}
         for it, change in changes_of(self.sums, tried).items():
             # (what has changed below is still so where it wasn't tried)
             refused = self.verdicts.get(it)
-            line = self.sums[it] if refused else tried[it] if refused is None and change != CRATE else None
+            line = self.sums[it] if refused else tried[it] if refused is None and change != CRATE and it not in untried else None
             if line and now.get(it) == self.sums[it]:
                 lines[it] = line
-        write(f"{self.root}/{TRIED}", "".join(f"{label} {' '.join(lines[label])}\n" for label in sorted(lines)))
+        write(f"{self.root}/{TRIED}", "".join(f"{it} {' '.join(lines[it])} {mark_of(it, lines[it])}\n" for it in sorted(lines)))
 
 
 def share_of(rounds, part, word):
