@@ -7,7 +7,7 @@ use smq_report::ReportFault;
 use std::alloc::AllocError;
 use std::fmt;
 
-/// Why a script wasn't run or not checked, or why records are followed no more.
+/// Why a script wasn't run or checked, or why records are followed no more.
 #[derive(Clone, Copy, Debug, PartialEq, Eq)]
 pub enum RunFault {
     /// A record says no row, or is the record after 1,000,000 of a script; the least number of such a record, from 1.

@@ -137,7 +137,7 @@ impl Groups {
             self.outlooks.take_back();
             return Err(AllocError);
         };
-        // There are no more submits with a key than places.
+        // For the proof: there are no more submits with a key than places.
         let _places = self.submits.place_count();
         let after = before.with(More::Submit(place));
         match tell(
@@ -244,7 +244,7 @@ impl Groups {
             self.outlooks.take_back();
             return Err(AllocError);
         };
-        // There are no more receipts with a key than places.
+        // For the proof: there are no more receipts with a key than places.
         let _places = self.receipts.place_count();
         let after = before.with(More::Receipt(Earliest { moment, place }, decides));
         match tell(

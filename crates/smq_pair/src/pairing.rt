@@ -117,8 +117,7 @@ impl Pairing {
         }
     }
 
-    /// The pair in which the PDU at a place stands, if there is one. It changes nothing; it takes `&mut self` so that a
-    /// pairing whose PDUs are stored outside memory may read what it looks for.
+    /// The pair in which the PDU at a place stands, if there is one. It changes nothing.
     pub fn pair_of(&mut self, place: Place) -> Option<Pair>
         ensures found { result ≡ pair_at self.old.pdus place }
         ensures stays { self.new ≡ self.old }
@@ -204,7 +203,7 @@ fn meet(
     ensures counted { waits.old.touches ≤ waits.new.touches }
     ensures pending { waits.new.pending ≤ waits.old.pending + 1 }
 {
-    // Their keys ascend.
+    // For the proof: their keys ascend.
     let _ = waits.place_count();
     let exchange = series.exchange();
     let waiting = waits.get(&exchange).copied();

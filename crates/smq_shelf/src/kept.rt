@@ -1,4 +1,5 @@
-//! A shelf whose changes since it was last settled can be undone.
+//! A shelf whose changes since it was last settled can be undone. It stands in one file although it is long: it is one type, and
+//! half of it is contracts.
 ghost use Rattle.std.specs.Prelude.{◌≡◌, false, true, [], ◌∷◌, List, Option, ◌++◌, ◌+◌, ◌-◌, ◌*◌, ◌≤◌, ◌<◌, ◌^◌, ◌||◌, IfOk, OnOk, OnErr, None, Some, IsSome, is_some, find, length, if◌then◌else◌};
 ghost use Rattle.std.specs.Option.{option_copied, option_map};
 ghost use Rattle.std.specs.Map.Iter.{deref_pair};
@@ -371,7 +372,7 @@ fn most_vacant_after<K: ShelfKey, V>(
         → vacancies shelf.now.entries ≤ result }
     ensures before { most ≤ result }
 {
-    // There are fewer places than addresses.
+    // For the proof: there are fewer places than addresses.
     let _ = shelf.map().len();
     most.saturating_add(u64::from(is_vacated))
 }

@@ -118,7 +118,7 @@ fn begin<K: ShelfKey, V: Drop, C: Change<V>>(
     let mut place = None;
     change.make(&mut place);
     if place.is_none() {
-        // The keys ascend.
+        // For the proof: the keys ascend.
         let _ = map.len();
         return Ok(false);
     }

@@ -87,7 +87,7 @@ impl Tally {
         ensures counted { self.old.touches ≤ self.new.touches }
     {
         let kept = KeptFact::of(self.alloc, fact.copy())?;
-        // There are fewer places than addresses.
+        // For the proof: there are fewer places than addresses.
         let _ = self.facts.place_count();
         self.facts.set(fact.place, kept)?;
         if let Err(error) = self.tables.add_fact(&fact) {
@@ -312,7 +312,7 @@ fn put(
     ensures touches { facts.new.touches ≤ facts.old.touches + 1 }
     ensures counted { facts.old.touches ≤ facts.new.touches }
 {
-    // There are fewer places than addresses.
+    // For the proof: there are fewer places than addresses.
     let _ = facts.place_count();
     match before {
         Some(before) => {

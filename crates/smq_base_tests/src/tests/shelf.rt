@@ -1,4 +1,5 @@
-//! A shelf's calls, changes of kept maps that are taken back, undone and settled, and refused memory.
+//! A shelf's calls, changes of kept maps that are taken back, undone and settled, and refused memory. It stands in one file although
+//! it is long: its tests share what fills and changes a map.
 use smq_shelf::{Change, Kept, KeptMap, Shelf};
 use std::process::Abort;
 

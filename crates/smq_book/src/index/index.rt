@@ -1,7 +1,7 @@
 //! All that is stored of messages and delivery receipts: what they say, how they stand, and what is known of them.
 //!
 //! Each call that puts a message or a receipt in, or takes one out, sets the facts and the listings of the places alone
-//! whose standings it changes.
+//! whose standings it changes. It stands in one file although it is long: its private functions are the parts of `refresh`.
 ghost use Rattle.std.specs.Prelude.{◌≡◌, ◌<◌, ◌≤◌, ◌+◌, ◌-◌, ◌*◌, ◌^◌, [], ◌∷◌, true, false, Option, Some, None, length, option_map, IsTrue, OnOk};
 ghost use Rattle.std.specs.Option.{option_copied};
 ghost use Rattle.std.specs.FinMap as fin;

@@ -160,7 +160,7 @@ is_of_session session (EndRoute prefix from until) = false
 is_of_session session (CorrectRoute prefix from route network) = false
 is_of_session session (Advance clock) = false
 
--- the edits that aren't of a session: those of other sessions, of forms, of routes and of the clock
+-- the edits that aren't of a session: those of other sessions, of forms, of windows, of routes and of the clock
 abbrev pub edits_without : SessionId → List Edit → List Edit
 edits_without session edits = filter (λ edit. not (is_of_session session edit)) edits
 

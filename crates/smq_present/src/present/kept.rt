@@ -385,8 +385,7 @@ fn push_each(to: &mut Vec<KeptPdu>, pdus: &[KeptPdu]) -> Result<(), AllocError>
     Ok(())
 }
 
-/// Makes room for so many more: where there is none, for an eighth of what is there at least. What is kept of a session stays for
-/// long, so little of its room is to be empty. It fails only where room is wanting, and changes nothing then.
+/// Makes room for so many more: where there is none, for an eighth of what is there at least, since a session stays for long.
 pub(crate) fn make_room<T: Drop>(items: &mut Vec<T>, more: usize) -> Result<(), AllocError>
     ensures items { items.new.items ≡ items.old.items }
     ensures len { vec_len items.new ≡ vec_len items.old }
