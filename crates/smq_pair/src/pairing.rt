@@ -165,7 +165,7 @@ impl Pairing {
         self.waits.settle();
     }
 
-    /// How many touches its shelves had, saturating.
+    /// How many touches the shelf of what waits had, saturating.
     pub fn touches(&self) -> u64
         ensures { result ≡ min self.now.touches (2 ^ 64 - 1) }
     {
