@@ -139,14 +139,21 @@ class Connection:
 
     def give_up(self, moment, is_end=False):
         """Goes on behind gaps that won't fill any more, which is told at the end of the capture of all."""
-        for sender, stream in self.streams.items():
-            while stream.starts and not self.sessions.is_strict and (is_end or stream.is_lost(moment)):
-                stream.gaps.append(Gap(self.last, stream.next, stream.starts[0] - 1))
-                stream.next, stream.is_searching = stream.starts[0], True
-                self.go_on(sender)
-                stream.open_since = stream.acknowledged_since = None
-                stream.watch(moment)
+        while lost := self.lost(moment, is_end):
+            # (in the order of the packets behind them, so that both directions go on side by side)
+            _, sender = min(lost)
+            stream = self.streams[sender]
+            stream.gaps.append(Gap(self.last, stream.next, stream.starts[0] - 1))
+            stream.next, stream.is_searching = stream.starts[0], True
+            self.go_on(sender)
+            stream.open_since = None
+            stream.watch(moment)
         self.write()
+
+    def lost(self, moment, is_end):
+        """Returns of each direction with a gap that won't fill any more the first packet behind that, and the sender."""
+        return [(it.first_packet(), sender) for sender, it in self.streams.items()
+                if it.starts and not self.sessions.is_strict and (is_end or it.is_lost(moment))]
 
     def go_on(self, sender):
         """Looks for a PDU in what waits of a stream, and begins with it."""
@@ -155,8 +162,10 @@ class Connection:
         if number is None:
             return
         stream.is_searching = False
-        # (what this end sent before is of the session before, and what the other sent up to that packet)
-        before = [it for it in self.waiting if it.sender == sender or it.number < number]
+        # (what this end sent before is of the session before, and what the other sent up to that packet: up to the last row that came
+        # before it, since what stands before that row was sent before it, even if it came again later)
+        last = max((at for at, it in enumerate(self.waiting) if it.sender != sender and it.number < number), default=-1)
+        before = [it for at, it in enumerate(self.waiting) if it.sender == sender or at <= last]
         self.settle(before)
         self.waiting = [it for it in self.waiting if it.pieces is None]
         if self.has_rows and stream.gaps:

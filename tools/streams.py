@@ -123,8 +123,8 @@ class Stream:
         self.next, self.end = 0, 0
         # parts behind a gap by offset, apart from each other, and how many octets they have
         self.starts, self.parts, self.held = [], [], 0
-        # since when a part waits, and since when the other end acknowledges what is missing before it
-        self.open_since, self.acknowledged_since = None, None
+        # since when a part waits; while one does, the offsets that the other end acknowledges, as they rise, and since when
+        self.open_since, self.acknowledged = None, collections.deque()
         # whether octets are passed over until a PDU begins, and how many were
         self.is_searching, self.unused = False, 0
         self.framer, self.moment = Framer(), 0
@@ -156,8 +156,8 @@ class Stream:
         # (one more than the octets is the number of a FIN)
         if self.offset(sequence) > self.end + 1:
             self.end = self.offset(sequence)
-        if self.starts and self.acknowledged_since is None and self.offset(sequence) >= self.starts[0]:
-            self.acknowledged_since = moment
+        if self.starts and (not self.acknowledged or self.offset(sequence) > self.acknowledged[-1][0]):
+            self.acknowledged.append((self.offset(sequence), moment))
 
     def next_octets(self, segment):
         """Takes the octets of a segment and returns them, where they are whole and the next, and none wait; else None."""
@@ -212,20 +212,22 @@ class Stream:
     def watch(self, moment):
         """Takes note of when a gap opens and fills."""
         if not self.starts:
-            self.open_since = self.acknowledged_since = None
+            self.open_since = None
+            self.acknowledged.clear()
         elif self.open_since is None:
             self.open_since = moment
 
     def is_lost(self, moment):
         """Whether the gap before what waits won't fill any more."""
-        acknowledged, opened = self.acknowledged_since, self.open_since
-        return opened is not None and (
+        while self.acknowledged and self.acknowledged[0][0] < self.starts[0]:
+            self.acknowledged.popleft()
+        return self.open_since is not None and (
             self.held > MOST_HELD
-            or moment - opened >= OPEN_FOR
-            or acknowledged is not None and moment - acknowledged >= ACKNOWLEDGED_FOR)
+            or moment - self.open_since >= OPEN_FOR
+            or bool(self.acknowledged) and moment - self.acknowledged[0][1] >= ACKNOWLEDGED_FOR)
 
     def search(self):
-        """Passes over what waits, up to the first PDU that begins in it. Returns the packet of that one, or None."""
+        """Passes over what waits, up to the first PDU that begins in it. Returns the first packet from there on, or None."""
         while self.starts:
             part, offset = self.parts[0], self.starts[0]
             # (what follows it without a gap tells more of its last PDU)
@@ -239,8 +241,12 @@ class Stream:
             self.pass_over(offset + found, found)
             self.starts[0], self.parts[0] = self.next, part._replace(octets=part.octets[found:])
             self.held -= found
-            return part.number
+            return self.first_packet()
         return None
+
+    def first_packet(self):
+        """Returns the first packet of those that wait."""
+        return min(it.number for it in self.parts)
 
     def run(self):
         """Yields the parts from the first one on that follow one another, as far as a PDU may go."""
