@@ -1,9 +1,12 @@
-"""Captures that come through a pipe which stays open, and rows of the clock, for tools/check-pcap-to-script."""
+"""Captures that come through a pipe which stays open, rows of the clock, and signals, for tools/check-pcap-to-script."""
+import itertools
 import os
 import select
+import signal
 import struct
 import subprocess
 import sys
+import threading
 import time
 import zlib
 
@@ -39,10 +42,10 @@ def tick_cases():
 class Pipe:
     """The converter, whose standard input is a pipe that stays open."""
 
-    def __init__(self, words):
+    def __init__(self, words, *captures):
         # (which would write out each row at once)
         known = {name: value for name, value in os.environ.items() if name != "PYTHONUNBUFFERED"}
-        self.process = subprocess.Popen([sys.executable, f"{TOOLS}/pcap-to-script", *words.split(), "-"], stdin=subprocess.PIPE,
+        self.process = subprocess.Popen([sys.executable, f"{TOOLS}/pcap-to-script", *words.split(), "-", *captures], stdin=subprocess.PIPE,
                                         stdout=subprocess.PIPE, stderr=subprocess.PIPE, bufsize=0, env=known)
         self.script = b""
 
@@ -61,6 +64,19 @@ class Pipe:
     def end(self):
         """Ends the input; returns all rows, the lines told and the status."""
         out, told_lines = self.process.communicate()
+        return self.ended(out, told_lines)
+
+    def ended_by(self, number, seconds=10):
+        """Sends a signal, while the pipe stays open; returns the same."""
+        self.process.send_signal(number)
+        try:
+            self.process.wait(seconds)
+        except subprocess.TimeoutExpired:
+            self.process.kill()
+        with self.process.stdout as out, self.process.stderr as told_lines:
+            return self.ended(out.read(), told_lines.read())
+
+    def ended(self, out, told_lines):
         return (self.script + out).decode().splitlines(), told_lines.decode().splitlines(), self.process.returncode
 
 
@@ -136,3 +152,73 @@ def ticks_differ():
     # (with the six clocks that come by then)
     yield see("a gap is given up while no packet comes", wanted, [it for it in pipe.rows(8) if it.startswith("piece")])
     pipe.end()
+
+
+def signals_differ(room):
+    """Yields whether what is written and told differs where a signal ends the input and the pipe stays open."""
+    begin, more = pcap(conversation()), pcap([(1040, client(4, b"ij")), (1050, centre(3, b"h"))])[24:]
+    rows = [*CONVERSATION, row("centre", 1050, b"h")]
+    lost = [told("octets 2 to 3 from the client are missing: nothing after them is written"),
+            told("octets from the client before a PDU was seen to begin, not written: 2"),
+            "gaps: 1, in sessions 1; octets missing: 2, captured and not written: 2"]
+    # (a check that runs in the background is to ignore SIGINT)
+    signal.signal(signal.SIGINT, signal.default_int_handler)
+
+    def begun(words=WORDS, *captures):
+        pipe = Pipe(words, *captures)
+        pipe.give(begin)
+        pipe.rows(2)
+        return pipe
+
+    for number, name in ((signal.SIGINT, "SIGINT"), (signal.SIGTERM, "SIGTERM")):
+        pipe = begun()
+        yield see(f"{name}: its end", (CONVERSATION, [f"{name} ended the input behind packet 4"], 0), pipe.ended_by(number))
+        pipe = begun()
+        pipe.give(more)
+        yield see(f"{name}: what came is read, and what is missing is told", (rows, [f"{name} ended the input behind packet 6", *lost], 1),
+                  pipe.ended_by(number))
+    pipe = begun()
+    pipe.give(more[:-1])
+    yield see("a signal within a packet", (CONVERSATION, ["the file ends within packet 6", "SIGTERM ended the input behind packet 5", *lost], 1),
+              pipe.ended_by(signal.SIGTERM))
+    pipe = begun(WORDS + " --every 100 --ask link")
+    yield see("a signal, and the question at the end", [*CONVERSATION, "ask,link"], pipe.ended_by(signal.SIGTERM)[0])
+    path = f"{room}/next.pcap"
+    with open(path, "wb") as file:
+        file.write(begin)
+    yield see("a signal before another capture", (CONVERSATION, ["SIGTERM ended the input behind packet 4, before captures: 1"], 1),
+              begun(WORDS, path).ended_by(signal.SIGTERM))
+    pipe = begun()
+    pipe.process.stdout.close()
+    pipe.give(more)
+    pipe.process.send_signal(signal.SIGINT)
+    yield see("a signal that ends what reads the rows, too", (["SIGINT ended the input behind packet 6, and what reads the rows", *lost], 1), (
+        pipe.process.stderr.read().decode().splitlines(), pipe.process.wait()))
+    pipe = begun()
+
+    def go_on():
+        frames = pcap([client(0, b"ab")] * 1000)[24:]
+        try:
+            for _ in itertools.count():
+                pipe.give(frames)
+        except BrokenPipeError:
+            pass
+
+    thread = threading.Thread(target=go_on)
+    thread.start()
+    found, lines, status = pipe.ended_by(signal.SIGTERM)
+    thread.join()
+    yield see("a signal while packets come without end", (CONVERSATION, True, 1), (
+        found, any(it.startswith("SIGTERM ended the input behind packet ") for it in lines), status))
+    pipe = begun()
+    while pipe.process.poll() is None:
+        pipe.process.send_signal(signal.SIGTERM)
+        time.sleep(0.02)
+    yield see("a second signal", -signal.SIGTERM, pipe.process.wait())
+    signal.signal(signal.SIGINT, signal.SIG_IGN)
+    pipe = begun()
+    signal.signal(signal.SIGINT, signal.default_int_handler)
+    pipe.process.send_signal(signal.SIGINT)
+    time.sleep(1)
+    pipe.give(more)
+    yield see("a signal that is to be ignored", (rows, lost, 1), pipe.end())
