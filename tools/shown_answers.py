@@ -121,10 +121,11 @@ def parsed_by_client(text):
             for it in family.samples}
 
 
-def samples_of(report, told=None, names=None, listed=LISTS):
-    """Returns the samples that a report is to have."""
+def samples_of(report, told=None, names=None, listed=LISTS, known=""):
+    """Returns the samples that a report is to have: those of a report that is known, too, at 0 where they are gone."""
     names, found = names or {}, {("smq_listed", (("list", it),)): 0.0 for it in listed}
-    for kind, name, *rest in (it.split(",") for it in report.splitlines()):
+    zeros = [it.rpartition(",")[0] + ",0" for it in known.splitlines() if it.startswith("view")]
+    for kind, name, *rest in (it.split(",") for it in [*zeros, *report.splitlines()]):
         if kind == "list":
             found["smq_listed", (("list", name),)] += 1
             continue
@@ -221,13 +222,22 @@ def see_pages(count):
         count.see("another method", 501, shown.get("/metrics", "POST")[0])
         shown.give(SECOND)
         later = "".join(f"{it}\n" for it in REPORT.splitlines() if not it.startswith("view,link,")) + LINKS
-        count.see("metrics after an answer of one view", samples_of(later, (18, 1795329425, 3), names), without_moment(shown.row(18)))
+        count.see("metrics after an answer of one view", samples_of(later, (18, 1795329425, 3), names, known=REPORT),
+                  without_moment(shown.row(18)))
         count.see("that view, and the report before", (LINKS, REPORT), (shown.get("/link.csv")[2], shown.get("/report.csv")[2]))
+        absent = [it for it in (
+            '<tr><th title="3">North \\ &quot;best&quot; &lt;b&gt;&amp;\none<td>13<td>100.0<td>13<td><td>0<td class="bar">',
+            '<tr><th title="10">10<td>0<td><td><td>0<td><td class="bar">') if it not in shown.get("/")[2]]
+        count.see("rows and counts that are gone stay on the page at 0", [], absent)
         shown.give("told,19,link,1795329425000,3\n")
-        count.see("a view that has become empty", (False, 200, ""), (
-            any(("view", "link") in it[1] for it in shown.row(19)), *shown.get("/link.csv")[::2]))
+        later = "".join(f"{it}\n" for it in REPORT.splitlines() if not it.startswith("view,link,"))
+        count.see("a view that has become empty", (samples_of(later, (19, 1795329425, 3), names, known=REPORT), 200, ""), (
+            without_moment(shown.row(19)), *shown.get("/link.csv")[::2]))
         shown.give("told,20,report,1795329425000,3\n")
-        count.see("an empty report", samples_of("", (20, 1795329425, 3)), without_moment(shown.row(20)))
+        count.see("an empty report", samples_of("", (20, 1795329425, 3), names, known=REPORT), without_moment(shown.row(20)))
+        shown.give("view,link,3,open,2\ntold,21,link,1795329425000,3\n")
+        count.see("a count that comes again", samples_of("view,link,3,open,2\n", (21, 1795329425, 3), names, known=REPORT),
+                  without_moment(shown.row(21)))
         count.see("its end", (0, ""), shown.end())
     shown = Served("--address", other_address())
     shown.give("list,open,1,client,0\ntold,1,open,0,0\n")
@@ -273,6 +283,24 @@ def see_files(count):
         count.see("a file and a port", shown.get("/metrics")[2], until(
             lambda: text if "smq_rows 17" in (text := open(path, encoding="utf-8").read()) else None))
         count.see("their end", (0, ""), shown.end())
+
+
+def see_many(count):
+    """Sees that the first 100,000 counts are remembered, which is told at the next."""
+    lines = "".join(f"view,error,status:{it},refused,1\n" for it in range(99_999)) + "told,1,report,5000,0\n"
+    for name, answer, told in (
+            ("as many counts as are remembered", "view,link,7,open,1\ntold,2,link,5000,0\n", ""),
+            ("one more", "view,link,7,open,1\nview,route,8,open,1\ntold,2,report,5000,0\n",
+             "serve: 100000 counts are remembered: newer ones won't be shown as 0 where they are gone\n"),
+            ("two more", "view,link,7,open,1\nview,link,8,open,1\nview,route,8,open,1\ntold,2,report,5000,0\n",
+             "serve: 100000 counts are remembered: newer ones won't be shown as 0 where they are gone\n")):
+        shown = Served()
+        shown.give(lines + answer + "told,3,report,5000,0\n")
+        until(lambda: "smq_rows 3\n" in shown.get("/metrics")[2][-1000:])
+        text = shown.get("/metrics")[2]
+        found = re.findall(r'view="(?:link|route)",value="(\d)",outcome="open"} 0\n', text)
+        count.see(f"{name}: those that are gone", (["7"], 99_999), (found, len(re.findall('value="status:[0-9]+",outcome="refused"} 0\n', text))))
+        count.see(f"{name}: its end", (0, told), shown.end())
 
 
 def see_ends(count):
