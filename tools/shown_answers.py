@@ -152,13 +152,11 @@ def other_address():
     return "::1"
 
 
-class Served:
-    """A running tools/serve, whose input stays open."""
+class Page:
+    """What is shown at an address."""
 
-    def __init__(self, *words, **more):
-        self.process = tool("serve", "0", *words, **more)
-        told = lines_of(self.process.stderr, 1)
-        self.url = told[0].partition("serve: ")[2] if told else ""
+    def __init__(self, url):
+        self.url = url
 
     def get(self, path, method="GET"):
         """Returns the status, the content's type and the content of a page; where it has ended, nothing."""
@@ -173,11 +171,24 @@ class Served:
         finally:
             connection.close()
 
-    def give(self, text):
-        give(self.process, text.encode())
-
     def metrics(self):
         return parsed(self.get("/metrics")[2])
+
+    def figures(self):
+        """Returns the samples of views and lists; a count of 0 is of an answer before."""
+        return {key: value for key, value in self.metrics().items() if key[0] == "smq_listed" or key[0] == "smq_messages" and value}
+
+
+class Served(Page):
+    """A running tools/serve, whose input stays open."""
+
+    def __init__(self, *words, **more):
+        self.process = tool("serve", "0", *words, **more)
+        told = lines_of(self.process.stderr, 1)
+        super().__init__(told[0].partition("serve: ")[2] if told else "")
+
+    def give(self, text):
+        give(self.process, text.encode())
 
     def row(self, number):
         """Waits until a row is shown, and returns the metrics then."""
