@@ -179,8 +179,8 @@ def signals_differ(room):
                   pipe.ended_by(number))
     pipe = begun()
     pipe.give(more[:-1])
-    yield see("a signal within a packet", (CONVERSATION, ["the file ends within packet 6", "SIGTERM ended the input behind packet 5", *lost], 1),
-              pipe.ended_by(signal.SIGTERM))
+    ends = "the file ends within packet 6", "SIGTERM ended the input behind packet 5"
+    yield see("a signal within a packet", (CONVERSATION, [*ends, *lost], 1), pipe.ended_by(signal.SIGTERM))
     pipe = begun(WORDS + " --every 100 --ask link")
     yield see("a signal, and the question at the end", [*CONVERSATION, "ask,link"], pipe.ended_by(signal.SIGTERM)[0])
     path = f"{room}/next.pcap"
@@ -192,8 +192,8 @@ def signals_differ(room):
     pipe.process.stdout.close()
     pipe.give(more)
     pipe.process.send_signal(signal.SIGINT)
-    yield see("a signal that ends what reads the rows, too", (["SIGINT ended the input behind packet 6, and what reads the rows", *lost], 1), (
-        pipe.process.stderr.read().decode().splitlines(), pipe.process.wait()))
+    wanted = ["SIGINT ended the input behind packet 6, and what reads the rows", *lost], 1
+    yield see("a signal that ends what reads the rows, too", wanted, (pipe.process.stderr.read().decode().splitlines(), pipe.process.wait()))
     pipe = begun()
 
     def go_on():

@@ -310,7 +310,8 @@ def see_many(count):
         until(lambda: "smq_rows 3\n" in shown.get("/metrics")[2][-1000:])
         text = shown.get("/metrics")[2]
         found = re.findall(r'view="(?:link|route)",value="(\d)",outcome="open"} 0\n', text)
-        count.see(f"{name}: those that are gone", (["7"], 99_999), (found, len(re.findall('value="status:[0-9]+",outcome="refused"} 0\n', text))))
+        errors = len(re.findall('value="status:[0-9]+",outcome="refused"} 0\n', text))
+        count.see(f"{name}: those that are gone", (["7"], 99_999), (found, errors))
         count.see(f"{name}: its end", (0, told), shown.end())
 
 
