@@ -229,6 +229,9 @@ def see_pages(count):
                                 '<meta http-equiv="refresh"', "2026-11-22 06:37:04 UTC", "<td>13<td>92.3<td>12<td><td>1") if it not in page]
         count.see("what stands there", [], absent + ["<b>&"] * ("<b>&" in page))
         count.see("no such page", [404] * 4, [shown.get(it)[0] for it in ("/x", "/x.csv", "/metrics/", "/../serve")])
+        with socket.create_connection((urllib.parse.urlsplit(shown.url).hostname, urllib.parse.urlsplit(shown.url).port), SOON) as end:
+            end.sendall(b"GET http://[ HTTP/1.0\r\n\r\n")
+            count.see("a path that is none", b" 404 ", end.recv(1000)[8:13])
         count.see("a head alone", (200, ""), shown.get("/metrics", "HEAD")[::2])
         count.see("another method", 501, shown.get("/metrics", "POST")[0])
         shown.give(SECOND)
