@@ -4,6 +4,7 @@ mod equal;
 mod lines;
 mod load;
 mod memory;
+mod octets;
 mod random;
 mod readers;
 mod refused;
