@@ -1,8 +1,8 @@
-//! Readers that fail, are interrupted or give too much, and writers that fail: a run, a total and a check tell it, and nothing is written
-//! that isn't wanted. A total takes what is too much for a run.
+//! Readers that fail, are interrupted or give too much, and writers that fail or are interrupted: a run, a total, lines and a check tell it,
+//! and nothing is written that isn't wanted. A total takes what is too much for a run.
 use crate::tests::*;
 use smq_engine::run;
-use smq_follow::total;
+use smq_follow::{messages, receipts, total};
 use smq_report::{Format, Pick};
 use smq_tally::View;
 use smq_words::Query;
@@ -17,6 +17,8 @@ pub(crate) const SCRIPT: &[u8] =
 pub(crate) enum Work {
     Report(Query),
     Total(Query),
+    Messages,
+    Receipts,
     Check,
 }
 
@@ -35,30 +37,52 @@ const WHOLE_TEXT: &[u8] =
 
 const LINKS_TEXT: &[u8] = b"view link\n  1                        open                1\n";
 
+const MESSAGES_TEXT: &[u8] =
+    b"link,session,offset,moment,number,route,network,outcome,error,id,response_offset,receipt_session,receipt_offset,receipt_moment,centre_delay\n1,10,0,1000,447700900123,none,none,open,,1,0,,,,\n";
+
+const RECEIPTS_TEXT: &[u8] =
+    b"link,session,offset,moment,id,state,interim,error,standing,message_session,message_offset\n";
+
 /// Works, and what each writes of `SCRIPT`.
 pub(crate) const WORKS: &[(Work, &[u8])] = &[
     (Work::Report(WHOLE), WHOLE_TEXT),
     (Work::Report(LINKS), LINKS_TEXT),
     (Work::Total(WHOLE), WHOLE_TEXT),
     (Work::Total(LINKS), LINKS_TEXT),
+    (Work::Messages, MESSAGES_TEXT),
+    (Work::Receipts, RECEIPTS_TEXT),
     (Work::Check, b"same entries 2 refused 0\n"),
 ];
 
-/// Gives a text octet by octet, and fails once, after so many reads.
+/// Gives a text octet by octet. After so many reads some fail, one after the other.
 #[derive(Drop)]
 pub(crate) struct Dripping {
-    pub(crate) text: &'static [u8],
-    pub(crate) reads: usize,
-    pub(crate) kind: io::ErrorKind,
+    text: &'static [u8],
+    reads: usize,
+    kind: io::ErrorKind,
+    /// How many reads are still to fail.
+    pub(crate) failing: usize,
+}
+
+impl Dripping {
+    /// Three reads fail in this way, after so many.
+    pub(crate) fn of(text: &'static [u8], reads: usize, kind: io::ErrorKind) -> Dripping {
+        Dripping {
+            text,
+            reads,
+            kind,
+            failing: 3,
+        }
+    }
 }
 
 impl Read for Dripping {
     fn read(&mut self, buf: &mut [u8]) -> io::Result<usize> {
-        if self.reads == 0 {
-            self.reads = usize::MAX;
+        if self.reads == 0 && self.failing > 0 {
+            self.failing -= 1;
             return Err(io::Error::from(self.kind));
         }
-        self.reads -= 1;
+        self.reads = self.reads.saturating_sub(1);
         let count = 1usize.min(buf.len()).min(self.text.len());
         let (given, left) = self.text.split_at(count);
         buf[..count].copy_from_slice(given);
@@ -128,6 +152,8 @@ pub(crate) fn fault_of<RT: AllocGlobal + Threads + Wait + Sync, R: Read, W: Writ
     match work {
         Work::Report(query) => run(rt, reader, b"", query, writer).err(),
         Work::Total(query) => total(rt, reader, b"", query, writer).err(),
+        Work::Messages => messages(rt, reader, b"", writer).err(),
+        Work::Receipts => receipts(rt, reader, b"", writer).err(),
         Work::Check => check(rt, reader, b"", writer, &NoGate).err(),
     }
 }
@@ -145,26 +171,36 @@ pub(crate) fn ends<RT: AllocGlobal + Threads + Wait + Sync, R: Read>(
     fault == wanted && written.as_slice() == text
 }
 
-/// Whether a work is done, and writes this text, where the reader is interrupted after so many reads; and where one fails, ends so
-/// and writes nothing.
-fn tells_read<RT: AllocGlobal + Threads + Wait + Sync>(
+/// How a read fails for good.
+pub(crate) const KINDS: &[io::ErrorKind] = &[
+    io::ErrorKind::ConnectionReset,
+    io::ErrorKind::WouldBlock,
+    io::ErrorKind::TimedOut,
+    io::ErrorKind::UnexpectedEof,
+    io::ErrorKind::OutOfMemory,
+    io::ErrorKind::Other,
+];
+
+/// Whether a work is done, and writes this text, where three reads in a row are interrupted after so many.
+fn goes_on<RT: AllocGlobal + Threads + Wait + Sync>(
     rt: &RT,
     work: Work,
     text: &[u8],
     reads: usize,
 ) -> bool {
-    let mut interrupted = Dripping {
-        text: SCRIPT,
-        reads,
-        kind: io::ErrorKind::Interrupted,
-    };
-    let mut failing = Dripping {
-        text: SCRIPT,
-        reads,
-        kind: io::ErrorKind::Other,
-    };
-    ends(rt, work, &mut interrupted, None, text)
-        && ends(rt, work, &mut failing, Some(RunFault::Read), b"")
+    let mut reader = Dripping::of(SCRIPT, reads, io::ErrorKind::Interrupted);
+    ends(rt, work, &mut reader, None, text) && reader.failing == 0
+}
+
+/// Whether a work whose read fails after so many tells it, reads no more, and writes nothing.
+fn tells_read<RT: AllocGlobal + Threads + Wait + Sync>(
+    rt: &RT,
+    work: Work,
+    reads: usize,
+    kind: io::ErrorKind,
+) -> bool {
+    let mut reader = Dripping::of(SCRIPT, reads, kind);
+    ends(rt, work, &mut reader, Some(RunFault::Read), b"") && reader.failing == 2
 }
 
 /// Octet by octet there are as many reads as octets, and one that finds the end.
@@ -172,8 +208,46 @@ fn tells_read<RT: AllocGlobal + Threads + Wait + Sync>(
 fn a_failed_read_is_told_and_an_interrupted_one_is_tried_again(rt: HostRuntime) {
     for (work, text) in WORKS {
         for reads in 0..SCRIPT.len() + 1 {
-            assert!(rt; tells_read(&rt, *work, text, reads), "after {reads} reads");
+            assert!(rt; goes_on(&rt, *work, text, reads), "after {reads} reads");
+            let told = tells_read(&rt, *work, reads, io::ErrorKind::Other);
+            assert!(rt; told, "after {reads} reads");
         }
+    }
+}
+
+/// The first octet is read alone (a byte order mark would begin there).
+#[test]
+fn a_read_that_fails_for_good_is_not_tried_again(rt: HostRuntime) {
+    for (work, _) in WORKS {
+        for kind in KINDS {
+            assert!(rt; tells_read(&rt, *work, 0, *kind), "at the first octet");
+            assert!(rt; tells_read(&rt, *work, 20, *kind), "after 20 octets");
+        }
+    }
+}
+
+/// Works that play a row before they read the next.
+const STREAMED: &[Work] = &[Work::Total(WHOLE), Work::Messages, Work::Receipts];
+
+/// A row, and a record that says none.
+const BAD: &[u8] = b"clock,1\nclock,x\n";
+
+/// Whether a work tells a bad row as soon as its line has ended, and reads no more.
+fn tells_bad_row<RT: AllocGlobal + Threads + Wait + Sync>(rt: &RT, work: Work) -> bool {
+    let mut reader = Dripping::of(BAD, BAD.len(), io::ErrorKind::Other);
+    ends(
+        rt,
+        work,
+        &mut reader,
+        Some(RunFault::BadRow { row: 2 }),
+        b"",
+    ) && reader.failing == 3
+}
+
+#[test]
+fn a_bad_row_is_told_before_the_input_ends(rt: HostRuntime) {
+    for work in STREAMED {
+        assert!(rt; tells_bad_row(&rt, *work));
     }
 }
 
@@ -206,6 +280,47 @@ fn a_failed_write_is_told(rt: HostRuntime) {
         for calls in 0..text.len() + 2 {
             assert!(rt; tells_write(&rt, *work, text, calls), "after {calls} calls");
         }
+    }
+}
+
+/// Takes octets one by one. Each write is interrupted once before.
+#[derive(Drop)]
+struct Interrupted {
+    taken: Vec<u8>,
+    is_next: bool,
+}
+
+impl Write for Interrupted {
+    fn write(&mut self, buf: &[u8]) -> io::Result<usize> {
+        self.is_next = !self.is_next;
+        if self.is_next {
+            return Err(io::Error::from(io::ErrorKind::Interrupted));
+        }
+        let count = 1usize.min(buf.len());
+        self.taken.extend_from_slice(&buf[..count])?;
+        Ok(count)
+    }
+
+    fn flush(&mut self) -> io::Result<()> {
+        Ok(())
+    }
+}
+
+/// Whether a work is done, and writes this text, where each write is interrupted once.
+fn writes_on<RT: AllocGlobal + Threads + Wait + Sync>(rt: &RT, work: Work, text: &[u8]) -> bool {
+    let mut reader = SCRIPT;
+    let mut writer = Interrupted {
+        taken: Vec::new(rt.alloc()),
+        is_next: false,
+    };
+    let fault = fault_of(rt, work, &mut reader, &mut writer);
+    fault.is_none() && writer.taken.as_slice() == text
+}
+
+#[test]
+fn an_interrupted_write_is_tried_again(rt: HostRuntime) {
+    for (work, text) in WORKS {
+        assert!(rt; writes_on(&rt, *work, text));
     }
 }
 

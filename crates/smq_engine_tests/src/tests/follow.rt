@@ -1,6 +1,6 @@
 //! Records that are followed: an answer is out before the next record is read, a read that is interrupted is tried again, and what was
 //! written stands where a reader or a writer fails.
-use crate::tests::faults::{Dripping, Taker};
+use crate::tests::faults::{Dripping, KINDS, Taker};
 use crate::tests::*;
 use smq_follow::{Followed, follow};
 use smq_report::Format;
@@ -109,23 +109,30 @@ fn an_answer_is_out_before_the_next_record_is_read(rt: HostRuntime) {
     assert!(rt; answers_each_in_turn(&rt));
 }
 
-/// Whether records whose read of a number fails come to this, and so many octets of the answers are written.
+/// Whether records come to this, and so many octets of the answers are written.
 fn comes_to<RT: AllocGlobal>(
     rt: &RT,
-    reads: usize,
-    kind: io::ErrorKind,
+    reader: &mut Dripping,
     wanted: Result<Followed, RunFault>,
     count: usize,
 ) -> bool {
-    let mut reader = Dripping {
-        text: TEXT,
-        reads,
-        kind,
-    };
     let mut answers = Vec::new(rt.alloc());
     let mut refusals = Vec::new(rt.alloc());
-    answer_all(rt, &mut reader, &mut answers, &mut refusals) == wanted
+    answer_all(rt, reader, &mut answers, &mut refusals) == wanted
         && Some(answers.as_slice()) == ANSWERS.get(..count)
+}
+
+/// Whether all records are answered where three reads in a row are interrupted after so many.
+fn goes_on<RT: AllocGlobal>(rt: &RT, reads: usize) -> bool {
+    let mut reader = Dripping::of(TEXT, reads, io::ErrorKind::Interrupted);
+    let done = Ok(Followed { refused: 1 });
+    comes_to(rt, &mut reader, done, ANSWERS.len()) && reader.failing == 0
+}
+
+/// Whether a read that fails after so many is told, and no other follows.
+fn tells_read<RT: AllocGlobal>(rt: &RT, reads: usize, kind: io::ErrorKind) -> bool {
+    let mut reader = Dripping::of(TEXT, reads, kind);
+    comes_to(rt, &mut reader, Err(RunFault::Read), answered_after(reads)) && reader.failing == 2
 }
 
 /// How many octets of answers are written where so many octets of the records were read.
@@ -142,18 +149,41 @@ fn answered_after(read: usize) -> usize {
 #[test]
 fn a_failed_read_ends_it_and_an_interrupted_one_is_tried_again(rt: HostRuntime) {
     for reads in 0..TEXT.len() + 1 {
-        let done = Ok(Followed { refused: 1 });
-        let whole = comes_to(&rt, reads, io::ErrorKind::Interrupted, done, ANSWERS.len());
-        assert!(rt; whole, "interrupted after {reads} reads");
-        let failed = Err(RunFault::Read);
-        let cut = comes_to(
-            &rt,
-            reads,
-            io::ErrorKind::Other,
-            failed,
-            answered_after(reads),
-        );
-        assert!(rt; cut, "failed after {reads} reads");
+        assert!(rt; goes_on(&rt, reads), "interrupted after {reads} reads");
+        let told = tells_read(&rt, reads, io::ErrorKind::Other);
+        assert!(rt; told, "failed after {reads} reads");
+    }
+}
+
+#[test]
+fn a_read_that_fails_for_good_is_not_tried_again(rt: HostRuntime) {
+    for kind in KINDS {
+        assert!(rt; tells_read(&rt, 0, *kind), "at the first octet");
+        assert!(rt; tells_read(&rt, 20, *kind), "after 20 octets");
+    }
+}
+
+/// Records that end with a bad one, the third: a row, and a question.
+const BAD: &[&[u8]] = &[
+    b"ask,link\nwithdraw,11\nclock,x\n",
+    b"ask,link\nwithdraw,11\nask,links\n",
+];
+
+/// Whether the bad record is told as soon as its line has ended, and the others were answered. No read follows.
+fn tells_bad_row<RT: AllocGlobal>(rt: &RT, records: &'static [u8]) -> bool {
+    let mut reader = Dripping::of(records, records.len(), io::ErrorKind::Other);
+    let mut answers = Vec::new(rt.alloc());
+    let mut refusals = Vec::new(rt.alloc());
+    answer_all(rt, &mut reader, &mut answers, &mut refusals) == Err(RunFault::BadRow { row: 3 })
+        && reader.failing == 3
+        && answers.as_slice() == b"told,1,link,0,0\n".as_slice()
+        && refusals.as_slice() == b"row 2: 6 NoSession\n".as_slice()
+}
+
+#[test]
+fn a_bad_row_is_told_before_the_input_ends(rt: HostRuntime) {
+    for records in BAD {
+        assert!(rt; tells_bad_row(&rt, records));
     }
 }
 

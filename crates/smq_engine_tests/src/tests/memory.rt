@@ -1,14 +1,14 @@
-//! A run, a total and a check with each allocation and each start of a thread refused in turn (tools/check-refused-calls): what was written is a
+//! A run, a total, lines and a check with each allocation and each start of a thread refused in turn (tools/check-refused-calls): what was written is a
 //! beginning of what is wanted, and the same is done then as ever.
 use crate::tests::faults::{SCRIPT, WORKS, Work, ends, fault_of};
 use crate::tests::*;
 use smq_marks::Call;
 
-/// The call that does a work.
+/// The call that does a work. Lines are marked as totals, whose rows they play.
 fn call_of(work: Work) -> Call {
     match work {
         Work::Report(_) => Call::Run,
-        Work::Total(_) => Call::Total,
+        Work::Total(_) | Work::Messages | Work::Receipts => Call::Total,
         Work::Check => Call::Check,
     }
 }
