@@ -215,7 +215,7 @@ fn a_failed_read_is_told_and_an_interrupted_one_is_tried_again(rt: HostRuntime) 
     }
 }
 
-/// The first octet is read alone (a byte order mark would begin there).
+/// The first octet is read by itself: a byte order mark would begin there.
 #[test]
 fn a_read_that_fails_for_good_is_not_tried_again(rt: HostRuntime) {
     for (work, _) in WORKS {
