@@ -26,7 +26,7 @@ pub record KnowsWords : Type 0 where
   pub formats : format_names ≡ codes "csv" ∷ codes "table" ∷ []
   pub format_option : (formats : ValueParser) → (format_rule formats).long ≡ Some (codes "format")
   pub settings_option : settings_rule.long ≡ Some (codes "settings")
-  pub version : version_text ≡ codes "0.22.0"
+  pub version : version_text ≡ codes "0.23.0"
   pub plain : AsksFor (Some (codes "report", [])) (record { pick = pick.All; format = format.Csv }) None
 
 -- the fault that `clap` finds in words, whatever names and formats its parsers take

@@ -134,7 +134,7 @@ total_app names formats =
 
 -- the program's version
 abbrev pub version_text : Text
-version_text = codes "0.22.0"
+version_text = codes "0.23.0"
 
 -- the program without its subcommands: one is required, or `--version`
 abbrev pub bare_program : App

@@ -33,7 +33,7 @@ const RECEIPTS: &str =
     "Writes a line of CSV for each delivery receipt of a script of any length, with the message it matches";
 
 /// The version that `--version` prints.
-const VERSION: &str = "0.22.0";
+const VERSION: &str = "0.23.0";
 
 /// The first part of what stands below each help, before the names of views and lists.
 const SCRIPT: &str = "\
