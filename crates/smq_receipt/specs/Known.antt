@@ -128,6 +128,10 @@ pub record ReadingsOfKnownReceipts : Type 0 where
   -- the message's own text, and what follows an octet that is no space, says nothing
   pub own_text : reading_of_text (codes "id:1 TEXT: stat:DELIVRD") ≡ v.NoState
   pub a_tab : reading_of_text (codes "id:1" ++ 9 ∷ codes "stat:DELIVRD") ≡ v.NoState
+  -- an id may have any octets but a space
+  pub a_comma : reading_of_text (codes "id:a,b stat:DELIVRD") ≡ receipt_reading (codes "a,b") Delivered Unstated None
+  pub a_line_feed : reading_of_text (codes "id:a" ++ 10 ∷ codes "b stat:DELIVRD")
+      ≡ receipt_reading (codes "a" ++ 10 ∷ codes "b") Delivered Unstated None
   -- a usable parameter comes before the text
   pub id_beside : reading_of
       (record (deliver_saying 0x04 (codes "id:1 stat:DELIVRD")) { receipted_message_id = Some (55 ∷ 0 ∷ []) })
