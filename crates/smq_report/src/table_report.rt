@@ -1,5 +1,5 @@
 //! A report as tables: lines are gathered on a page, and a full page is written.
-ghost use Rattle.std.specs.Prelude.{◌≡◌, ◌++◌, ◌≤◌, ◌-◌, [], IfErr, OnOk, length, replicate, string_bytes, string_len};
+ghost use Rattle.std.specs.Prelude.{◌≡◌, ◌++◌, ◌≤◌, ◌<◌, ◌-◌, [], IfErr, OnOk, length, replicate, string_bytes, string_len};
 ghost use Rattle.std.specs.List.{flat_map};
 ghost use Rattle.std.specs.Io.KnownBytes.{Appends};
 ghost use Rattle.smq_report.specs.Beginnings.{AppendsBeginning};
@@ -89,10 +89,11 @@ fn put_section<W: Write>(
     Ok(())
 }
 
-/// Writes the page if it is full.
+/// Writes the page if it is full, so that it isn't full then.
 fn send_full<W: Write>(page: &mut String, writer: &mut W) -> Result<(), ReportFault>
     ensures ok { OnOk result
         (AppendsAllBut (W.contents writer.old) (W.contents writer.new) (string_bytes page.new) (string_bytes page.old)) }
+    ensures room { OnOk result (string_len page.new < FULL) }
     ensures begun { IfErr result (λ fault.
         AppendsBeginning (W.contents writer.old) (W.contents writer.new) (string_bytes page.old)) }
 {
