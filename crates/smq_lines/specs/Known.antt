@@ -4,6 +4,7 @@ use Rattle.std.specs.List.{flat_map}
 use Rattle.smq_kit.specs.declared.error_code.ErrorCode.{ErrorCode}
 use Rattle.smq_kit.specs.declared.error_code.ErrorCode.TheVariants as c
 use Rattle.smq_kit.specs.declared.names.RouteId.{RouteId}
+use Rattle.smq_kit.specs.declared.place.Dir.{Dir}
 use Rattle.smq_kit.specs.declared.place.Dir.TheVariants.{FromClient, FromCentre}
 use Rattle.smq_kit.specs.declared.place.Place.{Place}
 use Rattle.smq_receipt.specs.declared.message_state.MessageState.{MessageState}
@@ -19,7 +20,7 @@ use Rattle.smq_lines.specs.declared.lines.ReceiptStanding.{ReceiptStanding}
 use Rattle.smq_lines.specs.declared.lines.ReceiptStanding.TheVariants as r
 use Rattle.smq_lines.specs.Lines.{MessageLineValue, ReceiptLineValue}
 use Rattle.smq_lines.specs.Names.{standing_name, state_name, yes_or_no}
-use Rattle.smq_lines.specs.Texts.{csv_record, message_record, messages_text, receipts_text}
+use Rattle.smq_lines.specs.Texts.{csv_record, message_record, messages_text, receipt_record, receipts_text}
 
 -- texts, each ended by a line feed
 abbrev pub lines_of : List (List ℕ) → List ℕ
@@ -46,6 +47,14 @@ fact_of offset route outcome error = record {
   link_delay = None;
   centre_delay = None;
 }
+
+-- the last offset of the last session
+abbrev pub last_place : Dir → Place
+last_place dir = record { session = record { 0 = 18446744073709551615 }; dir = dir; offset = 281474976710656 }
+
+-- an id of 64 octets
+abbrev pub longest_id : List ℕ
+longest_id = codes "0123456789012345678901234567890123456789012345678901234567890123"
 
 -- route 10 and network 23410
 abbrev pub known_route : Option (RouteId × List ℕ)
@@ -112,11 +121,29 @@ late_line = record {
   receipt = decided_by 462 1 (Some (pos 60000));
 }
 
+-- a message whose numbers and id are the greatest, and whose receipt was done as long before it was submitted as dates can say
+abbrev pub last_line : MessageLineValue
+last_line = record {
+  fact = record (fact_of 0 (Some (record { 0 = 4294967295 }, codes "310026")) o.Failed (Some (e.Failed (c.Network 255 65535)))) {
+    place = last_place FromClient;
+    link = record { 0 = 4294967295 };
+  };
+  moment = 4102444800000;
+  number = Some (codes "999999999999999");
+  id = Some longest_id;
+  response = Some 281474976710656;
+  receipt = Some (record {
+    place = last_place FromCentre;
+    moment = 4102444800000;
+    centre_delay = Some (neg_ℤ (pos 3155759999000));
+  });
+}
+
 -- the columns of lines for messages, as they are written
 abbrev pub message_header : List ℕ
 message_header = codes "link,session,offset,moment,number,route,network,outcome,error,id,response_offset,receipt_session,receipt_offset,receipt_moment,centre_delay"
 
--- Texts of lines for messages: of none, of one of each, and of two. An id is quoted where it has a comma, a double quote, which
+-- Texts of lines for messages: of none, of one of each, of the greatest numbers, and of two. An id is quoted where it has a comma, a double quote, which
 -- is written twice, or an end of a line, and nowhere else.
 pub record KnowsMessages : Type 0 where
   pub none : messages_text [] ≡ message_header ++ 10 ∷ []
@@ -131,6 +158,11 @@ pub record KnowsMessages : Type 0 where
   pub late :
       message_record late_line
       ≡ codes "7,20,245,0,447700900125,10,23410,failed,text:027,id 1,148,30,462,1,60000" ++ 10 ∷ []
+  pub last :
+      message_record last_line
+      ≡ codes "4294967295,18446744073709551615,281474976710656,4102444800000,999999999999999,4294967295,310026,failed,net:255:65535,"
+      ++ longest_id
+      ++ codes ",281474976710656,18446744073709551615,281474976710656,4102444800000,-3155759999000" ++ 10 ∷ []
   pub two :
       messages_text (waiting_line ∷ refused_line ∷ [])
       ≡ lines_of (message_header ∷ codes "7,20,98,1,,none,none,waiting,,,,,,,"
@@ -157,6 +189,17 @@ receipt_of id state error = record { id = id; state = state; interim = false; er
 abbrev pub interim_receipt : Receipt
 interim_receipt = record { id = codes "a,\"b"; state = m.Enroute; interim = true; error = c.Network 3 8; centre_delay = None }
 
+-- a line for a receipt whose numbers and id are the greatest
+abbrev pub last_receipt_line : ReceiptLineValue
+last_receipt_line = record {
+  link = record { 0 = 4294967295 };
+  place = last_place FromCentre;
+  moment = 4102444800000;
+  receipt = receipt_of longest_id m.Unknown (c.Network 255 65535);
+  standing = r.Noted;
+  message = Some (last_place FromClient);
+}
+
 -- one of each standing
 abbrev pub known_receipt_lines : List ReceiptLineValue
 known_receipt_lines =
@@ -182,10 +225,15 @@ known_receipt_records =
     ∷ codes "7,30,464,1700000004000,0,rejected,no,unstated,ambiguous,,"
     ∷ []
 
--- Texts of lines for delivery receipts: of none, and of these.
+-- Texts of lines for delivery receipts: of none, of these, and of the greatest numbers.
 pub record KnowsReceipts : Type 0 where
   pub none : receipts_text [] ≡ receipt_header ++ 10 ∷ []
   pub all : receipts_text known_receipt_lines ≡ lines_of known_receipt_records
+  pub last :
+      receipt_record last_receipt_line
+      ≡ codes "4294967295,18446744073709551615,281474976710656,4102444800000,"
+      ++ longest_id
+      ++ codes ",unknown,no,net:255:65535,noted,18446744073709551615,281474976710656" ++ 10 ∷ []
 
 -- ---- words and quotes
 

@@ -5,4 +5,4 @@ use Rattle.smq_lines.proofs.laws.known_messages.Goals as goal
 
 pub returns : goal.returns
 unfolding digits fields_text is_blank escaped
-returns c = record { none = refl; delivered = refl; waiting = refl; refused = refl; failed = refl; late = refl; two = refl }
+returns c = record { none = refl; delivered = refl; waiting = refl; refused = refl; failed = refl; late = refl; last = refl; two = refl }

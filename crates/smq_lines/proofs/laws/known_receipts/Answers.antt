@@ -5,4 +5,4 @@ use Rattle.smq_lines.proofs.laws.known_receipts.Goals as goal
 
 pub returns : goal.returns
 unfolding digits fields_text is_blank escaped
-returns c = record { none = refl; all = refl }
+returns c = record { none = refl; all = refl; last = refl }
