@@ -5,6 +5,7 @@ use Rattle.clap.specs.declared.builder.value_parser.ValueParser.{ValueParser}
 use Rattle.clap.specs.declared.error.kind.ErrorKind.TheVariants.{UnknownArgument}
 use Rattle.smq_report.specs.declared.pick.Format.{Format}
 use Rattle.smq_report.specs.declared.pick.Format.TheVariants as format
+use Rattle.smq_report.specs.declared.pick.Pick.{Pick}
 use Rattle.smq_report.specs.declared.pick.Pick.TheVariants as pick
 use Rattle.smq_tally.specs.declared.list.List.TheVariants as list
 use Rattle.smq_tally.specs.declared.view.View.TheVariants as view
@@ -55,18 +56,21 @@ pub record KnowsFollow : Type 0 where
   pub alone : HasFault (codes "follow" ∷ []) []
   pub alone_follows : Follows (codes "follow" ∷ []) format.Csv None
   pub settings_follows : Follows (codes "follow" ∷ codes "--settings" ∷ codes "p" ∷ []) format.Csv (Some (codes "p"))
+  pub table_follows : Follows (codes "follow" ∷ codes "--format" ∷ codes "table" ∷ []) format.Table None
   pub name : HasFault (codes "follow" ∷ codes "link" ∷ []) (UnknownArgument ∷ [])
 
--- the format and the path of settings for which words ask that enter `total` without a name
-abbrev pub TotalsAll : List Text → Format → Option Text → Type 0
-TotalsAll words format path = (names formats : ValueParser)
-    → AsksToTotal (subcommand_of (program names formats) words) (record { pick = pick.All; format = format }) path
+-- the pick, the format and the path of settings for which words ask that enter `total`
+abbrev pub Totals : List Text → Pick → Format → Option Text → Type 0
+Totals words pick format path = (names formats : ValueParser)
+    → AsksToTotal (subcommand_of (program names formats) words) (record { pick = pick; format = format }) path
 
--- words of `total` without a name, which ask for the whole report: it takes a path of settings
+-- words of `total`: it takes a name, a format and a path of settings, and asks for the whole report where it has no name
 pub record KnowsTotal : Type 0 where
   pub alone : HasFault (codes "total" ∷ []) []
-  pub alone_totals : TotalsAll (codes "total" ∷ []) format.Csv None
-  pub settings_totals : TotalsAll (codes "total" ∷ codes "--settings" ∷ codes "p" ∷ []) format.Csv (Some (codes "p"))
+  pub alone_totals : Totals (codes "total" ∷ []) pick.All format.Csv None
+  pub settings_totals : Totals (codes "total" ∷ codes "--settings" ∷ codes "p" ∷ []) pick.All format.Csv (Some (codes "p"))
+  pub table_totals : Totals (codes "total" ∷ codes "--format" ∷ codes "table" ∷ []) pick.All format.Table None
+  pub name_totals : Totals (codes "total" ∷ codes "link" ∷ []) (pick.View view.Link) format.Csv None
 
 -- the lines and the path of settings for which words ask
 abbrev pub AskForLines : List Text → Lines → Option Text → Type 0

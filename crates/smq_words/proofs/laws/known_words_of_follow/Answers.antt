@@ -9,6 +9,7 @@ known = record {
   alone = λ names formats. refl;
   alone_follows = λ names formats. record { rows = _; enters = refl; has_format = refl; has_path = refl };
   settings_follows = λ names formats. record { rows = _; enters = refl; has_format = refl; has_path = refl };
+  table_follows = λ names formats. record { rows = _; enters = refl; has_format = refl; has_path = refl };
   name = λ names formats. refl;
 }
 
