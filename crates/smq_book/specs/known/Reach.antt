@@ -1,10 +1,11 @@
 -- How much edits reach, worked out by hand.
-use Rattle.std.specs.Prelude.{◌≡◌, ℕ, [], ◌∷◌, codes}
+use Rattle.std.specs.Prelude.{◌≡◌, ℕ, [], ◌∷◌, ◌++◌, codes}
 use Rattle.std.specs.FinMap as map
+use Rattle.smq_kit.specs.declared.message_id.Form.TheVariants.{Decimal}
 use Rattle.smq_kit.specs.declared.place.Dir.TheVariants.{FromClient, FromCentre}
 use Rattle.smq_frame.specs.Stream.{handed_in}
 use Rattle.smq_present.specs.declared.present.edit.Edit.{Edit}
-use Rattle.smq_present.specs.declared.present.edit.Edit.TheVariants.{Append, Withdraw, SetWindow, AddRoute, EndRoute, CorrectRoute, Advance}
+use Rattle.smq_present.specs.declared.present.edit.Edit.TheVariants.{Append, Withdraw, SetForm, SetWindow, AddRoute, EndRoute, CorrectRoute, Advance}
 use Rattle.smq_present.specs.declared.present.session.Session.{Session}
 use Rattle.smq_present.specs.present.Batch.{batch_of}
 use Rattle.smq_present.specs.present.Present.{PresentValue, empty}
@@ -13,7 +14,7 @@ use Rattle.smq_present.specs.present.Steps.{step}
 use Rattle.smq_present.specs.pairing.Traffic.{traffic_of}
 use Rattle.smq_book.specs.edits.Reach.{link_places, reach}
 use Rattle.smq_present.specs.known.Present.{waiting}
-use Rattle.smq_present.specs.known.Pairing.{place_at, submit_octets, response_octets}
+use Rattle.smq_present.specs.known.Pairing.{place_at, submit_octets, response_octets, receipt_octets}
 
 -- session 10 of link 1, with one message at 1000, and with its response at 1200, which gives the id `1`
 abbrev pub submitted_session : Session
@@ -33,7 +34,18 @@ submitted_book = record empty { sessions = map.insert map.empty 10 submitted_ses
 abbrev pub accepted_book : PresentValue
 accepted_book = record empty { sessions = map.insert map.empty 10 accepted_session }
 
--- the latter at a clock
+-- session 20 of link 1, whose centre sent two receipts of the id `1`, and the book of it and of the latter
+abbrev pub receipts_session : Session
+receipts_session = record {
+  link = record { 0 = 1 };
+  client = [];
+  centre = handed_in 1300 (receipt_octets 90 (codes "id:1 stat:DELIVRD") ++ receipt_octets 91 (codes "id:1 stat:DELIVRD"));
+}
+
+abbrev pub decided_book : PresentValue
+decided_book = record empty { sessions = map.from_entries ((10, accepted_session) ∷ (20, receipts_session) ∷ []) }
+
+-- the second at a clock
 abbrev pub accepted_at : ℕ → PresentValue
 accepted_at clock = record accepted_book { settings = with_clock accepted_book.settings clock }
 
@@ -50,7 +62,8 @@ accepting =
 
 -- How much edits reach, worked out by hand: a message that isn't accepted weighs 1, one that is alone with its key 2, and
 -- so does its response. A window of link 1 reaches it once it is accepted, whether its window has ended or not. Its number,
--- 447700900123, is begun by 44 and not by 33; nothing is of link 2.
+-- 447700900123, is begun by 44 and not by 33; nothing is of link 2. Where its key has two receipts in another session, each of the
+-- three and the response weigh 4; forms of its link reach the three as they were and as they are left.
 pub record KnownReach : Type 0 where
   pub submitted : step empty submitting ≡ submitted_book
   pub submits : reach empty submitting ≡ 1
@@ -70,4 +83,8 @@ pub record KnownReach : Type 0 where
   pub corrects_under_its_number : reach accepted_book (CorrectRoute (codes "44") 0 (record { 0 = 7 }) (codes "23410")) ≡ 1
   pub corrects_elsewhere : reach accepted_book (CorrectRoute (codes "33") 0 (record { 0 = 7 }) (codes "23410")) ≡ 0
   pub of_its_link : link_places (record { 0 = 1 }) (traffic_of accepted_book.sessions) ≡ place_at 10 FromClient 0 ∷ []
+  pub withdraws_of_three : reach decided_book (Withdraw (record { 0 = 10 })) ≡ 8
+  pub withdraws_two_of_three : reach decided_book (Withdraw (record { 0 = 20 })) ≡ 8
+  pub forms_of_its_link : reach decided_book (SetForm (record { 0 = 1 }) Decimal Decimal) ≡ 24
+  pub forms_of_no_link : reach decided_book (SetForm (record { 0 = 2 }) Decimal Decimal) ≡ 0
   pub of_no_link : link_places (record { 0 = 2 }) (traffic_of accepted_book.sessions) ≡ []

@@ -6,8 +6,9 @@ use Rattle.std.specs.Option.{option_or}
 use Rattle.std.proofs.lemmas.List.Sums.{sum_by-cons}
 use Rattle.std.specs.Cmp.{nat_cmp_total}
 use Rattle.std.specs.Ordering.{eq_by_cmp, nat_cmp}
-use Rattle.std.specs.FinMap.{empty, entries, find, from_entries, get, insert, is_sorted, len, len-entries, get-empty, get-entries, get-insert, same_map, nat_cmp-IsAntisymmetric}
+use Rattle.std.specs.FinMap.{FinMap, empty, entries, find, from_entries, get, insert, is_sorted, len, len-entries, get-empty, get-entries, get-insert, same_map, nat_cmp-IsAntisymmetric}
 use Rattle.smq_kit.specs.declared.link_key.LinkKey.{LinkKey}
+use Rattle.smq_kit.specs.declared.message_id.Form.TheVariants.{Decimal}
 use Rattle.smq_kit.specs.declared.names.LinkId.{LinkId}
 use Rattle.smq_kit.specs.declared.place.Dir.TheVariants.{FromClient, FromCentre}
 use Rattle.smq_kit.specs.declared.place.Place.{Place}
@@ -29,22 +30,29 @@ use Rattle.smq_pdu.specs.Numbers.{number_of, digits_of}
 use Rattle.smq_pdu.specs.Pairing.{nth_index}
 use Rattle.smq_pdu.specs.Pdu.{body_of, submit_of, deliver_of, id_of}
 use Rattle.smq_pdu.specs.Readers.{mandatory_at, address_at, c_octet_at, octets_at, number_at, tlv_at, tlvs_within, tlvs_of}
-use Rattle.smq_present.specs.declared.present.edit.Edit.TheVariants.{Advance, SetWindow, Withdraw}
+use Rattle.smq_present.specs.declared.present.edit.Edit.TheVariants.{Advance, SetForm, SetWindow, Withdraw}
+use Rattle.smq_present.specs.declared.present.forms.Forms.{Forms}
+use Rattle.smq_receipt.specs.Dates.{centre_delay_of}
+use Rattle.smq_receipt.specs.Errors.{network_code_in, text_code_in}
+use Rattle.smq_receipt.specs.Places.{least_below}
+use Rattle.smq_receipt.specs.Readings.{error_of, id_of as receipt_id_of, reading_of, receipt_of, receipted_id, state_in, state_of, text_of, usable_id}
+use Rattle.smq_receipt.specs.States.{state_of_number, state_of_word}
+use Rattle.smq_receipt.specs.Texts.{header_of, labels_at, same_letters, stands_at, value_at, value_of}
 use Rattle.smq_present.specs.present.Content as c
 use Rattle.smq_present.specs.declared.present.kept.KeptPdu.{KeptPdu}
 use Rattle.smq_present.specs.declared.present.session.Session.{Session}
-use Rattle.smq_present.specs.known.Pairing.{place_at, known_origin, submit_octets, response_octets}
+use Rattle.smq_present.specs.known.Pairing.{delivered, place_at, known_origin, submit_octets, response_octets}
 use Rattle.smq_present.specs.known.Present.{waiting}
-use Rattle.smq_book.specs.known.Reach.{submitted_session, accepted_session, submitted_book, accepted_book, accepted_at, submitting, accepting}
+use Rattle.smq_book.specs.known.Reach.{submitted_session, accepted_session, receipts_session, submitted_book, accepted_book, decided_book, accepted_at, submitting, accepting}
 use Rattle.smq_present.specs.present.Batch.{batch_of}
 use Rattle.smq_present.specs.present.Kept.{kept_pdus}
 use Rattle.smq_present.specs.present.Present.{PresentValue}
 use Rattle.smq_present.specs.present.Present as present
 use Rattle.smq_present.specs.present.Replies.{append_refusals}
-use Rattle.smq_present.specs.present.Settings.{opening_forms, opening_window, with_clock}
+use Rattle.smq_present.specs.present.Settings.{opening_forms, opening_settings, opening_window, with_clock}
 use Rattle.smq_present.specs.present.Steps.{session_after, step}
 use Rattle.smq_present.specs.present.Stream.{last_moment}
-use Rattle.smq_present.specs.pairing.Traffic.{Message, ReceivedReceipt, messages_among, receipts_among, pairing_among, place_of, traffic_of, session_messages, session_receipts}
+use Rattle.smq_present.specs.pairing.Traffic.{Message, Origin, ReceivedReceipt, messages_among, receipts_among, pairing_among, place_of, session_pairing, traffic_of, session_messages, session_receipts}
 use Rattle.smq_present.specs.join.Circumstances.{decider_in, route_in}
 use Rattle.smq_present.specs.join.Keyed.{accepted_id, can_decide}
 use Rattle.smq_group.specs.Matching.{Candidate, GroupedReceipt, Single, Shared, Standing, earlier}
@@ -79,6 +87,71 @@ submitting-places = refl
 accepting-places : batch_places (batch_of (record { 0 = 1 }) (record { 0 = 10 }) FromCentre (waiting 0 []) 1200 (response_octets 1 (codes "1"))) ≡ place_at 10 FromCentre 0 ∷ []
 unfolding stated_length frames_of frames_within stamped word_at body_of submit_of number_of digits_of deliver_of id_of mandatory_at address_at c_octet_at octets_at number_at tlv_at tlvs_within tlvs_of frames_after stream.placed
 accepting-places = refl
+
+-- ---- weights from lists
+
+-- the weight of the PDU at a place, of these accepted messages and receipts
+abbrev weight_from : List (Place × LinkKey) → List (Place × GroupedReceipt) → Option Pair → Place → ℕ
+weight_from submits noted pair place =
+    1 + unwrap_or (option_map (λ key. count_by (same_key key) (map (λ e. e.1) submits) + count_by (λ (r : GroupedReceipt). same_key key r.key) (map (λ e. e.1) noted))
+    (option_or (find place_cmp place submits)
+    (option_or (option_map (λ (r : GroupedReceipt). r.key) (find place_cmp place noted))
+    (option_and_then (λ (pair : Pair). find place_cmp pair.request submits) pair)))) 0
+
+-- entries that pass a test
+abbrev passed : {X : Type 0} → (Place → X → Bool) → List (Place × X) → List (Place × X)
+passed test es = flat_map (kept_of (λ place v. cond (test place v) (Some v) None)) es
+
+-- a book with these messages and receipts, where the link of each number has these forms
+module _ (p : PresentValue) (messages : List (Place × Message)) (receipts : List (Place × ReceivedReceipt)) (forms : ℕ → Forms)
+    (messages-are : entries (traffic_of p.sessions).messages ≡ messages)
+    (receipts-are : entries (traffic_of p.sessions).receipts ≡ receipts)
+    (forms-are : (link : ℕ) → unwrap_or (get {K = ℕ} {R = nat_cmp} p.settings.forms link) opening_forms ≡ forms link) where
+  abbrev keyed : List (Place × LinkKey)
+  keyed = flat_map (kept_of (λ place (m : Message). option_map (link_key m.link (forms m.link.0).response) (accepted_id m.response))) messages
+
+  abbrev keyed_receipts : List (Place × GroupedReceipt)
+  keyed_receipts = flat_map (kept_of (λ place (r : ReceivedReceipt). Some (record { key = link_key r.link (forms r.link.0).receipt r.receipt.id; moment = r.moment; decides = can_decide r.receipt }))) receipts
+
+  submits-listed : entries (groups p).submits ≡ keyed
+  submits-listed =
+      maps.entries-chosen places_total places_exact _ (traffic_of p.sessions).messages
+      ∙ (λ i. flat_map (kept_of (λ place (m : Message). option_map (link_key m.link (forms-are m.link.0 i).response) (accepted_id m.response))) (messages-are i))
+
+  noted-listed : entries (groups p).receipts ≡ keyed_receipts
+  noted-listed =
+      maps.entries-chosen places_total places_exact _ (traffic_of p.sessions).receipts
+      ∙ (λ i. flat_map (kept_of (λ place (r : ReceivedReceipt). Some (record { key = link_key r.link (forms-are r.link.0 i).receipt r.receipt.id; moment = r.moment; decides = can_decide r.receipt }))) (receipts-are i))
+
+  weight-listed : (place : Place) → weight p place ≡ weight_from keyed keyed_receipts (pair_in p place) place
+  weight-listed place =
+      (λ i.
+      1 + unwrap_or (option_map (λ key. count_by (same_key key) (map (λ e. e.1) (entries (groups p).submits)) + count_by (λ (r : GroupedReceipt). same_key key r.key) (map (λ e. e.1) (entries (groups p).receipts)))
+      (option_or (get-entries (groups p).submits place i)
+      (option_or (option_map (λ (r : GroupedReceipt). r.key) (get-entries (groups p).receipts place i))
+      (option_and_then (λ (pair : Pair). get-entries (groups p).submits pair.request i) (pair_in p place))))) 0)
+      ∙ (λ i. weight_from (submits-listed i) (noted-listed i) (pair_in p place) place)
+
+  messages-passing : (test : Place → Message → Bool) → entries (passing test (traffic_of p.sessions).messages) ≡ passed test messages
+  messages-passing test =
+      maps.entries-chosen places_total places_exact (λ place v. cond (test place v) (Some v) None) (traffic_of p.sessions).messages
+      ∙ ap (passed test) messages-are
+
+  receipts-passing : (test : Place → ReceivedReceipt → Bool) → entries (passing test (traffic_of p.sessions).receipts) ≡ passed test receipts
+  receipts-passing test =
+      maps.entries-chosen places_total places_exact (λ place v. cond (test place v) (Some v) None) (traffic_of p.sessions).receipts
+      ∙ ap (passed test) receipts-are
+
+  links-listed : (link : LinkId) → link_places link (traffic_of p.sessions)
+      ≡ map (λ e. e.0) (passed (λ place (m : Message). m.link.0 == link.0) messages)
+      ++ map (λ e. e.0) (passed (λ place (r : ReceivedReceipt). r.link.0 == link.0) receipts)
+  links-listed link = λ i.
+      map (λ e. e.0) (messages-passing (λ place (m : Message). m.link.0 == link.0) i)
+      ++ map (λ e. e.0) (receipts-passing (λ place (r : ReceivedReceipt). r.link.0 == link.0) i)
+
+-- links whose forms were never set
+unset : (link : ℕ) → unwrap_or (get {K = ℕ} {R = nat_cmp} present.empty.settings.forms link) opening_forms ≡ opening_forms
+unset link = ap (λ (o : Option Forms). unwrap_or o opening_forms) (get-empty nat_cmp link)
 
 -- ---- a book of one session whose PDUs are these
 
@@ -124,64 +197,27 @@ module _ (s : Session) (client centre : List KeptPdu) (of_client : kept_pdus s.c
     noted = flat_map (kept_of (λ place r. Some (grouped r))) receipts
 
     submits-are : entries (groups p).submits ≡ accepted
-    submits-are =
-        maps.entries-chosen places_total places_exact _ (traffic_of p.sessions).messages
-        ∙ (λ i. flat_map (kept_of (λ place (m : Message). option_map (link_key m.link (unwrap_or (get-empty nat_cmp m.link.0 i) opening_forms).response) (accepted_id m.response))) (messages-are i))
+    submits-are = submits-listed p messages receipts (λ link. opening_forms) messages-are receipts-are unset
 
     noted-are : entries (groups p).receipts ≡ noted
-    noted-are =
-        maps.entries-chosen places_total places_exact _ (traffic_of p.sessions).receipts
-        ∙ (λ i. flat_map (kept_of (λ place (r : ReceivedReceipt). Some (record { key = link_key r.link (unwrap_or (get-empty nat_cmp r.link.0 i) opening_forms).receipt r.receipt.id; moment = r.moment; decides = can_decide r.receipt }))) (receipts-are i))
-
-    -- a weight from lists
-    abbrev weight_from : List (Place × LinkKey) → List (Place × GroupedReceipt) → Option Pair → Place → ℕ
-    weight_from submits noted pair place =
-        1 + unwrap_or (option_map (λ key. count_by (same_key key) (map (λ e. e.1) submits) + count_by (λ (r : GroupedReceipt). same_key key r.key) (map (λ e. e.1) noted))
-        (option_or (find place_cmp place submits)
-        (option_or (option_map (λ (r : GroupedReceipt). r.key) (find place_cmp place noted))
-        (option_and_then (λ (pair : Pair). find place_cmp pair.request submits) pair)))) 0
-
-    weight-listed : (place : Place) → weight p place ≡ weight_from (entries (groups p).submits) (entries (groups p).receipts) (pair_in p place) place
-    weight-listed place = λ i.
-        1 + unwrap_or (option_map (λ key. count_by (same_key key) (map (λ e. e.1) (entries (groups p).submits)) + count_by (λ (r : GroupedReceipt). same_key key r.key) (map (λ e. e.1) (entries (groups p).receipts)))
-        (option_or (get-entries (groups p).submits place i)
-        (option_or (option_map (λ (r : GroupedReceipt). r.key) (get-entries (groups p).receipts place i))
-        (option_and_then (λ (pair : Pair). get-entries (groups p).submits pair.request i) (pair_in p place))))) 0
+    noted-are = noted-listed p messages receipts (λ link. opening_forms) messages-are receipts-are unset
 
     -- where the session is that of the place
     pub weight-is : (place : Place) → place.session.0 ≡ 10 → weight p place ≡ weight_from accepted noted (pair_at (pairing_among known_origin client centre) place) place
     weight-is place at =
-        weight-listed place
-        ∙ (λ i. weight_from (submits-are i) (noted-are i) (pair_in p place) place)
+        weight-listed p messages receipts (λ link. opening_forms) messages-are receipts-are unset place
         ∙ ap (λ pair. weight_from accepted noted pair place)
         ((λ i. option_and_then (λ (s : Session). pair_at (pairing_among (record { session = record { 0 = at i }; link = s.link }) (kept_pdus s.client) (kept_pdus s.centre)) place) (get {K = ℕ} {R = nat_cmp} (insert empty 10 s) (at i)))
         ∙ ap (option_and_then (λ (s : Session). pair_at (pairing_among (record { session = record { 0 = 10 }; link = s.link }) (kept_pdus s.client) (kept_pdus s.centre)) place)) session-is
         ∙ (λ i. pair_at (pairing_among (record { session = record { 0 = 10 }; link = link i }) (of_client i) (of_centre i)) place))
 
-    -- ---- entries that pass a test
-
-    abbrev passed : {X : Type 0} → (Place → X → Bool) → List (Place × X) → List (Place × X)
-    passed test es = flat_map (kept_of (λ place v. cond (test place v) (Some v) None)) es
-
-    messages-passing : (test : Place → Message → Bool) → entries (passing test (traffic_of p.sessions).messages) ≡ passed test messages
-    messages-passing test =
-        maps.entries-chosen places_total places_exact (λ place v. cond (test place v) (Some v) None) (traffic_of p.sessions).messages
-        ∙ ap (passed test) messages-are
-
-    receipts-passing : (test : Place → ReceivedReceipt → Bool) → entries (passing test (traffic_of p.sessions).receipts) ≡ passed test receipts
-    receipts-passing test =
-        maps.entries-chosen places_total places_exact (λ place v. cond (test place v) (Some v) None) (traffic_of p.sessions).receipts
-        ∙ ap (passed test) receipts-are
-
     pub under-is : (prefix : List ℕ) → len (messages_under prefix (traffic_of p.sessions)) ≡ length (passed (λ place m. is_under prefix m) messages)
-    under-is prefix = len-entries (messages_under prefix (traffic_of p.sessions)) ∙ ap length (messages-passing (λ place m. is_under prefix m))
+    under-is prefix = len-entries (messages_under prefix (traffic_of p.sessions)) ∙ ap length (messages-passing p messages receipts (λ link. opening_forms) messages-are receipts-are unset (λ place m. is_under prefix m))
 
     pub links-are : (link : LinkId) → link_places link (traffic_of p.sessions)
         ≡ map (λ e. e.0) (passed (λ place (m : Message). m.link.0 == link.0) messages)
         ++ map (λ e. e.0) (passed (λ place (r : ReceivedReceipt). r.link.0 == link.0) receipts)
-    links-are link = λ i.
-        map (λ e. e.0) (messages-passing (λ place (m : Message). m.link.0 == link.0) i)
-        ++ map (λ e. e.0) (receipts-passing (λ place (r : ReceivedReceipt). r.link.0 == link.0) i)
+    links-are link = links-listed p messages receipts (λ link. opening_forms) messages-are receipts-are unset link
 
     -- ---- a clock
 
@@ -332,3 +368,158 @@ of-its-link = links-are accepted_session known_client known_centre client-is cen
 
 pub of-no-link : link_places (record { 0 = 2 }) (traffic_of accepted_book.sessions) ≡ []
 of-no-link = links-are accepted_session known_client known_centre client-is centre-is refl tt tt (record { 0 = 2 })
+
+-- ---- a book of two sessions, with three of one key
+
+abbrev decided_centre : List KeptPdu
+decided_centre = delivered 0 1300 ∷ record (delivered 50 1300) { seq = 91 } ∷ []
+
+abbrev others : Origin
+others = record { session = record { 0 = 20 }; link = record { 0 = 1 } }
+
+abbrev at_20 : ℕ → Place
+at_20 offset = place_at 20 FromCentre offset
+
+receipts-sent : kept_pdus receipts_session.centre ≡ decided_centre
+unfolding stated_length frames_of frames_within stamped word_at body_of submit_of number_of digits_of deliver_of id_of mandatory_at address_at c_octet_at octets_at number_at tlv_at tlvs_within tlvs_of
+    least_below same_letters stands_at labels_at header_of value_at value_of state_of_number state_of_word network_code_in text_code_in
+    centre_delay_of text_of usable_id receipted_id state_in receipt_id_of state_of error_of receipt_of reading_of
+receipts-sent = refl
+
+both-sessions : entries {K = ℕ} {R = nat_cmp} decided_book.sessions ≡ (10, accepted_session) ∷ (20, receipts_session) ∷ []
+both-sessions = maps.entries-from_entries nat_cmp_total nat_cmp-IsAntisymmetric ((10, accepted_session) ∷ (20, receipts_session) ∷ []) tt
+
+session-of : (number : ℕ) → get {K = ℕ} {R = nat_cmp} decided_book.sessions number ≡ find nat_cmp number ((10, accepted_session) ∷ (20, receipts_session) ∷ [])
+session-of number = get-entries decided_book.sessions number ∙ ap (λ (es : List (ℕ × Session)). find nat_cmp number es) both-sessions
+
+abbrev both_messages : List (Place × Message)
+both_messages = messages_among known_origin known_client known_centre ++ (messages_among others [] decided_centre ++ [])
+
+abbrev both_receipts : List (Place × ReceivedReceipt)
+both_receipts = receipts_among known_origin known_centre ++ (receipts_among others decided_centre ++ [])
+
+both-messages : entries (traffic_of decided_book.sessions).messages ≡ both_messages
+unfolding nth_index
+both-messages =
+    ap (λ (es : List (ℕ × Session)). entries (from_entries {R = place_cmp} (flat_map session_messages es))) both-sessions
+    ∙ (λ i. entries (from_entries {R = place_cmp} (messages_among known_origin (client-is i) (centre-is i) ++ (messages_among others (kept_pdus-nil i) (receipts-sent i) ++ []))))
+    ∙ maps.entries-from_entries places_total places_exact both_messages tt
+
+both-receipts : entries (traffic_of decided_book.sessions).receipts ≡ both_receipts
+both-receipts =
+    ap (λ (es : List (ℕ × Session)). entries (from_entries {R = place_cmp} (flat_map session_receipts es))) both-sessions
+    ∙ (λ i. entries (from_entries {R = place_cmp} (receipts_among known_origin (centre-is i) ++ (receipts_among others (receipts-sent i) ++ []))))
+    ∙ maps.entries-from_entries places_total places_exact both_receipts tt
+
+-- the pair of the response, whatever is set
+answered-pair : pair_in decided_book response_place ≡ pair_at (pairing_among known_origin known_client known_centre) response_place
+answered-pair =
+    ap (option_and_then (λ (s : Session). pair_at (session_pairing (10, s)) response_place)) (session-of 10)
+    ∙ (λ i. pair_at (pairing_among known_origin (client-is i) (centre-is i)) response_place)
+
+-- the weights where link 1 has these forms
+abbrev link_1 : Forms → ℕ → Forms
+link_1 form link = cond (eq_by_cmp nat_cmp link 1) form opening_forms
+
+module _ (set : FinMap nat_cmp Forms) (form : Forms) (forms-are : (link : ℕ) → unwrap_or (get set link) opening_forms ≡ link_1 form link) where
+  abbrev q : PresentValue
+  q = record decided_book { settings = record opening_settings { forms = set } }
+
+  weighs : (place : Place) → weight q place
+      ≡ weight_from (keyed q both_messages both_receipts (link_1 form) both-messages both-receipts forms-are)
+      (keyed_receipts q both_messages both_receipts (link_1 form) both-messages both-receipts forms-are) (pair_in q place) place
+  weighs place = weight-listed q both_messages both_receipts (link_1 form) both-messages both-receipts forms-are place
+
+adds : (p : PresentValue) (place : Place) (places : List Place) (n k : ℕ) → weight p place ≡ n → weights p places ≡ k → weights p (place ∷ places) ≡ n + k
+adds p place places n k one more = sum_by-cons (weight p) place places ∙ (λ i. one i + more i)
+
+abbrev verbatim_forms : FinMap nat_cmp Forms
+verbatim_forms = present.empty.settings.forms
+
+verbatim : (link : ℕ) → unwrap_or (get verbatim_forms link) opening_forms ≡ link_1 opening_forms link
+verbatim link = unset link ∙ either (eq_by_cmp nat_cmp link 1)
+  where
+    either : (b : Bool) → opening_forms ≡ cond b opening_forms opening_forms
+    either true = refl
+    either false = refl
+
+abbrev decimal : Forms
+decimal = record { response = Decimal; receipt = Decimal }
+
+abbrev decimal_forms : FinMap nat_cmp Forms
+decimal_forms = insert verbatim_forms 1 decimal
+
+decimals : (link : ℕ) → unwrap_or (get decimal_forms link) opening_forms ≡ link_1 decimal link
+decimals link =
+    ap (λ (o : Option Forms). unwrap_or o opening_forms) (get-insert nat_cmp_total verbatim_forms 1 decimal link)
+    ∙ either (eq_by_cmp nat_cmp link 1)
+  where
+    either : (b : Bool) → unwrap_or (cond b (Some decimal) (get verbatim_forms link)) opening_forms ≡ cond b decimal opening_forms
+    either true = refl
+    either false = unset link
+
+-- the message and the two receipts of its key
+abbrev two : List Place
+two = at_20 0 ∷ at_20 50 ∷ []
+
+abbrev three : List Place
+three = submit_place ∷ two
+
+two-weigh : weights decided_book two ≡ 8
+unfolding nth_index
+two-weigh =
+    adds decided_book (at_20 0) (at_20 50 ∷ []) 4 4 (weighs verbatim_forms opening_forms verbatim (at_20 0))
+    (adds decided_book (at_20 50) [] 4 0 (weighs verbatim_forms opening_forms verbatim (at_20 50)) refl)
+
+three-weigh : weights decided_book three ≡ 12
+unfolding nth_index
+three-weigh = adds decided_book submit_place two 4 8 (weighs verbatim_forms opening_forms verbatim submit_place) two-weigh
+
+abbrev decimal_book : PresentValue
+decimal_book = q decimal_forms decimal decimals
+
+three-weigh-as-numbers : weights decimal_book three ≡ 12
+unfolding nth_index
+three-weigh-as-numbers =
+    adds decimal_book submit_place two 4 8 (weighs decimal_forms decimal decimals submit_place)
+    (adds decimal_book (at_20 0) (at_20 50 ∷ []) 4 4 (weighs decimal_forms decimal decimals (at_20 0))
+    (adds decimal_book (at_20 50) [] 4 0 (weighs decimal_forms decimal decimals (at_20 50)) refl))
+
+answered-weighs : weight decided_book response_place ≡ 4
+unfolding nth_index
+answered-weighs =
+    weighs verbatim_forms opening_forms verbatim response_place
+    ∙ ap (λ pair. weight_from (keyed decided_book both_messages both_receipts (link_1 opening_forms) both-messages both-receipts verbatim)
+    (keyed_receipts decided_book both_messages both_receipts (link_1 opening_forms) both-messages both-receipts verbatim) pair response_place) answered-pair
+
+pub withdraws-of-three : reach decided_book (Withdraw (record { 0 = 10 })) ≡ 8
+unfolding nth_index
+withdraws-of-three =
+    ap (weights decided_book)
+    (ap (λ (o : Option Session). unwrap_or (option_map (λ session. session_places (10, session)) o) []) (session-of 10)
+    ∙ (λ i. map (place_of known_origin FromClient) (client-is i) ++ map (place_of known_origin FromCentre) (centre-is i)))
+    ∙ adds decided_book submit_place (response_place ∷ []) 4 4 (weighs verbatim_forms opening_forms verbatim submit_place)
+    (adds decided_book response_place [] 4 0 answered-weighs refl)
+
+pub withdraws-two-of-three : reach decided_book (Withdraw (record { 0 = 20 })) ≡ 8
+withdraws-two-of-three =
+    ap (weights decided_book)
+    (ap (λ (o : Option Session). unwrap_or (option_map (λ session. session_places (20, session)) o) []) (session-of 20)
+    ∙ (λ i. map (place_of others FromClient) (kept_pdus-nil i) ++ map (place_of others FromCentre) (receipts-sent i)))
+    ∙ two-weigh
+
+pub forms-of-its-link : reach decided_book (SetForm (record { 0 = 1 }) Decimal Decimal) ≡ 24
+unfolding nth_index
+forms-of-its-link =
+    (λ i. weights decided_book (of-link i) + weights decimal_book (of-link i))
+    ∙ (λ i. three-weigh i + three-weigh-as-numbers i)
+  where
+    of-link : link_places (record { 0 = 1 }) (traffic_of decided_book.sessions) ≡ three
+    of-link = links-listed decided_book both_messages both_receipts (link_1 opening_forms) both-messages both-receipts verbatim (record { 0 = 1 })
+
+pub forms-of-no-link : reach decided_book (SetForm (record { 0 = 2 }) Decimal Decimal) ≡ 0
+unfolding nth_index
+forms-of-no-link = λ i. weights decided_book (of-link i) + weights (record decided_book { settings = record opening_settings { forms = insert verbatim_forms 2 decimal } }) (of-link i)
+  where
+    of-link : link_places (record { 0 = 2 }) (traffic_of decided_book.sessions) ≡ []
+    of-link = links-listed decided_book both_messages both_receipts (link_1 opening_forms) both-messages both-receipts verbatim (record { 0 = 2 })

@@ -1,4 +1,4 @@
-use Rattle.smq_book.proofs.lemmas.edits.KnownReach.{submitted-made, submits, accepted-made, accepts, withdraws, before-the-end, at-the-end, window-reaches, window-elsewhere, window-unanswered, window-at-the-end, under, elsewhere, of-its-link, of-no-link}
+use Rattle.smq_book.proofs.lemmas.edits.KnownReach.{submitted-made, submits, accepted-made, accepts, withdraws, before-the-end, at-the-end, window-reaches, window-elsewhere, window-unanswered, window-at-the-end, under, elsewhere, of-its-link, of-no-link, withdraws-of-three, withdraws-two-of-three, forms-of-its-link, forms-of-no-link}
 use Rattle.smq_book.proofs.laws.edits.known_edits_reach_so_much.Goals as goal
 
 pub returns : goal.returns
@@ -21,5 +21,9 @@ returns c = record {
   corrects_under_its_number = under;
   corrects_elsewhere = elsewhere;
   of_its_link = of-its-link;
+  withdraws_of_three = withdraws-of-three;
+  withdraws_two_of_three = withdraws-two-of-three;
+  forms_of_its_link = forms-of-its-link;
+  forms_of_no_link = forms-of-no-link;
   of_no_link = of-no-link;
 }

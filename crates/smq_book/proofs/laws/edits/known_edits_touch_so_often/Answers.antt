@@ -1,5 +1,5 @@
 use Rattle.std.proofs.Common.{ℕ, ◌+◌, ◌*◌, ap}
-use Rattle.smq_book.proofs.lemmas.edits.KnownReach.{accepts, at-the-end, before-the-end, submits, window-reaches, withdraws}
+use Rattle.smq_book.proofs.lemmas.edits.KnownReach.{accepts, at-the-end, before-the-end, forms-of-its-link, forms-of-no-link, submits, window-reaches, withdraws}
 use Rattle.smq_book.proofs.laws.edits.known_edits_touch_so_often.Goals as goal
 
 abbrev most : ℕ → ℕ
@@ -12,5 +12,7 @@ returns c = record {
   before_the_end = ap most before-the-end;
   at_the_end = ap most at-the-end;
   windows_of_its_link = ap most window-reaches;
+  forms_of_its_link = ap most forms-of-its-link;
+  forms_of_no_link = ap most forms-of-no-link;
   withdraws = ap most withdraws;
 }
