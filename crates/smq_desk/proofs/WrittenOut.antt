@@ -3,7 +3,7 @@ use Rattle.std.proofs.Common.{◌≡◌, ◌≤◌, ◌↔◌, ℕ, List, [], �
 use Rattle.std.specs.List.{AllZip}
 use Rattle.smq_kit.specs.declared.place.Dir.TheVariants.{FromClient}
 use Rattle.smq_kit.specs.declared.refusal.Refusal.{Refusal}
-use Rattle.smq_kit.specs.declared.refusal.Refusal.TheVariants.{Backward, EmptyPiece, HistoryFull, Memory, NoSession, NoThread}
+use Rattle.smq_kit.specs.declared.refusal.Refusal.TheVariants.{Backward, EmptyPiece, HistoryFull, Memory, NoSeat, NoSession, NoThread}
 use Rattle.smq_frame.specs.Tail.{tail_of}
 use Rattle.smq_present.specs.declared.present.batch.PieceRow.{PieceRow}
 use Rattle.smq_desk.specs.declared.entry.Call.{Call}
@@ -125,6 +125,11 @@ stopped : (job new : LinkJob) (why : Refusal) → IsNew job → IsJob new rows [
 stopped job new why j n is =
     worked job new [] 1 1 (Some why) j n (omega arith) of_none ((λ (e : Some why ≡ None). absurd cc), (λ (e : 1 ≡ 2). absurd (omega arith))) is
 
+no_seat_stops : IsStop NoSeat → ⊥
+no_seat_stops (inl e) = absurd cc
+no_seat_stops (inr (inl e)) = absurd cc
+no_seat_stops (inr (inr e)) = absurd cc
+
 no_session : IsStop NoSession → ⊥
 no_session (inl e) = absurd cc
 no_session (inr (inl e)) = absurd cc
@@ -138,6 +143,7 @@ known_job = record {
   no_memory = λ job new j n. stopped job new Memory j n (inl refl);
   no_thread = λ job new j n. stopped job new NoThread j n (inr (inr refl));
   no_reason = λ job new j n w. no_session (subst (λ (o : Option Refusal). IfSome o IsStop) n.stop w.reason);
+  no_seat = λ job new j n w. no_seat_stops (subst (λ (o : Option Refusal). IfSome o IsStop) n.stop w.reason);
   too_early = λ job new j n w. let e = (ends_so job new rows [] 1 1 None j n w).0 refl in omega arith;
   too_late = λ job new j n w. let e = (ends_so job new rows (call_of_7 ∷ []) 2 1 (Some Memory) j n w).1 refl in absurd cc;
   without_rows = λ job new j n w. let e : [] ≡ rows = sym n.rows ∙ w.rows ∙ j.rows in absurd cc;

@@ -3,7 +3,7 @@ use Rattle.std.specs.Prelude.{◌≡◌, ℕ, List, [], ◌∷◌, Option, Some,
 use Rattle.smq_kit.specs.declared.place.Dir.{Dir}
 use Rattle.smq_kit.specs.declared.place.Dir.TheVariants.{FromClient, FromCentre}
 use Rattle.smq_kit.specs.declared.refusal.Refusal.{Refusal}
-use Rattle.smq_kit.specs.declared.refusal.Refusal.TheVariants.{Backward, HistoryFull, Memory, NoSession, NoThread}
+use Rattle.smq_kit.specs.declared.refusal.Refusal.TheVariants.{Backward, HistoryFull, Memory, NoSeat, NoSession, NoThread}
 use Rattle.smq_frame.specs.Tail.{tail_of}
 use Rattle.smq_present.specs.declared.present.edit.Edit.{Edit}
 use Rattle.smq_present.specs.declared.present.edit.Edit.TheVariants.{Append, Withdraw, Advance}
@@ -86,6 +86,7 @@ pub record KnownJob : Type 0 where
   pub no_memory : (job new : LinkJob) → IsNew job → IsStopped Memory new → Worked job new
   pub no_thread : (job new : LinkJob) → IsNew job → IsStopped NoThread new → Worked job new
   pub no_reason : (job new : LinkJob) → IsNew job → IsStopped NoSession new → Worked job new → ⊥
+  pub no_seat : (job new : LinkJob) → IsNew job → IsStopped NoSeat new → Worked job new → ⊥
   pub too_early : (job new : LinkJob) → IsNew job → IsJob new rows [] 1 1 None → Worked job new → ⊥
   pub too_late : (job new : LinkJob) → IsNew job → IsJob new rows (call_of_7 ∷ []) 2 1 (Some Memory) → Worked job new → ⊥
   pub without_rows : (job new : LinkJob) → IsNew job → IsJob new [] (call_of_7 ∷ []) 2 1 None → Worked job new → ⊥
