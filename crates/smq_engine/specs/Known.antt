@@ -1,5 +1,5 @@
 -- Faults, the play of rows and checks, at known values.
-use Rattle.std.specs.Prelude.{◌≡◌, ℕ, true, false, List, [], ◌∷◌, ◌++◌, codes, None, Some}
+use Rattle.std.specs.Prelude.{◌≡◌, ℕ, true, false, List, [], ◌∷◌, ◌++◌, codes, take, Option, None, Some}
 use Rattle.smq_kit.specs.declared.message_id.Form.{Form}
 use Rattle.smq_kit.specs.declared.message_id.Form.TheVariants.{Decimal, Hexadecimal}
 use Rattle.smq_kit.specs.declared.place.Dir.{Dir}
@@ -10,6 +10,7 @@ use Rattle.smq_present.specs.declared.present.edit.Edit.TheVariants.{Advance, Ap
 use Rattle.smq_present.specs.present.Batch.{prepare_refusal}
 use Rattle.smq_present.specs.present.Present.{PresentValue, empty, tail_in}
 use Rattle.smq_present.specs.declared.present.batch.PieceRow.{PieceRow}
+use Rattle.smq_present.specs.whole.Scratch.{scratch}
 use Rattle.smq_desk.specs.declared.entry.Call.{Call}
 use Rattle.smq_desk.specs.declared.entry.Entry.{Entry}
 use Rattle.smq_desk.specs.declared.entry.Reply.TheVariants.{Done, Refused}
@@ -17,10 +18,15 @@ use Rattle.smq_desk.specs.History.{entry_of}
 use Rattle.smq_desk.specs.Seats.{SeatValue, call_of, AreCallsOf}
 use Rattle.smq_load.specs.declared.record.Row.{Row}
 use Rattle.smq_load.specs.declared.record.Row.TheVariants.{Piece, Plain}
+use Rattle.smq_load.specs.Script.{IsScript}
+use Rattle.smq_load.specs.Settings.{settings_of}
+use Rattle.smq_report.specs.Report.{report_text}
+use Rattle.smq_words.specs.declared.orders.Query.{Query}
 use Rattle.smq_engine.specs.declared.run_fault.RunFault.TheVariants as run_fault
 use Rattle.smq_engine.specs.declared.workers.TheConstants.{WORKERS}
 use Rattle.smq_engine.specs.Faults.{fault_text}
 use Rattle.smq_engine.specs.IsCheck.{Compares, check_text}
+use Rattle.smq_engine.specs.IsRun.{HasBegun, StopsRun}
 use Rattle.smq_engine.specs.Play.{after_rows, edit_of, edits_from, edits_of, present_of, refusal_of, refused_of, refused_rows, unprepared}
 use Rattle.smq_engine.specs.Workers.{HaveMadeRows, pieces_of_worker, plain_edits, worker_of}
 use Rattle.smq_engine.specs.within.Jobs.{desk_fault}
@@ -100,6 +106,31 @@ pub record KnowsPlay : Type 0 where
   pub refused_after_settings :
       refused_of (Plain (Advance 5) ∷ []) (Plain (Advance 4) ∷ [])
       ≡ (1, refusal.ClockBack 5) ∷ []
+
+-- ---- runs
+
+-- what is asked of the rows of settings, which make the clock 3, and of those of a script, which make it 5
+abbrev pub known_report : Query → List ℕ
+known_report query = report_text query.pick query.format (scratch (present_of (Plain (Advance 3) ∷ []) (Plain (Advance 5) ∷ [])))
+
+-- What a run that stops wrote behind an octet 7: two octets of its report, or nothing, and never less. Where settings say no rows, or
+-- a text isn't a script, no report is begun, and nothing is written.
+pub record KnowsRuns : Type 0 where
+  pub begins : (query : Query) (settings text : List ℕ) → settings_of settings ≡ Some (Plain (Advance 3) ∷ [])
+      → IsScript text (Plain (Advance 5) ∷ [])
+      → HasBegun query settings (Some (7 ∷ [])) (Some (7 ∷ take 2 (known_report query))) text
+  pub loses : (query : Query) (settings text : List ℕ) → HasBegun query settings (Some (7 ∷ [])) (Some []) text → ⊥
+  pub bad_settings : (query : Query) (settings text : List ℕ) (old new : Option (List ℕ)) → settings_of settings ≡ None
+      → HasBegun query settings old new text → ⊥
+  pub no_script : (query : Query) (settings text : List ℕ) (old new : Option (List ℕ))
+      → ((rows : List Row) → IsScript text rows → ⊥) → HasBegun query settings old new text → ⊥
+  pub stops_before : (query : Query) (settings text : List ℕ) → StopsRun query settings (Some (7 ∷ [])) (Some (7 ∷ [])) text
+  pub stops_within : (query : Query) (settings text : List ℕ) → settings_of settings ≡ Some (Plain (Advance 3) ∷ [])
+      → IsScript text (Plain (Advance 5) ∷ [])
+      → StopsRun query settings (Some (7 ∷ [])) (Some (7 ∷ take 2 (known_report query))) text
+  pub stops_with_less : (query : Query) (settings text : List ℕ) → StopsRun query settings (Some (7 ∷ [])) (Some []) text → ⊥
+  pub stops_at_bad_settings : (query : Query) (settings text : List ℕ) → settings_of settings ≡ None
+      → StopsRun query settings (Some (7 ∷ [])) (Some (7 ∷ 8 ∷ [])) text → ⊥
 
 -- ---- checks
 

@@ -3,7 +3,7 @@ ghost use Rattle.std.specs.Prelude.{List};
 ghost use Rattle.smq_kit.specs.declared.names.SessionId.{SessionId};
 ghost use Rattle.smq_desk.specs.declared.entry.Entry.{Entry};
 ghost use Rattle.smq_load.specs.declared.record.Row.{Row};
-ghost use Rattle.smq_engine.specs.Known.{KnowsChecks, KnowsFaults, KnowsPlay};
+ghost use Rattle.smq_engine.specs.Known.{KnowsChecks, KnowsFaults, KnowsPlay, KnowsRuns};
 ghost use Rattle.smq_engine.specs.Sessions.{IsLoadedInOrder};
 ghost use Rattle.smq_engine.specs.Workers.{AreMadeOf};
 
@@ -19,9 +19,11 @@ pub fn known_faults()
     ensures { KnowsFaults }
 {}
 
-/// What known rows come to: the refused ones, what they leave present, and their edits after those of settings.
+/// What known rows come to: the refused ones, what they leave present, and their edits after those of settings; and what a run
+/// that stops wrote.
 pub fn known_play()
-    ensures { KnowsPlay }
+    ensures play { KnowsPlay }
+    ensures runs { KnowsRuns }
 {}
 
 /// What is written of checks, whose pieces are whose, and a history that is made of known rows.
