@@ -12,7 +12,8 @@ use Rattle.smq_report.specs.Beginnings.{AppendsBeginning}
 use Rattle.smq_report.specs.Report.{report_text}
 use Rattle.smq_words.specs.declared.orders.Query.{Query}
 use Rattle.smq_engine.specs.IsRun.{HasBegun, StopsRun}
-use Rattle.smq_engine.specs.Known.{known_report}
+use Rattle.smq_kit.specs.declared.message_id.Form.TheVariants.{Decimal}
+use Rattle.smq_engine.specs.Known.{form_row, known_report}
 use Rattle.smq_engine.specs.Play.{present_of}
 
 -- what holds of each error
@@ -43,10 +44,10 @@ stops-begun query settings old new (Some text) h = inr h
 -- ---- known runs
 
 -- two octets of the report are a beginning
-pub begun-two : (query : Query) (settings text : List ℕ) → settings_of settings ≡ Some (Plain (Advance 3) ∷ []) → IsScript text (Plain (Advance 5) ∷ [])
+pub begun-two : (query : Query) (settings text : List ℕ) → settings_of settings ≡ Some (form_row Decimal ∷ []) → IsScript text (Plain (Advance 5) ∷ [])
     → HasBegun query settings (Some (7 ∷ [])) (Some (7 ∷ take 2 (known_report query))) text
 begun-two query settings text set script = record {
-  settings_rows = Plain (Advance 3) ∷ [];
+  settings_rows = form_row Decimal ∷ [];
   rows = Plain (Advance 5) ∷ [];
   are_settings = set;
   is_script = script;

@@ -109,14 +109,14 @@ pub record KnowsPlay : Type 0 where
 
 -- ---- runs
 
--- what is asked of the rows of settings, which make the clock 3, and of those of a script, which make it 5
+-- what is asked of the rows of settings, which set forms, and of those of a script, which make the clock 5
 abbrev pub known_report : Query → List ℕ
-known_report query = report_text query.pick query.format (scratch (present_of (Plain (Advance 3) ∷ []) (Plain (Advance 5) ∷ [])))
+known_report query = report_text query.pick query.format (scratch (present_of (form_row Decimal ∷ []) (Plain (Advance 5) ∷ [])))
 
 -- What a run that stops wrote behind an octet 7: two octets of its report, or nothing, and never less. Where settings say no rows, or
 -- a text isn't a script, no report is begun, and nothing is written.
 pub record KnowsRuns : Type 0 where
-  pub begins : (query : Query) (settings text : List ℕ) → settings_of settings ≡ Some (Plain (Advance 3) ∷ [])
+  pub begins : (query : Query) (settings text : List ℕ) → settings_of settings ≡ Some (form_row Decimal ∷ [])
       → IsScript text (Plain (Advance 5) ∷ [])
       → HasBegun query settings (Some (7 ∷ [])) (Some (7 ∷ take 2 (known_report query))) text
   pub loses : (query : Query) (settings text : List ℕ) → HasBegun query settings (Some (7 ∷ [])) (Some []) text → ⊥
@@ -125,7 +125,7 @@ pub record KnowsRuns : Type 0 where
   pub no_script : (query : Query) (settings text : List ℕ) (old new : Option (List ℕ))
       → ((rows : List Row) → IsScript text rows → ⊥) → HasBegun query settings old new text → ⊥
   pub stops_before : (query : Query) (settings text : List ℕ) → StopsRun query settings (Some (7 ∷ [])) (Some (7 ∷ [])) text
-  pub stops_within : (query : Query) (settings text : List ℕ) → settings_of settings ≡ Some (Plain (Advance 3) ∷ [])
+  pub stops_within : (query : Query) (settings text : List ℕ) → settings_of settings ≡ Some (form_row Decimal ∷ [])
       → IsScript text (Plain (Advance 5) ∷ [])
       → StopsRun query settings (Some (7 ∷ [])) (Some (7 ∷ take 2 (known_report query))) text
   pub stops_with_less : (query : Query) (settings text : List ℕ) → StopsRun query settings (Some (7 ∷ [])) (Some []) text → ⊥
