@@ -2,6 +2,7 @@ pub mod RecordLemmas
 pub mod AnswerLemmas
 pub mod ReadingLemmas
 pub mod FollowLemmas
+pub mod KnownEndings
 pub mod LawLemmas
 pub mod StreamLemmas
 pub mod TotalLemmas

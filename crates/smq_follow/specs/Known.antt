@@ -1,9 +1,12 @@
 -- Records and answers at known values.
-use Rattle.std.specs.Prelude.{◌≡◌, ℕ, List, [], ◌∷◌, ◌++◌, codes, None, Some}
+use Rattle.std.specs.Prelude.{◌≡◌, ℕ, List, [], ◌∷◌, ◌++◌, codes, Option, None, Some}
 use Rattle.smq_present.specs.present.Present.{PresentValue}
 use Rattle.smq_present.specs.declared.present.edit.Edit.TheVariants.{Advance}
 use Rattle.smq_load.specs.declared.record.Row as rows
 use Rattle.smq_load.specs.declared.record.Row.TheVariants.{Plain}
+use Rattle.smq_load.specs.Settings.{settings_of}
+use Rattle.smq_report.specs.declared.pick.Format.{Format}
+use Rattle.smq_engine.specs.declared.run_fault.RunFault.TheVariants.{BadRow, BadSettings, Read, Write, Memory, NoThread, Desk}
 use Rattle.smq_tally.specs.declared.list.List.TheVariants as list
 use Rattle.smq_tally.specs.declared.view.View.TheVariants as view
 use Rattle.smq_report.specs.declared.pick.Pick.TheVariants as pick
@@ -11,6 +14,7 @@ use Rattle.smq_follow.specs.declared.record.Record.{Record}
 use Rattle.smq_follow.specs.declared.record.Record.TheVariants.{Ask, Row}
 use Rattle.smq_follow.specs.Record.{record_of}
 use Rattle.smq_follow.specs.Answers.{present_after, refusals, refused_after, rows_of, said_of, told_line}
+use Rattle.smq_follow.specs.Followed.{AreAllOf, AreBeforeBadOf, AreFirstOf, EndsAtBadRow, EndsBy, IsFollowed, Written, held}
 use Rattle.smq_scratch.specs.Lines.{message_lines, receipt_lines}
 use Rattle.smq_follow.specs.Written.{messages_of, receipts_of}
 
@@ -45,6 +49,66 @@ pub record KnowsAnswers : Type 0 where
   pub last : (present_after [] asked).settings.clock ≡ 6
   pub refused : refused_after [] asked ≡ 1
   pub told : refusals [] asked ≡ codes "row 3: 11 ClockBack 5" ++ 10 ∷ []
+
+-- two clocks that are earlier than that of the settings, which is 7
+abbrev pub clocks : List Record
+clocks = Row (clock 6) ∷ Row (clock 4) ∷ []
+
+abbrev pub set_clock : List rows.Row
+set_clock = clock 7 ∷ []
+
+-- nothing stood after an octet 7 among answers, and this was told
+abbrev pub told_alone : List ℕ → Written
+told_alone told = held (Some (7 ∷ [])) (Some (7 ∷ [])) (Some []) (Some told)
+
+abbrev pub told_clocks : List ℕ
+told_clocks = codes "row 1: 11 ClockBack 7" ++ 10 ∷ codes "row 2: 11 ClockBack 7" ++ 10 ∷ []
+
+-- an answer is lost
+abbrev pub loses_answer : Option (List ℕ) → Option (List ℕ) → Written
+loses_answer old new = held (Some (7 ∷ [])) (Some []) old new
+
+-- What was written where all records were played, up to a bad one, and where a fault ended it: both clocks are told as refused rows, no fewer
+-- are counted, and nothing that stood there is lost. Settings that say no rows are played by nobody.
+pub record KnowsEndings : Type 0 where
+  pub followed : (format : Format) (settings text : List ℕ) → settings_of settings ≡ Some set_clock → AreAllOf text clocks
+      → IsFollowed format settings 2 (told_alone told_clocks) text
+  pub fewer_refused : (format : Format) (settings text : List ℕ) (w : Written) → settings_of settings ≡ Some set_clock
+      → ((records : List Record) → AreAllOf text records → records ≡ clocks) → IsFollowed format settings 1 w text → ⊥
+  pub unsaid : (format : Format) (settings text : List ℕ) → settings_of settings ≡ Some set_clock
+      → ((records : List Record) → AreAllOf text records → records ≡ clocks) → IsFollowed format settings 2 (told_alone []) text → ⊥
+  pub lost : (format : Format) (settings text : List ℕ) (refused : ℕ) (old new : Option (List ℕ))
+      → IsFollowed format settings refused (loses_answer old new) text → ⊥
+  pub unset : (format : Format) (settings text : List ℕ) (refused : ℕ) (w : Written) → settings_of settings ≡ None
+      → IsFollowed format settings refused w text → ⊥
+  pub bad_row : (format : Format) (settings text : List ℕ) → settings_of settings ≡ Some set_clock → AreBeforeBadOf text clocks
+      → EndsAtBadRow format settings 3 (told_alone told_clocks) text
+  pub row_0 : (format : Format) (settings text : List ℕ) (w : Written) → EndsAtBadRow format settings 0 w text → ⊥
+  pub lost_at_bad_row : (format : Format) (settings text : List ℕ) (row : ℕ) (old new : Option (List ℕ))
+      → EndsAtBadRow format settings row (loses_answer old new) text → ⊥
+  pub by_bad_row : (format : Format) (settings text : List ℕ) → settings_of settings ≡ Some set_clock → AreBeforeBadOf text clocks
+      → EndsBy (BadRow 3) format settings (told_alone told_clocks) text
+  pub by_row_0 : (format : Format) (settings text : List ℕ) (w : Written) → EndsBy (BadRow 0) format settings w text → ⊥
+  pub by_bad_settings : (format : Format) (settings text : List ℕ) → settings_of settings ≡ None
+      → EndsBy BadSettings format settings (told_alone []) text
+  pub by_bad_settings_told : (format : Format) (settings text : List ℕ) → EndsBy BadSettings format settings (told_alone told_clocks) text → ⊥
+  pub by_good_settings : (format : Format) (settings text : List ℕ) (w : Written) → settings_of settings ≡ Some set_clock
+      → EndsBy BadSettings format settings w text → ⊥
+  pub by_read : (format : Format) (settings text : List ℕ) → settings_of settings ≡ Some set_clock → AreFirstOf text clocks
+      → EndsBy Read format settings (told_alone told_clocks) text
+  pub by_read_lost : (format : Format) (settings text : List ℕ) (old new : Option (List ℕ))
+      → EndsBy Read format settings (loses_answer old new) text → ⊥
+  pub by_write : (format : Format) (settings text : List ℕ) → settings_of settings ≡ Some set_clock → AreFirstOf text clocks
+      → EndsBy Write format settings (told_alone (codes "row 1: 11 ClockBack 7" ++ 10 ∷ codes "row 2: 1")) text
+  pub by_write_lost : (format : Format) (settings text : List ℕ) (old new : Option (List ℕ))
+      → EndsBy Write format settings (loses_answer old new) text → ⊥
+  pub by_memory_at_once : (format : Format) (settings text : List ℕ) → EndsBy Memory format settings (told_alone []) text
+  pub by_memory : (format : Format) (settings text : List ℕ) → settings_of settings ≡ Some set_clock → AreFirstOf text clocks
+      → EndsBy Memory format settings (told_alone told_clocks) text
+  pub by_memory_lost : (format : Format) (settings text : List ℕ) (old new : Option (List ℕ))
+      → EndsBy Memory format settings (loses_answer old new) text → ⊥
+  pub by_no_thread : (format : Format) (settings text : List ℕ) (w : Written) → EndsBy NoThread format settings w text → ⊥
+  pub by_desk : (format : Format) (settings text : List ℕ) (w : Written) → EndsBy Desk format settings w text → ⊥
 
 -- where no message or no receipt is present, lines are the record of their columns alone
 pub record KnowsLines : Type 0 where

@@ -1,5 +1,5 @@
 //! Laws of the answers and of totals, and known values of the definitions: each is the contract of a function with no body.
-ghost use Rattle.smq_follow.specs.Known.{KnowsAnswers, KnowsLines, KnowsRecords};
+ghost use Rattle.smq_follow.specs.Known.{KnowsAnswers, KnowsEndings, KnowsLines, KnowsRecords};
 ghost use Rattle.smq_follow.specs.Laws.{AnswersStand, EachIsAsked, TotalsAreRuns};
 
 /// What is said of records stands whatever comes after them, and a last answer is the report of the rows before its question.
@@ -17,9 +17,10 @@ pub fn known_records()
     ensures { KnowsRecords }
 {}
 
-/// How answers go by the records before each, and their lines.
+/// How answers go by the records before each, and their lines; and what was written of known records, however their play ended.
 pub fn known_answers()
-    ensures { KnowsAnswers }
+    ensures answers { KnowsAnswers }
+    ensures endings { KnowsEndings }
 {}
 
 /// A total of a script is a run of it, and its first bad row is that of the script, as far as a script may go.

@@ -1,10 +1,11 @@
 use Rattle.std.proofs.Common.{refl}
 use Rattle.std.specs.Fmt.{digits}
+use Rattle.smq_follow.proofs.KnownEndings.{endings}
 use Rattle.smq_follow.proofs.laws.known_answers.Goals as goal
 
-pub returns : goal.returns
+pub returns-clause-answers : goal.returns-clause-answers
 unfolding digits
-returns c = record {
+returns-clause-answers c = record {
   each = λ say a b c. refl;
   of_view = refl;
   of_report = refl;
@@ -14,3 +15,6 @@ returns c = record {
   refused = refl;
   told = refl;
 }
+
+pub returns-clause-endings : goal.returns-clause-endings
+returns-clause-endings c = endings
