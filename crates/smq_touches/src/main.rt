@@ -2,8 +2,8 @@
 //! refusal. Then comes whether the book's tables are those that are counted from nothing, and their report. With a number as its word
 //! it stops after that row.
 //!
-//! It is a program of the repository's checks, and not of its users: tools/check-touches compares what each edit adds with what it
-//! reaches, and tools/check-refusals refuses memory to one edit.
+//! It is a program of the repository's checks, and not of its users: gate/check-touches compares what each edit adds with what it
+//! reaches, and gate/check-refusals refuses memory to one edit.
 #![tactic(auto)]
 
 use smq_book::Book;

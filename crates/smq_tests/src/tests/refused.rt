@@ -1,4 +1,4 @@
-//! Calls with each allocation or start of a thread refused in turn (tools/check-refused-calls): each says so, and the same call is
+//! Calls with each allocation or start of a thread refused in turn (gate/check-refused-calls): each says so, and the same call is
 //! answered then as ever.
 use crate::tests::load::records::{EACH, is_read};
 use crate::tests::load::settings::{EXAMPLE, is_set};

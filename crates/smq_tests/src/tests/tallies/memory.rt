@@ -90,7 +90,7 @@ fn number_listed(tables: &Tables, list: List) -> u64 {
     number
 }
 
-/// Whichever allocation is refused (tools/check-refused-calls), a refused step leaves the tally as it was, and is
+/// Whichever allocation is refused (gate/check-refused-calls), a refused step leaves the tally as it was, and is
 /// made when it is tried again.
 #[test]
 fn want_of_memory_changes_nothing(rt: HostRuntime) {
@@ -158,7 +158,7 @@ fn is_copied(rt: &impl Abort, alloc: Global, tables: &Tables) -> bool {
     copy == *tables && have_as_many_rows(&copy, tables) && have_as_many_places(&copy, tables)
 }
 
-/// Whichever allocation is refused (tools/check-refused-calls), a copy of many rows and places, settled or not, shows
+/// Whichever allocation is refused (gate/check-refused-calls), a copy of many rows and places, settled or not, shows
 /// what its tables show.
 #[test]
 fn a_copy_shows_what_its_tables_show(rt: HostRuntime) {

@@ -1,0 +1,1 @@
+"""Cases that are written out, for the checks that play them."""

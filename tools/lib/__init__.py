@@ -1,0 +1,1 @@
+"""What the tools have in common. It stands beside each tool, wherever that is copied."""
