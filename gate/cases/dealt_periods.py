@@ -1,7 +1,7 @@
 """Checks tools/by-hour, for gate/check-live: rows that are written out, and of many scripts that what is dealt says the same.
 
 What PDUs are kept is found here by plain searches: of each session all PDUs that are left in one, whose pairs are those of
-gate/oracle/tables.py. Places differ from those of what by-hour writes; so lists are compared by the PDUs that stand there.
+gate/oracle/counts_again.py. Places differ from those of what by-hour writes; so lists are compared by the PDUs that stand there.
 """
 import sys
 
@@ -17,7 +17,7 @@ from lib.loader import load
 from lib.report_names import DIRECTIONS, LISTS
 from oracle.made_captures import ACK, CENTRE_FIRST, SYN, centre, client, pcap
 from oracle.random_scripts import CHECK, plain, rows_of
-from oracle.tables import RESPONSE, WITHOUT_RESPONSE, Present, Tables, pdus_of
+from oracle.counts_again import RESPONSE, WITHOUT_RESPONSE, Present, Tables, pdus_of
 
 BY_HOUR = load("by-hour")
 SUBMIT_SM, DELIVER_SM, ENQUIRE_LINK, ALERT_NOTIFICATION, OUTBIND, GENERIC_NACK = 4, 5, 0x15, 0x102, 0x0B, 0x80000000

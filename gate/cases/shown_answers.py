@@ -45,7 +45,7 @@ list,open,1,client,49
 FIRST = REPORT + "told,17,report,1795329424815,2\n"
 LINKS = "view,link,3,delivered,13\n"
 SECOND = LINKS + "told,18,link,1795329425000,3\n"
-NAMES = 'link,3,"North \\ ""best"" <b>&\none"\nroute,none,elsewhere\nroute,8,\n'
+NAMES = '# some names\nlink,3,"North \\ ""best"" <b>&\none"\nroute,none,elsewhere\nroute,8,\n'
 NAME = 'North \\ "best" <b>&\none'
 
 

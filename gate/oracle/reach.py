@@ -1,8 +1,8 @@
-"""How much each row of a script reaches, by what docs/DEFINITIONS.md says of groups, weights and reach."""
+"""How much each row of a script reaches, by what crates/smq_book/specs/edits/Reach.antt says of weights and reach."""
 import collections
 
 from lib.report_names import DIRECTIONS, WINDOW
-from oracle.tables import (DATA_SM, DELIVER_SM, RESPONSE, SUBMIT_SM, WITHOUT_RESPONSE, Pdu, Present, Receipt, fields_of, key_of, number_of,
+from oracle.counts_again import (DATA_SM, DELIVER_SM, RESPONSE, SUBMIT_SM, WITHOUT_RESPONSE, Pdu, Present, Receipt, fields_of, key_of, number_of,
                            receipt_of, usable_id, word)
 
 # number: of the destination, or None

@@ -1,10 +1,10 @@
 -- The statuses with which the program ends.
 use Rattle.std.specs.Prelude.{ℕ, ◌==◌, ◌&&◌, List, [], ◌∷◌, if◌then◌else◌}
 use Rattle.smq_kit.specs.declared.refusal.Refusal.{Refusal}
-use Rattle.smq_engine.specs.declared.checking.Checked.{Checked}
+use Rattle.smq_engine.specs.declared.comparison.Checked.{Checked}
 use Rattle.smq_engine.specs.declared.run_fault.RunFault.{RunFault}
 use Rattle.smq_engine.specs.declared.run_fault.RunFault.TheVariants.{BadRow, BadSettings, Read, Write, Memory, NoThread, Desk}
-use Rattle.smq_follow.specs.declared.following.Followed.{Followed}
+use Rattle.smq_engine.specs.declared.feed.Followed.{Followed}
 
 -- the status with which the program ends at a fault, whether or not the fault can be told
 abbrev pub fault_status : RunFault → ℕ

@@ -2,8 +2,7 @@
 ghost use Rattle.std.specs.Prelude.{◌≡◌};
 ghost use Rattle.smq.specs.Statuses.{check_status, fault_status, follow_status, run_status};
 
-use smq_engine::{Checked, RunFault};
-use smq_follow::Followed;
+use smq_engine::{Checked, Followed, RunFault};
 use smq_kit::Refusal;
 
 /// No row was refused, or help or the version was told.

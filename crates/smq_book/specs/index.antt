@@ -15,6 +15,7 @@ pub mod Pairs
 pub mod Kept
 pub mod Touches
 pub mod Pushed
+pub mod Goes
 pub mod Taken
-pub mod Refreshed
+pub mod Recomputed
 pub mod LinkOut

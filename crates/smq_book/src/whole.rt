@@ -1,3 +1,3 @@
 //! The book: edits of what is present, and the tables of it, kept current.
 pub mod book;
-pub mod kept_book;
+pub mod indexed_book;

@@ -1,5 +1,5 @@
 -- Walks over the entries of a history: what was seen, and what is left.
-use Rattle.std.proofs.Common.{◌≡◌, ℕ, ◌+◌, ◌<◌, ◌≤◌, List, [], ◌∷◌, ◌++◌, length, drop, get_or, refl, sym, ◌∙◌, ap, arith, append_assoc, append-nil}
+use Rattle.std.proofs.Common.{◌≡◌, ℕ, ◌+◌, ◌<◌, ◌≤◌, List, [], ◌∷◌, ◌++◌, length, drop, get_or, refl, sym, ◌∙◌, ap, arith, append_assoc}
 use Rattle.std.proofs.lemmas.List.{drop_more, length-drop, append_cancel_left}
 use Rattle.std.specs.Iterator.{YieldsFirstRef}
 use Rattle.std.proofs.iter.runs.Sources.{from_front}
@@ -33,9 +33,6 @@ pub record BeginAlike (these left those others : List Entry) : Type 0 where
   pub first : these ≡ seen ++ left
   pub second : those ≡ seen ++ others
 
-pub alike_none : (these those : List Entry) → BeginAlike these these those those
-alike_none these those = record { seen = []; first = refl; second = refl }
-
 pub alike_next : (these left left' those others others' : List Entry) (e d : Entry) → left ≡ e ∷ left' → others ≡ d ∷ others' → e ≡ d
     → BeginAlike these left those others → BeginAlike these left' those others'
 alike_next these left left' those others others' e d more more' same h = record {
@@ -44,24 +41,11 @@ alike_next these left left' those others others' e d more more' same h = record 
   second = h.second ∙ ap (λ (es : List Entry). h.seen ++ es) (more' ∙ ap (λ (x : Entry). x ∷ others') (sym same)) ∙ sym (append_assoc h.seen (e ∷ []) others');
 }
 
--- where none of the second is left, the first begins with it
-pub alike_all : (these left those others : List Entry) → others ≡ [] → BeginAlike these left those others → StartsWith these those
-alike_all these left those others none h = (
-  left,
-  h.first ∙ ap (λ (es : List Entry). es ++ left) (sym (append-nil h.seen) ∙ ap (λ (es : List Entry). h.seen ++ es) (sym none) ∙ sym h.second),
-)
-
 -- what comes after the entries that were seen, where the first begins with the second
 after_seen : (these left those others : List Entry) → BeginAlike these left those others → (s : StartsWith these those) → left ≡ others ++ s.0
 after_seen these left those others h s =
     append_cancel_left h.seen left (others ++ s.0)
     (sym h.first ∙ s.1 ∙ ap (λ (es : List Entry). es ++ s.0) h.second ∙ append_assoc h.seen others s.0)
-
--- where none of the first is left, it doesn't
-pub alike_short : (these left those others others' : List Entry) (d : Entry) → left ≡ [] → others ≡ d ∷ others' → BeginAlike these left those others → StartsWith these those → ⊥
-alike_short these left those others others' d none more h s =
-    let after : [] ≡ d ∷ (others' ++ s.0) = sym none ∙ after_seen these left those others h s ∙ ap (λ (es : List Entry). es ++ s.0) more in
-    absurd cc
 
 -- nor where the next two differ
 pub alike_other : (these left left' those others others' : List Entry) (e d : Entry) → left ≡ e ∷ left' → others ≡ d ∷ others' → (e ≡ d → ⊥)

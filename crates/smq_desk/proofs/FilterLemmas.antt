@@ -40,11 +40,6 @@ pub filter_all : {X : Type 0} (f : X → Bool) → ((x : X) → f x ≡ true) �
 filter_all f h [] = refl
 filter_all {X} f h (x ∷ xs) = rw (h x) (ap (λ (ys : List X). x ∷ ys) (filter_all f h xs))
 
--- none passes
-pub filter_none : {X : Type 0} (f : X → Bool) → ((x : X) → f x ≡ false) → (xs : List X) → filter f xs ≡ []
-filter_none f h [] = refl
-filter_none f h (x ∷ xs) = rw (h x) (filter_none f h xs)
-
 -- what is chosen by what a function gives
 pub map-filter : {X Y : Type 0} (e : X → Y) (f : Y → Bool) (xs : List X) → map e (filter (λ x. f (e x)) xs) ≡ filter f (map e xs)
 map-filter e f [] = refl

@@ -14,7 +14,7 @@ use Rattle.smq_present.specs.declared.present.session.Session.{Session}
 use Rattle.smq_present.specs.present.Settings.{SettingsValue, opening_settings}
 use Rattle.smq_present.specs.pairing.Traffic.{Message, ReceivedReceipt, TrafficValue, session_messages, session_notes, session_receipts, traffic_among, traffic_of}
 use Rattle.smq_present.specs.join.Circumstances.{circumstances}
-use Rattle.smq_present.specs.join.Facts.{fact_by, facts_of}
+use Rattle.smq_present.specs.join.Facts.{fact_in_circumstances, facts_of}
 use Rattle.smq_present.specs.join.Keyed.{grouping_of, keyed_receipt}
 use Rattle.smq_present.specs.join.Listings.{notes_of, receipt_listing, receipt_notes}
 use Rattle.smq_present.specs.whole.Scratch.{scratch}
@@ -39,7 +39,7 @@ module _ {X Y : Type 0} (f : Place → X → Option Y) where
 
 module _ (s : SettingsValue) where
   facts-none : facts_of s nothing ≡ empty
-  facts-none = chosen-none (λ place (m : Message). Some (fact_by place m (circumstances s nothing m)))
+  facts-none = chosen-none (λ place (m : Message). Some (fact_in_circumstances place m (circumstances s nothing m)))
 
   keys-none : keys (empty {X = Unit {0}} {R = listed_cmp}) ≡ []
   keys-none = ap (map (λ e. e.0)) (no-entries listed_cmp (Unit {0}))

@@ -1,5 +1,5 @@
 -- What the rows of a job have made, row by row.
-use Rattle.std.proofs.Common.{◌≡◌, ◌<◌, ◌+◌, ◌⊎◌, ℕ, Bool, true, false, cond, List, [], ◌∷◌, ◌++◌, Option, Some, None, Result, Ok, Err, inl, inr, refl, sym, ◌∙◌, ap, subst, length, take, get_or, option_to_list, append-nil, MatchOption, MatchBool, IfOk, IfErr, arith}
+use Rattle.std.proofs.Common.{◌≡◌, ◌<◌, ◌+◌, ◌⊎◌, ℕ, Bool, true, false, cond, List, [], ◌∷◌, ◌++◌, Option, Some, None, Result, Ok, Err, inl, inr, refl, sym, ◌∙◌, ap, subst, length, take, get_or, option_to_list, MatchOption, MatchBool, IfOk, IfErr, arith}
 use Rattle.std.specs.Prelude.{◌≢◌}
 use Rattle.std.specs.List.{AllZip}
 use Rattle.std.proofs.lemmas.List.{take_more, flat_map_more}
@@ -68,15 +68,6 @@ comes_by_call row edit old new refused puts call = record {
   is = puts;
   added = call.added;
   counts = call.is;
-}
-
--- a row that wasn't prepared leaves the seat as it was
-pub comes_to_no_call : (row : PieceRow) (seat : SeatValue) → IsFate row None → Comes row seat seat true
-comes_to_no_call row seat is = record {
-  fate = None;
-  is = is;
-  added = ap (λ (calls : List Call). record seat { calls = calls }) (sym (append-nil seat.calls));
-  counts = refl;
 }
 
 -- a row comes to what the commit of its edit comes to

@@ -97,9 +97,6 @@ known_rows = record {
 
 -- ---- the job
 
-abbrev seat_of : List Call → SeatValue
-seat_of calls = record { number = 3; calls = calls }
-
 -- a job with these parts is worked
 worked : (job new : LinkJob) (calls : List Call) (next refused : ℕ) (stop : Option Refusal) → IsNew job → IsJob new rows calls next refused stop
     → next ≤ 2 → Made (take next rows) [] calls refused → (stop ≡ None) ↔ (next ≡ 2) → IfSome stop IsStop → Worked job new

@@ -4,3 +4,11 @@ pub mod WorkerLemmas
 pub mod DeskLemmas
 pub mod KnownChecks
 pub mod SessionLemmas
+pub mod RecordLemmas
+pub mod AnswerLemmas
+pub mod ReadingLemmas
+pub mod FollowLemmas
+pub mod KnownEndings
+pub mod LawLemmas
+pub mod StreamLemmas
+pub mod TotalLemmas

@@ -1,14 +1,18 @@
 -- What a check makes of settings and a script.
-use Rattle.std.specs.Prelude.{◌≡◌, ◌↔◌, ℕ, Bool, true, false, List, [], ◌∷◌, ◌++◌, IsTrue, Option, Some, codes, length}
+use Rattle.std.specs.Prelude.{◌≡◌, ◌≢◌, ◌↔◌, ◌⊎◌, IfSome, ℕ, Bool, true, false, List, [], ◌∷◌, ◌++◌, IsTrue, Option, Some, codes, length}
 use Rattle.std.specs.Fmt.{decimal}
-use Rattle.std.specs.Io.KnownBytes.{Appends}
+use Rattle.std.specs.Io.KnownBytes.{Appends, Keeps}
 use Rattle.smq_present.specs.whole.Scratch.{scratch}
 use Rattle.smq_desk.specs.declared.entry.Entry.{Entry}
 use Rattle.smq_desk.specs.History.{replay, IsLegal}
 use Rattle.smq_load.specs.declared.record.Row.{Row}
 use Rattle.smq_load.specs.Script.{IsScript}
 use Rattle.smq_load.specs.Settings.{settings_of}
-use Rattle.smq_engine.specs.declared.checking.Checked.{Checked}
+use Rattle.smq_engine.specs.declared.comparison.Checked.{Checked}
+use Rattle.smq_engine.specs.declared.run_fault.RunFault.{RunFault}
+use Rattle.smq_engine.specs.declared.run_fault.RunFault.TheVariants.{Write}
+use Rattle.smq_engine.specs.declared.runs.Limit.TheVariants.{Script}
+use Rattle.smq_engine.specs.IsRun.{TellsRead, WasRead}
 use Rattle.smq_engine.specs.Play.{present_of, refused_of}
 use Rattle.smq_engine.specs.Workers.{AreMadeOf}
 
@@ -42,3 +46,11 @@ pub record IsCheck (settings : List ℕ) (checked : Checked) (old new : Option (
   pub is_script : IsScript text rows
   pub compares : Compares settings_rows rows checked
   pub written : Appends old new (check_text checked)
+
+-- A check ends by a fault: it tells of settings and script what is so; nothing was written but where a write failed, and then both had
+-- been read.
+pub record EndsCheck (fault : RunFault) (settings : List ℕ) (text left old new : Option (List ℕ)) : Type 0 where
+  pub tells : TellsRead Script fault settings text left
+  pub unwritten : fault ≢ Write → Keeps old new
+  pub write : fault ≡ Write → IfSome text (WasRead Script settings)
+  pub read_first : IfSome text (λ octets. Keeps old new ⊎ WasRead Script settings octets)

@@ -4,5 +4,10 @@ pub mod Workers
 pub mod Sessions
 pub mod IsCheck
 pub mod Faults
+pub mod Record
+pub mod Answers
+pub mod Followed
+pub mod Laws
 pub mod Known
+pub mod KnownFollow
 pub mod within

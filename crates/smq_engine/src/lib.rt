@@ -1,19 +1,32 @@
-//! What the program does with settings and a script: it reads them, plays them, and writes what is asked of the report, or makes
-//! them by threads at a desk as well, and compares.
+//! What the program does with settings and rows: it reads them, plays them, and writes an output of what they leave; makes them by
+//! threads at a desk as well, and compares; or answers the questions among them as they come.
 #![tactic(auto)]
 
-mod checking;
+mod answer;
+mod comparison;
 mod desk_play;
-mod engine;
+mod feed;
 mod laws;
+mod output;
 mod play;
+mod record;
+mod record_stream;
+mod retrying_reader;
 mod row_copies;
+mod row_stream;
 mod run_fault;
+mod runs;
+mod scripts;
 mod workers;
 
-pub use checking::{Checked, check};
-pub use engine::{Ran, run, write_tables};
-pub use laws::{known_checks, known_faults, known_play, sessions_are_loaded_in_order};
+pub use comparison::{Checked, check};
+pub use feed::{Followed, follow};
+pub use laws::{
+    answers_stand, each_is_asked, known_answers, known_checks, known_faults, known_lines,
+    known_play, known_records, sessions_are_loaded_in_order, totals_are_runs,
+};
 pub use play::{PlayedBook, play_next, play_row, play_rows};
+pub use record::Record;
 pub use run_fault::RunFault;
+pub use runs::{Limit, Ran, run, total};
 pub use workers::WORKERS;

@@ -1,4 +1,4 @@
-//! Tests of `smq_engine` and `smq_follow` that no clause says, apart from it: a crate with tests is proved twice.
+//! Tests of `smq_engine` that no clause says, apart from it: a crate with tests is proved twice.
 #![tactic(auto)]
 
 #[cfg(test)]

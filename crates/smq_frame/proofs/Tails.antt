@@ -1,9 +1,9 @@
 -- The tail after a piece.
-use Rattle.std.proofs.Common.{◌≡◌, ℕ, ◌+◌, ◌-◌, ◌<◌, ◌≤◌, ◌⊎◌, Bool, true, false, cond, List, [], ◌∷◌, ◌++◌, length, Option, Some, None, refl, sym, ap, ◌∙◌, subst, inl, inr, append_assoc, zero-add, arith, rules}
+use Rattle.std.proofs.Common.{◌≡◌, ℕ, ◌+◌, ◌-◌, ◌<◌, ◌≤◌, ◌⊎◌, true, false, List, [], ◌∷◌, ◌++◌, length, Some, None, refl, sym, ap, ◌∙◌, subst, inl, inr, zero-add, arith, rules}
 use Rattle.std.specs.Prelude.{All, map, is_some}
 use Rattle.smq_frame.specs.Frame.{FrameValue}
 use Rattle.std.proofs.lemmas.Bool.{both_ways}
-use Rattle.std.proofs.lemmas.List.{append-nil, length-append}
+use Rattle.std.proofs.lemmas.List.{length-append}
 use Rattle.std.proofs.lemmas.List.Elements.{All-nil, All-cons}
 use Rattle.smq_frame.specs.Framing.{stated_length, IsGoodLength, IsWaiting, IsBad, Splits, is_bad, frames_of, rest_of}
 use Rattle.smq_frame.specs.Tail.{TailValue, TailFollows, IsTail, tail_with, tail_from, tail_of, tail_after}

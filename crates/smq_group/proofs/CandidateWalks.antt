@@ -17,7 +17,7 @@ use mathlib.Core.Bool.{and_comm}
 use Rattle.smq_shelf.proofs.Walks.{Narrows, after-rises, left-found}
 use Rattle.smq_kit.specs.Orders.{kept_place_cmp}
 use Rattle.smq_group.specs.declared.member.Candidate.{Candidate}
-use Rattle.smq_group.specs.declared.outlook.Earliest.{Earliest}
+use Rattle.smq_group.specs.declared.group_summary.Earliest.{Earliest}
 use Rattle.smq_group.specs.within.Orders.{kept_candidate_cmp}
 use Rattle.smq_group.specs.within.Walked.{candidate_at, candidate_key, earliest_of, first_candidate_after, first_there, of_candidate, vacant_left, vacant_of}
 use Rattle.smq_group.proofs.Finding.{other_above, le_of_lt}

@@ -26,14 +26,14 @@ use Rattle.smq_group.specs.declared.changes.Added.TheVariants as put
 use Rattle.smq_group.specs.declared.changes.Turn.{Turn}
 use Rattle.smq_group.specs.declared.changes.Turn.TheVariants.{Each, Deciders, Newcomer}
 use Rattle.smq_group.specs.declared.member.Member.{Member}
-use Rattle.smq_group.specs.declared.member.Said.{Said}
-use Rattle.smq_group.specs.declared.outlook.Outlook.{Outlook}
+use Rattle.smq_group.specs.declared.member.ReceiptFacts.{ReceiptFacts}
+use Rattle.smq_group.specs.declared.group_summary.GroupSummary.{GroupSummary}
 use Rattle.smq_group.specs.Changes.{TellsChanges, changed, told_at, submit_at, receipt_at, same_standing}
 use Rattle.smq_group.specs.Matching as m
-use Rattle.smq_group.specs.Matching.{Grouping, GroupedReceipt, candidates, decider, earlier, is_decider, matches, submit_standing, receipt_standing}
+use Rattle.smq_group.specs.Matching.{Grouping, GroupedReceipt, candidates, earlier, matches}
 use Rattle.smq_group.specs.within.Outlooks.{decider_of, submit_standing_of, receipt_standing_of}
 use Rattle.smq_group.specs.within.Stored.{earliest_at, by_place, StandsOnce, submit_value, receipt_value, grouping_in, outlook_in}
-use Rattle.smq_group.specs.within.Told.{SubmitsByPlace, ReceiptsByPlace, change_at, same_decider, turn_between, submit_changes, receipt_changes, newcomer_submit, newcomer_receipt, rival, decider_changes, told_submits, told_receipts}
+use Rattle.smq_group.specs.within.Told.{SubmitsByPlace, ReceiptsByPlace, change_at, same_decider, turn_between, submit_changes, receipt_changes, newcomer_submit, newcomer_receipt, rival, decider_changes, changes_of_submits, told_receipts}
 use Rattle.smq_group.specs.within.Walked.{members_in, of_key, placed}
 use Rattle.smq_group.proofs.Earliest.{first-is, own_key, one_key}
 use Rattle.smq_group.proofs.Placing.{at, none_head, not_none, one_of, own_place, rest_none, same_place, sorted_none, sorted_one, sorted_two, swapped}
@@ -133,7 +133,7 @@ decider-can g key q t = by (reduce earlier (candidates g key)) refl t
       decides = refl;
     }
 
-rival_was : (b : Outlook) (added : Added) (q : Place) → is_at_place (rival b added) q ≡ true → is_at_place (decider_of b) q ≡ true
+rival_was : (b : GroupSummary) (added : Added) (q : Place) → is_at_place (rival b added) q ≡ true → is_at_place (decider_of b) q ≡ true
 rival_was b (put.Receipt _ _) q h = h
 rival_was b _ q h = absurd (false≢true h)
 
@@ -143,7 +143,7 @@ either : {A : Type 0} (b : Bool) (x : A) → cond b x x ≡ x
 either true x = refl
 either false x = refl
 
-module _ {W : Type 0} (key_of : W → LinkKey) (standing : Outlook → W → Standing) (g h : Grouping) (key : LinkKey)
+module _ {W : Type 0} (key_of : W → LinkKey) (standing : GroupSummary → W → Standing) (g h : Grouping) (key : LinkKey)
     (elsewhere : (k : LinkKey) → same_key key k ≡ false → outlook_in h k ≡ outlook_in g k) where
   abbrev changed_of : Option W → Option W → Option Standing
   changed_of x y = changed (option_map (λ w. standing (outlook_in g (key_of w)) w) x) (option_map (λ w. standing (outlook_in h (key_of w)) w) y)
@@ -157,7 +157,7 @@ module _ {W : Type 0} (key_of : W → LinkKey) (standing : Outlook → W → Sta
   other : (w : W) → same_key key (key_of w) ≡ false → changed_of (Some w) (Some w) ≡ None
   other w n =
       let was : Standing = standing (outlook_in g (key_of w)) w in
-      ap (λ (o : Outlook). changed (Some was) (Some (standing o w))) (elsewhere (key_of w) n) ∙ ap (λ b. cond b None (Some was)) (standing-itself was)
+      ap (λ (o : GroupSummary). changed (Some was) (Some (standing o w))) (elsewhere (key_of w) n) ∙ ap (λ b. cond b None (Some was)) (standing-itself was)
 
   -- where standings differ, or are one, that of now is told, or nothing is
   own : (w : W) (b : Bool) → same_key key (key_of w) ≡ true → same_standing (then_of w) (now_of w) ≡ b → changed_of (Some w) (Some w) ≡ cond b None (Some (now_of w))
@@ -181,10 +181,10 @@ module _ {W : Type 0} (key_of : W → LinkKey) (standing : Outlook → W → Sta
 -- ---- submits
 
 module _ (g h : Grouping) (key : LinkKey) (added : Added) (moves : Moves g h key added) (q : Place) where
-  abbrev before : Outlook
+  abbrev before : GroupSummary
   before = outlook_in g key
 
-  abbrev after : Outlook
+  abbrev after : GroupSummary
   after = outlook_in h key
 
   abbrev submits_changed : Option LinkKey → Option LinkKey → Option Standing
@@ -215,7 +215,7 @@ module _ (g h : Grouping) (key : LinkKey) (added : Added) (moves : Moves g h key
   abbrev key_of : GroupedReceipt → LinkKey
   key_of r = r.key
 
-  abbrev stands : Outlook → GroupedReceipt → Standing
+  abbrev stands : GroupSummary → GroupedReceipt → Standing
   stands o r = receipt_standing_of o q r.decides
 
   abbrev receipts_changed : Option GroupedReceipt → Option GroupedReceipt → Option Standing
@@ -331,7 +331,7 @@ deciders_tell q (Some v) (Some d) h =
     by false = swapped (eq_by_cmp place_cmp q v) (eq_by_cmp place_cmp q d) (Some Extra) (Some Deciding) None
         (λ a b. false≢true (sym (h v d refl refl) ∙ own_place v d (sym (same_place q v a) ∙ same_place q d b)))
 
-rival_apart : (b a : Outlook) (added : Added) → same_decider b a ≡ false → (v d : Place) → rival b added ≡ Some v → decider_of a ≡ Some d → eq_by_cmp place_cmp v d ≡ false
+rival_apart : (b a : GroupSummary) (added : Added) → same_decider b a ≡ false → (v d : Place) → rival b added ≡ Some v → decider_of a ≡ Some d → eq_by_cmp place_cmp v d ≡ false
 rival_apart b a (put.Receipt _ _) n v d r e = sym (λ i. same_option (eq_by_cmp place_cmp) (r i) (e i)) ∙ n
 rival_apart b a _ n v d r e = absurd cc
 
@@ -353,15 +353,15 @@ deciders_sorted (Some v) (Some d) h = by (place_cmp d v) refl
 pub submit-counts : (g : Grouping) (key : LinkKey) (place : Place) → get g.submits place ≡ Some key → 1 ≤ matches g key
 submit-counts g key place there = let one = number-less (same_key key) g.submits key place true there (own_key key) in omega (arith, one)
 
-module _ (g : Grouping) (s : List (Member × Bool)) (r : List (Member × Said)) (key : LinkKey) (added : Added)
+module _ (g : Grouping) (s : List (Member × Bool)) (r : List (Member × ReceiptFacts)) (key : LinkKey) (added : Added)
     (moves : Moves g (grouping_in s r) key added) (submits_once : StandsOnce submit_value s) (receipts_once : StandsOnce receipt_value r) where
   abbrev h : Grouping
   h = grouping_in s r
 
-  abbrev b : Outlook
+  abbrev b : GroupSummary
   b = outlook_in g key
 
-  abbrev a : Outlook
+  abbrev a : GroupSummary
   a = outlook_in h key
 
   walked_submits : (q : Place) → told_at q (submit_changes a (members_in key s)) ≡ told_of (λ k. k) key (λ _. submit_standing_of a) (get h.submits q)
@@ -374,10 +374,10 @@ module _ (g : Grouping) (s : List (Member × Bool)) (r : List (Member × Said)) 
       told-members receipt_value (λ w. w.key) (λ k v. refl) key (λ p v. receipt_standing_of a p v.decides) (λ p w. receipt_standing_of a p w.decides) (λ p k v. refl) q r receipts_once
       ∙ sym (ap (told_of (λ w. w.key) key (λ w. receipt_standing_of a q w.decides)) (get-from_entries places_total (map (by_place receipt_value) r) q))
 
-  submits_told : (t : Turn) → turn_between b a ≡ t → (q : Place) → told_at q (told_submits t a added (members_in key s)) ≡ changed (submit_at g q) (submit_at h q)
+  submits_told : (t : Turn) → turn_between b a ≡ t → (q : Place) → told_at q (changes_of_submits t a added (members_in key s)) ≡ changed (submit_at g q) (submit_at h q)
   submits_told t e q =
       let all = λ (one : Bool). submits_by g h key added moves q (get g.submits q) (get h.submits q) (is_new_submit added q) one (moves.submit q) in
-      elim t as (λ t. turn_between b a ≡ t → told_at q (told_submits t a added (members_in key s)) ≡ submits_changed g h key added moves q (get g.submits q) (get h.submits q)) [
+      elim t as (λ t. turn_between b a ≡ t → told_at q (changes_of_submits t a added (members_in key s)) ≡ submits_changed g h key added moves q (get g.submits q) (get h.submits q)) [
         | Each ↦ λ t. walked_submits q ∙ all false (λ x y. each-submit b a (submit-counts g key q x) (submit-counts h key q y) t)
         | Deciders ↦ λ t. walked_submits q ∙ all false (λ x y. deciders-submit b a t)
         | Newcomer ↦ λ t. newcomer_at g h key added moves q added ∙ all true (λ x y. newcomer-submit b a t)
@@ -398,7 +398,7 @@ module _ (g : Grouping) (s : List (Member × Bool)) (r : List (Member × Said)) 
   change_places standing [] = refl
   change_places standing (m ∷ ms) = ap (λ (ps : List Place). m.0 ∷ ps) (change_places standing ms)
 
-  submits_sorted : (t : Turn) → SubmitsByPlace t (members_in key s) → IsStrictlySortedBy place_cmp (map (λ (c : Change). c.place) (told_submits t a added (members_in key s)))
+  submits_sorted : (t : Turn) → SubmitsByPlace t (members_in key s) → IsStrictlySortedBy place_cmp (map (λ (c : Change). c.place) (changes_of_submits t a added (members_in key s)))
   submits_sorted Newcomer so = by added
     where
       by : (x : Added) → IsStrictlySortedBy place_cmp (map (λ (c : Change). c.place) (newcomer_submit a x))
@@ -415,16 +415,16 @@ module _ (g : Grouping) (s : List (Member × Bool)) (r : List (Member × Said)) 
       by (put.Receipt p _) = sorted_one p
       by _ = sorted_none
 
-  abbrev told_by : Outlook → Outlook → List Change
-  told_by x y = told_submits (turn_between x y) y added (members_in key s) ++ told_receipts (turn_between x y) x y added (members_in key r)
+  abbrev told_by : GroupSummary → GroupSummary → List Change
+  told_by x y = changes_of_submits (turn_between x y) y added (members_in key s) ++ told_receipts (turn_between x y) x y added (members_in key r)
 
   -- what is told by the outlooks that are kept before and after is what differs
-  pub tells : (x y : Outlook) → x ≡ b → y ≡ a → (changes : List Change) → changes ≡ told_by x y → SubmitsByPlace (turn_between x y) (members_in key s) → ReceiptsByPlace (turn_between x y) (members_in key r)
+  pub tells : (x y : GroupSummary) → x ≡ b → y ≡ a → (changes : List Change) → changes ≡ told_by x y → SubmitsByPlace (turn_between x y) (members_in key s) → ReceiptsByPlace (turn_between x y) (members_in key r)
       → TellsChanges g h changes
   tells x y is_b is_a changes told so sr =
       let turn : turn_between x y ≡ turn_between b a = λ i. turn_between (is_b i) (is_a i) in
       record {
-        submits = told_submits (turn_between b a) a added (members_in key s);
+        submits = changes_of_submits (turn_between b a) a added (members_in key s);
         receipts = told_receipts (turn_between b a) b a added (members_in key r);
         parts = told ∙ (λ i. told_by (is_b i) (is_a i));
         submits_by_place = submits_sorted (turn_between b a) (subst (λ (t : Turn). SubmitsByPlace t (members_in key s)) turn so);

@@ -23,15 +23,15 @@ use Rattle.smq_group.specs.declared.changes.Turn.{Turn}
 use Rattle.smq_group.specs.declared.changes.Turn.TheVariants.{Each, Deciders, Newcomer}
 use Rattle.smq_group.specs.declared.member.Member.{Member}
 use Rattle.smq_group.specs.declared.member.Candidate.{Candidate}
-use Rattle.smq_group.specs.declared.member.Said.{Said}
-use Rattle.smq_group.specs.declared.outlook.Group.{Group}
-use Rattle.smq_group.specs.declared.outlook.Outlook.{Outlook}
+use Rattle.smq_group.specs.declared.member.ReceiptFacts.{ReceiptFacts}
+use Rattle.smq_group.specs.declared.group_summary.Group.{Group}
+use Rattle.smq_group.specs.declared.group_summary.GroupSummary.{GroupSummary}
 use Rattle.smq_group.specs.Matching.{GroupedReceipt, matches}
 use Rattle.smq_group.specs.within.KeyLaws.{one_member}
 use Rattle.smq_group.specs.within.Orders.{kept_member_cmp}
 use Rattle.smq_group.specs.within.Outlooks.{one_more, outlook_at}
 use Rattle.smq_group.specs.within.Stored.{AreStored, StandsOnce, by_place, grouping_in, member_of, receipt_value, received, submit_value}
-use Rattle.smq_group.specs.within.Told.{IsKnown, only_left, same_decider, submit_changes, told_submits, turn_between}
+use Rattle.smq_group.specs.within.Told.{IsKnown, sole_submit_left, same_decider, submit_changes, changes_of_submits, turn_between}
 use Rattle.smq_group.specs.within.Walked.{members_in, of_key, only_of, placed}
 use Rattle.smq_group.proofs.Earliest.{own_key}
 use Rattle.smq_group.proofs.Placing.{members_total, not_none, once-insert, once-remove, sorted_none, sorted_one}
@@ -96,35 +96,35 @@ known-by_place (Some p) [] place k e = sorted_none
 known-by_place (Some p) (m ∷ []) place k e = sorted_one m.0
 known-by_place _ _ place k e = absurd cc
 
-left-none : (n : ℕ) (cs : List Change) → (n == 1) ≡ false → only_left n cs ≡ None
+left-none : (n : ℕ) (cs : List Change) → (n == 1) ≡ false → sole_submit_left n cs ≡ None
 left-none n [] t = refl
 left-none n (c ∷ cs) t = ap (λ b. cond b (Some c.place) None) t
 
 -- where a receipt goes it is as before
-pub only-stays : (o : Option Place) (ms : List (Place × Bool)) (n : ℕ) (cs : List Change) → o ≡ only_of ms → n ≡ length ms → option_or o (only_left n cs) ≡ only_of ms
+pub only-stays : (o : Option Place) (ms : List (Place × Bool)) (n : ℕ) (cs : List Change) → o ≡ only_of ms → n ≡ length ms → option_or o (sole_submit_left n cs) ≡ only_of ms
 only-stays (Some p) ms n cs e l = e
 only-stays None ms n cs e l = by (n == 1) refl
   where
-    by : (b : Bool) → (n == 1) ≡ b → only_left n cs ≡ only_of ms
+    by : (b : Bool) → (n == 1) ≡ b → sole_submit_left n cs ≡ only_of ms
     by false t = left-none n cs t ∙ e
     by true t = let one = one-alone ms (sym l ∙ eqb-true n 1 t) in absurd (not_none one.0 (only_of ms) (sym e) one.1)
 
 -- where a submit goes and one is left, that is told first
-pub only-told : (b a : Outlook) (ms : List (Place × Bool)) (rest changes : List Change) → b.matches ≡ a.matches + 1 → a.matches ≡ length ms → changes ≡ told_submits (turn_between b a) a put.Nothing ms ++ rest
-    → only_left a.matches changes ≡ only_of ms
+pub only-told : (b a : GroupSummary) (ms : List (Place × Bool)) (rest changes : List Change) → b.matches ≡ a.matches + 1 → a.matches ≡ length ms → changes ≡ changes_of_submits (turn_between b a) a put.Nothing ms ++ rest
+    → sole_submit_left a.matches changes ≡ only_of ms
 only-told b a ms rest changes less count told = by (a.matches == 1) refl
   where
-    first : (xs : List (Place × Bool)) → length xs ≡ 1 → (a.matches == 1) ≡ true → only_left a.matches (submit_changes a xs ++ rest) ≡ only_of xs
+    first : (xs : List (Place × Bool)) → length xs ≡ 1 → (a.matches == 1) ≡ true → sole_submit_left a.matches (submit_changes a xs ++ rest) ≡ only_of xs
     first (m ∷ []) n t = ap (λ b. cond b (Some m.0) None) t
     first _ n t = absurd (omega (arith, n))
 
-    by : (u : Bool) → (a.matches == 1) ≡ u → only_left a.matches changes ≡ only_of ms
+    by : (u : Bool) → (a.matches == 1) ≡ u → sole_submit_left a.matches changes ≡ only_of ms
     by false t = left-none a.matches changes t ∙ sym (none-alone ms (λ one. eqb-false a.matches 1 t (count ∙ one)))
     by true t =
         let one : a.matches ≡ 1 = eqb-true a.matches 1 t in
         let two : b.matches ≡ 2 = omega (arith, less, one) in
         let turn : turn_between b a ≡ Each = ap (λ c. cond (not c) Each (cond ((a.matches == 1) && not (same_decider b a)) Deciders Newcomer)) (λ i. min (two i) 2 == min (one i) 2) in
-        ap (only_left a.matches) (told ∙ ap (λ (x : Turn). told_submits x a put.Nothing ms ++ rest) turn) ∙ first ms (sym count ∙ one) t
+        ap (sole_submit_left a.matches) (told ∙ ap (λ (x : Turn). changes_of_submits x a put.Nothing ms ++ rest) turn) ∙ first ms (sym count ∙ one) t
 
 -- ---- how many submits a key has
 
@@ -147,7 +147,7 @@ module _ {V W : Type 0} (value : LinkKey → V → W) (key : LinkKey) (test : W 
 submits-listed : (key : LinkKey) (s : List (Member × Bool)) → StandsOnce submit_value s → number_of (same_key key) (from_entries {R = place_cmp} (map (by_place submit_value) s)) ≡ length (members_in key s)
 submits-listed key = number-listed submit_value key (same_key key) (λ k v. refl)
 
-receipts-listed : (key : LinkKey) (r : List (Member × Said)) → StandsOnce receipt_value r → number_of (λ (y : GroupedReceipt). same_key key y.key) (from_entries {R = place_cmp} (map (by_place receipt_value) r)) ≡ length (members_in key r)
+receipts-listed : (key : LinkKey) (r : List (Member × ReceiptFacts)) → StandsOnce receipt_value r → number_of (λ (y : GroupedReceipt). same_key key y.key) (from_entries {R = place_cmp} (map (by_place receipt_value) r)) ≡ length (members_in key r)
 receipts-listed key = number-listed receipt_value key (λ (y : GroupedReceipt). same_key key y.key) (λ k v. refl)
 
 -- a number of members of a key that grows by one is no greater than that of places
@@ -155,12 +155,12 @@ pub roomy : {V : Type 0} (key : LinkKey) (n count : ℕ) (places : List (Member 
     → count ≡ length places → count < 2 ^ 63 → one_more n ≡ n + 1
 roomy key n count places content more shown is small = let fit = members-fit false key places content shown in omega (arith, more, fit, is, small)
 
-module _ (s : List (Member × Bool)) (r : List (Member × Said)) (i : List (Candidate × Bool)) (o : List (LinkKey × Group)) (key : LinkKey) (before : Outlook) (st : AreStored s r i o) (kept : before ≡ outlook_at key o) where
+module _ (s : List (Member × Bool)) (r : List (Member × ReceiptFacts)) (i : List (Candidate × Bool)) (o : List (LinkKey × Group)) (key : LinkKey) (before : GroupSummary) (st : AreStored s r i o) (kept : before ≡ outlook_at key o) where
   known : before.matches ≡ matches (grouping_in s r) key
-  known = ap (λ (x : Outlook). x.matches) (kept ∙ st.indexed.outlook key)
+  known = ap (λ (x : GroupSummary). x.matches) (kept ∙ st.indexed.outlook key)
 
   known_receipts : before.receipts ≡ received (grouping_in s r) key
-  known_receipts = ap (λ (x : Outlook). x.receipts) (kept ∙ st.indexed.outlook key)
+  known_receipts = ap (λ (x : GroupSummary). x.receipts) (kept ∙ st.indexed.outlook key)
 
   -- as many as its outlook says
   pub counted : before.matches ≡ length (members_in key s)
@@ -206,23 +206,23 @@ module _ (s : List (Member × Bool)) (r : List (Member × Said)) (i : List (Cand
       omega (arith, less, listed, same, was)
 
   -- with one receipt more
-  pub received-add : (place : Place) (said : Said) (r' : List (Member × Said)) → get (grouping_in s r).receipts place ≡ None → r' ≡ insert_entry kept_member_cmp r (member_of key place) said → before.receipts + 1 ≡ length (members_in key r')
+  pub received-add : (place : Place) (said : ReceiptFacts) (r' : List (Member × ReceiptFacts)) → get (grouping_in s r).receipts place ≡ None → r' ≡ insert_entry kept_member_cmp r (member_of key place) said → before.receipts + 1 ≡ length (members_in key r')
   received-add place said r' none is =
       let gone = sym (get-from_entries places_total (map (by_place receipt_value) r) place) ∙ none in
       let r1 = insert_entry kept_member_cmp r (member_of key place) said in
       let more = received-more (grouping_in s r) (grouping_in s r1) place (receipt_value key said) key true (has-more s r i i o o key place said none) (own_key key) in
       let listed = receipts-listed key r1 (once-insert receipt_value (member_of key place) said r gone st.receipts_once) in
-      let same = ap (λ (x : List (Member × Said)). length (members_in key x)) is in
+      let same = ap (λ (x : List (Member × ReceiptFacts)). length (members_in key x)) is in
       let was = known_receipts in
       omega (arith, more, listed, same, was)
 
   -- with one receipt less
-  pub received-remove : (place : Place) (said : Said) (r' : List (Member × Said)) → get (grouping_in s r).receipts place ≡ Some (receipt_value key said) → lookup (is_at (kept_member_cmp (member_of key place))) r ≡ Some said
+  pub received-remove : (place : Place) (said : ReceiptFacts) (r' : List (Member × ReceiptFacts)) → get (grouping_in s r).receipts place ≡ Some (receipt_value key said) → lookup (is_at (kept_member_cmp (member_of key place))) r ≡ Some said
       → r' ≡ remove_entry (is_at (kept_member_cmp (member_of key place))) r → before.receipts ≡ length (members_in key r') + 1
   received-remove place said r' there found is =
       let r1 = remove_entry (is_at (kept_member_cmp (member_of key place))) r in
       let less = received-more (grouping_in s r1) (grouping_in s r) place (receipt_value key said) key true (has-less s r i i o o key place said st there found) (own_key key) in
       let listed = receipts-listed key r1 (once-remove receipt_value (is_at (kept_member_cmp (member_of key place))) r st.receipts_once) in
-      let same = ap (λ (x : List (Member × Said)). length (members_in key x)) is in
+      let same = ap (λ (x : List (Member × ReceiptFacts)). length (members_in key x)) is in
       let was = known_receipts in
       omega (arith, less, listed, same, was)

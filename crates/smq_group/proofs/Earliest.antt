@@ -30,7 +30,7 @@ use Rattle.smq_shelf.proofs.Walks.{both, found-passes, less}
 use Rattle.smq_group.specs.Matching as m
 use Rattle.smq_group.specs.Matching.{Grouping, GroupedReceipt, CanDecide, candidates, candidate_cmp, earlier}
 use Rattle.smq_group.specs.declared.member.Candidate.{Candidate}
-use Rattle.smq_group.specs.declared.outlook.Earliest.{Earliest}
+use Rattle.smq_group.specs.declared.group_summary.Earliest.{Earliest}
 use Rattle.smq_group.specs.within.KeyLaws.{one_candidate}
 use Rattle.smq_group.specs.within.Orders.{kept_candidate_cmp}
 use Rattle.smq_group.specs.within.Outlooks.{is_before}

@@ -14,8 +14,8 @@ use Rattle.smq_kit.proofs.PlaceOrders.{places_total}
 use Rattle.smq_kit.proofs.LinkKeyOrders.{link_keys_total}
 use Rattle.smq_shelf.proofs.Walks.{both}
 use Rattle.smq_group.specs.declared.changes.Added.TheVariants as put
-use Rattle.smq_group.specs.declared.outlook.Outlook.{Outlook}
-use Rattle.smq_group.specs.declared.outlook.Earliest.{Earliest}
+use Rattle.smq_group.specs.declared.group_summary.GroupSummary.{GroupSummary}
+use Rattle.smq_group.specs.declared.group_summary.Earliest.{Earliest}
 use Rattle.smq_group.specs.Matching.{Grouping, GroupedReceipt, matches}
 use Rattle.smq_group.specs.Groups.{with_submit, without_submit}
 use Rattle.smq_group.specs.within.Outlooks.{an_outlook, decider_of, is_before}
@@ -31,7 +31,7 @@ flipped : (a b : LinkKey) → same_key a b ≡ false → same_key b a ≡ false
 flipped a b n = (eq_by_cmp_equiv link_keys_total).symm b a ∙ n
 
 -- outlooks of the same deciding receipt have the same decider
-same_deciders : (b a : Outlook) → a.decider ≡ b.decider → same_decider b a ≡ true
+same_deciders : (b a : GroupSummary) → a.decider ≡ b.decider → same_decider b a ≡ true
 same_deciders b a e = ap (λ (d : Option Earliest). same_option (eq_by_cmp place_cmp) (decider_of b) (option_map (λ x. x.place) d)) e ∙ same_self (decider_of b)
 
 -- a place that is emptied, or another

@@ -19,9 +19,9 @@ use Rattle.smq_kit.proofs.HashedKeyOrders.{hashed-same}
 use Rattle.smq_kit.proofs.MapLemmas as maps
 use Rattle.smq_group.specs.declared.member.Member.{Member}
 use Rattle.smq_group.specs.declared.member.Candidate.{Candidate}
-use Rattle.smq_group.specs.declared.member.Said.{Said}
-use Rattle.smq_group.specs.declared.outlook.Group.{Group}
-use Rattle.smq_group.specs.declared.outlook.Outlook.{Outlook}
+use Rattle.smq_group.specs.declared.member.ReceiptFacts.{ReceiptFacts}
+use Rattle.smq_group.specs.declared.group_summary.Group.{Group}
+use Rattle.smq_group.specs.declared.group_summary.GroupSummary.{GroupSummary}
 use Rattle.smq_group.specs.Matching.{Grouping, GroupedReceipt, matches, candidates, earlier}
 use Rattle.smq_group.specs.Groups.{with_submit, without_submit}
 use Rattle.smq_group.specs.within.KeyLaws.{one_member}
@@ -136,7 +136,7 @@ module _ (g h : Grouping) (place : Place) (r : GroupedReceipt) (k : LinkKey) (b 
 
 -- ---- a submit more
 
-module _ (s : List (Member × Bool)) (r : List (Member × Said)) (i : List (Candidate × Bool)) (o o' : List (LinkKey × Group)) (key : LinkKey) (place : Place) where
+module _ (s : List (Member × Bool)) (r : List (Member × ReceiptFacts)) (i : List (Candidate × Bool)) (o o' : List (LinkKey × Group)) (key : LinkKey) (place : Place) where
   abbrev more : List (Member × Bool)
   more = insert_entry kept_member_cmp s (member_of key place) true
 
@@ -144,7 +144,7 @@ module _ (s : List (Member × Bool)) (r : List (Member × Said)) (i : List (Cand
   less = remove_entry (is_at (kept_member_cmp (member_of key place))) s
 
   -- the outlook of a key with so many submits
-  abbrev outlook_of : LinkKey → ℕ → Outlook
+  abbrev outlook_of : LinkKey → ℕ → GroupSummary
   outlook_of k n = record (outlook_in (grouping_in s r) k) { matches = n }
 
   pub counted-more : at submit_value place s ≡ None → (k : LinkKey) (b : Bool) → same_key k key ≡ b → matches (grouping_in more r) k ≡ matches (grouping_in s r) k + cond b 1 0
@@ -164,7 +164,7 @@ module _ (s : List (Member × Bool)) (r : List (Member × Said)) (i : List (Cand
       candidates = st.indexed.candidates;
       outlook = anew (λ (x : Group). x.outlook) (outlook_in (grouping_in s r)) (outlook_in (grouping_in more r)) o o' key st.indexed.outlook
           (λ k t. let n = counted-more none k false t in let same : matches (grouping_in more r) k ≡ matches (grouping_in s r) k = omega (arith, n) in ap (outlook_of k) same)
-          (here ∙ ap (λ (x : Outlook). record x { matches = x.matches + 1 }) (st.indexed.outlook key) ∙ ap (outlook_of key) (sym (counted-more none key true (own_key key))))
+          (here ∙ ap (λ (x : GroupSummary). record x { matches = x.matches + 1 }) (st.indexed.outlook key) ∙ ap (outlook_of key) (sym (counted-more none key true (own_key key))))
           elsewhere;
     };
     only = anew (λ (x : Group). x.only) (λ k. only_of (members_in k s)) (λ k. only_of (members_in k more)) o o' key st.only (λ k t. ap (λ (ms : List (Place × Bool)). only_of ms) (members-put k (member_of key place) t true s)) alone elsewhere;
@@ -194,7 +194,7 @@ module _ (s : List (Member × Bool)) (r : List (Member × Said)) (i : List (Cand
       candidates = st.indexed.candidates;
       outlook = anew (λ (x : Group). x.outlook) (outlook_in (grouping_in s r)) (outlook_in (grouping_in less r)) o o' key st.indexed.outlook
           (λ k t. let n = counted-less there st k false t in let same : matches (grouping_in less r) k ≡ matches (grouping_in s r) k = omega (arith, n) in ap (outlook_of k) same)
-          (here ∙ ap (λ (x : Outlook). record x { matches = x.matches - 1 }) (st.indexed.outlook key) ∙ ap (outlook_of key) one_less)
+          (here ∙ ap (λ (x : GroupSummary). record x { matches = x.matches - 1 }) (st.indexed.outlook key) ∙ ap (outlook_of key) one_less)
           elsewhere;
     };
     only = anew (λ (x : Group). x.only) (λ k. only_of (members_in k s)) (λ k. only_of (members_in k less)) o o' key st.only (λ k t. ap (λ (ms : List (Place × Bool)). only_of ms) (members-out k (member_of key place) t s)) alone elsewhere;
@@ -207,7 +207,7 @@ pub from-cons : {X : Type 0} (e : Place × X) (es : List (Place × X)) → from_
 from-cons e es = same_map places_total places_exact _ _ (λ q.
     get-from_entries places_total (e ∷ es) q ∙ ap (cond (eq_by_cmp place_cmp q e.0) (Some e.1)) (sym (get-from_entries places_total es q)) ∙ sym (get-insert places_total (from_entries es) e.0 e.1 q))
 
-module _ (s : List (Member × Bool)) (r : List (Member × Said)) (key : LinkKey) (place : Place) where
+module _ (s : List (Member × Bool)) (r : List (Member × ReceiptFacts)) (key : LinkKey) (place : Place) where
   pub absent : get (grouping_in s r).submits place ≡ None → at submit_value place s ≡ None
   absent none = sym (get-from_entries places_total (map (by_place submit_value) s) place) ∙ none
 

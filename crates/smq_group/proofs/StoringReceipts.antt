@@ -17,16 +17,16 @@ use Rattle.smq_kit.proofs.Comparisons.{is_equal}
 use Rattle.smq_shelf.proofs.Changes.{lookup-insert_entry, lookup-insert_other, lookup-removed, lookup-remove_other}
 use Rattle.smq_group.specs.declared.member.Member.{Member}
 use Rattle.smq_group.specs.declared.member.Candidate.{Candidate}
-use Rattle.smq_group.specs.declared.member.Said.{Said}
-use Rattle.smq_group.specs.declared.outlook.Group.{Group}
-use Rattle.smq_group.specs.declared.outlook.More.TheVariants as newcomer
-use Rattle.smq_group.specs.declared.outlook.Outlook.{Outlook}
-use Rattle.smq_group.specs.declared.outlook.Earliest.{Earliest}
+use Rattle.smq_group.specs.declared.member.ReceiptFacts.{ReceiptFacts}
+use Rattle.smq_group.specs.declared.group_summary.Group.{Group}
+use Rattle.smq_group.specs.declared.group_summary.More.TheVariants as newcomer
+use Rattle.smq_group.specs.declared.group_summary.GroupSummary.{GroupSummary}
+use Rattle.smq_group.specs.declared.group_summary.Earliest.{Earliest}
 use Rattle.smq_group.specs.Matching.{Grouping, GroupedReceipt, matches}
 use Rattle.smq_group.specs.Groups.{with_receipt, without_receipt}
 use Rattle.smq_group.specs.within.KeyLaws.{one_candidate}
 use Rattle.smq_group.specs.within.Orders.{kept_member_cmp, kept_candidate_cmp}
-use Rattle.smq_group.specs.within.Outlooks.{an_outlook, group_at, group_with, is_before, later_of, one_more, only_at, outlook_at, outlook_with}
+use Rattle.smq_group.specs.within.Outlooks.{an_outlook, group_at, group_with, is_before, later_candidate, one_more, only_at, outlook_at, outlook_with}
 use Rattle.smq_group.specs.within.Stored.{grouping_in, receipt_value, earliest_at, gone_of, outlook_in, received, AreStored, by_place, member_of, waits, with_waiting, without_waiting}
 use Rattle.smq_group.specs.within.Walked.{candidate_at, first_candidate_after, members_in, only_of}
 use Rattle.smq_group.proofs.CandidateWalks.{candidates_total}
@@ -35,20 +35,20 @@ use Rattle.smq_group.proofs.Waiting.{decided-own, gone-is, gone-waited, is_the, 
 use Rattle.smq_group.proofs.Placing.{at, found, one_of, own_place, same_place, with-member, without-member, once-insert, once-remove}
 use Rattle.smq_group.proofs.Storing.{anew, received-more}
 
-abbrev own : Place → Said → Earliest
+abbrev own : Place → ReceiptFacts → Earliest
 own place said = earliest_at (said.moment, place)
 
-module _ (s : List (Member × Bool)) (r : List (Member × Said)) (i i' : List (Candidate × Bool)) (o o' : List (LinkKey × Group)) (key : LinkKey) (place : Place) (said : Said) where
+module _ (s : List (Member × Bool)) (r : List (Member × ReceiptFacts)) (i i' : List (Candidate × Bool)) (o o' : List (LinkKey × Group)) (key : LinkKey) (place : Place) (said : ReceiptFacts) where
   abbrev member : Member
   member = member_of key place
 
   abbrev g : Grouping
   g = grouping_in s r
 
-  abbrev more : List (Member × Said)
+  abbrev more : List (Member × ReceiptFacts)
   more = insert_entry kept_member_cmp r member said
 
-  abbrev less : List (Member × Said)
+  abbrev less : List (Member × ReceiptFacts)
   less = remove_entry (is_at (kept_member_cmp member)) r
 
   abbrev value : GroupedReceipt
@@ -85,7 +85,7 @@ module _ (s : List (Member × Bool)) (r : List (Member × Said)) (i i' : List (C
 
   -- with one receipt more, where its key's outlook has it and the others stay
   pub receipt-stored : get g.receipts place ≡ None → AreStored s r i o
-      → i' ≡ with_waiting key (later_of (outlook_at key o).decider (own place said) said.decides) true i
+      → i' ≡ with_waiting key (later_candidate (outlook_at key o).decider (own place said) said.decides) true i
       → one_more (outlook_at key o).receipts ≡ (outlook_at key o).receipts + 1
       → group_at key o' ≡ group_with (group_at key o) (newcomer.Receipt (own place said) said.decides)
       → ((other : LinkKey) → is_at (hashed_key_cmp other) key ≡ false → group_at other o' ≡ group_at other o)
@@ -95,12 +95,12 @@ module _ (s : List (Member × Bool)) (r : List (Member × Said)) (i i' : List (C
     receipts_once = once-insert receipt_value member said r (not_there none) st.receipts_once;
     indexed = record {
       candidates = λ c.
-          indexed_more w (put ∙ ap (λ (x : Outlook). with_waiting key (later_of x.decider (own place said) said.decides) true i) (st.indexed.outlook key)) c (is_the key w c) refl
+          indexed_more w (put ∙ ap (λ (x : GroupSummary). with_waiting key (later_candidate x.decider (own place said) said.decides) true i) (st.indexed.outlook key)) c (is_the key w c) refl
           ∙ ap (cond (is_the key w c) (Some true)) (st.indexed.candidates c) ∙ joined (is_the key w c) (waits g c)
           ∙ ap (λ b. cond b (Some true) None) (waits-more g (grouping_in s more) place value (has-more none) c);
       outlook = anew (λ (x : Group). x.outlook) (outlook_in g) (outlook_in (grouping_in s more)) o o' key st.indexed.outlook
           (λ k t. λ j. an_outlook (matches g k) (elsewhere_more none k t j) (decider-more g (grouping_in s more) place value (has-more none) k false said.decides t refl j))
-          (ap (λ (x : Group). x.outlook) here ∙ ap (λ (x : Outlook). outlook_with x (earliest_at (said.moment, place)) said.decides) (st.indexed.outlook key)
+          (ap (λ (x : Group). x.outlook) here ∙ ap (λ (x : GroupSummary). outlook_with x (earliest_at (said.moment, place)) said.decides) (st.indexed.outlook key)
           ∙ sym (λ j. an_outlook (matches g key) ((received-more g (grouping_in s more) place value key true (has-more none) (own_key key) ∙ sym roomy) j)
           (decider-more g (grouping_in s more) place value (has-more none) key true said.decides (own_key key) refl j)))
           elsewhere;
@@ -109,23 +109,23 @@ module _ (s : List (Member × Bool)) (r : List (Member × Said)) (i i' : List (C
   }
     where
       roomy : one_more (received g key) ≡ received g key + 1
-      roomy = subst (λ (x : Outlook). one_more x.receipts ≡ x.receipts + 1) (st.indexed.outlook key) room
+      roomy = subst (λ (x : GroupSummary). one_more x.receipts ≡ x.receipts + 1) (st.indexed.outlook key) room
 
       elsewhere_more : get g.receipts place ≡ None → (k : LinkKey) → same_key k key ≡ false → received (grouping_in s more) k ≡ received g k
       elsewhere_more none k t = let n = received-more g (grouping_in s more) place value k false (has-more none) t in omega (arith, n)
 
       w : Option Earliest
-      w = later_of (decider_in g key) (own place said) said.decides
+      w = later_candidate (decider_in g key) (own place said) said.decides
 
   -- ---- one less
 
   -- a receipt that is there is found by its key and place
   pub receipt-is_held : option_map (λ (y : GroupedReceipt). y.key) (get g.receipts place) ≡ Some key
-      → (v : Said) × (lookup (is_at (kept_member_cmp member)) r ≡ Some v) × (get g.receipts place ≡ Some (receipt_value key v))
+      → (v : ReceiptFacts) × (lookup (is_at (kept_member_cmp member)) r ≡ Some v) × (get g.receipts place ≡ Some (receipt_value key v))
   receipt-is_held k = by (get g.receipts place) refl k
     where
       by : (y : Option GroupedReceipt) → get g.receipts place ≡ y → option_map (λ (z : GroupedReceipt). z.key) y ≡ Some key
-          → (v : Said) × (lookup (is_at (kept_member_cmp member)) r ≡ Some v) × (get g.receipts place ≡ Some (receipt_value key v))
+          → (v : ReceiptFacts) × (lookup (is_at (kept_member_cmp member)) r ≡ Some v) × (get g.receipts place ≡ Some (receipt_value key v))
       by None e n = absurd cc
       by (Some y) e n =
           let f = found receipt_value place y r (sym (get-from_entries places_total (map (by_place receipt_value) r) place) ∙ e) in
@@ -136,8 +136,8 @@ module _ (s : List (Member × Bool)) (r : List (Member × Said)) (i i' : List (C
             e ∙ ap Some (sym f.is) ∙ ap (λ (k : LinkKey). Some (receipt_value k f.v)) at_key,
           )
 
-  pub receipt-held : (x : Said) → option_map (λ (y : GroupedReceipt). y.key) (get g.receipts place) ≡ Some key → lookup (is_at (kept_member_cmp member)) r ≡ Some x → get g.receipts place ≡ Some (receipt_value key x)
-  receipt-held x k l = let h = receipt-is_held k in h.2 ∙ ap (λ (v : Said). Some (receipt_value key v)) (one_of h.0 x (lookup (is_at (kept_member_cmp member)) r) h.1 l)
+  pub receipt-held : (x : ReceiptFacts) → option_map (λ (y : GroupedReceipt). y.key) (get g.receipts place) ≡ Some key → lookup (is_at (kept_member_cmp member)) r ≡ Some x → get g.receipts place ≡ Some (receipt_value key x)
+  receipt-held x k l = let h = receipt-is_held k in h.2 ∙ ap (λ (v : ReceiptFacts). Some (receipt_value key v)) (one_of h.0 x (lookup (is_at (kept_member_cmp member)) r) h.1 l)
 
   -- the grouping with one receipt less
   pub receipt-less : AreStored s r i o → lookup (is_at (kept_member_cmp member)) r ≡ Some said → grouping_in s less ≡ without_receipt g place
@@ -180,14 +180,14 @@ module _ (s : List (Member × Bool)) (r : List (Member × Said)) (i i' : List (C
     pub follows : did_decide ≡ true → next ≡ first_candidate_after key (own place said) i
     pub ordered : did_decide ≡ true → IsStrictlySortedBy kept_candidate_cmp (keys_of i)
 
-  pub has-next : (next : Option Earliest) (before : Outlook) → before ≡ outlook_at key o
+  pub has-next : (next : Option Earliest) (before : GroupSummary) → before ≡ outlook_at key o
       → ((said.decides && is_decided before.decider place) ≡ false → next ≡ before.decider)
       → ((said.decides && is_decided before.decider place) ≡ true → next ≡ first_candidate_after key (own place said) i)
       → ((said.decides && is_decided before.decider place) ≡ true → IsStrictlySortedBy kept_candidate_cmp (keys_of i)) → HasNext next
   has-next next before is stays follows ordered =
-      let decides = ap (λ (x : Outlook). said.decides && is_decided x.decider place) is in
+      let decides = ap (λ (x : GroupSummary). said.decides && is_decided x.decider place) is in
       record {
-        stays = λ e. stays (decides ∙ e) ∙ ap (λ (x : Outlook). x.decider) is;
+        stays = λ e. stays (decides ∙ e) ∙ ap (λ (x : GroupSummary). x.decider) is;
         follows = λ e. follows (decides ∙ e);
         ordered = λ e. ordered (decides ∙ e);
       }
@@ -197,7 +197,7 @@ module _ (s : List (Member × Bool)) (r : List (Member × Said)) (i i' : List (C
     h = grouping_in s less
 
     decided_before : did_decide ≡ (said.decides && is_decided (decider_in g key) place)
-    decided_before = ap (λ (x : Outlook). said.decides && is_decided x.decider place) (st.indexed.outlook key)
+    decided_before = ap (λ (x : GroupSummary). said.decides && is_decided x.decider place) (st.indexed.outlook key)
 
     new : (b : Bool) → did_decide ≡ b → decider_in h key ≡ next
     new true w =
@@ -205,13 +205,13 @@ module _ (s : List (Member × Bool)) (r : List (Member × Said)) (i i' : List (C
         decider-next h g place value (has-less st there l) i (n.ordered w)
         (λ c t. st.indexed.candidates c ∙ ap (λ b. cond b (Some true) None) (waits-decided h g place value (has-less st there l) was c t))
         was ∙ sym (n.follows w)
-    new false w = decider-stays h g place value (has-less st there l) (sym decided_before ∙ w) ∙ sym (ap (λ (x : Outlook). x.decider) (st.indexed.outlook key)) ∙ sym (n.stays w)
+    new false w = decider-stays h g place value (has-less st there l) (sym decided_before ∙ w) ∙ sym (ap (λ (x : GroupSummary). x.decider) (st.indexed.outlook key)) ∙ sym (n.stays w)
 
     abbrev w : Option Earliest
     w = gone_of said.decides (is_decided (outlook_at key o).decider place) next (own place said)
 
     -- what goes, by the grouping
-    goes : w ≡ later_of (decider_in h key) (own place said) said.decides
+    goes : w ≡ later_candidate (decider_in h key) (own place said) said.decides
     goes =
         (λ j. gone_of said.decides (is_decided (st.indexed.outlook key j).decider place) (sym (new did_decide refl) j) (own place said))
         ∙ gone-is h g place value (has-less st there l) said.decides (decider_in h key) (is_before (own place said) (decider_in h key)) refl refl refl
@@ -238,7 +238,7 @@ module _ (s : List (Member × Bool)) (r : List (Member × Said)) (i i' : List (C
             ∙ ap (λ b. cond b (Some true) None) (waits-less h g place value (has-less st there l) c);
         outlook = anew (λ (x : Group). x.outlook) (outlook_in g) (outlook_in h) o o' key st.indexed.outlook
             (λ k t. λ j. an_outlook (matches g k) (elsewhere_less k t j) (sym (decider-more h g place value (has-less st there l) k false said.decides t refl) j))
-            (here ∙ ap (λ (x : Outlook). an_outlook x.matches (x.receipts - 1) next) (st.indexed.outlook key) ∙ sym (λ j. an_outlook (matches g key) (one_less j) (new did_decide refl j)))
+            (here ∙ ap (λ (x : GroupSummary). an_outlook x.matches (x.receipts - 1) next) (st.indexed.outlook key) ∙ sym (λ j. an_outlook (matches g key) (one_less j) (new did_decide refl j)))
             elsewhere;
       };
       only = anew (λ (x : Group). x.only) (λ k. only_of (members_in k s)) (λ k. only_of (members_in k s)) o o' key st.only (λ k t. refl) alone elsewhere;

@@ -14,7 +14,7 @@ use Rattle.smq_group.specs.declared.change.Standing.{Standing}
 use Rattle.smq_group.specs.declared.change.Standing.TheVariants.{Single, Shared, Stray, Deciding, Extra, Noted}
 use Rattle.smq_group.specs.declared.changes.Turn.{Turn}
 use Rattle.smq_group.specs.declared.changes.Turn.TheVariants.{Each, Deciders, Newcomer}
-use Rattle.smq_group.specs.declared.outlook.Outlook.{Outlook}
+use Rattle.smq_group.specs.declared.group_summary.GroupSummary.{GroupSummary}
 use Rattle.smq_group.specs.Changes.{told_of_submit, told_of_receipt, same_standing}
 use Rattle.smq_group.specs.Matching as m
 use Rattle.smq_group.specs.Matching.{Grouping, GroupedReceipt, candidates, decider, earlier, is_decider, matches, submit_standing, receipt_standing}
@@ -97,14 +97,14 @@ rank _ = 1
 unlike : (s t : Standing) → (rank s == rank t) ≡ false → same_standing s t ≡ false
 unlike s t n = false_from_ne_true (same_standing s t) (λ h. false≢true (sym n ∙ eq-eqb (rank s) (rank t) (ap rank (same-standing-is s t h))))
 
-rank-submit : (o : Outlook) → 1 ≤ o.matches → rank (submit_standing_of o) ≡ min o.matches 2
+rank-submit : (o : GroupSummary) → 1 ≤ o.matches → rank (submit_standing_of o) ≡ min o.matches 2
 rank-submit o h = by (o.matches == 1) refl
   where
     by : (u : Bool) → (o.matches == 1) ≡ u → rank (cond u (Single (decider_of o)) Shared) ≡ min o.matches 2
     by true e = let n = eqb-true o.matches 1 e in omega (arith, n)
     by false e = let n : o.matches ≢ 1 = eqb-false o.matches 1 e in omega (arith, n, h)
 
-rank-receipt : (o : Outlook) (q : Place) (can : Bool) → rank (receipt_standing_of o q can) ≡ min o.matches 2
+rank-receipt : (o : GroupSummary) (q : Place) (can : Bool) → rank (receipt_standing_of o q can) ≡ min o.matches 2
 rank-receipt o q can = by (o.matches == 0) (o.matches == 1) (is_at_place (decider_of o) q) can refl refl
   where
     by : (z u d c : Bool) → (o.matches == 0) ≡ z → (o.matches == 1) ≡ u → rank (by_tests z u d c) ≡ min o.matches 2
@@ -125,7 +125,7 @@ turn-tells true true = (refl, refl)
 turn-tells true false = (refl, refl)
 turn-tells false w = refl
 
-module _ (b a : Outlook) where
+module _ (b a : GroupSummary) where
   abbrev sizes : Bool
   sizes = min b.matches 2 == min a.matches 2
 

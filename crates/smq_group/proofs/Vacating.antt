@@ -12,8 +12,8 @@ use Rattle.smq_kit.specs.declared.link_key.LinkKey.{LinkKey}
 use Rattle.smq_kit.specs.LinkKeys.{same_key}
 use Rattle.smq_group.specs.declared.member.Member.{Member}
 use Rattle.smq_group.specs.declared.member.Candidate.{Candidate}
-use Rattle.smq_group.specs.declared.member.Said.{Said}
-use Rattle.smq_group.specs.declared.outlook.Earliest.{Earliest}
+use Rattle.smq_group.specs.declared.member.ReceiptFacts.{ReceiptFacts}
+use Rattle.smq_group.specs.declared.group_summary.Earliest.{Earliest}
 use Rattle.smq_group.specs.within.KeyLaws.{one_member, one_candidate}
 use Rattle.smq_group.specs.within.Orders.{kept_member_cmp, kept_candidate_cmp}
 use Rattle.smq_group.specs.within.Stored.{member_of, with_waiting}
@@ -80,7 +80,7 @@ module _ {K V : Type 0} (key_of : K → LinkKey) where
   keys-counted p (e ∷ es) = keys_at p e.0 e.1 es (keys-counted p es)
 
 -- the vacant places of a key in three maps
-pub counted-vacant : (k : LinkKey) (s : List (Member × Option Bool)) (r : List (Member × Option Said)) (i : List (Candidate × Option Bool))
+pub counted-vacant : (k : LinkKey) (s : List (Member × Option Bool)) (r : List (Member × Option ReceiptFacts)) (i : List (Candidate × Option Bool))
     → count_by (same_key k) (vacant_keys member_key s ++ (vacant_keys member_key r ++ vacant_keys candidate_key i))
     ≡ vacant_of member_key k s + (vacant_of member_key k r + vacant_of candidate_key k i)
 counted-vacant k s r i =

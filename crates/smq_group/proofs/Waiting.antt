@@ -18,10 +18,10 @@ use Rattle.smq_shelf.proofs.Walks.{and_false, both}
 use Rattle.smq_group.specs.Matching as m
 use Rattle.smq_group.specs.Matching.{Grouping, GroupedReceipt, CanDecide, candidates, earlier}
 use Rattle.smq_group.specs.declared.member.Candidate.{Candidate}
-use Rattle.smq_group.specs.declared.outlook.Earliest.{Earliest}
+use Rattle.smq_group.specs.declared.group_summary.Earliest.{Earliest}
 use Rattle.smq_group.specs.within.KeyLaws.{one_candidate}
 use Rattle.smq_group.specs.within.Orders.{kept_candidate_cmp}
-use Rattle.smq_group.specs.within.Outlooks.{is_before, later_of}
+use Rattle.smq_group.specs.within.Outlooks.{is_before, later_candidate}
 use Rattle.smq_group.specs.within.Stored.{earliest_at, gone_of, is_candidate, waits}
 use Rattle.smq_group.specs.within.Walked.{candidate_at}
 use Rattle.smq_group.proofs.CandidateWalks.{candidates_total}
@@ -144,9 +144,9 @@ module _ (g h : Grouping) (place : Place) (r : GroupedReceipt) (more : HasMore g
 
   -- the later of it and the one that decided
   abbrev pub put : Option Earliest
-  put = later_of (decider_in g r.key) new_one r.decides
+  put = later_candidate (decider_in g r.key) new_one r.decides
 
-  put-is : (D : Option Earliest) (d : Bool) → later_of D new_one d ≡ put_by d D (is_before new_one D)
+  put-is : (D : Option Earliest) (d : Bool) → later_candidate D new_one d ≡ put_by d D (is_before new_one D)
   put-is None d = refl
   put-is (Some f) d = refl
 
@@ -179,12 +179,12 @@ module _ (g h : Grouping) (place : Place) (r : GroupedReceipt) (more : HasMore g
 
   -- what goes once the one more is taken out, by what decides then
   pub gone-is : (d : Bool) (D : Option Earliest) (b : Bool) → r.decides ≡ d → decider_in g r.key ≡ D → is_before new_one D ≡ b
-      → gone_of d (is_decided (decider_in h r.key) place) D new_one ≡ later_of D new_one d
+      → gone_of d (is_decided (decider_in h r.key) place) D new_one ≡ later_candidate D new_one d
   gone-is false D b e eg eb = refl
   gone-is true D true e eg eb =
       ap (λ t. cond t D (Some new_one)) (ap (λ (o : Option Earliest). is_decided o place) (decides-now D true e eg eb) ∙ own_place place place refl) ∙ by D eb
     where
-      by : (D : Option Earliest) → is_before new_one D ≡ true → D ≡ later_of D new_one true
+      by : (D : Option Earliest) → is_before new_one D ≡ true → D ≡ later_candidate D new_one true
       by None t = refl
       by (Some f) t = ap (λ b. Some (cond b f new_one)) (sym t)
   gone-is true None false e eg eb = absurd (false≢true (sym eb))
@@ -199,7 +199,7 @@ module _ (g h : Grouping) (place : Place) (r : GroupedReceipt) (more : HasMore g
       sym (waits-more (candidate_at r.key e))
       ∙ ap (λ b. b || waits g (candidate_at r.key e)) (ap (λ (w : Option Earliest). is_the r.key w (candidate_at r.key e)) is ∙ is-the r.key e (candidate_at r.key e) refl)
 
-  not-waiting : (D : Option Earliest) (d : Bool) (e : Earliest) → decider_in g r.key ≡ D → later_of D new_one d ≡ Some e → waits g (candidate_at r.key e) ≡ false
+  not-waiting : (D : Option Earliest) (d : Bool) (e : Earliest) → decider_in g r.key ≡ D → later_candidate D new_one d ≡ Some e → waits g (candidate_at r.key e) ≡ false
   not-waiting D false e eg is = absurd cc
   not-waiting None true e eg is = absurd cc
   not-waiting (Some f) true e eg is = by (is_before new_one (Some f)) is

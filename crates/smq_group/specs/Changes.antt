@@ -10,7 +10,7 @@ use Rattle.smq_group.specs.declared.change.Change.{Change}
 use Rattle.smq_group.specs.declared.change.Standing as told
 use Rattle.smq_group.specs.declared.change.Standing.TheVariants as t
 use Rattle.smq_group.specs.Matching as m
-use Rattle.smq_group.specs.Matching.{Grouping, GroupedReceipt, submit_standing, receipt_standing}
+use Rattle.smq_group.specs.Matching.{Grouping, submit_standing, receipt_standing}
 
 -- how a standing of a submit is told
 abbrev pub told_of_submit : m.Standing → told.Standing

@@ -8,8 +8,8 @@ ghost use Rattle.smq_shelf.specs.Walks.{Stays, stands_after};
 ghost use Rattle.smq_group.specs.within.Orders.{kept_candidate_cmp};
 ghost use Rattle.smq_group.specs.within.Walked.{candidate_key, first_candidate_after, of_candidate, vacant_of};
 
+use crate::group_summary::Earliest;
 use crate::member::Candidate;
-use crate::outlook::Earliest;
 use crate::walks::is_one_key;
 use smq_kit::HashedKey;
 use smq_shelf::{Kept, ShelfKey};

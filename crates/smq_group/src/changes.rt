@@ -9,11 +9,11 @@ ghost use Rattle.smq_kit.specs.declared.link_key.LinkKey.{LinkKey};
 ghost use Rattle.smq_shelf.specs.Walks.{Stays};
 ghost use Rattle.smq_group.specs.declared.changes.Added.TheVariants.{Nothing};
 ghost use Rattle.smq_group.specs.within.Outlooks.{decider_of, group_at};
-ghost use Rattle.smq_group.specs.within.Told.{IsKnown, ReceiptsByPlace, SubmitsByPlace, change_at, decider_changes, kept_group, newcomer_receipt, newcomer_submit, only_left, receipt_changes, rival, same_decider, submit_changes, told_receipts, told_submits, turn_between};
+ghost use Rattle.smq_group.specs.within.Told.{IsKnown, ReceiptsByPlace, SubmitsByPlace, change_at, decider_changes, kept_group, newcomer_receipt, newcomer_submit, sole_submit_left, receipt_changes, rival, same_decider, submit_changes, told_receipts, changes_of_submits, turn_between};
 ghost use Rattle.smq_group.specs.within.Walked.{member_key, members_in, vacant_of};
 
-use crate::member::{Member, Said};
-use crate::outlook::{Group, Outlook, keep_outlook};
+use crate::group_summary::{Group, GroupSummary, keep_outlook};
+use crate::member::{Member, ReceiptFacts};
 use crate::walks::members_of;
 use crate::{Change, Standing};
 use smq_kit::{HashedKey, Place};
@@ -41,13 +41,13 @@ pub(crate) enum Turn {
 
 /// Tells the changes. The members are those after the change, and `only` is the place of the key's only submit, where that is
 /// known.
-pub(crate) fn tell(
+pub(crate) fn standing_changes(
     alloc: Global,
     submits: &mut Kept<Member, bool>,
-    receipts: &mut Kept<Member, Said>,
+    receipts: &mut Kept<Member, ReceiptFacts>,
     key: &HashedKey,
-    before: &Outlook,
-    after: &Outlook,
+    before: &GroupSummary,
+    after: &GroupSummary,
     only: Option<Place>,
     added: Added,
 ) -> Result<Vec<Change>, AllocError>
@@ -57,7 +57,7 @@ pub(crate) fn tell(
     ensures submits { Stays submits.old submits.new }
     ensures receipts { Stays receipts.old receipts.new }
     ensures told { IfOk result (λ changes. changes.items
-        ≡ told_submits (turn_between before.now after.now) after.now added
+        ≡ changes_of_submits (turn_between before.now after.now) after.now added
         (members_in key.now submits.old.content)
         ++ told_receipts (turn_between before.now after.now) before.now after.now added
         (members_in key.now receipts.old.content)) }
@@ -88,14 +88,14 @@ pub(crate) fn tell(
 }
 
 /// Tells the changes where a member was taken out, and keeps the outlook that its key has now. An error changes nothing.
-pub(crate) fn tell_and_keep(
+pub(crate) fn standing_changes_and_summary(
     alloc: Global,
     submits: &mut Kept<Member, bool>,
-    receipts: &mut Kept<Member, Said>,
+    receipts: &mut Kept<Member, ReceiptFacts>,
     outlooks: &mut Kept<HashedKey, Group>,
     key: &HashedKey,
-    before: &Outlook,
-    after: &Outlook,
+    before: &GroupSummary,
+    after: &GroupSummary,
     only: Option<Place>,
 ) -> Result<Vec<Change>, AllocError>
     requires counted { after.now.matches ≡ length (members_in key.now submits.old.content) }
@@ -108,7 +108,7 @@ pub(crate) fn tell_and_keep(
     ensures elsewhere { OnOk result ((other : LinkKey) → is_at (hashed_key_cmp other) key.now ≡ false
         → group_at other outlooks.new.content ≡ group_at other outlooks.old.content) }
     ensures told { IfOk result (λ changes. changes.items
-        ≡ told_submits (turn_between before.now after.now) after.now Nothing
+        ≡ changes_of_submits (turn_between before.now after.now) after.now Nothing
         (members_in key.now submits.old.content)
         ++ told_receipts (turn_between before.now after.now) before.now after.now Nothing
         (members_in key.now receipts.old.content)) }
@@ -126,7 +126,7 @@ pub(crate) fn tell_and_keep(
     ensures settled { outlooks.new.settled ≡ outlooks.old.settled }
     ensures counted { outlooks.old.touches ≤ outlooks.new.touches }
 {
-    let changes = tell(
+    let changes = standing_changes(
         alloc,
         submits,
         receipts,
@@ -138,7 +138,7 @@ pub(crate) fn tell_and_keep(
     )?;
     let known = match only {
         Some(place) => Some(place),
-        None => only_left(after.matches, &changes),
+        None => sole_submit_left(after.matches, &changes),
     };
     keep_outlook(
         outlooks,
@@ -152,7 +152,7 @@ pub(crate) fn tell_and_keep(
 }
 
 // Which members a change of outlook concerns.
-fn turn_of(before: &Outlook, after: &Outlook) -> Turn
+fn turn_of(before: &GroupSummary, after: &GroupSummary) -> Turn
     ensures { result ≡ turn_between before.now after.now }
 {
     if before.matches.min(2) != after.matches.min(2) {
@@ -164,7 +164,7 @@ fn turn_of(before: &Outlook, after: &Outlook) -> Turn
     Turn::Newcomer
 }
 
-fn is_same_decider(before: &Outlook, after: &Outlook) -> bool
+fn is_same_decider(before: &GroupSummary, after: &GroupSummary) -> bool
     ensures { result ≡ same_decider before.now after.now }
 {
     match &after.decider {
@@ -179,7 +179,7 @@ fn tell_submits(
     alloc: Global,
     submits: &mut Kept<Member, bool>,
     key: &HashedKey,
-    after: &Outlook,
+    after: &GroupSummary,
     only: Option<Place>,
     turn: Turn,
     added: Added,
@@ -188,12 +188,12 @@ fn tell_submits(
     requires only { IsKnown only (members_in key.now submits.old.content) }
     ensures submits { Stays submits.old submits.new }
     ensures told { OnOk result (changes.new.items ≡ changes.old.items
-        ++ told_submits turn after.now added (members_in key.now submits.old.content)) }
+        ++ changes_of_submits turn after.now added (members_in key.now submits.old.content)) }
     ensures by_place { OnOk result
         (SubmitsByPlace turn (members_in key.now submits.old.content)) }
     ensures touches { OnOk result (submits.new.touches ≤ submits.old.touches + 1
         + vacant_of member_key key.now submits.old.places
-        + length (told_submits turn after.now added (members_in key.now submits.old.content))) }
+        + length (changes_of_submits turn after.now added (members_in key.now submits.old.content))) }
 {
     match turn {
         Turn::Each | Turn::Deciders => {
@@ -210,7 +210,7 @@ fn tell_each_submit(
     alloc: Global,
     submits: &mut Kept<Member, bool>,
     key: &HashedKey,
-    after: &Outlook,
+    after: &GroupSummary,
     only: Option<Place>,
 ) -> Result<(), AllocError>
     requires counted { after.now.matches ≡ length (members_in key.now submits.old.content) }
@@ -237,10 +237,10 @@ fn tell_each_submit(
 fn tell_receipts(
     changes: &mut Vec<Change>,
     alloc: Global,
-    receipts: &mut Kept<Member, Said>,
+    receipts: &mut Kept<Member, ReceiptFacts>,
     key: &HashedKey,
-    before: &Outlook,
-    after: &Outlook,
+    before: &GroupSummary,
+    after: &GroupSummary,
     turn: Turn,
     added: Added,
 ) -> Result<(), AllocError>
@@ -271,7 +271,7 @@ fn tell_receipts(
 fn push_submits(
     changes: &mut Vec<Change>,
     members: &[(Place, bool)],
-    outlook: &Outlook,
+    outlook: &GroupSummary,
 ) -> Result<(), AllocError>
     ensures { OnOk result (changes.new.items
         ≡ changes.old.items ++ submit_changes outlook.now members.now) }
@@ -285,8 +285,8 @@ fn push_submits(
 // Each receipt, with its standing.
 fn push_receipts(
     changes: &mut Vec<Change>,
-    members: &[(Place, Said)],
-    outlook: &Outlook,
+    members: &[(Place, ReceiptFacts)],
+    outlook: &GroupSummary,
 ) -> Result<(), AllocError>
     ensures { OnOk result (changes.new.items
         ≡ changes.old.items ++ receipt_changes outlook.now members.now) }
@@ -304,7 +304,7 @@ fn push_receipts(
 // The submit that was put in, if one was.
 fn push_new_submit(
     changes: &mut Vec<Change>,
-    outlook: &Outlook,
+    outlook: &GroupSummary,
     added: Added,
 ) -> Result<(), AllocError>
     ensures { OnOk result (changes.new.items
@@ -319,7 +319,7 @@ fn push_new_submit(
 // The receipt that was put in, if one was.
 fn push_new_receipt(
     changes: &mut Vec<Change>,
-    outlook: &Outlook,
+    outlook: &GroupSummary,
     added: Added,
 ) -> Result<(), AllocError>
     ensures { OnOk result (changes.new.items
@@ -332,7 +332,7 @@ fn push_new_receipt(
 }
 
 // The receipt that decided, where it is there still.
-fn rival_of(before: &Outlook, added: Added) -> Option<Place>
+fn rival_of(before: &GroupSummary, added: Added) -> Option<Place>
     ensures { result ≡ rival before.now added }
 {
     match added {
@@ -369,8 +369,8 @@ fn push_deciders(
 }
 
 // The place of the submit that is left, where just one is: that of the first change.
-fn only_left(matches: u64, changes: &[Change]) -> Option<Place>
-    ensures { result ≡ only_left matches changes.now }
+fn sole_submit_left(matches: u64, changes: &[Change]) -> Option<Place>
+    ensures { result ≡ sole_submit_left matches changes.now }
 {
     match changes.first() {
         Some(change) if matches == 1 => Some(change.place),

@@ -8,12 +8,12 @@ ghost use Rattle.smq_group.specs.Links.{receipts_on, submits_on};
 ghost use Rattle.smq_group.specs.Groups.{key_on, no_members, receipt_with, vacancies, with_receipt, with_submit, without_receipt, without_submit};
 
 use crate::Change;
-use crate::changes::{Added, tell, tell_and_keep};
+use crate::changes::{Added, standing_changes, standing_changes_and_summary};
+use crate::group_summary::{Earliest, Group, GroupSummary, More, group_of, put_more};
 use crate::links::places_on;
-use crate::member::{Candidate, Member, Said};
-use crate::outlook::{Earliest, Group, More, Outlook, group_of, put_more};
+use crate::member::{Candidate, Member, ReceiptFacts};
 use crate::receipts::{
-    decider_without, gone, out_receipt, put_receipt, said_at, take_back_receipt,
+    decider_without, gone, put_receipt, receipt_facts_at, take_back_receipt, take_out_receipt,
 };
 use smq_kit::{HashedKey, Key, LinkId, Moment, Place};
 use smq_shelf::{Kept, ShelfKey};
@@ -29,7 +29,7 @@ use std::marker::Model;
 pub struct Groups {
     alloc: Global,
     submits: Kept<Member, bool>,
-    receipts: Kept<Member, Said>,
+    receipts: Kept<Member, ReceiptFacts>,
     /// The receipts that can decide, but for the earliest of each key, which its outlook has.
     candidates: Kept<Candidate, bool>,
     outlooks: Kept<HashedKey, Group>,
@@ -140,7 +140,7 @@ impl Groups {
         // For the proof: there are no more submits with a key than places.
         let _places = self.submits.place_count();
         let after = before.with(More::Submit(place));
-        match tell(
+        match standing_changes(
             self.alloc,
             &mut self.submits,
             &mut self.receipts,
@@ -187,7 +187,7 @@ impl Groups {
         };
         self.submits.remove(&member)?;
         let after = before.outlook.without_submit();
-        match tell_and_keep(
+        match standing_changes_and_summary(
             self.alloc,
             &mut self.submits,
             &mut self.receipts,
@@ -230,8 +230,10 @@ impl Groups {
         let key = HashedKey::new(link, key);
         let more = More::Receipt(Earliest { moment, place }, decides);
         let before = put_more(&mut self.outlooks, &key, more)?;
-        let waits = before.outlook.later_of(Earliest { moment, place }, decides);
-        let said = Said { moment, decides };
+        let waits = before
+            .outlook
+            .later_candidate(Earliest { moment, place }, decides);
+        let said = ReceiptFacts { moment, decides };
         let put = put_receipt(
             &mut self.receipts,
             &mut self.candidates,
@@ -247,7 +249,7 @@ impl Groups {
         // For the proof: there are no more receipts with a key than places.
         let _places = self.receipts.place_count();
         let after = before.with(More::Receipt(Earliest { moment, place }, decides));
-        match tell(
+        match standing_changes(
             self.alloc,
             &mut self.submits,
             &mut self.receipts,
@@ -289,22 +291,27 @@ impl Groups {
     {
         let key = key_of_link(link, key);
         let before = group_of(&mut self.outlooks, &key);
-        let found = said_at(&mut self.receipts, &key, place);
+        let found = receipt_facts_at(&mut self.receipts, &key, place);
         let Some(said) = &found else {
             return Ok(Vec::new(self.alloc));
         };
         let moment = said.moment;
         let decides = said.decides;
-        let taken = Said { moment, decides };
+        let taken = ReceiptFacts { moment, decides };
         let decider = decider_without(&mut self.candidates, &key, &before.outlook, place, taken);
-        let gone = gone(&before.outlook, &decider, place, Said { moment, decides });
-        out_receipt(&mut self.receipts, &mut self.candidates, &key, place, &gone)?;
-        let after = Outlook {
+        let gone = gone(
+            &before.outlook,
+            &decider,
+            place,
+            ReceiptFacts { moment, decides },
+        );
+        take_out_receipt(&mut self.receipts, &mut self.candidates, &key, place, &gone)?;
+        let after = GroupSummary {
             matches: before.outlook.matches,
             receipts: before.outlook.receipts - 1,
             decider,
         };
-        match tell_and_keep(
+        match standing_changes_and_summary(
             self.alloc,
             &mut self.submits,
             &mut self.receipts,

@@ -4,11 +4,11 @@
 mod candidates;
 mod change;
 mod changes;
+mod group_summary;
 mod groups;
 mod laws;
 mod links;
 mod member;
-mod outlook;
 mod receipts;
 mod walks;
 

@@ -49,7 +49,7 @@ impl ShelfKey for Candidate {
 
 /// What is kept of a receipt beside its key and place.
 #[derive(Clone, Copy, Debug, PartialEq, Eq)]
-pub(crate) struct Said {
+pub(crate) struct ReceiptFacts {
     pub(crate) moment: Moment,
     pub(crate) decides: bool,
 }

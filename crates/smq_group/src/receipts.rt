@@ -12,18 +12,18 @@ ghost use Rattle.smq_group.specs.within.Stored.{CanTakeBack, earliest_at, gone_o
 ghost use Rattle.smq_group.specs.within.Walked.{candidate_at, candidate_key, first_candidate_after, vacant_of};
 
 use crate::candidates::next_candidate;
-use crate::member::{Candidate, Member, Said};
-use crate::outlook::{Earliest, Outlook};
+use crate::group_summary::{Earliest, GroupSummary};
+use crate::member::{Candidate, Member, ReceiptFacts};
 use smq_kit::{HashedKey, Place};
 use smq_shelf::{Kept, ShelfKey};
 use std::alloc::AllocError;
 
 /// What is kept of the receipt of a key at a place.
-pub(crate) fn said_at(
-    receipts: &mut Kept<Member, Said>,
+pub(crate) fn receipt_facts_at(
+    receipts: &mut Kept<Member, ReceiptFacts>,
     key: &HashedKey,
     place: Place,
-) -> Option<Said>
+) -> Option<ReceiptFacts>
     ensures value { result ≡ lookup
         (is_at (kept_member_cmp (member_of key.now place))) receipts.old.content }
     ensures read { IsRead receipts.old receipts.new }
@@ -39,9 +39,9 @@ pub(crate) fn said_at(
 pub(crate) fn decider_without(
     candidates: &mut Kept<Candidate, bool>,
     key: &HashedKey,
-    before: &Outlook,
+    before: &GroupSummary,
     place: Place,
-    said: Said,
+    said: ReceiptFacts,
 ) -> Option<Earliest>
     ensures stays { (said.decides && is_decided_by before.now place) ≡ false
         → result ≡ before.now.decider }
@@ -54,7 +54,7 @@ pub(crate) fn decider_without(
     ensures touches { candidates.new.touches ≤ candidates.old.touches + 1
         + vacant_of candidate_key key.now candidates.old.places }
 {
-    let Said { moment, decides } = said;
+    let ReceiptFacts { moment, decides } = said;
     if decides && before.is_decided_by(place) {
         return next_candidate(candidates, key, Earliest { moment, place });
     }
@@ -63,15 +63,15 @@ pub(crate) fn decider_without(
 
 /// What waits no more once a receipt is taken out: where that decided, the one that does then, and else itself, where it can.
 pub(crate) fn gone(
-    before: &Outlook,
+    before: &GroupSummary,
     next: &Option<Earliest>,
     place: Place,
-    said: Said,
+    said: ReceiptFacts,
 ) -> Option<Earliest>
     ensures { result ≡ gone_of said.decides (is_decided_by before.now place) next.now
         (earliest_at (said.moment, place)) }
 {
-    let Said { moment, decides } = said;
+    let ReceiptFacts { moment, decides } = said;
     if !decides {
         return None;
     }
@@ -83,11 +83,11 @@ pub(crate) fn gone(
 
 /// Puts a receipt in, and among the candidates what waits then, if anything. An error changes nothing.
 pub(crate) fn put_receipt(
-    receipts: &mut Kept<Member, Said>,
+    receipts: &mut Kept<Member, ReceiptFacts>,
     candidates: &mut Kept<Candidate, bool>,
     key: &HashedKey,
     place: Place,
-    said: Said,
+    said: ReceiptFacts,
     waits: &Option<Earliest>,
 ) -> Result<(), AllocError>
     ensures receipts { OnOk result (receipts.new.content
@@ -135,8 +135,8 @@ pub(crate) fn put_receipt(
 }
 
 /// Takes a receipt out, and from the candidates what waits no more, if anything. An error changes nothing.
-pub(crate) fn out_receipt(
-    receipts: &mut Kept<Member, Said>,
+pub(crate) fn take_out_receipt(
+    receipts: &mut Kept<Member, ReceiptFacts>,
     candidates: &mut Kept<Candidate, bool>,
     key: &HashedKey,
     place: Place,
@@ -191,13 +191,13 @@ pub(crate) fn out_receipt(
     }
 }
 
-/// Takes back what `put_receipt` or `out_receipt` did last.
+/// Takes back what `put_receipt` or `take_out_receipt` did last.
 pub(crate) fn take_back_receipt(
-    receipts: &mut Kept<Member, Said>,
+    receipts: &mut Kept<Member, ReceiptFacts>,
     candidates: &mut Kept<Candidate, bool>,
     candidate: &Option<Earliest>,
 )
-    ensures receipts { (p : List (Member × Option Said)) (ps : List (List (Member × Option Said)))
+    ensures receipts { (p : List (Member × Option ReceiptFacts)) (ps : List (List (Member × Option ReceiptFacts)))
         → receipts.old.past ≡ p ∷ ps → receipts.new.content ≡ content_of p }
     ensures candidates { (p : List (Candidate × Option Bool))
         (ps : List (List (Candidate × Option Bool))) → is_some candidate.now ≡ true

@@ -1,18 +1,13 @@
 -- The order of keys of links is total, and keys that compare equal are one.
-use Rattle.std.proofs.Common.{◌≡◌}
 use Rattle.std.specs.declared.cmp.Ordering.{Ordering}
-use Rattle.std.specs.Ordering.{nat_cmp, ordering_then}
+use Rattle.std.specs.Ordering.{nat_cmp}
 use Rattle.std.specs.Cmp.{IsTotalOrder}
 use Rattle.std.proofs.lemmas.Cmp.{on_total, then_total, nat_cmp_total}
 use Rattle.std.specs.FinMap.{IsAntisymmetric, nat_cmp-IsAntisymmetric}
 use Rattle.smq_kit.specs.Orders.{key_cmp}
-use Rattle.smq_kit.specs.LinkKeys.{link_key_cmp, kept_key_cmp}
+use Rattle.smq_kit.specs.LinkKeys.{link_key_cmp}
 use Rattle.smq_kit.proofs.Comparisons.{then_first, then_second}
-use Rattle.smq_kit.proofs.KeyOrders.{key-order, keys_total, keys_exact}
-
--- the order by which a map of std compares keys of links is this order
-pub link_key-order : kept_key_cmp ≡ link_key_cmp
-link_key-order = λ i a b. ordering_then (nat_cmp a.link.0 b.link.0) (key-order a.key b.key i)
+use Rattle.smq_kit.proofs.KeyOrders.{keys_total, keys_exact}
 
 pub link_keys_total : IsTotalOrder link_key_cmp
 link_keys_total = then_total (on_total (λ k. k.link.0) nat_cmp_total) (on_total (λ k. k.key) keys_total)

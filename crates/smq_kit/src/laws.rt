@@ -5,7 +5,7 @@ ghost use Rattle.smq_kit.specs.Clones.{id_is_clone, digits_is_clone, network_is_
 use crate::{Digits, ErrorCode, ErrorText, Key, LinkKey, MessageId, Network};
 
 /// A clone is the same.
-pub fn clones_are_one()
+pub fn clone_is_equal()
     ensures ids { (x y : MessageId) → id_is_clone x y → y ≡ x }
     ensures digits { (x y : Digits) → digits_is_clone x y → y ≡ x }
     ensures networks { (x y : Network) → network_is_clone x y → y ≡ x }

@@ -20,7 +20,7 @@ mod window;
 pub use error_code::{ErrorCode, ErrorText, error_codes_are_ordered};
 pub use hashed_key::HashedKey;
 pub use known::{known_error_texts, known_keys, known_limits, known_orders, known_refusals};
-pub use laws::clones_are_one;
+pub use laws::clone_is_equal;
 pub use link_key::{LinkKey, link_keys_match_where_they_are_one};
 pub use maps::maps_by_place_are_one_by_one;
 pub use message_id::{

@@ -9,7 +9,7 @@ use Rattle.smq_load.specs.declared.record.Row.{Row}
 use Rattle.smq_load.specs.declared.load_fault.LoadFault.{LoadFault}
 use Rattle.smq_load.specs.declared.load_fault.LoadFault.TheVariants.{BadRow, BadSettings, Read, Memory}
 use Rattle.smq_load.specs.Row.{row_of}
-use Rattle.smq_load.specs.Script.{AreRecordsOf, IsFirstBad, IsScript, SayRows, Tells, most_records}
+use Rattle.smq_load.specs.Script.{AreRecordsOf, IsFirstBad, SayRows, Tells, most_records}
 use Rattle.smq_load.specs.NextRecord.{AddsRow, HasGiven, HasRead, TellsNext}
 use Rattle.smq_load.proofs.ScriptLemmas.{AreRecords-append, AreRecords-exist, Reached-settles}
 
@@ -50,13 +50,6 @@ HasRead-more remaining reader after text old new fields h given adds = record {
   given = given;
   say_rows = SayRows-append h.records old new fields h.say_rows adds;
 }
-
--- the script ends
-pub HasRead-ends : {R : Type 0} (remaining : R → Option (List ℕ)) (reader : Reader R) (text : List ℕ) (rows : List Row)
-    → (h : HasRead remaining reader text rows) → AreRecordsOf text h.records → length rows ≤ most_records → IsScript text rows
-HasRead-ends remaining reader text rows h all low =
-    let count = length-SayRows h.records rows h.say_rows in
-    record { records = h.records; are_records = all; say_rows = h.say_rows; in_range = omega (arith, count) }
 
 -- the next record is bad
 pub first_bad-next : {R : Type 0} (remaining : R → Option (List ℕ)) (reader after : Reader R) (text : List ℕ) (rows : List Row)

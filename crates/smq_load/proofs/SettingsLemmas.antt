@@ -33,8 +33,3 @@ pub settings_of-document : (octets text : List ℕ) (document : Members) → len
     → parse_document text ≡ Some document
     → settings_of octets ≡ rows_in document
 settings_of-document octets text document low is parsed = rw (settings_of-text octets low is.1, ← is.0, parsed) refl
-
--- no document says none
-pub settings_of-no_document : (octets text : List ℕ) → length octets ≤ 1048576 → (text ≡ octets) × IsUtf8 octets
-    → parse_document text ≡ None → settings_of octets ≡ None
-settings_of-no_document octets text low is parsed = rw (settings_of-text octets low is.1, ← is.0, parsed) refl

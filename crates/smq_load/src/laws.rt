@@ -12,7 +12,7 @@ pub fn one_reading()
 {}
 
 /// `==` of faults answers whether they are one.
-pub fn faults_are_told_apart()
+pub fn fault_eq_is_equality()
     ensures { (a b : LoadFault) → IsTrue (faults_eq a b) ↔ (a ≡ b) }
 {}
 

@@ -14,7 +14,7 @@ mod table;
 pub use field::is_word;
 pub use input::MOST_OCTETS;
 pub use laws::{
-    faults_are_told_apart, known_decimals, known_fields, known_instants, known_limits,
+    fault_eq_is_equality, known_decimals, known_fields, known_instants, known_limits,
     known_numbers, known_pieces, known_rows, known_scripts, known_settings, one_reading,
 };
 pub use link_settings::MOST_LINKS;

@@ -1,10 +1,10 @@
-//! Marks, by which a test tells gate/refuse.c which call it makes, so that memory and threads are refused to that call alone. A mark
-//! asks for more memory than a machine has: it is refused in any case, and changes nothing.
+//! Marks, by which a test tells gate/out_of_memory.c which call it makes, so that memory and threads are refused to
+//! that call alone. A mark asks for more memory than a machine has: it is refused in any case, and changes nothing.
 #![tactic(auto)]
 
 use std::alloc::Global;
 
-/// A call that is made with memory or a thread refused. gate/check-refused-calls names them in this order.
+/// A call that is made with memory or a thread refused. gate/check-out-of-memory-in-calls names them in this order.
 #[derive(Clone, Copy)]
 pub enum Call {
     /// An edit that reaches something is applied to a book.

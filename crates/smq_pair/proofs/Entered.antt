@@ -4,14 +4,14 @@ use Rattle.std.specs.Prelude.{count_by, option_and_then, slice_get}
 use Rattle.std.proofs.lemmas.List.Sums.{sum_by_push}
 use Rattle.smq_kit.specs.declared.place.Dir.{Dir}
 use Rattle.smq_pdu.specs.Header.{Header}
-use Rattle.smq_pair.specs.declared.entry.Series.{Series}
+use Rattle.smq_pair.specs.declared.paired_pdu.Series.{Series}
 use Rattle.smq_pair.specs.within.Turns.{Turn}
 use Rattle.smq_pair.specs.Pairing.{PlacedHeader, PairingValue, pdus_from, opposite, headers}
 use Rattle.smq_pair.specs.Growth.{pushed}
 use Rattle.smq_pair.specs.within.Turns.{is_of, headers_from, count_in, index_at, later, next_of, partner, series_of, turn_of, partner_of}
 use Rattle.smq_pair.proofs.Lists.{none-beyond, some-is}
 use Rattle.smq_pair.proofs.Turned
-use Rattle.smq_pair.proofs.Turned.{by_dir, partner-back, partner-apart, pushed-apart, headers-by, series-of, turn-there, next_turn, next-dir, index-free, index-next, index-others, next-rank, turn_parts, turn-stays, turn-last}
+use Rattle.smq_pair.proofs.Turned.{by_dir, partner-back, partner-apart, pushed-apart, headers-by, series-of, turn-there, next_turn, next-dir, index-next, index-others, next-rank, turn_parts, turn-stays, turn-last}
 
 -- ---- counts
 

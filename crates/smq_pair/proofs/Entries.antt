@@ -16,9 +16,9 @@ use Rattle.smq_kit.specs.declared.place.Dir.{Dir}
 use Rattle.smq_kit.specs.declared.place.Dir.TheVariants.{FromClient, FromCentre}
 use Rattle.smq_kit.specs.declared.place.Place.{Place}
 use Rattle.smq_kit.specs.Orders.{place_cmp}
-use Rattle.smq_pair.specs.declared.entry.Entry.{Entry}
-use Rattle.smq_pair.specs.declared.entry.Link.{Link}
-use Rattle.smq_pair.specs.declared.entry.Link.TheVariants.{Before, Partner}
+use Rattle.smq_pair.specs.declared.paired_pdu.PairedPdu.{PairedPdu}
+use Rattle.smq_pair.specs.declared.paired_pdu.PduLink.{PduLink}
+use Rattle.smq_pair.specs.declared.paired_pdu.PduLink.TheVariants.{Before, Partner}
 use Rattle.smq_pair.specs.Pairing.{PlacedHeader, pdus_from, opposite}
 use Rattle.smq_pair.specs.Growth.{AreInOrder, pushed_in}
 use Rattle.smq_pair.specs.within.Turns.{headers_from}
@@ -118,13 +118,13 @@ of_session-holds m session es all h =
       links = λ d i e at. h.links d i e (ap (λ xs. slice_get xs i) (sym (of_session-from session d es)) ∙ at);
     })
 
-pub of_session-joined : (d : Dir) (q : Place) (o : Option ℕ) (x : Entry) (es : Entries) → joined d q o x es ≡ joined d q o x (of_session q.session es)
+pub of_session-joined : (d : Dir) (q : Place) (o : Option ℕ) (x : PairedPdu) (es : Entries) → joined d q o x es ≡ joined d q o x (of_session q.session es)
 of_session-joined FromClient q o x es = refl
 of_session-joined FromCentre q o x es = refl
 
 -- ---- an entry that is given its partner
 
-placed-set : (s : SessionId) (d : Dir) (xs : List Held) (j : ℕ) (k : Link) (e : Held) → slice_get xs j ≡ Some e
+placed-set : (s : SessionId) (d : Dir) (xs : List Held) (j : ℕ) (k : PduLink) (e : Held) → slice_get xs j ≡ Some e
     → map (placed s d) (slice_set xs j (linked_to k e)) ≡ map (placed s d) xs
 placed-set s d [] j k e at = refl
 placed-set s d (x ∷ xs) zero k e at = ap (λ (y : Held). placed s d y ∷ map (placed s d) xs) (sym (some-is x e at))
@@ -143,7 +143,7 @@ pub set_in-session : (d : Dir) (j : ℕ) (e : Held) (es : Entries) → (set_in d
 set_in-session FromClient j e es = refl
 set_in-session FromCentre j e es = refl
 
-pub linked-pdus : (d : Dir) (j : ℕ) (k : Link) (e : Held) (es : Entries) → slice_get (entries_from d es) j ≡ Some e
+pub linked-pdus : (d : Dir) (j : ℕ) (k : PduLink) (e : Held) (es : Entries) → slice_get (entries_from d es) j ≡ Some e
     → pdus_in (set_in d j (linked_to k e) es) ≡ pdus_in es
 linked-pdus FromClient j k e es at = ap (λ ps. record (pdus_in es) { client = ps }) (placed-set es.session FromClient es.client j k e at)
 linked-pdus FromCentre j k e es at = ap (λ ps. record (pdus_in es) { centre = ps }) (placed-set es.session FromCentre es.centre j k e at)

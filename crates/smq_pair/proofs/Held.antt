@@ -21,15 +21,15 @@ use Rattle.std.specs.FinMap.{nat_cmp-IsAntisymmetric}
 use Rattle.smq_kit.proofs.Comparisons.{is_equal}
 use Rattle.smq_shelf.specs.Values.{with_value}
 use Rattle.smq_shelf.proofs.Changes.{remove_entry-none}
-use Rattle.smq_pair.specs.declared.entry.Entry.{Entry}
-use Rattle.smq_pair.specs.declared.entry.Link.{Link}
+use Rattle.smq_pair.specs.declared.paired_pdu.PairedPdu.{PairedPdu}
+use Rattle.smq_pair.specs.declared.paired_pdu.PduLink.{PduLink}
 use Rattle.smq_pair.specs.within.Stream.{Ascend, Held, IsUndoable, logged, undone}
 use Rattle.smq_pair.specs.within.Kept.{held_at, linked, with_link}
 use Rattle.smq_pair.proofs.Lists.{some-is, never}
 use Rattle.smq_pair.proofs.Standing.{all-at}
 
 -- an entry with a link
-abbrev pub linked_to : Link → Held → Held
+abbrev pub linked_to : PduLink → Held → Held
 linked_to link e = (e.0, record e.1 { link = link })
 
 -- ---- what is found
@@ -44,7 +44,7 @@ turned p q r h = nat_cmp_total.antisymm q p ∙ ap ordering_reverse h
 pub found-kept : (es : List Held) (j : ℕ) (e : Held) → Ascend es → slice_get es j ≡ Some e → held_at e.0 es ≡ Some e.1
 found-kept es j e s at = lookup_from_place (eq_by_cmp_equiv nat_cmp_total) es j e.0 e.1 (IsDistinct-from_sorted nat_cmp (keys_of es) s) at
 
-set-kept : (es : List Held) (j : ℕ) (e : Held) (w : Entry) → Ascend es → slice_get es j ≡ Some e
+set-kept : (es : List Held) (j : ℕ) (e : Held) (w : PairedPdu) → Ascend es → slice_get es j ≡ Some e
     → insert_entry nat_cmp es e.0 w ≡ slice_set es j (e.0, w)
 set-kept [] j e w s at = absurd cc
 set-kept (x ∷ xs) zero e w s at =
@@ -57,7 +57,7 @@ set-kept (x ∷ xs) (suc j) e w s at =
     ∙ ap (λ (ys : List Held). x ∷ ys) (set-kept xs j e w (sorted_tail nat_cmp x.0 (keys_of xs) s) at)
 
 -- what is found stands at an index, and where nothing is found nothing stands
-pub stands-kept : (es : List Held) (q : ℕ) (x : Entry) → held_at q es ≡ Some x → (i : ℕ) × (slice_get es i ≡ Some (q, x))
+pub stands-kept : (es : List Held) (q : ℕ) (x : PairedPdu) → held_at q es ≡ Some x → (i : ℕ) × (slice_get es i ≡ Some (q, x))
 stands-kept es q x h =
     let there = place_from_lookup (is_at (nat_cmp q)) es x h in
     (there.0, there.2 ∙ ap (λ (p : ℕ). Some (p, x)) (sym (nat_cmp-IsAntisymmetric q there.1 (is_equal _ there.3))))
@@ -65,11 +65,11 @@ stands-kept es q x h =
 pub none-kept : (es : List Held) (q : ℕ) → Ascend es → held_at q es ≡ None → (i : ℕ) (e : Held) → slice_get es i ≡ Some e → e.0 ≢ q
 none-kept es q s none i e at same = never (held_at q es) e.1 none (ap (λ p. held_at p es) (sym same) ∙ found-kept es i e s at)
 
-pub linked-kept : (o : Option ℕ) (l : Link) (es : List Held) (j : ℕ) (y : Held) → o ≡ Some y.0 → Ascend es → slice_get es j ≡ Some y
+pub linked-kept : (o : Option ℕ) (l : PduLink) (es : List Held) (j : ℕ) (y : Held) → o ≡ Some y.0 → Ascend es → slice_get es j ≡ Some y
     → linked o l es ≡ slice_set es j (linked_to l y)
 linked-kept o l es j y some s at =
     ap (λ (o : Option ℕ). linked o l es) some
-    ∙ ap (λ (x : Option Entry). with_value nat_cmp y.0 (with_link l x) es) (found-kept es j y s at)
+    ∙ ap (λ (x : Option PairedPdu). with_value nat_cmp y.0 (with_link l x) es) (found-kept es j y s at)
     ∙ set-kept es j y (record y.1 { link = l }) s at
 
 -- ---- a search
@@ -109,21 +109,21 @@ search-found es xs q i e same lt at is = record {
 pub found-held : (es : List Held) (q i : ℕ) (e : Held) → Ascend es → IsFound es q i e → held_at q es ≡ Some e.1
 found-held es q i e s f = ap (λ p. held_at p es) (sym f.key) ∙ found-kept es i e s f.at
 
-pub found-linked : (es : List Held) (q i : ℕ) (e : Held) (p : Link) → Ascend es → IsFound es q i e → slice_set es i (linked_to p e) ≡ linked (Some q) p es
+pub found-linked : (es : List Held) (q i : ℕ) (e : Held) (p : PduLink) → Ascend es → IsFound es q i e → slice_set es i (linked_to p e) ≡ linked (Some q) p es
 found-linked es q i e p s f = sym (linked-kept (Some q) p es i e (ap Some (sym f.key)) s f.at)
 
 -- where none is found, none has a partner to be given
-pub absent-linked : (es xs : List Held) (q : ℕ) (p : Link) → xs ≡ es → held_at q xs ≡ None → es ≡ linked (Some q) p es
+pub absent-linked : (es xs : List Held) (q : ℕ) (p : PduLink) → xs ≡ es → held_at q xs ≡ None → es ≡ linked (Some q) p es
 absent-linked es xs q p same none =
     let absent : held_at q es ≡ None = ap (held_at q) (sym same) ∙ none in
-    sym (ap (λ (x : Option Entry). with_value nat_cmp q (with_link p x) es) absent ∙ remove_entry-none nat_cmp_total (is_at (nat_cmp q)) es absent)
+    sym (ap (λ (x : Option PairedPdu). with_value nat_cmp q (with_link p x) es) absent ∙ remove_entry-none nat_cmp_total (is_at (nat_cmp q)) es absent)
 
 -- what is above all stays so
-pub linked-above : (o : Option ℕ) (l : Link) (es : List Held) (q : ℕ) → Ascend es → All (λ (e : Held). e.0 < q) es → All (λ (e : Held). e.0 < q) (linked o l es)
+pub linked-above : (o : Option ℕ) (l : PduLink) (es : List Held) (q : ℕ) → Ascend es → All (λ (e : Held). e.0 < q) es → All (λ (e : Held). e.0 < q) (linked o l es)
 linked-above None l es q s all = all
 linked-above (Some at) l es q s all = by_held (held_at at es) refl
   where
-    by_held : (x : Option Entry) → held_at at es ≡ x → All (λ (e : Held). e.0 < q) (linked (Some at) l es)
+    by_held : (x : Option PairedPdu) → held_at at es ≡ x → All (λ (e : Held). e.0 < q) (linked (Some at) l es)
     by_held None none = subst (All (λ (e : Held). e.0 < q)) (absent-linked es es at l refl none) all
     by_held (Some x) some =
         let there = stands-kept es at x some in
@@ -135,7 +135,7 @@ linked-above (Some at) l es q s all = by_held (held_at at es) refl
 -- ---- one more
 
 -- one more that is above all
-pub ascend-last : (es : List Held) (q : ℕ) (x : Entry) → Ascend es → All (λ (e : Held). e.0 < q) es → Ascend (es ++ (q, x) ∷ [])
+pub ascend-last : (es : List Held) (q : ℕ) (x : PairedPdu) → Ascend es → All (λ (e : Held). e.0 < q) es → Ascend (es ++ (q, x) ∷ [])
 unfolding IsStrictlySortedBy
 ascend-last [] q x s below = (tt, tt)
 ascend-last (e ∷ es) q x s below =
@@ -197,7 +197,7 @@ module _ (es : List Held) (n : ℕ) (log : List (ℕ × Held)) (i : ℕ) (x y : 
   }
 
 -- one more, above all
-pub pushed-keeps : (es : List Held) (n : ℕ) (log : List (ℕ × Held)) (q : ℕ) (x : Entry) → All (λ (e : Held). e.0 < q) es → IsUndoable es n log
+pub pushed-keeps : (es : List Held) (n : ℕ) (log : List (ℕ × Held)) (q : ℕ) (x : PairedPdu) → All (λ (e : Held). e.0 < q) es → IsUndoable es n log
     → IsUndoable (es ++ (q, x) ∷ []) n log
 pushed-keeps es n log q x above u = record {
   ascend = ascend-last es q x u.ascend above;

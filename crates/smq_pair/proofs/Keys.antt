@@ -17,8 +17,8 @@ use Rattle.std.proofs.lemmas.Map.Keys.{IsDistinct-from_sorted}
 use Rattle.std.specs.List.Sorted.{IsStrictlySortedBy}
 use Rattle.std.specs.Map.{keys_of}
 use Rattle.smq_shelf.specs.Values.{with_value}
-use Rattle.smq_pair.specs.declared.entry.Exchange.{Exchange}
-use Rattle.smq_pair.specs.declared.entry.Waiting.{Waiting}
+use Rattle.smq_pair.specs.declared.paired_pdu.Exchange.{Exchange}
+use Rattle.smq_pair.specs.declared.paired_pdu.Waiting.{Waiting}
 use Rattle.smq_pair.specs.within.Orders.{exchange_cmp}
 use Rattle.smq_pair.specs.within.KeyLaws.{dir_number, exchange_order, one_exchange}
 use Rattle.smq_pair.specs.within.Waits.{Waits, waiting_kept}

@@ -8,7 +8,7 @@ use Rattle.smq_kit.specs.declared.place.Place.{Place}
 use Rattle.smq_pdu.specs.Header.{Header}
 use Rattle.smq_pdu.specs.Pairing.{IsPair, is_request, is_response, is_request_of, response_rank}
 use Rattle.smq_pdu.proofs.Pairs.{stands, finds_pairs, finds_each}
-use Rattle.smq_pair.specs.declared.entry.Side.TheVariants.{Request, Response}
+use Rattle.smq_pair.specs.declared.paired_pdu.Role.TheVariants.{Request, Response}
 use Rattle.smq_pair.specs.declared.pairing.Pair.{Pair}
 use Rattle.smq_pair.specs.Pairing.{PlacedHeader, PairingValue, pdus_from, opposite, headers, pair_of, pair_at}
 use Rattle.smq_pair.specs.Growth.{AreInOrder}

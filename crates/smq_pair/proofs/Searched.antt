@@ -12,10 +12,10 @@ use Rattle.smq_kit.specs.declared.place.Dir.TheVariants.{FromClient, FromCentre}
 use Rattle.smq_kit.specs.declared.place.Place.{Place}
 use Rattle.smq_kit.specs.Orders.{place_cmp}
 use Rattle.smq_pdu.specs.Header.{Header}
-use Rattle.smq_pair.specs.declared.entry.Entry.{Entry}
-use Rattle.smq_pair.specs.declared.entry.Side.{Side}
-use Rattle.smq_pair.specs.declared.entry.Side.TheVariants.{Request, Response}
-use Rattle.smq_pair.specs.declared.entry.Series.{Series}
+use Rattle.smq_pair.specs.declared.paired_pdu.PairedPdu.{PairedPdu}
+use Rattle.smq_pair.specs.declared.paired_pdu.Role.{Role}
+use Rattle.smq_pair.specs.declared.paired_pdu.Role.TheVariants.{Request, Response}
+use Rattle.smq_pair.specs.declared.paired_pdu.Series.{Series}
 use Rattle.smq_pair.specs.Paired.{no_pdus}
 use Rattle.smq_pair.specs.Pairing.{PlacedHeader, PairingValue, pdus_from, opposite, pair_at, places_of}
 use Rattle.smq_pair.specs.Growth.{AreInOrder}
@@ -33,7 +33,7 @@ use Rattle.smq_pair.proofs.Steps.{pair-found, partner-kept}
 -- ---- the pair at a place
 
 -- what is kept at a place of the session has the pair that is found there
-found-by : (m : Waits) (es : Entries) (d : Dir) (offset : ℕ) (x : Entry) → Holds m es → held_at offset (entries_from d es) ≡ Some x
+found-by : (m : Waits) (es : Entries) (d : Dir) (offset : ℕ) (x : PairedPdu) → Holds m es → held_at offset (entries_from d es) ≡ Some x
     → pair_found (at_offset es.session d offset) x (partner_kept d x es) ≡ pair_at (pdus_in es) (at_offset es.session d offset)
 found-by m es d offset x h is = let there = stands-kept (entries_from d es) offset x is in pair-found m es d there.0 (offset, x) h there.1
 
@@ -54,7 +54,7 @@ pub none-at : (es : Entries) (v : PairingValue) (q : Place) → AreInOrder (pdus
 none-at es v q order view is =
     sym (pair-nowhere (pdus_in es) q (nowhere-kept es q order (sym is))) ∙ ap (λ (w : PairingValue). pair_at w q) view
 
-pub found-at : (m : Waits) (es : Entries) (v : PairingValue) (q : Place) (x : Entry) → Holds m es → pdus_in es ≡ v
+pub found-at : (m : Waits) (es : Entries) (v : PairingValue) (q : Place) (x : PairedPdu) → Holds m es → pdus_in es ≡ v
     → Some x ≡ kept_at q es → pair_found q x (partner_kept q.dir x es) ≡ pair_at v q
 found-at m es v q x h view is =
     by_session (q.session.0 == es.session.0) refl (sym is) ∙ ap (λ (w : PairingValue). pair_at w q) view
@@ -109,7 +109,7 @@ alone-is m es d i e h at =
     (partner_of (pdus_in es) d i (header_of e.1))
     ∙ sym (ap is_none (pair-here (pdus_in es) d i (placed es.session d e) h.in_order (pdu-kept d es i e at)))
 
-module _ (m : Waits) (es : Entries) (side : Side) (h : Holds m es) where
+module _ (m : Waits) (es : Entries) (side : Role) (h : Holds m es) where
   abbrev is_free : Place → Bool
   is_free q = is_none (pair_at (pdus_in es) q)
 

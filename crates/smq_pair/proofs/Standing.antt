@@ -19,8 +19,8 @@ use Rattle.smq_pdu.specs.Header.{Header}
 use Rattle.smq_pdu.specs.Pairing.{is_request, is_response, nth_index}
 use Rattle.smq_pdu.proofs.Pairs.{in_turn, nth_index-map}
 use Rattle.smq_pair.specs.declared.pairing.Pair.{Pair}
-use Rattle.smq_pair.specs.declared.entry.Side.{Side}
-use Rattle.smq_pair.specs.declared.entry.Side.TheVariants.{Request, Response}
+use Rattle.smq_pair.specs.declared.paired_pdu.Role.{Role}
+use Rattle.smq_pair.specs.declared.paired_pdu.Role.TheVariants.{Request, Response}
 use Rattle.smq_pair.specs.Pairing.{PlacedHeader, PairingValue, pdus_from, opposite, headers, pair_of, pair_after, with_earlier, standing_at, pair_at}
 use Rattle.smq_pair.specs.Growth.{AreInOrder, is_from}
 use Rattle.smq_pair.specs.within.Turns.{headers_from, is_of, other_side, partner_of, side_of, turn_after, index_at, partner}
@@ -163,7 +163,7 @@ standing-nowhere earlier (x ∷ xs) q h =
 -- ---- its pair
 
 -- the index of the partner of what has a side: of the other direction's of the other side the one of its rank
-pub partner-side : (v : PairingValue) (d : Dir) (i : ℕ) (h : Header) (side : Side) → side_of h ≡ Some side
+pub partner-side : (v : PairingValue) (d : Dir) (i : ℕ) (h : Header) (side : Role) → side_of h ≡ Some side
     → partner_of v d i h ≡ nth_index (is_of (other_side side) h.seq) (headers_from (opposite d) v) (count_by (is_of side h.seq) (take i (headers_from d v)))
 partner-side v d i h side e =
     ap (λ s. option_and_then (λ t. index_at v (partner t))
@@ -196,7 +196,7 @@ module _ (v : PairingValue) (d : Dir) (i : ℕ) (p : PlacedHeader) where
   other = pdus_from (opposite d) v
 
   -- the pair by the element of a rank is that by its index
-  by_side : (side : Side) (f : PlacedHeader → Pair) → side_of p.header ≡ Some side → ((r : PlacedHeader) → f r ≡ pair_either p r)
+  by_side : (side : Role) (f : PlacedHeader → Pair) → side_of p.header ≡ Some side → ((r : PlacedHeader) → f r ≡ pair_either p r)
       → option_map f (slice_get (filter (λ (r : PlacedHeader). is_of (other_side side) p.header.seq r.header) other) (count_by (is_of side p.header.seq) (headers (take i mine))))
       ≡ pair_with v d p (partner_of v d i p.header)
   by_side side f e same =

@@ -9,14 +9,14 @@ use Rattle.smq_kit.specs.declared.place.Dir.{Dir}
 use Rattle.smq_kit.specs.declared.place.Place.{Place}
 use Rattle.smq_shelf.specs.Values.{with_value}
 use Rattle.smq_pdu.specs.Header.{Header}
-use Rattle.smq_pair.specs.declared.entry.Entry.{Entry}
-use Rattle.smq_pair.specs.declared.entry.Exchange.{Exchange}
-use Rattle.smq_pair.specs.declared.entry.Outcome.{Outcome}
-use Rattle.smq_pair.specs.declared.entry.Link.TheVariants.{Alone, Before, Partner}
-use Rattle.smq_pair.specs.declared.entry.Series.{Series}
-use Rattle.smq_pair.specs.declared.entry.Side.{Side}
-use Rattle.smq_pair.specs.declared.entry.Side.TheVariants.{Request, Response}
-use Rattle.smq_pair.specs.declared.entry.Waiting.{Waiting}
+use Rattle.smq_pair.specs.declared.paired_pdu.PairedPdu.{PairedPdu}
+use Rattle.smq_pair.specs.declared.paired_pdu.Exchange.{Exchange}
+use Rattle.smq_pair.specs.declared.paired_pdu.Meeting.{Meeting}
+use Rattle.smq_pair.specs.declared.paired_pdu.PduLink.TheVariants.{Alone, Before, Partner}
+use Rattle.smq_pair.specs.declared.paired_pdu.Series.{Series}
+use Rattle.smq_pair.specs.declared.paired_pdu.Role.{Role}
+use Rattle.smq_pair.specs.declared.paired_pdu.Role.TheVariants.{Request, Response}
+use Rattle.smq_pair.specs.declared.paired_pdu.Waiting.{Waiting}
 use Rattle.smq_pair.specs.declared.pairing.Pair.{Pair}
 use Rattle.smq_pair.specs.Pairing.{PlacedHeader, PairingValue, pdus_from, opposite, pair_at}
 use Rattle.smq_pair.specs.Growth.{AreInOrder, IsNext, pushed}
@@ -24,11 +24,11 @@ use Rattle.smq_pair.specs.within.Turns.{Turn, is_of, headers_from, count_in, ind
 use Rattle.smq_pair.specs.within.Orders.{exchange_cmp}
 use Rattle.smq_pair.specs.within.Stream.{Held}
 use Rattle.smq_pair.specs.within.Kept.{Entries, are_of_session, at_offset, entries_from, header_of, held_at, joined, next_in, next_kept, pair_found, partner_in, partner_kept, placed, placed_at, pdus_in}
-use Rattle.smq_pair.specs.within.Waits.{AreWaiting, Holds, HoldsOf, Waits, WaitsFor, dir_of, exchange_of, is_same, link_by, link_of, meeting, meeting_at, next_waiting, offset_at, rank_offset, series_in, waiting_kept}
+use Rattle.smq_pair.specs.within.Waits.{AreWaiting, Holds, HoldsOf, Waits, WaitsFor, dir_of, exchange_of, is_same, link_by, link_of, meeting_with, meeting_at, next_waiting, offset_at, rank_offset, series_in, waiting_kept}
 use Rattle.smq_pair.proofs.Keys.{at_exchange, kept-with}
 use Rattle.smq_pair.proofs.Lists.{none-beyond, some-is, some-within, never}
 use Rattle.smq_pair.proofs.Turned
-use Rattle.smq_pair.proofs.Turned.{index-free, index-next, opposite-apart, opposite-back, partner-back, pushed-apart, turn_parts, turn-found, turn-there, next_turn, next-dir, index-others, other_side-back, turn-stays}
+use Rattle.smq_pair.proofs.Turned.{index-free, index-next, opposite-apart, opposite-back, partner-back, pushed-apart, turn_parts, turn-found, turn-there, next_turn, index-others, other_side-back, turn-stays}
 use Rattle.smq_pair.proofs.Standing.{pair_either, pair_with, pair-here}
 use Rattle.smq_pair.proofs.Order.{in-order-next}
 use Rattle.smq_pair.proofs.Held.{linked_to, found-kept}
@@ -82,11 +82,11 @@ pair-found m es d i e h at =
 
 -- ---- the two series of an exchange
 
-dir_of-back : (side : Side) (d : Dir) → dir_of side (dir_of side d) ≡ d
+dir_of-back : (side : Role) (d : Dir) → dir_of side (dir_of side d) ≡ d
 dir_of-back Request d = refl
 dir_of-back Response d = opposite-back d
 
-dir_of-other : (side : Side) (d : Dir) → dir_of (other_side side) (dir_of side d) ≡ opposite d
+dir_of-other : (side : Role) (d : Dir) → dir_of (other_side side) (dir_of side d) ≡ opposite d
 dir_of-other Request d = refl
 dir_of-other Response d = refl
 
@@ -96,11 +96,11 @@ series-back s = λ i. record { seq = s.seq; dir = dir_of-back s.side s.dir i; si
 series-other : (s : Series) → series_in (exchange_of s) (other_side s.side) ≡ partner_series s
 series-other s = λ i. record { seq = s.seq; dir = dir_of-other s.side s.dir i; side = other_side s.side }
 
-exchange-back : (x : Exchange) (side : Side) → exchange_of (series_in x side) ≡ x
+exchange-back : (x : Exchange) (side : Role) → exchange_of (series_in x side) ≡ x
 exchange-back x side = λ i. record { seq = x.seq; dir = dir_of-back side x.dir i }
 
 -- one side is the same as another, or is the other one
-sides : (a b : Side) (c : Bool) → is_same a b ≡ c → cond c (a ≡ b) (a ≡ other_side b)
+sides : (a b : Role) (c : Bool) → is_same a b ≡ c → cond c (a ≡ b) (a ≡ other_side b)
 sides Request Request true e = refl
 sides Request Response false e = refl
 sides Response Request false e = refl
@@ -108,11 +108,11 @@ sides Response Response true e = refl
 sides _ _ _ e = absurd cc
 
 -- as many came of either side, whichever is named first
-even-from : (v : PairingValue) (x : Exchange) (side : Side) → WaitsFor v x None → count_in v (series_in x side) ≡ count_in v (series_in x (other_side side))
+even-from : (v : PairingValue) (x : Exchange) (side : Role) → WaitsFor v x None → count_in v (series_in x side) ≡ count_in v (series_in x (other_side side))
 even-from v x Request h = h
 even-from v x Response h = sym h
 
-even-to : (v : PairingValue) (x : Exchange) (side : Side) → count_in v (series_in x side) ≡ count_in v (series_in x (other_side side)) → WaitsFor v x None
+even-to : (v : PairingValue) (x : Exchange) (side : Role) → count_in v (series_in x side) ≡ count_in v (series_in x (other_side side)) → WaitsFor v x None
 even-to v x Request h = h
 even-to v x Response h = sym h
 
@@ -212,7 +212,7 @@ module _ (m : Waits) (es : Entries) (d : Dir) (e : Held) (h : Holds m es) (next 
       let u : Turn = record { series = s; rank = k } in
       ap (offset_at after s.dir) (index-others before new u apart) ∙ offset-stays before new s.dir (index_at before u) (index-pdu before u)
 
-  waits-stay : (q : Exchange) (w : Option Waiting) → ((side : Side) → series_of d (header_of e.1) ≢ Some (series_in q side)) → WaitsFor before q w → WaitsFor after q w
+  waits-stay : (q : Exchange) (w : Option Waiting) → ((side : Role) → series_of d (header_of e.1) ≢ Some (series_in q side)) → WaitsFor before q w → WaitsFor after q w
   waits-stay q None apart even =
       count-others before new (series_in q Request) (apart Request) ∙ even ∙ sym (count-others before new (series_in q Response) (apart Response))
   waits-stay q (Some w) apart a =
@@ -352,13 +352,13 @@ module _ (m : Waits) (es : Entries) (d : Dir) (e : Held) (h : Holds m es) (next 
     abbrev x : Exchange
     x = exchange_of s
 
-    own-side : (side : Side) → side ≡ s.side → (series_in x side ≡ s) × (series_in x (other_side side) ≡ r)
-    own-side side same = (ap (series_in x) same ∙ series-back s, ap (λ (t : Side). series_in x (other_side t)) same ∙ series-other s)
+    own-side : (side : Role) → side ≡ s.side → (series_in x side ≡ s) × (series_in x (other_side side) ≡ r)
+    own-side side same = (ap (series_in x) same ∙ series-back s, ap (λ (t : Role). series_in x (other_side t)) same ∙ series-other s)
 
-    other-side : (side : Side) → side ≡ other_side s.side → (series_in x side ≡ r) × (series_in x (other_side side) ≡ s)
+    other-side : (side : Role) → side ≡ other_side s.side → (series_in x side ≡ r) × (series_in x (other_side side) ≡ s)
     other-side side same = (
       ap (series_in x) same ∙ series-other s,
-      ap (λ (t : Side). series_in x (other_side t)) same ∙ ap (series_in x) (other_side-back s.side) ∙ series-back s,
+      ap (λ (t : Role). series_in x (other_side t)) same ∙ ap (series_in x) (other_side-back s.side) ∙ series-back s,
     )
 
     abbrev Puts : Waits → Option Waiting → Type 0
@@ -524,7 +524,7 @@ module _ (m : Waits) (es : Entries) (d : Dir) (e : Held) (h : Holds m es) (next 
         )
 
     -- whatever waits, it is in
-    abbrev outcome : Waiting → Bool → Outcome
+    abbrev outcome : Waiting → Bool → Meeting
     outcome w b = cond b (record { waiting = Some (record { side = w.side; first = w.first; last = e.0 }); before = Some w.last; link = Alone })
         (record { waiting = left_by w (next_kept (dir_of w.side x.dir) w.first es); before = None; link = Partner w.first })
 
@@ -533,8 +533,8 @@ module _ (m : Waits) (es : Entries) (d : Dir) (e : Held) (h : Holds m es) (next 
     by_side k w some true same put link = in-own k w some (sides w.side s.side true same) put link
     by_side k w some false same put link = in-other k w some (sides w.side s.side false same) put link
 
-    in-series : (k : Waits) (o : Option Waiting) → waiting_kept m x ≡ o → Puts k (meeting o s.side e.0 (next_waiting o x es)).waiting
-        → e.1.link ≡ (meeting o s.side e.0 (next_waiting o x es)).link → IsJoined k (meeting o s.side e.0 (next_waiting o x es)).before
+    in-series : (k : Waits) (o : Option Waiting) → waiting_kept m x ≡ o → Puts k (meeting_with o s.side e.0 (next_waiting o x es)).waiting
+        → e.1.link ≡ (meeting_with o s.side e.0 (next_waiting o x es)).link → IsJoined k (meeting_with o s.side e.0 (next_waiting o x es)).before
     in-series k None none put link = in-even k none put link
     in-series k (Some w) some put link = by_side k w some (is_same w.side s.side) refl put link
 
@@ -551,12 +551,12 @@ module _ (m : Waits) (es : Entries) (d : Dir) (e : Held) (h : Holds m es) (next 
 -- ---- a call of add, by what its steps say
 
 -- The entry is in, what is kept holds, and the pair with what was there is the one at its place.
-pub record Adds (n : Waits) (es : Entries) (v : PairingValue) (q : Place) (x : Entry) (fs : Entries) : Type 0 where
+pub record Adds (n : Waits) (es : Entries) (v : PairingValue) (q : Place) (x : PairedPdu) (fs : Entries) : Type 0 where
   pub pdus : pdus_in fs ≡ pushed v (placed_at q x)
   pub holds : Holds n fs
   pub pair : pair_found q x (partner_kept q.dir x es) ≡ pair_at (pdus_in fs) q
 
-module _ (m : Waits) (es : Entries) (v : PairingValue) (q : Place) (x : Entry) (h : Holds m es) (view : pdus_in es ≡ v) (next : IsNext v q) where
+module _ (m : Waits) (es : Entries) (v : PairingValue) (q : Place) (x : PairedPdu) (h : Holds m es) (view : pdus_in es ≡ v) (next : IsNext v q) where
   all : are_of_session q.session (pdus_in es) ≡ true
   all = ap (are_of_session q.session) view ∙ next.session
 
@@ -600,10 +600,10 @@ module _ (m : Waits) (es : Entries) (v : PairingValue) (q : Place) (x : Entry) (
   adds-met n s is sorted waits link fs fs_is =
       let k : Exchange = exchange_of s in
       let o : Option Waiting = waiting_kept m k in
-      let same : meeting o s.side q.offset (next_waiting o k its) ≡ meeting_at s q.offset m es = ap (meeting o s.side q.offset) (next-same o k) in
+      let same : meeting_with o s.side q.offset (next_waiting o k its) ≡ meeting_at s q.offset m es = ap (meeting_with o s.side q.offset) (next-same o k) in
       let put = λ (p : Exchange). ap (λ ws. waiting_kept ws p) waits ∙ kept-with k p (meeting_at s q.offset m es).waiting m sorted
-      ∙ ap (λ (t : Outcome). cond (is_at (exchange_cmp k) p) t.waiting (waiting_kept m p)) (sym same) in
-      let r = in-series m its q.dir (q.offset, x) holds-its next-its s is n o refl put (link ∙ ap (λ (t : Outcome). t.link) (sym same)) in
-      adds-by n (meeting o s.side q.offset (next_waiting o k its)).before r.0
+      ∙ ap (λ (t : Meeting). cond (is_at (exchange_cmp k) p) t.waiting (waiting_kept m p)) (sym same) in
+      let r = in-series m its q.dir (q.offset, x) holds-its next-its s is n o refl put (link ∙ ap (λ (t : Meeting). t.link) (sym same)) in
+      adds-by n (meeting_with o s.side q.offset (next_waiting o k its)).before r.0
       (finds-met m its q.dir (q.offset, x) holds-its next-its s is r.1) fs
-      (fs_is ∙ ap (λ (t : Outcome). joined q.dir q t.before x es) (sym same))
+      (fs_is ∙ ap (λ (t : Meeting). joined q.dir q t.before x es) (sym same))

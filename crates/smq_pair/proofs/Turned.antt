@@ -9,9 +9,9 @@ use Rattle.smq_kit.specs.declared.place.Dir.TheVariants.{FromClient, FromCentre}
 use Rattle.smq_pdu.specs.Header.{Header}
 use Rattle.smq_pdu.specs.Pairing.{is_request, is_response, nth_index}
 use Rattle.smq_pdu.proofs.Pairs.{stands, found}
-use Rattle.smq_pair.specs.declared.entry.Side.{Side}
-use Rattle.smq_pair.specs.declared.entry.Side.TheVariants.{Request, Response}
-use Rattle.smq_pair.specs.declared.entry.Series.{Series}
+use Rattle.smq_pair.specs.declared.paired_pdu.Role.{Role}
+use Rattle.smq_pair.specs.declared.paired_pdu.Role.TheVariants.{Request, Response}
+use Rattle.smq_pair.specs.declared.paired_pdu.Series.{Series}
 use Rattle.smq_pair.specs.within.Turns.{Turn}
 use Rattle.smq_pair.specs.Pairing.{PlacedHeader, PairingValue, pdus_from, opposite, headers}
 use Rattle.smq_pair.specs.Growth.{pushed, pushed_in}
@@ -24,7 +24,7 @@ pub opposite-back : (d : Dir) → opposite (opposite d) ≡ d
 opposite-back FromClient = refl
 opposite-back FromCentre = refl
 
-pub other_side-back : (s : Side) → other_side (other_side s) ≡ s
+pub other_side-back : (s : Role) → other_side (other_side s) ≡ s
 other_side-back Request = refl
 other_side-back Response = refl
 
@@ -81,7 +81,7 @@ equal_is = eqb-true
 pub not-request : (h : Header) → is_response h ≡ true → is_request h ≡ false
 not-request h e = ap (λ b. (not b && not (h.command == 0x0000_000b)) && not (h.command == 0x0000_0102)) e
 
-series_by : (d : Dir) (h : Header) (side : Side) → side_of h ≡ Some side → (seq : ℕ) → h.seq ≡ seq
+series_by : (d : Dir) (h : Header) (side : Role) → side_of h ≡ Some side → (seq : ℕ) → h.seq ≡ seq
     → series_of d h ≡ Some (record { dir = d; side = side; seq = seq })
 series_by d h side e seq s = ap (option_map (λ side. record { dir = d; side = side; seq = h.seq })) e
     ∙ ap (λ n. Some (record { dir = d; side = side; seq = n })) s
@@ -95,7 +95,7 @@ side-response h e =
     ∙ ap (λ b. cond b (Some Response) None) e
 
 -- a header of a side and a sequence number is of that series
-pub series-of : (d : Dir) (side : Side) (seq : ℕ) (h : Header) → is_of side seq h ≡ true
+pub series-of : (d : Dir) (side : Role) (seq : ℕ) (h : Header) → is_of side seq h ≡ true
     → series_of d h ≡ Some (record { dir = d; side = side; seq = seq })
 series-of d Request seq h e =
     let both = and_parts (is_request h) (h.seq == seq) e in series_by d h Request (side-request h both.0) seq (eqb-true h.seq seq both.1)

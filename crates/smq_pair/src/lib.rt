@@ -1,8 +1,8 @@
 //! Which response belongs to which request, as the PDUs of a session come in, whichever of its directions is read first.
 #![tactic(auto)]
 
-mod entry;
 mod laws;
+mod paired_pdu;
 mod pairing;
 mod places;
 mod stream;

@@ -13,7 +13,9 @@ ghost use Rattle.smq_pair.specs.within.Orders.{exchange_cmp};
 ghost use Rattle.smq_pair.specs.within.Waits.{exchange_of, meeting_at};
 ghost use Rattle.smq_pair.specs.within.Kept.{are_below, entries_in, joined, pair_found, partner_kept, pdus_in, settled_entries, with_its};
 
-use crate::entry::{Entry, Exchange, Link, Series, Side, Waiting, dir_of, meeting};
+use crate::paired_pdu::{
+    Exchange, PairedPdu, PduLink, Role, Series, Waiting, dir_of, meeting_with,
+};
 use crate::places::Places;
 use crate::streams::Streams;
 use smq_kit::Place;
@@ -105,11 +107,11 @@ impl Pairing {
         ensures counted { self.old.touches ≤ self.new.touches }
         ensures pending { self.new.pending ≤ self.old.pending + 2 }
     {
-        let alone = Entry {
+        let alone = PairedPdu {
             seq,
             command,
             status,
-            link: Link::Alone,
+            link: PduLink::Alone,
         };
         match alone.series(place.dir) {
             Some(series) => Ok(meet(&mut self.waits, &mut self.streams, series, place, alone)?),
@@ -130,7 +132,7 @@ impl Pairing {
         ensures places { result ≡ waiting self.now.pdus }
         ensures in_order { IsStrictlySortedBy place_cmp (waiting self.now.pdus) }
     {
-        self.streams.alone(Side::Request)
+        self.streams.alone(Role::Request)
     }
 
     /// The places of the responses that have no request, in order.
@@ -138,7 +140,7 @@ impl Pairing {
         ensures places { result ≡ strays self.now.pdus }
         ensures in_order { IsStrictlySortedBy place_cmp (strays self.now.pdus) }
     {
-        self.streams.alone(Side::Response)
+        self.streams.alone(Role::Response)
     }
 
     /// Brings back the PDUs of the last `settle`, or none. It takes no memory.
@@ -180,7 +182,7 @@ fn meet(
     streams: &mut Streams,
     series: Series,
     place: Place,
-    alone: Entry,
+    alone: PairedPdu,
 ) -> Result<Option<Pair>, AllocError>
     requires { are_below place (pdus_in (entries_in streams.old)) ≡ true }
     ensures waits { OnOk result (waits.new.content ≡ with_value exchange_cmp (exchange_of series)
@@ -211,12 +213,12 @@ fn meet(
         Some(waiting) => streams.next_of(dir_of(waiting.side, exchange.dir), waiting.first),
         None => None,
     };
-    let met = meeting(waiting, series.side, place.offset, next);
+    let met = meeting_with(waiting, series.side, place.offset, next);
     match met.waiting {
         Some(waiting) => waits.set(exchange, waiting)?,
         None => waits.remove(&exchange)?,
     }
-    let entry = Entry {
+    let entry = PairedPdu {
         link: met.link,
         ..alone
     };

@@ -3,7 +3,7 @@ ghost use Rattle.std.specs.Prelude.{◌≡◌};
 ghost use Rattle.std.specs.Iterator.{YieldsFirstBy, item_count};
 ghost use Rattle.smq_pair.specs.within.Kept.{at_offset};
 
-use crate::entry::{Entry, Side};
+use crate::paired_pdu::{PairedPdu, Role};
 use smq_kit::{Dir, Place, SessionId};
 use std::marker::Model;
 use std::slice::Iter;
@@ -11,10 +11,10 @@ use std::slice::Iter;
 /// The places that are still to come. A contract sees their list.
 #[derive(Drop)]
 pub struct Places<'a> {
-    pub(crate) side: Side,
+    pub(crate) side: Role,
     pub(crate) session: SessionId,
-    pub(crate) client: Iter<'a, (u64, Entry)>,
-    pub(crate) centre: Iter<'a, (u64, Entry)>,
+    pub(crate) client: Iter<'a, (u64, PairedPdu)>,
+    pub(crate) centre: Iter<'a, (u64, PairedPdu)>,
 }
 
 impl<'a> Model for Places<'a> {

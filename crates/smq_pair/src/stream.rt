@@ -4,7 +4,7 @@ ghost use Rattle.std.specs.List.{All};
 ghost use Rattle.smq_pair.specs.within.Stream.{Ascend, Held, logged};
 ghost use Rattle.smq_pair.specs.within.Kept.{held_at, linked};
 
-use crate::entry::{Entry, Link};
+use crate::paired_pdu::{PairedPdu, PduLink};
 use std::alloc::{AllocError, Global};
 use std::marker::Model;
 
@@ -15,11 +15,11 @@ const MOST_KEPT_CHANGES: usize = 1_024;
 /// which a log has what was changed since.
 #[derive(Drop)]
 pub(crate) struct Stream {
-    entries: Vec<(u64, Entry)>,
+    entries: Vec<(u64, PairedPdu)>,
     /// How many there were at the last `settle`.
     settled: usize,
     /// The index of each of these that was changed since, and what stood there.
-    log: Vec<(usize, (u64, Entry))>,
+    log: Vec<(usize, (u64, PairedPdu))>,
 }
 
 impl Model for Stream {
@@ -51,7 +51,7 @@ impl Stream {
     }
 
     /// The PDUs, by offset.
-    pub(crate) fn entries(&self) -> &[(u64, Entry)]
+    pub(crate) fn entries(&self) -> &[(u64, PairedPdu)]
         ensures content { result.now ≡ self.now.content }
         ensures ordered { Ascend self.now.content }
     {
@@ -59,7 +59,7 @@ impl Stream {
     }
 
     /// The PDU at an offset.
-    pub(crate) fn get(&self, offset: u64) -> Option<Entry>
+    pub(crate) fn get(&self, offset: u64) -> Option<PairedPdu>
         ensures { result ≡ held_at offset self.now.content }
     {
         let index = index_of(&self.entries, offset)?;
@@ -77,7 +77,7 @@ impl Stream {
     }
 
     /// Puts a PDU after those that are there, where there is room.
-    pub(crate) fn push(&mut self, offset: u64, entry: Entry)
+    pub(crate) fn push(&mut self, offset: u64, entry: PairedPdu)
         requires room { 0 < self.old.room }
         requires above { All (λ e. e.0 < offset) self.old.content }
         ensures content { self.new.content ≡ self.old.content ++ (offset, entry) ∷ [] }
@@ -87,7 +87,11 @@ impl Stream {
     }
 
     /// Gives the PDU at an offset, if there is one, a link, and tells what was kept of it. An error changes nothing.
-    pub(crate) fn link(&mut self, offset: u64, link: Link) -> Result<Option<Entry>, AllocError>
+    pub(crate) fn link(
+        &mut self,
+        offset: u64,
+        link: PduLink,
+    ) -> Result<Option<PairedPdu>, AllocError>
         ensures content { OnOk result
             (self.new.content ≡ linked (Some offset) link self.old.content) }
         ensures found { IfOk result (λ found. found ≡ held_at offset self.old.content) }
@@ -100,7 +104,7 @@ impl Stream {
         };
         let (at, entry) = self.entries[index];
         log_change(&mut self.log, self.settled, index, (at, entry))?;
-        self.entries[index] = (at, Entry { link, ..entry });
+        self.entries[index] = (at, PairedPdu { link, ..entry });
         Ok(Some(entry))
     }
 
@@ -130,7 +134,7 @@ impl Stream {
 }
 
 /// The index of the PDU at an offset.
-fn index_of(entries: &[(u64, Entry)], offset: u64) -> Option<usize>
+fn index_of(entries: &[(u64, PairedPdu)], offset: u64) -> Option<usize>
     requires { Ascend entries.now }
     ensures within { IfSome result (λ index. index < length entries.now) }
     ensures found { IfSome result (λ index. (e : Held)
@@ -145,10 +149,10 @@ fn index_of(entries: &[(u64, Entry)], offset: u64) -> Option<usize>
 
 /// Puts what stands at an index into a log, if that was settled. An error changes nothing.
 fn log_change(
-    log: &mut Vec<(usize, (u64, Entry))>,
+    log: &mut Vec<(usize, (u64, PairedPdu))>,
     settled: usize,
     index: usize,
-    held: (u64, Entry),
+    held: (u64, PairedPdu),
 ) -> Result<(), AllocError>
     ensures ok { OnOk result (log.new.items ≡ logged settled index held log.old.items) }
     ensures err { OnErr result (log.new.items ≡ log.old.items) }
@@ -161,7 +165,7 @@ fn log_change(
 
 /// Makes room for one more: where there is none, for an eighth of what is there. PDUs are kept for long, so little of their
 /// room is to be empty. An error changes nothing.
-fn make_room(entries: &mut Vec<(u64, Entry)>) -> Result<(), AllocError>
+fn make_room(entries: &mut Vec<(u64, PairedPdu)>) -> Result<(), AllocError>
     ensures items { entries.new.items ≡ entries.old.items }
     ensures room { OnOk result (vec_len entries.new < vec_capacity entries.new) }
     ensures err { OnErr result (vec_capacity entries.old ≤ vec_len entries.old) }
@@ -173,7 +177,7 @@ fn make_room(entries: &mut Vec<(u64, Entry)>) -> Result<(), AllocError>
 }
 
 /// Gives back the room of an emptied log that had many changes.
-fn give_back_room(log: &mut Vec<(usize, (u64, Entry))>)
+fn give_back_room(log: &mut Vec<(usize, (u64, PairedPdu))>)
     ensures { log.new.items ≡ log.old.items }
 {
     if log.capacity() > MOST_KEPT_CHANGES {

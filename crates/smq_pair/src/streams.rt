@@ -1,11 +1,11 @@
 //! The PDUs of both directions, as they are kept.
 ghost use Rattle.std.specs.Prelude.{◌≡◌, ◌<◌, ◌++◌, ◌∷◌, [], true, None, IfOk, IsSome, OnOk, OnErr, option_and_then};
-ghost use Rattle.smq_pair.specs.declared.entry.Link.TheVariants.{Before, Partner};
+ghost use Rattle.smq_pair.specs.declared.paired_pdu.PduLink.TheVariants.{Before, Partner};
 ghost use Rattle.std.specs.List.{All};
 ghost use Rattle.smq_pair.specs.Pairing.{pair_of};
 ghost use Rattle.smq_pair.specs.within.Kept.{are_below, are_of_session, entries_from, entries_in, held_at, joined, kept_at, linked, next_kept, pair_found, partner_in, partner_kept, pdus_in, placed_at, places_alone, settled_entries};
 
-use crate::entry::{Entry, Link, Side, opposite};
+use crate::paired_pdu::{PairedPdu, PduLink, Role, opposite};
 use crate::pairing::Pair;
 use crate::places::{Places, at};
 use crate::stream::Stream;
@@ -39,7 +39,7 @@ impl Streams {
     }
 
     /// The PDU at a place.
-    pub(crate) fn at(&self, place: Place) -> Option<Entry>
+    pub(crate) fn at(&self, place: Place) -> Option<PairedPdu>
         ensures { result ≡ kept_at place (entries_in self.now) }
     {
         if place.session.0 != self.session.0 {
@@ -54,7 +54,7 @@ impl Streams {
         &mut self,
         place: Place,
         before: Option<u64>,
-        entry: Entry,
+        entry: PairedPdu,
     ) -> Result<Option<Pair>, AllocError>
         requires below { are_below place (pdus_in (entries_in self.old)) ≡ true }
         requires one { IsSome before → partner_in entry.link ≡ None }
@@ -124,7 +124,7 @@ impl Streams {
     }
 
     /// The places of the PDUs of a side that have no partner, in order.
-    pub(crate) fn alone(&self, side: Side) -> Places<'_>
+    pub(crate) fn alone(&self, side: Role) -> Places<'_>
         ensures { result ≡ places_alone side (entries_in self.now) }
     {
         Places {
@@ -136,7 +136,7 @@ impl Streams {
     }
 
     /// The pair of a PDU at a place with its partner.
-    pub(crate) fn pair_in(&self, place: Place, entry: Entry) -> Option<Pair>
+    pub(crate) fn pair_in(&self, place: Place, entry: PairedPdu) -> Option<Pair>
         ensures { result
             ≡ pair_found place entry (partner_kept place.dir entry (entries_in self.now)) }
     {
@@ -170,8 +170,8 @@ fn join(
     other: &mut Stream,
     offset: u64,
     before: Option<u64>,
-    entry: Entry,
-) -> Result<Option<Entry>, AllocError>
+    entry: PairedPdu,
+) -> Result<Option<PairedPdu>, AllocError>
     requires above { All (λ e. e.0 < offset) own.old.content }
     requires one { IsSome before → partner_in entry.link ≡ None }
     ensures own { OnOk result (own.new.content
@@ -186,14 +186,18 @@ fn join(
     ensures settled_other { other.new.settled ≡ other.old.settled }
 {
     own.make_room()?;
-    link(own, before, Link::Before(offset))?;
-    let found = link(other, entry.partner(), Link::Partner(offset))?;
+    link(own, before, PduLink::Before(offset))?;
+    let found = link(other, entry.partner(), PduLink::Partner(offset))?;
     own.push(offset, entry);
     Ok(found)
 }
 
 /// Gives the PDU at an offset, if that is given, a link, and tells what was kept of it. An error changes nothing.
-fn link(stream: &mut Stream, at: Option<u64>, link: Link) -> Result<Option<Entry>, AllocError>
+fn link(
+    stream: &mut Stream,
+    at: Option<u64>,
+    link: PduLink,
+) -> Result<Option<PairedPdu>, AllocError>
     ensures ok { OnOk result (stream.new.content ≡ linked at link stream.old.content) }
     ensures found { IfOk result (λ found. found
         ≡ option_and_then (λ q. held_at q stream.old.content) at) }
@@ -209,7 +213,7 @@ fn link(stream: &mut Stream, at: Option<u64>, link: Link) -> Result<Option<Entry
 }
 
 /// The pair of a PDU at a place with its partner, of which this is kept.
-fn pair(place: Place, entry: Entry, found: Option<Entry>) -> Option<Pair>
+fn pair(place: Place, entry: PairedPdu, found: Option<PairedPdu>) -> Option<Pair>
     ensures { result ≡ pair_found place entry found }
 {
     let partner = at(place.session, opposite(place.dir), entry.partner()?);
@@ -222,7 +226,12 @@ fn pair(place: Place, entry: Entry, found: Option<Entry>) -> Option<Pair>
 }
 
 /// The pair of a request and its response.
-fn paired(request: Place, request_entry: Entry, response: Place, response_entry: Entry) -> Pair
+fn paired(
+    request: Place,
+    request_entry: PairedPdu,
+    response: Place,
+    response_entry: PairedPdu,
+) -> Pair
     ensures { result ≡ pair_of (placed_at request request_entry) (placed_at response response_entry) }
 {
     Pair {

@@ -4,4 +4,5 @@ pub mod Circumstances
 pub mod Outcomes
 pub mod Facts
 pub mod Listings
+pub mod Lines
 pub mod Moves

@@ -23,11 +23,10 @@ pub use laws::pairing::{
 };
 pub use laws::present::{
     absent_sessions_have_no_octets, appends_of_sessions_commute, batches_that_fit_are_not_refused,
-    cutting_changes_nothing, edits_are_told_apart, edits_of_a_known_clock,
-    edits_of_a_known_session, edits_of_known_routes, forms_are_told_apart,
-    forms_are_verbatim_until_set, known_edits_fold, known_pdus_are_kept,
-    octets_are_put_after_their_direction, pieces_are_refused_in_order, replies_are_of_edits,
-    replies_stand_in_order, steps_are_plain_changes, windows_of_known_links,
+    cutting_changes_nothing, edit_eq_is_equality, edits_of_a_known_clock, edits_of_a_known_session,
+    edits_of_known_routes, forms_are_verbatim_until_set, forms_eq_is_equality, known_edits_fold,
+    known_pdus_are_stored, octets_are_put_after_their_direction, pieces_are_refused_in_order,
+    replies_are_of_edits, replies_stand_in_order, steps_are_plain_changes, windows_of_known_links,
     withdrawals_leave_no_trace, withdrawals_of_a_known_book,
 };
 pub use laws::whole::{
@@ -38,19 +37,20 @@ pub use laws::whole::{
 };
 
 // values and calls
-pub use join::fact::{fact_of, fact_under, restated};
+pub use join::fact::{fact_from_parts, fact_in_settings, restated};
+pub use join::lines::{DecidingReceipt, MessageLine, ReceiptLine, ReceiptStanding};
 pub use join::message::{Message, ReceivedReceipt, Response};
 pub use pairing::notes::read_notes;
-pub use pairing::pairs::{Source, pdu_at, place_of};
+pub use pairing::pairs::{SessionForms, pdu_at, place_of};
 pub use pairing::submits::SubmittedMessage;
 pub use pairing::traffic::{
-    DecodedSession, SourcedSession, Traffic, joined, read_session, read_sessions, sourced,
-    sourced_again,
+    DecodedSession, SessionReading, SessionView, concatenated, decoded_sessions, read_session,
+    read_sessions, sessions_with_forms,
 };
 pub use present::batch::{Batch, PieceRow, prepare};
 pub use present::edit::Edit;
 pub use present::forms::Forms;
-pub use present::kept::{Content, KeptPdu, shared};
+pub use present::kept::{Content, StoredPdu, shared};
 pub use present::plain_book::PlainBook;
 pub use present::present::{Present, append_refusal};
 pub use present::session::{Direction, Piece, Session};

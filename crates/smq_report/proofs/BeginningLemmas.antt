@@ -1,7 +1,7 @@
 -- What goes out of a text, all of it or a beginning.
 use Rattle.std.proofs.Common.{◌≡◌, ◌∙◌, ℕ, ◌+◌, List, ◌++◌, length, take, drop, Option, Result, Ok, Err, sym, ap, subst, arith, append_assoc, take_at, take-append-drop, refl}
 use Rattle.std.proofs.lemmas.List.{drop-take, take-take, take_all}
-use Rattle.std.proofs.KnownBytes.{Appends-nil, Appends-trans}
+use Rattle.std.proofs.KnownBytes.{Appends-trans}
 use Rattle.std.specs.Prelude.{IfErr}
 use Rattle.std.specs.Io.KnownBytes.{Appends}
 use Rattle.smq_report.specs.Beginnings.{AppendsBeginning}
@@ -19,10 +19,6 @@ pub Appends-more : (old mid new : Option (List ℕ)) (count more : ℕ) (text : 
     → Appends mid new (take more (drop count text)) → Appends old new (take (count + more) text)
 Appends-more old mid new count more text first then =
     subst (Appends old new) (sym (take-more count more text)) (Appends-trans old mid new _ _ first then)
-
--- nothing goes out
-pub begins-nothing : (old : Option (List ℕ)) (text : List ℕ) → AppendsBeginning old old text
-begins-nothing old text = (0, Appends-nil old)
 
 -- all goes out
 pub begins-whole : (old new : Option (List ℕ)) (text : List ℕ) → Appends old new text → AppendsBeginning old new text

@@ -4,7 +4,6 @@ use Rattle.std.proofs.Math.Seq.{drop-cons}
 use Rattle.std.proofs.KnownBytes.{Appends-nil, Appends-trans}
 use Rattle.std.specs.Prelude.{Option}
 use Rattle.std.specs.List.{flat_map}
-use Rattle.std.specs.Io.KnownBytes.{Appends}
 use Rattle.smq_report.specs.Beginnings.{AppendsBeginning}
 use Rattle.smq_report.specs.within.Pages.{AppendsAllBut}
 use Rattle.smq_report.proofs.BeginningLemmas.{begins-all_but}
@@ -33,18 +32,6 @@ gathers-next text all list left item old mid new before waits rest first (more, 
         ∙ ap (λ l. l ++ text item) are ∙ append_assoc before done (text item),
   ),
 )
-
--- the text of the first that is left was put on the page
-pub gathers-put : {X : Type 0} (text : X → List ℕ) (all list left : List X) (item : X) (old held : Option (List ℕ)) (before waits page : List ℕ)
-    → list ≡ item ∷ left → page ≡ waits ++ text item
-    → Gathers text all list old before held waits → Gathers text all left old before held page
-gathers-put text all list left item old held before waits page first put gathered =
-    gathers-next text all list left item old held held before waits page first ([], Appends-nil held, put) gathered
-
--- a page was written, and is empty
-pub page-sent : (old new : Option (List ℕ)) (page text rest : List ℕ) → page ≡ text → Appends old new page → rest ≡ []
-    → AppendsAllBut old new rest text
-page-sent old new page text rest is sent empty = (page, sent, ap (λ l. page ++ l) empty ∙ append-nil page ∙ is)
 
 -- the text of the one at an index is written, or waits
 pub gathers-at : {X : Type 0} (text : X → List ℕ) (all : List X) (index : ℕ) (default : X) (old mid new : Option (List ℕ)) (before waits rest : List ℕ)
@@ -86,7 +73,3 @@ pub gathers-cut_at : {X : Type 0} (text : X → List ℕ) (all : List X) (index 
 gathers-cut_at text all index default old mid new before waits inside begun gathered =
     gathers-cut text all (drop index all) (drop (index + 1) all) (get_or all index default) old mid new before waits _
     (rw add-one (drop-cons all index default inside)) refl begun gathered
-
--- the lines of a section stand under its own line
-pub under-line : (page started line all lines : List ℕ) → started ≡ page ++ line → all ≡ lines → started ++ all ≡ page ++ (line ++ lines)
-under-line page started line all lines begun are = rw (begun, are) (append_assoc page line lines)

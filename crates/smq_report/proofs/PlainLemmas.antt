@@ -1,5 +1,5 @@
 -- No field of a report needs quotes in CSV.
-use Rattle.std.proofs.Common.{◌≡◌, ℕ, ◌+◌, ◌/◌, ◌%◌, ◌==◌, ◌<◌, zero, suc, nat_lt, List, [], ◌∷◌, ◌++◌, true, false, refl, arith, append_assoc, append-nil}
+use Rattle.std.proofs.Common.{◌≡◌, ℕ, ◌+◌, ◌/◌, ◌%◌, ◌==◌, ◌<◌, zero, suc, nat_lt, List, [], ◌∷◌, ◌++◌, true, false, refl, arith}
 use Rattle.std.specs.Prelude.{codes, if◌then◌else◌}
 use Rattle.std.specs.Char.{is_ascii_digit}
 use Rattle.std.specs.Fmt.{decimal, digit_glyph, digits, digits_onto}
@@ -8,23 +8,13 @@ use Rattle.std.proofs.lemmas.Bool.{and_parts}
 use Rattle.std.proofs.lemmas.Bool.Decides.{nat_tests}
 use Rattle.std.proofs.lemmas.List.Folds.{list_any-append, list_any_none}
 use Rattle.std.proofs.lemmas.List.Elements.{All-weaker}
-use Rattle.csv.specs.Writing.{default_writer, fields_text, is_blank, needs_byte, row_text}
+use Rattle.csv.specs.Writing.{default_writer, needs_byte}
 use Rattle.smq_kit.specs.ErrorTexts.{is_error_octet, is_error_text}
 use Rattle.smq_kit.specs.Numbers.{IsNetwork}
 use Rattle.smq_kit.specs.declared.error_code.ErrorCode.TheVariants as c
 use Rattle.smq_tally.specs.declared.value.SubmitError.TheVariants as s
 use Rattle.smq_report.specs.Csv.{IsPlain}
 use Rattle.smq_report.specs.Values.{code_text, error_text}
-use Rattle.smq_report.specs.within.Pages.{record_of}
-
--- a record of five such fields
-pub plain-record : (a b c d e : List ℕ) → IsPlain a → IsPlain b → IsPlain c → IsPlain d → IsPlain e
-    → row_text default_writer (a ∷ b ∷ c ∷ d ∷ e ∷ []) ≡ record_of a b c d e
-unfolding fields_text is_blank
-plain-record a b c d e plain_a plain_b plain_c plain_d plain_e =
-    rw (plain_a, plain_b, plain_c, plain_d, plain_e) (simp (append_assoc, append-nil))
-
--- ---- what such fields are made of
 
 pub plain_append : (a b : List ℕ) → IsPlain a → IsPlain b → IsPlain (a ++ b)
 plain_append a b plain_a plain_b = rw (list_any-append, plain_a, plain_b) refl

@@ -1,9 +1,13 @@
+pub mod Picks
 pub mod Sections
 pub mod Equal
 pub mod Values
 pub mod Csv
 pub mod Table
 pub mod Report
+pub mod Words
+pub mod Lines
 pub mod Beginnings
 pub mod Known
+pub mod KnownLines
 pub mod within

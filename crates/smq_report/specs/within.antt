@@ -1,2 +1,3 @@
--- What only private clauses cite: records on a page.
+-- What only private clauses cite: the lines of both formats, and pages.
+pub mod Layouts
 pub mod Pages

@@ -7,6 +7,7 @@ ghost use Rattle.smq_tally.specs.Tables.{TablesValue};
 ghost use Rattle.smq_report.specs.Csv.{csv_text};
 ghost use Rattle.smq_report.specs.Equal.{faults_eq, formats_eq, picks_eq, sections_eq};
 ghost use Rattle.smq_report.specs.Known.{KnowsBeginnings, KnowsColumns, KnowsReports, KnowsSections, KnowsTexts};
+ghost use Rattle.smq_report.specs.KnownLines.{KnowsMessages, KnowsNames, KnowsQuotes, KnowsReceipts};
 ghost use Rattle.smq_report.specs.Table.{table_text};
 
 use crate::pick::{Format, Pick, ReportFault, Section};
@@ -52,4 +53,24 @@ pub fn known_beginnings()
 /// The reports of known tables.
 pub fn known_reports()
     ensures { KnowsReports }
+{}
+
+/// The texts of known lines for messages.
+pub fn known_messages()
+    ensures { KnowsMessages }
+{}
+
+/// The texts of known lines for delivery receipts.
+pub fn known_receipts()
+    ensures { KnowsReceipts }
+{}
+
+/// The words of states and of standings.
+pub fn known_names()
+    ensures { KnowsNames }
+{}
+
+/// Which fields are quoted.
+pub fn known_quotes()
+    ensures { KnowsQuotes }
 {}

@@ -1,5 +1,10 @@
-//! What a report tells, how it is laid out, and why it wasn't written.
-ghost use Rattle.std.specs.Prelude.{◌≡◌, ◌++◌, IfOk, OnOk, map};
+//! What is written, how a report is laid out, and why it wasn't written.
+ghost use Rattle.std.specs.Prelude.{◌≡◌, ◌++◌, IfOk, OnOk, find, map};
+ghost use Rattle.std.specs.Str.{bytes_eq};
+ghost use Rattle.smq_tally.specs.Lists.{lists};
+ghost use Rattle.smq_tally.specs.Names.{list_name, view_name};
+ghost use Rattle.smq_tally.specs.Rows.{views};
+ghost use Rattle.smq_report.specs.Picks.{is_named, picks};
 ghost use Rattle.smq_report.specs.declared.pick.ReportFault.TheVariants.{Memory, Write};
 ghost use Rattle.smq_report.specs.Sections.{sections_of};
 
@@ -18,6 +23,41 @@ pub enum Pick {
     List(List),
 }
 
+impl Pick {
+    /// The view or the list of a name.
+    pub fn named(name: &[u8]) -> Option<Pick>
+        ensures { result ≡ find (is_named name.now) picks }
+    {
+        match view_named(name) {
+            Some(view) => Some(Pick::View(view)),
+            None => match list_named(name) {
+                Some(list) => Some(Pick::List(list)),
+                None => None,
+            },
+        }
+    }
+}
+
+/// The view of a name.
+fn view_named(name: &[u8]) -> Option<View>
+    ensures { result ≡ find (λ view. bytes_eq (view_name view) name.now) views }
+{
+    View::all()
+        .iter()
+        .copied()
+        .find(|view| view.name().as_bytes() == name)
+}
+
+/// The list of a name.
+fn list_named(name: &[u8]) -> Option<List>
+    ensures { result ≡ find (λ list. bytes_eq (list_name list) name.now) lists }
+{
+    List::all()
+        .iter()
+        .copied()
+        .find(|list| list.name().as_bytes() == name)
+}
+
 /// How a report is laid out.
 #[derive(Clone, Copy, Debug, PartialEq, Eq)]
 pub enum Format {
@@ -25,6 +65,24 @@ pub enum Format {
     Csv,
     /// A line for each view and list, and under it columns.
     Table,
+}
+
+/// What is asked of a report, and how it is laid out.
+#[derive(Clone, Copy, Debug, PartialEq, Eq)]
+pub struct Query {
+    pub pick: Pick,
+    pub format: Format,
+}
+
+/// What is written of what is present.
+#[derive(Clone, Copy, Debug, PartialEq, Eq)]
+pub enum Output {
+    /// What a query asks of the report.
+    Report(Query),
+    /// A line for each message.
+    Messages,
+    /// A line for each delivery receipt.
+    Receipts,
 }
 
 /// A part of a report.

@@ -31,7 +31,7 @@ pub(crate) fn push_value(text: &mut String, value: &Value) -> Result<(), AllocEr
 }
 
 /// Puts the error of a message after the text, as the view of errors prints it. It needs no quotes in CSV.
-pub fn push_error(text: &mut String, error: &SubmitError) -> Result<(), AllocError>
+pub(crate) fn push_error(text: &mut String, error: &SubmitError) -> Result<(), AllocError>
     ensures ok { OnOk result
         (string_bytes text.new ≡ string_bytes text.old ++ error_text error.now) }
     ensures plain { OnOk result (IsPlain (error_text error.now)) }
@@ -43,7 +43,7 @@ pub fn push_error(text: &mut String, error: &SubmitError) -> Result<(), AllocErr
 }
 
 /// Puts the error of a receipt after the text, as the view of errors prints it. It needs no quotes in CSV.
-pub fn push_code(text: &mut String, code: &ErrorCode) -> Result<(), AllocError>
+pub(crate) fn push_code(text: &mut String, code: &ErrorCode) -> Result<(), AllocError>
     ensures ok { OnOk result
         (string_bytes text.new ≡ string_bytes text.old ++ code_text code.now) }
     ensures plain { OnOk result (IsPlain (code_text code.now)) }

@@ -1,8 +1,8 @@
 -- Versions of one prefix that don't overlap: which holds, which overlap a new one, and what edits leave.
 use Rattle.std.proofs.lemmas.Bool.Decides.{nat_tests}
 use Rattle.std.proofs.lemmas.Bool.{false≢true}
-use Rattle.std.proofs.Common.{◌≡◌, ◌<◌, ◌≤◌, ℕ, Bool, true, false, cond, inl, inr, List, [], ◌∷◌, Option, Some, None, Result, Ok, Err, subst, refl, sym, ap, ◌∙◌, arith}
-use Rattle.std.specs.Prelude.{◌&&◌, nat_lt, nat_le, IsSome, MatchOption, option_map}
+use Rattle.std.proofs.Common.{◌≡◌, ◌<◌, ◌≤◌, ℕ, Bool, true, false, cond, inl, inr, List, [], ◌∷◌, Option, Some, None, Result, subst, refl, sym, ap, ◌∙◌, arith}
+use Rattle.std.specs.Prelude.{◌&&◌, nat_le, IsSome, MatchOption, option_map}
 use Rattle.std.specs.List.{AllByRecursion}
 use Rattle.std.specs.Cmp.Lexicographic.{bytes_decides, pointwise}
 use Rattle.std.specs.FinMap.{entries, get, insert, get-entries}
@@ -16,7 +16,6 @@ use Rattle.smq_route.specs.declared.version.VersionKey.{VersionKey}
 use Rattle.smq_route.specs.declared.version.Version.{Version}
 use Rattle.smq_kit.specs.Replies.{IsReply, first_of}
 use Rattle.smq_route.specs.Versions.{Versions, key_at, version_of, lasts_past, is_of, overlap, EndsBy, LastsPast, AreApart}
-use Rattle.smq_route.specs.Routes.{RoutesValue}
 use Rattle.smq_route.specs.within.Kept.{NoneHolds}
 use Rattle.smq_route.specs.Edits.{add_refusals, end_refusals, correct_refusals, added, changed, changed_where, ending, corrected}
 use Rattle.smq_route.proofs.VersionOrders.{versions_total, versions_exact}
@@ -143,17 +142,6 @@ overlap-first m p t (Some f) a none h =
     ] refl h.1
 
 -- ---- edits
-
--- routes of which nothing changed, where the versions didn't and those that were settled didn't
-pub same-routes : (old new : RoutesValue) → new.versions ≡ old.versions → new.settled ≡ old.settled → new ≡ old
-same-routes old new versions settled = λ i. record { versions = versions i; settled = settled i }
-
-pub reply-whole : {T : Type 0} (Made : Type 0) (o : Option Refusal) (r : Result T Refusal) (old new : RoutesValue) → new.settled ≡ old.settled
-    → IsReply o r Made (new.versions ≡ old.versions) → IsReply o r Made (new ≡ old)
-reply-whole Made None (Ok x) old new settled a = a
-reply-whole Made None (Err e) old new settled a = (a.0, same-routes old new a.1 settled)
-reply-whole Made (Some q) (Ok x) old new settled a = a
-reply-whole Made (Some q) (Err e) old new settled a = (a.0, same-routes old new a.1 settled)
 
 -- the key's prefix and beginning
 prefix-is : (p q : List ℕ) (f g : ℕ) → key_at p f ≡ key_at q g → p ≡ q

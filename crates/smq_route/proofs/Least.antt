@@ -2,7 +2,7 @@
 use Rattle.std.proofs.Common.{◌≡◌, ◌<◌, ◌≤◌, ℕ, Bool, true, false, cond, ◌⊎◌, inl, inr, List, [], ◌∷◌, length, Option, Some, None, refl, sym, ap, ◌∙◌, arith}
 use Rattle.std.proofs.lemmas.Bool.{false≢true}
 use Rattle.std.proofs.lemmas.Bool.Decides.{nat_tests}
-use Rattle.std.specs.Prelude.{◌&&◌, nat_lt, nat_le, map, filter, IfSome, unwrap_or, option_map}
+use Rattle.std.specs.Prelude.{nat_lt, nat_le, map, filter, IfSome, unwrap_or, option_map}
 use Rattle.std.specs.List.{AllByRecursion, find, list_all}
 use Rattle.std.specs.Ordering.{eq_by_cmp}
 use Rattle.std.specs.FinMap.{find as map_find}
@@ -18,10 +18,6 @@ Entry = VersionKey × Version
 -- what holds of each entry that passes
 abbrev pub AllPassing : (Entry → Bool) → (Entry → Type 0) → List Entry → Type 0
 AllPassing test P es = AllByRecursion (λ e. test e ≡ true → P e) es
-
-none-of-both : (a b : Bool) → b ≡ false → (a && b) ≡ false
-none-of-both true b e = e
-none-of-both false b e = refl
 
 -- ---- there is a longest
 

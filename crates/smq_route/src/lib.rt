@@ -5,8 +5,8 @@
 mod laws;
 mod number_key;
 mod numbers;
+mod prefix_search;
 mod routes;
-mod sought;
 mod version;
 mod walk;
 

@@ -8,7 +8,7 @@ ghost use Rattle.smq_route.specs.within.Kept.{NoneHolds, settled_in, versions_in
 ghost use Rattle.smq_route.specs.Routes.{empty};
 ghost use Rattle.smq_route.specs.Edits.{add_refusals, end_refusals, correct_refusals, added, changed, ending, corrected};
 
-use crate::sought::{Sought, lesser, search};
+use crate::prefix_search::{Sought, lesser, search};
 use crate::{Version, VersionKey};
 use smq_kit::{Digits, Moment, Network, Refusal, RouteId};
 use smq_shelf::{Entries, KeptMap};

@@ -9,9 +9,9 @@ use denote.Bor.{Bor}
 use Rattle.rayon.proofs.ToStd.{slice-AllZip}
 use Rattle.smq_present.specs.present.Present.{PresentValue}
 use Rattle.smq_present.specs.within.Lists.{notes_of, receipts_of, submits_of}
-use Rattle.smq_present.specs.declared.pairing.traffic.Traffic.{Traffic}
+use Rattle.smq_present.specs.declared.pairing.traffic.SessionReading.{SessionReading}
 use Rattle.smq_present.specs.within.Said.{Says}
-use Rattle.smq_present.specs.within.Sourced.{SourcedSession, sourced_by, sourced_of, submits_in, receipts_in, notes_in}
+use Rattle.smq_present.specs.within.Sourced.{SessionView, sourced_by, sourced_of, submits_in, receipts_in, notes_in}
 
 -- what is said of each is what is said of all
 flat-said : {X Y C : Type 0} (R : X → Y → Type 0) (f : X → List C) (g : Y → List C) → ((x : X) (y : Y) → R x y → g y ≡ f x)
@@ -22,19 +22,19 @@ flat-said R f g e (x ∷ xs) [] h = elim h [ ]
 flat-said R f g e (x ∷ xs) (y ∷ ys) h = λ i. e x y h.0 i ++ flat-said R f g e xs ys h.1 i
 
 -- messages read of each session are those of what is present, and so are notes
-pub submits-present : (p : PresentValue) (xs : List SourcedSession) (ts : List Traffic) → xs ≡ sourced_of p → AllZip Says xs ts
-    → flat_map (λ (t : Traffic). t.submits.items) ts ≡ submits_of p
+pub submits-present : (p : PresentValue) (xs : List SessionView) (ts : List SessionReading) → xs ≡ sourced_of p → AllZip Says xs ts
+    → flat_map (λ (t : SessionReading). t.submits.items) ts ≡ submits_of p
 submits-present p xs ts is h =
-    flat-said Says submits_in (λ (t : Traffic). t.submits.items) (λ x t s. s.0) xs ts h ∙ ap (flat_map submits_in) is
+    flat-said Says submits_in (λ (t : SessionReading). t.submits.items) (λ x t s. s.0) xs ts h ∙ ap (flat_map submits_in) is
     ∙ flat_map-map submits_in (sourced_by p.settings) (entries p.sessions)
 
-pub notes-present : (p : PresentValue) (xs : List SourcedSession) (ts : List Traffic) → xs ≡ sourced_of p → AllZip Says xs ts
-    → flat_map (λ (t : Traffic). t.notes.items) ts ≡ notes_of p
+pub notes-present : (p : PresentValue) (xs : List SessionView) (ts : List SessionReading) → xs ≡ sourced_of p → AllZip Says xs ts
+    → flat_map (λ (t : SessionReading). t.notes.items) ts ≡ notes_of p
 notes-present p xs ts is h =
-    flat-said Says notes_in (λ (t : Traffic). t.notes.items) (λ x t s. s.1) xs ts h ∙ ap (flat_map notes_in) is
+    flat-said Says notes_in (λ (t : SessionReading). t.notes.items) (λ x t s. s.1) xs ts h ∙ ap (flat_map notes_in) is
     ∙ flat_map-map notes_in (sourced_by p.settings) (entries p.sessions)
 
-pub receipts-present : (p : PresentValue) (xs : List SourcedSession) → xs ≡ sourced_of p → flat_map receipts_in xs ≡ receipts_of p
+pub receipts-present : (p : PresentValue) (xs : List SessionView) → xs ≡ sourced_of p → flat_map receipts_in xs ≡ receipts_of p
 receipts-present p xs is = ap (λ ys. flat_map receipts_in ys) is ∙ flat_map-map receipts_in (sourced_by p.settings) (entries p.sessions)
 
 -- ---- what a parallel map whose closure may fail collects

@@ -11,9 +11,9 @@ use Rattle.smq_pdu.specs.Pairing.{agrees}
 use Rattle.smq_pdu.specs.declared.body.Submit.{Submit}
 use Rattle.smq_tally.specs.declared.outcome.Outcome.{Outcome}
 use Rattle.smq_tally.specs.declared.outcome.Outcome.TheVariants as o
-use Rattle.smq_lines.specs.Lines.{MessageLineValue}
-use Rattle.smq_present.specs.declared.pairing.pairs.Source.{Source}
-use Rattle.smq_present.specs.declared.present.kept.KeptPdu.{KeptPdu}
+use Rattle.smq_present.specs.join.Lines.{MessageLineValue}
+use Rattle.smq_present.specs.declared.pairing.pairs.SessionForms.{SessionForms}
+use Rattle.smq_present.specs.declared.present.kept.StoredPdu.{StoredPdu}
 use Rattle.smq_present.specs.declared.present.session.Session.{Session}
 use Rattle.smq_present.specs.present.Kept.{header_of, id_in, kept_pdus, submit_in}
 use Rattle.smq_present.specs.present.Present.{PresentValue}
@@ -63,8 +63,8 @@ module _ (s : SettingsValue) (submits : List SubmittedMessage) (receipts : List 
   by_key key asks lapsed true e = rw e (by_receipt (least_receipt (candidates key receipts)) asks lapsed)
   by_key key asks lapsed false e = rw e refl
 
-  module _ (source : Source) (p : KeptPdu) (submit : Submit) where
-    by_response : (r : KeptPdu) (agree sound : Bool) (id : Option (List ℕ)) → agrees (header_of p) (header_of r) ≡ agree
+  module _ (source : SessionForms) (p : StoredPdu) (submit : Submit) where
+    by_response : (r : StoredPdu) (agree sound : Bool) (id : Option (List ℕ)) → agrees (header_of p) (header_of r) ≡ agree
         → (r.status == 0) ≡ sound → id_in r.content ≡ id
         → names (line (message_of source p submit (Some r))) ≡ says (line (message_of source p submit (Some r)))
     by_response r false sound id a z i = rw a refl
@@ -75,7 +75,7 @@ module _ (s : SettingsValue) (submits : List SubmittedMessage) (receipts : List 
         let key = link_key source.link source.forms.response octets in
         rw (a, z, i) (by_key key m.asks_receipt (lapsed_in s (message_from m)) (is_single submits key) refl)
 
-    one-decided : (response : Option KeptPdu)
+    one-decided : (response : Option StoredPdu)
         → names (line (message_of source p submit response)) ≡ says (line (message_of source p submit response))
     one-decided None = refl
     one-decided (Some r) = by_response r (agrees (header_of p) (header_of r)) (r.status == 0) (id_in r.content) refl refl refl
@@ -84,7 +84,7 @@ module _ (s : SettingsValue) (submits : List SubmittedMessage) (receipts : List 
   Decided : List SubmittedMessage → Type 0
   Decided ms = map (λ m. names (line m)) ms ≡ map (λ m. says (line m)) ms
 
-  submit-decided : (submit : Option Submit) (source : Source) (p : KeptPdu) (response : Option KeptPdu) → Decided (submit_with submit source p response)
+  submit-decided : (submit : Option Submit) (source : SessionForms) (p : StoredPdu) (response : Option StoredPdu) → Decided (submit_with submit source p response)
   unfolding Decided
   submit-decided (Some submit) source p response = ap (λ b. b ∷ []) (one-decided source p submit response)
   submit-decided None source p response = refl

@@ -10,9 +10,9 @@ use Rattle.std.proofs.lemmas.List.{take_more, map-append, append-nil, append_ass
 use Rattle.std.proofs.lemmas.List.Elements.{filter-append}
 use Rattle.std.proofs.lemmas.List.Sums.{fold-append}
 use Rattle.std.proofs.lemmas.Grind.{flat_map-append}
-use Rattle.smq_present.specs.declared.present.kept.KeptPdu.{KeptPdu}
+use Rattle.smq_present.specs.declared.present.kept.StoredPdu.{StoredPdu}
 use Rattle.smq_kit.specs.declared.link_key.LinkKey.{LinkKey}
-use Rattle.smq_present.specs.declared.pairing.pairs.Source.{Source}
+use Rattle.smq_present.specs.declared.pairing.pairs.SessionForms.{SessionForms}
 use Rattle.smq_present.specs.present.Kept.{receipt_in}
 use Rattle.smq_present.specs.join.Keyed.{can_decide}
 use Rattle.smq_kit.specs.LinkKeys.{link_key_cmp, by_key, same_key}
@@ -105,16 +105,16 @@ one-before o d r b e after = ap (λ (p : Option PlacedReceipt). decider_with p r
 -- ---- one PDU of the centre more
 
 -- the receipts up to a PDU
-pub receipts-next : (source : Source) (centre : List KeptPdu) (i : ℕ) (x : KeptPdu) → i < length centre → x ≡ get_or centre i x
+pub receipts-next : (source : SessionForms) (centre : List StoredPdu) (i : ℕ) (x : StoredPdu) → i < length centre → x ≡ get_or centre i x
     → receipts_among source (take (i + 1) centre) ≡ receipts_among source (take i centre) ++ receipt_by (receipt_in x.content) source x
 receipts-next source centre i x h is =
     ap (receipts_among source) (take_more centre i x h)
-    ∙ flat_map-append (λ (p : KeptPdu). receipt_by (receipt_in p.content) source p) (take i centre) (get_or centre i x ∷ [])
-    ∙ ap (λ (y : KeptPdu). receipts_among source (take i centre) ++ receipts_among source (y ∷ [])) (sym is)
+    ∙ flat_map-append (λ (p : StoredPdu). receipt_by (receipt_in p.content) source p) (take i centre) (get_or centre i x ∷ [])
+    ∙ ap (λ (y : StoredPdu). receipts_among source (take i centre) ++ receipts_among source (y ∷ [])) (sym is)
     ∙ ap (λ (ys : List KeyedReceipt). receipts_among source (take i centre) ++ ys) (append-nil (receipt_by (receipt_in x.content) source x))
 
 -- the receipts up to a PDU, which is one or none
-pub receipts-more : (source : Source) (centre : List KeptPdu) (i : ℕ) (x : KeptPdu) (o : Option KeyedReceipt)
+pub receipts-more : (source : SessionForms) (centre : List StoredPdu) (i : ℕ) (x : StoredPdu) (o : Option KeyedReceipt)
     (receipts : List KeyedReceipt) → i < length centre → x ≡ get_or centre i x
     → option_to_list o ≡ receipt_by (receipt_in x.content) source x
     → (receipts ++ receipts_among source (take i centre)) ++ option_to_list o ≡ receipts ++ receipts_among source (take (i + 1) centre)

@@ -19,7 +19,7 @@ use Rattle.smq_scratch.specs.declared.joined.Keys.{Keys}
 use Rattle.smq_scratch.specs.within.Joined.{HasKeys}
 use Rattle.smq_scratch.specs.within.Matches.{lines_kept}
 use Rattle.smq_scratch.specs.Lines.{listing_of, receipt_lines}
-use Rattle.smq_present.specs.within.Sourced.{SourcedSession, receipts_in, sourced_of}
+use Rattle.smq_present.specs.within.Sourced.{SessionView, receipts_in, sourced_of}
 use Rattle.smq_scratch.proofs.Collected.{receipts-present}
 use Rattle.smq_scratch.proofs.LineLaws.{lists-are}
 use Rattle.smq_scratch.proofs.Matched.{lines-kept}
@@ -39,14 +39,14 @@ tables-are p fs ns is noted =
     λ i. tables_of (counted i) ((ap listed_set noted ∙ sym (notes-are p)) i)
 
 -- the lines that maps give for the receipts of sessions are those for what is present
-pub lines-present : (p : PresentValue) (keys : Keys) (xs : List SourcedSession) → xs ≡ sourced_of p → HasKeys p keys
+pub lines-present : (p : PresentValue) (keys : Keys) (xs : List SessionView) → xs ≡ sourced_of p → HasKeys p keys
     → lines_kept keys.matches.messages keys.deciders.receipts (flat_map receipts_in xs) ≡ receipt_lines p
 lines-present p keys xs sessions has =
     (λ i. lines_kept keys.matches.messages keys.deciders.receipts (receipts-present p xs sessions i))
     ∙ lines-kept (submits_of p) (receipts_of p) (receipts_of p) keys.matches.messages keys.deciders.receipts has.matches has.deciders
 
 -- the notes of sessions and their listed receipts are those of what is present
-pub notes-made : (p : PresentValue) (keys : Keys) (xs : List SourcedSession) (old new : List Listed) → xs ≡ sourced_of p → HasKeys p keys
+pub notes-made : (p : PresentValue) (keys : Keys) (xs : List SessionView) (old new : List Listed) → xs ≡ sourced_of p → HasKeys p keys
     → old ≡ notes_of p
     → new ≡ old ++ flat_map listing_of (lines_kept keys.matches.messages keys.deciders.receipts (flat_map receipts_in xs))
     → new ≡ notes_of p ++ receipt_notes_listed p

@@ -21,7 +21,7 @@ use Rattle.smq_tally.specs.within.Counting.{count_of}
 use Rattle.smq_tally.proofs.Listings.{marked}
 use Rattle.smq_tally.proofs.Standing.{lapsed-listed, open-listed}
 use Rattle.smq_tally.proofs.Tallies.{count-tables}
-use Rattle.smq_lines.specs.Lines.{MessageLineValue}
+use Rattle.smq_present.specs.join.Lines.{MessageLineValue}
 use Rattle.smq_present.specs.declared.present.session.Session.{Session}
 use Rattle.smq_present.specs.present.Present.{PresentValue}
 use Rattle.smq_present.specs.pairing.Traffic.{traffic_of}

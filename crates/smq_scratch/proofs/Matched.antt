@@ -15,7 +15,7 @@ use Rattle.smq_kit.proofs.LinkKeyOrders.{link_keys_total, link_keys_exact}
 use Rattle.smq_present.specs.within.Accepted.{HasDeciders, accepted_with, is_single}
 use Rattle.smq_present.specs.within.Messages.{SubmittedMessage}
 use Rattle.smq_present.specs.within.Receipts.{KeyedReceipt, PlacedReceipt, candidates, least_receipt}
-use Rattle.smq_lines.specs.Lines.{ReceiptLineValue}
+use Rattle.smq_present.specs.join.Lines.{ReceiptLineValue}
 use Rattle.smq_scratch.specs.declared.matches.Match.{Match}
 use Rattle.smq_scratch.specs.Lines.{accepted_among, only_place, receipt_line, standing_by}
 use Rattle.smq_scratch.specs.within.Matches.{HasMatches, line_by, lines_kept, match_kept, match_of, match_with, number_in}

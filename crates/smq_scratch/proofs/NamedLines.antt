@@ -14,9 +14,9 @@ use Rattle.smq_kit.specs.declared.link_key.LinkKey.{LinkKey}
 use Rattle.smq_kit.specs.declared.place.Place.{Place}
 use Rattle.smq_kit.proofs.MapLemmas as maps
 use Rattle.smq_kit.proofs.PlaceOrders.{places_exact, places_total}
-use Rattle.smq_lines.specs.Lines.{MessageLineValue, ReceiptLineValue}
-use Rattle.smq_lines.specs.declared.lines.DecidingReceipt.{DecidingReceipt}
-use Rattle.smq_lines.specs.declared.lines.ReceiptStanding.TheVariants.{Deciding, Extra, Noted}
+use Rattle.smq_present.specs.join.Lines.{MessageLineValue, ReceiptLineValue}
+use Rattle.smq_present.specs.declared.join.lines.DecidingReceipt.{DecidingReceipt}
+use Rattle.smq_present.specs.declared.join.lines.ReceiptStanding.TheVariants.{Deciding, Extra, Noted}
 use Rattle.smq_group.proofs.Earliest.{one_key, own_key}
 use Rattle.smq_present.specs.present.Present.{PresentValue}
 use Rattle.smq_present.specs.present.Settings.{SettingsValue}

@@ -5,11 +5,11 @@ use Rattle.smq_receipt.specs.declared.message_state.MessageState.{MessageState}
 use Rattle.smq_receipt.specs.declared.message_state.MessageState.TheVariants.{Enroute, Delivered, Undeliverable}
 use Rattle.smq_kit.specs.declared.error_code.ErrorCode.TheVariants as e
 use Rattle.smq_tally.specs.declared.outcome.Outcome.TheVariants as o
-use Rattle.smq_lines.specs.Lines.{MessageLineValue, ReceiptLineValue}
-use Rattle.smq_lines.specs.declared.lines.ReceiptStanding.TheVariants.{Stray, Deciding, Extra, Noted, Ambiguous}
-use Rattle.smq_present.specs.declared.pairing.pairs.Source.{Source}
+use Rattle.smq_present.specs.join.Lines.{MessageLineValue, ReceiptLineValue}
+use Rattle.smq_present.specs.declared.join.lines.ReceiptStanding.TheVariants.{Stray, Deciding, Extra, Noted, Ambiguous}
+use Rattle.smq_present.specs.declared.pairing.pairs.SessionForms.{SessionForms}
 use Rattle.smq_present.specs.present.Content as c
-use Rattle.smq_present.specs.declared.present.kept.KeptPdu.{KeptPdu}
+use Rattle.smq_present.specs.declared.present.kept.StoredPdu.{StoredPdu}
 use Rattle.smq_present.specs.known.Pairing.{place_at, receipt_pdu, receipt_saying, submit}
 use Rattle.smq_present.specs.present.Settings.{SettingsValue, opening_forms}
 use Rattle.smq_present.specs.within.Messages.{SubmittedMessage, message_of}
@@ -17,16 +17,16 @@ use Rattle.smq_present.specs.within.Receipts.{KeyedReceipt, keyed_receipt}
 use Rattle.smq_scratch.specs.Lines.{message_line, receipt_line}
 
 -- a session of link 1, whose ids are taken verbatim
-abbrev pub known_source : ℕ → Source
+abbrev pub known_source : ℕ → SessionForms
 known_source session = record { session = record { 0 = session }; link = record { 0 = 1 }; forms = opening_forms }
 
 -- a response at an offset, with this command_id, this command_status and this id
-abbrev pub known_response : ℕ → ℕ → ℕ → List ℕ → KeptPdu
+abbrev pub known_response : ℕ → ℕ → ℕ → List ℕ → StoredPdu
 known_response offset command status id =
     record { offset = offset; moment = 1200; command = command; status = status; seq = 1; content = c.SubmitAnswer (Some id) }
 
 -- a submit_sm of session 10 at an offset that asks for a receipt, with this number and this response
-abbrev pub known_submit : ℕ → Option (List ℕ) → Option KeptPdu → SubmittedMessage
+abbrev pub known_submit : ℕ → Option (List ℕ) → Option StoredPdu → SubmittedMessage
 known_submit offset number response =
     message_of (known_source 10) (submit offset 1 1) (record { registered_delivery = 1; number = number }) response
 

@@ -7,10 +7,10 @@ use Rattle.smq_tally.specs.declared.list.List.TheVariants.{StrayReceipts, Ambigu
 use Rattle.smq_tally.specs.declared.list.Listed.{Listed}
 use Rattle.smq_tally.specs.declared.outcome.Outcome.{Outcome}
 use Rattle.smq_tally.specs.Lists.{listed}
-use Rattle.smq_lines.specs.Lines.{MessageLineValue, ReceiptLineValue}
-use Rattle.smq_lines.specs.declared.lines.DecidingReceipt.{DecidingReceipt}
-use Rattle.smq_lines.specs.declared.lines.ReceiptStanding.{ReceiptStanding}
-use Rattle.smq_lines.specs.declared.lines.ReceiptStanding.TheVariants.{Stray, Deciding, Extra, Noted, Ambiguous}
+use Rattle.smq_present.specs.join.Lines.{MessageLineValue, ReceiptLineValue}
+use Rattle.smq_present.specs.declared.join.lines.DecidingReceipt.{DecidingReceipt}
+use Rattle.smq_present.specs.declared.join.lines.ReceiptStanding.{ReceiptStanding}
+use Rattle.smq_present.specs.declared.join.lines.ReceiptStanding.TheVariants.{Stray, Deciding, Extra, Noted, Ambiguous}
 use Rattle.smq_present.specs.present.Present.{PresentValue}
 use Rattle.smq_present.specs.present.Settings.{SettingsValue}
 use Rattle.smq_present.specs.join.Keyed.{can_decide}
@@ -18,7 +18,7 @@ use Rattle.smq_present.specs.within.Accepted.{accepted_with, number_accepted, de
 use Rattle.smq_present.specs.within.Listings.{stands_at}
 use Rattle.smq_present.specs.within.Lists.{receipts_of, submits_of}
 use Rattle.smq_present.specs.within.Messages.{SubmittedMessage, accepted_id}
-use Rattle.smq_present.specs.within.Outcomes.{fact_of}
+use Rattle.smq_present.specs.within.Outcomes.{fact_among}
 use Rattle.smq_present.specs.within.Receipts.{KeyedReceipt, PlacedReceipt, candidates, least_receipt}
 
 -- ---- messages
@@ -30,7 +30,7 @@ deciding_receipt r = record { place = r.place; moment = r.moment; centre_delay =
 -- the line for a submitted message, under what is set, among these and these receipts
 abbrev pub message_line : SettingsValue → List SubmittedMessage → List KeyedReceipt → SubmittedMessage → MessageLineValue
 message_line settings submits receipts m = record {
-  fact = fact_of settings submits receipts m;
+  fact = fact_among settings submits receipts m;
   moment = m.moment;
   number = m.number;
   id = accepted_id m.header m.response;

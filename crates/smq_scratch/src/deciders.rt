@@ -12,8 +12,9 @@ ghost use Rattle.smq_present.specs.present.Kept.{receipt_in};
 ghost use Rattle.smq_scratch.specs.Lines.{deciding_receipt};
 
 use smq_kit::{Dir, HashedKey, Place};
-use smq_lines::DecidingReceipt;
-use smq_present::{KeptPdu, ReceivedReceipt, Source, SourcedSession, place_of};
+use smq_present::{
+    DecidingReceipt, ReceivedReceipt, SessionForms, SessionView, StoredPdu, place_of,
+};
 use std::alloc::{AllocError, Global};
 use std::collections::BTreeMap;
 use std::marker::Model;
@@ -61,8 +62,8 @@ impl<'a> PlacedReceipt<'a> {
 
 /// The receipt that a PDU of the centre is, with the key of its id.
 pub(crate) fn receipt_at<'a>(
-    source: Source,
-    pdu: &'a KeptPdu,
+    source: SessionForms,
+    pdu: &'a StoredPdu,
 ) -> Option<(HashedKey, PlacedReceipt<'a>)>
     ensures { option_to_list result ≡ receipt_by (receipt_in pdu.now.content) source pdu.now }
 {
@@ -90,7 +91,7 @@ impl<'a> Deciders<'a> {
     /// Those of the receipts of sessions.
     pub(crate) fn of_sessions(
         alloc: Global,
-        sessions: &[SourcedSession<'a>],
+        sessions: &[SessionView<'a>],
     ) -> Result<Deciders<'a>, AllocError>
         ensures { IfOk result (λ deciders.
             HasDeciders deciders.receipts (flat_map receipts_in sessions.now)) }
@@ -98,9 +99,9 @@ impl<'a> Deciders<'a> {
         let mut deciders = Deciders {
             receipts: BTreeMap::new(alloc),
         };
-        for sourced in sessions {
-            for pdu in sourced.session.centre.pdus() {
-                if let Some((key, receipt)) = receipt_at(sourced.source, pdu) {
+        for view in sessions {
+            for pdu in view.session.centre.pdus() {
+                if let Some((key, receipt)) = receipt_at(view.source, pdu) {
                     if receipt.received.can_decide() {
                         deciders.add(key, receipt)?;
                     }

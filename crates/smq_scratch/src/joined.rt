@@ -9,7 +9,8 @@ ghost use Rattle.smq_scratch.specs.within.Joined.{IsJoined};
 use crate::deciders::Deciders;
 use crate::matches::Matches;
 use smq_present::{
-    Listed, Present, SourcedSession, SubmittedMessage, Traffic, joined, read_sessions, sourced,
+    Listed, Present, SessionReading, SessionView, SubmittedMessage, concatenated, read_sessions,
+    sessions_with_forms,
 };
 use std::alloc::{AllocError, Global};
 
@@ -23,7 +24,7 @@ pub(crate) struct Keys<'a> {
 /// Sessions, their submitted messages and their notes, and what there is of each key.
 #[derive(Drop)]
 pub(crate) struct Joined<'a> {
-    pub sessions: Vec<SourcedSession<'a>>,
+    pub sessions: Vec<SessionView<'a>>,
     pub submits: Vec<SubmittedMessage<'a>>,
     pub notes: Vec<Listed>,
     pub keys: Keys<'a>,
@@ -34,7 +35,7 @@ impl<'a> Joined<'a> {
     pub(crate) fn of(alloc: Global, present: &'a Present) -> Result<Joined<'a>, AllocError>
         ensures { IfOk result (λ joined. IsJoined present.now joined) }
     {
-        let sessions = sourced(alloc, present)?;
+        let sessions = sessions_with_forms(alloc, present)?;
         let read = read_sessions(alloc, sessions.as_slice())?;
         Joined::of_read(alloc, sessions, read)
     }
@@ -42,14 +43,14 @@ impl<'a> Joined<'a> {
     /// Those of these sessions, where this is what each says.
     pub(crate) fn of_read(
         alloc: Global,
-        sessions: Vec<SourcedSession<'a>>,
-        read: Vec<Traffic<'a>>,
+        sessions: Vec<SessionView<'a>>,
+        read: Vec<SessionReading<'a>>,
     ) -> Result<Joined<'a>, AllocError>
         requires { AllZip Says sessions.items read.items }
         ensures { (p : PresentValue) → sessions.entry.items ≡ sourced_of p
             → IfOk result (λ joined. IsJoined p joined) }
     {
-        let Traffic { submits, notes } = joined(alloc, read)?;
+        let SessionReading { submits, notes } = concatenated(alloc, read)?;
         let matches = Matches::of_submits(alloc, submits.as_slice())?;
         let deciders = Deciders::of_sessions(alloc, sessions.as_slice())?;
         Ok(Joined {

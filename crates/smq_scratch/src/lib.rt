@@ -3,8 +3,8 @@
 //! tables.
 #![tactic(auto)]
 
-mod anew;
 mod deciders;
+mod from_nothing;
 mod joined;
 mod laws;
 mod matches;
@@ -19,6 +19,6 @@ pub use laws::{
 };
 
 // calls
-pub use anew::{audit, tables_anew};
+pub use from_nothing::{audit, tables_from_nothing};
 pub use received::receipt_lines;
 pub use submitted::message_lines;

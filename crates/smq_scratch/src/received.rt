@@ -11,8 +11,9 @@ use crate::deciders::{PlacedReceipt, receipt_at};
 use crate::joined::{Joined, Keys};
 use crate::matches::Match;
 use smq_kit::Place;
-use smq_lines::{ReceiptLine, ReceiptStanding};
-use smq_present::{KeptPdu, List, Listed, Present, Source, SourcedSession};
+use smq_present::{
+    List, Listed, Present, ReceiptLine, ReceiptStanding, SessionForms, SessionView, StoredPdu,
+};
 use std::alloc::{AllocError, Global};
 
 /// A line for each delivery receipt that is present, in the order of their places: how it stands to the messages that are accepted
@@ -26,9 +27,9 @@ pub fn receipt_lines<'a>(
     let joined = Joined::of(alloc, present)?;
     let keys = &joined.keys;
     let mut made = Vec::new(alloc);
-    for sourced in joined.sessions.as_slice() {
-        for pdu in sourced.session.centre.pdus() {
-            if let Some(line) = line_at(sourced.source, pdu, keys) {
+    for view in joined.sessions.as_slice() {
+        for pdu in view.session.centre.pdus() {
+            if let Some(line) = line_at(view.source, pdu, keys) {
                 made.push(line)?;
             }
         }
@@ -39,16 +40,16 @@ pub fn receipt_lines<'a>(
 /// Puts the receipts of sessions that are in a list after what is there.
 pub(crate) fn push_receipt_notes(
     notes: &mut Vec<Listed>,
-    sessions: &[SourcedSession<'_>],
+    sessions: &[SessionView<'_>],
     keys: &Keys<'_>,
 ) -> Result<(), AllocError>
     ensures { OnOk result (notes.new.items ≡ notes.old.items ++ flat_map lines.listing_of
         (lines_kept keys.now.matches.messages keys.now.deciders.receipts (flat_map receipts_in sessions.now))) }
 {
-    for sourced in sessions {
-        let centre = sourced.session.centre.pdus();
+    for view in sessions {
+        let centre = view.session.centre.pdus();
         for pdu in centre {
-            if let Some(note) = note_at(sourced.source, pdu, keys) {
+            if let Some(note) = note_at(view.source, pdu, keys) {
                 notes.push(note)?;
             }
         }
@@ -57,7 +58,7 @@ pub(crate) fn push_receipt_notes(
 }
 
 /// A PDU of the centre in its list, if it is a receipt that has one.
-fn note_at(source: Source, pdu: &KeptPdu, keys: &Keys<'_>) -> Option<Listed>
+fn note_at(source: SessionForms, pdu: &StoredPdu, keys: &Keys<'_>) -> Option<Listed>
     ensures { option_to_list result ≡ flat_map lines.listing_of
         (lines_kept keys.now.matches.messages keys.now.deciders.receipts
         (receipt_by (receipt_in pdu.now.content) source pdu.now)) }
@@ -70,7 +71,7 @@ fn note_at(source: Source, pdu: &KeptPdu, keys: &Keys<'_>) -> Option<Listed>
 }
 
 /// The line for a PDU of the centre, if it is a receipt.
-fn line_at<'a>(source: Source, pdu: &'a KeptPdu, keys: &Keys<'_>) -> Option<ReceiptLine<'a>>
+fn line_at<'a>(source: SessionForms, pdu: &'a StoredPdu, keys: &Keys<'_>) -> Option<ReceiptLine<'a>>
     ensures { option_to_list result ≡ lines_kept keys.now.matches.messages keys.now.deciders.receipts
         (receipt_by (receipt_in pdu.now.content) source pdu.now) }
 {

@@ -4,17 +4,18 @@ ghost use Rattle.std.specs.Option.{option_copied};
 ghost use Rattle.smq_present.specs.join.Outcomes.{is_shared};
 ghost use Rattle.smq_present.specs.within.Accepted.{decider_of};
 ghost use Rattle.smq_present.specs.within.Lists.{facts_listed, receipts_of, submits_of};
-ghost use Rattle.smq_present.specs.within.Outcomes.{fact_of, received, standing_of};
+ghost use Rattle.smq_present.specs.within.Outcomes.{fact_among, received, standing_of};
 ghost use Rattle.smq_scratch.specs.Lines as lines;
 ghost use Rattle.smq_scratch.specs.within.Joined.{HasKeys};
 
 use crate::deciders::PlacedReceipt;
 use crate::joined::{Joined, Keys};
-use smq_lines::MessageLine;
-use smq_present::{Fact, Present, ReceivedReceipt, SubmittedMessage, fact_under};
+use smq_present::{
+    Fact, MessageLine, Present, ReceivedReceipt, SubmittedMessage, fact_in_settings,
+};
 use std::alloc::{AllocError, Global};
 
-/// A line for each submitted message that is present, in the order of their places: what is known of it, as `tables_anew` counts
+/// A line for each submitted message that is present, in the order of their places: what is known of it, as `tables_from_nothing` counts
 /// it, and where its response and the receipt that decides it stand.
 pub fn message_lines<'a>(
     alloc: Global,
@@ -79,7 +80,7 @@ fn known_of<'d, 'a>(
 ) -> (Fact, Option<&'d PlacedReceipt<'a>>)
     requires { HasKeys present.now keys.now }
     ensures fact { result.0
-        ≡ fact_of present.now.settings (submits_of present.now) (receipts_of present.now) submit.now }
+        ≡ fact_among present.now.settings (submits_of present.now) (receipts_of present.now) submit.now }
     ensures decider { option_copied result.1
         ≡ decider_of (submits_of present.now) (receipts_of present.now) submit.now.key }
 {
@@ -87,7 +88,7 @@ fn known_of<'d, 'a>(
     let settings = present.settings();
     let message = submit.message();
     let received = received_in(decider);
-    let fact = fact_under(settings, submit.place(), &message, shared, received);
+    let fact = fact_in_settings(settings, submit.place(), &message, shared, received);
     (fact, decider)
 }
 

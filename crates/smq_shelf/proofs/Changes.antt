@@ -1,5 +1,5 @@
 -- What a change does to entries in order, and what takes it back.
-use Rattle.std.proofs.Common.{◌≡◌, Bool, true, false, List, [], ◌∷◌, ◌++◌, Option, Some, None, refl, sym, ap, ◌∙◌, subst, cond, reverse, ◌||◌, ◌&&◌}
+use Rattle.std.proofs.Common.{◌≡◌, Bool, true, false, List, [], ◌∷◌, ◌++◌, Option, Some, None, refl, sym, ap, ◌∙◌, cond, reverse, ◌||◌, ◌&&◌}
 use Rattle.std.specs.Prelude.{IsSome, is_some}
 use Rattle.std.proofs.Common.{Ordering}
 use Rattle.std.specs.declared.cmp.Ordering.TheVariants.{Less, Equal, Greater}
@@ -186,28 +186,6 @@ module _ {K : Type 0} {R : K → K → Ordering} (o : IsTotalOrder R) where
   pasts-put {V = V} {k = k} {w = w} {log = log} {es = es} p =
       rw (p.logged, p.entries) (rw (reverse-append log ((k, lookup (is_at (R k)) es) ∷ [])) (ap (λ (xs : List (K × Option V)). xs ∷ pasts R (reverse log) xs) (reverted-insert_entry k w es p.kept.ordered)))
 
-  -- the places before the last change, and those before the others
-  pub pasts-pop : {V : Type 0} (all log : List (Logged K V)) (c : Logged K V) (es next : List (K × Option V)) → all ≡ log ++ c ∷ [] → next ≡ reverted R c.0 c.1 es
-      → pasts R (reverse all) es ≡ next ∷ pasts R (reverse log) next
-  pasts-pop {V} all log c es next a n =
-      rw (a, n) (ap (λ (cs : List (Logged K V)). pasts R cs es) (reverse-append log (c ∷ [])))
-
-  pub undone-pop : {V : Type 0} (all log : List (Logged K V)) (c : Logged K V) (es next : List (K × Option V)) → all ≡ log ++ c ∷ [] → next ≡ reverted R c.0 c.1 es
-      → undone R (reverse log) next ≡ undone R (reverse all) es
-  undone-pop {V} all log c es next a n =
-      rw (a, n) (sym (ap (λ (cs : List (Logged K V)). undone R cs es) (reverse-append log (c ∷ []))))
-
-  pub IsKept-pop : {V : Type 0} (all log : List (Logged K V)) (c : Logged K V) (es next : List (K × Option V)) → all ≡ log ++ c ∷ [] → next ≡ reverted R c.0 c.1 es
-      → IsStrictlySortedBy R (keys_of next) → IsKept R all es → IsKept R log next
-  IsKept-pop {V} all log c es next a n s k =
-      let u : CanUndo R (reverse (log ++ c ∷ [])) es = subst (λ (cs : List (Logged K V)). CanUndo R (reverse cs) es) a k.undoable in
-      record { ordered = s; undoable = rw n (rw (reverse-append log (c ∷ [])) at u).1 }
-
-  pub can_pop : {V : Type 0} (all log : List (Logged K V)) (c : Logged K V) (es : List (K × Option V)) → all ≡ log ++ c ∷ [] → IsKept R all es → IsSome (lookup (is_at (R c.0)) es)
-  can_pop {V} all log c es a k =
-      let u : CanUndo R (reverse (log ++ c ∷ [])) es = subst (λ (cs : List (Logged K V)). CanUndo R (reverse cs) es) a k.undoable in
-      (rw (reverse-append log (c ∷ [])) at u).0.there
-
   pub content_of-put_some : {V : Type 0} → CmpEqualImpliesEq R → {k : K} {v : V} {log after : List (Logged K V)} {es next : List (K × Option V)} → Puts k (Some v) log es after next
       → content_of next ≡ insert_entry R (content_of es) k v
   content_of-put_some exact {k = k} {v = v} {es = es} p = ap content_of p.entries ∙ content_of-insert_some exact k v es p.kept.ordered
@@ -241,17 +219,6 @@ module _ {K : Type 0} {R : K → K → Ordering} (o : IsTotalOrder R) where
   pub record IsUndoing {V : Type 0} (log₀ : List (Logged K V)) (es₀ : List (K × Option V)) (log : List (Logged K V)) (es : List (K × Option V)) : Type 0 where
     pub kept : IsKept R log es
     pub same : undone R (reverse log) es ≡ undone R (reverse log₀) es₀
-
-  pub IsUndoing-pop : {V : Type 0} (log₀ : List (Logged K V)) (es₀ : List (K × Option V)) (log : List (Logged K V)) (c : Logged K V) (es : List (K × Option V))
-      → IsUndoing log₀ es₀ (log ++ c ∷ []) es → IsStrictlySortedBy R (keys_of (reverted R c.0 c.1 es)) → IsUndoing log₀ es₀ log (reverted R c.0 c.1 es)
-  IsUndoing-pop log₀ es₀ log c es u s = record {
-    kept = record { ordered = s; undoable = (rw (reverse-append log (c ∷ [])) at u.kept.undoable).1 };
-    same = (rw (reverse-append log (c ∷ [])) at u.same);
-  }
-
-  pub has_place-pop : {V : Type 0} (log₀ : List (Logged K V)) (es₀ : List (K × Option V)) (log : List (Logged K V)) (c : Logged K V) (es : List (K × Option V))
-      → IsUndoing log₀ es₀ (log ++ c ∷ []) es → IsSome (lookup (is_at (R c.0)) es)
-  has_place-pop log₀ es₀ log c es u = (rw (reverse-append log (c ∷ [])) at u.kept.undoable).0.there
 
   -- a change is of the key q, which had a value before it
   abbrev pub is_change_of : {V : Type 0} → K → Logged K V → Bool

@@ -1,22 +1,7 @@
 -- A change that is taken back leaves what was before.
 use Rattle.std.proofs.Common.{◌≡◌, List, Option, ◌∷◌, sym, ◌∙◌}
-use Rattle.smq_shelf.specs.Keeping.{Keeping, KeepingMap}
+use Rattle.smq_shelf.specs.Keeping.{Keeping}
 use Rattle.smq_shelf.specs.Places.{content_of}
-
--- `mid` is `old` after one change, and `new` is `mid` with that taken back
-pub taken-back : {K V : Type 0} (old mid new : KeepingMap K V) → old.content ≡ content_of old.places
-    → mid.past ≡ old.places ∷ old.past → mid.settled ≡ old.settled
-    → ((p : List (K × Option V)) (ps : List (List (K × Option V))) → mid.past ≡ p ∷ ps → new.content ≡ content_of p)
-    → ((p : List (K × Option V)) (ps : List (List (K × Option V))) → mid.past ≡ p ∷ ps → new.places ≡ p)
-    → ((p : List (K × Option V)) (ps : List (List (K × Option V))) → mid.past ≡ p ∷ ps → new.past ≡ ps)
-    → new.settled ≡ mid.settled → new ≡ old
-taken-back old mid new shown changed kept content places past same =
-    λ i. record {
-      content = (content old.places old.past changed ∙ sym shown) i;
-      settled = (same ∙ kept) i;
-      places = places old.places old.past changed i;
-      past = past old.places old.past changed i;
-    }
 
 -- the same of a map that counts touches
 pub content-back : {K V : Type 0} (old mid new : Keeping K V) → old.content ≡ content_of old.places

@@ -1,16 +1,15 @@
 -- How many places are vacant, as changes are made, taken back and settled.
-use Rattle.std.proofs.Common.{◌≡◌, ℕ, ◌+◌, ◌≤◌, Bool, ◌&&◌, true, false, cond, List, [], ◌∷◌, ◌++◌, length, reverse, Option, Some, None, refl, sym, ap, subst, ◌∙◌, Ordering, arith}
+use Rattle.std.proofs.Common.{◌≡◌, ℕ, ◌+◌, ◌≤◌, Bool, ◌&&◌, true, false, cond, List, [], ◌∷◌, length, reverse, Option, Some, None, refl, sym, ap, subst, ◌∙◌, Ordering, arith}
 use Rattle.std.specs.declared.cmp.Ordering.TheVariants.{Less, Equal, Greater}
 use Rattle.std.specs.Int.{from_bool}
 use Rattle.std.specs.Prelude.{IsSome, is_some}
 use Rattle.std.specs.Ordering.{match_ordering}
 use Rattle.std.specs.Cmp.{IsTotalOrder}
 use Rattle.std.specs.List.{AllByRecursion}
-use Rattle.std.specs.List.Sorted.{IsStrictlySortedBy}
-use Rattle.std.specs.Map.{keys_of, lookup, remove_entry}
+use Rattle.std.specs.Map.{lookup, remove_entry}
 use Rattle.std.specs.BTreeMap.{is_at, insert_entry}
-use Rattle.smq_shelf.specs.within.Undoing.{AreOccupied, IsKept, IsKeptBy, Logged, cleared_after, has_value, is_vacant, pasts, reverted, vacancies}
-use Rattle.smq_shelf.proofs.Changes.{Puts, IsSettling, IsKept-put, IsKept-pop, pasts-put, pasts-pop, IsKept-settled, vacant_from_is_vacant}
+use Rattle.smq_shelf.specs.within.Undoing.{AreOccupied, IsKept, IsKeptBy, Logged, cleared_after, has_value, is_vacant, pasts, vacancies}
+use Rattle.smq_shelf.proofs.Changes.{Puts, IsSettling, IsKept-put, pasts-put, IsKept-settled, vacant_from_is_vacant}
 
 -- ---- how many are vacant
 
@@ -109,14 +108,6 @@ module _ {K : Type 0} {R : K → K → Ordering} (o : IsTotalOrder R) where
   IsKeptBy-take {V} {k = k} {es = es} {next = next} n m p l more h =
       let put : vacancies next ≤ vacancies es + 1 = subst (λ (xs : List (K × Option V)). vacancies xs ≤ vacancies es + 1) (sym p.entries) (vacancies-inserted k None es) in
       IsKeptBy-put n m p l (more (omega (arith, put, h.vacant.0))) h
-
-  -- the last change was taken back
-  pub IsKeptBy-pop : {V : Type 0} (n : ℕ) (all log : List (Logged K V)) (c : Logged K V) (es next : List (K × Option V))
-      → all ≡ log ++ c ∷ [] → next ≡ reverted R c.0 c.1 es → IsStrictlySortedBy R (keys_of next) → IsKeptBy R n all es → IsKeptBy R n log next
-  IsKeptBy-pop {V} n all log c es next a t s h = record {
-    kept = IsKept-pop o all log c es next a t s h.kept;
-    vacant = subst (λ (xs : List (List (K × Option V))). AllByRecursion (λ past. vacancies past ≤ n) xs) (pasts-pop o all log c es next a t) h.vacant.1;
-  }
 
   -- once each change was looked at, no place is vacant
   pub vacancies-settled : {V : Type 0} (es₀ es : List (K × Option V)) (log : List (Logged K V)) → log ≡ [] → IsSettling o es₀ log es → vacancies es ≡ 0

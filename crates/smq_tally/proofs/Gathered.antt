@@ -1,5 +1,5 @@
 -- Tables of facts in a list, which are counted one after the other, the last first.
-use Rattle.std.proofs.Common.{◌≡◌, ◌+◌, ◌<◌, ◌≤◌, ◌^◌, List, [], ◌∷◌, ◌++◌, length, append-nil, subst, sym, ap, ◌∙◌, arith}
+use Rattle.std.proofs.Common.{◌≡◌, ◌+◌, ◌<◌, ◌≤◌, ◌^◌, List, [], ◌∷◌, ◌++◌, length, subst, sym, ap, ◌∙◌, arith}
 use Rattle.std.proofs.lemmas.List.{append_assoc, length-append, nil_from_length}
 use Rattle.std.specs.Prelude.{count_by, map}
 use Rattle.std.specs.FinMap.{empty}
@@ -18,10 +18,6 @@ pub record IsGathering (all left : List Fact) (shown : TablesValue) : Type 0 whe
   pub counted : List Fact
   pub split : all ≡ left ++ counted
   pub made : shown ≡ tables_of (facts_at counted) empty
-
--- at first none is counted
-pub gathered-none : (all : List Fact) (shown : TablesValue) → shown ≡ tables_of empty empty → IsGathering all all shown
-gathered-none all shown made = record { counted = []; split = sym (append-nil all); made = made }
 
 apart-after : (xs ys : List Fact) → AreOfDifferentPlaces (xs ++ ys) → AreOfDifferentPlaces ys
 apart-after [] ys h = h

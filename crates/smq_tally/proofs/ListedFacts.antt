@@ -169,11 +169,6 @@ none-taken q f none = by-once (listings_of_fact f) (listed-once f.outcome f.plac
         ap (list_any (same_listed q)) one.1.0 ∙ or-false (same_listed q one.0) ∙ false_from_ne_true (same_listed q one.0) (λ h.
         false≢true (sym none ∙ ap (λ (x : Listed). takes_facts x.list) (tells_apart listed_exact q one.0 h) ∙ one.1.1.1))
 
--- the same of the fact at a place, if there is one
-pub none-taken-at : (q : Listed) (x : Option Fact) → takes_facts q.list ≡ false → list_any (lists q) (option_to_list x) ≡ false
-none-taken-at q None none = refl
-none-taken-at q (Some f) none = ap (λ b. b || false) (none-taken q f none)
-
 -- no other fact is listed at a place that has no fact
 none-lists : (facts : FinMap place_cmp Fact) (q : Listed) → StandAtTheirPlaces facts → get facts q.place ≡ None
     → list_any (lists q) (values facts) ≡ false

@@ -1,8 +1,7 @@
 -- Counts that move from the keys of one fact to those of another, view by view.
 use Rattle.std.proofs.Common.{◌≡◌, ℕ, ◌+◌, ◌-◌, ◌<◌, ◌≤◌, ◌^◌, List, [], ◌∷◌, Option, Some, None, suc, refl, ap, ◌∙◌, arith, rules}
-use Rattle.std.proofs.lemmas.List.{drop_all}
 use Rattle.std.specs.Prelude.{drop, option_to_list, slice_get}
-use Rattle.smq_tally.specs.declared.counts.Step.TheVariants as s
+use Rattle.smq_tally.specs.declared.counts.Delta.TheVariants as s
 use Rattle.smq_tally.specs.declared.fact.CountKey.{CountKey}
 use Rattle.smq_tally.specs.declared.fact.Fact.{Fact}
 use Rattle.smq_tally.specs.declared.view.View.{View}
@@ -10,17 +9,17 @@ use Rattle.smq_tally.specs.declared.view.View.TheVariants as v
 use Rattle.smq_tally.specs.Rows.{views, view_rank, key_in, same_count_key, stands_in}
 use Rattle.smq_tally.specs.within.Counting.{Counts, count_in, steps, keys_left, keys_after, key_in_if, times, AreCounted, HaveRoom, IsMoved}
 use Rattle.smq_tally.proofs.Tallies.{Has, has-one, has-same, has-more, has-less, once, one_most, keys_in, count-append}
-use Rattle.smq_tally.proofs.Runs.{next_rank, past-length}
+use Rattle.smq_tally.proofs.Runs.{next_rank}
 use Rattle.smq_tally.proofs.ViewRanges.{view_parts}
 
 -- ---- counts that moved are those after steps
 
 pub moved-steps : (m u : Counts) (from to : List CountKey) → Has m (count_in m) → Has u (count_in u) → AreCounted from m → IsMoved from to m u
-    → u ≡ steps s.More (steps s.Less m from) to
+    → u ≡ steps s.Plus (steps s.Minus m from) to
 moved-steps m u from to h k few moved =
-    has-one u (steps s.More (steps s.Less m from) to) (count_in u) k
-    (has-same (steps s.More (steps s.Less m from) to) (λ q. (count_in m q - times q from) + times q to) (count_in u)
-    (has-more (steps s.Less m from) (λ q. count_in m q - times q from) to (has-less m (count_in m) from h))
+    has-one u (steps s.Plus (steps s.Minus m from) to) (count_in u) k
+    (has-same (steps s.Plus (steps s.Minus m from) to) (λ q. (count_in m q - times q from) + times q to) (count_in u)
+    (has-more (steps s.Minus m from) (λ q. count_in m q - times q from) to (has-less m (count_in m) from h))
     (λ q. let one = few q in let both = moved q in omega (arith, one, both)))
 
 -- a fact stands at a key once at most
@@ -48,12 +47,6 @@ after-next view next None e = refl
 after-next view next (Some f) e =
     let after : suc (view_rank view) ≡ view_rank next = let n = next_rank view_parts view next e in omega (arith, n) in
     ap (λ (m : ℕ). keys_in f (drop m views)) after
-
-pub after-last : (view : View) (f : Option Fact) → None ≡ slice_get views (view_rank view + 1) → keys_after view f ≡ []
-after-last view None e = refl
-after-last view (Some f) e =
-    let few = past-length views (view_rank view + 1) e in
-    ap (λ (vs : List View). keys_in f vs) (drop_all (suc (view_rank view)) views (omega (arith, few)))
 
 -- what is to be counted in a view is among what is to be in it and those after it
 pub room-here : (view : View) (m : Counts) (f : Option Fact) → HaveRoom (keys_left view f) m

@@ -11,7 +11,7 @@ use Rattle.smq_kit.specs.Maps.{set_at}
 use Rattle.smq_kit.proofs.MapLemmas as maps
 use Rattle.smq_shelf.specs.Values.{with_value}
 use Rattle.smq_shelf.proofs.Seen as seen
-use Rattle.smq_tally.specs.declared.counts.Step.TheVariants as s
+use Rattle.smq_tally.specs.declared.counts.Delta.TheVariants as s
 use Rattle.smq_tally.specs.declared.fact.CountKey.{CountKey}
 use Rattle.smq_tally.specs.declared.fact.RowKey.{RowKey}
 use Rattle.smq_tally.specs.declared.outcome.Outcome.{Outcome}
@@ -62,24 +62,24 @@ among p None = 0
 among p (Some o) = cond (is_outcome p o) 1 0
 
 less-under : (c : OutcomeCounts) (less : Option Outcome) (p : Outcome) → among p less ≤ count_under c p
-    → count_under (row_step_if s.Less c less) p + among p less ≡ count_under c p
+    → count_under (row_step_if s.Minus c less) p + among p less ≡ count_under c p
 less-under c None p few = omega arith
 less-under c (Some o) p few =
     let now = under-with c o p (count_under c o - 1) in
-    elim (is_outcome p o) as (λ b. is_outcome p o ≡ b → count_under (row_step s.Less c o) p ≡ cond b (count_under c o - 1) (count_under c p)
-    → cond b 1 0 ≤ count_under c p → count_under (row_step s.Less c o) p + cond b 1 0 ≡ count_under c p) [
+    elim (is_outcome p o) as (λ b. is_outcome p o ≡ b → count_under (row_step s.Minus c o) p ≡ cond b (count_under c o - 1) (count_under c p)
+    → cond b 1 0 ≤ count_under c p → count_under (row_step s.Minus c o) p + cond b 1 0 ≡ count_under c p) [
       | true ↦ λ e step least. let same : count_under c p ≡ count_under c o = ap (count_under c) (one_outcome p o e) in omega (arith, step, least, same)
       | false ↦ λ e step least. omega (arith, step)
     ] refl now few
 
 more-under : (c : OutcomeCounts) (more : Option Outcome) (p : Outcome) → (0 < among p more → count_under c p + among p more < 2 ^ 64)
-    → count_under (row_step_if s.More c more) p ≡ count_under c p + among p more
+    → count_under (row_step_if s.Plus c more) p ≡ count_under c p + among p more
 more-under c None p room = omega arith
 more-under c (Some o) p room =
     let now = under-with c o p (min (count_under c o + 1) (2 ^ 64 - 1)) in
     elim (is_outcome p o) as (λ b. is_outcome p o ≡ b
-    → count_under (row_step s.More c o) p ≡ cond b (min (count_under c o + 1) (2 ^ 64 - 1)) (count_under c p)
-    → (0 < cond b 1 0 → count_under c p + cond b 1 0 < 2 ^ 64) → count_under (row_step s.More c o) p ≡ count_under c p + cond b 1 0) [
+    → count_under (row_step s.Plus c o) p ≡ cond b (min (count_under c o + 1) (2 ^ 64 - 1)) (count_under c p)
+    → (0 < cond b 1 0 → count_under c p + cond b 1 0 < 2 ^ 64) → count_under (row_step s.Plus c o) p ≡ count_under c p + cond b 1 0) [
       | true ↦ λ e step most.
           let same : count_under c p ≡ count_under c o = ap (count_under c) (one_outcome p o e) in
           let within : count_under c o + 1 ≤ 2 ^ 64 - 1 = let small = most (omega arith) in omega (arith, same, small) in
@@ -119,8 +119,8 @@ module _ (es fs : List Row) (row : RowKey) (less more : Option Outcome)
       let b = times-here q row more e in
       let enough = few q in
       let gone = less-under c less q.outcome (omega (arith, was, a, enough)) in
-      let come = more-under (row_step_if s.Less c less) more q.outcome (λ some. let space = room q (omega (arith, b, some)) in omega (arith, was, b, space, gone)) in
-      let now = under-row more (row_step_if s.More (row_step_if s.Less c less) more) q.outcome in
+      let come = more-under (row_step_if s.Minus c less) more q.outcome (λ some. let space = room q (omega (arith, b, some)) in omega (arith, was, b, space, gone)) in
+      let now = under-row more (row_step_if s.Plus (row_step_if s.Minus c less) more) q.outcome in
       omega (arith, was, a, b, gone, come, now)
 
   pub row-moved : IsMoved (keys_at row less) (keys_at row more) (counts_in es) (counts_in fs)

@@ -23,7 +23,7 @@ use Rattle.smq_tally.specs.declared.view.View.{View}
 use Rattle.smq_tally.specs.Lists.{listed_cmp, listings_of_fact}
 use Rattle.smq_tally.specs.Rows.{views, view_rank, value_in, count_key, same_count_key, key_in, keys_of_fact, stands_in}
 use Rattle.smq_tally.specs.Tables.{TablesValue, tables_of, number_at}
-use Rattle.smq_tally.specs.declared.counts.Step.TheVariants as s
+use Rattle.smq_tally.specs.declared.counts.Delta.TheVariants as s
 use Rattle.smq_tally.specs.within.Counting.{AreCounted, Counts, count_in, count_of, one_step, steps, one_more, one_less}
 use Rattle.smq_tally.specs.within.Kept.{StandAtTheirPlaces}
 use Rattle.smq_tally.specs.within.CountOrder.{count_keys_total}
@@ -143,17 +143,17 @@ once f q = once_in f q views (search rules)
 
 -- ---- one fact more, or less
 
-pub has-more : (m : Counts) (n : CountKey → ℕ) (keys : List CountKey) → Has m n → Has (steps s.More m keys) (λ q. n q + count_by (same_count_key q) keys)
+pub has-more : (m : Counts) (n : CountKey → ℕ) (keys : List CountKey) → Has m n → Has (steps s.Plus m keys) (λ q. n q + count_by (same_count_key q) keys)
 has-more m n [] h = has-same m n (λ q. n q + count_by (same_count_key q) []) h (λ q. omega arith)
 has-more m n (key ∷ keys) h =
-    has-same (steps s.More (one_step s.More m key) keys) (λ q. (n q + cond (same_count_key q key) 1 0) + count_by (same_count_key q) keys)
+    has-same (steps s.Plus (one_step s.Plus m key) keys) (λ q. (n q + cond (same_count_key q key) 1 0) + count_by (same_count_key q) keys)
     (λ q. n q + count_by (same_count_key q) (key ∷ keys))
-    (has-more (one_step s.More m key) (λ q. n q + cond (same_count_key q key) 1 0) keys
+    (has-more (one_step s.Plus m key) (λ q. n q + cond (same_count_key q key) 1 0) keys
     (counted.has-more count_keys_total count_keys_exact keys_of_fact m n key h))
     (λ q. omega (arith, sum_by-cons (λ r. cond (same_count_key q r) 1 0) key keys))
 
 -- the number of one key is one less
-has-one-less : (m : Counts) (n : CountKey → ℕ) (key : CountKey) → Has m n → Has (one_step s.Less m key) (λ q. n q - cond (same_count_key q key) 1 0)
+has-one-less : (m : Counts) (n : CountKey → ℕ) (key : CountKey) → Has m n → Has (one_step s.Minus m key) (λ q. n q - cond (same_count_key q key) 1 0)
 has-one-less m n key h =
     record {
       at = λ q. maps.get-set_at count_keys_total count_keys_exact m key (positive (count_in m key - 1)) q
@@ -164,12 +164,12 @@ has-one-less m n key h =
     there q true e = ap (λ c. positive (c - 1)) (has-count m n h key ∙ ap n (sym (maps.same_key count_keys_total count_keys_exact q key e)))
     there q false e = h.at q ∙ ap positive (omega arith)
 
-pub has-less : (m : Counts) (n : CountKey → ℕ) (keys : List CountKey) → Has m n → Has (steps s.Less m keys) (λ q. n q - count_by (same_count_key q) keys)
+pub has-less : (m : Counts) (n : CountKey → ℕ) (keys : List CountKey) → Has m n → Has (steps s.Minus m keys) (λ q. n q - count_by (same_count_key q) keys)
 has-less m n [] h = has-same m n (λ q. n q - count_by (same_count_key q) []) h (λ q. omega arith)
 has-less m n (key ∷ keys) h =
-    has-same (steps s.Less (one_step s.Less m key) keys) (λ q. (n q - cond (same_count_key q key) 1 0) - count_by (same_count_key q) keys)
+    has-same (steps s.Minus (one_step s.Minus m key) keys) (λ q. (n q - cond (same_count_key q key) 1 0) - count_by (same_count_key q) keys)
     (λ q. n q - count_by (same_count_key q) (key ∷ keys))
-    (has-less (one_step s.Less m key) (λ q. n q - cond (same_count_key q key) 1 0) keys (has-one-less m n key h))
+    (has-less (one_step s.Minus m key) (λ q. n q - cond (same_count_key q key) 1 0) keys (has-one-less m n key h))
     (λ q. omega (arith, sum_by-cons (λ r. cond (same_count_key q r) 1 0) key keys))
 
 share-one : (f : Fact) (q : CountKey) → share (stands_in q) (Some f) ≡ cond (stands_in q f) 1 0
@@ -199,7 +199,7 @@ stands-counted facts notes place f has q =
 
 -- one fact more is counted
 counted-more : (facts : FinMap place_cmp Fact) (notes : FinSet listed_cmp) (f : Fact) → get facts f.place ≡ None
-    → steps s.More (tables_of facts notes).counts (keys_of_fact f) ≡ (tables_of (insert facts f.place f) notes).counts
+    → steps s.Plus (tables_of facts notes).counts (keys_of_fact f) ≡ (tables_of (insert facts f.place f) notes).counts
 counted-more facts notes f none =
     has-one _ _ (λ q. number_at q (insert facts f.place f))
     (has-same _ (λ q. number_at q facts + count_by (same_count_key q) (keys_of_fact f)) (λ q. number_at q (insert facts f.place f))
@@ -209,7 +209,7 @@ counted-more facts notes f none =
 
 -- a fact is counted no more
 counted-less : (facts : FinMap place_cmp Fact) (notes : FinSet listed_cmp) (place : Place) (f : Fact) → get facts place ≡ Some f
-    → steps s.Less (tables_of facts notes).counts (keys_of_fact f) ≡ (tables_of (remove facts place) notes).counts
+    → steps s.Minus (tables_of facts notes).counts (keys_of_fact f) ≡ (tables_of (remove facts place) notes).counts
 counted-less facts notes place f has =
     has-one _ _ (λ q. number_at q (remove facts place))
     (has-same _ (λ q. number_at q facts - count_by (same_count_key q) (keys_of_fact f)) (λ q. number_at q (remove facts place))

@@ -7,19 +7,19 @@ ghost use Rattle.smq_tally.specs.within.RowCounts.{keys_with, count_under, no_co
 ghost use Rattle.smq_tally.specs.Rows.{key_in, value_in, views, view_rank};
 
 use crate::fact::{RowKey, have_same_value, row_in};
-use crate::taking_back::{take_back, take_back_both};
+use crate::undo_log::{take_back, take_back_both};
 use crate::{CountKey, Fact, Outcome, View};
 use smq_shelf::{Change, KeptMap};
 use std::alloc::AllocError;
 
 /// Whether one more stands at a key, or one fewer.
 #[derive(Clone, Copy)]
-pub enum Step {
-    More,
-    Less,
+pub enum Delta {
+    Plus,
+    Minus,
 }
 
-impl Step {
+impl Delta {
     ghost use Rattle.smq_tally.specs.within.RowCounts.{stepped_within};
 
     /// Makes a count one more, or one fewer. It never overflows.
@@ -27,8 +27,8 @@ impl Step {
         ensures { count.new ≡ stepped_within self count.old }
     {
         *count = match self {
-            Step::More => count.saturating_add(1),
-            Step::Less => count.saturating_sub(1),
+            Delta::Plus => count.saturating_add(1),
+            Delta::Minus => count.saturating_sub(1),
         };
     }
 }
@@ -85,7 +85,7 @@ impl OutcomeCounts {
         }
     }
 
-    fn step(&mut self, step: Step, outcome: Outcome)
+    fn step(&mut self, step: Delta, outcome: Outcome)
         ensures { self.new ≡ row_step step self.old outcome }
     {
         match outcome {
@@ -118,10 +118,10 @@ impl Change<OutcomeCounts> for RowChange {
         let before = *place;
         let counts = place.get_or_insert(OutcomeCounts::none());
         if let Some(outcome) = self.less {
-            counts.step(Step::Less, outcome);
+            counts.step(Delta::Minus, outcome);
         }
         if let Some(outcome) = self.more {
-            counts.step(Step::More, outcome);
+            counts.step(Delta::Plus, outcome);
         } else if *counts == OutcomeCounts::none() {
             *place = None;
         }
@@ -139,8 +139,8 @@ pub(crate) fn recount(
         (counts_in counts.old.content) }
     requires room { HaveRoom (keys_left View.Link (option_copied after))
         (counts_in counts.old.content) }
-    ensures ok { OnOk result (counts_in counts.new.content ≡ steps Step.More
-        (steps Step.Less (counts_in counts.old.content) (keys_left View.Link (option_copied before.entry)))
+    ensures ok { OnOk result (counts_in counts.new.content ≡ steps Delta.Plus
+        (steps Delta.Minus (counts_in counts.old.content) (keys_left View.Link (option_copied before.entry)))
         (keys_left View.Link (option_copied after.entry))) }
     ensures settled { counts.new.settled ≡ counts.old.settled }
     ensures err { OnErr result (counts.new ≡ counts.old) }

@@ -4,17 +4,17 @@
 mod band;
 mod copies;
 mod counts;
+mod equality;
 mod fact;
-mod kept_fact;
 mod laws;
 mod list;
 mod noted;
 mod outcome;
+mod packed_fact;
 mod rows;
-mod same;
 mod tables;
-mod taking_back;
 mod tally;
+mod undo_log;
 mod value;
 mod view;
 

@@ -10,7 +10,7 @@ ghost use Rattle.smq_tally.specs.within.Counting.{AreCounted, count_of, one_more
 ghost use Rattle.smq_tally.specs.within.ListOrder.{takes_facts};
 
 use crate::tables::has_listing;
-use crate::taking_back::take_back;
+use crate::undo_log::take_back;
 use crate::{CountKey, Fact, Listed, Tables};
 use smq_shelf::KeptMap;
 use std::alloc::{AllocError, Global};

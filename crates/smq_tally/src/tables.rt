@@ -13,9 +13,9 @@ ghost use Rattle.smq_tally.specs.within.Kept.{places_in, IsLogged};
 
 use crate::copies::copy_entries;
 use crate::counts::{OutcomeCounts, count_of, recount};
+use crate::equality::{have_same_entries, have_same_rows};
 use crate::fact::RowKey;
-use crate::same::{have_same_entries, have_same_rows};
-use crate::taking_back::take_back;
+use crate::undo_log::take_back;
 use crate::{CountKey, Fact, List, Listed, Outcome, Places, Rows, Value, View};
 use smq_shelf::KeptMap;
 use std::alloc::{AllocError, Global};

@@ -10,8 +10,8 @@ ghost use Rattle.smq_tally.specs.Tally.{opening_tally, held_in};
 ghost use Rattle.smq_tally.specs.within.Kept.{facts_in};
 ghost use Rattle.smq_tally.specs.within.ListOrder.{lists, takes_facts};
 
-use crate::kept_fact::KeptFact;
 use crate::noted::NotedTables;
+use crate::packed_fact::PackedFact;
 use crate::{Fact, List, Listed, Outcome, Tables};
 use smq_kit::Place;
 use smq_shelf::Kept;
@@ -23,7 +23,7 @@ use std::marker::Model;
 #[derive(Drop)]
 pub struct Tally {
     alloc: Global,
-    facts: Kept<Place, KeptFact>,
+    facts: Kept<Place, PackedFact>,
     tables: NotedTables,
 }
 
@@ -86,7 +86,7 @@ impl Tally {
         ensures touched { OnOk result (touched self.old.touches ≤ self.new.touches) }
         ensures counted { self.old.touches ≤ self.new.touches }
     {
-        let kept = KeptFact::of(self.alloc, fact.copy())?;
+        let kept = PackedFact::of(self.alloc, fact.copy())?;
         // For the proof: there are fewer places than addresses.
         let _ = self.facts.place_count();
         self.facts.set(fact.place, kept)?;
@@ -259,7 +259,7 @@ impl Tally {
 
 // A copy of the fact at a place.
 #[tactic(auto, using(crate::proofs::Held::fact_found))]
-fn fact_at(facts: &mut Kept<Place, KeptFact>, place: &Place) -> Option<Fact>
+fn fact_at(facts: &mut Kept<Place, PackedFact>, place: &Place) -> Option<Fact>
     ensures value { result ≡ fin.get (facts_in facts.old.content) place.now }
     ensures content { facts.new.content ≡ facts.old.content }
     ensures settled { facts.new.settled ≡ facts.old.settled }
@@ -291,7 +291,7 @@ fn is_same(there: &Option<Fact>, fact: &Fact) -> bool
 #[tactic(auto, using(crate::proofs::Held::is_counted, crate::proofs::Held::kept_put, crate::proofs::Held::stands, crate::proofs::ListedFacts::fact_covered))]
 fn put(
     alloc: Global,
-    facts: &mut Kept<Place, KeptFact>,
+    facts: &mut Kept<Place, PackedFact>,
     tables: &mut NotedTables,
     before: &Option<Fact>,
     fact: Fact,
@@ -317,17 +317,17 @@ fn put(
     match before {
         Some(before) => {
             tables.replace_fact(before, &fact)?;
-            facts.set(fact.place, KeptFact::of(alloc, fact)?)
+            facts.set(fact.place, PackedFact::of(alloc, fact)?)
         }
         None => {
             tables.add_fact(&fact)?;
-            facts.set(fact.place, KeptFact::of(alloc, fact)?)
+            facts.set(fact.place, PackedFact::of(alloc, fact)?)
         }
     }
 }
 
 // Brings back what was last settled, in each. It takes no memory.
-fn undo_all(facts: &mut Kept<Place, KeptFact>, tables: &mut NotedTables)
+fn undo_all(facts: &mut Kept<Place, PackedFact>, tables: &mut NotedTables)
     ensures facts { facts.new.content ≡ facts.old.settled }
     ensures facts_settled { facts.new.settled ≡ facts.old.settled }
     ensures shown { tables.new.shown ≡ tables.old.settled }
@@ -343,7 +343,7 @@ fn undo_all(facts: &mut Kept<Place, KeptFact>, tables: &mut NotedTables)
 }
 
 // Whether the fact at a place puts it into the list. In a list into which facts put no places, the fact isn't looked up.
-fn is_listed(facts: &mut Kept<Place, KeptFact>, note: &Listed) -> bool
+fn is_listed(facts: &mut Kept<Place, PackedFact>, note: &Listed) -> bool
     ensures value { result ≡ list_any (lists note.now)
         (option_to_list (fin.get (facts_in facts.old.content) note.now.place)) }
     ensures taken { IsTrue result → IsTrue (takes_facts note.now.list) }

@@ -1,4 +1,4 @@
-//! Tests of `smq_tally`, `smq_report`, `smq_lines`, `smq_book` and `smq_load` that no case of a script can show, apart from them: a crate with
+//! Tests of `smq_tally`, `smq_report`, `smq_book` and `smq_load` that no case of a script can show, apart from them: a crate with
 //! tests is proved twice.
 #![tactic(auto)]
 

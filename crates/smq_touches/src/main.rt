@@ -2,8 +2,8 @@
 //! refusal. Then comes whether the book's tables are those that are counted from nothing, and their report. With a number as its word
 //! it stops after that row.
 //!
-//! It is a program of the repository's checks, and not of its users: gate/check-touches compares what each edit adds with what it
-//! reaches, and gate/check-refusals refuses memory to one edit.
+//! It is a program of the repository's checks, and not of its users: gate/check-touches compares what each edit adds
+//! with what it reaches, and gate/check-out-of-memory refuses memory to one edit.
 #![tactic(auto)]
 
 use smq_book::Book;
@@ -11,7 +11,7 @@ use smq_kit::Refusal;
 use smq_load::{LoadFault, Row, read_script};
 use smq_present::{Edit, PieceRow, prepare};
 use smq_report::{Format, Pick, ReportFault, write_report};
-use smq_scratch::tables_anew;
+use smq_scratch::tables_from_nothing;
 use std::alloc::{AllocError, Global};
 use std::mem::forget;
 use std::rt::Env;
@@ -120,7 +120,7 @@ fn tell_tables<R: Print + AllocGlobal>(rt: &R, book: &Book) -> io::Result<()> {
 
 /// Whether the tables of a book are those that are counted from nothing of what is present.
 fn is_current(alloc: Global, book: &Book) -> Result<bool, AllocError> {
-    let tables = tables_anew(alloc, book.present())?;
+    let tables = tables_from_nothing(alloc, book.present())?;
     let is_same = tables == *book.tables();
     forget(tables);
     Ok(is_same)

@@ -281,9 +281,6 @@ turn_fit : (P : Text → Text → Type 0) (s : Shape) → AllKeep P s.rules → 
 unfolding walked
 turn_fit P s all names w word clean fit = by_stop w.stopped clean
   where
-    met : Held × Step
-    met = word_met s.rules names w.is_trailing w.waiting w.position word w.held
-
     by_stop : (o : Option (Text × List Text))
         → cond (is_some o) [] (or_else (word_fault s names w.is_trailing w.waiting word w.held)
         (step_fault s w.position (word_met s.rules names w.is_trailing w.waiting w.position word w.held).0

@@ -1,3 +1,3 @@
 pub mod LevelLemmas
 pub mod OrderLemmas
-pub mod PickLemmas
+pub mod RuleLemmas

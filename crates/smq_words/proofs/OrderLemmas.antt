@@ -1,4 +1,4 @@
--- The order that `clap` takes: words in which it finds no fault enter `report`, `query`, `check`, `follow` or `total`, with what each asks for.
+-- What `clap` takes: words in which it finds no fault enter a subcommand of the program, and ask for a task.
 use Rattle.std.proofs.Common.{◌≡◌, ◌∙◌, ◌||◌, ◌&&◌, ℕ, Bool, true, false, cond, List, [], ◌∷◌, ◌++◌, map, Option, Some, None, ◌⊎◌, inl, inr, refl, sym, ap, ap₂, subst, codes}
 use Rattle.std.specs.Prelude.{fold, is_some, not, option_map, string_bytes, unwrap_or}
 use Rattle.std.specs.Borrow.{Bor}
@@ -22,17 +22,18 @@ use Rattle.clap.proofs.WalkLemmas.{list_any-map}
 use Rattle.smq_tally.specs.Lists.{lists}
 use Rattle.smq_tally.specs.Names.{list_name, view_name}
 use Rattle.smq_tally.specs.Rows.{views}
-use Rattle.smq_words.specs.declared.orders.Query.{Query}
+use Rattle.smq_report.specs.Picks.{pick_name, pick_names}
 use Rattle.smq_report.specs.declared.pick.Format.{Format}
 use Rattle.smq_report.specs.declared.pick.Format.TheVariants as format
+use Rattle.smq_report.specs.declared.pick.Output.TheVariants as output
 use Rattle.smq_report.specs.declared.pick.Pick.{Pick}
 use Rattle.smq_report.specs.declared.pick.Pick.TheVariants as pick
-use Rattle.smq_words.specs.Words.{Asks, AsksFor, AsksForLines, AsksToCheck, AsksToFollow, AsksToTotal, TakesNames, follow_app, format_name, format_names, format_rule, lines_name, name_rule, optional_rule, pick_name, pick_names, program, query_app, report_app, settings_app, settings_rule, subcommand_name, total_app}
-use Rattle.smq_words.specs.declared.orders.Lines.{Lines as LinesOf}
-use Rattle.smq_words.specs.declared.orders.Lines.TheVariants.{Messages, Receipts}
+use Rattle.smq_report.specs.declared.pick.Query.{Query}
 use Rattle.smq_words.specs.declared.orders.Order.{Order}
-use Rattle.smq_words.specs.declared.orders.Order.TheVariants.{Check, Follow, Lines, Run, Total}
-use Rattle.smq_words.specs.within.Orders.{IsCheckOf, IsFollowOf, IsLinesOf, IsRunOf, IsTotalOf}
+use Rattle.smq_words.specs.declared.orders.Task.{Task}
+use Rattle.smq_words.specs.declared.orders.Task.TheVariants.{Check, Follow, Run, Total}
+use Rattle.smq_words.specs.Words.{Asks, HasFormat, IsQueried, Say, TakesNames, format_name, format_names, format_rule, name_rule, named_app, optional_rule, options_app, program, settings_app, settings_rule, subcommand_name}
+use Rattle.smq_words.specs.within.Tasks.{IsOrderOf, task_named}
 use Rattle.smq_words.proofs.LevelLemmas.{IfHas, Keeps, first_fit, given_fit, help_keeps, level_fit, neither, set_keeps, set_once, some_kind}
 
 -- ---- names
@@ -134,20 +135,17 @@ optional_keeps : (names : ValueParser) → TakesNames pick_names names → Keeps
 optional_keeps names takes = set_keeps (Known IsPickName) (optional_built names)
     (λ v h. (λ e. taken_pick names takes v h, λ e. absurd (apart (codes "NAME") (codes "format") refl e)))
 
-abbrev report_built : ValueParser → Shape
-report_built formats = built_leaf (record (report_app formats).top { no_binary_name = true })
-
-abbrev query_built : ValueParser → ValueParser → Shape
-query_built names formats = built_leaf (record (query_app names formats).top { no_binary_name = true })
-
 abbrev settings_built : Text → Shape
 settings_built name = built_leaf (record (settings_app name).top { no_binary_name = true })
 
-abbrev follow_built : ValueParser → Shape
-follow_built formats = built_leaf (record (follow_app formats).top { no_binary_name = true })
+abbrev options_built : Text → ValueParser → Shape
+options_built name formats = built_leaf (record (options_app name formats).top { no_binary_name = true })
+
+abbrev query_built : ValueParser → ValueParser → Shape
+query_built names formats = built_leaf (record (named_app (codes "query") (name_rule names) formats).top { no_binary_name = true })
 
 abbrev total_built : ValueParser → ValueParser → Shape
-total_built names formats = built_leaf (record (total_app names formats).top { no_binary_name = true })
+total_built names formats = built_leaf (record (named_app (codes "total") (optional_rule names) formats).top { no_binary_name = true })
 
 of_known : (P Q : Text → Type 0) → ((v : Text) → P v → Q v) → (o : Option Text) → IfHas P o → IfHas Q o
 of_known P Q f None h = tt
@@ -166,61 +164,63 @@ pick_known : (o : Option Text) → IfHas IsPickName o → (x : Pick) × (o ≡ p
 pick_known None h = (pick.All, refl)
 pick_known (Some v) h = (h.0, sym h.1)
 
--- words ask for a report
-abbrev AsksSome : Option (Text × List Row) → Type 0
-AsksSome entered = (query : Query) × (path : Option Text) × AsksFor entered query path
-
--- words ask to follow
-abbrev AsksSomeFollow : Option (Text × List Row) → Type 0
-AsksSomeFollow entered = (format : Format) × (path : Option Text) × AsksToFollow entered format path
-
--- words ask for a total
-abbrev AsksSomeTotal : Option (Text × List Row) → Type 0
-AsksSomeTotal entered = (query : Query) × (path : Option Text) × AsksToTotal entered query path
-
--- words ask for lines
-abbrev AsksSomeLines : Option (Text × List Row) → Type 0
-AsksSomeLines entered = (lines : LinesOf) × (path : Option Text) × AsksForLines entered lines path
-
--- what words ask for is known
+-- words ask for a task
 abbrev pub Asked : Option (Text × List Row) → Type 0
-Asked entered =
-    AsksSome entered
-    ⊎ (((path : Option Text) × AsksToCheck entered path) ⊎ (AsksSomeFollow entered ⊎ (AsksSomeTotal entered ⊎ AsksSomeLines entered)))
+Asked entered = (task : Task) × (path : Option Text) × Asks entered task path
 
-report_asked : (formats : ValueParser) → TakesNames format_names formats → (words : List Text)
-    → level_fault (report_built formats) [] nothing_held words false [] ≡ [] → AsksSome (Some (rows_at (report_built formats) words))
-report_asked formats takes words clean =
-    let rows = rows_after (report_built formats).rules [] words in
-    let fit = (level_fit (Known (λ v. ⊥)) (report_built formats)
+-- of a subcommand whose one option is `--settings`
+settings_asked : (task : Task) → ((rows : List Row) → Say rows task) → (words : List Text)
+    → Asked (Some (rows_at (settings_built (subcommand_name task)) words))
+settings_asked task say words =
+    let rows = rows_after (settings_built (subcommand_name task)).rules [] words in
+    (task, first_of (codes "settings") rows, record { rows = rows; enters = refl; say = say rows; has_path = refl })
+
+-- of one with `--format` as well: no name is given, and the format is known
+options_said : (name : Text) (formats : ValueParser) → TakesNames format_names formats → (words : List Text)
+    → level_fault (options_built name formats) [] nothing_held words false [] ≡ []
+    → (f : Format) × IsQueried (rows_after (options_built name formats).rules [] words) (record { pick = pick.All; format = f })
+options_said name formats takes words clean =
+    let rows = rows_after (options_built name formats).rules [] words in
+    let fit = (level_fit (Known (λ v. ⊥)) (options_built name formats)
     (format_keeps _ formats takes, (settings_keeps _, (help_keeps _ (filled help_rule), tt))) (refl, (refl, (refl, tt))) words
     clean).0 in
     let shape = format_known (first_of (codes "format") rows)
     (of_known (Known (λ v. ⊥) (codes "format")) IsFormatName (λ v h. h.1 refl) _
-    (first_fit (Known (λ v. ⊥)) (codes "format") rows fit)) in (
-      record { pick = pick.All; format = shape.0 },
+    (first_fit (Known (λ v. ⊥)) (codes "format") rows fit)) in
+    let unnamed = none_known _ (of_known (Known (λ v. ⊥) (codes "NAME")) (λ v. ⊥) (λ v h. h.0 refl) _
+    (first_fit (Known (λ v. ⊥)) (codes "NAME") rows fit)) in
+    (shape.0, (unnamed, shape.1))
+
+report_asked : (formats : ValueParser) → TakesNames format_names formats → (words : List Text)
+    → level_fault (options_built (codes "report") formats) [] nothing_held words false [] ≡ []
+    → Asked (Some (rows_at (options_built (codes "report") formats) words))
+report_asked formats takes words clean =
+    let rows = rows_after (options_built (codes "report") formats).rules [] words in
+    let said = options_said (codes "report") formats takes words clean in (
+      Run (record { pick = pick.All; format = said.0 }),
       first_of (codes "settings") rows,
-      record {
-        rows = rows;
-        enters = refl;
-        is_named = none_known _ (of_known (Known (λ v. ⊥) (codes "NAME")) (λ v. ⊥) (λ v h. h.0 refl) _
-            (first_fit (Known (λ v. ⊥)) (codes "NAME") rows fit));
-        has_format = shape.1;
-        has_path = refl;
-      },
+      record { rows = rows; enters = refl; say = said.1; has_path = refl },
     )
 
-named_query : (x : Pick) (v : Text) → pick_name x ≡ Some v → codes "query" ≡ subcommand_name x
-named_query pick.All v h = cc
-named_query (pick.View view) v h = refl
-named_query (pick.List list) v h = refl
+follow_asked : (formats : ValueParser) → TakesNames format_names formats → (words : List Text)
+    → level_fault (options_built (codes "follow") formats) [] nothing_held words false [] ≡ []
+    → Asked (Some (rows_at (options_built (codes "follow") formats) words))
+follow_asked formats takes words clean =
+    let rows = rows_after (options_built (codes "follow") formats).rules [] words in
+    let said = options_said (codes "follow") formats takes words clean in
+    (Follow said.0, first_of (codes "settings") rows, record { rows = rows; enters = refl; say = said.1.1; has_path = refl })
+
+named_query : (x : Pick) (f : Format) (v : Text) → pick_name x ≡ Some v → codes "query" ≡ subcommand_name (Run (record { pick = x; format = f }))
+named_query pick.All f v h = cc
+named_query (pick.View view) f v h = refl
+named_query (pick.List list) f v h = refl
 
 is_required : (g : Bool) → check_kinds false false (true && (not g || false)) ≡ [] → g ≡ true
 is_required true h = refl
 is_required false h = absurd (some_kind h)
 
 query_asked : (names formats : ValueParser) → TakesNames pick_names names → TakesNames format_names formats → (words : List Text)
-    → level_fault (query_built names formats) [] nothing_held words false [] ≡ [] → AsksSome (Some (rows_at (query_built names formats) words))
+    → level_fault (query_built names formats) [] nothing_held words false [] ≡ [] → Asked (Some (rows_at (query_built names formats) words))
 query_asked names formats takes_names takes_formats words clean =
     let s = query_built names formats in
     let rows = rows_after s.rules [] words in
@@ -236,38 +236,15 @@ query_asked names formats takes_names takes_formats words clean =
     (first_fit (Known IsPickName) (codes "format") rows level.0)) in
     let given = given_fit (Known IsPickName) (codes "NAME") rows level.0 (is_required (is_given (codes "NAME") rows) level.1) in
     let named = (subst (IfHas (Known IsPickName (codes "NAME"))) given.1 (first_fit (Known IsPickName) (codes "NAME") rows level.0)).0 refl in (
-      record { pick = named.0; format = shape.0 },
+      Run (record { pick = named.0; format = shape.0 }),
       first_of (codes "settings") rows,
       record {
         rows = rows;
-        enters = ap (λ (name : Text). Some (name, rows)) (named_query named.0 given.0 named.1);
-        is_named = given.1 ∙ sym named.1;
-        has_format = shape.1;
+        enters = ap (λ (name : Text). Some (name, rows)) (named_query named.0 shape.0 given.0 named.1);
+        say = (given.1 ∙ sym named.1, shape.1);
         has_path = refl;
       },
     )
-
-check_asked : (words : List Text) → Asked (Some (rows_at (settings_built (codes "check")) words))
-check_asked words =
-    let rows = rows_after (settings_built (codes "check")).rules [] words in
-    inr (inl (first_of (codes "settings") rows, record { rows = rows; enters = refl; has_path = refl }))
-
-lines_asked : (lines : LinesOf) (words : List Text) → Asked (Some (rows_at (settings_built (lines_name lines)) words))
-lines_asked lines words =
-    let rows = rows_after (settings_built (lines_name lines)).rules [] words in
-    inr (inr (inr (inr (lines, first_of (codes "settings") rows, record { rows = rows; enters = refl; has_path = refl }))))
-
-follow_asked : (formats : ValueParser) → TakesNames format_names formats → (words : List Text)
-    → level_fault (follow_built formats) [] nothing_held words false [] ≡ [] → Asked (Some (rows_at (follow_built formats) words))
-follow_asked formats takes words clean =
-    let rows = rows_after (follow_built formats).rules [] words in
-    let fit = (level_fit (Known (λ v. ⊥)) (follow_built formats)
-    (format_keeps _ formats takes, (settings_keeps _, (help_keeps _ (filled help_rule), tt))) (refl, (refl, (refl, tt))) words
-    clean).0 in
-    let shape = format_known (first_of (codes "format") rows)
-    (of_known (Known (λ v. ⊥) (codes "format")) IsFormatName (λ v h. h.1 refl) _
-    (first_fit (Known (λ v. ⊥)) (codes "format") rows fit)) in
-    inr (inr (inl (shape.0, first_of (codes "settings") rows, record { rows = rows; enters = refl; has_format = shape.1; has_path = refl })))
 
 total_asked : (names formats : ValueParser) → TakesNames pick_names names → TakesNames format_names formats → (words : List Text)
     → level_fault (total_built names formats) [] nothing_held words false [] ≡ [] → Asked (Some (rows_at (total_built names formats) words))
@@ -286,12 +263,11 @@ total_asked names formats takes_names takes_formats words clean =
     (first_fit (Known IsPickName) (codes "format") rows fit)) in
     let named = pick_known (first_of (codes "NAME") rows)
     (of_known (Known IsPickName (codes "NAME")) IsPickName (λ v h. h.0 refl) _
-    (first_fit (Known IsPickName) (codes "NAME") rows fit)) in
-    inr (inr (inr (inl (
-      record { pick = named.0; format = shape.0 },
+    (first_fit (Known IsPickName) (codes "NAME") rows fit)) in (
+      Total (output.Report (record { pick = named.0; format = shape.0 })),
       first_of (codes "settings") rows,
-      record { rows = rows; enters = refl; is_named = named.1; has_format = shape.1; has_path = refl },
-    ))))
+      record { rows = rows; enters = refl; say = (named.1, shape.1); has_path = refl },
+    )
 
 -- ---- the subcommand: it is no `help`, which is refused with help
 
@@ -394,10 +370,10 @@ walk_stops names formats ns (word ∷ words) w clean stops =
 -- the subcommand that a word names, by a test of each
 abbrev named_by : ValueParser → ValueParser → Bool → Bool → Bool → Bool → Bool → Bool → Bool → Bool → Option Shape
 named_by names formats report query check follow total messages receipts help =
-    cond (report || false) (Some (report_built formats))
+    cond (report || false) (Some (options_built (codes "report") formats))
     (cond (query || false) (Some (query_built names formats))
     (cond (check || false) (Some (settings_built (codes "check")))
-    (cond (follow || false) (Some (follow_built formats))
+    (cond (follow || false) (Some (options_built (codes "follow") formats))
     (cond (total || false) (Some (total_built names formats))
     (cond (messages || false) (Some (settings_built (codes "messages")))
     (cond (receipts || false) (Some (settings_built (codes "receipts"))) (cond (help || false) (Some (built_leaf help_shape)) None)))))))
@@ -419,19 +395,19 @@ by_name : (names formats : ValueParser) → TakesNames pick_names names → Take
     (is_some (entered_at words (named_by names formats report query check follow total messages receipts help))) ≡ []
     → Asked (entered_at words (named_by names formats report query check follow total messages receipts help))
 by_name names formats takes_names takes_formats words rows true query check follow total messages receipts help h clean checks =
-    inl (report_asked formats takes_formats words clean)
+    report_asked formats takes_formats words clean
 by_name names formats takes_names takes_formats words rows false true check follow total messages receipts help h clean checks =
-    inl (query_asked names formats takes_names takes_formats words clean)
+    query_asked names formats takes_names takes_formats words clean
 by_name names formats takes_names takes_formats words rows false false true follow total messages receipts help h clean checks =
-    check_asked words
+    settings_asked Check (λ rows. tt) words
 by_name names formats takes_names takes_formats words rows false false false true total messages receipts help h clean checks =
     follow_asked formats takes_formats words clean
 by_name names formats takes_names takes_formats words rows false false false false true messages receipts help h clean checks =
     total_asked names formats takes_names takes_formats words clean
 by_name names formats takes_names takes_formats words rows false false false false false true receipts help h clean checks =
-    lines_asked Messages words
+    settings_asked (Total output.Messages) (λ rows. tt) words
 by_name names formats takes_names takes_formats words rows false false false false false false true help h clean checks =
-    lines_asked Receipts words
+    settings_asked (Total output.Receipts) (λ rows. tt) words
 by_name names formats takes_names takes_formats words rows false false false false false false false true h clean checks = cc
 by_name names formats takes_names takes_formats words rows false false false false false false false false h clean checks =
     absurd (missing names formats rows checks)
@@ -468,7 +444,28 @@ words_ask names formats takes_names takes_formats words clean =
     by_stop names formats takes_names takes_formats (finished s.rules end.held) end.stopped
     (walk_stops names formats ns words (walk_from nothing_held) walks.0 tt) below.0 checks.1
 
--- ---- orders
+-- ---- the task of a subcommand
+
+same_query : (a b : Query) → a.pick ≡ b.pick → a.format ≡ b.format → a ≡ b
+same_query a b pick format = ap₂ (λ (x : Pick) (f : Format). record { pick = x; format = f }) pick format
+
+run_is : (query : Query) (x : Pick) → query.pick ≡ x → task_named (subcommand_name (Run query)) query ≡ Run query
+run_is query pick.All is = rw is refl
+run_is query (pick.View view) is = rw is refl
+run_is query (pick.List list) is = rw is refl
+
+-- what the name of a task's subcommand and the query of its arguments give
+task_is : (task : Task) (rows : List Row) (query : Query)
+    → ((x : Pick) → first_of (codes "NAME") rows ≡ pick_name x → query.pick ≡ x)
+    → ((f : Format) → HasFormat rows f → query.format ≡ f) → Say rows task → task_named (subcommand_name task) query ≡ task
+task_is (Run asked) rows query picked formed say =
+    rw (same_query query asked (picked asked.pick say.0) (formed asked.format say.1)) (run_is asked asked.pick refl)
+task_is Check rows query picked formed say = refl
+task_is (Follow f) rows query picked formed say = ap (λ f. Follow f) (formed f say)
+task_is (Total (output.Report asked)) rows query picked formed say =
+    ap (λ q. Total (output.Report q)) (same_query query asked (picked asked.pick say.0) (formed asked.format say.1))
+task_is (Total output.Messages) rows query picked formed say = refl
+task_is (Total output.Receipts) rows query picked formed say = refl
 
 abbrev rows_in : Option (Text × List Row) → List Row
 rows_in None = []
@@ -478,129 +475,23 @@ abbrev name_in : Option (Text × List Row) → Text
 name_in None = []
 name_in (Some p) = p.0
 
--- what the rows of a subcommand say, where they ask for a check
-pub check_rows : (name : Text) (rows : List Row) (path : Option Text) → AsksToCheck (Some (name, rows)) path
+-- the task for which the matches of a subcommand ask
+pub asked_task : (name : Text) (rows : List Row) (query : Query)
+    → ((x : Pick) → first_of (codes "NAME") rows ≡ pick_name x → query.pick ≡ x)
+    → ((f : Format) → HasFormat rows f → query.format ≡ f)
+    → (task : Task) (path : Option Text) → Asks (Some (name, rows)) task path → task_named name query ≡ task
+asked_task name rows query picked formed task path asks =
+    let here : rows ≡ asks.rows = ap rows_in asks.enters in
+    ap (λ n. task_named n query) (ap name_in asks.enters)
+    ∙ task_is task rows query picked formed (subst (λ rs. Say rs task) (sym here) asks.say)
+
+-- and the path
+pub asked_path : (name : Text) (rows : List Row) (task : Task) (path : Option Text) → Asks (Some (name, rows)) task path
     → first_of (codes "settings") rows ≡ path
-check_rows name rows path asks = ap (λ e. first_of (codes "settings") (rows_in e)) asks.enters ∙ asks.has_path
+asked_path name rows task path asks = ap (λ e. first_of (codes "settings") (rows_in e)) asks.enters ∙ asks.has_path
 
--- where they ask to follow
-pub follow_rows : (name : Text) (rows : List Row) (format : Format) (path : Option Text) → AsksToFollow (Some (name, rows)) format path
-    → (unwrap_or (first_of (codes "format") rows) (codes "csv") ≡ format_name format) × (first_of (codes "settings") rows ≡ path)
-follow_rows name rows format path asks = (
-  ap (λ e. unwrap_or (first_of (codes "format") (rows_in e)) (codes "csv")) asks.enters ∙ asks.has_format,
-  ap (λ e. first_of (codes "settings") (rows_in e)) asks.enters ∙ asks.has_path,
-)
-
--- where they ask for a total
-pub total_rows : (name : Text) (rows : List Row) (query : Query) (path : Option Text) → AsksToTotal (Some (name, rows)) query path
-    → (first_of (codes "NAME") rows ≡ pick_name query.pick)
-    × ((unwrap_or (first_of (codes "format") rows) (codes "csv") ≡ format_name query.format) × (first_of (codes "settings") rows ≡ path))
-total_rows name rows query path asks = (
-  ap (λ e. first_of (codes "NAME") (rows_in e)) asks.enters ∙ asks.is_named,
-  (
-    ap (λ e. unwrap_or (first_of (codes "format") (rows_in e)) (codes "csv")) asks.enters ∙ asks.has_format,
-    ap (λ e. first_of (codes "settings") (rows_in e)) asks.enters ∙ asks.has_path,
-  ),
-)
-
--- where they ask for lines
-pub lines_rows : (name : Text) (rows : List Row) (lines : LinesOf) (path : Option Text) → AsksForLines (Some (name, rows)) lines path
-    → (name ≡ lines_name lines) × (first_of (codes "settings") rows ≡ path)
-lines_rows name rows lines path asks = (
-  ap name_in asks.enters,
-  ap (λ e. first_of (codes "settings") (rows_in e)) asks.enters ∙ asks.has_path,
-)
-
--- the lines of a name
-pub messages_named : (lines : LinesOf) → codes "messages" ≡ lines_name lines → Messages ≡ lines
-messages_named Messages e = refl
-messages_named Receipts e = absurd (apart (codes "messages") (codes "receipts") refl e)
-
-pub receipts_named : (lines : LinesOf) → codes "receipts" ≡ lines_name lines → Receipts ≡ lines
-receipts_named Messages e = absurd (apart (codes "receipts") (codes "messages") refl e)
-receipts_named Receipts e = refl
-
--- and where they ask for a run
-pub run_rows : (name : Text) (rows : List Row) (query : Query) (path : Option Text) → AsksFor (Some (name, rows)) query path
-    → (first_of (codes "NAME") rows ≡ pick_name query.pick)
-    × ((unwrap_or (first_of (codes "format") rows) (codes "csv") ≡ format_name query.format) × (first_of (codes "settings") rows ≡ path))
-run_rows name rows query path asks = (
-  ap (λ e. first_of (codes "NAME") (rows_in e)) asks.enters ∙ asks.is_named,
-  (
-    ap (λ e. unwrap_or (first_of (codes "format") (rows_in e)) (codes "csv")) asks.enters ∙ asks.has_format,
-    ap (λ e. first_of (codes "settings") (rows_in e)) asks.enters ∙ asks.has_path,
-  ),
-)
-
-abbrev query_by : Pick → Format → Query
-query_by pick format = record { pick = pick; format = format }
-
-pub same_query : (a b : Query) → a.pick ≡ b.pick → a.format ≡ b.format → a ≡ b
-same_query a b pick format = ap₂ query_by pick format
-
--- a run of what words ask for
-run_asks : (entered : Option (Text × List Row)) (query : Query) (path : Option Text) (order : Order) → AsksFor entered query path
-    → IsRunOf query path order → Asks entered order
-run_asks entered query path (Run asked settings) asks is =
-    subst (λ q. AsksFor entered q (option_map string_bytes settings)) (sym is.0) (subst (λ p. AsksFor entered query p) (sym is.1) asks)
-run_asks entered query path (Check settings) asks is = absurd is
-run_asks entered query path (Follow format settings) asks is = absurd is
-run_asks entered query path (Total asked settings) asks is = absurd is
-run_asks entered query path (Lines lines settings) asks is = absurd is
-
--- a check for which words ask
-check_asks : (entered : Option (Text × List Row)) (path : Option Text) (order : Order) → AsksToCheck entered path
-    → IsCheckOf path order → Asks entered order
-check_asks entered path (Run query settings) asks is = absurd is
-check_asks entered path (Check settings) asks is = subst (λ p. AsksToCheck entered p) (sym is) asks
-check_asks entered path (Follow format settings) asks is = absurd is
-check_asks entered path (Total query settings) asks is = absurd is
-check_asks entered path (Lines lines settings) asks is = absurd is
-
--- a follow for which words ask
-follow_asks : (entered : Option (Text × List Row)) (format : Format) (path : Option Text) (order : Order) → AsksToFollow entered format path
-    → IsFollowOf format path order → Asks entered order
-follow_asks entered format path (Run query settings) asks is = absurd is
-follow_asks entered format path (Check settings) asks is = absurd is
-follow_asks entered format path (Follow asked settings) asks is =
-    subst (λ f. AsksToFollow entered f (option_map string_bytes settings)) (sym is.0) (subst (λ p. AsksToFollow entered format p) (sym is.1) asks)
-follow_asks entered format path (Total query settings) asks is = absurd is
-follow_asks entered format path (Lines lines settings) asks is = absurd is
-
--- a total for which words ask
-total_asks : (entered : Option (Text × List Row)) (query : Query) (path : Option Text) (order : Order) → AsksToTotal entered query path
-    → IsTotalOf query path order → Asks entered order
-total_asks entered query path (Run asked settings) asks is = absurd is
-total_asks entered query path (Check settings) asks is = absurd is
-total_asks entered query path (Follow format settings) asks is = absurd is
-total_asks entered query path (Total asked settings) asks is =
-    subst (λ q. AsksToTotal entered q (option_map string_bytes settings)) (sym is.0) (subst (λ p. AsksToTotal entered query p) (sym is.1) asks)
-total_asks entered query path (Lines lines settings) asks is = absurd is
-
--- lines for which words ask
-lines_asks : (entered : Option (Text × List Row)) (lines : LinesOf) (path : Option Text) (order : Order) → AsksForLines entered lines path
-    → IsLinesOf lines path order → Asks entered order
-lines_asks entered lines path (Run query settings) asks is = absurd is
-lines_asks entered lines path (Check settings) asks is = absurd is
-lines_asks entered lines path (Follow format settings) asks is = absurd is
-lines_asks entered lines path (Total query settings) asks is = absurd is
-lines_asks entered lines path (Lines asked settings) asks is =
-    subst (λ l. AsksForLines entered l (option_map string_bytes settings)) (sym is.0) (subst (λ p. AsksForLines entered lines p) (sym is.1) asks)
-
--- an order of what words ask for
-pub order_asks : (entered : Option (Text × List Row)) (order : Order) → Asked entered
-    → ((query : Query) → (path : Option Text) → AsksFor entered query path → IsRunOf query path order)
-    → ((path : Option Text) → AsksToCheck entered path → IsCheckOf path order)
-    → ((format : Format) → (path : Option Text) → AsksToFollow entered format path → IsFollowOf format path order)
-    → ((query : Query) → (path : Option Text) → AsksToTotal entered query path → IsTotalOf query path order)
-    → ((lines : LinesOf) → (path : Option Text) → AsksForLines entered lines path → IsLinesOf lines path order) → Asks entered order
-order_asks entered order (inl asked) runs checks follows totals writes =
-    run_asks entered asked.0 asked.1 order asked.2 (runs asked.0 asked.1 asked.2)
-order_asks entered order (inr (inl asked)) runs checks follows totals writes =
-    check_asks entered asked.0 order asked.1 (checks asked.0 asked.1)
-order_asks entered order (inr (inr (inl asked))) runs checks follows totals writes =
-    follow_asks entered asked.0 asked.1 order asked.2 (follows asked.0 asked.1 asked.2)
-order_asks entered order (inr (inr (inr (inl asked)))) runs checks follows totals writes =
-    total_asks entered asked.0 asked.1 order asked.2 (totals asked.0 asked.1 asked.2)
-order_asks entered order (inr (inr (inr (inr asked)))) runs checks follows totals writes =
-    lines_asks entered asked.0 asked.1 order asked.2 (writes asked.0 asked.1 asked.2)
+-- an order of a task and a path that are asked for
+pub order_asks : (entered : Option (Text × List Row)) (order : Order) (task : Task) (path : Option Text) → Asks entered task path
+    → IsOrderOf task path order → Asks entered order.task (option_map string_bytes order.settings)
+order_asks entered order task path asks is =
+    subst (λ t. Asks entered t (option_map string_bytes order.settings)) (sym is.0) (subst (λ p. Asks entered task p) (sym is.1) asks)

@@ -9,10 +9,16 @@ use Rattle.smq_report.specs.declared.pick.Pick.{Pick}
 use Rattle.smq_report.specs.declared.pick.Pick.TheVariants as pick
 use Rattle.smq_tally.specs.declared.list.List.TheVariants as list
 use Rattle.smq_tally.specs.declared.view.View.TheVariants as view
-use Rattle.smq_words.specs.declared.orders.Lines.{Lines}
-use Rattle.smq_words.specs.declared.orders.Lines.TheVariants.{Messages, Receipts}
-use Rattle.smq_words.specs.Words.{AsksFor, AsksForLines, AsksToCheck, AsksToFollow, AsksToTotal, format_names, format_rule, pick_names, program, settings_rule}
-use Rattle.smq_words.specs.Words.{subcommand_name, version_text}
+use Rattle.smq_report.specs.declared.pick.Output.TheVariants.{Messages, Receipts, Report}
+use Rattle.smq_report.specs.declared.pick.Query.{Query}
+use Rattle.smq_report.specs.Picks.{pick_names}
+use Rattle.smq_words.specs.declared.orders.Task.{Task}
+use Rattle.smq_words.specs.declared.orders.Task.TheVariants.{Check, Follow, Run, Total}
+use Rattle.smq_words.specs.Words.{Asks, format_names, format_rule, program, settings_rule, subcommand_name, version_text}
+
+-- what is asked of a report, and in which format
+abbrev pub of_query : Pick → Format → Query
+of_query pick format = record { pick = pick; format = format }
 
 -- the names that `query` takes, the subcommands, the formats and the options, the version, and what `report` alone asks for
 pub record KnowsWords : Type 0 where
@@ -21,66 +27,53 @@ pub record KnowsWords : Type 0 where
       ∷ codes "centre-delay" ∷ codes "waiting" ∷ codes "stray-answers" ∷ codes "mismatched"
       ∷ codes "stray-receipts" ∷ codes "ambiguous-receipts" ∷ codes "extra-receipts"
       ∷ codes "unreadable" ∷ codes "undecodable" ∷ codes "broken" ∷ codes "open" ∷ codes "lapsed" ∷ []
-  pub report : subcommand_name pick.All ≡ codes "report"
-  pub view : subcommand_name (pick.View view.Link) ≡ codes "query"
-  pub list : subcommand_name (pick.List list.Lapsed) ≡ codes "query"
+  pub report : (format : Format) → subcommand_name (Run (of_query pick.All format)) ≡ codes "report"
+  pub view : (format : Format) → subcommand_name (Run (of_query (pick.View view.Link) format)) ≡ codes "query"
+  pub list : (format : Format) → subcommand_name (Run (of_query (pick.List list.Lapsed) format)) ≡ codes "query"
   pub formats : format_names ≡ codes "csv" ∷ codes "table" ∷ []
   pub format_option : (formats : ValueParser) → (format_rule formats).long ≡ Some (codes "format")
   pub settings_option : settings_rule.long ≡ Some (codes "settings")
   pub version : version_text ≡ codes "0.23.0"
-  pub plain : AsksFor (Some (codes "report", [])) (record { pick = pick.All; format = format.Csv }) None
+  pub plain : Asks (Some (codes "report", [])) (Run (of_query pick.All format.Csv)) None
 
 -- the fault that `clap` finds in words, whatever names and formats its parsers take
 abbrev pub HasFault : List Text → Kinds → Type 0
 HasFault words fault = (names formats : ValueParser) → fault_of (program names formats) words ≡ fault
 
--- the path of settings for which words ask that enter `check`
-abbrev pub Checks : List Text → Option Text → Type 0
-Checks words path = (names formats : ValueParser) → AsksToCheck (subcommand_of (program names formats) words) path
+-- the task and the path of settings for which words ask
+abbrev pub AskFor : List Text → Task → Option Text → Type 0
+AskFor words task path = (names formats : ValueParser) → Asks (subcommand_of (program names formats) words) task path
 
 -- words of `check`: it takes a path of settings, and neither a format nor a name
 pub record KnowsCheck : Type 0 where
   pub alone : HasFault (codes "check" ∷ []) []
-  pub alone_checks : Checks (codes "check" ∷ []) None
+  pub alone_checks : AskFor (codes "check" ∷ []) Check None
   pub settings : HasFault (codes "check" ∷ codes "--settings" ∷ codes "p" ∷ []) []
-  pub settings_checks : Checks (codes "check" ∷ codes "--settings" ∷ codes "p" ∷ []) (Some (codes "p"))
+  pub settings_checks : AskFor (codes "check" ∷ codes "--settings" ∷ codes "p" ∷ []) Check (Some (codes "p"))
   pub format : HasFault (codes "check" ∷ codes "--format" ∷ codes "csv" ∷ []) (UnknownArgument ∷ [])
   pub name : HasFault (codes "check" ∷ codes "link" ∷ []) (UnknownArgument ∷ [])
-
--- the format and the path of settings for which words ask that enter `follow`
-abbrev pub Follows : List Text → Format → Option Text → Type 0
-Follows words format path = (names formats : ValueParser) → AsksToFollow (subcommand_of (program names formats) words) format path
 
 -- words of `follow`: it takes a format and a path of settings, and no name
 pub record KnowsFollow : Type 0 where
   pub alone : HasFault (codes "follow" ∷ []) []
-  pub alone_follows : Follows (codes "follow" ∷ []) format.Csv None
-  pub settings_follows : Follows (codes "follow" ∷ codes "--settings" ∷ codes "p" ∷ []) format.Csv (Some (codes "p"))
-  pub table_follows : Follows (codes "follow" ∷ codes "--format" ∷ codes "table" ∷ []) format.Table None
+  pub alone_follows : AskFor (codes "follow" ∷ []) (Follow format.Csv) None
+  pub settings_follows : AskFor (codes "follow" ∷ codes "--settings" ∷ codes "p" ∷ []) (Follow format.Csv) (Some (codes "p"))
+  pub table_follows : AskFor (codes "follow" ∷ codes "--format" ∷ codes "table" ∷ []) (Follow format.Table) None
   pub name : HasFault (codes "follow" ∷ codes "link" ∷ []) (UnknownArgument ∷ [])
-
--- the pick, the format and the path of settings for which words ask that enter `total`
-abbrev pub Totals : List Text → Pick → Format → Option Text → Type 0
-Totals words pick format path = (names formats : ValueParser)
-    → AsksToTotal (subcommand_of (program names formats) words) (record { pick = pick; format = format }) path
 
 -- words of `total`: it takes a name, a format and a path of settings, and asks for the whole report where it has no name
 pub record KnowsTotal : Type 0 where
   pub alone : HasFault (codes "total" ∷ []) []
-  pub alone_totals : Totals (codes "total" ∷ []) pick.All format.Csv None
-  pub settings_totals : Totals (codes "total" ∷ codes "--settings" ∷ codes "p" ∷ []) pick.All format.Csv (Some (codes "p"))
-  pub table_totals : Totals (codes "total" ∷ codes "--format" ∷ codes "table" ∷ []) pick.All format.Table None
-  pub name_totals : Totals (codes "total" ∷ codes "link" ∷ []) (pick.View view.Link) format.Csv None
-
--- the lines and the path of settings for which words ask
-abbrev pub AskForLines : List Text → Lines → Option Text → Type 0
-AskForLines words lines path = (names formats : ValueParser) → AsksForLines (subcommand_of (program names formats) words) lines path
+  pub alone_totals : AskFor (codes "total" ∷ []) (Total (Report (of_query pick.All format.Csv))) None
+  pub settings_totals : AskFor (codes "total" ∷ codes "--settings" ∷ codes "p" ∷ []) (Total (Report (of_query pick.All format.Csv))) (Some (codes "p"))
+  pub table_totals : AskFor (codes "total" ∷ codes "--format" ∷ codes "table" ∷ []) (Total (Report (of_query pick.All format.Table))) None
+  pub name_totals : AskFor (codes "total" ∷ codes "link" ∷ []) (Total (Report (of_query (pick.View view.Link) format.Csv))) None
 
 -- words of `messages` and `receipts`: they take a path of settings, and neither a format nor a name
 pub record KnowsLines : Type 0 where
   pub messages : HasFault (codes "messages" ∷ []) []
-  pub messages_asked : AskForLines (codes "messages" ∷ []) Messages None
-  pub receipts_asked : AskForLines (codes "receipts" ∷ []) Receipts None
-  pub settings_asked : AskForLines (codes "receipts" ∷ codes "--settings" ∷ codes "p" ∷ []) Receipts (Some (codes "p"))
+  pub messages_asked : AskFor (codes "messages" ∷ []) (Total Messages) None
+  pub receipts_asked : AskFor (codes "receipts" ∷ []) (Total Receipts) None
+  pub settings_asked : AskFor (codes "receipts" ∷ codes "--settings" ∷ codes "p" ∷ []) (Total Receipts) (Some (codes "p"))
   pub format : HasFault (codes "messages" ∷ codes "--format" ∷ codes "csv" ∷ []) (UnknownArgument ∷ [])
   pub name : HasFault (codes "receipts" ∷ codes "link" ∷ []) (UnknownArgument ∷ [])

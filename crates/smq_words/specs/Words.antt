@@ -1,8 +1,6 @@
 -- The words that the program takes, as `clap` reads them.
-use Rattle.std.specs.Prelude.{◌≡◌, ◌⊎◌, Bool, List, [], ◌∷◌, ◌++◌, map, codes, true, false, unwrap_or, option_map, string_bytes, Option, Some, None, Result, IsErrAnd}
+use Rattle.std.specs.Prelude.{◌≡◌, ◌⊎◌, ⊤, List, [], ◌∷◌, map, codes, true, false, unwrap_or, option_map, string_bytes, Option, Some, Result, IsErrAnd}
 use Rattle.std.specs.Borrow.{Bor}
-use Rattle.std.specs.Option.{option_map_or}
-use Rattle.std.specs.Str.{bytes_eq}
 use Rattle.clap.specs.Words.{App, FailsBy, Row, Rule, Text, fault_of, first_of, kind_of, new_app, new_rule, rule_of, subcommand_of, with_rule, with_subcommand}
 use Rattle.clap.specs.Simple.{on_top}
 use Rattle.clap.specs.declared.error.Error.{Error}
@@ -11,44 +9,38 @@ use Rattle.clap.specs.declared.builder.arg.Arg.{Arg}
 use Rattle.clap.specs.declared.builder.action.ArgAction.TheVariants.{Set}
 use Rattle.clap.specs.declared.builder.value_parser.ValueParser.{ValueParser}
 use Rattle.clap.specs.declared.builder.value_parser.ValueParser.TheVariants.{Names}
-use Rattle.smq_tally.specs.Lists.{lists}
-use Rattle.smq_tally.specs.Names.{list_name, view_name}
-use Rattle.smq_tally.specs.Rows.{views}
+use Rattle.smq_report.specs.Picks.{pick_name, pick_names}
 use Rattle.smq_report.specs.declared.pick.Format.{Format}
 use Rattle.smq_report.specs.declared.pick.Format.TheVariants as format
+use Rattle.smq_report.specs.declared.pick.Output.{Output}
+use Rattle.smq_report.specs.declared.pick.Output.TheVariants as output
 use Rattle.smq_report.specs.declared.pick.Pick.{Pick}
 use Rattle.smq_report.specs.declared.pick.Pick.TheVariants as pick
-use Rattle.smq_words.specs.declared.orders.Lines.{Lines as LinesOf}
-use Rattle.smq_words.specs.declared.orders.Lines.TheVariants.{Messages, Receipts}
+use Rattle.smq_report.specs.declared.pick.Query.{Query}
 use Rattle.smq_words.specs.declared.orders.Order.{Order}
-use Rattle.smq_words.specs.declared.orders.Order.TheVariants.{Check, Follow, Lines, Run, Total}
-use Rattle.smq_words.specs.declared.orders.Query.{Query}
+use Rattle.smq_words.specs.declared.orders.Task.{Task}
+use Rattle.smq_words.specs.declared.orders.Task.TheVariants.{Check, Follow, Run, Total}
 
--- ---- what can be asked for
+-- ---- the subcommands
 
--- the views and lists, in the order of reports
-abbrev pub picks : List Pick
-picks = map pick.View views ++ map pick.List lists
+-- the subcommand that writes what is picked of a script's report
+abbrev pub run_name : Pick → Text
+run_name pick.All = codes "report"
+run_name (pick.View view) = codes "query"
+run_name (pick.List list) = codes "query"
 
--- the name of a view or a list; the whole report has none
-abbrev pub pick_name : Pick → Option Text
-pick_name pick.All = None
-pick_name (pick.View view) = Some (view_name view)
-pick_name (pick.List list) = Some (list_name list)
+-- the subcommand that writes an output of rows, however many there are
+abbrev pub total_name : Output → Text
+total_name (output.Report query) = codes "total"
+total_name output.Messages = codes "messages"
+total_name output.Receipts = codes "receipts"
 
--- the names of views and lists
-abbrev pub pick_names : List Text
-pick_names = map view_name views ++ map list_name lists
-
--- whether a pick has this name
-abbrev pub is_named : Text → Pick → Bool
-is_named text pick = option_map_or (λ name. bytes_eq name text) (pick_name pick) false
-
--- the subcommand that gives a pick
-abbrev pub subcommand_name : Pick → Text
-subcommand_name pick.All = codes "report"
-subcommand_name (pick.View view) = codes "query"
-subcommand_name (pick.List list) = codes "query"
+-- the subcommand of a task
+abbrev pub subcommand_name : Task → Text
+subcommand_name (Run query) = run_name query.pick
+subcommand_name Check = codes "check"
+subcommand_name (Follow format) = codes "follow"
+subcommand_name (Total asked) = total_name asked
 
 -- the name of a format
 abbrev pub format_name : Format → Text
@@ -101,36 +93,17 @@ settings_rule = record (new_rule (codes "settings")) {
 abbrev pub IsArgument : Rule → Arg → Type 0
 IsArgument rule argument = (rule_of argument ≡ rule) × (argument.global ≡ false)
 
--- the options of a subcommand that writes a report: `--format` and `--settings`
-abbrev pub add_options : ValueParser → App → App
-add_options formats app = with_rule (with_rule app (format_rule formats)) settings_rule
-
--- the subcommand `report`
-abbrev pub report_app : ValueParser → App
-report_app formats = add_options formats (new_app (codes "report"))
-
--- the subcommand `query`
-abbrev pub query_app : ValueParser → ValueParser → App
-query_app names formats =
-    add_options formats (with_rule (new_app (codes "query")) (name_rule names))
-
 -- a subcommand whose one option is `--settings`, as `check`, `messages` and `receipts` are
 abbrev pub settings_app : Text → App
 settings_app name = with_rule (new_app name) settings_rule
 
--- the subcommand of these lines
-abbrev pub lines_name : LinesOf → Text
-lines_name Messages = codes "messages"
-lines_name Receipts = codes "receipts"
+-- a subcommand with the options `--format` and `--settings`, as `report` and `follow` are
+abbrev pub options_app : Text → ValueParser → App
+options_app name formats = with_rule (with_rule (new_app name) (format_rule formats)) settings_rule
 
--- the subcommand `follow`: it has the options of `report`
-abbrev pub follow_app : ValueParser → App
-follow_app formats = add_options formats (new_app (codes "follow"))
-
--- the subcommand `total`: it has the options of `report`, and a NAME that may be left out
-abbrev pub total_app : ValueParser → ValueParser → App
-total_app names formats =
-    add_options formats (with_rule (new_app (codes "total")) (optional_rule names))
+-- a subcommand with a name and the same options, as `query` and `total` are
+abbrev pub named_app : Text → Rule → ValueParser → App
+named_app name rule formats = with_rule (with_rule (with_rule (new_app name) rule) (format_rule formats)) settings_rule
 
 -- the program's version
 abbrev pub version_text : Text
@@ -148,9 +121,10 @@ program names formats =
     (with_subcommand
     (with_subcommand
     (with_subcommand
-    (with_subcommand (with_subcommand (with_subcommand bare_program (report_app formats).top) (query_app names formats).top)
-    (settings_app (codes "check")).top) (follow_app formats).top) (total_app names formats).top)
-    (settings_app (codes "messages")).top) (settings_app (codes "receipts")).top
+    (with_subcommand
+    (with_subcommand (with_subcommand bare_program (options_app (codes "report") formats).top) (named_app (codes "query") (name_rule names) formats).top)
+    (settings_app (codes "check")).top) (options_app (codes "follow") formats).top)
+    (named_app (codes "total") (optional_rule names) formats).top) (settings_app (codes "messages")).top) (settings_app (codes "receipts")).top
 
 -- the program's words, where NAME is the name of a view or a list, and a format is `csv` or `table`
 pub record IsProgram (app : App) : Type 0 where
@@ -167,50 +141,32 @@ abbrev pub TakesWords : {T : Type 0} → Result T Error → List Text → Type 0
 TakesWords result words = IsErrAnd result (λ e. kind_of e ≡ OutOfMemory)
     ⊎ ((app : App) × IsProgram app × FailsBy (fault_of app words) result)
 
--- The matches of the subcommand that words enter ask for a pick, a format and a path: the subcommand is the pick's, NAME is
--- its name, and the format is the one of `--format`, or `csv` where that isn't given.
-pub record AsksFor (entered : Option (Text × List Row)) (query : Query) (path : Option Text) : Type 0 where
-  pub rows : List Row
-  pub enters : entered ≡ Some (subcommand_name query.pick, rows)
-  pub is_named : first_of (codes "NAME") rows ≡ pick_name query.pick
-  pub has_format : unwrap_or (first_of (codes "format") rows) (codes "csv") ≡ format_name query.format
-  pub has_path : first_of (codes "settings") rows ≡ path
+-- a format is the one of `--format`, or `csv` where that isn't given
+abbrev pub HasFormat : List Row → Format → Type 0
+HasFormat rows format = unwrap_or (first_of (codes "format") rows) (codes "csv") ≡ format_name format
 
--- The matches of the subcommand `check`, which words enter, ask for a path.
-pub record AsksToCheck (entered : Option (Text × List Row)) (path : Option Text) : Type 0 where
-  pub rows : List Row
-  pub enters : entered ≡ Some (codes "check", rows)
-  pub has_path : first_of (codes "settings") rows ≡ path
+-- what a query picks is what NAME names, and the whole report where there is no NAME; its format is that of `--format`
+abbrev pub IsQueried : List Row → Query → Type 0
+IsQueried rows query = (first_of (codes "NAME") rows ≡ pick_name query.pick) × HasFormat rows query.format
 
--- The matches of the subcommand `follow`, which words enter, ask for a format and a path.
-pub record AsksToFollow (entered : Option (Text × List Row)) (format : Format) (path : Option Text) : Type 0 where
-  pub rows : List Row
-  pub enters : entered ≡ Some (codes "follow", rows)
-  pub has_format : unwrap_or (first_of (codes "format") rows) (codes "csv") ≡ format_name format
-  pub has_path : first_of (codes "settings") rows ≡ path
+-- the arguments of a subcommand ask for what a task says
+abbrev pub Say : List Row → Task → Type 0
+Say rows (Run query) = IsQueried rows query
+Say rows Check = ⊤
+Say rows (Follow format) = HasFormat rows format
+Say rows (Total (output.Report query)) = IsQueried rows query
+Say rows (Total output.Messages) = ⊤
+Say rows (Total output.Receipts) = ⊤
 
--- The matches of the subcommand `total`, which words enter, ask for a pick, a format and a path, as those of `report` or `query` do.
-pub record AsksToTotal (entered : Option (Text × List Row)) (query : Query) (path : Option Text) : Type 0 where
+-- The matches of the subcommand that words enter ask for a task and a path: the subcommand is the task's, its arguments ask for what
+-- the task says, and the path is that of `--settings`.
+pub record Asks (entered : Option (Text × List Row)) (task : Task) (path : Option Text) : Type 0 where
   pub rows : List Row
-  pub enters : entered ≡ Some (codes "total", rows)
-  pub is_named : first_of (codes "NAME") rows ≡ pick_name query.pick
-  pub has_format : unwrap_or (first_of (codes "format") rows) (codes "csv") ≡ format_name query.format
+  pub enters : entered ≡ Some (subcommand_name task, rows)
+  pub say : Say rows task
   pub has_path : first_of (codes "settings") rows ≡ path
-
--- The matches of the subcommand `messages` or `receipts`, which words enter, ask for lines and a path.
-pub record AsksForLines (entered : Option (Text × List Row)) (lines : LinesOf) (path : Option Text) : Type 0 where
-  pub rows : List Row
-  pub enters : entered ≡ Some (lines_name lines, rows)
-  pub has_path : first_of (codes "settings") rows ≡ path
-
--- the matches of words ask for an order
-abbrev pub Asks : Option (Text × List Row) → Order → Type 0
-Asks entered (Run query settings) = AsksFor entered query (option_map string_bytes settings)
-Asks entered (Check settings) = AsksToCheck entered (option_map string_bytes settings)
-Asks entered (Follow format settings) = AsksToFollow entered format (option_map string_bytes settings)
-Asks entered (Total query settings) = AsksToTotal entered query (option_map string_bytes settings)
-Asks entered (Lines lines settings) = AsksForLines entered lines (option_map string_bytes settings)
 
 -- an order is the one for which `clap`'s matches of the words ask
 abbrev pub HasOrder : List Text → Order → Type 0
-HasOrder words order = (app : App) × IsProgram app × Asks (subcommand_of app words) order
+HasOrder words order =
+    (app : App) × IsProgram app × Asks (subcommand_of app words) order.task (option_map string_bytes order.settings)

@@ -1,2 +1,2 @@
--- What only private clauses cite.
-pub mod Orders
+-- What only private clauses cite: tasks by the names of subcommands.
+pub mod Tasks

@@ -10,5 +10,5 @@ pub use laws::{
     known_words, known_words_of_check, known_words_of_follow, known_words_of_lines,
     known_words_of_total,
 };
-pub use orders::{Lines, Order, Query};
+pub use orders::{Order, Task};
 pub use words::{order, own_words};

@@ -1,12 +1,13 @@
 //! The rules by which `clap` takes the program's words, and its help. Whoever adds a subcommand adds its rules here and in
 //! specs/Words.antt.
 ghost use Rattle.std.specs.Prelude.{◌≡◌, ◌++◌, IfOk, Some, false, map, option_map};
-ghost use Rattle.clap.specs.Words.{app_of, new_app};
+ghost use Rattle.clap.specs.Words.{app_of, new_app, rule_of};
 ghost use Rattle.clap.specs.declared.builder.command.Command.TheViews.{out-Command as fields_of};
 ghost use Rattle.clap.specs.declared.builder.value_parser.ValueParser.TheVariants.{Names};
 ghost use Rattle.smq_tally.specs.Names.{list_name, view_name};
-ghost use Rattle.smq_words.specs.Words.{IsArgument, IsProgram, add_options, bare_program, follow_app, format_rule, name_rule, optional_rule};
-ghost use Rattle.smq_words.specs.Words.{format_names, pick_names, query_app, report_app, settings_app, settings_rule, texts_of, total_app, version_text};
+ghost use Rattle.smq_report.specs.Picks.{pick_names};
+ghost use Rattle.smq_words.specs.Words.{IsArgument, IsProgram, bare_program, format_names, format_rule, name_rule, named_app, optional_rule};
+ghost use Rattle.smq_words.specs.Words.{options_app, settings_app, settings_rule, texts_of, version_text};
 
 use clap::{Arg, ArgAction, Command};
 use smq_tally::{List, View};
@@ -18,19 +19,49 @@ const ABOUT: &str =
     "Tells what became of SMPP 3.4 messages, from captured sessions in a script on standard input";
 
 const USAGE: &str =
-    "smq report [OPTIONS] < SCRIPT\n       smq query [OPTIONS] <NAME> < SCRIPT\n       smq check [OPTIONS] < SCRIPT\n       smq follow [OPTIONS] < ROWS\n       smq total [OPTIONS] [NAME] < SCRIPT\n       smq messages [OPTIONS] < SCRIPT\n       smq receipts [OPTIONS] < SCRIPT";
+    "smq capture [OPTIONS] --link <[HOST:]PORT=LINK> [FILE]... > SCRIPT\n       smq report [OPTIONS] < SCRIPT\n       smq query [OPTIONS] <NAME> < SCRIPT\n       smq check [OPTIONS] < SCRIPT\n       smq follow [OPTIONS] < ROWS\n       smq total [OPTIONS] [NAME] < SCRIPT\n       smq messages [OPTIONS] < SCRIPT\n       smq receipts [OPTIONS] < SCRIPT";
 
-/// What `check` does.
-const CHECK: &str =
-    "Plays a script by many threads on one desk, and says whether its tables equal a count from nothing";
+/// The help of a subcommand: what it does, and how it is called.
+#[derive(Clone, Copy)]
+struct Help<'a> {
+    about: &'a str,
+    usage: &'a str,
+}
 
-/// What `messages` does.
-const MESSAGES: &str =
-    "Writes a line of CSV for each message of a script of any length: its route, outcome, id and receipt";
+const REPORT: Help<'static> = Help {
+    about: "Writes the whole report of a script: all views, then all lists",
+    usage: "smq report [OPTIONS] < SCRIPT",
+};
 
-/// What `receipts` does.
-const RECEIPTS: &str =
-    "Writes a line of CSV for each delivery receipt of a script of any length, with the message it matches";
+const QUERY: Help<'static> = Help {
+    about: "Writes one view or one list of a script's report",
+    usage: "smq query [OPTIONS] <NAME> < SCRIPT",
+};
+
+const CHECK: Help<'static> = Help {
+    about: "Plays a script by many threads on one desk, and says whether its tables equal a count from nothing",
+    usage: "smq check [OPTIONS] < SCRIPT",
+};
+
+const FOLLOW: Help<'static> = Help {
+    about: "Plays rows as they come, and writes what is asked among them of the report at that moment",
+    usage: "smq follow [OPTIONS] < ROWS",
+};
+
+const TOTAL: Help<'static> = Help {
+    about: "Writes what report or query NAME writes, of a script of any length: no row of it is kept",
+    usage: "smq total [OPTIONS] [NAME] < SCRIPT",
+};
+
+const MESSAGES: Help<'static> = Help {
+    about: "Writes a line of CSV for each message of a script of any length: its route, outcome, id and receipt",
+    usage: "smq messages [OPTIONS] < SCRIPT",
+};
+
+const RECEIPTS: Help<'static> = Help {
+    about: "Writes a line of CSV for each delivery receipt of a script of any length, with the message it matches",
+    usage: "smq receipts [OPTIONS] < SCRIPT",
+};
 
 /// The version that `--version` prints.
 const VERSION: &str = "0.23.0";
@@ -139,15 +170,27 @@ fn command_with<'a>(
     requires formats { texts_of formats.now ≡ format_names }
     ensures { IfOk result (λ command. IsProgram (app_of command)) }
 {
-    let report = report_command(alloc, formats, more)?;
-    let query = query_command(alloc, names, formats, more)?;
-    let check = settings_command(alloc, "check", CHECK, "smq check [OPTIONS] < SCRIPT", more)?;
-    let follow = follow_command(alloc, formats, more)?;
-    let total = total_command(alloc, names, formats, more)?;
-    let usage = "smq messages [OPTIONS] < SCRIPT";
-    let messages = settings_command(alloc, "messages", MESSAGES, usage, more)?;
-    let usage = "smq receipts [OPTIONS] < SCRIPT";
-    let receipts = settings_command(alloc, "receipts", RECEIPTS, usage, more)?;
+    let report = options_command(alloc, "report", REPORT, formats, more)?;
+    let query = named_command(
+        alloc,
+        "query",
+        QUERY,
+        name_argument(alloc, names),
+        formats,
+        more,
+    )?;
+    let check = settings_command(alloc, "check", CHECK, more)?;
+    let follow = options_command(alloc, "follow", FOLLOW, formats, more)?;
+    let total = named_command(
+        alloc,
+        "total",
+        TOTAL,
+        optional_name(alloc, names),
+        formats,
+        more,
+    )?;
+    let messages = settings_command(alloc, "messages", MESSAGES, more)?;
+    let receipts = settings_command(alloc, "receipts", RECEIPTS, more)?;
     bare_command(alloc, more)?
         .subcommand(report)?
         .subcommand(query)?
@@ -175,113 +218,65 @@ fn bare_command<'a>(alloc: Global, more: &'a str) -> Result<Command<'a>, AllocEr
     )
 }
 
-fn report_command<'a>(
-    alloc: Global,
-    formats: &'a [&'a str],
-    more: &'a str,
-) -> Result<Command<'a>, AllocError>
-    ensures rules { IfOk result (λ command. app_of command ≡ report_app (Names formats.entry)) }
-    ensures local { IfOk result (λ command. (fields_of command).has_globals ≡ false) }
-{
-    let about = "Writes the whole report of a script: all views, then all lists";
-    let usage = "smq report [OPTIONS] < SCRIPT";
-    let report = subcommand(alloc, "report", about, usage, more);
-    add_options(alloc, formats, report)
-}
-
-fn follow_command<'a>(
-    alloc: Global,
-    formats: &'a [&'a str],
-    more: &'a str,
-) -> Result<Command<'a>, AllocError>
-    ensures rules { IfOk result (λ command. app_of command ≡ follow_app (Names formats.entry)) }
-    ensures local { IfOk result (λ command. (fields_of command).has_globals ≡ false) }
-{
-    let about =
-        "Plays rows as they come, and writes what is asked among them of the report at that moment";
-    let usage = "smq follow [OPTIONS] < ROWS";
-    let follow = subcommand(alloc, "follow", about, usage, more);
-    add_options(alloc, formats, follow)
-}
-
-fn query_command<'a>(
-    alloc: Global,
-    names: &'a [&'a str],
-    formats: &'a [&'a str],
-    more: &'a str,
-) -> Result<Command<'a>, AllocError>
-    ensures rules { IfOk result (λ command.
-        app_of command ≡ query_app (Names names.entry) (Names formats.entry)) }
-    ensures local { IfOk result (λ command. (fields_of command).has_globals ≡ false) }
-{
-    let about = "Writes one view or one list of a script's report";
-    let usage = "smq query [OPTIONS] <NAME> < SCRIPT";
-    let query = subcommand(alloc, "query", about, usage, more);
-    add_options(alloc, formats, query.arg(name_argument(alloc, names))?)
-}
-
-fn total_command<'a>(
-    alloc: Global,
-    names: &'a [&'a str],
-    formats: &'a [&'a str],
-    more: &'a str,
-) -> Result<Command<'a>, AllocError>
-    ensures rules { IfOk result (λ command.
-        app_of command ≡ total_app (Names names.entry) (Names formats.entry)) }
-    ensures local { IfOk result (λ command. (fields_of command).has_globals ≡ false) }
-{
-    let about =
-        "Writes what report or query NAME writes, of a script of any length: no row of it is kept";
-    let usage = "smq total [OPTIONS] [NAME] < SCRIPT";
-    let total = subcommand(alloc, "total", about, usage, more);
-    add_options(alloc, formats, total.arg(optional_name(alloc, names))?)
-}
-
 /// A subcommand whose one option is `--settings`, and its help.
 fn settings_command<'a>(
     alloc: Global,
     name: &'a str,
-    about: &'a str,
-    usage: &'a str,
+    help: Help<'a>,
     more: &'a str,
 ) -> Result<Command<'a>, AllocError>
     ensures rules { IfOk result (λ command. app_of command ≡ settings_app name.entry.now) }
     ensures local { IfOk result (λ command. (fields_of command).has_globals ≡ false) }
 {
-    subcommand(alloc, name, about, usage, more).arg(settings_option(alloc))
+    subcommand(alloc, name, help, more).arg(settings_option(alloc))
+}
+
+/// A subcommand with the options `--format` and `--settings`, and its help.
+fn options_command<'a>(
+    alloc: Global,
+    name: &'a str,
+    help: Help<'a>,
+    formats: &'a [&'a str],
+    more: &'a str,
+) -> Result<Command<'a>, AllocError>
+    ensures rules { IfOk result (λ command.
+        app_of command ≡ options_app name.entry.now (Names formats.entry)) }
+    ensures local { IfOk result (λ command. (fields_of command).has_globals ≡ false) }
+{
+    subcommand(alloc, name, help, more)
+        .arg(format_option(alloc, formats))?
+        .arg(settings_option(alloc))
+}
+
+/// A subcommand with a name and the same options, and its help.
+fn named_command<'a>(
+    alloc: Global,
+    name: &'a str,
+    help: Help<'a>,
+    argument: Arg<'a>,
+    formats: &'a [&'a str],
+    more: &'a str,
+) -> Result<Command<'a>, AllocError>
+    requires { argument.global ≡ false }
+    ensures rules { IfOk result (λ command.
+        app_of command ≡ named_app name.entry.now (rule_of argument.entry) (Names formats.entry)) }
+    ensures local { IfOk result (λ command. (fields_of command).has_globals ≡ false) }
+{
+    subcommand(alloc, name, help, more)
+        .arg(argument)?
+        .arg(format_option(alloc, formats))?
+        .arg(settings_option(alloc))
 }
 
 /// A subcommand with no argument yet, and its help.
-fn subcommand<'a>(
-    alloc: Global,
-    name: &'a str,
-    about: &'a str,
-    usage: &'a str,
-    more: &'a str,
-) -> Command<'a>
+fn subcommand<'a>(alloc: Global, name: &'a str, help: Help<'a>, more: &'a str) -> Command<'a>
     ensures rules { app_of result ≡ new_app name.entry.now }
     ensures local { (fields_of result).has_globals ≡ false }
 {
     Command::new(alloc, name)
-        .about(about)
-        .override_usage(usage)
+        .about(help.about)
+        .override_usage(help.usage)
         .after_help(more)
-}
-
-/// A subcommand with the options of those that write a report.
-fn add_options<'a>(
-    alloc: Global,
-    formats: &'a [&'a str],
-    command: Command<'a>,
-) -> Result<Command<'a>, AllocError>
-    ensures rules { IfOk result (λ made.
-        app_of made ≡ add_options (Names formats.entry) (app_of command.entry)) }
-    ensures local { IfOk result (λ made.
-        (fields_of made).has_globals ≡ (fields_of command.entry).has_globals) }
-{
-    command
-        .arg(format_option(alloc, formats))?
-        .arg(settings_option(alloc))
 }
 
 fn name_argument<'a>(alloc: Global, names: &'a [&'a str]) -> Arg<'a>

@@ -1,18 +1,14 @@
 //! The words of the program, and what they ask for.
-ghost use Rattle.std.specs.Prelude.{◌≡◌, Option, Some, IfOk, find, map, option_map, string_bytes, unwrap_or, codes};
-ghost use Rattle.std.specs.Str.{bytes_eq};
+ghost use Rattle.std.specs.Prelude.{◌≡◌, Option, Some, IfOk, map, option_map, string_bytes, unwrap_or, codes};
 ghost use Rattle.clap.specs.Words.{Text, first_of, found_of, rows_of, subcommand_rows_of};
-ghost use Rattle.smq_tally.specs.Lists.{lists};
-ghost use Rattle.smq_tally.specs.Names.{list_name, view_name};
-ghost use Rattle.smq_tally.specs.Rows.{views};
-ghost use Rattle.smq_words.specs.Words.{AsksFor, AsksForLines, AsksToCheck, AsksToFollow, AsksToTotal, HasOrder, TakesWords, format_name, is_named, pick_name, picks};
-ghost use Rattle.smq_words.specs.within.Orders.{IsCheckOf, IsFollowOf, IsLinesOf, IsRunOf, IsTotalOf};
+ghost use Rattle.smq_report.specs.Picks.{pick_name};
+ghost use Rattle.smq_words.specs.Words.{Asks, HasOrder, TakesWords, format_name};
+ghost use Rattle.smq_words.specs.within.Tasks.{IsOrderOf, task_named};
 
-use crate::orders::{Lines, Order, Query};
+use crate::orders::{Order, Task};
 use crate::rules::{command, more_help, pick_names};
 use clap::{ArgMatches, Error};
-use smq_report::{Format, Pick};
-use smq_tally::{List, View};
+use smq_report::{Format, Output, Pick, Query};
 use std::alloc::{AllocError, Global};
 use std::convert::AsStr;
 use std::rt::Env;
@@ -33,28 +29,13 @@ pub fn order<S: AsStr>(alloc: Global, words: &[S]) -> Result<Order, Error>
 
 /// What the matches of the words ask for. `clap` takes no words without a subcommand.
 fn order_in(alloc: Global, matches: &ArgMatches) -> Result<Order, AllocError>
-    ensures run { (query : Query) → (path : Option Text)
-        → AsksFor (subcommand_rows_of matches.now) query path
-        → IfOk result (IsRunOf query path) }
-    ensures check { (path : Option Text) → AsksToCheck (subcommand_rows_of matches.now) path
-        → IfOk result (IsCheckOf path) }
-    ensures follow { (format : Format) → (path : Option Text)
-        → AsksToFollow (subcommand_rows_of matches.now) format path
-        → IfOk result (IsFollowOf format path) }
-    ensures total { (query : Query) → (path : Option Text)
-        → AsksToTotal (subcommand_rows_of matches.now) query path
-        → IfOk result (IsTotalOf query path) }
-    ensures lines { (lines : Lines) → (path : Option Text)
-        → AsksForLines (subcommand_rows_of matches.now) lines path
-        → IfOk result (IsLinesOf lines path) }
+    ensures { (task : Task) → (path : Option Text)
+        → Asks (subcommand_rows_of matches.now) task path → IfOk result (IsOrderOf task path) }
 {
     match matches.subcommand() {
         Some((name, entered)) => order_of(alloc, name, entered),
-        None => Ok(Order::Run {
-            query: Query {
-                pick: Pick::All,
-                format: Format::Csv,
-            },
+        None => Ok(Order {
+            task: Task::Check,
             settings: None,
         }),
     }
@@ -62,47 +43,42 @@ fn order_in(alloc: Global, matches: &ArgMatches) -> Result<Order, AllocError>
 
 /// What the matches of the subcommand of a name ask for.
 fn order_of(alloc: Global, name: &str, entered: &ArgMatches) -> Result<Order, AllocError>
-    ensures run { (query : Query) → (path : Option Text)
-        → AsksFor (Some (name.now, rows_of (found_of entered.now))) query path
-        → IfOk result (IsRunOf query path) }
-    ensures check { (path : Option Text)
-        → AsksToCheck (Some (name.now, rows_of (found_of entered.now))) path
-        → IfOk result (IsCheckOf path) }
-    ensures follow { (format : Format) → (path : Option Text)
-        → AsksToFollow (Some (name.now, rows_of (found_of entered.now))) format path
-        → IfOk result (IsFollowOf format path) }
-    ensures total { (query : Query) → (path : Option Text)
-        → AsksToTotal (Some (name.now, rows_of (found_of entered.now))) query path
-        → IfOk result (IsTotalOf query path) }
-    ensures lines { (lines : Lines) → (path : Option Text)
-        → AsksForLines (Some (name.now, rows_of (found_of entered.now))) lines path
-        → IfOk result (IsLinesOf lines path) }
+    ensures { (task : Task) → (path : Option Text)
+        → Asks (Some (name.now, rows_of (found_of entered.now))) task path → IfOk result (IsOrderOf task path) }
 {
     let settings = named_path(alloc, entered.get_str("settings"))?;
+    let task = task_of(name, entered);
+    Ok(Order { task, settings })
+}
+
+/// The task for which the matches of the subcommand of a name ask.
+fn task_of(name: &str, entered: &ArgMatches) -> Task
+    ensures { (task : Task) → (path : Option Text)
+        → Asks (Some (name.now, rows_of (found_of entered.now))) task path → result ≡ task }
+{
+    task_named(name, query_in(entered))
+}
+
+/// The task of the subcommand of a name, whose arguments ask for this.
+fn task_named(name: &str, query: Query) -> Task
+    ensures { result ≡ task_named name.now query }
+{
     if name == "check" {
-        return Ok(Order::Check { settings });
+        return Task::Check;
     }
     if name == "follow" {
-        let format = named_format(entered.get_str("format"));
-        return Ok(Order::Follow { format, settings });
+        return Task::Follow(query.format);
     }
     if name == "messages" {
-        return Ok(Order::Lines {
-            lines: Lines::Messages,
-            settings,
-        });
+        return Task::Total(Output::Messages);
     }
     if name == "receipts" {
-        return Ok(Order::Lines {
-            lines: Lines::Receipts,
-            settings,
-        });
+        return Task::Total(Output::Receipts);
     }
-    let query = query_in(entered);
     if name == "total" {
-        return Ok(Order::Total { query, settings });
+        return Task::Total(Output::Report(query));
     }
-    Ok(Order::Run { query, settings })
+    Task::Run(query)
 }
 
 /// What the matches of a subcommand ask of a report.
@@ -138,36 +114,9 @@ fn named_pick(name: Option<&str>) -> Pick
         → result ≡ pick }
 {
     match name {
-        Some(text) => find_pick(text).unwrap_or(Pick::All),
+        Some(text) => Pick::named(text.as_bytes()).unwrap_or(Pick::All),
         None => Pick::All,
     }
-}
-
-/// The view or list of a name.
-fn find_pick(text: &str) -> Option<Pick>
-    ensures { result ≡ find (is_named text.now) picks }
-{
-    match find_view(text) {
-        Some(view) => Some(Pick::View(view)),
-        None => match find_list(text) {
-            Some(list) => Some(Pick::List(list)),
-            None => None,
-        },
-    }
-}
-
-/// The view of a name.
-fn find_view(text: &str) -> Option<View>
-    ensures { result ≡ find (λ view. bytes_eq (view_name view) text.now) views }
-{
-    View::all().iter().copied().find(|view| view.name() == text)
-}
-
-/// The list of a name.
-fn find_list(text: &str) -> Option<List>
-    ensures { result ≡ find (λ list. bytes_eq (list_name list) text.now) lists }
-{
-    List::all().iter().copied().find(|list| list.name() == text)
 }
 
 /// The format of a name, and CSV where none is given. `clap` lets no name through but those of formats.

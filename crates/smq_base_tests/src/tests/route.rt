@@ -223,8 +223,8 @@ fn play_all(rt: &impl Abort, alloc: Global, plan: &Plan) {
     play_steps(rt, &mut routes, plan);
 }
 
-/// Whichever allocation is refused (gate/check-refused-calls), an edit leaves the versions as they were, and is made
-/// when it is tried again; all other calls give these answers all the same.
+/// Whichever allocation is refused (gate/check-out-of-memory-in-calls), an edit leaves the versions as they were, and
+/// is made when it is tried again; all other calls give these answers all the same.
 #[test]
 fn plans_are_edited_and_route_as_known(rt: HostRuntime) {
     for plan in &PLANS {

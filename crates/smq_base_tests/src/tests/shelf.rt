@@ -58,7 +58,7 @@ fn insert_60(rt: &impl Abort, shelf: &mut Shelf<u32, u64>) {
     assert!(rt; shelf.get(&0) == Some(&7));
 }
 
-/// Whichever allocation is refused (gate/check-refused-calls), a refused insert hands its pair back.
+/// Whichever allocation is refused (gate/check-out-of-memory-in-calls), a refused insert hands its pair back.
 #[test]
 fn a_refused_insert_hands_its_pair_back(rt: HostRuntime) {
     let mut shelf = Shelf::new(rt.alloc());
@@ -90,8 +90,8 @@ fn take_below(rt: &impl Abort, shelf: &mut Shelf<u32, u64>, end: u32) {
     assert!(rt; shelf.first_from(&0).is_none());
 }
 
-/// Whichever allocation is refused (gate/check-refused-calls), the keys that are there take new values, and are
-/// taken out.
+/// Whichever allocation is refused (gate/check-out-of-memory-in-calls), the keys that are there take new values, and
+/// are taken out.
 #[test]
 fn a_key_that_is_there_takes_no_memory(rt: HostRuntime) {
     let mut shelf = Shelf::new(rt.alloc());
@@ -187,8 +187,8 @@ fn assert_last_comes_back(rt: &impl Abort, kept: &mut Kept<u32, u64>) {
     assert_eq!(rt; kept.place_count(), 1);
 }
 
-/// Whichever allocation is refused (gate/check-refused-calls), a refused change leaves the map, and is made when
-/// it is tried again.
+/// Whichever allocation is refused (gate/check-out-of-memory-in-calls), a refused change leaves the map, and is made
+/// when it is tried again.
 #[test]
 fn a_refused_change_changes_nothing(rt: HostRuntime) {
     let mut kept = Kept::new(rt.alloc());
@@ -325,8 +325,8 @@ fn change_30_in_place(rt: &impl Abort, kept: &mut Kept<u32, u64>) {
     }
 }
 
-/// Whichever allocation is refused (gate/check-refused-calls), a value that can't be changed stays, and is changed
-/// when it is tried again.
+/// Whichever allocation is refused (gate/check-out-of-memory-in-calls), a value that can't be changed stays, and is
+/// changed when it is tried again.
 #[test]
 fn a_value_that_is_not_changed_stays(rt: HostRuntime) {
     let mut kept = Kept::new(rt.alloc());
@@ -369,7 +369,7 @@ fn change(rt: &impl Abort, map: &mut KeptMap<u32, u64>) {
     }
 }
 
-/// Whichever allocation is refused (gate/check-refused-calls), a map is settled and undone all the same.
+/// Whichever allocation is refused (gate/check-out-of-memory-in-calls), a map is settled and undone all the same.
 #[test]
 fn a_map_is_settled_and_undone_without_memory(rt: HostRuntime) {
     let mut map = KeptMap::new(rt.alloc());

@@ -5,7 +5,7 @@ use Rattle.smq_kit.specs.declared.names.LinkId.{LinkId}
 use Rattle.smq_kit.specs.declared.place.Dir.{Dir}
 use Rattle.smq_kit.specs.declared.place.Dir.TheVariants.{FromClient, FromCentre}
 use Rattle.smq_kit.specs.declared.place.Place.{Place}
-use Rattle.smq_present.specs.declared.present.kept.KeptPdu.{KeptPdu}
+use Rattle.smq_present.specs.declared.present.kept.StoredPdu.{StoredPdu}
 use Rattle.smq_pair.specs.Growth.{made_by, touched}
 use Rattle.smq_present.specs.declared.present.session.Session.{Session}
 use Rattle.smq_present.specs.present.Batch.{BatchValue, batch_pdus, next_tail}
@@ -15,7 +15,7 @@ use Rattle.smq_present.specs.pairing.Pushes.{is_next_response}
 use Rattle.smq_present.specs.join.Moves.{Move, PutMessage, TakeMessage, PutReceipt}
 
 -- the messages to which the next PDU of the centre is the response, with that response
-abbrev pub answered : Origin → List KeptPdu → List KeptPdu → KeptPdu → List (Place × Message)
+abbrev pub answered : Origin → List StoredPdu → List StoredPdu → StoredPdu → List (Place × Message)
 answered origin client centre next =
     flat_map (λ e.
     if is_next_response centre next e.0 e.1 then option_to_list (message_at origin (centre ++ next ∷ []) e.0 e.1) else [])
@@ -26,16 +26,16 @@ abbrev pub anew : Place × Message → List Move
 anew e = TakeMessage e.0 ∷ PutMessage e ∷ []
 
 -- the next PDU of the client puts in the message that it is, if any
-abbrev pub client_moves : Origin → List KeptPdu → List KeptPdu → KeptPdu → List Move
+abbrev pub client_moves : Origin → List StoredPdu → List StoredPdu → StoredPdu → List Move
 client_moves origin client centre next = map PutMessage (option_to_list (message_at origin centre client next))
 
 -- the next PDU of the centre changes the messages to which it is the response, and puts in the delivery receipt that it is
-abbrev pub centre_moves : Origin → List KeptPdu → List KeptPdu → KeptPdu → List Move
+abbrev pub centre_moves : Origin → List StoredPdu → List StoredPdu → StoredPdu → List Move
 centre_moves origin client centre next =
     flat_map anew (answered origin client centre next) ++ map PutReceipt (option_to_list (receipt_at origin next))
 
 -- the moves of PDUs more of a direction, in turn
-abbrev pub push_moves : Origin → Dir → List KeptPdu → List KeptPdu → List KeptPdu → List Move
+abbrev pub push_moves : Origin → Dir → List StoredPdu → List StoredPdu → List StoredPdu → List Move
 push_moves origin dir client centre [] = []
 push_moves origin FromClient client centre (next ∷ later) =
     client_moves origin client centre next ++ push_moves origin FromClient (client ++ next ∷ []) centre later
@@ -60,12 +60,12 @@ append_moves session batch =
 -- ---- notes
 
 -- the places at which the next PDU of a direction may change notes: its own, and that of the one with which it is a pair
-abbrev pub noted_by : Origin → Dir → List KeptPdu → List KeptPdu → KeptPdu → List Place
+abbrev pub noted_by : Origin → Dir → List StoredPdu → List StoredPdu → StoredPdu → List Place
 noted_by origin dir client centre next =
     touched (place_of origin dir next) (made_by (pairing_among origin client centre) (placed origin dir next))
 
 -- the same of PDUs more of a direction, in turn
-abbrev pub noted_in_turn : Origin → Dir → List KeptPdu → List KeptPdu → List KeptPdu → List Place
+abbrev pub noted_in_turn : Origin → Dir → List StoredPdu → List StoredPdu → List StoredPdu → List Place
 noted_in_turn origin dir client centre [] = []
 noted_in_turn origin FromClient client centre (next ∷ later) =
     noted_by origin FromClient client centre next ++ noted_in_turn origin FromClient (client ++ next ∷ []) centre later

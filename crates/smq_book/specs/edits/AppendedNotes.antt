@@ -9,7 +9,7 @@ use Rattle.smq_pair.specs.Pairing.{PlacedHeader}
 use Rattle.smq_pair.specs.Growth.{made_by}
 use Rattle.smq_tally.specs.declared.list.List.TheVariants as list
 use Rattle.smq_tally.specs.Lists.{listed}
-use Rattle.smq_present.specs.declared.present.kept.KeptPdu.{KeptPdu}
+use Rattle.smq_present.specs.declared.present.kept.StoredPdu.{StoredPdu}
 use Rattle.smq_present.specs.declared.present.session.Session.{Session}
 use Rattle.smq_present.specs.present.Batch.{BatchValue, batch_pdus, next_tail}
 use Rattle.smq_present.specs.present.Kept.{kept_pdus, is_undecodable, is_unreadable}
@@ -37,24 +37,24 @@ met_moves p None = alone_moves p
 met_moves p (Some pair) = pair_moves p pair
 
 -- a PDU that can't be decoded is put in at its place
-abbrev pub undecodable_moves : Origin → Dir → KeptPdu → List Move
+abbrev pub undecodable_moves : Origin → Dir → StoredPdu → List Move
 undecodable_moves origin dir next =
     if is_undecodable next.content then PutNote (listed list.Undecodable (place_of origin dir next)) ∷ [] else []
 
 -- a delivery receipt of the centre without a usable id or state is put in at its place
-abbrev pub unreadable_moves : Origin → Dir → KeptPdu → List Move
+abbrev pub unreadable_moves : Origin → Dir → StoredPdu → List Move
 unreadable_moves origin FromClient next = []
 unreadable_moves origin FromCentre next =
     if is_unreadable next.content then PutNote (listed list.Unreadable (place_of origin FromCentre next)) ∷ [] else []
 
 -- what the next PDU of a direction puts in and takes out: for its pair, and for its content
-abbrev pub next_moves : Origin → Dir → List KeptPdu → List KeptPdu → KeptPdu → List Move
+abbrev pub next_moves : Origin → Dir → List StoredPdu → List StoredPdu → StoredPdu → List Move
 next_moves origin dir client centre next =
     met_moves (placed origin dir next) (made_by (pairing_among origin client centre) (placed origin dir next))
     ++ undecodable_moves origin dir next ++ unreadable_moves origin dir next
 
 -- the same of PDUs more of a direction, in turn
-abbrev pub note_moves : Origin → Dir → List KeptPdu → List KeptPdu → List KeptPdu → List Move
+abbrev pub note_moves : Origin → Dir → List StoredPdu → List StoredPdu → List StoredPdu → List Move
 note_moves origin dir client centre [] = []
 note_moves origin FromClient client centre (next ∷ later) =
     next_moves origin FromClient client centre next ++ note_moves origin FromClient (client ++ next ∷ []) centre later

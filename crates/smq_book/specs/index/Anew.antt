@@ -20,17 +20,17 @@ stored_in i = stored_traffic i.messages.content i.receipts.content
 
 -- its members are those of that
 abbrev pub AreIn : SettingsValue → Index → Type 0
-AreIn s i = AreOf s (stored_in i) i.standings.members
+AreIn s i = AreOf s (stored_in i) i.groups.members
 
 -- and its facts and notes may be those of other standings
 abbrev pub CanFollow : SettingsValue → Option Place → Index → Type 0
-CanFollow s new i = MayFollow s (stored_in i) i.standings.members new i.tally.facts i.tally.notes
+CanFollow s new i = MayFollow s (stored_in i) i.groups.members new i.tally.facts i.tally.notes
 
 -- What is said stays, and how it stands, and all that was settled.
 pub record KeepsSaid (old new : Index) : Type 0 where
   pub messages : new.messages ≡ old.messages
   pub receipts : new.receipts ≡ old.receipts
-  pub standings : new.standings ≡ old.standings
+  pub groups : new.groups ≡ old.groups
   pub numbers : new.numbers ≡ old.numbers
   pub settled : new.tally.settled ≡ old.tally.settled
   pub settled_due : new.due.settled ≡ old.due.settled

@@ -137,7 +137,7 @@ abbrev pub held_now : Index → Holding
 held_now i = record {
   messages = messages_in i.messages.content;
   receipts = receipts_in i.receipts.content;
-  members = i.standings.members;
+  members = i.groups.members;
   facts = i.tally.facts;
   notes = i.tally.notes;
   due = dues_in i.due.content;
@@ -149,7 +149,7 @@ abbrev pub held_settled : Index → Holding
 held_settled i = record {
   messages = messages_in i.messages.settled;
   receipts = receipts_in i.receipts.settled;
-  members = i.standings.settled;
+  members = i.groups.settled;
   facts = i.tally.settled.facts;
   notes = i.tally.settled.notes;
   due = dues_in i.due.settled;

@@ -1,15 +1,13 @@
 -- How often the shelves of what is stored were touched, and what a move of it costs: its touches, with those that settle it.
-use Rattle.std.specs.Prelude.{◌≡◌, ◌<◌, ◌≤◌, ◌+◌, ◌*◌, ◌-◌, ◌^◌, ℕ, Bool, false, List, [], length, min, Option, Some, None, option_and_then, option_map}
+use Rattle.std.specs.Prelude.{◌≡◌, ◌<◌, ◌≤◌, ◌+◌, ◌*◌, ◌-◌, ◌^◌, ℕ, Bool, false, [], min, Option, Some, None, option_and_then, option_map}
 use Rattle.std.specs.FinMap as fin
 use Rattle.std.specs.List.{sum_by}
 use Rattle.std.specs.Map.{values_of}
 use Rattle.smq_kit.specs.LinkKeys.{same_key}
 use Rattle.smq_kit.specs.declared.link_key.LinkKey.{LinkKey}
 use Rattle.smq_kit.specs.declared.place.Place.{Place}
-use Rattle.smq_group.specs.Changes.{TellsChanges}
 use Rattle.smq_group.specs.Groups.{GroupsValue, vacancies}
 use Rattle.smq_group.specs.Matching.{Grouping, GroupedReceipt}
-use Rattle.smq_group.specs.declared.change.Change.{Change}
 use Rattle.smq_pair.specs.Paired.{PairedValue}
 use Rattle.smq_pair.specs.Pairing.{PairingValue, pair_at}
 use Rattle.smq_pair.specs.declared.pairing.Pair.{Pair}
@@ -19,12 +17,12 @@ use Rattle.smq_shelf.specs.Places.{places_of}
 use Rattle.smq_tally.specs.Tally.{TallyValue}
 use Rattle.smq_book.specs.declared.index.index.Index.{Index}
 use Rattle.smq_book.specs.declared.index.pairings.Pairings.{Pairings}
-use Rattle.smq_book.specs.declared.index.stored.Said.{Said}
-use Rattle.smq_book.specs.declared.index.stored.Said.TheVariants as said
+use Rattle.smq_book.specs.declared.index.stored.Item.{Item}
+use Rattle.smq_book.specs.declared.index.stored.Item.TheVariants as said
 use Rattle.smq_book.specs.edits.Reach.{members}
 use Rattle.smq_book.specs.index.Held.{held_now, held_settled}
 use Rattle.smq_book.specs.index.Pairs.{pairs_pending}
-use Rattle.smq_present.specs.declared.present.kept.KeptPdu.{KeptPdu}
+use Rattle.smq_present.specs.declared.present.kept.StoredPdu.{StoredPdu}
 use Rattle.smq_present.specs.join.Keyed.{accepted_key, receipt_key}
 use Rattle.smq_present.specs.present.Settings.{SettingsValue}
 use Rattle.smq_present.specs.pairing.Traffic.{Origin, place_of}
@@ -37,7 +35,7 @@ counted touches = min touches (2 ^ 64 - 1)
 
 -- those of groups, facts, numbers and deadlines
 abbrev pub touches_in : Index → ℕ
-touches_in i = i.standings.touches + i.tally.touches + i.numbers.touches + i.due.touches + i.ends.touches
+touches_in i = i.groups.touches + i.tally.touches + i.numbers.touches + i.due.touches + i.ends.touches
 
 -- the same as they are counted
 abbrev pub index_touches : Index → ℕ
@@ -64,7 +62,7 @@ kept_cost k = k.touches + 2 * k.pending
 -- those of groups, facts, numbers and deadlines
 abbrev pub index_cost : Index → ℕ
 index_cost i =
-    (i.standings.touches + 2 * i.standings.pending) + tally_cost i.tally + numbers_cost i.numbers + kept_cost i.due + kept_cost i.ends
+    (i.groups.touches + 2 * i.groups.pending) + tally_cost i.tally + numbers_cost i.numbers + kept_cost i.due + kept_cost i.ends
 
 -- and those of the pairs of one session
 abbrev pub pairing_cost : PairedValue → ℕ
@@ -76,24 +74,19 @@ pairs_cost p number = pairs_touches p + 2 * pairs_pending p number
 
 -- how many changes `undo` would take back
 abbrev pub pending_in : Index → ℕ
-pending_in i = i.standings.pending + i.tally.pending + i.numbers.pending + i.due.pending + i.ends.pending
+pending_in i = i.groups.pending + i.tally.pending + i.numbers.pending + i.due.pending + i.ends.pending
 
 -- No change is pending, and no place is vacant.
 pub record HasNothingPending (i : Index) : Type 0 where
-  pub standings : i.standings.pending ≡ 0
+  pub groups : i.groups.pending ≡ 0
   pub facts : i.tally.pending ≡ 0
   pub numbers : i.numbers.pending ≡ 0
   pub due : i.due.pending ≡ 0
   pub ends : i.ends.pending ≡ 0
   pub places_due : i.due.places ≡ places_of i.due.content
   pub places_ends : i.ends.places ≡ places_of i.ends.content
-  pub vacant : i.standings.vacant ≡ []
+  pub vacant : i.groups.vacant ≡ []
   pub vacant_numbers : i.numbers.vacant ≡ []
-
--- how many places of a key are vacant, where there is a key
-abbrev pub vacancies_at : GroupsValue → Option LinkKey → ℕ
-vacancies_at g None = 0
-vacancies_at g (Some key) = vacancies g key
 
 -- the key of the receipt at a place, where there is one
 abbrev pub receipt_key_at : Grouping → Place → Option LinkKey
@@ -103,12 +96,6 @@ receipt_key_at g place = option_map (λ r. r.key) (fin.get g.receipts place)
 abbrev pub is_key : LinkKey → Option LinkKey → Bool
 is_key k None = false
 is_key k (Some key) = same_key k key
-
--- A move changes the standings that are told, and costs so many touches at most, and fifteen for each of those.
-pub record CostsAtMost (old new : Index) (most : ℕ) : Type 0 where
-  pub changes : List Change
-  pub told : TellsChanges old.standings.members new.standings.members changes
-  pub bound : index_cost new ≤ index_cost old + most + 15 * length changes
 
 -- what a move of a key walks over, and fifteen for each member that it may tell
 abbrev pub load_of : GroupsValue → Option LinkKey → ℕ
@@ -128,10 +115,10 @@ pub record MembersGo (old new : GroupsValue) : Type 0 where
   pub vacant : (k : LinkKey) → vacancies new k + 2 * members new.members k ≤ vacancies old k + 2 * members old.members k
 
 -- what it costs at most to take the message that a PDU of the client is out, or the delivery receipt that one of the centre is
-abbrev pub message_load : GroupsValue → Origin → KeptPdu → ℕ
+abbrev pub message_load : GroupsValue → Origin → StoredPdu → ℕ
 message_load g origin p = 42 + taken_of g (fin.get g.members.submits (place_of origin FromClient p))
 
-abbrev pub receipt_load : GroupsValue → Origin → KeptPdu → ℕ
+abbrev pub receipt_load : GroupsValue → Origin → StoredPdu → ℕ
 receipt_load g origin p = 49 + taken_of g (receipt_key_at g.members (place_of origin FromCentre p))
 
 -- how many members have a key, where there is a key
@@ -160,7 +147,7 @@ push_load g pair place =
     55 + 15 * members_at g (fin.get g.submits place) + 43 * members_at g (receipt_key_at g place) + 15 * members_at g (answered_key g pair)
 
 -- the same of a PDU of a direction, among the members and the pairs that there are
-abbrev pub pdu_load : Grouping → PairingValue → Origin → Dir → KeptPdu → ℕ
+abbrev pub pdu_load : Grouping → PairingValue → Origin → Dir → StoredPdu → ℕ
 pdu_load g v origin dir p = push_load g (pair_at v (place_of origin dir p)) (place_of origin dir p)
 
 -- the key of what stands at a place: of a message in the client's direction, of a delivery receipt in the centre's
@@ -178,12 +165,12 @@ walk_of g n None = 0
 walk_of g n (Some key) = vacancies g key + 15 * members n key
 
 -- the key of a message, where it is accepted, or of a delivery receipt
-abbrev pub said_key : SettingsValue → Said → Option LinkKey
+abbrev pub said_key : SettingsValue → Item → Option LinkKey
 said_key s (said.Message m) = accepted_key s m
 said_key s (said.Receipt r) = Some (receipt_key s r)
 
 -- what it costs at most to put it in
-abbrev pub put_load : GroupsValue → Grouping → SettingsValue → Place × Said → ℕ
+abbrev pub put_load : GroupsValue → Grouping → SettingsValue → Place × Item → ℕ
 put_load g n s e = 43 + walk_of g n (said_key s e.1)
 
 -- Touches don't fall, and where a fact changes they rise, unless they are at the greatest u64.
@@ -195,6 +182,6 @@ pub record RisesWithFacts (old new : Index) : Type 0 where
 pub record IsRead (old new : Index) : Type 0 where
   pub held : held_now new ≡ held_now old
   pub settled : held_settled new ≡ held_settled old
-  pub vacant : new.standings.vacant ≡ old.standings.vacant
+  pub vacant : new.groups.vacant ≡ old.groups.vacant
   pub counted : touches_in old ≤ touches_in new
   pub facts : new.tally.facts ≡ old.tally.facts

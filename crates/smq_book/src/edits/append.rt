@@ -89,10 +89,10 @@ fn append_said(
     ensures settled { held_settled index.new ≡ held_settled index.old }
     ensures rises { OnOk result (RisesWithFacts index.old index.new) }
     ensures pairs_counted { pairs_touches pairings.old ≤ pairs_touches pairings.new }
-    ensures touches { let number = batch.now.session.0 in HasNoneVacant index.old.standings
+    ensures touches { let number = batch.now.session.0 in HasNoneVacant index.old.groups
         → OnOk result (index_cost index.new + pairs_cost pairings.new number
         ≤ index_cost index.old + pairs_cost pairings.old number
-        + sum_by (pdu_load index.new.standings.members (pairs_now pairings.new number)
+        + sum_by (pdu_load index.new.groups.members (pairs_now pairings.new number)
         (from_session batch.now.session) batch.now.dir) (batch_pdus batch.now)) }
     ensures other_pairs { (number : ℕ) → number ≢ batch.now.session.0
         → pairs_now pairings.new number ≡ pairs_now pairings.old number }
@@ -138,10 +138,10 @@ fn append_next(
     ensures settled { held_settled index.new ≡ held_settled index.old }
     ensures rises { OnOk result (RisesWithFacts index.old index.new) }
     ensures pairs_counted { pairs_touches pairings.old ≤ pairs_touches pairings.new }
-    ensures touches { let number = batch.now.session.0 in HasNoneVacant index.old.standings
+    ensures touches { let number = batch.now.session.0 in HasNoneVacant index.old.groups
         → OnOk result (index_cost index.new + pairs_cost pairings.new number
         ≤ index_cost index.old + pairs_cost pairings.old number
-        + sum_by (pdu_load index.new.standings.members (pairs_now pairings.new number)
+        + sum_by (pdu_load index.new.groups.members (pairs_now pairings.new number)
         (from_session batch.now.session) batch.now.dir) (batch_pdus batch.now)) }
     ensures other_pairs { (number : ℕ) → number ≢ batch.now.session.0
         → pairs_now pairings.new number ≡ pairs_now pairings.old number }

@@ -4,7 +4,7 @@ ghost use Rattle.std.specs.FinMap as map;
 ghost use Rattle.smq_book.specs.edits.Reach.{reach};
 ghost use Rattle.smq_book.specs.edits.Reached.{messages_under};
 ghost use Rattle.smq_book.specs.index.Kept.{IsIndexed};
-ghost use Rattle.smq_book.specs.index.Refreshed.{LeaveOthers};
+ghost use Rattle.smq_book.specs.index.Recomputed.{LeaveOthers};
 ghost use Rattle.smq_book.specs.index.Touches.{RisesWithFacts, index_cost};
 ghost use Rattle.smq_present.specs.pairing.Traffic.{traffic_of};
 ghost use Rattle.smq_present.specs.present.Present.{PresentValue};

@@ -15,10 +15,10 @@ ghost use Rattle.smq_present.specs.present.Present.{direction};
 ghost use Rattle.smq_present.specs.present.Steps.{session_with};
 ghost use Rattle.smq_present.specs.within.Pairs.{Rises, SubmitsAreRequests, from_session};
 
+use crate::index::appended_pdu::push_pdu;
 use crate::index::index::Index;
 use crate::index::notes::note_broken;
-use crate::index::push::push_pdu;
-use crate::{Batch, KeptPdu, Session};
+use crate::{Batch, Session, StoredPdu};
 use smq_kit::{Dir, SessionId};
 use smq_pair::Pairing;
 use smq_present::Settings;
@@ -48,10 +48,10 @@ pub(crate) fn append_to(
     ensures settled { held_settled index.new ≡ held_settled index.old }
     ensures rises { OnOk result (RisesWithFacts index.old index.new) }
     ensures pairs_counted { pairing.old.touches ≤ pairing.new.touches }
-    ensures touches { HasNoneVacant index.old.standings
+    ensures touches { HasNoneVacant index.old.groups
         → OnOk result (index_cost index.new + pairing_cost pairing.new
         ≤ index_cost index.old + pairing_cost pairing.old
-        + sum_by (pdu_load index.new.standings.members pairing.new.pdus
+        + sum_by (pdu_load index.new.groups.members pairing.new.pdus
         (from_session batch.now.session) batch.now.dir) (batch_pdus batch.now)) }
     ensures pairs { let octets = handed_in batch.now.moment batch.now.octets in
         OnOk result (pairing.new.pdus ≡ session_pairing
@@ -73,7 +73,7 @@ fn push_all(
     number: SessionId,
     session: &Session,
     dir: Dir,
-    pdus: &[KeptPdu],
+    pdus: &[StoredPdu],
 ) -> Result<(), AllocError>
     requires held { IsHeld settings.now (held_now index.old) }
     requires said { IsSaidBy (origin_at number session.now.link)
@@ -89,11 +89,11 @@ fn push_all(
     ensures settled { held_settled index.new ≡ held_settled index.old }
     ensures rises { OnOk result (RisesWithFacts index.old index.new) }
     ensures pairs_counted { pairing.old.touches ≤ pairing.new.touches }
-    ensures came { OnOk result (MembersCome index.old.standings index.new.standings) }
-    ensures touches { HasNoneVacant index.old.standings
+    ensures came { OnOk result (MembersCome index.old.groups index.new.groups) }
+    ensures touches { HasNoneVacant index.old.groups
         → OnOk result (index_cost index.new + pairing_cost pairing.new
         ≤ index_cost index.old + pairing_cost pairing.old
-        + sum_by (pdu_load index.new.standings.members pairing.new.pdus
+        + sum_by (pdu_load index.new.groups.members pairing.new.pdus
         (from_session number) dir) pdus.now) }
     ensures pairs { OnOk result (pairing.new.pdus
         ≡ pairing_with (origin_at number session.now.link) dir

@@ -12,7 +12,7 @@ ghost use Rattle.smq_book.specs.index.Touches.{IsRead, MembersGo, RisesWithFacts
 ghost use Rattle.smq_present.specs.present.Settings.{SettingsValue};
 
 use crate::index::index::Index;
-use crate::index::stored::Said;
+use crate::index::stored::Item;
 use smq_kit::{Dir, LinkId, Place};
 use smq_present::Settings;
 use std::alloc::{AllocError, Global};
@@ -23,7 +23,7 @@ pub(crate) fn take_link(
     index: &mut Index,
     settings: &Settings,
     link: LinkId,
-) -> Result<Vec<(Place, Said)>, AllocError>
+) -> Result<Vec<(Place, Item)>, AllocError>
     requires { IsHeld settings.now (held_now index.old) }
     ensures held { let places = keyed_places link (traffic_held (held_now index.old)) in
         OnOk result (IsHeldAfter settings.now (held_now index.old)
@@ -32,10 +32,10 @@ pub(crate) fn take_link(
         taken.items ≡ keyed_on link (traffic_held (held_now index.old))) }
     ensures settled { held_settled index.new ≡ held_settled index.old }
     ensures rises { OnOk result (RisesWithFacts index.old index.new) }
-    ensures went { OnOk result (MembersGo index.old.standings index.new.standings) }
+    ensures went { OnOk result (MembersGo index.old.groups index.new.groups) }
     ensures touches { let places = keyed_places link (traffic_held (held_now index.old)) in
-        index.old.standings.vacant ≡ [] → OnOk result (index_cost index.new ≤ index_cost index.old
-        + (2 + length places + sum_by (taken_load index.old.standings) places)) }
+        index.old.groups.vacant ≡ [] → OnOk result (index_cost index.new ≤ index_cost index.old
+        + (2 + length places + sum_by (taken_load index.old.groups) places)) }
 {
     let places = places_on(index, link)?;
     let taken = take_all(alloc, index, settings, places.as_slice())?;
@@ -46,7 +46,7 @@ pub(crate) fn take_link(
 pub(crate) fn put_link(
     index: &mut Index,
     settings: &Settings,
-    taken: Vec<(Place, Said)>,
+    taken: Vec<(Place, Item)>,
 ) -> Result<(), AllocError>
     requires held { IsHeld settings.now (held_now index.old) }
     requires stand { AllByRecursion (λ e. KeepsTraffic (put_of e)) taken.items }
@@ -55,9 +55,9 @@ pub(crate) fn put_link(
         (map put_of taken.items) (held_now index.new)) }
     ensures settled { held_settled index.new ≡ held_settled index.old }
     ensures rises { OnOk result (RisesWithFacts index.old index.new) }
-    ensures touches { let n = index.new.standings.members in
+    ensures touches { let n = index.new.groups.members in
         OnOk result (index_cost index.new ≤ index_cost index.old
-        + sum_by (put_load index.old.standings n settings.now) taken.items) }
+        + sum_by (put_load index.old.groups n settings.now) taken.items) }
 {
     for (place, said) in taken {
         index.put(settings, place, said)?;
@@ -71,11 +71,11 @@ fn places_on(index: &mut Index, link: LinkId) -> Result<Vec<Place>, AllocError>
         → IfOk result (λ places.
         places.items ≡ keyed_places link (traffic_held (held_now index.old))) }
     ensures read { IsRead index.old index.new }
-    ensures touches { index.old.standings.vacant ≡ [] → IfOk result (λ places.
+    ensures touches { index.old.groups.vacant ≡ [] → IfOk result (λ places.
         index_cost index.new ≤ index_cost index.old + 2 + length places.items) }
 {
-    let mut places = index.standings.submits_on(link)?;
-    let mut receipts = index.standings.receipts_on(link)?;
+    let mut places = index.groups.submits_on(link)?;
+    let mut receipts = index.groups.receipts_on(link)?;
     places.append(&mut receipts)?;
     Ok(places)
 }
@@ -86,7 +86,7 @@ fn take_all(
     index: &mut Index,
     settings: &Settings,
     places: &[Place],
-) -> Result<Vec<(Place, Said)>, AllocError>
+) -> Result<Vec<(Place, Item)>, AllocError>
     requires { IsHeld settings.now (held_now index.old) }
     ensures held { OnOk result (IsHeldAfter settings.now (held_now index.old)
         (map take_at places.now) (held_now index.new)) }
@@ -94,9 +94,9 @@ fn take_all(
         ≡ found_in_turn (traffic_held (held_now index.old)) places.now) }
     ensures settled { held_settled index.new ≡ held_settled index.old }
     ensures rises { OnOk result (RisesWithFacts index.old index.new) }
-    ensures went { OnOk result (MembersGo index.old.standings index.new.standings) }
+    ensures went { OnOk result (MembersGo index.old.groups index.new.groups) }
     ensures touches { OnOk result (index_cost index.new ≤ index_cost index.old
-        + sum_by (taken_load index.old.standings) places.now) }
+        + sum_by (taken_load index.old.groups) places.now) }
 {
     let mut taken = Vec::new(alloc);
     for place in places {
@@ -109,7 +109,7 @@ fn take_all(
 fn take_one(
     index: &mut Index,
     settings: &Settings,
-    taken: &mut Vec<(Place, Said)>,
+    taken: &mut Vec<(Place, Item)>,
     place: Place,
 ) -> Result<(), AllocError>
     requires { IsHeld settings.now (held_now index.old) }
@@ -119,11 +119,11 @@ fn take_one(
         ++ found_at (traffic_held (held_now index.old)) place) }
     ensures settled { held_settled index.new ≡ held_settled index.old }
     ensures rises { OnOk result (RisesWithFacts index.old index.new) }
-    ensures went { OnOk result (MembersGo index.old.standings index.new.standings) }
+    ensures went { OnOk result (MembersGo index.old.groups index.new.groups) }
     ensures touches { OnOk result (index_cost index.new ≤ index_cost index.old
-        + taken_load index.old.standings place) }
+        + taken_load index.old.groups place) }
 {
-    if let Some(said) = said_at(index, place)? {
+    if let Some(said) = item_at(index, place)? {
         taken.push((place, said))?;
     }
     index.take(settings, place)?;
@@ -131,17 +131,17 @@ fn take_one(
 }
 
 /// A copy of what stands at a place, if anything does: a message in the client's direction, a delivery receipt in the centre's.
-fn said_at(index: &Index, place: Place) -> Result<Option<Said>, AllocError>
-    ensures { IfOk result (λ said. said ≡ out.said_at (traffic_held (held_now index.now)) place) }
+fn item_at(index: &Index, place: Place) -> Result<Option<Item>, AllocError>
+    ensures { IfOk result (λ said. said ≡ out.item_at (traffic_held (held_now index.now)) place) }
 {
     match place.dir {
         Dir::FromClient => match index.messages.get(&place) {
             None => Ok(None),
-            Some(message) => Ok(Some(Said::Message(message.copy()?))),
+            Some(message) => Ok(Some(Item::Message(message.copy()?))),
         },
         Dir::FromCentre => match index.receipts.get(&place) {
             None => Ok(None),
-            Some(receipt) => Ok(Some(Said::Receipt(receipt.copy()?))),
+            Some(receipt) => Ok(Some(Item::Receipt(receipt.copy()?))),
         },
     }
 }

@@ -1,7 +1,7 @@
 //! All that is stored of messages and delivery receipts: what they say, how they stand, and what is known of them.
 //!
 //! Each call that puts a message or a receipt in, or takes one out, sets the facts and the listings of the places alone
-//! whose standings it changes. It stands in one file although it is long: its private functions are the parts of `refresh`.
+//! whose standings it changes. It stands in one file although it is long: its private functions are the parts of `recompute_at`.
 ghost use Rattle.std.specs.Prelude.{◌≡◌, ◌<◌, ◌≤◌, ◌+◌, ◌-◌, ◌*◌, ◌^◌, [], ◌∷◌, true, false, Option, Some, None, length, option_map, IsTrue, OnOk};
 ghost use Rattle.std.specs.Option.{option_copied};
 ghost use Rattle.std.specs.FinMap as fin;
@@ -12,7 +12,7 @@ ghost use Rattle.smq_group.specs.Standings.{standing_at};
 ghost use Rattle.smq_tally.specs.Lists.{listed};
 ghost use Rattle.smq_tally.specs.declared.fact.Fact.{Fact as FactOf};
 ghost use Rattle.smq_book.specs.index.Opening.{nothing_held};
-ghost use Rattle.smq_book.specs.index.Refreshed.{SetsAnew};
+ghost use Rattle.smq_book.specs.index.Recomputed.{Restates};
 ghost use Rattle.smq_book.specs.index.Due.{is_due_fact};
 ghost use Rattle.smq_book.specs.index.Stored.{is_told_shared};
 ghost use Rattle.smq_book.specs.index.Anew.{CanFollow, IsAnew, IsDue, KeepsSaid, stored_in};
@@ -31,7 +31,7 @@ use crate::index::stored::{StoredMessage, StoredReceipt, received_in};
 use crate::{Fact, List, Outcome};
 use smq_group::{Change, Groups, Standing};
 use smq_kit::{Dir, Moment, Network, Place, RouteId};
-use smq_present::{Settings, Windows, fact_of, restated};
+use smq_present::{Settings, Windows, fact_from_parts, restated};
 use smq_route::{Numbers, Routes};
 use smq_shelf::{Kept, KeptMap};
 use smq_tally::Tally;
@@ -41,7 +41,7 @@ use std::alloc::{AllocError, Global};
 /// all that wasn't settled is undone.
 #[derive(Drop)]
 pub(crate) struct Index {
-    pub standings: Groups,
+    pub groups: Groups,
     pub messages: KeptMap<Place, StoredMessage>,
     pub receipts: KeptMap<Place, StoredReceipt>,
     pub tally: Tally,
@@ -62,7 +62,7 @@ impl Index {
         ensures pending { HasNothingPending result }
     {
         Index {
-            standings: Groups::new(alloc),
+            groups: Groups::new(alloc),
             messages: KeptMap::new(alloc),
             receipts: KeptMap::new(alloc),
             tally: Tally::new(alloc),
@@ -79,7 +79,7 @@ impl Index {
         ensures pending { HasNothingPending self.new }
         ensures touches { index_cost self.new ≤ touches_in self.old + pending_in self.old }
     {
-        self.standings.undo();
+        self.groups.undo();
         self.messages.undo();
         self.receipts.undo();
         self.tally.undo();
@@ -96,7 +96,7 @@ impl Index {
         ensures touches { index_cost self.new ≤ index_cost self.old }
         ensures rises { RisesWithFacts self.old self.new }
     {
-        self.standings.settle();
+        self.groups.settle();
         self.messages.settle();
         self.receipts.settle();
         self.tally.settle();
@@ -109,7 +109,7 @@ impl Index {
     pub(crate) fn touches(&self) -> u64
         ensures { result ≡ index_touches self.now }
     {
-        let of_groups = self.standings.touches();
+        let of_groups = self.groups.touches();
         let of_facts = self.tally.touches();
         of_groups
             .saturating_add(of_facts)
@@ -120,7 +120,7 @@ impl Index {
 
     /// Sets what is known of a place anew, by how it stands: of one of the client its fact, of one of the centre its listing.
     /// No list of receipts but its own notes the place that is new, where one is.
-    pub(crate) fn refresh(
+    pub(crate) fn recompute_at(
         &mut self,
         settings: &Settings,
         place: Place,
@@ -128,12 +128,12 @@ impl Index {
         new: Option<Place>,
     ) -> Result<(), AllocError>
         ensures said { KeepsSaid self.old self.new }
-        ensures anew { standing ≡ standing_at self.old.standings.members place
+        ensures anew { standing ≡ standing_at self.old.groups.members place
             → CanFollow settings.now new self.old
             → OnOk result (IsAnew settings.now new self.new
             (set_at self.old.tally.facts place
             (fin.get (facts_of settings.now (stored_in self.old)) place))
-            (with_listing self.old.tally.notes place (list_held self.old.standings.members place))) }
+            (with_listing self.old.tally.notes place (list_held self.old.groups.members place))) }
         ensures due { IsDue settings.now.windows self.old
             → OnOk result (IsDue settings.now.windows self.new) }
         ensures touches { OnOk result (index_cost self.new ≤ index_cost self.old + 14) }
@@ -152,7 +152,7 @@ impl Index {
     }
 
     /// Sets the fact of the message at a place anew by routes, windows and a clock, where all else that it rests on stays.
-    pub(crate) fn refresh_by(
+    pub(crate) fn restate_at(
         &mut self,
         routes: &Routes,
         windows: &Windows,
@@ -160,7 +160,7 @@ impl Index {
         place: Place,
     ) -> Result<(), AllocError>
         ensures held { OnOk result
-            (SetsAnew routes.now.versions windows.now clock (place ∷ []) self.old self.new) }
+            (Restates routes.now.versions windows.now clock (place ∷ []) self.old self.new) }
         ensures settled { held_settled self.new ≡ held_settled self.old }
         ensures touches { OnOk result (index_cost self.new ≤ index_cost self.old + 14) }
         ensures rises { OnOk result (RisesWithFacts self.old self.new) }
@@ -190,18 +190,18 @@ impl Index {
         new: Option<Place>,
     ) -> Result<(), AllocError>
         ensures said { KeepsSaid self.old self.new }
-        ensures anew { AreTold self.old.standings.members changes.now
+        ensures anew { AreTold self.old.groups.members changes.now
             → CanFollow settings.now new self.old → OnOk result (IsAnew settings.now new self.new
             (facts_anew (fin.get (facts_of settings.now (stored_in self.old))) self.old.tally.facts
             changes.now)
-            (notes_anew self.old.standings.members self.old.tally.notes changes.now)) }
+            (notes_anew self.old.groups.members self.old.tally.notes changes.now)) }
         ensures due { IsDue settings.now.windows self.old
             → OnOk result (IsDue settings.now.windows self.new) }
         ensures touches { OnOk result (index_cost self.new ≤ index_cost self.old + 14 * length changes.now) }
         ensures rises { OnOk result (RisesWithFacts self.old self.new) }
     {
         for change in changes {
-            self.refresh(settings, change.place, Some(change.standing), new)?;
+            self.recompute_at(settings, change.place, Some(change.standing), new)?;
         }
         Ok(())
     }
@@ -215,7 +215,7 @@ impl Index {
     ) -> Result<(), AllocError>
         ensures said { KeepsSaid self.old self.new }
         ensures notes { OnOk result (self.new.tally.notes ≡ self.old.tally.notes) }
-        ensures facts { (new : Option PlaceOf) → standing ≡ standing_at self.old.standings.members place
+        ensures facts { (new : Option PlaceOf) → standing ≡ standing_at self.old.groups.members place
             → CanFollow settings.now new self.old → OnOk result (self.new.tally.facts
             ≡ set_at self.old.tally.facts place
             (fin.get (facts_of settings.now (stored_in self.old)) place)) }
@@ -243,7 +243,7 @@ impl Index {
                 place,
             };
             set_due(&mut self.due, due, is_now)?;
-            let end = EndAt::of(moment, settings.windows_set().of(link), place);
+            let end = EndAt::of(moment, settings.link_windows().of(link), place);
             set_end(&mut self.ends, end, is_now)?;
         }
         Ok(())
@@ -301,9 +301,9 @@ fn fact_at(
     ensures place { result.place ≡ place }
 {
     let said = message.message();
-    let lapsed = said.has_lapsed(settings.windows_set(), settings.clock());
+    let lapsed = said.has_lapsed(settings.link_windows(), settings.clock());
     let decider = received_in(decider_of(receipts, standing));
-    fact_of(
+    fact_from_parts(
         place,
         &said,
         route,
@@ -324,7 +324,7 @@ pub(crate) fn fact_of_unaccepted(place: Place, message: &StoredMessage, routes: 
 {
     let said = message.message();
     let route = said.route(routes);
-    fact_of(place, &said, route, false, false, None)
+    fact_from_parts(place, &said, route, false, false, None)
 }
 
 /// Whether there is an outcome and it is that of a message whose receipt is due.

@@ -14,7 +14,7 @@ ghost use Rattle.smq_book.specs.index.Pushed.{IsHeldAfter, without_response};
 ghost use Rattle.smq_book.specs.index.PlacedKeys.{with_key, without_key};
 ghost use Rattle.smq_book.specs.index.Anew.{AreIn};
 ghost use Rattle.smq_book.specs.index.Held.{IsHeld, IsTraffic, KeepsTraffic, held_now, held_of, held_settled, messages_in, receipts_in, traffic_held};
-ghost use Rattle.smq_book.specs.index.Touches.{CostsAtMost, MembersCome, MembersGo, RisesWithFacts, index_cost, is_key, load_of, numbers_cost, receipt_key_at, said_key, taken_load, taken_of, vacancies_at};
+ghost use Rattle.smq_book.specs.index.Touches.{MembersCome, MembersGo, RisesWithFacts, index_cost, is_key, load_of, numbers_cost, receipt_key_at, said_key, taken_load, taken_of};
 ghost use Rattle.smq_present.specs.join.Keyed.{accepted_key, receipt_key};
 ghost use Rattle.smq_present.specs.join.Moves as moves;
 ghost use Rattle.smq_present.specs.join.Moves.{PutNote, TakeNote, moved};
@@ -25,7 +25,7 @@ use crate::List;
 use crate::index::due_at::DueAt;
 use crate::index::end_at::EndAt;
 use crate::index::index::{Index, fact_of_unaccepted, set_due, set_end, take_fact};
-use crate::index::stored::{Said, StoredMessage, StoredReceipt};
+use crate::index::stored::{Item, StoredMessage, StoredReceipt};
 use smq_kit::{Dir, Place};
 use smq_present::Settings;
 use smq_route::Numbers;
@@ -48,12 +48,10 @@ impl Index {
             → OnOk result
             (held_now self.new ≡ held_of settings.now (moves.put_message place message t)) }
         ensures settled { held_settled self.new ≡ held_settled self.old }
-        ensures touches { OnOk result (CostsAtMost self.old self.new
-            (17 + vacancies_at self.old.standings (accepted_key settings.now message))) }
         ensures weighs { OnOk result (index_cost self.new ≤ index_cost self.old + 43
-            + load_of self.old.standings (accepted_key settings.now message)) }
+            + load_of self.old.groups (accepted_key settings.now message)) }
         ensures vacant { OnOk result ((k : LinkKey)
-            → vacancies self.new.standings k ≤ vacancies self.old.standings k) }
+            → vacancies self.new.groups k ≤ vacancies self.old.groups k) }
         ensures rises { OnOk result (RisesWithFacts self.old self.new) }
     {
         let key = message.key(settings);
@@ -65,7 +63,7 @@ impl Index {
             return Ok(());
         };
         self.messages.set(place, message)?;
-        let changes = self.standings.add_submit(key.link, key.key, place)?;
+        let changes = self.groups.add_submit(key.link, key.key, place)?;
         self.follow(settings, changes.as_slice(), None)?;
         Ok(())
     }
@@ -84,23 +82,19 @@ impl Index {
             → OnOk result
             (held_now self.new ≡ held_of settings.now (moves.put_message place answered t)) }
         ensures settled { held_settled self.new ≡ held_settled self.old }
-        ensures touches { OnOk result (CostsAtMost self.old self.new
-            (14 + vacancies_at self.old.standings (accepted_key settings.now answered))) }
         ensures weighs { OnOk result (index_cost self.new ≤ index_cost self.old + 40
-            + load_of self.old.standings (accepted_key settings.now answered)) }
+            + load_of self.old.groups (accepted_key settings.now answered)) }
         ensures vacant { OnOk result ((k : LinkKey)
-            → vacancies self.new.standings k ≤ vacancies self.old.standings k) }
+            → vacancies self.new.groups k ≤ vacancies self.old.groups k) }
         ensures rises { OnOk result (RisesWithFacts self.old self.new) }
     {
         let key = answered.key(settings);
         self.messages.set(place, answered)?;
         let Some(accepted) = key else {
-            self.refresh(settings, place, None, None)?;
+            self.recompute_at(settings, place, None, None)?;
             return Ok(());
         };
-        let changes = self
-            .standings
-            .add_submit(accepted.link, accepted.key, place)?;
+        let changes = self.groups.add_submit(accepted.link, accepted.key, place)?;
         self.follow(settings, changes.as_slice(), None)?;
         Ok(())
     }
@@ -116,13 +110,11 @@ impl Index {
             → OnOk result
             (held_now self.new ≡ held_of settings.now (moves.take_message place t)) }
         ensures settled { held_settled self.new ≡ held_settled self.old }
-        ensures touches { let key = fin.get self.old.standings.members.submits place in
-            OnOk result (CostsAtMost self.old self.new (30 + vacancies_at self.old.standings key)) }
         ensures weighs { OnOk result (index_cost self.new ≤ index_cost self.old + 42
-            + taken_of self.old.standings (fin.get self.old.standings.members.submits place)) }
+            + taken_of self.old.groups (fin.get self.old.groups.members.submits place)) }
         ensures vacant { OnOk result ((k : LinkKey)
-            → vacancies self.new.standings k ≤ vacancies self.old.standings k
-            + (if is_key k (fin.get self.old.standings.members.submits place) then 1 else 0)) }
+            → vacancies self.new.groups k ≤ vacancies self.old.groups k
+            + (if is_key k (fin.get self.old.groups.members.submits place) then 1 else 0)) }
         ensures rises { OnOk result (RisesWithFacts self.old self.new) }
     {
         let Some(message) = self.messages.get(&place) else {
@@ -134,7 +126,7 @@ impl Index {
             moment: message.moment,
             place,
         };
-        let window = settings.windows_set().of(message.link);
+        let window = settings.link_windows().of(message.link);
         let end = EndAt::of(message.moment, window, place);
         take_number(&mut self.numbers, place, message)?;
         set_due(&mut self.due, due, false)?;
@@ -144,7 +136,7 @@ impl Index {
             take_fact(&mut self.tally, place)?;
             return Ok(());
         };
-        let changes = self.standings.remove_submit(key.link, &key.key, place)?;
+        let changes = self.groups.remove_submit(key.link, &key.key, place)?;
         self.follow(settings, changes.as_slice(), None)?;
         take_fact(&mut self.tally, place)?;
         Ok(())
@@ -165,12 +157,10 @@ impl Index {
             → OnOk result
             (held_now self.new ≡ held_of settings.now (moves.put_receipt place receipt t)) }
         ensures settled { held_settled self.new ≡ held_settled self.old }
-        ensures touches { OnOk result (CostsAtMost self.old self.new
-            (13 + vacancies_at self.old.standings (Some (receipt_key settings.now receipt)))) }
         ensures weighs { OnOk result (index_cost self.new ≤ index_cost self.old + 43
-            + load_of self.old.standings (Some (receipt_key settings.now receipt))) }
+            + load_of self.old.groups (Some (receipt_key settings.now receipt))) }
         ensures vacant { OnOk result ((k : LinkKey)
-            → vacancies self.new.standings k ≤ vacancies self.old.standings k) }
+            → vacancies self.new.groups k ≤ vacancies self.old.groups k) }
         ensures rises { OnOk result (RisesWithFacts self.old self.new) }
     {
         let key = receipt.key(settings);
@@ -178,7 +168,7 @@ impl Index {
         let decides = receipt.can_decide();
         self.receipts.set(place, receipt)?;
         let changes = self
-            .standings
+            .groups
             .add_receipt(key.link, key.key, place, moment, decides)?;
         self.follow(settings, changes.as_slice(), Some(place))?;
         Ok(())
@@ -195,13 +185,11 @@ impl Index {
             → OnOk result
             (held_now self.new ≡ held_of settings.now (moves.take_receipt place t)) }
         ensures settled { held_settled self.new ≡ held_settled self.old }
-        ensures touches { let key = receipt_key_at self.old.standings.members place in
-            OnOk result (CostsAtMost self.old self.new (34 + vacancies_at self.old.standings key)) }
         ensures weighs { OnOk result (index_cost self.new ≤ index_cost self.old + 49
-            + taken_of self.old.standings (receipt_key_at self.old.standings.members place)) }
+            + taken_of self.old.groups (receipt_key_at self.old.groups.members place)) }
         ensures vacant { OnOk result ((k : LinkKey)
-            → vacancies self.new.standings k ≤ vacancies self.old.standings k
-            + (if is_key k (receipt_key_at self.old.standings.members place) then 2 else 0)) }
+            → vacancies self.new.groups k ≤ vacancies self.old.groups k
+            + (if is_key k (receipt_key_at self.old.groups.members place) then 2 else 0)) }
         ensures rises { OnOk result (RisesWithFacts self.old self.new) }
     {
         let Some(receipt) = self.receipts.get(&place) else {
@@ -209,9 +197,9 @@ impl Index {
         };
         let key = receipt.key(settings);
         self.receipts.remove(&place)?;
-        let changes = self.standings.remove_receipt(key.link, &key.key, place)?;
+        let changes = self.groups.remove_receipt(key.link, &key.key, place)?;
         self.follow(settings, changes.as_slice(), None)?;
-        self.refresh(settings, place, None, None)?;
+        self.recompute_at(settings, place, None, None)?;
         Ok(())
     }
 
@@ -223,9 +211,9 @@ impl Index {
             (take_at place ∷ []) (held_now self.new)) }
         ensures settled { held_settled self.new ≡ held_settled self.old }
         ensures rises { OnOk result (RisesWithFacts self.old self.new) }
-        ensures went { OnOk result (MembersGo self.old.standings self.new.standings) }
+        ensures went { OnOk result (MembersGo self.old.groups self.new.groups) }
         ensures touches { OnOk result (index_cost self.new ≤ index_cost self.old
-            + taken_load self.old.standings place) }
+            + taken_load self.old.groups place) }
     {
         match place.dir {
             Dir::FromClient => {
@@ -244,7 +232,7 @@ impl Index {
         &mut self,
         settings: &Settings,
         place: Place,
-        said: Said,
+        said: Item,
     ) -> Result<(), AllocError>
         requires held { IsHeld settings.now (held_now self.old) }
         requires stands { KeepsTraffic (put_of (place, said)) }
@@ -253,16 +241,16 @@ impl Index {
             (put_of (place, said) ∷ []) (held_now self.new)) }
         ensures settled { held_settled self.new ≡ held_settled self.old }
         ensures rises { OnOk result (RisesWithFacts self.old self.new) }
-        ensures came { OnOk result (MembersCome self.old.standings self.new.standings) }
+        ensures came { OnOk result (MembersCome self.old.groups self.new.groups) }
         ensures touches { OnOk result (index_cost self.new ≤ index_cost self.old + 43
-            + load_of self.old.standings (said_key settings.now said)) }
+            + load_of self.old.groups (said_key settings.now said)) }
     {
         match said {
-            Said::Message(message) => {
+            Item::Message(message) => {
                 self.put_message(settings, place, message)?;
                 Ok(())
             }
-            Said::Receipt(receipt) => {
+            Item::Receipt(receipt) => {
                 self.put_receipt(settings, place, receipt)?;
                 Ok(())
             }
@@ -274,7 +262,7 @@ impl Index {
         ensures held { (s : SettingsValue) (t : TrafficValue) → held_now self.old ≡ held_of s t
             → OnOk result (held_now self.new ≡ held_of s (moved t (PutNote (listed list place)))) }
         ensures settled { held_settled self.new ≡ held_settled self.old }
-        ensures standings { self.new.standings ≡ self.old.standings }
+        ensures groups { self.new.groups ≡ self.old.groups }
         ensures touches { index_cost self.new ≤ index_cost self.old }
         ensures rises { OnOk result (RisesWithFacts self.old self.new) }
     {
@@ -288,7 +276,7 @@ impl Index {
             → held_now self.old ≡ held_of s t
             → OnOk result (held_now self.new ≡ held_of s (moved t (TakeNote (listed list place)))) }
         ensures settled { held_settled self.new ≡ held_settled self.old }
-        ensures standings { self.new.standings ≡ self.old.standings }
+        ensures groups { self.new.groups ≡ self.old.groups }
         ensures touches { index_cost self.new ≤ index_cost self.old + 1 }
         ensures rises { OnOk result (RisesWithFacts self.old self.new) }
     {

@@ -1,21 +1,19 @@
 //! The notes that an append changes: of each PDU those of the pair that it makes, if any, and of its content; and at last that
 //! of a bad length.
-ghost use Rattle.std.specs.Prelude.{◌≡◌, ◌≤◌, ◌+◌, true, [], ◌∷◌, OnOk};
+ghost use Rattle.std.specs.Prelude.{◌≡◌, true, [], ◌∷◌, OnOk};
 ghost use Rattle.smq_kit.specs.declared.place.Dir.TheVariants.{FromClient, FromCentre};
 ghost use Rattle.smq_pair.specs.Pairing.{placed_header};
 ghost use Rattle.smq_pdu.specs.Header.{header_with};
 ghost use Rattle.smq_tally.specs.Lists.{listed};
 ghost use Rattle.smq_present.specs.join.Listings.{is_traffic_list};
 ghost use Rattle.smq_book.specs.edits.AppendedNotes.{alone_moves, broken_moves, met_moves, pair_moves, undecodable_moves, unreadable_moves};
-ghost use Rattle.smq_book.specs.index.Held.{IsHeld, held_now, held_settled};
-ghost use Rattle.smq_book.specs.index.Pushed.{IsHeldAfter, mismatch_moves, noted_moves, other_move};
-ghost use Rattle.smq_book.specs.index.Touches.{RisesWithFacts, index_cost};
+ghost use Rattle.smq_book.specs.index.Goes.{Goes, Keeps};
+ghost use Rattle.smq_book.specs.index.Pushed.{mismatch_moves, noted_moves, other_move};
 ghost use Rattle.smq_present.specs.join.Moves.{PutNote, TakeNote};
-ghost use Rattle.smq_present.specs.present.Settings.{SettingsValue};
 ghost use Rattle.smq_present.specs.within.Pairs.{from_session};
 
 use crate::index::index::Index;
-use crate::{KeptPdu, List};
+use crate::{List, StoredPdu};
 use smq_frame::Tail;
 use smq_kit::{Dir, Place, SessionId};
 use smq_pair::Pair;
@@ -26,13 +24,8 @@ use std::alloc::AllocError;
 /// Notes a place in a list that isn't one of those of receipts.
 fn note_place(index: &mut Index, list: List, place: Place) -> Result<(), AllocError>
     requires { is_traffic_list list ≡ true }
-    ensures held { (s : SettingsValue) → IsHeld s (held_now index.old)
-        → OnOk result (IsHeldAfter s (held_now index.old)
-        (PutNote (listed list place) ∷ []) (held_now index.new)) }
-    ensures settled { held_settled index.new ≡ held_settled index.old }
-    ensures rises { OnOk result (RisesWithFacts index.old index.new) }
-    ensures standings { index.new.standings ≡ index.old.standings }
-    ensures touches { index_cost index.new ≤ index_cost index.old }
+    ensures ok { OnOk result (Goes (PutNote (listed list place) ∷ []) index.old index.new) }
+    ensures keeps { Keeps 0 index.old index.new }
 {
     index.put_note(list, place)?;
     Ok(())
@@ -41,13 +34,8 @@ fn note_place(index: &mut Index, list: List, place: Place) -> Result<(), AllocEr
 /// Forgets a place in a list that isn't one of those of receipts, if it is noted there.
 fn forget_place(index: &mut Index, list: List, place: Place) -> Result<(), AllocError>
     requires { is_traffic_list list ≡ true }
-    ensures held { (s : SettingsValue) → IsHeld s (held_now index.old)
-        → OnOk result (IsHeldAfter s (held_now index.old)
-        (TakeNote (listed list place) ∷ []) (held_now index.new)) }
-    ensures settled { held_settled index.new ≡ held_settled index.old }
-    ensures rises { OnOk result (RisesWithFacts index.old index.new) }
-    ensures standings { index.new.standings ≡ index.old.standings }
-    ensures touches { index_cost index.new ≤ index_cost index.old + 1 }
+    ensures ok { OnOk result (Goes (TakeNote (listed list place) ∷ []) index.old index.new) }
+    ensures keeps { Keeps 1 index.old index.new }
 {
     index.take_note(list, place)?;
     Ok(())
@@ -55,13 +43,9 @@ fn forget_place(index: &mut Index, list: List, place: Place) -> Result<(), Alloc
 
 /// Notes a PDU that makes no pair: a request waits, and a response is a stray.
 fn note_alone(index: &mut Index, place: Place, command: u32) -> Result<(), AllocError>
-    ensures held { (s : SettingsValue) → IsHeld s (held_now index.old)
-        → OnOk result (IsHeldAfter s (held_now index.old)
-        (alone_moves (placed_header place command 0 0)) (held_now index.new)) }
-    ensures settled { held_settled index.new ≡ held_settled index.old }
-    ensures rises { OnOk result (RisesWithFacts index.old index.new) }
-    ensures standings { index.new.standings ≡ index.old.standings }
-    ensures touches { index_cost index.new ≤ index_cost index.old }
+    ensures ok { OnOk result (Goes (alone_moves (placed_header place command 0 0))
+        index.old index.new) }
+    ensures keeps { Keeps 0 index.old index.new }
 {
     if is_request(command) {
         note_place(index, List::Waiting, place)?;
@@ -76,13 +60,9 @@ fn note_alone(index: &mut Index, place: Place, command: u32) -> Result<(), Alloc
 
 /// Forgets the other PDU of a pair that this one makes: it waits no more, or is a stray no more.
 fn forget_other(index: &mut Index, command: u32, pair: Pair) -> Result<(), AllocError>
-    ensures held { (s : SettingsValue) → IsHeld s (held_now index.old)
-        → OnOk result (IsHeldAfter s (held_now index.old)
-        (other_move (header_with command) pair ∷ []) (held_now index.new)) }
-    ensures settled { held_settled index.new ≡ held_settled index.old }
-    ensures rises { OnOk result (RisesWithFacts index.old index.new) }
-    ensures standings { index.new.standings ≡ index.old.standings }
-    ensures touches { index_cost index.new ≤ index_cost index.old + 1 }
+    ensures ok { OnOk result (Goes (other_move (header_with command) pair ∷ [])
+        index.old index.new) }
+    ensures keeps { Keeps 1 index.old index.new }
 {
     if is_request(command) {
         forget_place(index, List::StrayAnswers, pair.response)?;
@@ -94,13 +74,8 @@ fn forget_other(index: &mut Index, command: u32, pair: Pair) -> Result<(), Alloc
 
 /// Notes the request of a pair as mismatched, where the response doesn't agree.
 fn note_mismatched(index: &mut Index, pair: Pair) -> Result<(), AllocError>
-    ensures held { (s : SettingsValue) → IsHeld s (held_now index.old)
-        → OnOk result (IsHeldAfter s (held_now index.old)
-        (mismatch_moves pair) (held_now index.new)) }
-    ensures settled { held_settled index.new ≡ held_settled index.old }
-    ensures rises { OnOk result (RisesWithFacts index.old index.new) }
-    ensures standings { index.new.standings ≡ index.old.standings }
-    ensures touches { index_cost index.new ≤ index_cost index.old }
+    ensures ok { OnOk result (Goes (mismatch_moves pair) index.old index.new) }
+    ensures keeps { Keeps 0 index.old index.new }
 {
     if pair.agrees {
         return Ok(());
@@ -110,14 +85,11 @@ fn note_mismatched(index: &mut Index, pair: Pair) -> Result<(), AllocError>
 }
 
 /// Notes what the pair that a PDU makes changes.
+#[tactic(auto, using(crate::proofs::lemmas::index::Goes::goes_both))]
 fn note_pair(index: &mut Index, place: Place, command: u32, pair: Pair) -> Result<(), AllocError>
-    ensures held { (s : SettingsValue) → IsHeld s (held_now index.old)
-        → OnOk result (IsHeldAfter s (held_now index.old)
-        (pair_moves (placed_header place command 0 0) pair) (held_now index.new)) }
-    ensures settled { held_settled index.new ≡ held_settled index.old }
-    ensures rises { OnOk result (RisesWithFacts index.old index.new) }
-    ensures standings { index.new.standings ≡ index.old.standings }
-    ensures touches { index_cost index.new ≤ index_cost index.old + 1 }
+    ensures ok { OnOk result (Goes (pair_moves (placed_header place command 0 0) pair)
+        index.old index.new) }
+    ensures keeps { Keeps 1 index.old index.new }
 {
     forget_other(index, command, pair)?;
     note_mismatched(index, pair)?;
@@ -131,13 +103,9 @@ fn note_met(
     command: u32,
     made: Option<Pair>,
 ) -> Result<(), AllocError>
-    ensures held { (s : SettingsValue) → IsHeld s (held_now index.old)
-        → OnOk result (IsHeldAfter s (held_now index.old)
-        (met_moves (placed_header place command 0 0) made) (held_now index.new)) }
-    ensures settled { held_settled index.new ≡ held_settled index.old }
-    ensures rises { OnOk result (RisesWithFacts index.old index.new) }
-    ensures standings { index.new.standings ≡ index.old.standings }
-    ensures touches { index_cost index.new ≤ index_cost index.old + 1 }
+    ensures ok { OnOk result (Goes (met_moves (placed_header place command 0 0) made)
+        index.old index.new) }
+    ensures keeps { Keeps 1 index.old index.new }
 {
     match made {
         Some(pair) => note_pair(index, place, command, pair),
@@ -150,15 +118,11 @@ fn note_undecodable(
     index: &mut Index,
     session: SessionId,
     dir: Dir,
-    pdu: &KeptPdu,
+    pdu: &StoredPdu,
 ) -> Result<(), AllocError>
-    ensures held { (s : SettingsValue) → IsHeld s (held_now index.old)
-        → OnOk result (IsHeldAfter s (held_now index.old)
-        (undecodable_moves (from_session session) dir pdu.now) (held_now index.new)) }
-    ensures settled { held_settled index.new ≡ held_settled index.old }
-    ensures rises { OnOk result (RisesWithFacts index.old index.new) }
-    ensures standings { index.new.standings ≡ index.old.standings }
-    ensures touches { index_cost index.new ≤ index_cost index.old }
+    ensures ok { OnOk result (Goes (undecodable_moves (from_session session) dir pdu.now)
+        index.old index.new) }
+    ensures keeps { Keeps 0 index.old index.new }
 {
     if pdu.content.is_undecodable() {
         note_place(index, List::Undecodable, place_of(session, dir, pdu))?;
@@ -168,14 +132,10 @@ fn note_undecodable(
 }
 
 /// Notes a delivery receipt of the centre without a usable id or state.
-fn note_unreadable(index: &mut Index, session: SessionId, pdu: &KeptPdu) -> Result<(), AllocError>
-    ensures held { (s : SettingsValue) → IsHeld s (held_now index.old)
-        → OnOk result (IsHeldAfter s (held_now index.old)
-        (unreadable_moves (from_session session) FromCentre pdu.now) (held_now index.new)) }
-    ensures settled { held_settled index.new ≡ held_settled index.old }
-    ensures rises { OnOk result (RisesWithFacts index.old index.new) }
-    ensures standings { index.new.standings ≡ index.old.standings }
-    ensures touches { index_cost index.new ≤ index_cost index.old }
+fn note_unreadable(index: &mut Index, session: SessionId, pdu: &StoredPdu) -> Result<(), AllocError>
+    ensures ok { OnOk result (Goes (unreadable_moves (from_session session) FromCentre pdu.now)
+        index.old index.new) }
+    ensures keeps { Keeps 0 index.old index.new }
 {
     if pdu.content.is_unreadable() {
         note_place(
@@ -189,19 +149,16 @@ fn note_unreadable(index: &mut Index, session: SessionId, pdu: &KeptPdu) -> Resu
 }
 
 /// Notes what the next PDU of the client changes, which makes this pair, if any.
+#[tactic(auto, using(crate::proofs::lemmas::index::Goes::client_notes))]
 pub(crate) fn note_of_client(
     index: &mut Index,
     session: SessionId,
-    pdu: &KeptPdu,
+    pdu: &StoredPdu,
     made: Option<Pair>,
 ) -> Result<(), AllocError>
-    ensures held { (s : SettingsValue) → IsHeld s (held_now index.old)
-        → OnOk result (IsHeldAfter s (held_now index.old)
-        (noted_moves (from_session session) FromClient pdu.now made) (held_now index.new)) }
-    ensures settled { held_settled index.new ≡ held_settled index.old }
-    ensures rises { OnOk result (RisesWithFacts index.old index.new) }
-    ensures standings { index.new.standings ≡ index.old.standings }
-    ensures touches { index_cost index.new ≤ index_cost index.old + 1 }
+    ensures ok { OnOk result (Goes (noted_moves (from_session session) FromClient pdu.now made)
+        index.old index.new) }
+    ensures keeps { Keeps 1 index.old index.new }
 {
     let place = place_of(session, Dir::FromClient, pdu);
     note_met(index, place, pdu.command, made)?;
@@ -210,19 +167,16 @@ pub(crate) fn note_of_client(
 }
 
 /// Notes what the next PDU of the centre changes, which makes this pair, if any.
+#[tactic(auto, using(crate::proofs::lemmas::index::Goes::centre_notes))]
 pub(crate) fn note_of_centre(
     index: &mut Index,
     session: SessionId,
-    pdu: &KeptPdu,
+    pdu: &StoredPdu,
     made: Option<Pair>,
 ) -> Result<(), AllocError>
-    ensures held { (s : SettingsValue) → IsHeld s (held_now index.old)
-        → OnOk result (IsHeldAfter s (held_now index.old)
-        (noted_moves (from_session session) FromCentre pdu.now made) (held_now index.new)) }
-    ensures settled { held_settled index.new ≡ held_settled index.old }
-    ensures rises { OnOk result (RisesWithFacts index.old index.new) }
-    ensures standings { index.new.standings ≡ index.old.standings }
-    ensures touches { index_cost index.new ≤ index_cost index.old + 1 }
+    ensures ok { OnOk result (Goes (noted_moves (from_session session) FromCentre pdu.now made)
+        index.old index.new) }
+    ensures keeps { Keeps 1 index.old index.new }
 {
     let place = place_of(session, Dir::FromCentre, pdu);
     note_met(index, place, pdu.command, made)?;
@@ -238,13 +192,9 @@ pub(crate) fn note_broken(
     dir: Dir,
     tail: &Tail,
 ) -> Result<(), AllocError>
-    ensures held { (s : SettingsValue) → IsHeld s (held_now index.old)
-        → OnOk result (IsHeldAfter s (held_now index.old)
-        (broken_moves (from_session session) dir tail.now) (held_now index.new)) }
-    ensures settled { held_settled index.new ≡ held_settled index.old }
-    ensures rises { OnOk result (RisesWithFacts index.old index.new) }
-    ensures standings { index.new.standings ≡ index.old.standings }
-    ensures touches { index_cost index.new ≤ index_cost index.old }
+    ensures ok { OnOk result (Goes (broken_moves (from_session session) dir tail.now)
+        index.old index.new) }
+    ensures keeps { Keeps 0 index.old index.new }
 {
     let Some(offset) = tail.broken() else {
         return Ok(());

@@ -3,7 +3,7 @@ ghost use Rattle.std.specs.Prelude.{◌≡◌, ◌≤◌, ◌+◌, ◌*◌, [], 
 ghost use Rattle.smq_route.specs.Numbers.{places_under, vacancies};
 ghost use Rattle.smq_book.specs.index.Held.{IsHeld, held_now, held_settled, traffic_held};
 ghost use Rattle.smq_book.specs.index.Pushed.{IsHeldAfter};
-ghost use Rattle.smq_book.specs.index.Refreshed.{LeaveOthers, SetsAnew};
+ghost use Rattle.smq_book.specs.index.Recomputed.{LeaveOthers, Restates};
 ghost use Rattle.smq_book.specs.index.Touches.{RisesWithFacts, index_cost};
 ghost use Rattle.smq_present.specs.present.Settings.{SettingsValue, with_versions};
 
@@ -46,7 +46,7 @@ pub(crate) fn refresh_at(
     places: &[Place],
 ) -> Result<(), AllocError>
     ensures held { OnOk result
-        (SetsAnew routes.now.versions windows.now clock places.now index.old index.new) }
+        (Restates routes.now.versions windows.now clock places.now index.old index.new) }
     ensures none { places.now ≡ [] → result ≡ Ok tt }
     ensures settled { held_settled index.new ≡ held_settled index.old }
     ensures touches { OnOk result
@@ -54,7 +54,7 @@ pub(crate) fn refresh_at(
     ensures rises { OnOk result (RisesWithFacts index.old index.new) }
 {
     for place in places {
-        index.refresh_by(routes, windows, clock, *place)?;
+        index.restate_at(routes, windows, clock, *place)?;
     }
     Ok(())
 }

@@ -79,7 +79,7 @@ impl Model for StoredReceipt {
 
 /// What stands at a place: a message, or a delivery receipt.
 #[derive(Drop)]
-pub(crate) enum Said {
+pub(crate) enum Item {
     Message(StoredMessage),
     Receipt(StoredReceipt),
 }

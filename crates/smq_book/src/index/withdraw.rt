@@ -13,7 +13,7 @@ ghost use Rattle.smq_present.specs.present.Settings.{SettingsValue};
 ghost use Rattle.smq_present.specs.within.Pairs.{from_session};
 
 use crate::index::index::Index;
-use crate::{KeptPdu, Listed, Present, Session};
+use crate::{Listed, Present, Session, StoredPdu};
 use smq_kit::{Dir, SessionId};
 use smq_present::{Settings, place_of, read_notes};
 use std::alloc::{AllocError, Global};
@@ -34,7 +34,7 @@ pub(crate) fn withdraw(
         ≡ traffic_of (fin.remove present.now.sessions number.0)) }
     ensures settled { held_settled index.new ≡ held_settled index.old }
     ensures rises { OnOk result (RisesWithFacts index.old index.new) }
-    ensures touches { let g = index.old.standings in let origin = from_session number in
+    ensures touches { let g = index.old.groups in let origin = from_session number in
         OnOk result (index_cost index.new ≤ index_cost index.old
         + sum_by (message_load g origin) (kept_pdus session.now.client)
         + sum_by (receipt_load g origin) (kept_pdus session.now.centre)
@@ -53,16 +53,16 @@ fn take_messages(
     index: &mut Index,
     settings: &Settings,
     number: SessionId,
-    client: &[KeptPdu],
+    client: &[StoredPdu],
 ) -> Result<(), AllocError>
     requires { IsHeld settings.now (held_now index.old) }
     ensures held { OnOk result (IsHeldAfter settings.now (held_now index.old)
         (submit_takes (from_session number) client.now) (held_now index.new)) }
     ensures settled { held_settled index.new ≡ held_settled index.old }
     ensures rises { OnOk result (RisesWithFacts index.old index.new) }
-    ensures went { OnOk result (MembersGo index.old.standings index.new.standings) }
+    ensures went { OnOk result (MembersGo index.old.groups index.new.groups) }
     ensures touches { OnOk result (index_cost index.new ≤ index_cost index.old
-        + sum_by (message_load index.old.standings (from_session number)) client.now) }
+        + sum_by (message_load index.old.groups (from_session number)) client.now) }
 {
     for pdu in client {
         take_submit(index, settings, number, pdu)?;
@@ -75,16 +75,16 @@ fn take_submit(
     index: &mut Index,
     settings: &Settings,
     number: SessionId,
-    pdu: &KeptPdu,
+    pdu: &StoredPdu,
 ) -> Result<(), AllocError>
     requires { IsHeld settings.now (held_now index.old) }
     ensures held { OnOk result (IsHeldAfter settings.now (held_now index.old)
         (submit_take (from_session number) pdu.now) (held_now index.new)) }
     ensures settled { held_settled index.new ≡ held_settled index.old }
     ensures rises { OnOk result (RisesWithFacts index.old index.new) }
-    ensures went { OnOk result (MembersGo index.old.standings index.new.standings) }
+    ensures went { OnOk result (MembersGo index.old.groups index.new.groups) }
     ensures touches { OnOk result (index_cost index.new ≤ index_cost index.old
-        + message_load index.old.standings (from_session number) pdu.now) }
+        + message_load index.old.groups (from_session number) pdu.now) }
 {
     let Some(_) = pdu.content.submit() else {
         return Ok(());
@@ -98,16 +98,16 @@ fn take_receipts(
     index: &mut Index,
     settings: &Settings,
     number: SessionId,
-    centre: &[KeptPdu],
+    centre: &[StoredPdu],
 ) -> Result<(), AllocError>
     requires { IsHeld settings.now (held_now index.old) }
     ensures held { OnOk result (IsHeldAfter settings.now (held_now index.old)
         (receipt_takes (from_session number) centre.now) (held_now index.new)) }
     ensures settled { held_settled index.new ≡ held_settled index.old }
     ensures rises { OnOk result (RisesWithFacts index.old index.new) }
-    ensures went { OnOk result (MembersGo index.old.standings index.new.standings) }
+    ensures went { OnOk result (MembersGo index.old.groups index.new.groups) }
     ensures touches { OnOk result (index_cost index.new ≤ index_cost index.old
-        + sum_by (receipt_load index.old.standings (from_session number)) centre.now) }
+        + sum_by (receipt_load index.old.groups (from_session number)) centre.now) }
 {
     for pdu in centre {
         take_received(index, settings, number, pdu)?;
@@ -120,16 +120,16 @@ fn take_received(
     index: &mut Index,
     settings: &Settings,
     number: SessionId,
-    pdu: &KeptPdu,
+    pdu: &StoredPdu,
 ) -> Result<(), AllocError>
     requires { IsHeld settings.now (held_now index.old) }
     ensures held { OnOk result (IsHeldAfter settings.now (held_now index.old)
         (receipt_take (from_session number) pdu.now) (held_now index.new)) }
     ensures settled { held_settled index.new ≡ held_settled index.old }
     ensures rises { OnOk result (RisesWithFacts index.old index.new) }
-    ensures went { OnOk result (MembersGo index.old.standings index.new.standings) }
+    ensures went { OnOk result (MembersGo index.old.groups index.new.groups) }
     ensures touches { OnOk result (index_cost index.new ≤ index_cost index.old
-        + receipt_load index.old.standings (from_session number) pdu.now) }
+        + receipt_load index.old.groups (from_session number) pdu.now) }
 {
     let Some(_) = pdu.content.receipt() else {
         return Ok(());

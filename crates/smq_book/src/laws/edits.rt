@@ -26,16 +26,16 @@ ghost use Rattle.smq_route.specs.Versions.{Versions};
 ghost use Rattle.smq_route.specs.declared.version.Version.{Version};
 ghost use Rattle.smq_present.specs.declared.present.session.Session.{Session as SessionValue};
 ghost use Rattle.smq_present.specs.declared.present.edit.Edit.TheVariants.{Append, Withdraw, SetForm, SetWindow, AddRoute, EndRoute, CorrectRoute, Advance};
-ghost use Rattle.smq_present.specs.declared.present.kept.KeptPdu.{KeptPdu};
+ghost use Rattle.smq_present.specs.declared.present.kept.StoredPdu.{StoredPdu};
 ghost use Rattle.smq_present.specs.present.Kept.{kept_pdus};
 ghost use Rattle.smq_present.specs.present.Batch.{BatchValue};
 ghost use Rattle.smq_present.specs.present.Present.{PresentValue, octets_in, session_of};
 ghost use Rattle.smq_present.specs.present.Replies.{reply};
-ghost use Rattle.smq_present.specs.present.Settings.{SettingsValue, opening_window, forms_of, set_window_of, window_in, with_versions, with_clock, with_windows};
+ghost use Rattle.smq_present.specs.present.Settings.{SettingsValue, opening_window, forms_of, window_if_set, window_in, with_versions, with_clock, with_windows};
 ghost use Rattle.smq_present.specs.present.Steps.{session_after, step, with_window};
 ghost use Rattle.smq_present.specs.pairing.Traffic.{Message, Origin, ReceivedReceipt, TrafficValue, mismatched, session_messages, session_receipts, traffic_of};
 ghost use Rattle.smq_present.specs.join.Circumstances.{window_of, circumstances};
-ghost use Rattle.smq_present.specs.join.Facts.{fact_by, facts_of, with_lapse};
+ghost use Rattle.smq_present.specs.join.Facts.{fact_in_circumstances, facts_of, with_lapse};
 ghost use Rattle.smq_present.specs.join.Keyed.{grouping_of};
 ghost use Rattle.smq_present.specs.join.Listings.{notes_of, receipt_listings};
 ghost use Rattle.smq_group.specs.Matching.{Grouping};
@@ -83,7 +83,7 @@ pub fn advances_change_due_messages_alone()
 
 /// A window of a link changes no fact but those of the link's messages whose receipts are due, the open and the lapsed ones:
 /// where there are none, no fact at all. It changes no note, and the same messages' receipts are due, as they are at any clock.
-pub fn windows_change_due_messages_of_their_link_alone()
+pub fn window_edits_stay_on_their_link()
     ensures facts { (s : SettingsValue) (windows : fin.FinMap nat_cmp ℕ) (link : LinkId)
         (t : TrafficValue)
         → ((other : LinkId) → other ≢ link → window_in windows other ≡ window_in s.windows other)
@@ -111,7 +111,7 @@ pub fn windows_change_due_messages_of_their_link_alone()
 /// was set. Where none was, the opening window leaves the window of each link, and all facts.
 pub fn windows_set_back_leave_all_as_it_was()
     ensures settings { (s : SettingsValue) (link : LinkId) (window before : ℕ)
-        → set_window_of s link.0 ≡ Some before
+        → window_if_set s link.0 ≡ Some before
         → with_window (with_window s link window) link before ≡ s }
     ensures windows { (s : SettingsValue) (link : LinkId) (window : ℕ) (other : LinkId)
         → window_of (with_window (with_window s link window) link (window_of s link)) other
@@ -120,7 +120,7 @@ pub fn windows_set_back_leave_all_as_it_was()
         → facts_of (with_window (with_window s link window) link (window_of s link)) t
         ≡ facts_of s t }
     ensures opening { (s : SettingsValue) (link : LinkId) (window : ℕ) (t : TrafficValue)
-        → set_window_of s link.0 ≡ None
+        → window_if_set s link.0 ≡ None
         → facts_of (with_window (with_window s link window) link opening_window) t ≡ facts_of s t }
 {}
 
@@ -200,7 +200,7 @@ pub fn moves_change_their_key_alone()
 
 /// A PDU of the centre is the response to one message at most.
 pub fn responses_answer_one_message()
-    ensures { (origin : Origin) (client : List Octet) (centre : List KeptPdu) (next : KeptPdu)
+    ensures { (origin : Origin) (client : List Octet) (centre : List StoredPdu) (next : StoredPdu)
         → length (answered origin (kept_pdus client) centre next) ≤ 1 }
 {}
 
@@ -294,7 +294,7 @@ pub fn told_standings_give_facts()
         (tells : TellsChanges g (grouping_of s u) changes) (place : Place) (standing : Standing)
         → told_at place tells.submits ≡ Some standing
         → fin.get (facts_of s u) place
-        ≡ option_map (λ m. fact_by place m (circumstances_told s u m standing))
+        ≡ option_map (λ m. fact_in_circumstances place m (circumstances_told s u m standing))
         (fin.get u.messages place) }
     ensures notes { (s : SettingsValue) (g : Grouping) (u : TrafficValue) (changes : List Change)
         (tells : TellsChanges g (grouping_of s u) changes) (place : Place) (standing : Standing)
@@ -321,7 +321,7 @@ pub fn mismatched_pairs_are_noted_at_their_request()
 /// How many places an edit changes, against how much it reaches: an append the notes of twice as many at most, and of one
 /// more; a withdrawal takes out as many messages and delivery receipts at most; forms change as many at most; a window, edits of
 /// routes and a clock set exactly as many anew. What stands at one place changes the members of its key at most.
-pub fn edits_change_as_few_places_as_they_reach()
+pub fn changed_places_are_bounded_by_reach()
     ensures appends { (p : PresentValue) (batch : BatchValue)
         → length (append_places (session_of p batch.session.0) batch)
         ≤ 2 * reach p (Append batch) + 1 }
@@ -379,7 +379,7 @@ pub fn windows_lapse_and_open_messages_alone()
         (place : Place)
         → fin.get (facts_of (with_windows s windows) t) place
         ≡ option_map (λ m. with_lapse (nat_le (m.moment + window_in windows m.link) s.clock)
-        (fact_by place m (circumstances s t m))) (fin.get t.messages place) }
+        (fact_in_circumstances place m (circumstances s t m))) (fin.get t.messages place) }
     ensures others { (s : SettingsValue) (windows : fin.FinMap nat_cmp ℕ) (t : TrafficValue)
         (place : Place) (fact : Fact)
         → fin.get (facts_of s t) place ≡ Some fact → is_due fact.outcome ≡ false

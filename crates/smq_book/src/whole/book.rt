@@ -8,7 +8,7 @@ ghost use Rattle.smq_present.specs.whole.Scratch.{scratch};
 ghost use Rattle.smq_present.specs.present.Steps.{step, steps};
 ghost use Rattle.smq_present.specs.present.Judged.{judged, AreAnswers, IsAnswer};
 
-use crate::whole::kept_book::KeptBook;
+use crate::whole::indexed_book::IndexedBook;
 use crate::{Edit, Present, Tables};
 use smq_frame::Tail;
 use smq_kit::{Dir, Refusal, SessionId};
@@ -19,7 +19,7 @@ use std::marker::Model;
 #[derive(Drop)]
 pub struct Book {
     alloc: Global,
-    kept: KeptBook,
+    kept: IndexedBook,
 }
 
 impl Model for Book {
@@ -40,7 +40,7 @@ impl Book {
     {
         Book {
             alloc,
-            kept: KeptBook::new(alloc),
+            kept: IndexedBook::new(alloc),
         }
     }
 

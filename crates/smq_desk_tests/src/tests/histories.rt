@@ -105,8 +105,8 @@ fn push_again(history: &mut History, number: u64) -> bool {
     is_kept && push(history, number) == Ok(())
 }
 
-/// Whichever allocation is refused (gate/check-refused-calls), a history grows past the end of a chunk all the same,
-/// and is copied, if not at once.
+/// Whichever allocation is refused (gate/check-out-of-memory-in-calls), a history grows past the end of a chunk all the
+/// same, and is copied, if not at once.
 #[test]
 fn want_of_memory_leaves_a_history_as_it_was(rt: HostRuntime) {
     let mut history = History::new(rt.alloc());

@@ -1,5 +1,5 @@
-//! A desk with each allocation in its calls refused in turn (gate/check-refused-calls): history, the seat's calls and the board are as
-//! before, the same call is answered then as ever, and the desk closes.
+//! A desk with each allocation in its calls refused in turn (gate/check-out-of-memory-in-calls): history, the seat's
+//! calls and the board are as before, the same call is answered then as ever, and the desk closes.
 ghost use Rattle.std.specs.Prelude.{◌≤◌};
 ghost use Rattle.smq_desk.specs.declared.ledger.TheConstants.{LONGEST_HISTORY};
 

@@ -1,5 +1,5 @@
-//! Jobs that stop: at a desk whose history is full, and, with each allocation and each start of a thread in `load_links` refused in turn
-//! (gate/check-refused-calls), for lack of memory or of a thread.
+//! Jobs that stop: at a desk whose history is full, and, with each allocation and each start of a thread in
+//! `load_links` refused in turn (gate/check-out-of-memory-in-calls), for lack of memory or of a thread.
 ghost use Rattle.std.specs.Prelude.{◌≤◌, length, All, IfOk};
 ghost use Rattle.smq_desk.specs.Jobs.{IsFresh};
 ghost use Rattle.smq_desk.specs.declared.ledger.TheConstants.{LONGEST_HISTORY};

@@ -1,11 +1,9 @@
 //! Readers that fail, are interrupted or give too much, and writers that fail or are interrupted: a run, a total, lines and a check tell it,
 //! and nothing is written that isn't wanted. A total takes what is too much for a run.
 use crate::tests::*;
-use smq_engine::run;
-use smq_follow::{messages, receipts, total};
-use smq_report::{Format, Pick};
+use smq_engine::{run, total};
+use smq_report::{Format, Output, Pick, Query};
 use smq_tally::View;
-use smq_words::Query;
 use std::io::Read;
 
 /// A submit_sm and its response: the script of examples/one-submit.
@@ -151,9 +149,9 @@ pub(crate) fn fault_of<RT: AllocGlobal + Threads + Wait + Sync, R: Read, W: Writ
 ) -> Option<RunFault> {
     match work {
         Work::Report(query) => run(rt, reader, b"", query, writer).err(),
-        Work::Total(query) => total(rt, reader, b"", query, writer).err(),
-        Work::Messages => messages(rt, reader, b"", writer).err(),
-        Work::Receipts => receipts(rt, reader, b"", writer).err(),
+        Work::Total(query) => total(rt, reader, b"", Output::Report(query), writer).err(),
+        Work::Messages => total(rt, reader, b"", Output::Messages, writer).err(),
+        Work::Receipts => total(rt, reader, b"", Output::Receipts, writer).err(),
         Work::Check => check(rt, reader, b"", writer, &NoGate).err(),
     }
 }

@@ -2,7 +2,7 @@
 //! written stands where a reader or a writer fails.
 use crate::tests::faults::{Dripping, KINDS, Taker};
 use crate::tests::*;
-use smq_follow::{Followed, follow};
+use smq_engine::{Followed, follow};
 use smq_report::Format;
 use std::io::Read;
 

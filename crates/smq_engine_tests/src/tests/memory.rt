@@ -1,5 +1,6 @@
-//! A run, a total, lines and a check with each allocation and each start of a thread refused in turn (gate/check-refused-calls): what was written is a
-//! beginning of what is wanted, and the same is done then as ever.
+//! A run, a total, lines and a check with each allocation and each start of a thread refused in turn
+//! (gate/check-out-of-memory-in-calls): what was written is a beginning of what is wanted, and the same is done then as
+//! ever.
 use crate::tests::faults::{SCRIPT, WORKS, Work, ends, fault_of};
 use crate::tests::*;
 use smq_marks::Call;

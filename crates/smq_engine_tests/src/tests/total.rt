@@ -1,10 +1,8 @@
 //! Rows that are played to their end, however many there are: refused ones are told by their numbers, and nothing is written where one
 //! says no row or the settings say nothing.
 use crate::tests::*;
-use smq_engine::Ran;
-use smq_follow::total;
-use smq_report::{Format, Pick};
-use smq_words::Query;
+use smq_engine::{Ran, total};
+use smq_report::{Format, Output, Pick, Query};
 
 /// Two rows that are refused, of four.
 const ROWS: &[u8] = b"clock,5\nwithdraw,11\nclock,6\nclock,4\n";
@@ -24,7 +22,7 @@ fn totalled<RT: AllocGlobal>(
         format: Format::Csv,
     };
     let mut reader = rows;
-    total(rt, &mut reader, settings, query, written)
+    total(rt, &mut reader, settings, Output::Report(query), written)
 }
 
 /// Whether the rows of these numbers are refused after settings.

@@ -14,10 +14,10 @@ use Rattle.smq_shelf.specs.Keeping.{Keeping}
 use Rattle.smq_shelf.specs.Places.{content_of}
 use Rattle.smq_group.specs.declared.member.Member.{Member}
 use Rattle.smq_group.specs.declared.member.Candidate.{Candidate}
-use Rattle.smq_group.specs.declared.member.Said.{Said}
-use Rattle.smq_group.specs.declared.outlook.Group.{Group}
-use Rattle.smq_group.specs.declared.outlook.Outlook.{Outlook}
-use Rattle.smq_group.specs.declared.outlook.Earliest.{Earliest}
+use Rattle.smq_group.specs.declared.member.ReceiptFacts.{ReceiptFacts}
+use Rattle.smq_group.specs.declared.group_summary.Group.{Group}
+use Rattle.smq_group.specs.declared.group_summary.GroupSummary.{GroupSummary}
+use Rattle.smq_group.specs.declared.group_summary.Earliest.{Earliest}
 use Rattle.smq_group.specs.Matching as m
 use Rattle.smq_group.specs.Matching.{Grouping, GroupedReceipt, matches, candidates, earlier}
 use Rattle.smq_group.specs.within.Orders.{kept_candidate_cmp}
@@ -33,11 +33,11 @@ abbrev pub submit_value : LinkKey → Bool → LinkKey
 submit_value key _ = key
 
 -- what is grouped of a receipt
-abbrev pub receipt_value : LinkKey → Said → GroupedReceipt
+abbrev pub receipt_value : LinkKey → ReceiptFacts → GroupedReceipt
 receipt_value key said = record { key = key; moment = said.moment; decides = said.decides }
 
 -- the grouping that such maps are
-abbrev pub grouping_in : List (Member × Bool) → List (Member × Said) → Grouping
+abbrev pub grouping_in : List (Member × Bool) → List (Member × ReceiptFacts) → Grouping
 grouping_in submits receipts = record {
   submits = fin.from_entries (map (by_place submit_value) submits);
   receipts = fin.from_entries (map (by_place receipt_value) receipts);
@@ -76,7 +76,7 @@ abbrev pub received : Grouping → LinkKey → ℕ
 received g key = number_of (λ (r : GroupedReceipt). same_key key r.key) g.receipts
 
 -- what all standings of a key's members rest on
-abbrev pub outlook_in : Grouping → LinkKey → Outlook
+abbrev pub outlook_in : Grouping → LinkKey → GroupSummary
 outlook_in g key = record { matches = matches g key; receipts = received g key; decider = option_map earliest_at (reduce earlier (candidates g key)) }
 
 -- whether a receipt of a key waits: it can decide, and another does
@@ -93,14 +93,14 @@ pub record IsIndexed (g : Grouping) (index : List (Candidate × Bool)) (outlooks
   pub outlook : (key : LinkKey) → outlook_at key outlooks ≡ outlook_in g key
 
 -- The four maps hold a grouping.
-pub record AreStored (submits : List (Member × Bool)) (receipts : List (Member × Said)) (index : List (Candidate × Bool)) (outlooks : List (LinkKey × Group)) : Type 0 where
+pub record AreStored (submits : List (Member × Bool)) (receipts : List (Member × ReceiptFacts)) (index : List (Candidate × Bool)) (outlooks : List (LinkKey × Group)) : Type 0 where
   pub submits_once : StandsOnce submit_value submits
   pub receipts_once : StandsOnce receipt_value receipts
   pub indexed : IsIndexed (grouping_in submits receipts) index outlooks
   pub only : (key : LinkKey) → only_at key outlooks ≡ only_of (members_in key submits)
 
 -- What a receipt that was put in or taken out changed can be taken back: the two maps' last changes are these.
-pub record CanTakeBack (decides : Bool) (r : Keeping Member Said) (c : Keeping Candidate Bool) (r' : Keeping Member Said) (c' : Keeping Candidate Bool) : Type 0 where
+pub record CanTakeBack (decides : Bool) (r : Keeping Member ReceiptFacts) (c : Keeping Candidate Bool) (r' : Keeping Member ReceiptFacts) (c' : Keeping Candidate Bool) : Type 0 where
   pub receipts : r'.past ≡ r.places ∷ r.past
   pub shown : r.content ≡ content_of r.places
   pub candidates : decides ≡ true → c'.past ≡ c.places ∷ c.past

@@ -14,9 +14,9 @@ use Rattle.smq_group.specs.declared.changes.Added.{Added}
 use Rattle.smq_group.specs.declared.changes.Added.TheVariants as put
 use Rattle.smq_group.specs.declared.changes.Turn.{Turn}
 use Rattle.smq_group.specs.declared.changes.Turn.TheVariants.{Each, Deciders, Newcomer}
-use Rattle.smq_group.specs.declared.member.Said.{Said}
-use Rattle.smq_group.specs.declared.outlook.Group.{Group}
-use Rattle.smq_group.specs.declared.outlook.Outlook.{Outlook}
+use Rattle.smq_group.specs.declared.member.ReceiptFacts.{ReceiptFacts}
+use Rattle.smq_group.specs.declared.group_summary.Group.{Group}
+use Rattle.smq_group.specs.declared.group_summary.GroupSummary.{GroupSummary}
 use Rattle.smq_group.specs.within.Outlooks.{decider_of, submit_standing_of, receipt_standing_of}
 use Rattle.smq_group.specs.within.Walked.{only_of}
 
@@ -25,36 +25,36 @@ abbrev pub change_at : Place → Standing → Change
 change_at place standing = record { place = place; standing = standing }
 
 -- whether two outlooks have the same deciding receipt
-abbrev pub same_decider : Outlook → Outlook → Bool
+abbrev pub same_decider : GroupSummary → GroupSummary → Bool
 same_decider before after = same_option (eq_by_cmp place_cmp) (decider_of before) (decider_of after)
 
 -- Each member's standing changes where the number of submits passes between none, one and more; where one submit has
 -- another deciding receipt, those of the submit and of the two receipts do; and else that of the member that is put in.
-abbrev pub turn_between : Outlook → Outlook → Turn
+abbrev pub turn_between : GroupSummary → GroupSummary → Turn
 turn_between before after =
     if not (min before.matches 2 == min after.matches 2) then Each
     else (if (after.matches == 1) && not (same_decider before after) then Deciders else Newcomer)
 
 -- the changes of submits
-abbrev pub submit_changes : Outlook → List (Place × Bool) → List Change
+abbrev pub submit_changes : GroupSummary → List (Place × Bool) → List Change
 submit_changes o members = map (λ m. change_at m.0 (submit_standing_of o)) members
 
 -- the changes of receipts
-abbrev pub receipt_changes : Outlook → List (Place × Said) → List Change
+abbrev pub receipt_changes : GroupSummary → List (Place × ReceiptFacts) → List Change
 receipt_changes o members = map (λ m. change_at m.0 (receipt_standing_of o m.0 m.1.decides)) members
 
 -- the change of the submit that is put in, if one is
-abbrev pub newcomer_submit : Outlook → Added → List Change
+abbrev pub newcomer_submit : GroupSummary → Added → List Change
 newcomer_submit o (put.Submit place) = change_at place (submit_standing_of o) ∷ []
 newcomer_submit o _ = []
 
 -- the change of the receipt that is put in, if one is
-abbrev pub newcomer_receipt : Outlook → Added → List Change
+abbrev pub newcomer_receipt : GroupSummary → Added → List Change
 newcomer_receipt o (put.Receipt place decides) = change_at place (receipt_standing_of o place decides) ∷ []
 newcomer_receipt o _ = []
 
 -- the receipt that decided, where it is there still: where another is put in
-abbrev pub rival : Outlook → Added → Option Place
+abbrev pub rival : GroupSummary → Added → Option Place
 rival before (put.Receipt _ _) = decider_of before
 rival before _ = None
 
@@ -66,12 +66,12 @@ decider_changes (Some r) (Some d) =
     if is_lt (place_cmp d r) then change_at d Deciding ∷ change_at r Extra ∷ [] else change_at r Extra ∷ change_at d Deciding ∷ []
 
 -- the changes that are told of submits
-abbrev pub told_submits : Turn → Outlook → Added → List (Place × Bool) → List Change
-told_submits Newcomer after added members = newcomer_submit after added
-told_submits _ after added members = submit_changes after members
+abbrev pub changes_of_submits : Turn → GroupSummary → Added → List (Place × Bool) → List Change
+changes_of_submits Newcomer after added members = newcomer_submit after added
+changes_of_submits _ after added members = submit_changes after members
 
 -- the changes that are told of receipts
-abbrev pub told_receipts : Turn → Outlook → Outlook → Added → List (Place × Said) → List Change
+abbrev pub told_receipts : Turn → GroupSummary → GroupSummary → Added → List (Place × ReceiptFacts) → List Change
 told_receipts Each before after added members = receipt_changes after members
 told_receipts Deciders before after added members = decider_changes (rival before added) (decider_of after)
 told_receipts Newcomer before after added members = newcomer_receipt after added
@@ -82,13 +82,13 @@ IsKnown None members = ⊤
 IsKnown (Some place) members = only_of members ≡ Some place
 
 -- the place of the submit that is left where just one is: that of the first change
-abbrev pub only_left : ℕ → List Change → Option Place
-only_left matches [] = None
-only_left matches (c ∷ cs) = if matches == 1 then Some c.place else None
+abbrev pub sole_submit_left : ℕ → List Change → Option Place
+sole_submit_left matches [] = None
+sole_submit_left matches (c ∷ cs) = if matches == 1 then Some c.place else None
 
 -- what is kept of a group once a member is taken out: the place of its only submit was known, or is that of the one left
-abbrev pub kept_group : Outlook → Option Place → List Change → Group
-kept_group after only changes = record { outlook = after; only = option_or only (only_left after.matches changes) }
+abbrev pub kept_group : GroupSummary → Option Place → List Change → Group
+kept_group after only changes = record { outlook = after; only = option_or only (sole_submit_left after.matches changes) }
 
 -- the submits that are told stand by place, where each is told
 abbrev pub SubmitsByPlace : Turn → List (Place × Bool) → Type 0
@@ -96,6 +96,6 @@ SubmitsByPlace Newcomer members = ⊤
 SubmitsByPlace _ members = IsStrictlySortedBy place_cmp (keys_of members)
 
 -- and so do the receipts
-abbrev pub ReceiptsByPlace : Turn → List (Place × Said) → Type 0
+abbrev pub ReceiptsByPlace : Turn → List (Place × ReceiptFacts) → Type 0
 ReceiptsByPlace Each members = IsStrictlySortedBy place_cmp (keys_of members)
 ReceiptsByPlace _ members = ⊤

@@ -7,7 +7,7 @@ use Rattle.smq_kit.specs.LinkKeys.{same_key}
 use Rattle.smq_shelf.specs.Walks.{stands_after}
 use Rattle.smq_group.specs.declared.member.Member.{Member}
 use Rattle.smq_group.specs.declared.member.Candidate.{Candidate}
-use Rattle.smq_group.specs.declared.outlook.Earliest.{Earliest}
+use Rattle.smq_group.specs.declared.group_summary.Earliest.{Earliest}
 use Rattle.smq_group.specs.within.Orders.{kept_candidate_cmp}
 
 -- whether a member is of a key

@@ -8,7 +8,7 @@ use Rattle.smq_kit.specs.declared.place.Dir.{Dir}
 use Rattle.smq_kit.specs.declared.place.Dir.TheVariants.{FromClient, FromCentre}
 use Rattle.smq_kit.specs.contracts.place.DirOrd.TheImpl as dir_ord
 use Rattle.smq_kit.proofs.Comparisons.{then_first, then_second}
-use Rattle.smq_pair.specs.declared.entry.Exchange.{Exchange}
+use Rattle.smq_pair.specs.declared.paired_pdu.Exchange.{Exchange}
 use Rattle.smq_pair.specs.within.Orders.{exchange_cmp}
 
 -- directions by number

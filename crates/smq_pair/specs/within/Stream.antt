@@ -4,11 +4,11 @@ use Rattle.std.specs.List.{All}
 use Rattle.std.specs.List.Sorted.{IsStrictlySortedBy}
 use Rattle.std.specs.Map.{keys_of}
 use Rattle.std.specs.Ordering.{nat_cmp}
-use Rattle.smq_pair.specs.declared.entry.Entry.{Entry}
+use Rattle.smq_pair.specs.declared.paired_pdu.PairedPdu.{PairedPdu}
 
 -- an entry at its offset
 abbrev pub Held : Type 0
-Held = ℕ × Entry
+Held = ℕ × PairedPdu
 
 -- what contracts see of them: those that are there, those that `undo` brings back, and for how many more there is room
 pub record StreamValue : Type 0 where

@@ -4,9 +4,9 @@ use Rattle.std.specs.Prelude.{◌+◌, ℕ, Bool, if◌then◌else◌, List, tak
 use Rattle.smq_kit.specs.declared.place.Dir.{Dir}
 use Rattle.smq_pdu.specs.Header.{Header}
 use Rattle.smq_pdu.specs.Pairing.{is_request, is_response, is_request_of, is_response_of, nth_index}
-use Rattle.smq_pair.specs.declared.entry.Side.{Side}
-use Rattle.smq_pair.specs.declared.entry.Side.TheVariants.{Request, Response}
-use Rattle.smq_pair.specs.declared.entry.Series.{Series}
+use Rattle.smq_pair.specs.declared.paired_pdu.Role.{Role}
+use Rattle.smq_pair.specs.declared.paired_pdu.Role.TheVariants.{Request, Response}
+use Rattle.smq_pair.specs.declared.paired_pdu.Series.{Series}
 use Rattle.smq_pair.specs.Pairing as value
 
 -- a series, and a rank in it: how many PDUs of the series come before
@@ -15,16 +15,16 @@ pub record Turn : Type 0 where
   pub rank : ℕ
 
 -- the other side
-abbrev pub other_side : Side → Side
+abbrev pub other_side : Role → Role
 other_side Request = Response
 other_side Response = Request
 
 -- whether a header is of a side, and whether it has a sequence number too
-abbrev pub is_on : Side → Header → Bool
+abbrev pub is_on : Role → Header → Bool
 is_on Request header = is_request header
 is_on Response header = is_response header
 
-abbrev pub is_of : Side → ℕ → Header → Bool
+abbrev pub is_of : Role → ℕ → Header → Bool
 is_of Request seq header = is_request_of seq header
 is_of Response seq header = is_response_of seq header
 
@@ -52,7 +52,7 @@ abbrev pub later : Turn → Turn
 later t = record { series = t.series; rank = t.rank + 1 }
 
 -- the side of a header
-abbrev pub side_of : Header → Option Side
+abbrev pub side_of : Header → Option Role
 side_of header = if is_request header then Some Request else (if is_response header then Some Response else None)
 
 -- the series of a header of a direction

@@ -4,14 +4,14 @@ use Rattle.std.specs.Map.{lookup}
 use Rattle.std.specs.BTreeMap.{is_at}
 use Rattle.smq_kit.specs.declared.place.Dir.{Dir}
 use Rattle.smq_pdu.specs.Header.{Header}
-use Rattle.smq_pair.specs.declared.entry.Side.{Side}
-use Rattle.smq_pair.specs.declared.entry.Side.TheVariants.{Request, Response}
-use Rattle.smq_pair.specs.declared.entry.Link.{Link}
-use Rattle.smq_pair.specs.declared.entry.Link.TheVariants.{Alone, Before, Partner}
-use Rattle.smq_pair.specs.declared.entry.Series.{Series}
-use Rattle.smq_pair.specs.declared.entry.Exchange.{Exchange}
-use Rattle.smq_pair.specs.declared.entry.Waiting.{Waiting}
-use Rattle.smq_pair.specs.declared.entry.Outcome.{Outcome}
+use Rattle.smq_pair.specs.declared.paired_pdu.Role.{Role}
+use Rattle.smq_pair.specs.declared.paired_pdu.Role.TheVariants.{Request, Response}
+use Rattle.smq_pair.specs.declared.paired_pdu.PduLink.{PduLink}
+use Rattle.smq_pair.specs.declared.paired_pdu.PduLink.TheVariants.{Alone, Before, Partner}
+use Rattle.smq_pair.specs.declared.paired_pdu.Series.{Series}
+use Rattle.smq_pair.specs.declared.paired_pdu.Exchange.{Exchange}
+use Rattle.smq_pair.specs.declared.paired_pdu.Waiting.{Waiting}
+use Rattle.smq_pair.specs.declared.paired_pdu.Meeting.{Meeting}
 use Rattle.smq_pair.specs.Pairing.{PairingValue, opposite, pdus_from}
 use Rattle.smq_pair.specs.Growth.{AreInOrder}
 use Rattle.smq_pair.specs.within.Turns.{count_in, index_at, next_of, other_side, partner_of}
@@ -20,7 +20,7 @@ use Rattle.smq_pair.specs.within.Stream.{Held}
 use Rattle.smq_pair.specs.within.Kept.{Entries, entries_from, header_of, next_kept, pdus_in}
 
 -- the direction of a side, where this is that of requests; and the other way round
-abbrev pub dir_of : Side → Dir → Dir
+abbrev pub dir_of : Role → Dir → Dir
 dir_of Request dir = dir
 dir_of Response dir = opposite dir
 
@@ -28,24 +28,24 @@ dir_of Response dir = opposite dir
 abbrev pub exchange_of : Series → Exchange
 exchange_of s = record { seq = s.seq; dir = dir_of s.side s.dir }
 
-abbrev pub series_in : Exchange → Side → Series
+abbrev pub series_in : Exchange → Role → Series
 series_in x side = record { seq = x.seq; dir = dir_of side x.dir; side = side }
 
 -- whether two sides are one
-abbrev pub is_same : Side → Side → Bool
+abbrev pub is_same : Role → Role → Bool
 is_same Request Request = true
 is_same Request Response = false
 is_same Response Request = false
 is_same Response Response = true
 
 -- what a PDU at this offset makes of an exchange, where the second of those that wait is at `next`
-abbrev pub meeting : Option Waiting → Side → ℕ → Option ℕ → Outcome
-meeting None side offset next = record {
+abbrev pub meeting_with : Option Waiting → Role → ℕ → Option ℕ → Meeting
+meeting_with None side offset next = record {
   waiting = Some (record { side = side; first = offset; last = offset });
   before = None;
   link = Alone;
 }
-meeting (Some w) side offset next =
+meeting_with (Some w) side offset next =
     if is_same w.side side then record {
       waiting = Some (record { side = w.side; first = w.first; last = offset });
       before = Some w.last;
@@ -68,9 +68,9 @@ abbrev pub next_waiting : Option Waiting → Exchange → Entries → Option ℕ
 next_waiting None x es = None
 next_waiting (Some w) x es = next_kept (dir_of w.side x.dir) w.first es
 
-abbrev pub meeting_at : Series → ℕ → Waits → Entries → Outcome
+abbrev pub meeting_at : Series → ℕ → Waits → Entries → Meeting
 meeting_at s offset m es =
-    meeting (waiting_kept m (exchange_of s)) s.side offset (next_waiting (waiting_kept m (exchange_of s)) (exchange_of s) es)
+    meeting_with (waiting_kept m (exchange_of s)) s.side offset (next_waiting (waiting_kept m (exchange_of s)) (exchange_of s) es)
 
 -- the offset of the PDU at an index of a direction
 abbrev pub offset_at : PairingValue → Dir → Option ℕ → Option ℕ
@@ -92,13 +92,13 @@ WaitsFor v x None = count_in v (series_in x Request) ≡ count_in v (series_in x
 WaitsFor v x (Some w) = AreWaiting v (series_in x w.side) (series_in x (other_side w.side)) w.first w.last
 
 -- a link to a partner, or to the next that waits, or to none
-abbrev pub link_by : Option ℕ → Option ℕ → Link
+abbrev pub link_by : Option ℕ → Option ℕ → PduLink
 link_by None None = Alone
 link_by None (Some next) = Before next
 link_by (Some partner) next = Partner partner
 
 -- the link of the header at an index of a direction
-abbrev pub link_of : PairingValue → Dir → ℕ → Header → Link
+abbrev pub link_of : PairingValue → Dir → ℕ → Header → PduLink
 link_of v dir i header = link_by (offset_at v (opposite dir) (partner_of v dir i header)) (offset_at v dir (next_of v dir i header))
 
 -- The PDUs stand in order, each exchange has what waits of it, and each entry has its link.

@@ -14,8 +14,8 @@ use Rattle.smq_present.specs.join.Circumstances.{Circumstances, circumstances}
 use Rattle.smq_present.specs.join.Outcomes.{outcome_by, error_by, link_delay_by, centre_delay_by}
 
 -- what is known of a message at a place, in its circumstances
-abbrev pub fact_by : Place → Message → Circumstances → Fact
-fact_by place m c = record {
+abbrev pub fact_in_circumstances : Place → Message → Circumstances → Fact
+fact_in_circumstances place m c = record {
   place = place;
   link = m.link;
   route = c.route;
@@ -41,4 +41,4 @@ with_lapse lapsed f = record f { outcome = by_lapse lapsed f.outcome }
 
 -- what is known of each message, by place
 abbrev pub facts_of : SettingsValue → TrafficValue → map.FinMap place_cmp Fact
-facts_of s t = chosen (λ place m. Some (fact_by place m (circumstances s t m))) t.messages
+facts_of s t = chosen (λ place m. Some (fact_in_circumstances place m (circumstances s t m))) t.messages

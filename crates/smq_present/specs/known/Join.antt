@@ -19,7 +19,7 @@ use Rattle.smq_tally.specs.declared.outcome.Outcome.TheVariants as o
 use Rattle.smq_tally.specs.declared.value.SubmitError.{SubmitError}
 use Rattle.smq_tally.specs.declared.value.SubmitError.TheVariants as s
 use Rattle.smq_present.specs.present.Content as c
-use Rattle.smq_present.specs.declared.present.kept.KeptPdu.{KeptPdu}
+use Rattle.smq_present.specs.declared.present.kept.StoredPdu.{StoredPdu}
 use Rattle.smq_present.specs.present.Settings.{SettingsValue, opening_settings, with_clock}
 use Rattle.smq_present.specs.present.Steps.{with_window}
 use Rattle.smq_present.specs.pairing.Traffic.{Origin, TrafficValue, traffic_among, messages_among, receipts_among, notes_among}
@@ -36,48 +36,48 @@ settings_with response receipt =
     record opening_settings { forms = map.insert map.empty 1 (record { response = response; receipt = receipt }) }
 
 -- what the PDUs of session 10 say, where there is no other session
-abbrev pub known_traffic : List KeptPdu → List KeptPdu → TrafficValue
+abbrev pub known_traffic : List StoredPdu → List StoredPdu → TrafficValue
 known_traffic client centre =
     traffic_among (messages_among known_origin client centre) (receipts_among known_origin centre)
     (notes_among known_origin client centre)
 
 -- what is known of its messages, in the order of their places
-unfoldable pub known_facts : SettingsValue → List KeptPdu → List KeptPdu → List Fact
+unfoldable pub known_facts : SettingsValue → List StoredPdu → List StoredPdu → List Fact
 known_facts s client centre = map.values (facts_of s (known_traffic client centre))
 
 -- what became of them, where ids are taken verbatim
-unfoldable pub outcomes_among : List KeptPdu → List KeptPdu → List Outcome
+unfoldable pub outcomes_among : List StoredPdu → List StoredPdu → List Outcome
 outcomes_among client centre =
     map (λ fact. fact.outcome) (known_facts (settings_with Verbatim Verbatim) client centre)
 
 -- why they failed
-unfoldable pub errors_among : List KeptPdu → List KeptPdu → List (Option SubmitError)
+unfoldable pub errors_among : List StoredPdu → List StoredPdu → List (Option SubmitError)
 errors_among client centre =
     map (λ fact. fact.error) (known_facts (settings_with Verbatim Verbatim) client centre)
 
 -- what became of them at a clock
-unfoldable pub outcomes_at : ℕ → List KeptPdu → List KeptPdu → List Outcome
+unfoldable pub outcomes_at : ℕ → List StoredPdu → List StoredPdu → List Outcome
 outcomes_at clock client centre =
     map (λ fact. fact.outcome) (known_facts (with_clock (settings_with Verbatim Verbatim) clock) client centre)
 
 -- what became of them at a clock, where this window of the link of a number was set
-unfoldable pub outcomes_by_window : ℕ → ℕ → ℕ → List KeptPdu → List KeptPdu → List Outcome
+unfoldable pub outcomes_by_window : ℕ → ℕ → ℕ → List StoredPdu → List StoredPdu → List Outcome
 outcomes_by_window link window clock client centre =
     map (λ fact. fact.outcome)
     (known_facts (with_clock (with_window (settings_with Verbatim Verbatim) (record { 0 = link }) window) clock) client centre)
 
 -- their delays, on the link and at the centre
-unfoldable pub delays_among : List KeptPdu → List KeptPdu → List (Option Band × Option Band)
+unfoldable pub delays_among : List StoredPdu → List StoredPdu → List (Option Band × Option Band)
 delays_among client centre =
     map (λ fact. (fact.link_delay, fact.centre_delay)) (known_facts (settings_with Verbatim Verbatim) client centre)
 
 -- what became of one submit_sm with each registered_delivery, where these are the centre's PDUs
-unfoldable pub outcomes_by_delivery : List KeptPdu → List ℕ → List Outcome
+unfoldable pub outcomes_by_delivery : List StoredPdu → List ℕ → List Outcome
 outcomes_by_delivery centre deliveries =
     flat_map (λ registered_delivery. outcomes_among (submit 0 1 registered_delivery ∷ []) centre) deliveries
 
 -- the centre's response that gives one id, and its receipt of another that says that the message was delivered
-abbrev pub responded_and_reported : List ℕ → List ℕ → List KeptPdu
+abbrev pub responded_and_reported : List ℕ → List ℕ → List StoredPdu
 responded_and_reported given reported =
     pdu 0 0x8000_0004 0 1 (c.SubmitAnswer (Some given))
     ∷ receipt_pdu 18 5000 (record (receipt_saying Delivered e.Unstated false) { id = reported }) ∷ []
@@ -94,14 +94,14 @@ later_origin = record { session = record { 0 = 11 }; link = record { 0 = 1 } }
 
 -- the delivery receipts in lists, where these are the PDUs of session 10 and those of the centre of session 11, under the
 -- link's forms of responses and receipts
-unfoldable pub listings_under : Form → Form → List KeptPdu → List KeptPdu → List KeptPdu → List Listed
+unfoldable pub listings_under : Form → Form → List StoredPdu → List StoredPdu → List StoredPdu → List Listed
 listings_under response receipt client centre later =
     receipt_notes (grouping_of (settings_with response receipt)
     (traffic_among (messages_among known_origin client centre)
     (receipts_among known_origin centre ++ receipts_among later_origin later) []))
 
 -- the same of one submit_sm and its response, which gives the id `1`
-abbrev pub listings_after : List KeptPdu → List KeptPdu → List Listed
+abbrev pub listings_after : List StoredPdu → List StoredPdu → List Listed
 listings_after centre later = listings_under Verbatim Verbatim (submit 0 1 1 ∷ []) (accepted 1 ∷ centre) later
 
 -- the reading of a receipt of the message id `1` that says that the message was delivered

@@ -15,14 +15,14 @@ use Rattle.smq_receipt.specs.declared.reading.Receipt.{Receipt}
 use Rattle.smq_tally.specs.declared.list.List.TheVariants as l
 use Rattle.smq_present.specs.present.Content.{Content}
 use Rattle.smq_present.specs.present.Content as c
-use Rattle.smq_present.specs.declared.present.kept.KeptPdu.{KeptPdu}
+use Rattle.smq_present.specs.declared.present.kept.StoredPdu.{StoredPdu}
 use Rattle.smq_present.specs.declared.present.session.Session.{Session}
 use Rattle.smq_present.specs.present.Kept.{header_of}
 use Rattle.smq_present.specs.pairing.Traffic.{Origin, notes_among, content_notes, session_notes}
 use Rattle.smq_tally.specs.Lists.{listed}
 
 -- a PDU at an offset, with its command_id, command_status, sequence_number and content
-abbrev pub pdu : ℕ → ℕ → ℕ → ℕ → Content → KeptPdu
+abbrev pub pdu : ℕ → ℕ → ℕ → ℕ → Content → StoredPdu
 pdu offset command status seq content = record {
   offset = offset;
   moment = 1000;
@@ -33,33 +33,33 @@ pdu offset command status seq content = record {
 }
 
 -- a submit_sm (command_id 0x00000004) with this registered_delivery
-abbrev pub submit : ℕ → ℕ → ℕ → KeptPdu
+abbrev pub submit : ℕ → ℕ → ℕ → StoredPdu
 submit offset seq registered_delivery = pdu offset 0x0000_0004 0 seq
     (c.Submit (record { registered_delivery = registered_delivery; number = None }))
 
 -- a submit_sm_resp (0x80000004) with status 0 and the message id `1`
-abbrev pub accepted : ℕ → KeptPdu
+abbrev pub accepted : ℕ → StoredPdu
 accepted seq = pdu 0 0x8000_0004 0 seq (c.SubmitAnswer (Some (49 ∷ [])))
 
 -- a submit_sm_resp with status 0 and no message id
-abbrev pub without_id : ℕ → KeptPdu
+abbrev pub without_id : ℕ → StoredPdu
 without_id seq = pdu 0 0x8000_0004 0 seq (c.SubmitAnswer None)
 
 -- a data_sm (0x00000103) with this registered_delivery that says this as a delivery receipt
-abbrev pub data_sm : ℕ → ℕ → ℕ → Reading → KeptPdu
+abbrev pub data_sm : ℕ → ℕ → ℕ → Reading → StoredPdu
 data_sm offset seq registered_delivery reading = pdu offset 0x0000_0103 0 seq
     (c.DataSm (record { registered_delivery = registered_delivery; number = None }) reading)
 
 -- a data_sm_resp (0x80000103) with status 0 and the message id `1`
-abbrev pub data_sm_accepted : ℕ → KeptPdu
+abbrev pub data_sm_accepted : ℕ → StoredPdu
 data_sm_accepted seq = pdu 0 0x8000_0103 0 seq (c.SubmitAnswer (Some (49 ∷ [])))
 
 -- a generic_nack (0x80000000) with this status
-abbrev pub nack : ℕ → ℕ → KeptPdu
+abbrev pub nack : ℕ → ℕ → StoredPdu
 nack status seq = pdu 0 0x8000_0000 status seq c.Other
 
 -- an enquire_link_resp (0x80000015) with this status
-abbrev pub link_response : ℕ → ℕ → KeptPdu
+abbrev pub link_response : ℕ → ℕ → StoredPdu
 link_response status seq = pdu 0 0x8000_0015 status seq c.Other
 
 -- a receipt of the message id `1` with this state, error and mark of an intermediate notification
@@ -68,7 +68,7 @@ receipt_saying state error interim =
     record { id = 49 ∷ []; state = state; interim = interim; error = error; centre_delay = None }
 
 -- a deliver_sm (0x00000005) at an offset and a moment that is this receipt
-abbrev pub receipt_pdu : ℕ → ℕ → Receipt → KeptPdu
+abbrev pub receipt_pdu : ℕ → ℕ → Receipt → StoredPdu
 receipt_pdu offset moment receipt = record {
   offset = offset;
   moment = moment;
@@ -79,14 +79,14 @@ receipt_pdu offset moment receipt = record {
 }
 
 -- such a receipt that says that the message was delivered, and one that it failed without an error
-abbrev pub delivered : ℕ → ℕ → KeptPdu
+abbrev pub delivered : ℕ → ℕ → StoredPdu
 delivered offset moment = receipt_pdu offset moment (receipt_saying Delivered e.Unstated false)
 
-abbrev pub failed : ℕ → ℕ → KeptPdu
+abbrev pub failed : ℕ → ℕ → StoredPdu
 failed offset moment = receipt_pdu offset moment (receipt_saying Undeliverable e.Unstated false)
 
 -- such a deliver_sm with this delay at the centre, which says that the message was delivered
-abbrev pub delivered_after : ℕ → ℕ → ℤ → KeptPdu
+abbrev pub delivered_after : ℕ → ℕ → ℤ → StoredPdu
 delivered_after offset moment delay =
     receipt_pdu offset moment (record (receipt_saying Delivered e.Unstated false) { centre_delay = Some delay })
 
@@ -95,7 +95,7 @@ abbrev pub known_origin : Origin
 known_origin = record { session = record { 0 = 10 }; link = record { 0 = 1 } }
 
 -- a request and a later PDU of one sequence number, and two responses of it
-pub record InTurn (one two response later : KeptPdu) : Type 0 where
+pub record InTurn (one two response later : StoredPdu) : Type 0 where
   pub request : is_request (header_of one) ≡ true
   pub first_response : is_response (header_of response) ≡ true
   pub next_response : is_response (header_of later) ≡ true
@@ -109,25 +109,25 @@ place_at session dir offset = record { session = record { 0 = session }; dir = d
 
 -- a session: its client asks with the numbers 7, 8 and 9, responds to 5 as another command, and responds to 4, which
 -- nobody asked
-abbrev pub notes_client : List KeptPdu
+abbrev pub notes_client : List StoredPdu
 notes_client =
     submit 0 7 1 ∷ submit 49 8 1 ∷ submit 98 9 1 ∷ pdu 147 0x8000_0015 0 5 c.Other ∷ pdu 163 0x8000_0005 0 4 c.Other ∷ []
 
 -- its centre responds to 7 as it should, to 8 as another command, and to 6, which nobody asked, and asks with 5 and 3
-abbrev pub notes_centre : List KeptPdu
+abbrev pub notes_centre : List StoredPdu
 notes_centre =
     pdu 0 0x8000_0004 0 7 (c.SubmitAnswer None) ∷ pdu 16 0x8000_0015 0 8 c.Other
     ∷ pdu 32 0x8000_0004 0 6 (c.SubmitAnswer None) ∷ pdu 48 0x0000_0005 0 5 c.Other ∷ pdu 64 0x0000_0015 0 3 c.Other ∷ []
 
 -- a session: its client sends a submit_sm and a deliver_sm that can't be decoded, and receipts without an id, which are none
-abbrev pub unread_client : List KeptPdu
+abbrev pub unread_client : List StoredPdu
 unread_client =
     pdu 0 0x0000_0004 0 1 c.Undecodable ∷ pdu 20 0x0000_0005 0 2 c.Undecodable
     ∷ pdu 40 0x0000_0005 0 3 (c.Deliver v.NoId) ∷ data_sm 90 4 0 v.NoId ∷ []
 
 -- its centre sends a receipt without an id, one without a state, a message that is no receipt, a receipt with both, a
 -- submit_sm and a deliver_sm that can't be decoded, and by data_sm a receipt without an id, one without a state, and a message
-abbrev pub unread_centre : List KeptPdu
+abbrev pub unread_centre : List StoredPdu
 unread_centre =
     pdu 0 0x0000_0005 0 1 (c.Deliver v.NoId) ∷ pdu 50 0x0000_0005 0 2 (c.Deliver v.NoState)
     ∷ pdu 100 0x0000_0005 0 3 (c.Deliver v.NotReceipt) ∷ delivered 150 5000

@@ -17,7 +17,7 @@ use Rattle.smq_present.specs.join.Circumstances.{window_of}
 use Rattle.smq_present.specs.present.Batch.{batch_of, prepare_refusal}
 use Rattle.smq_present.specs.present.Present.{PresentValue, empty, link_of, octets_of}
 use Rattle.smq_present.specs.present.Replies.{reply}
-use Rattle.smq_present.specs.present.Settings.{opening_settings, opening_forms, forms_of, set_window_of}
+use Rattle.smq_present.specs.present.Settings.{opening_settings, opening_forms, forms_of, window_if_set}
 use Rattle.smq_present.specs.present.Steps.{step}
 use Rattle.smq_present.specs.present.Stream.{last_moment}
 
@@ -256,12 +256,12 @@ pub record KnownClocks : Type 0 where
 -- and the clock; and other edits leave the window.
 pub record KnownWindows : Type 0 where
   pub never_set : (link : LinkId) → window_of empty.settings link ≡ 172800000
-  pub none_set : set_window_of at_five.settings 1 ≡ None
+  pub none_set : window_if_set at_five.settings 1 ≡ None
   pub before : window_of at_five.settings (record { 0 = 1 }) ≡ 172800000
   pub made : (p : PresentValue) (link : LinkId) (window : ℕ) → reply p (SetWindow link window) ≡ None
-  pub set : set_window_of with_window.settings 1 ≡ Some 1000
+  pub set : window_if_set with_window.settings 1 ≡ Some 1000
   pub there : window_of with_window.settings (record { 0 = 1 }) ≡ 1000
-  pub none_of_another : set_window_of with_window.settings 2 ≡ None
+  pub none_of_another : window_if_set with_window.settings 2 ≡ None
   pub other_link : window_of with_window.settings (record { 0 = 2 }) ≡ 172800000
   pub far_link : window_of with_window.settings (record { 0 = 65537 }) ≡ 172800000
   pub there_anew : window_of with_window_anew.settings (record { 0 = 1 }) ≡ 1001

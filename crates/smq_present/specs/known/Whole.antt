@@ -74,8 +74,8 @@ known_book = record {
 }
 
 -- a fact of a message of a session and a link, at an offset, that has no route and no delays
-abbrev pub fact_of : ℕ → ℕ → ℕ → Outcome → Option SubmitError → Fact
-fact_of session link offset outcome error = record {
+abbrev pub known_fact : ℕ → ℕ → ℕ → Outcome → Option SubmitError → Fact
+known_fact session link offset outcome error = record {
   place = record { session = record { 0 = session }; dir = FromClient; offset = offset };
   link = record { 0 = link };
   route = None;
@@ -89,16 +89,16 @@ fact_of session link offset outcome error = record {
 pub record KnownFigures : Type 0 where
   pub facts :
       map.values (facts_of known_book.settings (traffic_of known_book.sessions))
-      ≡ record (fact_of 10 1 0 o.Delivered None) {
+      ≡ record (known_fact 10 1 0 o.Delivered None) {
         route = Some (record { 0 = 3 }, codes "23410");
         link_delay = Some b.Under5Seconds;
         centre_delay = Some b.Over;
       }
-      ∷ record (fact_of 10 1 45 o.Failed (Some (s.Failed (e.Text (codes "027"))))) {
+      ∷ record (known_fact 10 1 45 o.Failed (Some (s.Failed (e.Text (codes "027"))))) {
         link_delay = Some b.Under30Seconds;
       }
-      ∷ fact_of 65546 65537 0 o.Ambiguous None ∷ fact_of 65546 65537 33 o.Ambiguous None
-      ∷ fact_of 65546 65537 66 o.Lapsed None ∷ []
+      ∷ known_fact 65546 65537 0 o.Ambiguous None ∷ known_fact 65546 65537 33 o.Ambiguous None
+      ∷ known_fact 65546 65537 66 o.Lapsed None ∷ []
   pub delivered : count_at (scratch known_book) view.Link (w.Link (record { 0 = 1 })) o.Delivered ≡ 1
   pub failed : count_at (scratch known_book) view.Link (w.Link (record { 0 = 1 })) o.Failed ≡ 1
   pub ambiguous : count_at (scratch known_book) view.Link (w.Link (record { 0 = 65537 })) o.Ambiguous ≡ 2

@@ -8,7 +8,7 @@ use Rattle.smq_pdu.specs.declared.body.Submit.{Submit}
 use Rattle.smq_receipt.specs.declared.reading.Reading.{Reading}
 use Rattle.smq_present.specs.present.Content.{Content}
 use Rattle.smq_present.specs.present.Content as c
-use Rattle.smq_present.specs.declared.present.kept.KeptPdu.{KeptPdu}
+use Rattle.smq_present.specs.declared.present.kept.StoredPdu.{StoredPdu}
 use Rattle.smq_present.specs.declared.present.session.Session.{Session}
 use Rattle.smq_present.specs.present.Kept.{kept_pdus}
 use Rattle.smq_present.specs.present.Present.{octets_in}
@@ -18,7 +18,7 @@ abbrev pub octets_at : map.FinMap nat_cmp Session → Place → List Octet
 octets_at sessions place = octets_in place.dir (map.get sessions place.session.0)
 
 -- A PDU stands at a place: it is one of its direction's, at its offset.
-pub record StandsAt (sessions : map.FinMap nat_cmp Session) (place : Place) (p : KeptPdu) : Type 0 where
+pub record StandsAt (sessions : map.FinMap nat_cmp Session) (place : Place) (p : StoredPdu) : Type 0 where
   pub among : Contains (kept_pdus (octets_at sessions place)) p
   pub offset : p.offset ≡ place.offset
 

@@ -22,7 +22,7 @@ use Rattle.smq_pair.specs.declared.pairing.Pair.{Pair}
 use Rattle.smq_tally.specs.declared.list.List.TheVariants as list
 use Rattle.smq_tally.specs.declared.list.Listed.{Listed}
 use Rattle.smq_present.specs.present.Content.{Content}
-use Rattle.smq_present.specs.declared.present.kept.KeptPdu.{KeptPdu}
+use Rattle.smq_present.specs.declared.present.kept.StoredPdu.{StoredPdu}
 use Rattle.smq_present.specs.declared.present.session.Session.{Session}
 use Rattle.smq_tally.specs.Lists.{listed, listed_cmp, listed_set}
 use Rattle.smq_present.specs.present.Kept.{header_of, headers_of, kept_pdus, submit_in, id_in, receipt_in, is_undecodable, is_unreadable}
@@ -58,24 +58,24 @@ pub record TrafficValue : Type 0 where
 -- ---- the response to a request: that of its sequence number and rank
 
 -- each PDU of a direction with those before it
-abbrev pub with_earlier : List KeptPdu → List KeptPdu → List (List KeptPdu × KeptPdu)
+abbrev pub with_earlier : List StoredPdu → List StoredPdu → List (List StoredPdu × StoredPdu)
 with_earlier earlier [] = []
 with_earlier earlier (p ∷ later) = (earlier, p) ∷ with_earlier (earlier ++ p ∷ []) later
 
 -- the rank of a request: how many requests of its sequence number come before it
-abbrev pub rank_after : List KeptPdu → ℕ → ℕ
+abbrev pub rank_after : List StoredPdu → ℕ → ℕ
 rank_after earlier seq = count_by (is_request_of seq) (headers_of earlier)
 
 -- the responses of a sequence number, in order
-abbrev pub responses_of : List KeptPdu → ℕ → List KeptPdu
+abbrev pub responses_of : List StoredPdu → ℕ → List StoredPdu
 responses_of centre seq = filter (λ r. is_response_of seq (header_of r)) centre
 
 -- the response to a request of the client, after these: of the responses of its sequence number the one of its rank
-abbrev pub response_to : List KeptPdu → List KeptPdu → KeptPdu → Option KeptPdu
+abbrev pub response_to : List StoredPdu → List StoredPdu → StoredPdu → Option StoredPdu
 response_to centre earlier p = slice_get (responses_of centre p.seq) (rank_after earlier p.seq)
 
 -- what a response says to a request
-abbrev pub response_in : Header → KeptPdu → Response
+abbrev pub response_in : Header → StoredPdu → Response
 response_in request p =
     record { agrees = agrees request (header_of p); status = p.status; id = id_in p.content }
 
@@ -87,7 +87,7 @@ pub record Origin : Type 0 where
   pub link : LinkId
 
 -- the place of a PDU
-abbrev pub place_of : Origin → Dir → KeptPdu → Place
+abbrev pub place_of : Origin → Dir → StoredPdu → Place
 place_of origin dir p = record { session = origin.session; dir = dir; offset = p.offset }
 
 -- a delivery receipt is asked where bits 1 and 0 of registered_delivery aren't both 0 (SMPP 3.4, 5.2.17)
@@ -95,7 +95,7 @@ abbrev pub asks_receipt : ℕ → Bool
 asks_receipt registered_delivery = not (registered_delivery % 4 == 0)
 
 -- the message that a submit_sm or data_sm and its response are
-abbrev pub message_of : Origin → KeptPdu → Submit → Option KeptPdu → Message
+abbrev pub message_of : Origin → StoredPdu → Submit → Option StoredPdu → Message
 message_of origin p submit response = record {
   link = origin.link;
   moment = p.moment;
@@ -105,36 +105,36 @@ message_of origin p submit response = record {
 }
 
 -- the message that a PDU of the client is, at its place, where it is a decodable submit_sm or data_sm
-abbrev pub message_at : Origin → List KeptPdu → List KeptPdu → KeptPdu → Option (Place × Message)
+abbrev pub message_at : Origin → List StoredPdu → List StoredPdu → StoredPdu → Option (Place × Message)
 message_at origin centre earlier p =
     option_map (λ submit. (place_of origin FromClient p, message_of origin p submit (response_to centre earlier p)))
     (submit_in p.content)
 
 -- the messages of a session whose PDUs are these
-abbrev pub messages_among : Origin → List KeptPdu → List KeptPdu → List (Place × Message)
+abbrev pub messages_among : Origin → List StoredPdu → List StoredPdu → List (Place × Message)
 messages_among origin client centre =
     flat_map (λ e. option_to_list (message_at origin centre e.0 e.1)) (with_earlier [] client)
 
 -- a delivery receipt that comes in a PDU
-abbrev pub received : Origin → KeptPdu → Receipt → ReceivedReceipt
+abbrev pub received : Origin → StoredPdu → Receipt → ReceivedReceipt
 received origin p receipt = record { link = origin.link; moment = p.moment; receipt = receipt }
 
 -- the delivery receipt that a PDU of the centre is, at its place, where it is one
-abbrev pub receipt_at : Origin → KeptPdu → Option (Place × ReceivedReceipt)
+abbrev pub receipt_at : Origin → StoredPdu → Option (Place × ReceivedReceipt)
 receipt_at origin p = option_map (λ receipt. (place_of origin FromCentre p, received origin p receipt)) (receipt_in p.content)
 
 -- the delivery receipts of a session whose PDUs of the centre are these
-abbrev pub receipts_among : Origin → List KeptPdu → List (Place × ReceivedReceipt)
+abbrev pub receipts_among : Origin → List StoredPdu → List (Place × ReceivedReceipt)
 receipts_among origin centre = flat_map (λ p. option_to_list (receipt_at origin p)) centre
 
 -- ---- notes of a session: the places that need a look, in their lists
 
 -- a PDU at its place, as its header says
-abbrev pub placed : Origin → Dir → KeptPdu → PlacedHeader
+abbrev pub placed : Origin → Dir → StoredPdu → PlacedHeader
 placed origin dir p = record { place = place_of origin dir p; header = header_of p }
 
 -- the PDUs of a session whose PDUs are these, as pairs are made of them
-abbrev pub pairing_among : Origin → List KeptPdu → List KeptPdu → PairingValue
+abbrev pub pairing_among : Origin → List StoredPdu → List StoredPdu → PairingValue
 pairing_among origin client centre =
     record { client = map (placed origin FromClient) client; centre = map (placed origin FromCentre) centre }
 
@@ -154,26 +154,26 @@ pairing_notes v =
     ++ map (listed list.Mismatched) (mismatched v)
 
 -- the places of the PDUs of a direction whose content passes a test
-abbrev pub places_where : (Content → Bool) → Origin → Dir → List KeptPdu → List Place
+abbrev pub places_where : (Content → Bool) → Origin → Dir → List StoredPdu → List Place
 places_where test origin dir pdus = map (place_of origin dir) (filter (λ p. test p.content) pdus)
 
 -- the places of the centre's delivery receipts without a usable id or state (4.6.1, appendix B)
-abbrev pub unreadable : Origin → List KeptPdu → List Place
+abbrev pub unreadable : Origin → List StoredPdu → List Place
 unreadable origin centre = places_where is_unreadable origin FromCentre centre
 
 -- the places of the PDUs of both directions whose body can't be read: the client's first
-abbrev pub undecodable : Origin → List KeptPdu → List KeptPdu → List Place
+abbrev pub undecodable : Origin → List StoredPdu → List StoredPdu → List Place
 undecodable origin client centre =
     places_where is_undecodable origin FromClient client ++ places_where is_undecodable origin FromCentre centre
 
 -- the notes of contents: the receipts that are unreadable, and the PDUs that are undecodable
-abbrev pub content_notes : Origin → List KeptPdu → List KeptPdu → List Listed
+abbrev pub content_notes : Origin → List StoredPdu → List StoredPdu → List Listed
 content_notes origin client centre =
     map (listed list.Unreadable) (unreadable origin centre)
     ++ map (listed list.Undecodable) (undecodable origin client centre)
 
 -- the notes of a session whose PDUs are these
-abbrev pub notes_among : Origin → List KeptPdu → List KeptPdu → List Listed
+abbrev pub notes_among : Origin → List StoredPdu → List StoredPdu → List Listed
 notes_among origin client centre =
     pairing_notes (pairing_among origin client centre) ++ content_notes origin client centre
 

@@ -8,7 +8,7 @@ use Rattle.smq_kit.specs.declared.refusal.Refusal.TheVariants.{EmptyPiece, Strea
 use Rattle.smq_frame.specs.Stream.{frames_after}
 use Rattle.smq_frame.specs.Tail.{TailValue, tail_after}
 use Rattle.smq_pdu.specs.Placed.{placed_pdu}
-use Rattle.smq_present.specs.declared.present.kept.KeptPdu.{KeptPdu}
+use Rattle.smq_present.specs.declared.present.kept.StoredPdu.{StoredPdu}
 use Rattle.smq_present.specs.present.Kept.{kept_pdu}
 use Rattle.smq_kit.specs.Replies.{first_of, refused_if}
 
@@ -36,7 +36,7 @@ continued batch first moment octets =
     record batch { tail = tail_after batch.tail first; moment = moment; octets = octets }
 
 -- what is kept of the PDUs that a batch completes
-abbrev pub batch_pdus : BatchValue → List KeptPdu
+abbrev pub batch_pdus : BatchValue → List StoredPdu
 batch_pdus batch = map kept_pdu (map placed_pdu (frames_after batch.tail batch.moment batch.octets))
 
 -- the tail after a batch

@@ -11,7 +11,7 @@ use Rattle.smq_receipt.specs.declared.reading.Reading.TheVariants as v
 use Rattle.smq_receipt.specs.declared.reading.Receipt.{Receipt}
 use Rattle.smq_present.specs.present.Content.{Content}
 use Rattle.smq_present.specs.present.Content as c
-use Rattle.smq_present.specs.declared.present.kept.KeptPdu.{KeptPdu}
+use Rattle.smq_present.specs.declared.present.kept.StoredPdu.{StoredPdu}
 
 -- what is kept of what is read of a submit_sm
 abbrev pub kept_submit : SubmitValue → Submit
@@ -28,7 +28,7 @@ content_of_body OtherBody = c.Other
 content_of_body UndecodableBody = c.Undecodable
 
 -- what is kept of a PDU
-abbrev pub kept_pdu : PlacedPdu → KeptPdu
+abbrev pub kept_pdu : PlacedPdu → StoredPdu
 kept_pdu p = record {
   offset = p.offset;
   moment = p.moment;
@@ -39,15 +39,15 @@ kept_pdu p = record {
 }
 
 -- what is kept of the PDUs of a stream
-abbrev pub kept_pdus : List Octet → List KeptPdu
+abbrev pub kept_pdus : List Octet → List StoredPdu
 kept_pdus stream = map kept_pdu (stream_pdus stream)
 
 -- the header of a kept PDU
-abbrev pub header_of : KeptPdu → Header
+abbrev pub header_of : StoredPdu → Header
 header_of p = record { command = p.command; status = p.status; seq = p.seq }
 
 -- the headers of kept PDUs
-abbrev pub headers_of : List KeptPdu → List Header
+abbrev pub headers_of : List StoredPdu → List Header
 headers_of pdus = map header_of pdus
 
 -- ---- what a PDU says: these four alone know the cases of its content

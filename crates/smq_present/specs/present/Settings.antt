@@ -36,8 +36,8 @@ abbrev pub opening_forms : Forms
 opening_forms = record { response = Verbatim; receipt = Verbatim }
 
 -- the forms that were set of the link of a number
-abbrev pub set_forms_of : SettingsValue → ℕ → Option Forms
-set_forms_of s number = map.get s.forms number
+abbrev pub forms_if_set : SettingsValue → ℕ → Option Forms
+forms_if_set s number = map.get s.forms number
 
 -- how long a message of a link whose window was never set waits for its receipt before it lapses, in ms: 48 hours
 abbrev pub opening_window : ℕ
@@ -48,8 +48,8 @@ abbrev pub window_in : map.FinMap nat_cmp ℕ → LinkId → ℕ
 window_in windows link = unwrap_or (map.get windows link.0) opening_window
 
 -- the window that was set of the link of a number
-abbrev pub set_window_of : SettingsValue → ℕ → Option ℕ
-set_window_of s number = map.get s.windows number
+abbrev pub window_if_set : SettingsValue → ℕ → Option ℕ
+window_if_set s number = map.get s.windows number
 
 -- settings with these windows
 abbrev pub with_windows : SettingsValue → map.FinMap nat_cmp ℕ → SettingsValue
@@ -65,4 +65,4 @@ with_clock s clock = record s { clock = clock }
 
 -- the forms of a link's message ids
 abbrev pub forms_of : SettingsValue → LinkId → Forms
-forms_of s link = unwrap_or (set_forms_of s link.0) opening_forms
+forms_of s link = unwrap_or (forms_if_set s link.0) opening_forms

@@ -20,7 +20,7 @@ use Rattle.smq_present.specs.declared.present.session.Session.{Session}
 use Rattle.smq_present.specs.present.Batch.{BatchValue}
 use Rattle.smq_present.specs.declared.present.forms.Forms.{Forms}
 use Rattle.smq_present.specs.present.Present.{PresentValue, session_of, link_of, octets_of}
-use Rattle.smq_present.specs.present.Settings.{SettingsValue, set_forms_of, set_window_of, with_windows, with_versions, with_clock}
+use Rattle.smq_present.specs.present.Settings.{SettingsValue, forms_if_set, window_if_set, with_windows, with_versions, with_clock}
 use Rattle.smq_present.specs.present.Replies.{reply}
 
 -- a session with octets put after one direction
@@ -91,14 +91,14 @@ pub record Withdraws (old new : PresentValue) (session : SessionId) : Type 0 whe
 
 -- The link has these forms. Nothing else changes.
 pub record SetsForm (old new : PresentValue) (link : LinkId) (response receipt : Form) : Type 0 where
-  pub there : set_forms_of new.settings link.0 ≡ Some (record { response = response; receipt = receipt })
-  pub elsewhere : (number : ℕ) → number ≢ link.0 → set_forms_of new.settings number ≡ set_forms_of old.settings number
+  pub there : forms_if_set new.settings link.0 ≡ Some (record { response = response; receipt = receipt })
+  pub elsewhere : (number : ℕ) → number ≢ link.0 → forms_if_set new.settings number ≡ forms_if_set old.settings number
   pub rest : new ≡ record old { settings = record old.settings { forms = new.settings.forms } }
 
 -- The link has this window. Nothing else changes.
 pub record SetsWindow (old new : PresentValue) (link : LinkId) (window : ℕ) : Type 0 where
-  pub there : set_window_of new.settings link.0 ≡ Some window
-  pub elsewhere : (number : ℕ) → number ≢ link.0 → set_window_of new.settings number ≡ set_window_of old.settings number
+  pub there : window_if_set new.settings link.0 ≡ Some window
+  pub elsewhere : (number : ℕ) → number ≢ link.0 → window_if_set new.settings number ≡ window_if_set old.settings number
   pub rest : new ≡ record old { settings = record old.settings { windows = new.settings.windows } }
 
 -- A version of the prefix begins then, open, with this route and network. Every other version is as it was, and nothing

@@ -6,7 +6,7 @@ use Rattle.std.specs.FinMap as map
 use Rattle.smq_kit.specs.declared.place.Place.{Place}
 use Rattle.smq_tally.specs.declared.list.Listed.{Listed}
 use Rattle.smq_tally.specs.declared.fact.Fact.{Fact}
-use Rattle.smq_present.specs.declared.pairing.pairs.Source.{Source}
+use Rattle.smq_present.specs.declared.pairing.pairs.SessionForms.{SessionForms}
 use Rattle.smq_present.specs.declared.present.session.Session.{Session}
 use Rattle.smq_present.specs.present.Kept.{kept_pdus}
 use Rattle.smq_present.specs.present.Present.{PresentValue}
@@ -20,7 +20,7 @@ use Rattle.smq_present.specs.within.Outcomes.{facts_among}
 use Rattle.smq_present.specs.within.Listings.{note_of}
 
 -- a session with its link and that link's forms
-abbrev pub source_of : SettingsValue → ℕ × Session → Source
+abbrev pub source_of : SettingsValue → ℕ × Session → SessionForms
 source_of s e = record { session = record { 0 = e.0 }; link = e.1.link; forms = forms_of s e.1.link }
 
 -- the submitted messages of a session

@@ -8,7 +8,7 @@ use Rattle.smq_present.specs.present.Settings.{SettingsValue}
 use Rattle.smq_present.specs.pairing.Traffic.{Message, ReceivedReceipt, response_in}
 use Rattle.smq_group.specs.Matching.{Standing, Single, Shared}
 use Rattle.smq_present.specs.join.Circumstances.{Circumstances, route_in, lapsed_in}
-use Rattle.smq_present.specs.join.Facts.{fact_by}
+use Rattle.smq_present.specs.join.Facts.{fact_in_circumstances}
 use Rattle.smq_present.specs.within.Messages.{SubmittedMessage}
 use Rattle.smq_present.specs.within.Receipts.{PlacedReceipt, KeyedReceipt, candidates, least_receipt}
 use Rattle.smq_present.specs.within.Accepted.{is_single, decider_of}
@@ -44,10 +44,10 @@ circumstances_of settings submits receipts m =
     (route_in settings.versions (message_from m)) (lapsed_in settings (message_from m))
 
 -- what is known of a submitted message, among these and these receipts
-abbrev pub fact_of : SettingsValue → List SubmittedMessage → List KeyedReceipt → SubmittedMessage → Fact
-fact_of settings submits receipts m =
-    fact_by m.place (message_from m) (circumstances_of settings submits receipts m)
+abbrev pub fact_among : SettingsValue → List SubmittedMessage → List KeyedReceipt → SubmittedMessage → Fact
+fact_among settings submits receipts m =
+    fact_in_circumstances m.place (message_from m) (circumstances_of settings submits receipts m)
 
 -- what is known of these submitted messages, under what is set, where these are the receipts
 abbrev pub facts_among : SettingsValue → List SubmittedMessage → List KeyedReceipt → List Fact
-facts_among settings submits receipts = map (fact_of settings submits receipts) submits
+facts_among settings submits receipts = map (fact_among settings submits receipts) submits

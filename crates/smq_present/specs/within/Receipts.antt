@@ -8,9 +8,9 @@ use Rattle.smq_kit.specs.declared.place.Dir.TheVariants.{FromCentre}
 use Rattle.smq_kit.specs.declared.place.Place.{Place}
 use Rattle.smq_kit.specs.Orders.{place_cmp}
 use Rattle.smq_receipt.specs.declared.reading.Receipt.{Receipt}
-use Rattle.smq_present.specs.declared.present.kept.KeptPdu.{KeptPdu}
+use Rattle.smq_present.specs.declared.present.kept.StoredPdu.{StoredPdu}
 use Rattle.smq_kit.specs.declared.link_key.LinkKey.{LinkKey}
-use Rattle.smq_present.specs.declared.pairing.pairs.Source.{Source}
+use Rattle.smq_present.specs.declared.pairing.pairs.SessionForms.{SessionForms}
 use Rattle.smq_present.specs.present.Kept.{receipt_in}
 use Rattle.smq_present.specs.join.Keyed.{can_decide}
 use Rattle.smq_kit.specs.LinkKeys.{link_key, same_key}
@@ -27,7 +27,7 @@ abbrev pub KeyedReceipt : Type 0
 KeyedReceipt = LinkKey × PlacedReceipt
 
 -- the receipt that a PDU of the centre is, with the key of its id under the form of receipts
-abbrev pub keyed_receipt : Source → KeptPdu → Receipt → KeyedReceipt
+abbrev pub keyed_receipt : SessionForms → StoredPdu → Receipt → KeyedReceipt
 keyed_receipt source p receipt = (
   link_key source.link source.forms.receipt receipt.id,
   record {
@@ -39,12 +39,12 @@ keyed_receipt source p receipt = (
 )
 
 -- a PDU of the centre, where it is this delivery receipt
-abbrev pub receipt_by : Option Receipt → Source → KeptPdu → List KeyedReceipt
+abbrev pub receipt_by : Option Receipt → SessionForms → StoredPdu → List KeyedReceipt
 receipt_by (Some receipt) source p = keyed_receipt source p receipt ∷ []
 receipt_by None source p = []
 
 -- the receipts of a session whose PDUs of the centre are these
-abbrev pub receipts_among : Source → List KeptPdu → List KeyedReceipt
+abbrev pub receipts_among : SessionForms → List StoredPdu → List KeyedReceipt
 receipts_among source centre = flat_map (λ p. receipt_by (receipt_in p.content) source p) centre
 
 -- the receipts of a key that can decide

@@ -5,7 +5,7 @@ ghost use Rattle.std.specs.Option.{option_copied};
 ghost use Rattle.smq_kit.specs.declared.names.RouteId.{RouteId};
 ghost use Rattle.smq_group.specs.Matching.{Standing};
 ghost use Rattle.smq_present.specs.join.Circumstances.{circumstances_by, lapsed_in, route_in};
-ghost use Rattle.smq_present.specs.join.Facts.{by_lapse, fact_by, with_lapse, with_route};
+ghost use Rattle.smq_present.specs.join.Facts.{by_lapse, fact_in_circumstances, with_lapse, with_route};
 ghost use Rattle.smq_present.specs.join.Outcomes as outcomes;
 ghost use Rattle.smq_present.specs.join.Outcomes.{is_shared};
 
@@ -17,7 +17,7 @@ use smq_receipt::MessageState;
 
 /// What is known of a message at a place under what is set, by whether it shares the key of its id with another accepted message of
 /// its link, and by the receipt that decides it, where one does.
-pub fn fact_under(
+pub fn fact_in_settings(
     settings: &Settings,
     place: Place,
     message: &Message<'_>,
@@ -25,17 +25,17 @@ pub fn fact_under(
     decider: Option<&ReceivedReceipt<'_>>,
 ) -> Fact
     ensures { (standing : Option Standing) → is_shared standing ≡ shared
-        → result ≡ fact_by place message.now
+        → result ≡ fact_in_circumstances place message.now
         (circumstances_by standing (option_copied decider.entry)
         (route_in settings.now.versions message.now) (lapsed_in settings.now message.now)) }
 {
     let route = message.route(settings.routes());
-    let lapsed = message.has_lapsed(settings.windows_set(), settings.clock());
-    fact_of(place, message, route, lapsed, shared, decider)
+    let lapsed = message.has_lapsed(settings.link_windows(), settings.clock());
+    fact_from_parts(place, message, route, lapsed, shared, decider)
 }
 
 /// The same, by its route and network, and by whether it has lapsed.
-pub fn fact_of(
+pub fn fact_from_parts(
     place: Place,
     message: &Message<'_>,
     route: Option<(RouteId, Network)>,
@@ -44,7 +44,7 @@ pub fn fact_of(
     decider: Option<&ReceivedReceipt<'_>>,
 ) -> Fact
     ensures value { (standing : Option Standing) → is_shared standing ≡ shared
-        → result ≡ fact_by place message.now
+        → result ≡ fact_in_circumstances place message.now
         (circumstances_by standing (option_copied decider.entry) route lapsed) }
     ensures place { result.place ≡ place }
 {

@@ -11,7 +11,7 @@ ghost use Rattle.smq_tally.specs.Rows.{outcome_rank};
 ghost use Rattle.smq_present.specs.present.Settings.{SettingsValue, with_versions, with_clock, forms_of};
 ghost use Rattle.smq_present.specs.pairing.Traffic.{Message, ReceivedReceipt, TrafficValue};
 ghost use Rattle.smq_present.specs.join.Circumstances.{Circumstances, circumstances, route_in, window_of};
-ghost use Rattle.smq_present.specs.join.Facts.{fact_by, facts_of, with_route, with_lapse};
+ghost use Rattle.smq_present.specs.join.Facts.{fact_in_circumstances, facts_of, with_route, with_lapse};
 ghost use Rattle.smq_present.specs.join.Keyed.{accepted_key, grouping_of, receipt_key};
 ghost use Rattle.smq_group.specs.Matching.{Grouping};
 ghost use Rattle.smq_present.specs.join.Moves.{IsMove, changes_of, standings_of, put_message, take_message, put_receipt, take_receipt, receipt_standings_of, receipt_changes_of};
@@ -35,7 +35,7 @@ pub fn keys_are_of_their_link()
 pub fn each_message_has_its_fact()
     ensures each { (s : SettingsValue) (t : TrafficValue) (place : Place)
         → fin.get (facts_of s t) place
-        ≡ option_map (λ m. fact_by place m (circumstances s t m)) (fin.get t.messages place) }
+        ≡ option_map (λ m. fact_in_circumstances place m (circumstances s t m)) (fin.get t.messages place) }
     ensures place { (s : SettingsValue) (t : TrafficValue) (place : Place) (fact : Fact)
         → fin.get (facts_of s t) place ≡ Some fact → fact.place ≡ place }
 {}
@@ -82,7 +82,7 @@ pub fn forms_of_other_links_are_idle()
 pub fn versions_change_routes_alone()
     ensures routed { (s : SettingsValue) (versions : Versions) (t : TrafficValue) (place : Place)
         → fin.get (facts_of (with_versions s versions) t) place
-        ≡ option_map (λ m. with_route (route_in versions m) (fact_by place m (circumstances s t m)))
+        ≡ option_map (λ m. with_route (route_in versions m) (fact_in_circumstances place m (circumstances s t m)))
         (fin.get t.messages place) }
     ensures rest { (s : SettingsValue) (versions : Versions) (t : TrafficValue) (place : Place)
         → option_map (with_route None) (fin.get (facts_of (with_versions s versions) t) place)
@@ -99,7 +99,7 @@ pub fn clock_lapses_open_messages_alone()
     ensures lapsed { (s : SettingsValue) (clock : ℕ) (t : TrafficValue) (place : Place)
         → fin.get (facts_of (with_clock s clock) t) place
         ≡ option_map (λ m. with_lapse (nat_le (m.moment + window_of s m.link) clock)
-        (fact_by place m (circumstances s t m))) (fin.get t.messages place) }
+        (fact_in_circumstances place m (circumstances s t m))) (fin.get t.messages place) }
     ensures others { (s : SettingsValue) (clock : ℕ) (t : TrafficValue) (place : Place)
         (fact : Fact)
         → fin.get (facts_of s t) place ≡ Some fact
@@ -128,16 +128,16 @@ pub fn messages_lapse_at_the_end_of_their_window()
 /// of the receipt that decides. It has a delay at the centre there alone, exactly where that receipt gives one: its band.
 pub fn delays_are_of_decided_messages()
     ensures exactly { (place : Place) (m : Message) (c : Circumstances)
-        → IsTrue (is_some (fact_by place m c).link_delay)
-        ↔ (((fact_by place m c).outcome ≡ Outcome.Delivered)
-        ⊎ ((fact_by place m c).outcome ≡ Outcome.Failed)) }
+        → IsTrue (is_some (fact_in_circumstances place m c).link_delay)
+        ↔ (((fact_in_circumstances place m c).outcome ≡ Outcome.Delivered)
+        ⊎ ((fact_in_circumstances place m c).outcome ≡ Outcome.Failed)) }
     ensures values { (place : Place) (m : Message) (c : Circumstances) (r : ReceivedReceipt)
-        → c.decider ≡ Some r → IsTrue (is_some (fact_by place m c).link_delay)
-        → ((fact_by place m c).link_delay ≡ Some (band_of (pos r.moment -ℤ pos m.moment)))
-        × ((fact_by place m c).centre_delay ≡ option_map band_of r.receipt.centre_delay) }
+        → c.decider ≡ Some r → IsTrue (is_some (fact_in_circumstances place m c).link_delay)
+        → ((fact_in_circumstances place m c).link_delay ≡ Some (band_of (pos r.moment -ℤ pos m.moment)))
+        × ((fact_in_circumstances place m c).centre_delay ≡ option_map band_of r.receipt.centre_delay) }
     ensures centre { (place : Place) (m : Message) (c : Circumstances)
-        → IsTrue (is_some (fact_by place m c).centre_delay)
-        → IsTrue (is_some (fact_by place m c).link_delay) }
+        → IsTrue (is_some (fact_in_circumstances place m c).centre_delay)
+        → IsTrue (is_some (fact_in_circumstances place m c).link_delay) }
 {}
 
 /// A message without a number has neither route nor network, and one with a number those that it has at the moment of the

@@ -25,19 +25,19 @@ ghost use Rattle.smq_present.specs.pairing.Traffic.{Origin, place_of, placed, pa
 ghost use Rattle.smq_present.specs.whole.Dealt.{dealt};
 ghost use Rattle.smq_present.specs.within.Pairs.{SubmitsAreRequests};
 ghost use Rattle.smq_kit.specs.declared.place.Place.{Place};
-ghost use Rattle.smq_present.specs.declared.present.kept.KeptPdu.{KeptPdu};
+ghost use Rattle.smq_present.specs.declared.present.kept.StoredPdu.{StoredPdu};
 
-use crate::KeptPdu;
+use crate::StoredPdu;
 use smq_kit::Place;
 use smq_receipt::Reading;
 
 /// The response to a PDU of the client is that of its pair, by sequence number and rank, and that of each pair is found.
 pub fn responses_are_those_of_pairs()
-    ensures each { (before after centre : List KeptPdu) (p : KeptPdu) (j : ℕ) (response : Header)
+    ensures each { (before after centre : List StoredPdu) (p : StoredPdu) (j : ℕ) (response : Header)
         → IsPair (headers_of (before ++ p ∷ after)) (headers_of centre) (length before) j
         (header_of p) response
         → response_to centre before p ≡ slice_get centre j }
-    ensures found { (before after centre : List KeptPdu) (p r : KeptPdu)
+    ensures found { (before after centre : List StoredPdu) (p r : StoredPdu)
         → is_request (header_of p) ≡ true → response_to centre before p ≡ Some r
         → (j : ℕ) × (slice_get centre j ≡ Some r)
         × IsPair (headers_of (before ++ p ∷ after)) (headers_of centre) (length before) j
@@ -47,8 +47,8 @@ pub fn responses_are_those_of_pairs()
 /// At the place of each submit_sm and data_sm of a client the pairs of its session have the one with the response of its
 /// message, and none where that has none.
 pub fn responses_stand_in_pairs()
-    ensures { (origin : Origin) (client centre : List Octet) (before after : List KeptPdu)
-        (p : KeptPdu) (submit : Submit)
+    ensures { (origin : Origin) (client centre : List Octet) (before after : List StoredPdu)
+        (p : StoredPdu) (submit : Submit)
         → kept_pdus client ≡ before ++ p ∷ after → submit_in p.content ≡ Some submit
         → pair_at (pairing_among origin (kept_pdus client) (kept_pdus centre))
         (place_of origin FromClient p)
@@ -58,9 +58,9 @@ pub fn responses_stand_in_pairs()
 
 /// Two requests of one sequence number have the two responses of it in turn, whatever their commands.
 pub fn responses_come_in_turn()
-    ensures first { (one two response later : KeptPdu) → InTurn one two response later
+    ensures first { (one two response later : StoredPdu) → InTurn one two response later
         → response_to (response ∷ later ∷ []) [] one ≡ Some response }
-    ensures second { (one two response later : KeptPdu) → InTurn one two response later
+    ensures second { (one two response later : StoredPdu) → InTurn one two response later
         → response_to (response ∷ later ∷ []) (one ∷ []) two ≡ Some later }
 {}
 
@@ -77,11 +77,11 @@ pub fn each_message_has_its_place()
 /// One PDU more of the client is one message more at most, and leaves the others. One more of the
 /// centre changes the messages to which it is the response, and no other.
 pub fn pushes_change_few_messages()
-    ensures client { (origin : Origin) (client centre : List KeptPdu) (next : KeptPdu)
+    ensures client { (origin : Origin) (client centre : List StoredPdu) (next : StoredPdu)
         → messages_among origin (client ++ next ∷ []) centre
         ≡ messages_among origin client centre
         ++ option_to_list (message_at origin centre client next) }
-    ensures centre { (origin : Origin) (client centre : List KeptPdu) (next : KeptPdu)
+    ensures centre { (origin : Origin) (client centre : List StoredPdu) (next : StoredPdu)
         → SameOutside {R = place_cmp} (requests_of origin client centre next)
         (map.from_entries (messages_among origin client centre))
         (map.from_entries (messages_among origin client (centre ++ next ∷ []))) }
@@ -92,20 +92,20 @@ pub fn pushes_change_few_messages()
 /// notes. So their traffic is that of the whole as it is dealt. That each submit_sm and data_sm is a request holds of any
 /// stream.
 pub fn pairs_stay_in_parts()
-    ensures messages { (here : Place → Bool) (origin : Origin) (client centre : List KeptPdu)
+    ensures messages { (here : Place → Bool) (origin : Origin) (client centre : List StoredPdu)
         → SubmitsAreRequests client → KeepsPairsTogether here origin client centre
         → messages_among origin (pdus_taken here origin FromClient client)
         (pdus_taken here origin FromCentre centre)
         ≡ filter (λ e. here e.0) (messages_among origin client centre) }
-    ensures receipts { (here : Place → Bool) (origin : Origin) (centre : List KeptPdu)
+    ensures receipts { (here : Place → Bool) (origin : Origin) (centre : List StoredPdu)
         → receipts_among origin (pdus_taken here origin FromCentre centre)
         ≡ filter (λ e. here e.0) (receipts_among origin centre) }
-    ensures notes { (here : Place → Bool) (origin : Origin) (client centre : List KeptPdu)
+    ensures notes { (here : Place → Bool) (origin : Origin) (client centre : List StoredPdu)
         → KeepsPairsTogether here origin client centre
         → notes_among origin (pdus_taken here origin FromClient client)
         (pdus_taken here origin FromCentre centre)
         ≡ filter (λ note. here note.place) (notes_among origin client centre) }
-    ensures traffic { (here : Place → Bool) (origin : Origin) (client centre : List KeptPdu)
+    ensures traffic { (here : Place → Bool) (origin : Origin) (client centre : List StoredPdu)
         → SubmitsAreRequests client → KeepsPairsTogether here origin client centre
         → traffic_among origin (pdus_taken here origin FromClient client)
         (pdus_taken here origin FromCentre centre)
@@ -119,11 +119,11 @@ pub fn pairs_stay_in_parts()
 pub fn unread_places_are_noted()
     ensures unreadable { (sessions : map.FinMap nat_cmp SessionValue) (place : Place)
         → IsTrue (map.contains_key (traffic_of sessions).notes (listed list.Unreadable place))
-        ↔ ((p : KeptPdu) × StandsAt sessions place p × (place.dir ≡ FromCentre)
+        ↔ ((p : StoredPdu) × StandsAt sessions place p × (place.dir ≡ FromCentre)
         × (Says p.content Reading.NoId ⊎ Says p.content Reading.NoState)) }
     ensures undecodable { (sessions : map.FinMap nat_cmp SessionValue) (place : Place)
         → IsTrue (map.contains_key (traffic_of sessions).notes (listed list.Undecodable place))
-        ↔ ((p : KeptPdu) × StandsAt sessions place p × (p.content ≡ Content.Undecodable)) }
+        ↔ ((p : StoredPdu) × StandsAt sessions place p × (p.content ≡ Content.Undecodable)) }
     ensures broken { (sessions : map.FinMap nat_cmp SessionValue) (place : Place)
         → IsTrue (map.contains_key (traffic_of sessions).notes (listed list.Broken place))
         ↔ ((tail_of (values (octets_at sessions place))).broken ≡ Some place.offset) }

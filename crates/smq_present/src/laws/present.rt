@@ -137,7 +137,7 @@ pub fn appends_of_sessions_commute()
 {}
 
 /// What is kept of known PDUs: their command_id, command_status and sequence_number whole, and a data_sm as what it is.
-pub fn known_pdus_are_kept()
+pub fn known_pdus_are_stored()
     ensures { KnownKept }
 {}
 
@@ -184,12 +184,12 @@ pub fn windows_of_known_links()
 {}
 
 /// `==` of forms says whether they are one.
-pub fn forms_are_told_apart()
+pub fn forms_eq_is_equality()
     ensures { (a b : Forms) → IsTrue (forms_eq a b) ↔ (a ≡ b) }
 {}
 
 /// `==` of batches, and of edits, says whether they are one.
-pub fn edits_are_told_apart()
+pub fn edit_eq_is_equality()
     ensures batches { (a b : BatchValue) → IsTrue (batches_eq a b) ↔ (a ≡ b) }
     ensures edits { (a b : Edit) → IsTrue (edits_eq a b) ↔ (a ≡ b) }
 {}

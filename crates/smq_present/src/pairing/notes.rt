@@ -11,7 +11,7 @@ ghost use Rattle.smq_present.specs.within.Sides.{IsPaired, IsSide, is_noted_by, 
 
 use crate::pairing::pairs::place_of;
 use crate::pairing::sides::{Side, sides_of};
-use crate::{KeptPdu, List, Listed, Session};
+use crate::{List, Listed, Session, StoredPdu};
 use smq_frame::Tail;
 use smq_kit::{Dir, Place, SessionId};
 use smq_pdu::{agrees, is_request, is_response};
@@ -86,7 +86,7 @@ fn push_side(notes: &mut Vec<Listed>, list: List, side: &Side<'_>) -> Result<(),
 }
 
 /// The PDU at an index in a list, if it is in it.
-fn note_at(list: List, side: &Side<'_>, index: usize, pdu: &KeptPdu) -> Option<Listed>
+fn note_at(list: List, side: &Side<'_>, index: usize, pdu: &StoredPdu) -> Option<Listed>
     requires paired { IsPaired side.now }
     requires pdu { slice_get side.now.pdus.now index ≡ Some pdu.now }
     ensures { let o = from_session side.now.session in
@@ -105,9 +105,9 @@ fn note_at(list: List, side: &Side<'_>, index: usize, pdu: &KeptPdu) -> Option<L
 /// Whether a PDU is in a list, by the PDU that responds to it and the one that it responds to.
 fn is_noted(
     list: List,
-    pdu: &KeptPdu,
-    response: Option<&KeptPdu>,
-    request: Option<&KeptPdu>,
+    pdu: &StoredPdu,
+    response: Option<&StoredPdu>,
+    request: Option<&StoredPdu>,
 ) -> bool
     ensures { result ≡ is_noted_by list (option_copied response.entry) (option_copied request.entry) pdu.now }
 {
@@ -122,7 +122,7 @@ fn is_noted(
 }
 
 /// Whether a response doesn't agree with a request.
-fn disagrees(request: &KeptPdu, response: Option<&KeptPdu>) -> bool
+fn disagrees(request: &StoredPdu, response: Option<&StoredPdu>) -> bool
     ensures { result ≡ sides.disagrees_with request.now (option_copied response.entry) }
 {
     match response {

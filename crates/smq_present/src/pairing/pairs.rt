@@ -7,23 +7,23 @@ ghost use Rattle.smq_present.specs.within.Pairs.{Rises, from_session};
 ghost use Rattle.smq_present.specs.within.Lists.{source_of};
 
 use crate::present::settings::Settings;
-use crate::{Forms, KeptPdu, Session};
+use crate::{Forms, Session, StoredPdu};
 use smq_kit::{Dir, LinkId, Place, SessionId};
 
 /// A session, its link, and the forms of that link's message ids.
 #[derive(Clone, Copy)]
-pub struct Source {
+pub struct SessionForms {
     pub session: SessionId,
     pub link: LinkId,
     pub forms: Forms,
 }
 
-impl Source {
+impl SessionForms {
     /// A session of a number with its link and that link's forms.
-    pub fn of_session(settings: &Settings, number: u64, session: &Session) -> Source
+    pub fn of_session(settings: &Settings, number: u64, session: &Session) -> SessionForms
         ensures { result ≡ source_of settings.now (number, session.now) }
     {
-        Source {
+        SessionForms {
             session: SessionId(number),
             link: session.link,
             forms: settings.forms_of(session.link),
@@ -32,7 +32,7 @@ impl Source {
 }
 
 /// The place of a PDU.
-pub fn place_of(session: SessionId, dir: Dir, pdu: &KeptPdu) -> Place
+pub fn place_of(session: SessionId, dir: Dir, pdu: &StoredPdu) -> Place
     ensures { result ≡ traffic.place_of (from_session session) dir pdu.now }
 {
     Place {
@@ -43,7 +43,7 @@ pub fn place_of(session: SessionId, dir: Dir, pdu: &KeptPdu) -> Place
 }
 
 /// The PDU at an offset.
-pub fn pdu_at(pdus: &[KeptPdu], offset: u64) -> Option<&KeptPdu>
+pub fn pdu_at(pdus: &[StoredPdu], offset: u64) -> Option<&StoredPdu>
     requires { Rises 0 pdus.now }
     ensures { option_copied result ≡ pairs.pdu_at pdus.now offset }
 {

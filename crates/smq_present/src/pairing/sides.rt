@@ -10,7 +10,7 @@ ghost use Rattle.smq_present.specs.within.Turns.{HasPartners, partner_at, HasTur
 ghost use Rattle.smq_pdu.specs.Header.{header_with};
 ghost use Rattle.smq_present.specs.within.Turns as t;
 
-use crate::{KeptPdu, Session};
+use crate::{Session, StoredPdu};
 use smq_kit::{Dir, SessionId};
 use smq_pdu::{is_request, is_response};
 use std::alloc::{AllocError, Global};
@@ -21,8 +21,8 @@ use std::collections::BTreeMap;
 pub(crate) struct Side<'a> {
     pub session: SessionId,
     pub dir: Dir,
-    pub pdus: &'a [KeptPdu],
-    pub other: &'a [KeptPdu],
+    pub pdus: &'a [StoredPdu],
+    pub other: &'a [StoredPdu],
     /// Of each request, where it has a response.
     pub responses: Vec<Option<usize>>,
     /// Of each response, where it has a request.
@@ -35,8 +35,8 @@ impl<'a> Side<'a> {
         alloc: Global,
         session: SessionId,
         dir: Dir,
-        pdus: &'a [KeptPdu],
-        other: &'a [KeptPdu],
+        pdus: &'a [StoredPdu],
+        other: &'a [StoredPdu],
     ) -> Result<Side<'a>, AllocError>
         requires { Rises 0 pdus.now }
         ensures { IfOk result (λ side. IsSide session dir pdus.now other.now side) }
@@ -52,14 +52,14 @@ impl<'a> Side<'a> {
     }
 
     /// The response to the request at an index.
-    pub(crate) fn response(&self, index: usize) -> Option<&'a KeptPdu>
+    pub(crate) fn response(&self, index: usize) -> Option<&'a StoredPdu>
         ensures { option_copied result ≡ partner_at self.now.responses.items self.now.other.now index }
     {
         partner(self.responses.as_slice(), self.other, index)
     }
 
     /// The request of the response at an index.
-    pub(crate) fn request(&self, index: usize) -> Option<&'a KeptPdu>
+    pub(crate) fn request(&self, index: usize) -> Option<&'a StoredPdu>
         ensures { option_copied result ≡ partner_at self.now.requests.items self.now.other.now index }
     {
         partner(self.requests.as_slice(), self.other, index)
@@ -87,9 +87,9 @@ pub(crate) fn sides_of(
 /// The partner of the PDU at an index.
 fn partner<'a>(
     partners: &[Option<usize>],
-    other: &'a [KeptPdu],
+    other: &'a [StoredPdu],
     index: usize,
-) -> Option<&'a KeptPdu>
+) -> Option<&'a StoredPdu>
     ensures { option_copied result ≡ partner_at partners.now other.now index }
 {
     let at = (*partners.get(index)?)?;
@@ -100,8 +100,8 @@ fn partner<'a>(
 fn partners_of(
     alloc: Global,
     kind: Kind,
-    mine: &[KeptPdu],
-    other: &[KeptPdu],
+    mine: &[StoredPdu],
+    other: &[StoredPdu],
 ) -> Result<Vec<Option<usize>>, AllocError>
     ensures { IfOk result (λ partners. HasPartners kind mine.now other.now partners.items) }
 {
@@ -156,7 +156,7 @@ struct Turns {
 
 impl Turns {
     /// Those of a direction, of which none is taken.
-    fn of(alloc: Global, kind: Kind, pdus: &[KeptPdu]) -> Result<Turns, AllocError>
+    fn of(alloc: Global, kind: Kind, pdus: &[StoredPdu]) -> Result<Turns, AllocError>
         ensures { IfOk result (λ turns. HasTurns kind pdus.now (λ seq. 0) turns) }
     {
         let mut first = BTreeMap::new(alloc);

@@ -8,9 +8,9 @@ ghost use Rattle.smq_present.specs.within.Outcomes.{message_from};
 ghost use Rattle.smq_present.specs.within.Pairs.{SubmitsAreRequests};
 ghost use Rattle.smq_present.specs.within.Sides.{IsPaired};
 
-use crate::pairing::pairs::{Source, place_of};
+use crate::pairing::pairs::{SessionForms, place_of};
 use crate::pairing::sides::Side;
-use crate::{KeptPdu, Message, Response};
+use crate::{Message, Response, StoredPdu};
 use smq_kit::{Dir, HashedKey, MessageId, Place};
 use smq_pdu::{Submit, agrees};
 use std::alloc::AllocError;
@@ -19,10 +19,10 @@ use std::marker::Model;
 /// A submitted message: a decodable submit_sm or data_sm of the client, as it is kept, with its response where it has one.
 #[derive(Drop)]
 pub struct SubmittedMessage<'a> {
-    pub source: Source,
-    pub request: &'a KeptPdu,
+    pub source: SessionForms,
+    pub request: &'a StoredPdu,
     pub submit: &'a Submit,
-    pub response: Option<&'a KeptPdu>,
+    pub response: Option<&'a StoredPdu>,
 }
 
 impl<'a> Model for SubmittedMessage<'a> {
@@ -95,7 +95,7 @@ impl<'a> SubmittedMessage<'a> {
 /// Puts the submitted messages of a session, whose client's side this is, in their order, after what is there.
 pub(crate) fn push_submits<'a>(
     submits: &mut Vec<SubmittedMessage<'a>>,
-    source: Source,
+    source: SessionForms,
     side: &Side<'a>,
 ) -> Result<(), AllocError>
     requires side { IsPaired side.now }
@@ -114,10 +114,10 @@ pub(crate) fn push_submits<'a>(
 
 /// The message that the PDU at an index is, where it is a decodable submit_sm or data_sm.
 fn submit_at<'a>(
-    source: Source,
+    source: SessionForms,
     side: &Side<'a>,
     index: usize,
-    pdu: &'a KeptPdu,
+    pdu: &'a StoredPdu,
 ) -> Option<SubmittedMessage<'a>>
     requires side { IsPaired side.now }
     requires requests { SubmitsAreRequests side.now.pdus.now }

@@ -7,7 +7,7 @@ ghost use Rattle.smq_pdu.specs.Placed.{placed_pdu};
 ghost use Rattle.smq_present.specs.present.Kept.{kept_pdu};
 ghost use Rattle.smq_present.specs.present.Batch.{batch_of, batch_pdus, next_tail, prepare_refusal};
 
-use crate::KeptPdu;
+use crate::StoredPdu;
 use crate::present::kept::pdus_of;
 use bytes::Bytes;
 use smq_frame::{Tail, frames};
@@ -31,7 +31,7 @@ pub struct PieceRow {
 pub(crate) struct DecodedPiece {
     pub(crate) tail: Tail,
     pub(crate) octets: Bytes,
-    pub(crate) pdus: Vec<KeptPdu>,
+    pub(crate) pdus: Vec<StoredPdu>,
     pub(crate) next: Tail,
 }
 
@@ -155,7 +155,7 @@ impl Batch {
     }
 
     /// What is kept of the PDUs that the octets complete, in order.
-    pub fn pdus(&self) -> &[KeptPdu]
+    pub fn pdus(&self) -> &[StoredPdu]
         ensures { result.now ≡ batch_pdus self.now }
     {
         self.piece.pdus.as_slice()

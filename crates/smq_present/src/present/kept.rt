@@ -16,7 +16,7 @@ use std::sync::Arc;
 
 /// What is kept of what a deliver_sm or data_sm says as a delivery receipt. Copies share the receipt.
 #[derive(Drop)]
-enum KeptReading {
+enum StoredReading {
     Receipt(Arc<Receipt, Global>),
     /// A receipt without a usable id, whether or not it has a state.
     NoId,
@@ -29,12 +29,12 @@ enum KeptReading {
 #[derive(Drop)]
 struct KeptDataSm {
     submit: Arc<Submit, Global>,
-    reading: KeptReading,
+    reading: StoredReading,
 }
 
 /// What is kept of a PDU's body, by its cases. Copies share what stands behind an `Arc`.
 #[derive(Drop)]
-enum KeptBody {
+enum StoredBody {
     /// A submit_sm, as it was decoded (SMPP 3.4, 4.4.1).
     Submit(Arc<Submit, Global>),
     /// A submit_sm_resp or data_sm_resp, with its message_id, where that has 1 to 64 octets.
@@ -43,7 +43,7 @@ enum KeptBody {
     },
     /// A deliver_sm, as what it says as a delivery receipt.
     Deliver {
-        reading: KeptReading,
+        reading: StoredReading,
     },
     /// A data_sm. It is rare, and would be the largest case.
     DataSm(Arc<KeptDataSm, Global>),
@@ -56,7 +56,7 @@ enum KeptBody {
 /// What is kept of a PDU's body. A contract sees it as the definitions have it.
 #[derive(Drop)]
 pub struct Content {
-    body: KeptBody,
+    body: StoredBody,
 }
 
 impl Model for Content {
@@ -71,7 +71,7 @@ impl Model for Content {
 
 /// What is kept of a PDU: its place in its direction, its moment, its header and what its body says.
 #[derive(Drop)]
-pub struct KeptPdu {
+pub struct StoredPdu {
     /// In octets from the direction's first.
     pub offset: u64,
     /// That of its last octet.
@@ -97,16 +97,16 @@ pub fn shared(
     }
 }
 
-impl KeptReading {
+impl StoredReading {
     /// What is kept of a reading.
-    fn of(alloc: Global, reading: Reading) -> Result<KeptReading, AllocError>
+    fn of(alloc: Global, reading: Reading) -> Result<StoredReading, AllocError>
         ensures { IfOk result (λ kept. reading_kept kept ≡ reading) }
     {
         match reading {
-            Reading::Receipt(receipt) => Ok(KeptReading::Receipt(Arc::new(alloc, receipt)?)),
-            Reading::NoId => Ok(KeptReading::NoId),
-            Reading::NoState => Ok(KeptReading::NoState),
-            Reading::NotReceipt => Ok(KeptReading::NotReceipt),
+            Reading::Receipt(receipt) => Ok(StoredReading::Receipt(Arc::new(alloc, receipt)?)),
+            Reading::NoId => Ok(StoredReading::NoId),
+            Reading::NoState => Ok(StoredReading::NoState),
+            Reading::NotReceipt => Ok(StoredReading::NotReceipt),
         }
     }
 
@@ -115,7 +115,7 @@ impl KeptReading {
         ensures { option_copied result ≡ receipt_read (reading_kept self.now) }
     {
         match self {
-            KeptReading::Receipt(receipt) => Some(receipt),
+            StoredReading::Receipt(receipt) => Some(receipt),
             _ => None,
         }
     }
@@ -125,65 +125,65 @@ impl KeptReading {
         ensures { result ≡ is_unusable (reading_kept self.now) }
     {
         match self {
-            KeptReading::NoId => true,
-            KeptReading::NoState => true,
+            StoredReading::NoId => true,
+            StoredReading::NoState => true,
             _ => false,
         }
     }
 
     /// An equal reading, which shares the receipt. It takes no memory.
-    fn copy(&self) -> Result<KeptReading, AllocError>
+    fn copy(&self) -> Result<StoredReading, AllocError>
         ensures { IfOk result (λ kept. reading_kept kept ≡ reading_kept self.now) }
     {
         match self {
-            KeptReading::Receipt(receipt) => Ok(KeptReading::Receipt(Arc::try_clone(receipt)?)),
-            KeptReading::NoId => Ok(KeptReading::NoId),
-            KeptReading::NoState => Ok(KeptReading::NoState),
-            KeptReading::NotReceipt => Ok(KeptReading::NotReceipt),
+            StoredReading::Receipt(receipt) => Ok(StoredReading::Receipt(Arc::try_clone(receipt)?)),
+            StoredReading::NoId => Ok(StoredReading::NoId),
+            StoredReading::NoState => Ok(StoredReading::NoState),
+            StoredReading::NotReceipt => Ok(StoredReading::NotReceipt),
         }
     }
 }
 
-impl KeptBody {
+impl StoredBody {
     /// What is kept of a body.
-    fn of(alloc: Global, body: Body<'_>) -> Result<KeptBody, AllocError>
+    fn of(alloc: Global, body: Body<'_>) -> Result<StoredBody, AllocError>
         ensures { IfOk result (λ kept. content_kept kept ≡ content_of_body (body_view body.entry)) }
     {
         match body {
-            Body::Submit(submit) => Ok(KeptBody::Submit(Arc::new(alloc, submit)?)),
-            Body::SubmitAnswer(answer) => Ok(KeptBody::SubmitAnswer {
+            Body::Submit(submit) => Ok(StoredBody::Submit(Arc::new(alloc, submit)?)),
+            Body::SubmitAnswer(answer) => Ok(StoredBody::SubmitAnswer {
                 message_id: kept_id(alloc, answer.message_id)?,
             }),
-            Body::Deliver(deliver) => Ok(KeptBody::Deliver {
-                reading: KeptReading::of(alloc, read(&deliver))?,
+            Body::Deliver(deliver) => Ok(StoredBody::Deliver {
+                reading: StoredReading::of(alloc, read(&deliver))?,
             }),
             Body::DataSm(message) => {
                 let both = KeptDataSm {
                     submit: Arc::new(alloc, message.submit())?,
-                    reading: KeptReading::of(alloc, read(&message.deliver()))?,
+                    reading: StoredReading::of(alloc, read(&message.deliver()))?,
                 };
-                Ok(KeptBody::DataSm(Arc::new(alloc, both)?))
+                Ok(StoredBody::DataSm(Arc::new(alloc, both)?))
             },
-            Body::Other => Ok(KeptBody::Other),
-            Body::Undecodable => Ok(KeptBody::Undecodable),
+            Body::Other => Ok(StoredBody::Other),
+            Body::Undecodable => Ok(StoredBody::Undecodable),
         }
     }
 
     /// An equal body, which shares what stands behind an `Arc`. It takes no memory.
-    fn copy(&self) -> Result<KeptBody, AllocError>
+    fn copy(&self) -> Result<StoredBody, AllocError>
         ensures { IfOk result (λ kept. content_kept kept ≡ content_kept self.now) }
     {
         match self {
-            KeptBody::Submit(submit) => Ok(KeptBody::Submit(Arc::try_clone(submit)?)),
-            KeptBody::SubmitAnswer { message_id } => Ok(KeptBody::SubmitAnswer {
+            StoredBody::Submit(submit) => Ok(StoredBody::Submit(Arc::try_clone(submit)?)),
+            StoredBody::SubmitAnswer { message_id } => Ok(StoredBody::SubmitAnswer {
                 message_id: shared(message_id)?,
             }),
-            KeptBody::Deliver { reading } => Ok(KeptBody::Deliver {
+            StoredBody::Deliver { reading } => Ok(StoredBody::Deliver {
                 reading: reading.copy()?,
             }),
-            KeptBody::DataSm(both) => Ok(KeptBody::DataSm(Arc::try_clone(both)?)),
-            KeptBody::Other => Ok(KeptBody::Other),
-            KeptBody::Undecodable => Ok(KeptBody::Undecodable),
+            StoredBody::DataSm(both) => Ok(StoredBody::DataSm(Arc::try_clone(both)?)),
+            StoredBody::Other => Ok(StoredBody::Other),
+            StoredBody::Undecodable => Ok(StoredBody::Undecodable),
         }
     }
 }
@@ -194,8 +194,8 @@ impl Content {
         ensures { option_copied result ≡ submit_in self.now }
     {
         match &self.body {
-            KeptBody::Submit(submit) => Some(submit),
-            KeptBody::DataSm(both) => Some(&both.submit),
+            StoredBody::Submit(submit) => Some(submit),
+            StoredBody::DataSm(both) => Some(&both.submit),
             _ => None,
         }
     }
@@ -205,8 +205,8 @@ impl Content {
         ensures { IfOk result (λ submit. option_map arc_value submit ≡ submit_in self.now) }
     {
         match &self.body {
-            KeptBody::Submit(submit) => Ok(Some(Arc::try_clone(submit)?)),
-            KeptBody::DataSm(both) => Ok(Some(Arc::try_clone(&both.submit)?)),
+            StoredBody::Submit(submit) => Ok(Some(Arc::try_clone(submit)?)),
+            StoredBody::DataSm(both) => Ok(Some(Arc::try_clone(&both.submit)?)),
             _ => Ok(None),
         }
     }
@@ -216,7 +216,7 @@ impl Content {
         ensures { option_copied result ≡ id_in self.now }
     {
         match &self.body {
-            KeptBody::SubmitAnswer {
+            StoredBody::SubmitAnswer {
                 message_id: Some(id),
             } => Some(id),
             _ => None,
@@ -228,18 +228,18 @@ impl Content {
         ensures { IfOk result (λ id. option_map arc_value id ≡ id_in self.now) }
     {
         match &self.body {
-            KeptBody::SubmitAnswer { message_id } => shared(message_id),
+            StoredBody::SubmitAnswer { message_id } => shared(message_id),
             _ => Ok(None),
         }
     }
 
     /// What a deliver_sm or data_sm says as a delivery receipt.
-    fn reading(&self) -> Option<&KeptReading>
+    fn reading(&self) -> Option<&StoredReading>
         ensures { option_map reading_kept (option_copied result) ≡ reading_in self.now }
     {
         match &self.body {
-            KeptBody::Deliver { reading } => Some(reading),
-            KeptBody::DataSm(both) => Some(&both.reading),
+            StoredBody::Deliver { reading } => Some(reading),
+            StoredBody::DataSm(both) => Some(&both.reading),
             _ => None,
         }
     }
@@ -256,7 +256,7 @@ impl Content {
         ensures { IfOk result (λ receipt. option_map arc_value receipt ≡ receipt_in self.now) }
     {
         match self.reading() {
-            Some(KeptReading::Receipt(receipt)) => Ok(Some(Arc::try_clone(receipt)?)),
+            Some(StoredReading::Receipt(receipt)) => Ok(Some(Arc::try_clone(receipt)?)),
             _ => Ok(None),
         }
     }
@@ -285,18 +285,18 @@ impl Content {
         ensures { result ≡ is_undecodable self.now }
     {
         match &self.body {
-            KeptBody::Undecodable => true,
+            StoredBody::Undecodable => true,
             _ => false,
         }
     }
 }
 
-impl KeptPdu {
+impl StoredPdu {
     /// An equal value, which shares what stands behind an `Arc`. It takes no memory.
-    fn copy(&self) -> Result<KeptPdu, AllocError>
+    fn copy(&self) -> Result<StoredPdu, AllocError>
         ensures { IfOk result (λ pdu. pdu ≡ self.now) }
     {
-        Ok(KeptPdu {
+        Ok(StoredPdu {
             offset: self.offset,
             moment: self.moment,
             command: self.command,
@@ -325,12 +325,12 @@ fn content_of(alloc: Global, body: Body<'_>) -> Result<Content, AllocError>
     ensures { IfOk result (λ content. content ≡ content_of_body (body_view body.entry)) }
 {
     Ok(Content {
-        body: KeptBody::of(alloc, body)?,
+        body: StoredBody::of(alloc, body)?,
     })
 }
 
 /// What is kept of the PDU that a frame is.
-fn kept_of(alloc: Global, frame: &Frame) -> Result<KeptPdu, AllocError>
+fn kept_of(alloc: Global, frame: &Frame) -> Result<StoredPdu, AllocError>
     ensures { IfOk result (λ pdu. pdu ≡ kept_pdu (placed_pdu frame.now)) }
 {
     let Pdu {
@@ -339,7 +339,7 @@ fn kept_of(alloc: Global, frame: &Frame) -> Result<KeptPdu, AllocError>
         status,
         body,
     } = decode(frame);
-    Ok(KeptPdu {
+    Ok(StoredPdu {
         offset: frame.offset,
         moment: frame.moment,
         command,
@@ -350,7 +350,7 @@ fn kept_of(alloc: Global, frame: &Frame) -> Result<KeptPdu, AllocError>
 }
 
 /// What is kept of the PDUs that frames are, in order.
-pub(crate) fn pdus_of(alloc: Global, frames: &[Frame]) -> Result<Vec<KeptPdu>, AllocError>
+pub(crate) fn pdus_of(alloc: Global, frames: &[Frame]) -> Result<Vec<StoredPdu>, AllocError>
     ensures { IfOk result (λ pdus. pdus.items ≡ map kept_pdu (map placed_pdu frames.now)) }
 {
     let mut pdus = Vec::with_capacity(alloc, frames.len())?;
@@ -361,7 +361,7 @@ pub(crate) fn pdus_of(alloc: Global, frames: &[Frame]) -> Result<Vec<KeptPdu>, A
 }
 
 /// Puts equal values after those that are there. An error changes nothing.
-pub(crate) fn push_copies(to: &mut Vec<KeptPdu>, pdus: &[KeptPdu]) -> Result<(), AllocError>
+pub(crate) fn push_copies(to: &mut Vec<StoredPdu>, pdus: &[StoredPdu]) -> Result<(), AllocError>
     ensures ok { OnOk result (to.new.items ≡ to.old.items ++ pdus.now) }
     ensures err { OnErr result (to.new.items ≡ to.old.items) }
 {
@@ -374,7 +374,7 @@ pub(crate) fn push_copies(to: &mut Vec<KeptPdu>, pdus: &[KeptPdu]) -> Result<(),
 }
 
 /// Puts equal values after those that are there, of which an error leaves some.
-fn push_each(to: &mut Vec<KeptPdu>, pdus: &[KeptPdu]) -> Result<(), AllocError>
+fn push_each(to: &mut Vec<StoredPdu>, pdus: &[StoredPdu]) -> Result<(), AllocError>
     ensures ok { OnOk result (to.new.items ≡ to.old.items ++ pdus.now) }
     ensures err { OnErr result (take (length to.old.items) to.new.items ≡ to.old.items) }
 {

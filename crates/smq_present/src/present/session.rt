@@ -15,7 +15,7 @@ ghost use Rattle.smq_present.specs.present.Stream.{stream_of, last_moment};
 
 use crate::present::batch::DecodedPiece;
 use crate::present::kept::{make_room, push_copies};
-use crate::{Batch, KeptPdu};
+use crate::{Batch, StoredPdu};
 use bytes::Bytes;
 use smq_frame::Tail;
 use smq_kit::{Dir, LinkId, Moment, Refusal};
@@ -115,7 +115,7 @@ pub struct Piece {
 pub struct Direction {
     pieces: Vec<Piece>,
     tail: Tail,
-    pdus: Vec<KeptPdu>,
+    pdus: Vec<StoredPdu>,
     last: Moment,
 }
 
@@ -153,7 +153,7 @@ impl Direction {
     }
 
     /// What is kept of the PDUs, in order.
-    pub fn pdus(&self) -> &[KeptPdu]
+    pub fn pdus(&self) -> &[StoredPdu]
         ensures { result.now ≡ kept_pdus self.now }
     {
         self.pdus.as_slice()

@@ -5,7 +5,7 @@ ghost use Rattle.std.specs.Map.Iter.{ShowsInOrder, deref_pair};
 ghost use Rattle.smq_kit.specs.Maps.{set_at};
 ghost use Rattle.smq_route.specs.Versions.{AreApart, route_at};
 ghost use Rattle.smq_present.specs.join.Circumstances.{window_of};
-ghost use Rattle.smq_present.specs.present.Settings.{opening_settings, forms_of, set_forms_of, window_in};
+ghost use Rattle.smq_present.specs.present.Settings.{opening_settings, forms_of, forms_if_set, window_in};
 
 use crate::Forms;
 use smq_kit::{Digits, LinkId, Moment, Network, Refusal, RouteId, Window};
@@ -89,7 +89,7 @@ impl Settings {
     }
 
     /// The windows that were set.
-    pub fn windows_set(&self) -> &Windows
+    pub fn link_windows(&self) -> &Windows
         ensures { result.now ≡ self.now.windows }
     {
         &self.windows
@@ -128,7 +128,7 @@ impl Settings {
 
     /// Whether these are the forms that are set of a link's message ids.
     pub fn has_forms(&self, link: LinkId, forms: Forms) -> bool
-        ensures { IsTrue result ↔ (set_forms_of self.now link.0 ≡ Some forms) }
+        ensures { IsTrue result ↔ (forms_if_set self.now link.0 ≡ Some forms) }
     {
         match self.forms.get(&link.0) {
             Some(set) => *set == forms,
@@ -141,7 +141,7 @@ impl Settings {
         ensures reply { MatchResult result
             (λ _. self.new ≡ record self.old { forms = map.insert self.old.forms link.0 forms })
             (λ e. (e ≡ Refusal.Memory) × (self.new ≡ self.old)) }
-        ensures before { IfOk result (λ before. before ≡ set_forms_of self.old link.0) }
+        ensures before { IfOk result (λ before. before ≡ forms_if_set self.old link.0) }
     {
         let Ok(before) = self.forms.insert(link.0, forms) else {
             return Err(Refusal::Memory);
@@ -151,7 +151,7 @@ impl Settings {
 
     /// Brings back the forms that were set of a link before, or none. It takes no memory.
     pub fn restore_forms(&mut self, link: LinkId, before: Option<Forms>)
-        requires { IsSome (set_forms_of self.old link.0) }
+        requires { IsSome (forms_if_set self.old link.0) }
         ensures { self.new ≡ record self.old { forms = set_at self.old.forms link.0 before } }
     {
         match before {
@@ -162,7 +162,7 @@ impl Settings {
 
     /// Overwrites the forms that are set of a link.
     fn overwrite_forms(&mut self, link: LinkId, forms: Forms)
-        requires { IsSome (set_forms_of self.old link.0) }
+        requires { IsSome (forms_if_set self.old link.0) }
         ensures { self.new ≡ record self.old { forms = map.insert self.old.forms link.0 forms } }
     {
         let Ok(_) = self.forms.insert(link.0, forms) else {

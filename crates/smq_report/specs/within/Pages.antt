@@ -1,5 +1,5 @@
 -- Records that wait on a page, and what is written of them.
-use Rattle.std.specs.Prelude.{◌≡◌, ℕ, false, List, [], ◌∷◌, ◌++◌, Option, Vec, codes}
+use Rattle.std.specs.Prelude.{◌≡◌, ℕ, false, List, ◌++◌, Option, Vec}
 use Rattle.std.specs.Io.KnownBytes.{Appends}
 use Rattle.csv.specs.Writing.{default_writer, fields_written, has_written, writer_pending, writer_setup, writer_under}
 use Rattle.csv.specs.declared.writer.Writer.{Writer}
@@ -17,10 +17,6 @@ pub record IsAtStart {W : Type 0} (records : Writer W) : Type 0 where
   pub setup : writer_setup records ≡ default_writer
   pub fields : fields_written records ≡ 0
   pub written : has_written records ≡ false
-
--- a record of five fields, with commas between them and a line feed after them
-abbrev pub record_of : List ℕ → List ℕ → List ℕ → List ℕ → List ℕ → List ℕ
-record_of a b c d e = a ++ codes "," ++ b ++ codes "," ++ c ++ codes "," ++ d ++ codes "," ++ e ++ 10 ∷ []
 
 -- known octets grow by a beginning of a text, of which these octets are left
 abbrev pub AppendsAllBut : Option (List ℕ) → Option (List ℕ) → List ℕ → List ℕ → Type 0

@@ -3,8 +3,8 @@ use Rattle.std.specs.Prelude.{◌≡◌, ◌<◌, ◌≤◌, ℕ, List, length, 
 use Rattle.std.specs.FinMap as fin
 use Rattle.smq_route.specs.declared.version.VersionKey.{VersionKey}
 use Rattle.smq_route.specs.declared.version.Version.{Version}
-use Rattle.smq_route.specs.declared.sought.Sought.{Sought}
-use Rattle.smq_route.specs.declared.sought.Sought.TheVariants.{Longest, NoLonger}
+use Rattle.smq_route.specs.declared.prefix_search.Sought.{Sought}
+use Rattle.smq_route.specs.declared.prefix_search.Sought.TheVariants.{Longest, NoLonger}
 use Rattle.smq_route.specs.Versions.{Versions, serves, route_at}
 
 -- No version for a number at a moment has a prefix of more digits than this.

@@ -5,7 +5,7 @@ use Rattle.std.specs.FinMap as fin
 use Rattle.smq_kit.specs.LinkKeys.{by_key}
 use Rattle.smq_kit.specs.declared.link_key.LinkKey.{LinkKey}
 use Rattle.smq_kit.specs.declared.place.Place.{Place}
-use Rattle.smq_lines.specs.Lines.{ReceiptLineValue}
+use Rattle.smq_present.specs.join.Lines.{ReceiptLineValue}
 use Rattle.smq_present.specs.within.Accepted.{decider_kept}
 use Rattle.smq_present.specs.within.Messages.{SubmittedMessage}
 use Rattle.smq_present.specs.within.Receipts.{KeyedReceipt, PlacedReceipt}

@@ -4,8 +4,8 @@ use Rattle.std.specs.List.{flat_map}
 use Rattle.std.specs.FinMap as fin
 use Rattle.std.specs.FinSet.{FinSet}
 use Rattle.smq_kit.specs.Maps.{positive, set_at}
-use Rattle.smq_tally.specs.declared.counts.Step.{Step}
-use Rattle.smq_tally.specs.declared.counts.Step.TheVariants as s
+use Rattle.smq_tally.specs.declared.counts.Delta.{Delta}
+use Rattle.smq_tally.specs.declared.counts.Delta.TheVariants as s
 use Rattle.smq_tally.specs.declared.fact.CountKey.{CountKey}
 use Rattle.smq_tally.specs.declared.fact.Fact.{Fact}
 use Rattle.smq_tally.specs.declared.list.Listed.{Listed}
@@ -27,16 +27,16 @@ abbrev pub count_of : TablesValue → CountKey → ℕ
 count_of t key = count_in t.counts key
 
 -- a count where one more stands, or one fewer: none where nothing is left
-abbrev pub stepped : Step → ℕ → Option ℕ
-stepped s.More n = Some (n + 1)
-stepped s.Less n = positive (n - 1)
+abbrev pub stepped : Delta → ℕ → Option ℕ
+stepped s.Plus n = Some (n + 1)
+stepped s.Minus n = positive (n - 1)
 
 -- the counts where one more stands at a key, or one fewer
-abbrev pub one_step : Step → Counts → CountKey → Counts
+abbrev pub one_step : Delta → Counts → CountKey → Counts
 one_step step counts key = set_at counts key (stepped step (count_in counts key))
 
 -- the counts where one more stands at each of these keys, or one fewer
-abbrev pub steps : Step → Counts → List CountKey → Counts
+abbrev pub steps : Delta → Counts → List CountKey → Counts
 steps step counts [] = counts
 steps step counts (key ∷ keys) = steps step (one_step step counts key) keys
 
@@ -87,13 +87,13 @@ without places (e ∷ es) = without (fin.remove places e) es
 -- tables in which one fact more is counted, and listed where it is open or lapsed
 abbrev pub one_more : TablesValue → Fact → TablesValue
 one_more t f = record {
-  counts = steps s.More t.counts (keys_of_fact f);
+  counts = steps s.Plus t.counts (keys_of_fact f);
   places = with_listed t.places (listings_of_fact f);
 }
 
 -- tables in which a fact is counted no more, and listed no more unless its place stays for a note
 abbrev pub one_less : TablesValue → Fact → Bool → TablesValue
 one_less t f stays = record {
-  counts = steps s.Less t.counts (keys_of_fact f);
+  counts = steps s.Minus t.counts (keys_of_fact f);
   places = cond stays t.places (without t.places (listings_of_fact f));
 }

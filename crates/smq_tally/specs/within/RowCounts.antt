@@ -5,8 +5,8 @@ use Rattle.std.specs.FinMap as fin
 use Rattle.std.specs.declared.cmp.Ordering.{Ordering}
 use Rattle.std.specs.Ordering.{nat_cmp, ordering_then}
 use Rattle.smq_kit.specs.Maps.{positive}
-use Rattle.smq_tally.specs.declared.counts.Step.{Step}
-use Rattle.smq_tally.specs.declared.counts.Step.TheVariants as s
+use Rattle.smq_tally.specs.declared.counts.Delta.{Delta}
+use Rattle.smq_tally.specs.declared.counts.Delta.TheVariants as s
 use Rattle.smq_tally.specs.declared.fact.CountKey.{CountKey}
 use Rattle.smq_tally.specs.declared.fact.RowKey.{RowKey}
 use Rattle.smq_tally.specs.declared.outcome.Outcome.{Outcome}
@@ -74,16 +74,16 @@ with_count_under c o.Lapsed n = record c { lapsed = n }
 with_count_under c o.Open n = record c { «open» = n }
 
 -- a count that is one more, or one fewer, within 64 bits
-abbrev pub stepped_within : Step → ℕ → ℕ
-stepped_within s.More n = min (n + 1) (2 ^ 64 - 1)
-stepped_within s.Less n = n - 1
+abbrev pub stepped_within : Delta → ℕ → ℕ
+stepped_within s.Plus n = min (n + 1) (2 ^ 64 - 1)
+stepped_within s.Minus n = n - 1
 
 -- the counts where one more has an outcome, or one fewer
-abbrev pub row_step : Step → OutcomeCounts → Outcome → OutcomeCounts
+abbrev pub row_step : Delta → OutcomeCounts → Outcome → OutcomeCounts
 row_step step c outcome = with_count_under c outcome (stepped_within step (count_under c outcome))
 
 -- the same where there may be no outcome
-abbrev pub row_step_if : Step → OutcomeCounts → Option Outcome → OutcomeCounts
+abbrev pub row_step_if : Delta → OutcomeCounts → Option Outcome → OutcomeCounts
 row_step_if step c None = c
 row_step_if step c (Some outcome) = row_step step c outcome
 
@@ -98,7 +98,7 @@ as_row None c = cond ((counts_eq.ghosts).eq c no_counts) None (Some c)
 
 -- what a change makes of a row, or of none
 abbrev pub row_after : RowChange → Option OutcomeCounts → Option OutcomeCounts
-row_after change before = as_row change.more (row_step_if s.More (row_step_if s.Less (counts_or_none before) change.less) change.more)
+row_after change before = as_row change.more (row_step_if s.Plus (row_step_if s.Minus (counts_or_none before) change.less) change.more)
 
 -- ---- rows by their keys
 

@@ -5,7 +5,7 @@ use crate::tests::scripts::Shown::*;
 use crate::tests::scripts::Step::*;
 use crate::tests::scripts::*;
 use crate::tests::shown::{first_session, octets_from_client};
-use smq_book::{Batch, Book, Content, KeptPdu, Settings};
+use smq_book::{Batch, Book, Content, Settings, StoredPdu};
 use smq_frame::Tail;
 use smq_kit::{Dir, Form, LinkId};
 use std::alloc::Global;
@@ -72,7 +72,7 @@ fn is_of_size(batch: &Batch) -> bool {
 /// The offset, moment, command_id, command_status and sequence_number of a PDU.
 type Header = (u64, u64, u32, u32, u32);
 
-fn has_header(pdu: &KeptPdu, wanted: Header) -> bool {
+fn has_header(pdu: &StoredPdu, wanted: Header) -> bool {
     let (offset, moment, command, status, seq) = wanted;
     pdu.offset == offset
         && pdu.moment.milliseconds() == moment
@@ -227,7 +227,7 @@ fn is_content(rt: &impl Abort, alloc: Global, sent: Sent, wanted: Read<'_>) -> b
     is_first_read(batch.pdus(), wanted)
 }
 
-fn is_first_read(pdus: &[KeptPdu], wanted: Read<'_>) -> bool {
+fn is_first_read(pdus: &[StoredPdu], wanted: Read<'_>) -> bool {
     match pdus.first() {
         Some(pdu) => gives(&pdu.content, wanted),
         None => false,
@@ -241,16 +241,16 @@ fn a_submit_and_its_response_are_kept(rt: &impl Abort, alloc: Global) {
     assert!(rt; has_first_response(session.centre.pdus()), "a response");
 }
 
-fn has_first_submit(pdus: &[KeptPdu]) -> bool {
+fn has_first_submit(pdus: &[StoredPdu]) -> bool {
     is_first_read(pdus, (Some(1), None, None, None)) && is_first(pdus, (0, 1000, 4, 0, 1))
 }
 
-fn has_first_response(pdus: &[KeptPdu]) -> bool {
+fn has_first_response(pdus: &[StoredPdu]) -> bool {
     is_first_read(pdus, (None, Some(b"1".as_slice()), None, None))
         && is_first(pdus, (0, 1200, 0x8000_0004, 0, 1))
 }
 
-fn is_first(pdus: &[KeptPdu], wanted: Header) -> bool {
+fn is_first(pdus: &[StoredPdu], wanted: Header) -> bool {
     match pdus.first() {
         Some(pdu) => has_header(pdu, wanted),
         None => false,

@@ -2,7 +2,7 @@
 use crate::tests::scripts::*;
 use crate::tests::writers::Expecting;
 use smq_book::Present;
-use smq_lines::{write_messages, write_receipts};
+use smq_report::{write_messages, write_receipts};
 use smq_scratch::{message_lines, receipt_lines};
 use std::alloc::{AllocError, Global};
 

@@ -1,6 +1,6 @@
-//! Edits of each kind, with each allocation refused in turn (gate/check-refused-calls): a refused edit leaves what is present, the
-//! tables, and what edits after it find, and the same edit is answered then as ever. An edit that is refused for what it is, and a clock that lapses nothing, want no
-//! memory.
+//! Edits of each kind, with each allocation refused in turn (gate/check-out-of-memory-in-calls): a refused edit leaves
+//! what is present, the tables, and what edits after it find, and the same edit is answered then as ever. An edit that
+//! is refused for what it is, and a clock that lapses nothing, want no memory.
 use crate::tests::rows::{MADE, ROWS, Row, is_told};
 use crate::tests::same::are_same;
 use crate::tests::scripts::Sent::*;

@@ -1,5 +1,5 @@
-//! Calls with each allocation or start of a thread refused in turn (gate/check-refused-calls): each says so, and the same call is
-//! answered then as ever.
+//! Calls with each allocation or start of a thread refused in turn (gate/check-out-of-memory-in-calls): each says so,
+//! and the same call is answered then as ever.
 use crate::tests::load::records::{EACH, is_read};
 use crate::tests::load::settings::{EXAMPLE, is_set};
 use crate::tests::readers::EVERYTHING;
@@ -166,11 +166,11 @@ fn is_decoded(tail: &Tail, batch: &Batch) -> bool {
 }
 
 /// Whether a PDU has this offset and command_id, the command_status 0 and the sequence number 1.
-fn is_headed(pdu: &KeptPdu, offset: u64, command: u32) -> bool {
+fn is_headed(pdu: &StoredPdu, offset: u64, command: u32) -> bool {
     pdu.offset == offset && pdu.command == command && pdu.status == 0 && pdu.seq == 1
 }
 
-fn is_response(pdu: &KeptPdu) -> bool {
+fn is_response(pdu: &StoredPdu) -> bool {
     is_headed(pdu, 0, 0x8000_0004)
         && match pdu.content.message_id() {
             Some(id) => id.as_slice() == b"1".as_slice(),
@@ -178,7 +178,7 @@ fn is_response(pdu: &KeptPdu) -> bool {
         }
 }
 
-fn is_receipt(pdu: &KeptPdu) -> bool {
+fn is_receipt(pdu: &StoredPdu) -> bool {
     is_headed(pdu, 18, 0x0000_0005)
         && match pdu.content.receipt() {
             Some(receipt) => {
@@ -263,7 +263,7 @@ fn report_table(alloc: Global, tables: &Tables) -> Came {
     written(write_table(alloc, tables, Pick::All, &mut writer), &writer)
 }
 
-fn count_anew<R: Threads + Sync>(rt: &R, alloc: Global, book: &Book) -> Came {
+fn count_from_nothing<R: Threads + Sync>(rt: &R, alloc: Global, book: &Book) -> Came {
     match audit(rt, alloc, book.present()) {
         Ok(tables) => right_if(tables == *book.tables()),
         Err(_) => Came::Memory,
@@ -285,7 +285,7 @@ fn make<R: Threads + Sync>(
         Asked::BadSettings => load_bad_settings(alloc),
         Asked::Csv => report_csv(alloc, first.tables()),
         Asked::Table => report_table(alloc, first.tables()),
-        Asked::Audit => count_anew(rt, alloc, other),
+        Asked::Audit => count_from_nothing(rt, alloc, other),
     }
 }
 

@@ -1,5 +1,5 @@
 //! Whether the same is present in two books.
-use smq_book::{Book, Direction, KeptPdu, Piece, Present, Session};
+use smq_book::{Book, Direction, Piece, Present, Session, StoredPdu};
 
 /// Whether two books have the same sessions and settings, and the same tables.
 pub(crate) fn are_same(one: &Book, other: &Book) -> bool {
@@ -39,7 +39,7 @@ fn are_same_pieces(one: &[Piece], other: &[Piece]) -> bool {
             && it.octets.as_slice() == its.octets.as_slice())
 }
 
-fn are_same_pdus(one: &[KeptPdu], other: &[KeptPdu]) -> bool {
+fn are_same_pdus(one: &[StoredPdu], other: &[StoredPdu]) -> bool {
     one.len() == other.len()
         && one.iter().zip(other.iter()).all(|(it, its)| it.offset == its.offset
             && it.moment == its.moment)

@@ -6,7 +6,7 @@ use bytes::Bytes;
 use smq_book::*;
 use smq_frame::Tail;
 use smq_kit::{Digits, Dir, Form, LinkId, Moment, Network, Refusal, RouteId, SessionId, Window};
-use smq_scratch::tables_anew;
+use smq_scratch::tables_from_nothing;
 use std::alloc::{AllocError, Global};
 use std::process::Abort;
 
@@ -383,7 +383,7 @@ pub(crate) fn boxed_book(alloc: Global) -> Option<Box<Book>> {
 
 /// Whether the tables of a book are those that are counted anew of what is present.
 pub(crate) fn is_current(rt: &impl Abort, alloc: Global, book: &Book) -> bool {
-    tables_anew(alloc, book.present()).expect(rt, "tables") == *book.tables()
+    tables_from_nothing(alloc, book.present()).expect(rt, "tables") == *book.tables()
 }
 
 /// The book that a script leaves, whose tables are current after each step.

@@ -45,7 +45,7 @@ fn add_responses(rt: &impl Abort, pairing: &mut Pairing, count: usize) {
 }
 
 /// The n-th response is that of the n-th request, however many there are of one number. Whichever allocation is
-/// refused (gate/check-refused-calls) the same pairs are made.
+/// refused (gate/check-out-of-memory-in-calls) the same pairs are made.
 #[test]
 fn many_of_one_number_are_paired_in_turn(rt: HostRuntime) {
     let mut pairing = Pairing::new(rt.alloc());

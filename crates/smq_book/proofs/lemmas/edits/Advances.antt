@@ -15,7 +15,7 @@ use Rattle.smq_tally.specs.declared.outcome.Outcome.TheVariants as o
 use Rattle.smq_present.specs.present.Settings.{SettingsValue, with_clock}
 use Rattle.smq_present.specs.pairing.Traffic.{TrafficValue, Message}
 use Rattle.smq_present.specs.join.Circumstances.{circumstances, window_of}
-use Rattle.smq_present.specs.join.Facts.{fact_by, facts_of, by_lapse, with_lapse}
+use Rattle.smq_present.specs.join.Facts.{fact_in_circumstances, facts_of, by_lapse, with_lapse}
 use Rattle.smq_book.specs.edits.Reached.{is_open, is_lapsed, outcome_in, due_by, lapsing}
 use Rattle.smq_book.proofs.lemmas.edits.Passing.{passing-at, passing-alike}
 use Rattle.smq_present.proofs.lemmas.join.MoveLemmas.{fact-at}
@@ -44,18 +44,18 @@ module _ (s : SettingsValue) (t : TrafficValue) (clock : ℕ) where
   module _ (forward : s.clock ≤ clock) where
     ended : (q : Place) (m : Message) → get t.messages q ≡ Some m → outcome_in s t m ≡ o.Lapsed → ends m ≡ true
     ended q m is e =
-        let made : get (facts_of s t) q ≡ Some (fact_by q m (circumstances s t m)) = fact-at s t q ∙ ap (option_map (λ m. fact_by q m (circumstances s t m))) is in
-        let past = past-end s t q m (fact_by q m (circumstances s t m)) is made e in
+        let made : get (facts_of s t) q ≡ Some (fact_in_circumstances q m (circumstances s t m)) = fact-at s t q ∙ ap (option_map (λ m. fact_in_circumstances q m (circumstances s t m))) is in
+        let past = past-end s t q m (fact_in_circumstances q m (circumstances s t m)) is made e in
         grind (arith, nat_tests)
 
     fact-stays : (q : Place) (m : Message) → get t.messages q ≡ Some m → (is_open (outcome_in s t m) && ends m) ≡ false
-        → with_lapse (ends m) (fact_by q m (circumstances s t m)) ≡ fact_by q m (circumstances s t m)
-    fact-stays q m is out = λ i. record (fact_by q m (circumstances s t m)) {
+        → with_lapse (ends m) (fact_in_circumstances q m (circumstances s t m)) ≡ fact_in_circumstances q m (circumstances s t m)
+    fact-stays q m is out = λ i. record (fact_in_circumstances q m (circumstances s t m)) {
       outcome = stays (ends m) (outcome_in s t m) (λ h. and_false (is_open (outcome_in s t m)) (ends m) out h) (λ e. ended q m is e) i;
     }
 
     stays-at : (q : Place) (m : Option Message) → get t.messages q ≡ m → list_any (eq_by_cmp place_cmp q) (keys (due_by s t clock)) ≡ false
-        → option_map (λ m. fact_by q m (circumstances s t m)) m ≡ option_map (λ m. with_lapse (ends m) (fact_by q m (circumstances s t m))) m
+        → option_map (λ m. fact_in_circumstances q m (circumstances s t m)) m ≡ option_map (λ m. with_lapse (ends m) (fact_in_circumstances q m (circumstances s t m))) m
     stays-at q None is out = refl
     stays-at q (Some m) is out =
         ap Some (sym (fact-stays q m is (sym (passing-at (λ place m. is_open (outcome_in s t m) && ends m) t.messages q m is) ∙ out)))

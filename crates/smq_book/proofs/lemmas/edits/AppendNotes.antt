@@ -22,7 +22,7 @@ use Rattle.smq_tally.specs.Lists.{listed_cmp}
 use Rattle.smq_tally.specs.within.ListOrder.{listed_total}
 use Rattle.smq_tally.proofs.ListOrders.{listed_exact}
 use Rattle.smq_tally.proofs.Listings.{marked}
-use Rattle.smq_present.specs.declared.present.kept.KeptPdu.{KeptPdu}
+use Rattle.smq_present.specs.declared.present.kept.StoredPdu.{StoredPdu}
 use Rattle.smq_present.specs.declared.present.session.Session.{Session}
 use Rattle.smq_present.specs.present.Batch.{BatchValue, batch_pdus, next_tail}
 use Rattle.smq_present.specs.present.Kept.{kept_pdus}
@@ -60,7 +60,7 @@ any-broken origin e client centre =
     any-of-list e.list list.Broken e.place (broken origin client centre)
     ∙ ap (λ b. same_list e.list list.Broken && b) (list_any-append (eq_by_cmp place_cmp e.place) (break origin FromClient client.broken) (break origin FromCentre centre.broken))
 
-abbrev any_noted : Origin → Listed → List KeptPdu → List KeptPdu → TailValue → TailValue → Bool
+abbrev any_noted : Origin → Listed → List StoredPdu → List StoredPdu → TailValue → TailValue → Bool
 any_noted origin e client centre client_tail centre_tail = list_any (eq_by_cmp listed_cmp e) (notes_among origin client centre) || any_broken origin e client_tail centre_tail
 
 any-noted : (origin : Origin) (e : Listed) (client centre : List Octet) → list_any (eq_by_cmp listed_cmp e) (notes_among origin (kept_pdus client) (kept_pdus centre) ++ broken_notes origin (tail_of (values client)) (tail_of (values centre)))

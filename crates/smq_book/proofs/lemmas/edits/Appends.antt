@@ -23,7 +23,7 @@ use Rattle.smq_frame.specs.Stream.{values, handed_in, frames_after}
 use Rattle.smq_frame.specs.Tail.{tail_of}
 use Rattle.smq_pdu.specs.declared.body.Submit.{Submit}
 use Rattle.smq_receipt.specs.declared.reading.Receipt.{Receipt}
-use Rattle.smq_present.specs.declared.present.kept.KeptPdu.{KeptPdu}
+use Rattle.smq_present.specs.declared.present.kept.StoredPdu.{StoredPdu}
 use Rattle.smq_present.specs.declared.present.session.Session.{Session}
 use Rattle.smq_present.specs.present.Batch.{BatchValue, batch_pdus}
 use Rattle.smq_present.specs.present.Kept.{kept_pdus, submit_in, receipt_in}
@@ -83,23 +83,23 @@ module _ {X : Type 0} where
 
 -- ---- offsets of PDUs, one direction
 
-pub rises-front : (low : ℕ) (xs ys : List KeptPdu) → Rises low (xs ++ ys) → Rises low xs
+pub rises-front : (low : ℕ) (xs ys : List StoredPdu) → Rises low (xs ++ ys) → Rises low xs
 rises-front low [] ys h = tt
 rises-front low (x ∷ xs) ys h = (h.0, rises-front (x.offset + 1) xs ys h.1)
 
 -- ---- a PDU of the centre more, message by message
 
-module _ (origin : Origin) (client centre : List KeptPdu) (next : KeptPdu) where
-  abbrev later : List KeptPdu
+module _ (origin : Origin) (client centre : List StoredPdu) (next : StoredPdu) where
+  abbrev later : List StoredPdu
   later = centre ++ next ∷ []
 
-  abbrev says : List KeptPdu → List KeptPdu × KeptPdu → List (Place × Message)
+  abbrev says : List StoredPdu → List StoredPdu × StoredPdu → List (Place × Message)
   says other e = option_to_list (message_at origin other e.0 e.1)
 
-  abbrev answers : List KeptPdu × KeptPdu → List (Place × Message)
+  abbrev answers : List StoredPdu × StoredPdu → List (Place × Message)
   answers e = cond (is_next_response centre next e.0 e.1) (says later e) []
 
-  passes : (submit : Option Submit) (p : KeptPdu) (response other : Option KeptPdu) (rest : List (Place × Message)) (q : Place)
+  passes : (submit : Option Submit) (p : StoredPdu) (response other : Option StoredPdu) (rest : List (Place × Message)) (q : Place)
       → list_any (eq_by_cmp place_cmp q) (map (λ (e : Place × Message). e.0) (option_to_list (option_map (λ (submit : Submit). (place_of origin FromClient p, message_of origin p submit response)) submit))) ≡ false
       → find place_cmp q (option_to_list (option_map (λ (submit : Submit). (place_of origin FromClient p, message_of origin p submit other)) submit) ++ rest) ≡ find place_cmp q rest
   passes None p response other rest q h = refl
@@ -109,7 +109,7 @@ module _ (origin : Origin) (client centre : List KeptPdu) (next : KeptPdu) where
   any-both q xs ys = ap (list_any (eq_by_cmp place_cmp q)) (map-append (λ (e : Place × Message). e.0) xs ys) ∙ list_any-append (eq_by_cmp place_cmp q) (map (λ e. e.0) xs) (map (λ e. e.0) ys)
 
   -- outside of the messages that it answers, messages stay
-  few-answered : (q : Place) (es : List (List KeptPdu × KeptPdu)) → list_any (eq_by_cmp place_cmp q) (map (λ e. e.0) (flat_map answers es)) ≡ false
+  few-answered : (q : Place) (es : List (List StoredPdu × StoredPdu)) → list_any (eq_by_cmp place_cmp q) (map (λ e. e.0) (flat_map answers es)) ≡ false
       → find place_cmp q (flat_map (says centre) es) ≡ find place_cmp q (flat_map (says later) es)
   few-answered q [] h = refl
   few-answered q (e ∷ es) h =
@@ -124,7 +124,7 @@ module _ (origin : Origin) (client centre : List KeptPdu) (next : KeptPdu) where
             ∙ sym (passes (submit_in e.1.content) e.1 (response_to later e.0 e.1) (response_to later e.0 e.1) (flat_map (says later) es) q apart)
         | false ↦ λ t out.
             front origin client centre next q (says centre e) (flat_map (says centre) es) (flat_map (says later) es) (few-answered q es out)
-            ∙ ap (λ (response : Option KeptPdu). find place_cmp q (option_to_list (option_map (λ (submit : Submit). (place_of origin FromClient e.1, message_of origin e.1 submit response)) (submit_in e.1.content)) ++ flat_map (says later) es))
+            ∙ ap (λ (response : Option StoredPdu). find place_cmp q (option_to_list (option_map (λ (submit : Submit). (place_of origin FromClient e.1, message_of origin e.1 submit response)) (submit_in e.1.content)) ++ flat_map (says later) es))
             (sym (response-stays origin client centre next e.0 e.1 t))
       ] refl (sym (any-both q (answers e) (flat_map answers es)) ∙ h)
 
@@ -141,7 +141,7 @@ module _ (origin : Origin) (client centre : List KeptPdu) (next : KeptPdu) where
     all-both [] ys h k = k
     all-both (x ∷ xs) ys h k = (h.0, all-both xs ys h.1 k)
 
-    answered-all : (es : List (List KeptPdu × KeptPdu)) → AllByRecursion P (flat_map (says later) es) → AllByRecursion P (flat_map answers es)
+    answered-all : (es : List (List StoredPdu × StoredPdu)) → AllByRecursion P (flat_map (says later) es) → AllByRecursion P (flat_map answers es)
     answered-all [] h = tt
     answered-all (e ∷ es) h =
         all-both (answers e) (flat_map answers es)
@@ -198,18 +198,18 @@ module _ (origin : Origin) (client centre : List KeptPdu) (next : KeptPdu) where
 
 -- Messages and receipts are those of these PDUs at the places of their session, and elsewhere as they were; the notes are
 -- as they were.
-pub record HasPdus (was : TrafficValue) (origin : Origin) (client centre : List KeptPdu) (t : TrafficValue) : Type 0 where
+pub record HasPdus (was : TrafficValue) (origin : Origin) (client centre : List StoredPdu) (t : TrafficValue) : Type 0 where
   pub messages : HasAt origin.session.0 was.messages (messages_among origin client centre) t.messages
   pub receipts : HasAt origin.session.0 was.receipts (receipts_among origin centre) t.receipts
   pub notes : t.notes ≡ was.notes
 
-message-own : (origin : Origin) (submit : Option Submit) (p : KeptPdu) (response : Option KeptPdu) (x : Place × Message)
+message-own : (origin : Origin) (submit : Option Submit) (p : StoredPdu) (response : Option StoredPdu) (x : Place × Message)
     → option_map (λ (submit : Submit). (place_of origin FromClient p, message_of origin p submit response)) submit ≡ Some x → x.0.session.0 ≡ origin.session.0
 message-own origin None p response x e = absurd cc
 message-own origin (Some submit) p response x e = let one : (place_of origin FromClient p, message_of origin p submit response) ≡ x = cc in ap (λ (x : Place × Message). x.0.session.0) (sym one)
 
 module _ (was : TrafficValue) (origin : Origin) where
-  pub client-step : (client centre : List KeptPdu) (next : KeptPdu) (t : TrafficValue) → Rises 0 (client ++ next ∷ []) → HasPdus was origin client centre t
+  pub client-step : (client centre : List StoredPdu) (next : StoredPdu) (t : TrafficValue) → Rises 0 (client ++ next ∷ []) → HasPdus was origin client centre t
       → HasPdus was origin (client ++ next ∷ []) centre (moved_by t (client_moves origin client centre next))
   client-step client centre next t rises has =
       let grown = client-push origin client centre next in
@@ -223,19 +223,19 @@ module _ (was : TrafficValue) (origin : Origin) where
         notes = has.notes;
       })
 
-  pub receipts-push : (centre : List KeptPdu) (next : KeptPdu) → receipts_among origin (centre ++ next ∷ []) ≡ receipts_among origin centre ++ option_to_list (receipt_at origin next)
+  pub receipts-push : (centre : List StoredPdu) (next : StoredPdu) → receipts_among origin (centre ++ next ∷ []) ≡ receipts_among origin centre ++ option_to_list (receipt_at origin next)
   receipts-push centre next =
       flat_map-append (λ p. option_to_list (receipt_at origin p)) centre (next ∷ [])
       ∙ ap (λ (es : List (Place × ReceivedReceipt)). receipts_among origin centre ++ es) (append-nil (option_to_list (receipt_at origin next)))
 
-  receipt-own : (next : KeptPdu) (x : Place × ReceivedReceipt) → receipt_at origin next ≡ Some x → x.0.session.0 ≡ origin.session.0
+  receipt-own : (next : StoredPdu) (x : Place × ReceivedReceipt) → receipt_at origin next ≡ Some x → x.0.session.0 ≡ origin.session.0
   receipt-own next x e = by (receipt_in next.content) e
     where
       by : (r : Option Receipt) → option_map (λ (r : Receipt). (place_of origin FromCentre next, received origin next r)) r ≡ Some x → x.0.session.0 ≡ origin.session.0
       by None e = absurd cc
       by (Some r) e = let one : (place_of origin FromCentre next, received origin next r) ≡ x = cc in ap (λ (x : Place × ReceivedReceipt). x.0.session.0) (sym one)
 
-  pub centre-step : (client centre : List KeptPdu) (next : KeptPdu) (t : TrafficValue) → Rises 0 client → Rises 0 (centre ++ next ∷ []) → HasPdus was origin client centre t
+  pub centre-step : (client centre : List StoredPdu) (next : StoredPdu) (t : TrafficValue) → Rises 0 client → Rises 0 (centre ++ next ∷ []) → HasPdus was origin client centre t
       → HasPdus was origin client (centre ++ next ∷ []) (moved_by t (centre_moves origin client centre next))
   centre-step client centre next t rises centre_rises has =
       let grown = receipts-push centre next in
@@ -255,7 +255,7 @@ module _ (was : TrafficValue) (origin : Origin) where
         notes = has.notes;
       })
 
-  client-steps : (client centre later : List KeptPdu) (t : TrafficValue) → Rises 0 (client ++ later) → HasPdus was origin client centre t
+  client-steps : (client centre later : List StoredPdu) (t : TrafficValue) → Rises 0 (client ++ later) → HasPdus was origin client centre t
       → HasPdus was origin (client ++ later) centre (moved_by t (push_moves origin FromClient client centre later))
   client-steps client centre [] t rises has = subst (λ ps. HasPdus was origin ps centre t) (sym (append-nil client)) has
   client-steps client centre (next ∷ later) t rises has =
@@ -266,7 +266,7 @@ module _ (was : TrafficValue) (origin : Origin) where
       (subst (λ ps. HasPdus was origin ps centre (moved_by (moved_by t (client_moves origin client centre next)) (push_moves origin FromClient (client ++ next ∷ []) centre later))) longer
       (client-steps (client ++ next ∷ []) centre later (moved_by t (client_moves origin client centre next)) all step))
 
-  centre-steps : (client centre later : List KeptPdu) (t : TrafficValue) → Rises 0 client → Rises 0 (centre ++ later) → HasPdus was origin client centre t
+  centre-steps : (client centre later : List StoredPdu) (t : TrafficValue) → Rises 0 client → Rises 0 (centre ++ later) → HasPdus was origin client centre t
       → HasPdus was origin client (centre ++ later) (moved_by t (push_moves origin FromCentre client centre later))
   centre-steps client centre [] t client_rises rises has = subst (λ ps. HasPdus was origin client ps t) (sym (append-nil centre)) has
   centre-steps client centre (next ∷ later) t client_rises rises has =

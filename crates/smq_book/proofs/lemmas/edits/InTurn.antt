@@ -48,14 +48,14 @@ module _ (s : SettingsValue) where
       then (moved_place move ++ changes_of (grouping_of s t) (grouping_of s (moved t move))) (facts_changed s (moved t move) ms) (facts_of s t) (facts_of s (moved t move)) (facts_of s (moved_by (moved t move) ms))
       (fact-move t move free.0) (facts-in-turn (moved t move) ms free.1)
 
-  by-standings : (t u : TrafficValue) → t.notes ≡ u.notes → SameOutside (receipt_listings (receipt_changes_of (grouping_of s t) (grouping_of s u))) (notes_of s t) (notes_of s u)
-  by-standings t u same = notes-outside s s t u (receipt_changes_of (grouping_of s t) (grouping_of s u)) same (receipt-changes-cover (grouping_of s t) (grouping_of s u))
+  by-groups : (t u : TrafficValue) → t.notes ≡ u.notes → SameOutside (receipt_listings (receipt_changes_of (grouping_of s t) (grouping_of s u))) (notes_of s t) (notes_of s u)
+  by-groups t u same = notes-outside s s t u (receipt_changes_of (grouping_of s t) (grouping_of s u)) same (receipt-changes-cover (grouping_of s t) (grouping_of s u))
 
   note-move : (t : TrafficValue) (move : Move) → SameOutside (moved_note move ++ receipt_listings (receipt_changes_of (grouping_of s t) (grouping_of s (moved t move)))) (notes_of s t) (notes_of s (moved t move))
-  note-move t (PutMessage e) = by-standings t (put_message e.0 e.1 t) refl
-  note-move t (TakeMessage q) = by-standings t (take_message q t) refl
-  note-move t (PutReceipt e) = by-standings t (put_receipt e.0 e.1 t) refl
-  note-move t (TakeReceipt q) = by-standings t (take_receipt q t) refl
+  note-move t (PutMessage e) = by-groups t (put_message e.0 e.1 t) refl
+  note-move t (TakeMessage q) = by-groups t (take_message q t) refl
+  note-move t (PutReceipt e) = by-groups t (put_receipt e.0 e.1 t) refl
+  note-move t (TakeReceipt q) = by-groups t (take_receipt q t) refl
   note-move t (PutNote note) = wider (note ∷ []) _ (notes_of s t) (notes_of s (moved t (PutNote note))) (put-outside s t note)
   note-move t (TakeNote note) = wider (note ∷ []) _ (notes_of s t) (notes_of s (moved t (TakeNote note))) (take-outside s t note)
 

@@ -122,8 +122,8 @@ module _ (key : LinkKey) (q : Place) (g h : Grouping) (move : IsMoveOf key q g h
   receipt-by p None is out = refl
   receipt-by p (Some r) is out = ap Some (receipt-stays p r (another r.key (sym (passing-at (λ place (r : GroupedReceipt). same_key key r.key) g.receipts p r is) ∙ out)))
 
-  pub standings-outside : SameOutside (q ∷ keys (key_submits g key)) (standings_of g) (standings_of h)
-  standings-outside = record {
+  pub groups-outside : SameOutside (q ∷ keys (key_submits g key)) (standings_of g) (standings_of h)
+  groups-outside = record {
     at = λ p out.
         maps.get-chosen places_total places_exact (λ place k. Some (submit_standing g k)) g.submits p
         ∙ submit-by p (get g.submits p) refl (or_second (eq_by_cmp place_cmp p q) _ out)
@@ -131,8 +131,8 @@ module _ (key : LinkKey) (q : Place) (g h : Grouping) (move : IsMoveOf key q g h
         ∙ sym (maps.get-chosen places_total places_exact (λ place k. Some (submit_standing h k)) h.submits p);
   }
 
-  pub receipt-standings-outside : SameOutside (q ∷ keys (key_receipts g key)) (receipt_standings_of g) (receipt_standings_of h)
-  receipt-standings-outside = record {
+  pub receipt-groups-outside : SameOutside (q ∷ keys (key_receipts g key)) (receipt_standings_of g) (receipt_standings_of h)
+  receipt-groups-outside = record {
     at = λ p out.
         maps.get-chosen places_total places_exact (λ place r. Some (receipt_standing g place r)) g.receipts p
         ∙ receipt-by p (get g.receipts p) refl (or_second (eq_by_cmp place_cmp p q) _ out)
@@ -181,9 +181,9 @@ module _ (s : SettingsValue) (q : Place) (t u : TrafficValue) (key : LinkKey) (m
     -- facts change at the place and at those of the messages that are accepted with the key
     pub key-facts : SameOutside (q ∷ keys (key_submits g key)) (facts_of s t) (facts_of s u)
     key-facts = record {
-      at = λ p out. (moves q t u move s (q ∷ keys (key_submits g key)) (standings-outside key q g (grouping_of s u) move-of)).at p (once q p (keys (key_submits g key)) out);
+      at = λ p out. (moves q t u move s (q ∷ keys (key_submits g key)) (groups-outside key q g (grouping_of s u) move-of)).at p (once q p (keys (key_submits g key)) out);
     }
 
     -- notes change at the place and at those of the key's receipts
     pub key-notes : t.notes ≡ u.notes → SameOutside (receipt_listings (q ∷ keys (key_receipts g key))) (notes_of s t) (notes_of s u)
-    key-notes same = notes-outside s s t u (q ∷ keys (key_receipts g key)) same (receipt-standings-outside key q g (grouping_of s u) move-of)
+    key-notes same = notes-outside s s t u (q ∷ keys (key_receipts g key)) same (receipt-groups-outside key q g (grouping_of s u) move-of)

@@ -20,7 +20,7 @@ use Rattle.smq_tally.specs.declared.list.List.TheVariants as l
 use Rattle.smq_tally.specs.Lists.{listed}
 use Rattle.smq_present.specs.present.Content.{Content}
 use Rattle.smq_present.specs.present.Content as c
-use Rattle.smq_present.specs.declared.present.kept.KeptPdu.{KeptPdu}
+use Rattle.smq_present.specs.declared.present.kept.StoredPdu.{StoredPdu}
 use Rattle.smq_book.specs.known.Appended.{first_batch, other_response, answered_session, unread_octets}
 use Rattle.smq_present.specs.known.Pairing.{place_at, known_origin, submit_octets, response_octets}
 use Rattle.smq_present.specs.known.Present.{waiting}
@@ -32,13 +32,13 @@ use Rattle.smq_book.specs.edits.AppendedNotes.{note_moves, broken_moves, append_
 use Rattle.smq_book.proofs.lemmas.edits.KnownReach.{client-is}
 use Rattle.smq_present.proofs.lemmas.present.Growth.{kept_pdus-nil}
 
-abbrev pdu : ℕ → ℕ → ℕ → ℕ → Content → KeptPdu
+abbrev pdu : ℕ → ℕ → ℕ → ℕ → Content → StoredPdu
 pdu offset moment command seq content =
     record { offset = offset; moment = moment; command = command; status = 0; seq = seq; content = content }
 
 -- ---- the PDUs of the batches
 
-abbrev asking : List KeptPdu
+abbrev asking : List StoredPdu
 asking = pdu 0 1200 4 1 (c.Submit (record { registered_delivery = 1; number = Some (codes "447700900123") })) ∷ []
 
 asking-pdus : batch_pdus (first_batch FromClient (submit_octets 1 (codes "447700900123"))) ≡ asking
@@ -46,7 +46,7 @@ unfolding stated_length frames_of frames_within stamped word_at body_of submit_o
     c_octet_at octets_at number_at tlv_at tlvs_within tlvs_of frames_after stream.placed
 asking-pdus = refl
 
-abbrev answering : ℕ → List KeptPdu
+abbrev answering : ℕ → List StoredPdu
 answering seq = pdu 0 1200 0x8000_0004 seq (c.SubmitAnswer (Some (codes "1"))) ∷ []
 
 first-pdus : batch_pdus (first_batch FromCentre (response_octets 1 (codes "1"))) ≡ answering 1
@@ -59,7 +59,7 @@ unfolding stated_length frames_of frames_within stamped word_at body_of submit_o
     c_octet_at octets_at number_at tlv_at tlvs_within tlvs_of frames_after stream.placed
 second-pdus = refl
 
-abbrev disagreeing : ℕ → List KeptPdu
+abbrev disagreeing : ℕ → List StoredPdu
 disagreeing moment = pdu 0 moment 0x8000_0015 1 c.Other ∷ []
 
 other-pdus : batch_pdus (first_batch FromCentre other_response) ≡ disagreeing 1200
@@ -72,7 +72,7 @@ unfolding stated_length frames_of frames_within stamped word_at body_of submit_o
     c_octet_at octets_at number_at tlv_at tlvs_within tlvs_of
 answered-pdus = refl
 
-abbrev unread_pdus : List KeptPdu
+abbrev unread_pdus : List StoredPdu
 unread_pdus = pdu 0 1200 5 90 (c.Deliver v.NoId) ∷ pdu 45 1200 5 92 c.Undecodable ∷ []
 
 unread-pdus : batch_pdus (first_batch FromCentre unread_octets) ≡ unread_pdus

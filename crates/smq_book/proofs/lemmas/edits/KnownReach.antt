@@ -39,7 +39,7 @@ use Rattle.smq_receipt.specs.Readings.{error_of, id_of as receipt_id_of, reading
 use Rattle.smq_receipt.specs.States.{state_of_number, state_of_word}
 use Rattle.smq_receipt.specs.Texts.{header_of, labels_at, same_letters, stands_at, value_at, value_of}
 use Rattle.smq_present.specs.present.Content as c
-use Rattle.smq_present.specs.declared.present.kept.KeptPdu.{KeptPdu}
+use Rattle.smq_present.specs.declared.present.kept.StoredPdu.{StoredPdu}
 use Rattle.smq_present.specs.declared.present.session.Session.{Session}
 use Rattle.smq_present.specs.known.Pairing.{delivered, place_at, known_origin, submit_octets, response_octets}
 use Rattle.smq_present.specs.known.Present.{waiting}
@@ -66,10 +66,10 @@ use Rattle.smq_present.proofs.lemmas.present.Growth.{kept_pdus-nil}
 
 -- ---- the PDUs
 
-abbrev known_client : List KeptPdu
+abbrev known_client : List StoredPdu
 known_client = record { offset = 0; moment = 1000; command = 4; status = 0; seq = 1; content = c.Submit (record { registered_delivery = 1; number = Some (codes "447700900123") }) } ∷ []
 
-abbrev known_centre : List KeptPdu
+abbrev known_centre : List StoredPdu
 known_centre = record { offset = 0; moment = 1200; command = 0x8000_0004; status = 0; seq = 1; content = c.SubmitAnswer (Some (codes "1")) } ∷ []
 
 pub client-is : kept_pdus submitted_session.client ≡ known_client
@@ -155,7 +155,7 @@ unset link = ap (λ (o : Option Forms). unwrap_or o opening_forms) (get-empty na
 
 -- ---- a book of one session whose PDUs are these
 
-module _ (s : Session) (client centre : List KeptPdu) (of_client : kept_pdus s.client ≡ client) (of_centre : kept_pdus s.centre ≡ centre) (link : s.link ≡ record { 0 = 1 }) where
+module _ (s : Session) (client centre : List StoredPdu) (of_client : kept_pdus s.client ≡ client) (of_centre : kept_pdus s.centre ≡ centre) (link : s.link ≡ record { 0 = 1 }) where
   abbrev p : PresentValue
   p = record present.empty { sessions = insert empty 10 s }
 
@@ -371,7 +371,7 @@ of-no-link = links-are accepted_session known_client known_centre client-is cent
 
 -- ---- a book of two sessions, with three of one key
 
-abbrev decided_centre : List KeptPdu
+abbrev decided_centre : List StoredPdu
 decided_centre = delivered 0 1300 ∷ record (delivered 50 1300) { seq = 91 } ∷ []
 
 abbrev others : Origin

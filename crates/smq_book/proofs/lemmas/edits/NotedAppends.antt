@@ -24,7 +24,7 @@ use Rattle.smq_tally.specs.Lists.{listed, listed_cmp}
 use Rattle.smq_tally.specs.within.ListOrder.{listed_total}
 use Rattle.smq_tally.proofs.ListOrders.{listed_exact}
 use Rattle.smq_tally.proofs.Listings.{marked}
-use Rattle.smq_present.specs.declared.present.kept.KeptPdu.{KeptPdu}
+use Rattle.smq_present.specs.declared.present.kept.StoredPdu.{StoredPdu}
 use Rattle.smq_present.specs.declared.present.session.Session.{Session}
 use Rattle.smq_present.specs.present.Batch.{BatchValue, batch_pdus, next_tail}
 use Rattle.smq_present.specs.present.Kept.{kept_pdus}
@@ -126,13 +126,13 @@ module _ (origin : Origin) (q : Place) where
       ∙ sym (list_any-append (eq_by_cmp place_cmp q) (break origin FromClient q client.broken) (break origin FromCentre q old.broken)))
 
 -- what a note is of a session whose PDUs are these follows from the places at which its directions are broken
-abbrev lists_with : Origin → List KeptPdu → List KeptPdu → Listed → Bool → Bool
+abbrev lists_with : Origin → List StoredPdu → List StoredPdu → Listed → Bool → Bool
 lists_with origin client centre e b =
     in_lists e.list (is_among e.place (waiting (pairing_among origin client centre))) (is_among e.place (strays (pairing_among origin client centre)))
     (is_among e.place (mismatched (pairing_among origin client centre))) (is_among e.place (unreadable origin centre))
     (is_among e.place (undecodable origin client centre)) b
 
-breaks-noted : (origin : Origin) (dir : Dir) (client centre : List KeptPdu) (e : Listed) (b new : Bool) (tail : TailValue)
+breaks-noted : (origin : Origin) (dir : Dir) (client centre : List StoredPdu) (e : Listed) (b new : Bool) (tail : TailValue)
     → new ≡ mark_by (listed list.Broken e.place) b (broken_moves origin dir tail)
     → lists_with origin client centre e new ≡ mark_by e (lists_with origin client centre e b) (broken_moves origin dir tail)
 breaks-noted origin dir client centre e b new tail h =

@@ -15,7 +15,7 @@ use Rattle.smq_tally.specs.declared.list.List.TheVariants as list
 use Rattle.smq_tally.specs.declared.list.Listed.{Listed}
 use Rattle.smq_tally.specs.Lists.{listed}
 use Rattle.smq_present.specs.present.Content.{Content}
-use Rattle.smq_present.specs.declared.present.kept.KeptPdu.{KeptPdu}
+use Rattle.smq_present.specs.declared.present.kept.StoredPdu.{StoredPdu}
 use Rattle.smq_present.specs.present.Kept.{is_undecodable, is_unreadable}
 use Rattle.smq_present.specs.pairing.Traffic.{Origin, place_of, placed, pairing_among, places_where, mismatched, unreadable, undecodable}
 use Rattle.smq_present.specs.within.Pairs.{Rises}
@@ -29,7 +29,7 @@ use Rattle.smq_present.specs.join.Listings.{same_list}
 
 -- ---- a PDU more of those whose content passes a test
 
-module _ (test : Content → Bool) (origin : Origin) (dir : Dir) (next : KeptPdu) (q : Place) where
+module _ (test : Content → Bool) (origin : Origin) (dir : Dir) (next : StoredPdu) (q : Place) where
   one_more : (a t o r : Bool) → (a || cond t (cond o true r) r) ≡ cond t (cond o true (a || r)) (a || r)
   one_more true true true r = refl
   one_more true true false r = refl
@@ -40,7 +40,7 @@ module _ (test : Content → Bool) (origin : Origin) (dir : Dir) (next : KeptPdu
   first_one true = refl
   first_one false = refl
 
-  where-push : (pdus : List KeptPdu) → is_among q (places_where test origin dir (pdus ++ next ∷ []))
+  where-push : (pdus : List StoredPdu) → is_among q (places_where test origin dir (pdus ++ next ∷ []))
       ≡ cond (test next.content) (cond (eq_by_cmp place_cmp q (place_of origin dir next)) true (is_among q (places_where test origin dir pdus)))
       (is_among q (places_where test origin dir pdus))
   where-push [] =
@@ -50,8 +50,8 @@ module _ (test : Content → Bool) (origin : Origin) (dir : Dir) (next : KeptPdu
         | false ↦ refl
       ]
   where-push (p ∷ pdus) =
-      let rest : List KeptPdu = filter (λ (p : KeptPdu). test p.content) pdus in
-      let more : List KeptPdu = filter (λ (p : KeptPdu). test p.content) (pdus ++ next ∷ []) in
+      let rest : List StoredPdu = filter (λ (p : StoredPdu). test p.content) pdus in
+      let more : List StoredPdu = filter (λ (p : StoredPdu). test p.content) (pdus ++ next ∷ []) in
       elim (test p.content) as (λ b. is_among q (map (place_of origin dir) (cond b (p ∷ more) more))
       ≡ cond (test next.content) (cond (eq_by_cmp place_cmp q (place_of origin dir next)) true
       (is_among q (map (place_of origin dir) (cond b (p ∷ rest) rest)))) (is_among q (map (place_of origin dir) (cond b (p ∷ rest) rest)))) [
@@ -64,12 +64,12 @@ module _ (test : Content → Bool) (origin : Origin) (dir : Dir) (next : KeptPdu
 
 -- ---- lists of contents
 
-module _ (origin : Origin) (next : KeptPdu) (q : Place) where
+module _ (origin : Origin) (next : StoredPdu) (q : Place) where
   or_true : (b : Bool) → (b || true) ≡ true
   or_true true = refl
   or_true false = refl
 
-  client-undecodable : (client centre : List KeptPdu) → is_among q (undecodable origin (client ++ next ∷ []) centre)
+  client-undecodable : (client centre : List StoredPdu) → is_among q (undecodable origin (client ++ next ∷ []) centre)
       ≡ mark_by (listed list.Undecodable q) (is_among q (undecodable origin client centre)) (undecodable_moves origin FromClient next)
   client-undecodable client centre =
       let c = is_among q (places_where is_undecodable origin FromClient client) in
@@ -87,7 +87,7 @@ module _ (origin : Origin) (next : KeptPdu) (q : Place) where
       (sym (list_any-append (eq_by_cmp place_cmp q) (places_where is_undecodable origin FromClient client)
       (places_where is_undecodable origin FromCentre centre)))
 
-  centre-undecodable : (client centre : List KeptPdu) → is_among q (undecodable origin client (centre ++ next ∷ []))
+  centre-undecodable : (client centre : List StoredPdu) → is_among q (undecodable origin client (centre ++ next ∷ []))
       ≡ mark_by (listed list.Undecodable q) (is_among q (undecodable origin client centre)) (undecodable_moves origin FromCentre next)
   centre-undecodable client centre =
       let c = is_among q (places_where is_undecodable origin FromClient client) in
@@ -105,7 +105,7 @@ module _ (origin : Origin) (next : KeptPdu) (q : Place) where
       (sym (list_any-append (eq_by_cmp place_cmp q) (places_where is_undecodable origin FromClient client)
       (places_where is_undecodable origin FromCentre centre)))
 
-  centre-unreadable : (centre : List KeptPdu) → is_among q (unreadable origin (centre ++ next ∷ []))
+  centre-unreadable : (centre : List StoredPdu) → is_among q (unreadable origin (centre ++ next ∷ []))
       ≡ mark_by (listed list.Unreadable q) (is_among q (unreadable origin centre)) (unreadable_moves origin FromCentre next)
   centre-unreadable centre =
       let u = is_among q (unreadable origin centre) in
@@ -141,7 +141,7 @@ three : (e : Listed) (xs ys zs : List Move) (b x y z : Bool) → x ≡ mark_by e
 three e xs ys zs b x y z h k l =
     l ∙ ap (λ b. mark_by e b zs) (k ∙ ap (λ b. mark_by e b ys) h ∙ sym (mark-both e b xs ys)) ∙ sym (mark-both e b (xs ++ ys) zs)
 
-module _ (origin : Origin) (dir : Dir) (v : PairingValue) (next : KeptPdu) (o : AreInOrder v) (n : IsNext v (place_of origin dir next)) (q : Place)
+module _ (origin : Origin) (dir : Dir) (v : PairingValue) (next : StoredPdu) (o : AreInOrder v) (n : IsNext v (place_of origin dir next)) (q : Place)
     (u new_u d new_d broken : Bool)
     (read : new_u ≡ mark_by (listed list.Unreadable q) u (unreadable_moves origin dir next))
     (decoded : new_d ≡ mark_by (listed list.Undecodable q) d (undecodable_moves origin dir next)) where
@@ -179,7 +179,7 @@ module _ (origin : Origin) (dir : Dir) (v : PairingValue) (next : KeptPdu) (o : 
 -- ---- PDUs more, in turn
 
 module _ (origin : Origin) (broken : List Place) (e : Listed) where
-  client-noted : (client centre : List KeptPdu) (next : KeptPdu) → AreInOrder (pairing_among origin client centre)
+  client-noted : (client centre : List StoredPdu) (next : StoredPdu) → AreInOrder (pairing_among origin client centre)
       → IsNext (pairing_among origin client centre) (place_of origin FromClient next)
       → is_noted origin (client ++ next ∷ []) centre broken e ≡ mark_by e (is_noted origin client centre broken e)
       (next_moves origin FromClient client centre next)
@@ -195,7 +195,7 @@ module _ (origin : Origin) (broken : List Place) (e : Listed) where
       (is_among e.place broken)
       refl (client-undecodable origin next e.place client centre) e.list
 
-  centre-noted : (client centre : List KeptPdu) (next : KeptPdu) → AreInOrder (pairing_among origin client centre)
+  centre-noted : (client centre : List StoredPdu) (next : StoredPdu) → AreInOrder (pairing_among origin client centre)
       → IsNext (pairing_among origin client centre) (place_of origin FromCentre next)
       → is_noted origin client (centre ++ next ∷ []) broken e ≡ mark_by e (is_noted origin client centre broken e)
       (next_moves origin FromCentre client centre next)
@@ -212,7 +212,7 @@ module _ (origin : Origin) (broken : List Place) (e : Listed) where
       (is_among e.place broken)
       (centre-unreadable origin next e.place centre) (centre-undecodable origin next e.place client centre) e.list
 
-  pub clients-noted : (client centre later : List KeptPdu) → Rises 0 (client ++ later) → AreInOrder (pairing_among origin client centre)
+  pub clients-noted : (client centre later : List StoredPdu) → Rises 0 (client ++ later) → AreInOrder (pairing_among origin client centre)
       → is_noted origin (client ++ later) centre broken e ≡ mark_by e (is_noted origin client centre broken e)
       (note_moves origin FromClient client centre later)
   clients-noted client centre [] r o = ap (λ ps. is_noted origin ps centre broken e) (append-nil client)
@@ -225,7 +225,7 @@ module _ (origin : Origin) (broken : List Place) (e : Listed) where
       ∙ sym (mark-both e (is_noted origin client centre broken e) (next_moves origin FromClient client centre x)
       (note_moves origin FromClient (client ++ x ∷ []) centre later))
 
-  pub centres-noted : (client centre later : List KeptPdu) → Rises 0 (centre ++ later) → AreInOrder (pairing_among origin client centre)
+  pub centres-noted : (client centre later : List StoredPdu) → Rises 0 (centre ++ later) → AreInOrder (pairing_among origin client centre)
       → is_noted origin client (centre ++ later) broken e ≡ mark_by e (is_noted origin client centre broken e)
       (note_moves origin FromCentre client centre later)
   centres-noted client centre [] r o = ap (λ ps. is_noted origin client ps broken e) (append-nil centre)

@@ -12,7 +12,7 @@ use Rattle.smq_pair.specs.Pairing.{PlacedHeader, PairingValue, pair_of}
 use Rattle.smq_pair.specs.Growth.{AreInOrder, IsNext, made_by}
 use Rattle.smq_tally.specs.declared.list.List.TheVariants as list
 use Rattle.smq_tally.specs.Lists.{listed}
-use Rattle.smq_present.specs.declared.present.kept.KeptPdu.{KeptPdu}
+use Rattle.smq_present.specs.declared.present.kept.StoredPdu.{StoredPdu}
 use Rattle.smq_present.specs.present.Kept.{is_undecodable, is_unreadable}
 use Rattle.smq_present.specs.pairing.Traffic.{Origin, place_of, placed, pairing_among}
 use Rattle.smq_present.specs.within.Pairs.{Rises}
@@ -55,18 +55,18 @@ module _ (origin : Origin) where
   abbrev Own : List Move → Type 0
   Own moves = AllByRecursion (IsOf origin.session.0) moves
 
-  undecodable-own : (dir : Dir) (next : KeptPdu) → Own (undecodable_moves origin dir next)
+  undecodable-own : (dir : Dir) (next : StoredPdu) → Own (undecodable_moves origin dir next)
   undecodable-own dir next =
       elim (is_undecodable next.content) as (λ t. Own (cond t (PutNote (listed list.Undecodable (place_of origin dir next)) ∷ []) []))
       [ true ↦ (refl, tt) | false ↦ tt ]
 
-  unreadable-own : (dir : Dir) (next : KeptPdu) → Own (unreadable_moves origin dir next)
+  unreadable-own : (dir : Dir) (next : StoredPdu) → Own (unreadable_moves origin dir next)
   unreadable-own FromClient next = tt
   unreadable-own FromCentre next =
       elim (is_unreadable next.content) as (λ t. Own (cond t (PutNote (listed list.Unreadable (place_of origin FromCentre next)) ∷ []) []))
       [ true ↦ (refl, tt) | false ↦ tt ]
 
-  next-own : (dir : Dir) (client centre : List KeptPdu) (next : KeptPdu) → AreInOrder (pairing_among origin client centre)
+  next-own : (dir : Dir) (client centre : List StoredPdu) (next : StoredPdu) → AreInOrder (pairing_among origin client centre)
       → IsNext (pairing_among origin client centre) (place_of origin dir next)
       → Own (next_moves origin dir client centre next)
   next-own dir client centre next o n =
@@ -77,7 +77,7 @@ module _ (origin : Origin) where
       (undecodable-own dir next))
       (unreadable-own dir next)
 
-  pub client-own : (client centre later : List KeptPdu) → Rises 0 (client ++ later) → AreInOrder (pairing_among origin client centre)
+  pub client-own : (client centre later : List StoredPdu) → Rises 0 (client ++ later) → AreInOrder (pairing_among origin client centre)
       → Own (note_moves origin FromClient client centre later)
   client-own client centre [] r o = tt
   client-own client centre (x ∷ later) r o =
@@ -86,7 +86,7 @@ module _ (origin : Origin) where
       (client-own (client ++ x ∷ []) centre later (longer origin client x later r)
       (client-order origin client centre x (client-grows origin client centre later x r o)))
 
-  pub centre-own : (client centre later : List KeptPdu) → Rises 0 (centre ++ later) → AreInOrder (pairing_among origin client centre)
+  pub centre-own : (client centre later : List StoredPdu) → Rises 0 (centre ++ later) → AreInOrder (pairing_among origin client centre)
       → Own (note_moves origin FromCentre client centre later)
   centre-own client centre [] r o = tt
   centre-own client centre (x ∷ later) r o =

@@ -24,7 +24,7 @@ use Rattle.smq_pair.proofs.Grown.{grows}
 use Rattle.smq_tally.specs.declared.list.List.TheVariants as list
 use Rattle.smq_tally.specs.declared.list.Listed.{Listed}
 use Rattle.smq_tally.specs.Lists.{listed_cmp}
-use Rattle.smq_present.specs.declared.present.kept.KeptPdu.{KeptPdu}
+use Rattle.smq_present.specs.declared.present.kept.StoredPdu.{StoredPdu}
 use Rattle.smq_present.specs.present.Kept.{is_undecodable, is_unreadable}
 use Rattle.smq_present.specs.pairing.Traffic.{Origin, place_of, placed, pairing_among, places_where, disagrees, mismatched, unreadable, undecodable, notes_among}
 use Rattle.smq_present.specs.within.Pairs.{Rises}
@@ -124,7 +124,7 @@ module _ (v : PairingValue) (p : PlacedHeader) (g : GrowsByOne v p) (q : Place) 
 
 module _ (origin : Origin) where
   -- what the next PDU of the client leaves
-  pub client-notes : (client centre : List KeptPdu) (next : KeptPdu) (e : Listed) → GrowsByOne (pairing_among origin client centre) (placed origin FromClient next)
+  pub client-notes : (client centre : List StoredPdu) (next : StoredPdu) (e : Listed) → GrowsByOne (pairing_among origin client centre) (placed origin FromClient next)
       → list_any (eq_by_cmp place_cmp e.place) (noted_by origin FromClient client centre next) ≡ false
       → list_any (eq_by_cmp listed_cmp e) (notes_among origin (client ++ next ∷ []) centre) ≡ list_any (eq_by_cmp listed_cmp e) (notes_among origin client centre)
   client-notes client centre next e g out =
@@ -134,7 +134,7 @@ module _ (origin : Origin) where
       let own = apart v p g e.place out in
       let undecoded : list_any (eq_by_cmp place_cmp e.place) (undecodable origin (client ++ next ∷ []) centre) ≡ list_any (eq_by_cmp place_cmp e.place) (undecodable origin client centre) =
       list_any-append (eq_by_cmp place_cmp e.place) (places_where is_undecodable origin FromClient (client ++ next ∷ [])) (places_where is_undecodable origin FromCentre centre)
-      ∙ ap (λ b. b || list_any (eq_by_cmp place_cmp e.place) (places_where is_undecodable origin FromCentre centre)) (among-push (place_of origin FromClient) (λ (p : KeptPdu). is_undecodable p.content) e.place client next own)
+      ∙ ap (λ b. b || list_any (eq_by_cmp place_cmp e.place) (places_where is_undecodable origin FromCentre centre)) (among-push (place_of origin FromClient) (λ (p : StoredPdu). is_undecodable p.content) e.place client next own)
       ∙ sym (list_any-append (eq_by_cmp place_cmp e.place) (places_where is_undecodable origin FromClient client) (places_where is_undecodable origin FromCentre centre)) in
       any-notes origin (client ++ next ∷ []) centre e
       ∙ ap (λ w. five e (waiting w) (strays w) (mismatched w) (unreadable origin centre) (undecodable origin (client ++ next ∷ []) centre)) grown
@@ -143,7 +143,7 @@ module _ (origin : Origin) where
       ∙ sym (any-notes origin client centre e)
 
   -- what the next PDU of the centre leaves
-  pub centre-notes : (client centre : List KeptPdu) (next : KeptPdu) (e : Listed) → GrowsByOne (pairing_among origin client centre) (placed origin FromCentre next)
+  pub centre-notes : (client centre : List StoredPdu) (next : StoredPdu) (e : Listed) → GrowsByOne (pairing_among origin client centre) (placed origin FromCentre next)
       → list_any (eq_by_cmp place_cmp e.place) (noted_by origin FromCentre client centre next) ≡ false
       → list_any (eq_by_cmp listed_cmp e) (notes_among origin client (centre ++ next ∷ [])) ≡ list_any (eq_by_cmp listed_cmp e) (notes_among origin client centre)
   centre-notes client centre next e g out =
@@ -152,10 +152,10 @@ module _ (origin : Origin) where
       let grown : pairing_among origin client (centre ++ next ∷ []) ≡ pushed v p = λ i. record { client = map (placed origin FromClient) client; centre = map-append (placed origin FromCentre) centre (next ∷ []) i } in
       let own = apart v p g e.place out in
       let unread : list_any (eq_by_cmp place_cmp e.place) (unreadable origin (centre ++ next ∷ [])) ≡ list_any (eq_by_cmp place_cmp e.place) (unreadable origin centre) =
-      among-push (place_of origin FromCentre) (λ (p : KeptPdu). is_unreadable p.content) e.place centre next own in
+      among-push (place_of origin FromCentre) (λ (p : StoredPdu). is_unreadable p.content) e.place centre next own in
       let undecoded : list_any (eq_by_cmp place_cmp e.place) (undecodable origin client (centre ++ next ∷ [])) ≡ list_any (eq_by_cmp place_cmp e.place) (undecodable origin client centre) =
       list_any-append (eq_by_cmp place_cmp e.place) (places_where is_undecodable origin FromClient client) (places_where is_undecodable origin FromCentre (centre ++ next ∷ []))
-      ∙ ap (λ b. list_any (eq_by_cmp place_cmp e.place) (places_where is_undecodable origin FromClient client) || b) (among-push (place_of origin FromCentre) (λ (p : KeptPdu). is_undecodable p.content) e.place centre next own)
+      ∙ ap (λ b. list_any (eq_by_cmp place_cmp e.place) (places_where is_undecodable origin FromClient client) || b) (among-push (place_of origin FromCentre) (λ (p : StoredPdu). is_undecodable p.content) e.place centre next own)
       ∙ sym (list_any-append (eq_by_cmp place_cmp e.place) (places_where is_undecodable origin FromClient client) (places_where is_undecodable origin FromCentre centre)) in
       any-notes origin client (centre ++ next ∷ []) e
       ∙ ap (λ w. five e (waiting w) (strays w) (mismatched w) (unreadable origin (centre ++ next ∷ [])) (undecodable origin client (centre ++ next ∷ []))) grown
@@ -165,32 +165,32 @@ module _ (origin : Origin) where
 
   -- ---- PDUs of both directions stand in order
 
-  below : (d : Dir) (low : ℕ) (before after : List KeptPdu) (x : KeptPdu) → Rises low (before ++ x ∷ after) → list_all (λ (p : PlacedHeader). nat_lt p.place.offset x.offset) (map (placed origin d) before) ≡ true
+  below : (d : Dir) (low : ℕ) (before after : List StoredPdu) (x : StoredPdu) → Rises low (before ++ x ∷ after) → list_all (λ (p : PlacedHeader). nat_lt p.place.offset x.offset) (map (placed origin d) before) ≡ true
   below d low [] after x r = refl
   below d low (y ∷ before) after x r =
       let more : y.offset + 1 ≤ x.offset = above (y.offset + 1) before after x r.1 in
       let less : nat_lt y.offset x.offset ≡ true = grind (arith, nat_tests, more) in
       (λ i. less i && below d (y.offset + 1) before after x r.1 i)
 
-  pub next-client : (client centre after : List KeptPdu) (x : KeptPdu) → Rises 0 (client ++ x ∷ after) → IsNext (pairing_among origin client centre) (place_of origin FromClient x)
+  pub next-client : (client centre after : List StoredPdu) (x : StoredPdu) → Rises 0 (client ++ x ∷ after) → IsNext (pairing_among origin client centre) (place_of origin FromClient x)
   next-client client centre after x r = record { session = of_both origin client centre; offset = below FromClient 0 client after x r }
 
-  pub next-centre : (client centre after : List KeptPdu) (x : KeptPdu) → Rises 0 (centre ++ x ∷ after) → IsNext (pairing_among origin client centre) (place_of origin FromCentre x)
+  pub next-centre : (client centre after : List StoredPdu) (x : StoredPdu) → Rises 0 (centre ++ x ∷ after) → IsNext (pairing_among origin client centre) (place_of origin FromCentre x)
   next-centre client centre after x r = record { session = of_both origin client centre; offset = below FromCentre 0 centre after x r }
 
-  pub client-grows : (client centre after : List KeptPdu) (x : KeptPdu) → Rises 0 (client ++ x ∷ after) → AreInOrder (pairing_among origin client centre) → GrowsByOne (pairing_among origin client centre) (placed origin FromClient x)
+  pub client-grows : (client centre after : List StoredPdu) (x : StoredPdu) → Rises 0 (client ++ x ∷ after) → AreInOrder (pairing_among origin client centre) → GrowsByOne (pairing_among origin client centre) (placed origin FromClient x)
   client-grows client centre after x r o = grows (pairing_among origin client centre) (placed origin FromClient x) o (next-client client centre after x r)
 
-  pub centre-grows : (client centre after : List KeptPdu) (x : KeptPdu) → Rises 0 (centre ++ x ∷ after) → AreInOrder (pairing_among origin client centre) → GrowsByOne (pairing_among origin client centre) (placed origin FromCentre x)
+  pub centre-grows : (client centre after : List StoredPdu) (x : StoredPdu) → Rises 0 (centre ++ x ∷ after) → AreInOrder (pairing_among origin client centre) → GrowsByOne (pairing_among origin client centre) (placed origin FromCentre x)
   centre-grows client centre after x r o = grows (pairing_among origin client centre) (placed origin FromCentre x) o (next-centre client centre after x r)
 
-  pub client-order : (client centre : List KeptPdu) (x : KeptPdu) → GrowsByOne (pairing_among origin client centre) (placed origin FromClient x) → AreInOrder (pairing_among origin (client ++ x ∷ []) centre)
+  pub client-order : (client centre : List StoredPdu) (x : StoredPdu) → GrowsByOne (pairing_among origin client centre) (placed origin FromClient x) → AreInOrder (pairing_among origin (client ++ x ∷ []) centre)
   client-order client centre x g = subst AreInOrder (λ i. record { client = sym (map-append (placed origin FromClient) client (x ∷ [])) i; centre = map (placed origin FromCentre) centre }) g.in_order
 
-  pub centre-order : (client centre : List KeptPdu) (x : KeptPdu) → GrowsByOne (pairing_among origin client centre) (placed origin FromCentre x) → AreInOrder (pairing_among origin client (centre ++ x ∷ []))
+  pub centre-order : (client centre : List StoredPdu) (x : StoredPdu) → GrowsByOne (pairing_among origin client centre) (placed origin FromCentre x) → AreInOrder (pairing_among origin client (centre ++ x ∷ []))
   centre-order client centre x g = subst AreInOrder (λ i. record { client = map (placed origin FromClient) client; centre = sym (map-append (placed origin FromCentre) centre (x ∷ [])) i }) g.in_order
 
-  pub longer : (before : List KeptPdu) (x : KeptPdu) (after : List KeptPdu) → Rises 0 (before ++ x ∷ after) → Rises 0 ((before ++ x ∷ []) ++ after)
+  pub longer : (before : List StoredPdu) (x : StoredPdu) (after : List StoredPdu) → Rises 0 (before ++ x ∷ after) → Rises 0 ((before ++ x ∷ []) ++ after)
   longer before x after r = subst (λ ps. Rises 0 ps) (sym (append_assoc before (x ∷ []) after)) r
 
   -- ---- PDUs more, in turn
@@ -198,7 +198,7 @@ module _ (origin : Origin) where
   either : (q : Place) (xs ys : List Place) → list_any (eq_by_cmp place_cmp q) (xs ++ ys) ≡ false → (list_any (eq_by_cmp place_cmp q) xs || list_any (eq_by_cmp place_cmp q) ys) ≡ false
   either q xs ys h = sym (list_any-append (eq_by_cmp place_cmp q) xs ys) ∙ h
 
-  pub client-notes-in-turn : (client centre later : List KeptPdu) (e : Listed) → Rises 0 (client ++ later) → AreInOrder (pairing_among origin client centre)
+  pub client-notes-in-turn : (client centre later : List StoredPdu) (e : Listed) → Rises 0 (client ++ later) → AreInOrder (pairing_among origin client centre)
       → list_any (eq_by_cmp place_cmp e.place) (noted_in_turn origin FromClient client centre later) ≡ false
       → list_any (eq_by_cmp listed_cmp e) (notes_among origin (client ++ later) centre) ≡ list_any (eq_by_cmp listed_cmp e) (notes_among origin client centre)
   client-notes-in-turn client centre [] e r o out = ap (λ ps. list_any (eq_by_cmp listed_cmp e) (notes_among origin ps centre)) (append-nil client)
@@ -209,7 +209,7 @@ module _ (origin : Origin) where
       ∙ client-notes-in-turn (client ++ x ∷ []) centre later e (longer client x later r) (client-order client centre x g) (or_second (list_any (eq_by_cmp place_cmp e.place) (noted_by origin FromClient client centre x)) _ parts)
       ∙ client-notes client centre x e g (or_first _ _ parts)
 
-  pub centre-notes-in-turn : (client centre later : List KeptPdu) (e : Listed) → Rises 0 (centre ++ later) → AreInOrder (pairing_among origin client centre)
+  pub centre-notes-in-turn : (client centre later : List StoredPdu) (e : Listed) → Rises 0 (centre ++ later) → AreInOrder (pairing_among origin client centre)
       → list_any (eq_by_cmp place_cmp e.place) (noted_in_turn origin FromCentre client centre later) ≡ false
       → list_any (eq_by_cmp listed_cmp e) (notes_among origin client (centre ++ later)) ≡ list_any (eq_by_cmp listed_cmp e) (notes_among origin client centre)
   centre-notes-in-turn client centre [] e r o out = ap (λ ps. list_any (eq_by_cmp listed_cmp e) (notes_among origin client ps)) (append-nil centre)
@@ -226,17 +226,17 @@ module _ (origin : Origin) where
   unfolding IsStrictlySortedBy
   none-order = record { client = refl; centre = refl; ascend = tt }
 
-  clients-order : (client later : List KeptPdu) → Rises 0 (client ++ later) → AreInOrder (pairing_among origin client []) → AreInOrder (pairing_among origin (client ++ later) [])
+  clients-order : (client later : List StoredPdu) → Rises 0 (client ++ later) → AreInOrder (pairing_among origin client []) → AreInOrder (pairing_among origin (client ++ later) [])
   clients-order client [] r o = subst (λ ps. AreInOrder (pairing_among origin ps [])) (sym (append-nil client)) o
   clients-order client (x ∷ later) r o =
       subst (λ ps. AreInOrder (pairing_among origin ps [])) (append_assoc client (x ∷ []) later)
       (clients-order (client ++ x ∷ []) later (longer client x later r) (client-order client [] x (client-grows client [] later x r o)))
 
-  centres-order : (client centre later : List KeptPdu) → Rises 0 (centre ++ later) → AreInOrder (pairing_among origin client centre) → AreInOrder (pairing_among origin client (centre ++ later))
+  centres-order : (client centre later : List StoredPdu) → Rises 0 (centre ++ later) → AreInOrder (pairing_among origin client centre) → AreInOrder (pairing_among origin client (centre ++ later))
   centres-order client centre [] r o = subst (λ ps. AreInOrder (pairing_among origin client ps)) (sym (append-nil centre)) o
   centres-order client centre (x ∷ later) r o =
       subst (λ ps. AreInOrder (pairing_among origin client ps)) (append_assoc centre (x ∷ []) later)
       (centres-order client (centre ++ x ∷ []) later (longer centre x later r) (centre-order client centre x (centre-grows client centre later x r o)))
 
-  pub pdus-order : (client centre : List KeptPdu) → Rises 0 client → Rises 0 centre → AreInOrder (pairing_among origin client centre)
+  pub pdus-order : (client centre : List StoredPdu) → Rises 0 client → Rises 0 centre → AreInOrder (pairing_among origin client centre)
   pdus-order client centre r h = centres-order client [] centre h (clients-order [] client r none-order)

@@ -17,7 +17,7 @@ use Rattle.smq_kit.proofs.PlaceOrders.{places_total, places_exact}
 use Rattle.smq_pair.specs.declared.pairing.Pair.{Pair}
 use Rattle.smq_pair.specs.Growth.{made_by, touched}
 use Rattle.smq_present.specs.declared.present.edit.Edit.TheVariants.{Append, Advance, Withdraw}
-use Rattle.smq_present.specs.declared.present.kept.KeptPdu.{KeptPdu}
+use Rattle.smq_present.specs.declared.present.kept.StoredPdu.{StoredPdu}
 use Rattle.smq_present.specs.declared.present.session.Session.{Session}
 use Rattle.smq_present.specs.present.Batch.{BatchValue, batch_pdus, next_tail}
 use Rattle.smq_present.specs.present.Kept.{kept_pdus}
@@ -88,7 +88,7 @@ few-made f (x ∷ xs) =
       | Some y ↦ omega (arith, rest)
     ]
 
-earlier-number : (before ps : List KeptPdu) → length (with_earlier before ps) ≡ length ps
+earlier-number : (before ps : List StoredPdu) → length (with_earlier before ps) ≡ length ps
 earlier-number before [] = refl
 earlier-number before (p ∷ ps) = let rest = earlier-number (before ++ p ∷ []) ps in omega (arith, rest)
 
@@ -114,7 +114,7 @@ touched-number : (q : Place) (made : Option Pair) → length (touched q made) �
 touched-number q None = omega arith
 touched-number q (Some pair) = omega arith
 
-noted-number : (origin : Origin) (dir : Dir) (client centre later : List KeptPdu) → length (noted_in_turn origin dir client centre later) ≤ 2 * length later
+noted-number : (origin : Origin) (dir : Dir) (client centre later : List StoredPdu) → length (noted_in_turn origin dir client centre later) ≤ 2 * length later
 noted-number origin FromClient client centre [] = omega arith
 noted-number origin FromCentre client centre [] = omega arith
 noted-number origin FromClient client centre (x ∷ later) =

@@ -24,7 +24,7 @@ use Rattle.smq_group.proofs.Turning.{same_at}
 use Rattle.smq_present.specs.present.Settings.{SettingsValue}
 use Rattle.smq_present.specs.pairing.Traffic.{Message, ReceivedReceipt, TrafficValue}
 use Rattle.smq_present.specs.join.Circumstances.{circumstances, decider_in, lapsed_in, route_in, standing_in}
-use Rattle.smq_present.specs.join.Facts.{fact_by, facts_of}
+use Rattle.smq_present.specs.join.Facts.{fact_in_circumstances, facts_of}
 use Rattle.smq_present.specs.join.Keyed.{accepted_key, grouping_of, keyed_receipt}
 use Rattle.smq_present.specs.join.Listings.{is_named, list_of_standing, notes_of, receipt_listings}
 use Rattle.smq_present.specs.join.Moves.{IsMove, receipt_standings_of, standings_of}
@@ -175,15 +175,15 @@ module _ (s : SettingsValue) (q : Place) (t u : TrafficValue) (cs : List Change)
   pub facts-patched : patched (facts_of s t) (get (facts_of s u)) (told_places q tells.submits) ≡ facts_of s u
   facts-patched = maps.patched-is places_total places_exact (told_places q tells.submits) (facts_of s t) (facts_of s u) facts-covered
 
-  standings-covered : SameOutside (told_places q tells.receipts) (receipt_standings_of before) (receipt_standings_of after)
-  standings-covered = receipts-covered q before after cs tells (chosen-outside (q ∷ []) (λ place r. Some (keyed_receipt s r)) t.receipts u.receipts move.receipts)
+  groups-covered : SameOutside (told_places q tells.receipts) (receipt_standings_of before) (receipt_standings_of after)
+  groups-covered = receipts-covered q before after cs tells (chosen-outside (q ∷ []) (λ place r. Some (keyed_receipt s r)) t.receipts u.receipts move.receipts)
 
   -- and so do notes, in the lists of receipts
   pub notes-covered : t.notes ≡ u.notes → SameOutside (receipt_listings (told_places q tells.receipts)) (notes_of s t) (notes_of s u)
-  notes-covered same = notes-outside s s t u (told_places q tells.receipts) same standings-covered
+  notes-covered same = notes-outside s s t u (told_places q tells.receipts) same groups-covered
 
   pub notes-patched : t.notes ≡ u.notes → patched (notes_of s t) (get (notes_of s u)) (receipt_listings (told_places q tells.receipts)) ≡ notes_of s u
-  notes-patched same = moved-notes s s t u (told_places q tells.receipts) same standings-covered
+  notes-patched same = moved-notes s s t u (told_places q tells.receipts) same groups-covered
 
 -- ---- what is told is how it stands
 
@@ -216,12 +216,12 @@ module _ (s : SettingsValue) (g : Grouping) (u : TrafficValue) (cs : List Change
       ∙ now-at (submit_at g p) (submit_at h p) standing (sym (tells.each_submit p) ∙ is))
 
   -- the fact is that of the circumstances that are told
-  pub fact-told : told_at p tells.submits ≡ Some standing → get (facts_of s u) p ≡ option_map (λ m. fact_by p m (circumstances_told s u m standing)) (get u.messages p)
+  pub fact-told : told_at p tells.submits ≡ Some standing → get (facts_of s u) p ≡ option_map (λ m. fact_in_circumstances p m (circumstances_told s u m standing)) (get u.messages p)
   fact-told is = fact-at s u p ∙ by (get u.messages p) refl
     where
-      by : (x : Option Message) → get u.messages p ≡ x → option_map (λ m. fact_by p m (circumstances s u m)) x ≡ option_map (λ m. fact_by p m (circumstances_told s u m standing)) x
+      by : (x : Option Message) → get u.messages p ≡ x → option_map (λ m. fact_in_circumstances p m (circumstances s u m)) x ≡ option_map (λ m. fact_in_circumstances p m (circumstances_told s u m standing)) x
       by None there = refl
-      by (Some m) there = λ i. Some (fact_by p m (record {
+      by (Some m) there = λ i. Some (fact_in_circumstances p m (record {
         standing = standing-is is m there i;
         decider = decider_in u (standing-is is m there i);
         route = route_in s.versions m;

@@ -23,12 +23,6 @@ abbrev pub clock_of : Edit → Option ℕ
 clock_of (Advance clock) = Some clock
 clock_of _ = None
 
-pub same-clock : (one other : ℕ) → Advance one ≡ Advance other → one ≡ other
-same-clock one other same = by (ap clock_of same)
-  where
-    by : Some one ≡ Some other → one ≡ other
-    by e = cc
-
 pub another : (A : Type 0) (edit : Edit) (clock : ℕ) → clock_of edit ≡ None → edit ≡ Advance clock → A
 another A edit clock none is = by (sym none ∙ ap clock_of is)
   where

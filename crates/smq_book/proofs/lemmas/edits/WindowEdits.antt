@@ -16,7 +16,7 @@ use Rattle.smq_tally.specs.declared.outcome.Outcome.TheVariants as o
 use Rattle.smq_present.specs.present.Settings.{SettingsValue, opening_window, window_in, with_clock, with_windows}
 use Rattle.smq_present.specs.pairing.Traffic.{TrafficValue, Message}
 use Rattle.smq_present.specs.join.Circumstances.{circumstances, lapsed_in}
-use Rattle.smq_present.specs.join.Facts.{fact_by, facts_of, by_lapse, with_lapse}
+use Rattle.smq_present.specs.join.Facts.{fact_in_circumstances, facts_of, by_lapse, with_lapse}
 use Rattle.smq_book.specs.edits.Reached.{is_due, outcome_in, messages_due_on}
 use Rattle.smq_book.proofs.lemmas.edits.FormEdits.{other_link}
 use Rattle.smq_book.proofs.lemmas.edits.Passing.{passing-alike, passing-at}
@@ -72,21 +72,21 @@ module _ (s : SettingsValue) (windows : FinMap nat_cmp ℕ) (t : TrafficValue) w
   abbrev ends : Message → Bool
   ends m = nat_le (m.moment + window_in windows m.link) s.clock
 
-  windowed_by : (q : Place) (m : Option Message) → option_map (λ m. fact_by q m (circumstances (with_windows s windows) t m)) m
-      ≡ option_map (λ m. with_lapse (ends m) (fact_by q m (circumstances s t m))) m
+  windowed_by : (q : Place) (m : Option Message) → option_map (λ m. fact_in_circumstances q m (circumstances (with_windows s windows) t m)) m
+      ≡ option_map (λ m. with_lapse (ends m) (fact_in_circumstances q m (circumstances s t m))) m
   windowed_by q None = refl
   windowed_by q (Some m) = ap Some (fact-lapses q m (circumstances s t m) (ends m))
 
   -- they differ by whether their messages have lapsed alone
   pub windowed : (q : Place) → get (facts_of (with_windows s windows) t) q
-      ≡ option_map (λ m. with_lapse (ends m) (fact_by q m (circumstances s t m))) (get t.messages q)
+      ≡ option_map (λ m. with_lapse (ends m) (fact_in_circumstances q m (circumstances s t m))) (get t.messages q)
   windowed q = fact-at (with_windows s windows) t q ∙ windowed_by q (get t.messages q)
 
-  others_by : (q : Place) (m : Option Message) (fact : Fact) → option_map (λ m. fact_by q m (circumstances s t m)) m ≡ Some fact
-      → is_due fact.outcome ≡ false → option_map (λ m. with_lapse (ends m) (fact_by q m (circumstances s t m))) m ≡ Some fact
+  others_by : (q : Place) (m : Option Message) (fact : Fact) → option_map (λ m. fact_in_circumstances q m (circumstances s t m)) m ≡ Some fact
+      → is_due fact.outcome ≡ false → option_map (λ m. with_lapse (ends m) (fact_in_circumstances q m (circumstances s t m))) m ≡ Some fact
   others_by q None fact e due = absurd cc
   others_by q (Some m) fact e due =
-      let one : fact_by q m (circumstances s t m) ≡ fact = cc in
+      let one : fact_in_circumstances q m (circumstances s t m) ≡ fact = cc in
       ap (λ f. Some (with_lapse (ends m) f)) one ∙ (λ i. Some (record fact { outcome = undue (ends m) fact.outcome due i }))
 
   -- not at all where the window of its link is that of before
@@ -102,13 +102,13 @@ module _ (s : SettingsValue) (windows : FinMap nat_cmp ℕ) (t : TrafficValue) w
 
   -- a message whose receipt is due is lapsed where the clock is at the end of the window, and open before
   again_by : (q : Place) (m : Message) (found : Option Message) (fact : Fact) (b : Bool) → found ≡ Some m
-      → option_map (λ m. fact_by q m (circumstances s t m)) found ≡ Some fact → ends m ≡ b → is_due fact.outcome ≡ true
-      → option_map (λ m. with_lapse (ends m) (fact_by q m (circumstances s t m))) found
+      → option_map (λ m. fact_in_circumstances q m (circumstances s t m)) found ≡ Some fact → ends m ≡ b → is_due fact.outcome ≡ true
+      → option_map (λ m. with_lapse (ends m) (fact_in_circumstances q m (circumstances s t m))) found
       ≡ Some (record fact { outcome = cond b o.Lapsed o.Open })
   again_by q m None fact b there is e due = absurd cc
   again_by q m (Some n) fact b there is e due =
       let same : n ≡ m = cc in
-      let one : fact_by q n (circumstances s t n) ≡ fact = cc in
+      let one : fact_in_circumstances q n (circumstances s t n) ≡ fact = cc in
       (λ i. Some (with_lapse ((ap ends same ∙ e) i) (one i)))
       ∙ (λ i. Some (record fact { outcome = by-lapse b fact.outcome due i }))
 
@@ -124,16 +124,16 @@ module _ (s : SettingsValue) (windows : FinMap nat_cmp ℕ) (t : TrafficValue) w
 module _ (s : SettingsValue) (windows : FinMap nat_cmp ℕ) (link : LinkId) (t : TrafficValue)
     (others : (l : LinkId) → l ≢ link → window_in windows l ≡ window_in s.windows l) where
   fact-stays : (q : Place) (m : Message) (b : Bool) → (m.link.0 == link.0) ≡ b → (b && is_due (outcome_in s t m)) ≡ false
-      → fact_by q m (circumstances (with_windows s windows) t m) ≡ fact_by q m (circumstances s t m)
+      → fact_in_circumstances q m (circumstances (with_windows s windows) t m) ≡ fact_in_circumstances q m (circumstances s t m)
   fact-stays q m true e out =
       fact-lapses q m (circumstances s t m) (ends s windows t m)
-      ∙ (λ i. record (fact_by q m (circumstances s t m)) { outcome = undue (ends s windows t m) (outcome_in s t m) out i })
+      ∙ (λ i. record (fact_in_circumstances q m (circumstances s t m)) { outcome = undue (ends s windows t m) (outcome_in s t m) out i })
   fact-stays q m false e out =
-      ap (λ n. fact_by q m (record (circumstances s t m) { lapsed = nat_le (m.moment + n) s.clock })) (others m.link (other_link m.link link e))
+      ap (λ n. fact_in_circumstances q m (record (circumstances s t m) { lapsed = nat_le (m.moment + n) s.clock })) (others m.link (other_link m.link link e))
 
   stays-at : (q : Place) (m : Option Message) → get t.messages q ≡ m
       → list_any (eq_by_cmp place_cmp q) (keys (messages_due_on link s t)) ≡ false
-      → option_map (λ m. fact_by q m (circumstances s t m)) m ≡ option_map (λ m. fact_by q m (circumstances (with_windows s windows) t m)) m
+      → option_map (λ m. fact_in_circumstances q m (circumstances s t m)) m ≡ option_map (λ m. fact_in_circumstances q m (circumstances (with_windows s windows) t m)) m
   stays-at q None is out = refl
   stays-at q (Some m) is out = ap Some (sym (fact-stays q m (m.link.0 == link.0) refl
       (sym (passing-at (λ place m. m.link.0 == link.0 && is_due (outcome_in s t m)) t.messages q m is) ∙ out)))

@@ -11,7 +11,7 @@ use Rattle.smq_present.specs.declared.present.edit.Edit.TheVariants.{SetWindow, 
 use Rattle.smq_present.specs.pairing.Traffic.{TrafficValue}
 use Rattle.smq_present.specs.present.Present.{PresentValue}
 use Rattle.smq_present.specs.present.Replies.{reply}
-use Rattle.smq_present.specs.present.Settings.{SettingsValue, opening_window, set_window_of, window_in, with_windows}
+use Rattle.smq_present.specs.present.Settings.{SettingsValue, opening_window, window_if_set, window_in, with_windows}
 use Rattle.smq_present.specs.present.Steps.{step, step_unless, with_window}
 use Rattle.smq_present.specs.join.Circumstances.{window_of}
 use Rattle.smq_present.specs.join.Facts.{facts_of}
@@ -35,7 +35,7 @@ module _ {X : Type 0} where
       ∙ sym (get-insert nat_cmp_total m k w q))
 
 -- set back to the window that was set, all that is set is as it was
-pub back : (s : SettingsValue) (link : LinkId) (window before : ℕ) → set_window_of s link.0 ≡ Some before
+pub back : (s : SettingsValue) (link : LinkId) (window before : ℕ) → window_if_set s link.0 ≡ Some before
     → with_window (with_window s link window) link before ≡ s
 back s link window before was =
     ap (with_windows s) (insert-again s.windows link.0 window before ∙ insert-same s.windows link.0 before was)
@@ -60,7 +60,7 @@ facts-back s link window t =
     same-windows s (with_window (with_window s link window) link (window_of s link)).windows t (windows-back s link window)
 
 -- so it is where none was set and the opening window is set
-pub facts-opening : (s : SettingsValue) (link : LinkId) (window : ℕ) (t : TrafficValue) → set_window_of s link.0 ≡ None
+pub facts-opening : (s : SettingsValue) (link : LinkId) (window : ℕ) (t : TrafficValue) → window_if_set s link.0 ≡ None
     → facts_of (with_window (with_window s link window) link opening_window) t ≡ facts_of s t
 facts-opening s link window t none =
     ap (λ w. facts_of (with_window (with_window s link window) link (unwrap_or w opening_window)) t) (sym none)

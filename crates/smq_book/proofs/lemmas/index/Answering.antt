@@ -24,7 +24,7 @@ use Rattle.smq_pair.specs.Pairing as pairs
 use Rattle.smq_pair.specs.Pairing.{PlacedHeader, headers, pair_of, pair_after, pair_at}
 use Rattle.smq_pair.specs.Growth.{made_by, pushed}
 use Rattle.smq_pair.proofs.Turned.{and_both, and_second}
-use Rattle.smq_present.specs.declared.present.kept.KeptPdu.{KeptPdu}
+use Rattle.smq_present.specs.declared.present.kept.StoredPdu.{StoredPdu}
 use Rattle.smq_present.specs.present.Kept.{header_of, headers_of, submit_in}
 use Rattle.smq_present.specs.pairing.Traffic.{Message, Origin, TrafficValue, message_at, message_of, messages_among, pairing_among, place_of, placed, rank_after, response_to, with_earlier}
 use Rattle.smq_present.specs.pairing.Pushes.{is_next_response}
@@ -40,11 +40,11 @@ use Rattle.smq_present.proofs.lemmas.pairing.Searched.{at-offset}
 -- ---- what passes a test, with one PDU more
 
 module _ (test : Header → Bool) where
-  abbrev passing : List KeptPdu → List KeptPdu
+  abbrev passing : List StoredPdu → List StoredPdu
   passing ps = filter (λ p. test (header_of p)) ps
 
   -- the last of those that pass
-  last-passing : (ps : List KeptPdu) (x : KeptPdu) → test (header_of x) ≡ true
+  last-passing : (ps : List StoredPdu) (x : StoredPdu) → test (header_of x) ≡ true
       → slice_get (passing (ps ++ x ∷ [])) (count_by test (headers_of ps)) ≡ Some x
   last-passing [] x passes = ap (λ b. slice_get (cond b (x ∷ []) []) 0) passes
   last-passing (p ∷ ps) x passes =
@@ -58,7 +58,7 @@ module _ (test : Header → Bool) where
       ]
 
   -- none is past those that pass
-  past-passing : (ps : List KeptPdu) → slice_get (passing ps) (count_by test (headers_of ps)) ≡ None
+  past-passing : (ps : List StoredPdu) → slice_get (passing ps) (count_by test (headers_of ps)) ≡ None
   past-passing [] = refl
   past-passing (p ∷ ps) =
       ap (λ n. slice_get (passing (p ∷ ps)) n) (sum_by-cons (λ h. cond (test h) 1 0) (header_of p) (headers_of ps))
@@ -70,13 +70,13 @@ module _ (test : Header → Bool) where
       ]
 
   -- One that passes stands among all, after as many that pass as its rank.
-  pub record StandsRanked (ps : List KeptPdu) (rank : ℕ) (p : KeptPdu) : Type 0 where
+  pub record StandsRanked (ps : List StoredPdu) (rank : ℕ) (p : StoredPdu) : Type 0 where
     pub index : ℕ
     pub at : slice_get ps index ≡ Some p
     pub ranked : count_by test (headers_of (take index ps)) ≡ rank
     pub passes : test (header_of p) ≡ true
 
-  passing-ranked : (ps : List KeptPdu) (rank : ℕ) (p : KeptPdu) → slice_get (passing ps) rank ≡ Some p → StandsRanked ps rank p
+  passing-ranked : (ps : List StoredPdu) (rank : ℕ) (p : StoredPdu) → slice_get (passing ps) rank ≡ Some p → StandsRanked ps rank p
   passing-ranked [] rank p at = absurd cc
   passing-ranked (x ∷ ps) rank p at = by (λ n. passing-ranked ps n p) (test (header_of x)) refl rank at
     where
@@ -94,13 +94,13 @@ module _ (test : Header → Bool) where
         index = 0;
         at = ap Some one;
         ranked = refl;
-        passes = ap (λ (y : KeptPdu). test (header_of y)) (sym one) ∙ t;
+        passes = ap (λ (y : StoredPdu). test (header_of y)) (sym one) ∙ t;
       }
       by rest true t (suc n) e = let more : 1 + n ≡ suc n = omega arith in subst (λ n. StandsRanked (x ∷ ps) n p) more (later true n t (rest n e))
       by rest false t n e = let same : 0 + n ≡ n = omega arith in subst (λ n. StandsRanked (x ∷ ps) n p) same (later false n t (rest n e))
 
   -- one that passes stands among all
-  passing-stands : (ps : List KeptPdu) (rank : ℕ) (p : KeptPdu) → slice_get (passing ps) rank ≡ Some p → (j : ℕ) × (slice_get ps j ≡ Some p)
+  passing-stands : (ps : List StoredPdu) (rank : ℕ) (p : StoredPdu) → slice_get (passing ps) rank ≡ Some p → (j : ℕ) × (slice_get ps j ≡ Some p)
   passing-stands [] rank p at = absurd cc
   passing-stands (x ∷ ps) zero p at =
       elim (test (header_of x)) as (λ b. slice_get (cond b (x ∷ passing ps) (passing ps)) 0 ≡ Some p → (j : ℕ) × (slice_get (x ∷ ps) j ≡ Some p)) [
@@ -116,32 +116,32 @@ module _ (test : Header → Bool) where
 
 -- ---- the message that the next PDU of the centre answers
 
-module _ (origin : Origin) (centre : List KeptPdu) (next : KeptPdu) where
+module _ (origin : Origin) (centre : List StoredPdu) (next : StoredPdu) where
   -- whether a PDU is a request of its sequence number
-  abbrev asks : KeptPdu → Bool
+  abbrev asks : StoredPdu → Bool
   asks p = is_request_of next.seq (header_of p)
 
   -- the message that a PDU is with this response, if it is one
-  abbrev says : KeptPdu → Option KeptPdu → Option Submit → List (Place × Message)
+  abbrev says : StoredPdu → Option StoredPdu → Option Submit → List (Place × Message)
   says p response submit =
       option_to_list (option_map (λ (submit : Submit). (place_of origin FromClient p, message_of origin p submit response)) submit)
 
-  abbrev answers_as : KeptPdu → Option Submit → List (Place × Message)
+  abbrev answers_as : StoredPdu → Option Submit → List (Place × Message)
   answers_as p submit = says p (Some next) submit
 
-  abbrev answers_to : Option KeptPdu → List (Place × Message)
+  abbrev answers_to : Option StoredPdu → List (Place × Message)
   answers_to None = []
   answers_to (Some p) = answers_as p (submit_in p.content)
 
   -- where it isn't a response, it answers none
-  none-answered : (before ps : List KeptPdu) → is_response (header_of next) ≡ false → flat_map (answers origin centre next) (with_earlier before ps) ≡ []
+  none-answered : (before ps : List StoredPdu) → is_response (header_of next) ≡ false → flat_map (answers origin centre next) (with_earlier before ps) ≡ []
   none-answered before [] other = refl
   none-answered before (p ∷ ps) other =
       (λ i. cond ((other i && (next.seq == p.seq)) && (rank_after before p.seq == count_by (is_response_of p.seq) (headers_of centre)))
       (option_to_list (message_at origin (centre ++ next ∷ []) before p)) [] ++ none-answered (before ++ p ∷ []) ps other i)
 
   -- a PDU that isn't a request of its sequence number isn't a message that it answers
-  not-asking : (before ps : List KeptPdu) (p : KeptPdu) → asks p ≡ false → SubmitsAreRequests (p ∷ ps) → (answers origin centre next) (before, p) ≡ []
+  not-asking : (before ps : List StoredPdu) (p : StoredPdu) → asks p ≡ false → SubmitsAreRequests (p ∷ ps) → (answers origin centre next) (before, p) ≡ []
   not-asking before ps p other submits =
       elim (is_next_response centre next before p) as (λ b. is_next_response centre next before p ≡ b
       → cond b (option_to_list (message_at origin (centre ++ next ∷ []) before p)) [] ≡ []) [
@@ -158,7 +158,7 @@ module _ (origin : Origin) (centre : List KeptPdu) (next : KeptPdu) where
           (eq-eqb p.seq next.seq (of_number origin centre next before p t))))
 
   -- nor is one of another rank
-  not-in-turn : (before : List KeptPdu) (p : KeptPdu) → rank_after before next.seq < (turn origin centre next) → (answers origin centre next) (before, p) ≡ []
+  not-in-turn : (before : List StoredPdu) (p : StoredPdu) → rank_after before next.seq < (turn origin centre next) → (answers origin centre next) (before, p) ≡ []
   not-in-turn before p early =
       elim (is_next_response centre next before p) as (λ b. is_next_response centre next before p ≡ b
       → cond b (option_to_list (message_at origin (centre ++ next ∷ []) before p)) [] ≡ []) [
@@ -168,7 +168,7 @@ module _ (origin : Origin) (centre : List KeptPdu) (next : KeptPdu) where
 
   module _ (response : is_response (header_of next) ≡ true) where
     -- the request of its rank is
-    asking : (before : List KeptPdu) (p : KeptPdu) → asks p ≡ true → rank_after before next.seq ≡ (turn origin centre next)
+    asking : (before : List StoredPdu) (p : StoredPdu) → asks p ≡ true → rank_after before next.seq ≡ (turn origin centre next)
         → (answers origin centre next) (before, p) ≡ answers_as p (submit_in p.content)
     asking before p asked same =
         let seq : p.seq ≡ next.seq = eqb-true p.seq next.seq (and_second (is_request (header_of p)) (p.seq == next.seq) asked) in
@@ -183,10 +183,10 @@ module _ (origin : Origin) (centre : List KeptPdu) (next : KeptPdu) where
         ap (slice_get (filter (λ r. is_response_of p.seq (header_of r)) (centre ++ next ∷ []))) at
         ∙ last-passing (is_response_of p.seq) centre next of in
         ap (λ b. cond b (option_to_list (message_at origin (centre ++ next ∷ []) before p)) []) next_is
-        ∙ ap (λ (r : Option KeptPdu). says p r (submit_in p.content)) answer
+        ∙ ap (λ (r : Option StoredPdu). says p r (submit_in p.content)) answer
 
     -- so it answers the request of its rank among those of its sequence number
-    in-order : (before ps : List KeptPdu) (rank : ℕ) → rank_after before next.seq + rank ≡ (turn origin centre next) → SubmitsAreRequests ps
+    in-order : (before ps : List StoredPdu) (rank : ℕ) → rank_after before next.seq + rank ≡ (turn origin centre next) → SubmitsAreRequests ps
         → flat_map (answers origin centre next) (with_earlier before ps) ≡ answers_to (slice_get (filter asks ps) rank)
     in-order before [] rank at submits = refl
     in-order before (p ∷ ps) zero at submits =
@@ -219,7 +219,7 @@ module _ (origin : Origin) (centre : List KeptPdu) (next : KeptPdu) where
 -- ---- what stands at the place of a PDU among those of its direction
 
 module _ (origin : Origin) (dir : Dir) where
-  pub elsewhere : (p x : KeptPdu) → (p.offset ≡ x.offset → ⊥) → eq_by_cmp place_cmp (place_of origin dir p) (place_of origin dir x) ≡ false
+  pub elsewhere : (p x : StoredPdu) → (p.offset ≡ x.offset → ⊥) → eq_by_cmp place_cmp (place_of origin dir p) (place_of origin dir x) ≡ false
   elsewhere p x apart = by (eq_by_cmp place_cmp (place_of origin dir p) (place_of origin dir x)) refl
     where
       by : (b : Bool) → eq_by_cmp place_cmp (place_of origin dir p) (place_of origin dir x) ≡ b → b ≡ false
@@ -227,22 +227,22 @@ module _ (origin : Origin) (dir : Dir) where
           absurd (apart (ap (λ (q : Place). q.offset) (same_key places_total places_exact (place_of origin dir p) (place_of origin dir x) e)))
       by false e = refl
 
-module _ (origin : Origin) (centre : List KeptPdu) where
-  abbrev said_from : List KeptPdu → List KeptPdu → List (Place × Message)
+module _ (origin : Origin) (centre : List StoredPdu) where
+  abbrev said_from : List StoredPdu → List StoredPdu → List (Place × Message)
   said_from before ps = flat_map (λ e. option_to_list (message_at origin centre e.0 e.1)) (with_earlier before ps)
 
-  abbrev said_as : KeptPdu → Option KeptPdu → Option Submit → Option (Place × Message)
+  abbrev said_as : StoredPdu → Option StoredPdu → Option Submit → Option (Place × Message)
   said_as p response submit = option_map (λ (submit : Submit). (place_of origin FromClient p, message_of origin p submit response)) submit
 
   -- what another PDU says stands elsewhere
-  passes : (q : Place) (p : KeptPdu) (response : Option KeptPdu) (submit : Option Submit) (rest : List (Place × Message))
+  passes : (q : Place) (p : StoredPdu) (response : Option StoredPdu) (submit : Option Submit) (rest : List (Place × Message))
       → eq_by_cmp place_cmp q (place_of origin FromClient p) ≡ false
       → find place_cmp q (option_to_list (said_as p response submit) ++ rest) ≡ find place_cmp q rest
   passes q p response None rest apart = refl
   passes q p response (Some submit) rest apart = ap (λ b. cond b (Some (message_of origin p submit response)) (find place_cmp q rest)) apart
 
   -- what it says itself stands there
-  stands : (p : KeptPdu) (response : Option KeptPdu) (submit : Option Submit) (rest : List (Place × Message))
+  stands : (p : StoredPdu) (response : Option StoredPdu) (submit : Option Submit) (rest : List (Place × Message))
       → find place_cmp (place_of origin FromClient p) rest ≡ None
       → find place_cmp (place_of origin FromClient p) (option_to_list (said_as p response submit) ++ rest)
       ≡ option_map (λ (submit : Submit). message_of origin p submit response) submit
@@ -252,7 +252,7 @@ module _ (origin : Origin) (centre : List KeptPdu) where
       (ap is_eq (tied_itself places_total (place_of origin FromClient p)))
 
   -- nothing stands below the offsets of PDUs
-  none-below : (before ps : List KeptPdu) (low : ℕ) (p : KeptPdu) → p.offset < low → Rises low ps
+  none-below : (before ps : List StoredPdu) (low : ℕ) (p : StoredPdu) → p.offset < low → Rises low ps
       → find place_cmp (place_of origin FromClient p) (said_from before ps) ≡ None
   none-below before [] low p h rises = refl
   none-below before (x ∷ ps) low p h rises =
@@ -261,7 +261,7 @@ module _ (origin : Origin) (centre : List KeptPdu) where
       ∙ none-below (before ++ x ∷ []) ps (x.offset + 1) p (omega (arith, h, rises.0)) rises.1
 
   -- nor above them
-  pub none-above : (before ps : List KeptPdu) (low : ℕ) (p : KeptPdu) → Rises low (ps ++ p ∷ [])
+  pub none-above : (before ps : List StoredPdu) (low : ℕ) (p : StoredPdu) → Rises low (ps ++ p ∷ [])
       → find place_cmp (place_of origin FromClient p) (said_from before ps) ≡ None
   none-above before [] low p rises = refl
   none-above before (x ∷ ps) low p rises =
@@ -270,21 +270,21 @@ module _ (origin : Origin) (centre : List KeptPdu) where
       (elsewhere origin FromClient p x (λ same. omega (arith, more, same)))
       ∙ none-above (before ++ x ∷ []) ps (x.offset + 1) p rises.1
 
-  pub above-bound : (ps : List KeptPdu) (low j : ℕ) (p : KeptPdu) → Rises low ps → slice_get ps j ≡ Some p → low ≤ p.offset
+  pub above-bound : (ps : List StoredPdu) (low j : ℕ) (p : StoredPdu) → Rises low ps → slice_get ps j ≡ Some p → low ≤ p.offset
   above-bound ps low j p rises at = (at-offset low ps j p rises at).0
 
   -- the message that a PDU is stands at its place, with some response
-  pub own-message : (before ps : List KeptPdu) (low j : ℕ) (p : KeptPdu) → Rises low ps → slice_get ps j ≡ Some p
-      → (response : Option KeptPdu) × (find place_cmp (place_of origin FromClient p) (said_from before ps)
+  pub own-message : (before ps : List StoredPdu) (low j : ℕ) (p : StoredPdu) → Rises low ps → slice_get ps j ≡ Some p
+      → (response : Option StoredPdu) × (find place_cmp (place_of origin FromClient p) (said_from before ps)
       ≡ option_map (λ (submit : Submit). message_of origin p submit response) (submit_in p.content))
   own-message before [] low j p rises at = absurd cc
   own-message before (x ∷ ps) low zero p rises at =
       let one : x ≡ p = cc in (
         response_to centre before x,
-        ap (λ (p : KeptPdu). find place_cmp (place_of origin FromClient p) (said_from before (x ∷ ps))) (sym one)
+        ap (λ (p : StoredPdu). find place_cmp (place_of origin FromClient p) (said_from before (x ∷ ps))) (sym one)
             ∙ stands x (response_to centre before x) (submit_in x.content) (said_from (before ++ x ∷ []) ps)
             (none-below (before ++ x ∷ []) ps (x.offset + 1) x (omega arith) rises.1)
-            ∙ ap (λ (p : KeptPdu). option_map (λ (submit : Submit). message_of origin p submit (response_to centre before x))
+            ∙ ap (λ (p : StoredPdu). option_map (λ (submit : Submit). message_of origin p submit (response_to centre before x))
             (submit_in p.content)) one,
       )
   own-message before (x ∷ ps) low (suc j) p rises at =
@@ -297,29 +297,29 @@ module _ (origin : Origin) (centre : List KeptPdu) where
       )
 
   -- and that response is the one of its rank
-  pub own-ranked : (before ps : List KeptPdu) (low j : ℕ) (p : KeptPdu) → Rises low ps → slice_get ps j ≡ Some p
+  pub own-ranked : (before ps : List StoredPdu) (low j : ℕ) (p : StoredPdu) → Rises low ps → slice_get ps j ≡ Some p
       → find place_cmp (place_of origin FromClient p) (said_from before ps)
       ≡ option_map (λ (submit : Submit). message_of origin p submit (response_to centre (before ++ take j ps) p)) (submit_in p.content)
   own-ranked before [] low j p rises at = absurd cc
   own-ranked before (x ∷ ps) low zero p rises at =
       let one : x ≡ p = cc in
-      ap (λ (p : KeptPdu). find place_cmp (place_of origin FromClient p) (said_from before (x ∷ ps))) (sym one)
+      ap (λ (p : StoredPdu). find place_cmp (place_of origin FromClient p) (said_from before (x ∷ ps))) (sym one)
       ∙ stands x (response_to centre before x) (submit_in x.content) (said_from (before ++ x ∷ []) ps)
       (none-below (before ++ x ∷ []) ps (x.offset + 1) x (omega arith) rises.1)
-      ∙ ap (λ (p : KeptPdu). option_map (λ (submit : Submit). message_of origin p submit (response_to centre before p)) (submit_in p.content)) one
-      ∙ ap (λ (es : List KeptPdu). option_map (λ (submit : Submit). message_of origin p submit (response_to centre es p)) (submit_in p.content))
+      ∙ ap (λ (p : StoredPdu). option_map (λ (submit : Submit). message_of origin p submit (response_to centre before p)) (submit_in p.content)) one
+      ∙ ap (λ (es : List StoredPdu). option_map (λ (submit : Submit). message_of origin p submit (response_to centre es p)) (submit_in p.content))
       (sym (append-nil before))
   own-ranked before (x ∷ ps) low (suc j) p rises at =
       let more = above-bound ps (x.offset + 1) j p rises.1 at in
       passes (place_of origin FromClient p) x (response_to centre before x) (submit_in x.content) (said_from (before ++ x ∷ []) ps)
       (elsewhere origin FromClient p x (λ same. omega (arith, more, same)))
       ∙ own-ranked (before ++ x ∷ []) ps (x.offset + 1) j p rises.1 at
-      ∙ ap (λ (es : List KeptPdu). option_map (λ (submit : Submit). message_of origin p submit (response_to centre es p)) (submit_in p.content))
+      ∙ ap (λ (es : List StoredPdu). option_map (λ (submit : Submit). message_of origin p submit (response_to centre es p)) (submit_in p.content))
       (append_assoc before (x ∷ []) (take j ps))
 
 -- ---- the pair that the next PDU of the centre makes
 
-module _ (origin : Origin) (client centre : List KeptPdu) (next : KeptPdu) where
+module _ (origin : Origin) (client centre : List StoredPdu) (next : StoredPdu) where
   abbrev mine : List PlacedHeader
   mine = map (placed origin FromCentre) centre
 
@@ -329,12 +329,12 @@ module _ (origin : Origin) (client centre : List KeptPdu) (next : KeptPdu) where
   abbrev here : PlacedHeader
   here = placed origin FromCentre next
 
-  headers-placed : (ps : List KeptPdu) → headers (map (placed origin FromCentre) ps) ≡ headers_of ps
+  headers-placed : (ps : List StoredPdu) → headers (map (placed origin FromCentre) ps) ≡ headers_of ps
   headers-placed [] = refl
   headers-placed (p ∷ ps) = ap (λ hs. header_of p ∷ hs) (headers-placed ps)
 
   -- the request of its sequence number and rank, if any
-  abbrev request : Option KeptPdu
+  abbrev request : Option StoredPdu
   request = slice_get (filter (asks origin centre next) client) (turn origin centre next)
 
   made-after : Rises 0 (centre ++ next ∷ []) → made_by (pairing_among origin client centre) here ≡ pair_after theirs mine here
@@ -371,7 +371,7 @@ module _ (origin : Origin) (client centre : List KeptPdu) (next : KeptPdu) where
     by-request none false response = refl
 
     -- the response to a request puts its message in anew
-    answers-one : (p : KeptPdu) (response : Option KeptPdu) (submit : Option Submit)
+    answers-one : (p : StoredPdu) (response : Option StoredPdu) (submit : Option Submit)
         → moves_at (pair_of (placed origin FromClient p) here) (option_map (λ (submit : Submit). message_of origin p submit response) submit)
         ≡ flat_map anew (answers_as origin centre next p submit)
     answers-one p response None = refl
@@ -379,7 +379,7 @@ module _ (origin : Origin) (client centre : List KeptPdu) (next : KeptPdu) where
 
     module _ (rises : Rises 0 client)
         (said : (q : Place) → q.session.0 ≡ origin.session.0 → get messages q ≡ find place_cmp q (messages_among origin client centre)) where
-      answers-found : (found : Option KeptPdu) → request ≡ found
+      answers-found : (found : Option StoredPdu) → request ≡ found
           → moves_of (option_map (λ r. pair_of r here) (option_map (placed origin FromClient) found))
           ≡ flat_map anew (answers_to origin centre next found)
       answers-found None e = refl
@@ -434,7 +434,7 @@ module _ (origin : Origin) (client centre : List KeptPdu) (next : KeptPdu) where
       asked (Some r) e =
           let one : pair_of here r ≡ pair = cc in at-centre (place_of origin FromCentre next) (ap (λ (x : Pair). x.request) (sym one)) refl
 
-      answering : (p : KeptPdu) → slice_get (filter (asks origin centre next) client) (turn origin centre next) ≡ Some p
+      answering : (p : StoredPdu) → slice_get (filter (asks origin centre next) client) (turn origin centre next) ≡ Some p
           → pair.request ≡ place_of origin FromClient p → m.response ≡ None
       answering p at same =
           let ranked = passing-ranked (is_request_of next.seq) client (turn origin centre next) p at in
@@ -446,13 +446,13 @@ module _ (origin : Origin) (client centre : List KeptPdu) (next : KeptPdu) where
           let found = sym (said.messages (place_of origin FromClient p) refl ∙ own-ranked origin centre [] client 0 ranked.index p rises ranked.at)
           ∙ ap (get t.messages) (sym same) ∙ there in
           told (submit_in p.content)
-          (ap (λ (r : Option KeptPdu). option_map (λ (submit : Submit). message_of origin p submit r) (submit_in p.content)) (sym none) ∙ found)
+          (ap (λ (r : Option StoredPdu). option_map (λ (submit : Submit). message_of origin p submit r) (submit_in p.content)) (sym none) ∙ found)
         where
           told : (submit : Option Submit) → option_map (λ (submit : Submit). message_of origin p submit None) submit ≡ Some m → m.response ≡ None
           told None e = absurd cc
           told (Some submit) e = let one : message_of origin p submit None ≡ m = cc in ap (λ (x : Message). x.response) (sym one)
 
-      answered-by : (p : Option KeptPdu) → request ≡ p → option_map (λ r. pair_of r here) (option_map (placed origin FromClient) p) ≡ Some pair
+      answered-by : (p : Option StoredPdu) → request ≡ p → option_map (λ r. pair_of r here) (option_map (placed origin FromClient) p) ≡ Some pair
           → m.response ≡ None
       answered-by None at e = absurd cc
       answered-by (Some p) at e =

@@ -9,7 +9,7 @@ use Rattle.smq_kit.specs.declared.place.Dir.TheVariants.{FromClient, FromCentre}
 use Rattle.smq_frame.specs.Stream.{Octet, frames_after, handed_in, values}
 use Rattle.smq_frame.specs.Tail.{TailValue, tail_of}
 use Rattle.smq_pair.specs.Paired.{no_pdus}
-use Rattle.smq_present.specs.declared.present.kept.KeptPdu.{KeptPdu}
+use Rattle.smq_present.specs.declared.present.kept.StoredPdu.{StoredPdu}
 use Rattle.smq_present.specs.declared.present.session.Session.{Session}
 use Rattle.smq_present.specs.present.Batch.{BatchValue, batch_pdus, next_tail}
 use Rattle.smq_present.specs.present.Kept.{kept_pdus}
@@ -32,7 +32,7 @@ use Rattle.smq_present.specs.present.Replies.{append_refusals}
 use Rattle.smq_present.proofs.lemmas.present.RefusedBatches.{in-step}
 use Rattle.smq_kit.specs.Replies.{first_of}
 use Rattle.smq_book.proofs.lemmas.index.PushedAll.{pushed-all}
-use Rattle.smq_book.proofs.lemmas.index.Said.{has-said}
+use Rattle.smq_book.proofs.lemmas.index.Item.{has-said}
 
 -- ---- the PDUs of a direction once its next batch came
 
@@ -58,9 +58,9 @@ batch-pairs s batch in_step = by batch.dir in_step
         → pairing_with (origin_at batch.session s.link) dir (kept_pdus s.client) (kept_pdus s.centre) (batch_pdus batch)
         ≡ session_pairing (batch.session.0, session_with dir (handed_in batch.moment batch.octets) s)
     by FromClient tail =
-        ap (λ (ps : List KeptPdu). pairing_among (origin_at batch.session s.link) ps (kept_pdus s.centre)) (sym (grown s.client batch tail))
+        ap (λ (ps : List StoredPdu). pairing_among (origin_at batch.session s.link) ps (kept_pdus s.centre)) (sym (grown s.client batch tail))
     by FromCentre tail =
-        ap (λ (ps : List KeptPdu). pairing_among (origin_at batch.session s.link) (kept_pdus s.client) ps) (sym (grown s.centre batch tail))
+        ap (λ (ps : List StoredPdu). pairing_among (origin_at batch.session s.link) (kept_pdus s.client) ps) (sym (grown s.centre batch tail))
 
 -- ---- the session of a number, or a new one
 

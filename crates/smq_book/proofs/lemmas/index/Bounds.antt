@@ -37,7 +37,7 @@ use Rattle.smq_book.specs.declared.index.pairings.Pairings.{Pairings}
 use Rattle.smq_present.specs.declared.present.edit.Edit.{Edit}
 use Rattle.smq_present.specs.declared.present.edit.Edit.TheVariants.{Append, SetWindow, Withdraw, Advance}
 use Rattle.smq_present.specs.present.Content.{Content}
-use Rattle.smq_present.specs.declared.present.kept.KeptPdu.{KeptPdu}
+use Rattle.smq_present.specs.declared.present.kept.StoredPdu.{StoredPdu}
 use Rattle.smq_present.specs.declared.present.session.Session.{Session}
 use Rattle.smq_book.specs.edits.Reach.{batch_places, groups, members, pair_in, reach, session_places, weight, weights}
 use Rattle.smq_book.specs.edits.Reached.{due_by, messages_under}
@@ -130,7 +130,7 @@ option-few : {A : Type 0} (x : Option A) → length (option_to_list x) ≤ 1
 option-few None = omega arith
 option-few (Some x) = omega arith
 
-where-few : (test : Content → Bool) (origin : Origin) (dir : Dir) (pdus : List KeptPdu) → length (places_where test origin dir pdus) ≤ length pdus
+where-few : (test : Content → Bool) (origin : Origin) (dir : Dir) (pdus : List StoredPdu) → length (places_where test origin dir pdus) ≤ length pdus
 where-few test origin dir pdus =
     let all = length-map (filter (λ p. test p.content) pdus) (place_of origin dir) in
     let few = filter-few (λ p. test p.content) pdus in
@@ -184,27 +184,27 @@ session-notes-few n s =
     omega (arith, paired, a, b, unread, undecoded-client, undecoded-centre, c, d, e, f, g, broken-client, broken-centre, h, i, j)
 
 module _ (p : PresentValue) (i : Index) (k : Pairings) (kept : IsKept p i k) where
-  pub members-kept : i.standings.members ≡ groups p
+  pub members-kept : i.groups.members ≡ groups p
   members-kept = ap (λ (h : Holding). h.members) kept.held.held ∙ ap (grouping_of p.settings) kept.traffic
 
-  pub load-kept : (key : LinkKey) → taken_of i.standings (Some key) ≡ 33 * members (groups p) key
+  pub load-kept : (key : LinkKey) → taken_of i.groups (Some key) ≡ 33 * members (groups p) key
   load-kept key =
-      let none : vacancies i.standings key ≡ 0 = ap (λ (vacant : List LinkKey). count_by (same_key key) vacant) kept.pending.vacant in
+      let none : vacancies i.groups key ≡ 0 = ap (λ (vacant : List LinkKey). count_by (same_key key) vacant) kept.pending.vacant in
       let same = ap (λ (g : Grouping). members g key) members-kept in
       omega (arith, none, same)
 
-  message-weighs : (origin : Origin) (x : KeptPdu) → message_load i.standings origin x + 5 ≤ 64 * weight p (place_of origin FromClient x)
+  message-weighs : (origin : Origin) (x : StoredPdu) → message_load i.groups origin x + 5 ≤ 64 * weight p (place_of origin FromClient x)
   message-weighs origin x = by (get (groups p).submits q) refl
     where
       q : Place
       q = place_of origin FromClient x
 
-      by : (o : Option LinkKey) → get (groups p).submits q ≡ o → message_load i.standings origin x + 5 ≤ 64 * weight p q
+      by : (o : Option LinkKey) → get (groups p).submits q ≡ o → message_load i.groups origin x + 5 ≤ 64 * weight p q
       by None is =
-          let none = ap (taken_of i.standings) (ap (λ (g : Grouping). get g.submits q) members-kept ∙ is) in
+          let none = ap (taken_of i.groups) (ap (λ (g : Grouping). get g.submits q) members-kept ∙ is) in
           omega (arith, none)
       by (Some key) is =
-          let some = ap (taken_of i.standings) (ap (λ (g : Grouping). get g.submits q) members-kept ∙ is) in
+          let some = ap (taken_of i.groups) (ap (λ (g : Grouping). get g.submits q) members-kept ∙ is) in
           let load = load-kept key in
           let own : ◌≡◌ {A = ℕ} (weight p q) (1 + members (groups p) key) =
           ap (λ (o : Option LinkKey). 1 + unwrap_or (option_map (members (groups p)) (option_or o
@@ -212,7 +212,7 @@ module _ (p : PresentValue) (i : Index) (k : Pairings) (kept : IsKept p i k) whe
           (option_and_then (λ pair. get (groups p).submits pair.request) (pair_in p q))))) 0) is in
           omega (arith, some, load, own)
 
-  receipt-weighs : (origin : Origin) (x : KeptPdu) → receipt_load i.standings origin x + 5 ≤ 64 * weight p (place_of origin FromCentre x)
+  receipt-weighs : (origin : Origin) (x : StoredPdu) → receipt_load i.groups origin x + 5 ≤ 64 * weight p (place_of origin FromCentre x)
   receipt-weighs origin x = by (get (groups p).receipts q) refl
     where
       q : Place
@@ -221,14 +221,14 @@ module _ (p : PresentValue) (i : Index) (k : Pairings) (kept : IsKept p i k) whe
       none : get (groups p).submits q ≡ None
       none = submit-absent p.settings q (traffic_of p.sessions) (no-message p.sessions q refl)
 
-      by : (o : Option GroupedReceipt) → get (groups p).receipts q ≡ o → receipt_load i.standings origin x + 5 ≤ 64 * weight p q
+      by : (o : Option GroupedReceipt) → get (groups p).receipts q ≡ o → receipt_load i.groups origin x + 5 ≤ 64 * weight p q
       by None is =
-          let none = ap (λ (g : Grouping). taken_of i.standings (receipt_key_at g q)) members-kept
-          ∙ ap (λ (o : Option GroupedReceipt). taken_of i.standings (option_map (λ r. r.key) o)) is in
+          let none = ap (λ (g : Grouping). taken_of i.groups (receipt_key_at g q)) members-kept
+          ∙ ap (λ (o : Option GroupedReceipt). taken_of i.groups (option_map (λ r. r.key) o)) is in
           omega (arith, none)
       by (Some r) is =
-          let some = ap (λ (g : Grouping). taken_of i.standings (receipt_key_at g q)) members-kept
-          ∙ ap (λ (o : Option GroupedReceipt). taken_of i.standings (option_map (λ r. r.key) o)) is in
+          let some = ap (λ (g : Grouping). taken_of i.groups (receipt_key_at g q)) members-kept
+          ∙ ap (λ (o : Option GroupedReceipt). taken_of i.groups (option_map (λ r. r.key) o)) is in
           let load = load-kept r.key in
           let own : ◌≡◌ {A = ℕ} (weight p q) (1 + members (groups p) r.key) =
           (λ j. 1 + unwrap_or (option_map (members (groups p)) (option_or (none j)
@@ -236,7 +236,7 @@ module _ (p : PresentValue) (i : Index) (k : Pairings) (kept : IsKept p i k) whe
           (option_and_then (λ pair. get (groups p).submits pair.request) (pair_in p q))))) 0) in
           omega (arith, some, load, own)
 
-  sum-weighs : (f : KeptPdu → ℕ) (at : KeptPdu → Place) → ((x : KeptPdu) → f x + 5 ≤ 64 * weight p (at x)) → (xs : List KeptPdu)
+  sum-weighs : (f : StoredPdu → ℕ) (at : StoredPdu → Place) → ((x : StoredPdu) → f x + 5 ≤ 64 * weight p (at x)) → (xs : List StoredPdu)
       → sum_by f xs + 5 * length xs ≤ 64 * weights p (map at xs)
   sum-weighs f at each [] = omega arith
   sum-weighs f at each (x ∷ xs) =
@@ -247,15 +247,15 @@ module _ (p : PresentValue) (i : Index) (k : Pairings) (kept : IsKept p i k) whe
       omega (arith, one, rest, a, b)
 
   pub withdraw-bound : (n : SessionId) (s : Session) → session_of p n.0 ≡ Some s
-      → sum_by (message_load i.standings (from_session n)) (kept_pdus s.client)
-      + sum_by (receipt_load i.standings (from_session n)) (kept_pdus s.centre)
+      → sum_by (message_load i.groups (from_session n)) (kept_pdus s.client)
+      + sum_by (receipt_load i.groups (from_session n)) (kept_pdus s.centre)
       + length (session_notes (n.0, s)) ≤ 64 * (1 + reach p (Withdraw n))
   withdraw-bound n s there =
       let origin = from_session n in
       let client = kept_pdus s.client in
       let centre = kept_pdus s.centre in
-      let messages = sum-weighs (message_load i.standings origin) (place_of origin FromClient) (message-weighs origin) client in
-      let receipts = sum-weighs (receipt_load i.standings origin) (place_of origin FromCentre) (receipt-weighs origin) centre in
+      let messages = sum-weighs (message_load i.groups origin) (place_of origin FromClient) (message-weighs origin) client in
+      let receipts = sum-weighs (receipt_load i.groups origin) (place_of origin FromCentre) (receipt-weighs origin) centre in
       let notes = session-notes-few n.0 s in
       let both = sum_by-append (weight p) (map (place_of origin FromClient) client) (map (place_of origin FromCentre) centre) in
       let here = ap (λ (o : Option Session). weights p (unwrap_or (option_map (λ session. session_places (n.0, session)) o) [])) there in
@@ -266,7 +266,7 @@ module _ (p : PresentValue) (i : Index) (k : Pairings) (kept : IsKept p i k) whe
 -- what a made append leaves is what is present then
 append-bound-in : (p : PresentValue) (batch : BatchValue) (members_then : Grouping) (pairs_then : PairingValue) (after : Session)
     → session_of p batch.session.0 ≡ Some after → members_then ≡ groups p → pairs_then ≡ pairing_in p.sessions batch.session.0
-    → (before : List KeptPdu) → kept_pdus (direction batch.dir after) ≡ before ++ batch_pdus batch
+    → (before : List StoredPdu) → kept_pdus (direction batch.dir after) ≡ before ++ batch_pdus batch
     → sum_by (pdu_load members_then pairs_then (from_session batch.session) batch.dir) (batch_pdus batch) ≤ 64 * weights p (batch_places batch)
 append-bound-in p batch members_then pairs_then after there members pairs before all =
     let bound = pdus-bound p batch.session.0 after there batch.dir before (batch_pdus batch) all in
@@ -320,7 +320,7 @@ module _ (now : BookValue) (p : PresentValue) (i : Index) (k : Pairings) (seen :
     where
       by : index_cost j + pairs_touches l ≤ index_cost i + pairs_touches k + 64 * (1 + reach p e) → touches_of j l ≤ now.touches + 64 * (1 + reach now.present edit)
       by more =
-          let groups = kept.pending.standings in
+          let groups = kept.pending.groups in
           let facts = kept.pending.facts in
           let of-numbers = kept.pending.numbers in
           let touched : touches_of i k ≡ now.touches = ap (λ (b : BookValue). b.touches) seen in

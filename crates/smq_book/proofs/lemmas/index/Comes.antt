@@ -17,7 +17,7 @@ use Rattle.smq_group.specs.Groups.{GroupsValue, vacancies, with_receipt, with_su
 use Rattle.smq_group.specs.Matching.{Grouping, GroupedReceipt}
 use Rattle.smq_pair.specs.Pairing.{PairingValue, pair_at}
 use Rattle.smq_pair.specs.declared.pairing.Pair.{Pair}
-use Rattle.smq_present.specs.declared.present.kept.KeptPdu.{KeptPdu}
+use Rattle.smq_present.specs.declared.present.kept.StoredPdu.{StoredPdu}
 use Rattle.smq_present.specs.present.Settings.{SettingsValue}
 use Rattle.smq_present.specs.pairing.Traffic.{Message, Origin, ReceivedReceipt, TrafficValue, place_of}
 use Rattle.smq_present.specs.join.Keyed.{accepted_key, grouping_of, keyed_receipt, receipt_key}
@@ -174,7 +174,7 @@ module _ (g h : GroupsValue) (come : MembersCome g h) where
       omega (arith, same, more)
 
   pub pdu-heavier : (v w : PairingValue) → ((q : Place) (pair : Pair) → pair_at v q ≡ Some pair → pair_at w q ≡ Some pair)
-      → (origin : Origin) (dir : Dir) (p : KeptPdu) → pdu_load g.members v origin dir p ≤ pdu_load h.members w origin dir p
+      → (origin : Origin) (dir : Dir) (p : StoredPdu) → pdu_load g.members v origin dir p ≤ pdu_load h.members w origin dir p
   pdu-heavier v w stays origin dir p =
       let q = place_of origin dir p in
       let one = submit-heavier q in

@@ -28,7 +28,7 @@ use Rattle.smq_book.specs.declared.index.due_at.DueAt.{DueAt}
 use Rattle.smq_present.specs.present.Settings.{SettingsValue}
 use Rattle.smq_present.specs.pairing.Traffic.{Message, TrafficValue}
 use Rattle.smq_present.specs.join.Circumstances.{circumstances, lapsed_in}
-use Rattle.smq_present.specs.join.Facts.{fact_by, facts_of}
+use Rattle.smq_present.specs.join.Facts.{fact_in_circumstances, facts_of}
 use Rattle.smq_present.specs.join.Outcomes.{is_shared, responded, says_delivered}
 use Rattle.smq_book.specs.edits.Reached.{is_due, is_open, messages_due_on, outcome_in}
 use Rattle.smq_book.specs.index.Due.{due_at, due_by_fact, due_cmp, due_in, due_of, is_due_fact, places_due_on}
@@ -276,7 +276,7 @@ module _ (s : SettingsValue) (t : TrafficValue) (q : Place) where
       (is_shared c.standing) (says_delivered c.decider) (is_some c.decider) (not m.asks_receipt) c.lapsed
 
   pub told-due : (m : Message) → get t.messages q ≡ Some m → is_due_fact (get (facts_of s t) q) ≡ is_due (outcome_in s t m)
-  told-due m is = ap is_due_fact (fact-at s t q ∙ ap (option_map (λ m. fact_by q m (circumstances s t m))) is)
+  told-due m is = ap is_due_fact (fact-at s t q ∙ ap (option_map (λ m. fact_in_circumstances q m (circumstances s t m))) is)
 
   passes-due : (test : DueAt → Bool) (m : Message) (b : Bool)
       → passes test (cond b (Some (due_at m.link m.moment q)) None) ≡ (b && test (due_at m.link m.moment q))

@@ -31,7 +31,7 @@ use Rattle.smq_book.specs.declared.index.index.Index.{Index}
 use Rattle.smq_present.specs.present.Settings.{SettingsValue}
 use Rattle.smq_present.specs.pairing.Traffic.{Message, ReceivedReceipt, TrafficValue}
 use Rattle.smq_present.specs.join.Circumstances.{circumstances, route_in}
-use Rattle.smq_present.specs.join.Facts.{fact_by, facts_of}
+use Rattle.smq_present.specs.join.Facts.{fact_in_circumstances, facts_of}
 use Rattle.smq_present.specs.join.Keyed.{accepted_key, grouping_of, keyed_receipt}
 use Rattle.smq_present.specs.join.Listings.{is_named, notes_of}
 use Rattle.smq_present.specs.join.Moves.{IsMove, TakeMessage, TakeReceipt, put_message, put_receipt, take_message, take_receipt}
@@ -91,7 +91,7 @@ traffic-stands : (s : SettingsValue) (t : TrafficValue) → IsTraffic t → Stan
 traffic-stands s t traffic = record { apart = (traffic-apart s t traffic).apart }
 
 pub stored-held : (s : SettingsValue) (t : TrafficValue) (i : Index) → IsTraffic t → held_now i ≡ held_of s t
-    → Stores s t i.messages.content i.receipts.content i.standings.members
+    → Stores s t i.messages.content i.receipts.content i.groups.members
 stored-held s t i traffic held = record {
   messages = ap (λ (h : Holding). h.messages) held;
   receipts = ap (λ (h : Holding). h.receipts) held;
@@ -120,7 +120,7 @@ module _ {s : SettingsValue} {u : TrafficValue} {ms : List (Place × Message)} {
 
 -- members that an index holds of traffic are those of what it stores
 pub are-held : (s : SettingsValue) (t : TrafficValue) (i : Index) → IsTraffic t → held_now i ≡ held_of s t
-    → AreOf s (stored_traffic i.messages.content i.receipts.content) i.standings.members
+    → AreOf s (stored_traffic i.messages.content i.receipts.content) i.groups.members
 are-held s t i traffic held = are-stored (stored-held s t i traffic held)
 
 -- ---- after a move
@@ -237,7 +237,7 @@ module _ (s : SettingsValue) (t : TrafficValue) (i : Index) (held : held_now i �
   unknown-before q none =
       ap (λ (h : Holding). get h.facts q) held
       ∙ fact-at s t q
-      ∙ ap (option_map (λ (m : Message). fact_by q m (circumstances s t m))) none
+      ∙ ap (option_map (λ (m : Message). fact_in_circumstances q m (circumstances s t m))) none
 
   -- the numbers where a message is put in, and where one is taken out
   pub numbers-came : {numbers : FinSet number_cmp} (q : Place) (m : Message) → get t.messages q ≡ None
@@ -288,7 +288,7 @@ module _ (s : SettingsValue) (t u : TrafficValue) (i : Index) {ms : List (Place 
 
   -- where messages, receipts, members, facts, notes and numbers of an index are those of the traffic, and the messages
   -- whose receipts are due are those of its facts, it holds that
-  holds : (j : Index) → j.messages.content ≡ ms → j.receipts.content ≡ rs → j.standings.members ≡ h → j.tally.facts ≡ facts_of s u
+  holds : (j : Index) → j.messages.content ≡ ms → j.receipts.content ≡ rs → j.groups.members ≡ h → j.tally.facts ≡ facts_of s u
       → j.tally.notes ≡ notes_of s u → IsDue s.windows j → j.numbers.numbers ≡ numbers_of u → held_now j ≡ held_of s u
   holds j messages receipts members facts notes due numbers =
       let said = ap messages_in messages ∙ stores.messages in
@@ -305,15 +305,15 @@ module _ (s : SettingsValue) (t u : TrafficValue) (i : Index) {ms : List (Place 
 
   -- the same where it keeps what another says, and has these facts and notes
   pub holds-said : {before : Index} (j : Index) → KeepsSaid before j → before.messages.content ≡ ms → before.receipts.content ≡ rs
-      → before.standings.members ≡ h → (tally : TallyValue) → tally.facts ≡ facts_of s u → tally.notes ≡ notes_of s u
+      → before.groups.members ≡ h → (tally : TallyValue) → tally.facts ≡ facts_of s u → tally.notes ≡ notes_of s u
       → IsDue s.windows (record j { tally = tally }) → before.numbers.numbers ≡ numbers_of u → held_now (record j { tally = tally }) ≡ held_of s u
   holds-said j said messages receipts members tally facts notes due numbers =
       holds (record j { tally = tally }) (ap (λ (k : KeepingMap Place Message). k.content) said.messages ∙ messages)
       (ap (λ (k : KeepingMap Place ReceivedReceipt). k.content) said.receipts ∙ receipts)
-      (ap (λ (v : GroupsValue). v.members) said.standings ∙ members) facts notes due
+      (ap (λ (v : GroupsValue). v.members) said.groups ∙ members) facts notes due
       (ap (λ (n : NumbersValue). n.numbers) said.numbers ∙ numbers)
 
-  module _ (cs : List Change) (tells : TellsChanges i.standings.members h cs) where
+  module _ (cs : List Change) (tells : TellsChanges i.groups.members h cs) where
     tells-moved : TellsChanges (grouping_of s t) (grouping_of s u) cs
     tells-moved =
         subst (λ (x : Grouping). TellsChanges (grouping_of s t) x cs) stores.members
@@ -328,7 +328,7 @@ module _ (s : SettingsValue) (t u : TrafficValue) (i : Index) {ms : List (Place 
 
     -- so it is held where facts and notes follow what is told
     pub holds-told : {before : Index} {new : Option Place} (j : Index) → KeepsSaid before j → before.messages.content ≡ ms
-        → before.receipts.content ≡ rs → before.standings.members ≡ h → IsAnew s new j (facts_anew now i.tally.facts cs) (notes_anew h i.tally.notes cs)
+        → before.receipts.content ≡ rs → before.groups.members ≡ h → IsAnew s new j (facts_anew now i.tally.facts cs) (notes_anew h i.tally.notes cs)
         → tells_of q cs ≡ true → IsDue s.windows j → before.numbers.numbers ≡ numbers_of u → held_now j ≡ held_of s u
     holds-told j said messages receipts members set there due numbers =
         holds-said j said messages receipts members j.tally (set.facts ∙ facts-told there) (set.notes ∙ notes-told there) due numbers
@@ -382,11 +382,11 @@ module _ (s : SettingsValue) (t u : TrafficValue) (i : Index) {ms : List (Place 
           → get (facts_of s t) p ≡ Some f → f.route ≡ route_in s.versions n
       route p n f None e there is =
           let clash : ◌≡◌ {A = Option Fact} None (Some f) =
-          sym (fact-at s t p ∙ ap (option_map (λ (m : Message). fact_by p m (circumstances s t m))) e) ∙ is in absurd cc
+          sym (fact-at s t p ∙ ap (option_map (λ (m : Message). fact_in_circumstances p m (circumstances s t m))) e) ∙ is in absurd cc
       route p n f (Some m) e there is = fact-route s t p m f e is ∙ same_route p m n (eq_by_cmp place_cmp p q) refl e there
 
       from : (p : Place) (f : Fact) (x : Option Message) → get t.messages p ≡ x
-          → option_map (λ (m : Message). fact_by p m (circumstances s t m)) x ≡ Some f → p.dir ≡ FromClient
+          → option_map (λ (m : Message). fact_in_circumstances p m (circumstances s t m)) x ≡ Some f → p.dir ≡ FromClient
       from p f None e is = absurd cc
       from p f (Some m) e is = traffic.messages p m e
 
@@ -408,8 +408,8 @@ module _ (s : SettingsValue) (t u : TrafficValue) (i : Index) {ms : List (Place 
           at-receipts s (stored_traffic ms rs) h are p
           ∙ ap (option_and_then (λ (r : ReceivedReceipt). Some (keyed_receipt s r))) (are.apart p m e)
 
-  pub told : (cs : List Change) → TellsChanges i.standings.members h cs → AreTold h cs
-  told cs tells = told-now h stand-apart i.standings.members cs tells
+  pub told : (cs : List Change) → TellsChanges i.groups.members h cs → AreTold h cs
+  told cs tells = told-now h stand-apart i.groups.members cs tells
 
   module _ (before : get t.receipts q ≡ None) (after : get u.receipts q ≡ None) where
     none_held : list_held h q ≡ None
@@ -426,7 +426,7 @@ module _ (s : SettingsValue) (t u : TrafficValue) (i : Index) {ms : List (Place 
     -- its fact is put alone, where its receipt is due neither before nor after
     pub holds-unaccepted : grouping_of s t ≡ grouping_of s u → (m : Message) (f : Fact) (j : Index) → get u.messages q ≡ Some m
         → Some f ≡ get (facts_of s u) q → is_due_fact (Some f) ≡ is_due_fact (get i.tally.facts q)
-        → j.messages.content ≡ ms → j.receipts.content ≡ rs → j.standings.members ≡ h
+        → j.messages.content ≡ ms → j.receipts.content ≡ rs → j.groups.members ≡ h
         → j.tally.facts ≡ insert i.tally.facts q f → j.tally.notes ≡ i.tally.notes
         → AreDue s.windows (messages_in j.messages.content) i.tally.facts (dues_in j.due.content) (ends_in j.ends.content)
         → j.numbers.numbers ≡ numbers_of u → held_now j ≡ held_of s u
@@ -441,7 +441,7 @@ module _ (s : SettingsValue) (t u : TrafficValue) (i : Index) {ms : List (Place 
       unknown = fact-absent s (stored_traffic ms rs) h (are-stored stores) q (ap (λ (x : FinMap place_cmp Message). get x q) stores.messages ∙ gone)
 
       -- of a message that was taken out: its fact goes last, and its place is noted in no list
-      module _ (cs : List Change) (tells : TellsChanges i.standings.members h cs) where
+      module _ (cs : List Change) (tells : TellsChanges i.groups.members h cs) where
         pub facts-gone : remove (facts_anew now i.tally.facts cs) q ≡ facts_of s u
         facts-gone = ap (set_at (facts_anew now i.tally.facts cs) q) (sym unknown) ∙ facts-taken cs tells
 

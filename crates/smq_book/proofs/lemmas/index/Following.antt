@@ -20,7 +20,7 @@ use Rattle.smq_group.specs.Standings.{standing_at}
 use Rattle.smq_present.specs.present.Settings.{SettingsValue}
 use Rattle.smq_present.specs.pairing.Traffic.{Message, ReceivedReceipt, TrafficValue}
 use Rattle.smq_present.specs.join.Circumstances.{circumstances, route_in}
-use Rattle.smq_present.specs.join.Facts.{fact_by, facts_of}
+use Rattle.smq_present.specs.join.Facts.{fact_in_circumstances, facts_of}
 use Rattle.smq_book.specs.declared.index.index.Index.{Index}
 use Rattle.smq_book.specs.index.Anew.{CanFollow, KeepsSaid, stored_in}
 use Rattle.smq_book.specs.index.Following.{MayFollow}
@@ -35,7 +35,7 @@ pub both-keep : {i j k : Index} → KeepsSaid i j → KeepsSaid j k → KeepsSai
 both-keep a b = record {
   messages = b.messages ∙ a.messages;
   receipts = b.receipts ∙ a.receipts;
-  standings = b.standings ∙ a.standings;
+  groups = b.groups ∙ a.groups;
   numbers = b.numbers ∙ a.numbers;
   settled = b.settled ∙ a.settled;
   settled_due = b.settled_due ∙ a.settled_due;
@@ -47,7 +47,7 @@ pub said-by : (i : Index) (tally : TallyValue) → tally.settled ≡ i.tally.set
 said-by i tally settled = record {
   messages = refl;
   receipts = refl;
-  standings = refl;
+  groups = refl;
   numbers = refl;
   settled = settled;
   settled_due = refl;
@@ -59,10 +59,10 @@ said-itself {i} = said-by i i.tally refl
 
 -- where it stays, with these facts and notes, others follow by it as before
 pub follow-still : {i j : Index} (s : SettingsValue) (new : Option Place) (facts : FinMap place_cmp Fact) (notes : FinSet listed_cmp)
-    → KeepsSaid i j → j.tally.facts ≡ facts → j.tally.notes ≡ notes → MayFollow s (stored_in i) i.standings.members new facts notes
+    → KeepsSaid i j → j.tally.facts ≡ facts → j.tally.notes ≡ notes → MayFollow s (stored_in i) i.groups.members new facts notes
     → CanFollow s new j
 follow-still {i} {j} s new facts notes said sets noted may = subst (CanFollow s new) (λ k. record j {
-  standings = sym said.standings k;
+  groups = sym said.groups k;
   messages = sym said.messages k;
   receipts = sym said.receipts k;
   tally = record j.tally { facts = sym sets k; notes = sym noted k };
@@ -77,9 +77,9 @@ apart p q client centre same =
 pub fact-route : (s : SettingsValue) (t : TrafficValue) (q : Place) (m : Message) (f : Fact) → get t.messages q ≡ Some m
     → get (facts_of s t) q ≡ Some f → f.route ≡ route_in s.versions m
 fact-route s t q m f there is =
-    let one : ◌≡◌ {A = Option Fact} (Some (fact_by q m (circumstances s t m))) (Some f) =
-    sym (fact-at s t q ∙ ap (option_map (λ (m : Message). fact_by q m (circumstances s t m))) there) ∙ is in
-    let same : fact_by q m (circumstances s t m) ≡ f = cc in
+    let one : ◌≡◌ {A = Option Fact} (Some (fact_in_circumstances q m (circumstances s t m))) (Some f) =
+    sym (fact-at s t q ∙ ap (option_map (λ (m : Message). fact_in_circumstances q m (circumstances s t m))) there) ∙ is in
+    let same : fact_in_circumstances q m (circumstances s t m) ≡ f = cc in
     ap (λ (f : Fact). f.route) (sym same)
 
 module _ (s : SettingsValue) (t : TrafficValue) (g : Grouping) (facts : FinMap place_cmp Fact) (notes : FinSet listed_cmp)

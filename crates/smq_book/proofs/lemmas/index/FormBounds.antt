@@ -22,8 +22,8 @@ use Rattle.smq_group.proofs.Earliest.{one_key}
 use Rattle.smq_group.specs.Groups.{GroupsValue, vacancies}
 use Rattle.smq_group.specs.Matching.{Grouping, GroupedReceipt}
 use Rattle.smq_book.specs.declared.index.index.Index.{Index}
-use Rattle.smq_book.specs.declared.index.stored.Said.{Said}
-use Rattle.smq_book.specs.declared.index.stored.Said.TheVariants as said
+use Rattle.smq_book.specs.declared.index.stored.Item.{Item}
+use Rattle.smq_book.specs.declared.index.stored.Item.TheVariants as said
 use Rattle.smq_present.specs.declared.present.edit.Edit.TheVariants.{SetForm}
 use Rattle.smq_present.specs.present.Present.{PresentValue}
 use Rattle.smq_present.specs.present.Settings.{SettingsValue, forms_of}
@@ -34,7 +34,7 @@ use Rattle.smq_book.specs.edits.Reach.{groups, link_places, members, pair_in, re
 use Rattle.smq_book.specs.edits.Reached.{link_messages, link_receipts, passing}
 use Rattle.smq_book.specs.index.Held.{Holding, IsTraffic}
 use Rattle.smq_book.specs.index.Kept.{IsIndexed}
-use Rattle.smq_book.specs.index.LinkOut.{accepted_on, all_said, is_accepted, keyed_on, keyed_places, said_in}
+use Rattle.smq_book.specs.index.LinkOut.{accepted_on, all_said, is_accepted, keyed_on, keyed_places, item_in}
 use Rattle.smq_book.specs.index.Touches.{MembersGo, key_in, members_at, put_load, receipt_key_at, said_key, taken_load, taken_of, walk_of}
 use Rattle.smq_book.proofs.lemmas.index.Accepted.{fewer, same-keys}
 use Rattle.smq_book.proofs.lemmas.index.KeyMeets.{few-meet, hits}
@@ -122,7 +122,7 @@ message_keys s e = option_to_list (accepted_key s e.1)
 abbrev receipt_keys : SettingsValue → Place × ReceivedReceipt → List LinkKey
 receipt_keys s e = receipt_key s e.1 ∷ []
 
-abbrev said_keys : SettingsValue → Place × Said → List LinkKey
+abbrev said_keys : SettingsValue → Place × Item → List LinkKey
 said_keys s e = option_to_list (said_key s e.1)
 
 keys-of : (s : SettingsValue) (ms : List (Place × Message)) (rs : List (Place × ReceivedReceipt))
@@ -264,12 +264,12 @@ sum-more g None ks = omega arith
 sum-more g (Some k) ks = sum_by-cons (members g) k ks
 
 -- the members of the keys of messages and delivery receipts
-abbrev said_sum : Grouping → SettingsValue → List (Place × Said) → ℕ
+abbrev said_sum : Grouping → SettingsValue → List (Place × Item) → ℕ
 said_sum g s es = sum_by (members g) (flat_map (said_keys s) es)
 
 -- what stands at a place is a member of its key
 module _ (s : SettingsValue) (t : TrafficValue) (q : Place) where
-  key-there : (d : Dir) (x : Said) → said_in d t q ≡ Some x → key_in d (grouping_of s t) q ≡ said_key s x
+  key-there : (d : Dir) (x : Item) → item_in d t q ≡ Some x → key_in d (grouping_of s t) q ≡ said_key s x
   key-there FromClient x there = by (get t.messages q) refl there
     where
       by : (found : Option Message) → get t.messages q ≡ found → option_map said.Message found ≡ Some x → get (grouping_of s t).submits q ≡ said_key s x
@@ -284,17 +284,17 @@ module _ (s : SettingsValue) (t : TrafficValue) (q : Place) where
           let same : said.Receipt r ≡ x = cc in ap (option_map (λ (r : GroupedReceipt). r.key)) (receipt-there s q t r at) ∙ ap (said_key s) same
 
 -- what takes and puts cost
-module _ (p : PresentValue) (i : Index) (is : IsIndexed p i) (z : SettingsValue) (h : GroupsValue) (n : Grouping) (went : MembersGo i.standings h) where
+module _ (p : PresentValue) (i : Index) (is : IsIndexed p i) (z : SettingsValue) (h : GroupsValue) (n : Grouping) (went : MembersGo i.groups h) where
   abbrev t : TrafficValue
   t = traffic_of p.sessions
 
-  members-are-now : i.standings.members ≡ groups p
+  members-are-now : i.groups.members ≡ groups p
   members-are-now = ap (λ (h : Holding). h.members) is.held.held ∙ ap (grouping_of p.settings) is.traffic
 
-  loaded : (key : Option LinkKey) → taken_of i.standings key ≡ 33 * members_at (groups p) key
+  loaded : (key : Option LinkKey) → taken_of i.groups key ≡ 33 * members_at (groups p) key
   loaded None = refl
   loaded (Some key) =
-      let none : vacancies i.standings key ≡ 0 = ap (λ (vacant : List LinkKey). count_by (same_key key) vacant) is.pending.vacant in
+      let none : vacancies i.groups key ≡ 0 = ap (λ (vacant : List LinkKey). count_by (same_key key) vacant) is.pending.vacant in
       let same = ap (λ (g : Grouping). members g key) members-are-now in
       omega (arith, none, same)
 
@@ -306,14 +306,14 @@ module _ (p : PresentValue) (i : Index) (is : IsIndexed p i) (z : SettingsValue)
       let same = ap (λ (g : Grouping). members g key) members-are-now in
       omega (arith, vacant, load, same)
 
-  cost : (es : List (Place × Said)) → AllByRecursion (IsThere t) es
-      → sum_by (taken_load i.standings) (map (λ e. e.0) es) + sum_by (put_load h n z) es
+  cost : (es : List (Place × Item)) → AllByRecursion (IsThere t) es
+      → sum_by (taken_load i.groups) (map (λ e. e.0) es) + sum_by (put_load h n z) es
       ≤ 92 * length es + 33 * said_sum (groups p) p.settings es + 2 * said_sum (groups p) z es + 15 * said_sum n z es
   cost [] a = omega arith
   cost (e ∷ es) a =
-      let b = sum_by-cons (taken_load i.standings) e.0 (map (λ e. e.0) es) in
+      let b = sum_by-cons (taken_load i.groups) e.0 (map (λ e. e.0) es) in
       let c = sum_by-cons (put_load h n z) e es in
-      let here = ap (taken_of i.standings) (ap (λ (g : Grouping). key_in e.0.dir g e.0) members-are-now ∙ key-there p.settings t e.0 e.0.dir e.1 a.0) in
+      let here = ap (taken_of i.groups) (ap (λ (g : Grouping). key_in e.0.dir g e.0) members-are-now ∙ key-there p.settings t e.0 e.0.dir e.1 a.0) in
       let load = loaded (said_key p.settings e.1) in
       let walk = walked (said_key z e.1) in
       let x = sum-more (groups p) (said_key p.settings e.1) (flat_map (said_keys p.settings) es) in
@@ -327,7 +327,7 @@ module _ (p : PresentValue) (is : IsTraffic (traffic_of p.sessions)) where
   abbrev said_now : TrafficValue
   said_now = traffic_of p.sessions
 
-  weighs : (q : Place) (x : Said) (d : Dir) → q.dir ≡ d → said_in d said_now q ≡ Some x → 1 + members_at (groups p) (said_key p.settings x) ≤ weight p q
+  weighs : (q : Place) (x : Item) (d : Dir) → q.dir ≡ d → item_in d said_now q ≡ Some x → 1 + members_at (groups p) (said_key p.settings x) ≤ weight p q
   weighs q x FromClient stands there = by (said_key p.settings x) (key-there p.settings said_now q FromClient x there)
     where
       by : (o : Option LinkKey) → get (groups p).submits q ≡ o → 1 + members_at (groups p) o ≤ weight p q
@@ -351,7 +351,7 @@ module _ (p : PresentValue) (is : IsTraffic (traffic_of p.sessions)) where
           (option_or (at j) (option_and_then (λ pair. get (groups p).submits pair.request) (pair_in p q))))) 0) in
           omega (arith, own)
 
-  weigh : (es : List (Place × Said)) → AllByRecursion (IsThere said_now) es → length es + said_sum (groups p) p.settings es ≤ weights p (map (λ e. e.0) es)
+  weigh : (es : List (Place × Item)) → AllByRecursion (IsThere said_now) es → length es + said_sum (groups p) p.settings es ≤ weights p (map (λ e. e.0) es)
   weigh [] a = omega arith
   weigh (e ∷ es) a =
       let one = weighs e.0 e.1 e.0.dir refl a.0 in
@@ -375,9 +375,9 @@ module _ (p : PresentValue) (is : IsTraffic (traffic_of p.sessions)) where
 
 -- forms that are set
 pub forms-bound : (p : PresentValue) (i : Index) → IsIndexed p i → (link : LinkId) (response receipt : Form)
-    → (z : SettingsValue) (h : GroupsValue) (n : Grouping) → MembersGo i.standings h
+    → (z : SettingsValue) (h : GroupsValue) (n : Grouping) → MembersGo i.groups h
     → z ≡ (change p (SetForm link response receipt)).settings → n ≡ groups (change p (SetForm link response receipt))
-    → 2 + length (keyed_places link (traffic_of p.sessions)) + sum_by (taken_load i.standings) (keyed_places link (traffic_of p.sessions))
+    → 2 + length (keyed_places link (traffic_of p.sessions)) + sum_by (taken_load i.groups) (keyed_places link (traffic_of p.sessions))
     + sum_by (put_load h n z) (keyed_on link (traffic_of p.sessions))
     ≤ 64 * (1 + reach p (SetForm link response receipt))
 forms-bound p i indexed link response receipt z h n went settings members_then =
@@ -390,9 +390,9 @@ forms-bound p i indexed link response receipt z h n went settings members_then =
     let all = cost p i indexed z h n went keyed
     (all-there t is (λ place (m : Message). m.link.0 == link.0 && is_accepted m) (λ place (r : ReceivedReceipt). r.link.0 == link.0)) in
     let places = places-of accepted rs in
-    let takes = ap (sum_by (taken_load i.standings)) places in
+    let takes = ap (sum_by (taken_load i.groups)) places in
     let looks = ap (λ (qs : List Place). length qs) places in
-    let placed = length-map keyed (λ (e : Place × Said). e.0) in
+    let placed = length-map keyed (λ (e : Place × Item). e.0) in
     let many = length-all accepted rs in
     let some : length accepted ≤ length (entries (link_messages link t)) = fewer p.settings link t in
     let old_keys = ap (sum_by (members (groups p))) (keyed-keys p.settings t link) in

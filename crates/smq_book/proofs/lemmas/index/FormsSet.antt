@@ -9,7 +9,7 @@ use Rattle.smq_kit.specs.declared.names.LinkId.{LinkId}
 use Rattle.smq_kit.specs.Maps.{set_at}
 use Rattle.smq_kit.proofs.MapLemmas as maps
 use Rattle.smq_present.specs.declared.present.forms.Forms.{Forms}
-use Rattle.smq_present.specs.present.Settings.{SettingsValue, forms_of, opening_forms, set_forms_of}
+use Rattle.smq_present.specs.present.Settings.{SettingsValue, forms_of, opening_forms, forms_if_set}
 use Rattle.smq_present.specs.present.Steps.{with_forms}
 use Rattle.smq_present.specs.join.Moves.{moved_by}
 use Rattle.smq_present.specs.pairing.Traffic.{TrafficValue}
@@ -37,11 +37,11 @@ module _ (s : SettingsValue) (link : LinkId) (f : Forms) (z : SettingsValue) (se
       (no-message-left link t is (traffic_held h) out) (no-receipt-left link t is (traffic_held h) out))
 
   -- the link has forms
-  pub forms-there : IsSome (set_forms_of z link.0)
+  pub forms-there : IsSome (forms_if_set z link.0)
   forms-there = subst IsSome (sym (ap (λ (z : SettingsValue). get z.forms link.0) set ∙ set-there s.forms link.0 f)) refl
 
   -- where those before are brought back, all that is set is as it was
-  pub forms-back : (before : Option Forms) (w : SettingsValue) → before ≡ set_forms_of s link.0
+  pub forms-back : (before : Option Forms) (w : SettingsValue) → before ≡ forms_if_set s link.0
       → w ≡ record z { forms = set_at z.forms link.0 before } → w ≡ s
   forms-back before w was is =
       is ∙ (λ i. record (set i) { forms = set_at (set i).forms link.0 (was i) })

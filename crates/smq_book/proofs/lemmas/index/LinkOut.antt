@@ -17,8 +17,8 @@ use Rattle.smq_kit.proofs.Comparisons.{first_test, is_less, second_test}
 use Rattle.smq_kit.proofs.MapLemmas as maps
 use Rattle.smq_kit.proofs.PlaceOrders.{places_total, places_exact}
 use Rattle.smq_tally.specs.Lists.{listed_set}
-use Rattle.smq_book.specs.declared.index.stored.Said.{Said}
-use Rattle.smq_book.specs.declared.index.stored.Said.TheVariants as said
+use Rattle.smq_book.specs.declared.index.stored.Item.{Item}
+use Rattle.smq_book.specs.declared.index.stored.Item.TheVariants as said
 use Rattle.smq_present.specs.present.Settings.{SettingsValue, forms_of}
 use Rattle.smq_present.specs.pairing.Traffic.{Message, ReceivedReceipt, TrafficValue}
 use Rattle.smq_book.specs.edits.Reached.{link_receipts, passing}
@@ -29,7 +29,7 @@ use Rattle.smq_book.specs.index.Coming.{AreNew}
 use Rattle.smq_book.specs.index.Due.{due_in}
 use Rattle.smq_book.specs.index.Ends.{ends_by}
 use Rattle.smq_book.specs.index.Held.{Holding, IsHeld, IsTraffic, KeepsTraffic, traffic_held}
-use Rattle.smq_book.specs.index.LinkOut.{accepted_on, all_said, found_in_turn, is_accepted, keyed_on, keyed_places, put_of, said_at, said_in, take_at, take_in}
+use Rattle.smq_book.specs.index.LinkOut.{accepted_on, all_said, found_in_turn, is_accepted, keyed_on, keyed_places, put_of, item_at, item_in, take_at, take_in}
 use Rattle.smq_book.specs.index.Numbered.{numbers_of}
 use Rattle.smq_book.proofs.lemmas.edits.LinkMoves.{passing-again, passing-taken}
 use Rattle.smq_book.proofs.lemmas.edits.Passing.{entries-passing, passing-does}
@@ -43,11 +43,11 @@ moves-more g h move left rest all is next so = ap (λ (t : TrafficValue). moved_
 
 -- ---- messages at their places, then delivery receipts
 
-abbrev pub IsThere : TrafficValue → Place × Said → Type 0
-IsThere t e = said_at t e.0 ≡ Some e.1
+abbrev pub IsThere : TrafficValue → Place × Item → Type 0
+IsThere t e = item_at t e.0 ≡ Some e.1
 
 -- what holds of all messages and of all receipts holds of all
-pub all-of : (P : Place × Said → Type 0) (ms : List (Place × Message)) (rs : List (Place × ReceivedReceipt))
+pub all-of : (P : Place × Item → Type 0) (ms : List (Place × Message)) (rs : List (Place × ReceivedReceipt))
     → AllByRecursion (λ (e : Place × Message). P (e.0, said.Message e.1)) ms
     → AllByRecursion (λ (e : Place × ReceivedReceipt). P (e.0, said.Receipt e.1)) rs → AllByRecursion P (all_said ms rs)
 all-of P [] [] a b = tt
@@ -61,7 +61,7 @@ weaker P Q f (x ∷ xs) a = (f x a.0, weaker P Q f xs a.1)
 
 -- their places
 pub places-of : (ms : List (Place × Message)) (rs : List (Place × ReceivedReceipt))
-    → map (λ (e : Place × Said). e.0) (all_said ms rs) ≡ map (λ e. e.0) ms ++ map (λ e. e.0) rs
+    → map (λ (e : Place × Item). e.0) (all_said ms rs) ≡ map (λ e. e.0) ms ++ map (λ e. e.0) rs
 places-of [] [] = refl
 places-of [] (r ∷ rs) = ap (λ (qs : List Place). r.0 ∷ qs) (places-of [] rs)
 places-of (m ∷ ms) rs = ap (λ (qs : List Place). m.0 ∷ qs) (places-of ms rs)
@@ -106,10 +106,10 @@ still-there m k (e ∷ es) h a =
     )
 
 -- the first of them
-found-first : (t : TrafficValue) (e : Place × Said) (d : Dir) (qs : List Place) (es : List (Place × Said)) → e.0.dir ≡ d → said_in d t e.0 ≡ Some e.1
+found-first : (t : TrafficValue) (e : Place × Item) (d : Dir) (qs : List Place) (es : List (Place × Item)) → e.0.dir ≡ d → item_in d t e.0 ≡ Some e.1
     → found_in_turn (moved t (take_in d e.0)) qs ≡ es → found_in_turn t (e.0 ∷ qs) ≡ e ∷ es
 found-first t e d qs es at there later =
-    (λ i. option_to_list (option_map (λ x. (e.0, x)) (said_in (at i) t e.0)) ++ found_in_turn (moved t (take_in (at i) e.0)) qs)
+    (λ i. option_to_list (option_map (λ x. (e.0, x)) (item_in (at i) t e.0)) ++ found_in_turn (moved t (take_in (at i) e.0)) qs)
     ∙ (λ i. option_to_list (option_map (λ x. (e.0, x)) (there i)) ++ later i)
 
 found : (t : TrafficValue) (ms : List (Place × Message)) (rs : List (Place × ReceivedReceipt)) → T (is_sorted place_cmp ms) → T (is_sorted place_cmp rs)
@@ -147,9 +147,9 @@ module _ (t : TrafficValue) (is : IsTraffic t) (f : Place → Message → Bool) 
   pub all-there : AllByRecursion (IsThere t) (all_said messages receipts)
   all-there = all-of (IsThere t) messages receipts
       (weaker (λ (e : Place × Message). get t.messages e.0 ≡ Some e.1) (λ (e : Place × Message). IsThere t (e.0, said.Message e.1))
-      (λ e there. ap (λ (d : Dir). said_in d t e.0) (is.messages e.0 e.1 there) ∙ ap (option_map said.Message) there) messages (entries-passing f t.messages))
+      (λ e there. ap (λ (d : Dir). item_in d t e.0) (is.messages e.0 e.1 there) ∙ ap (option_map said.Message) there) messages (entries-passing f t.messages))
       (weaker (λ (e : Place × ReceivedReceipt). get t.receipts e.0 ≡ Some e.1) (λ (e : Place × ReceivedReceipt). IsThere t (e.0, said.Receipt e.1))
-      (λ e there. ap (λ (d : Dir). said_in d t e.0) (is.receipts e.0 e.1 there) ∙ ap (option_map said.Receipt) there) receipts (entries-passing g t.receipts))
+      (λ e there. ap (λ (d : Dir). item_in d t e.0) (is.receipts e.0 e.1 there) ∙ ap (option_map said.Receipt) there) receipts (entries-passing g t.receipts))
 
 -- ---- what has a key on a link is out, and put in again
 
@@ -182,8 +182,8 @@ module _ (link : LinkId) (t : TrafficValue) (is : IsTraffic t) where
       (from-client t is accepted on_link) (from-centre t is accepted on_link) (entries-passing accepted t.messages) (entries-passing on_link t.receipts)
 
   -- each stands in its direction
-  pub keyed-stand : AllByRecursion (λ (e : Place × Said). KeepsTraffic (put_of e)) (keyed_on link t)
-  keyed-stand = all-of (λ (e : Place × Said). KeepsTraffic (put_of e)) (messages t is accepted on_link) (receipts t is accepted on_link)
+  pub keyed-stand : AllByRecursion (λ (e : Place × Item). KeepsTraffic (put_of e)) (keyed_on link t)
+  keyed-stand = all-of (λ (e : Place × Item). KeepsTraffic (put_of e)) (messages t is accepted on_link) (receipts t is accepted on_link)
       (from-client t is accepted on_link) (from-centre t is accepted on_link)
 
   module _ (u : TrafficValue) (out : u ≡ moved_by t (map take_at (keyed_places link t))) where

@@ -98,12 +98,6 @@ module _ (s : SettingsValue) (q : Place) (t : TrafficValue) where
   pub received-taken : grouping_of s (take_receipt q t) ≡ without_receipt (grouping_of s t) q
   received-taken = λ i. record { submits = (grouping_of s t).submits; receipts = received-set None i }
 
-  pub received-untaken : get t.receipts q ≡ None → grouping_of s (take_receipt q t) ≡ grouping_of s t
-  received-untaken none = λ i. record {
-    submits = (grouping_of s t).submits;
-    receipts = (received-set None ∙ stays-none (grouping_of s t).receipts q (receipt-absent none)) i;
-  }
-
 -- ---- traffic as sessions say it
 
 module _ (t : TrafficValue) (traffic : IsTraffic t) (q : Place) where

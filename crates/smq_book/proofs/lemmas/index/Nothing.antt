@@ -22,7 +22,7 @@ use Rattle.smq_present.specs.declared.present.session.Session.{Session}
 use Rattle.smq_present.specs.pairing.Traffic.{Message, ReceivedReceipt, TrafficValue, session_messages, session_notes, session_receipts, traffic_of}
 use Rattle.smq_present.specs.present.Settings.{SettingsValue, opening_settings}
 use Rattle.smq_present.specs.join.Circumstances.{circumstances}
-use Rattle.smq_present.specs.join.Facts.{fact_by, facts_of}
+use Rattle.smq_present.specs.join.Facts.{fact_in_circumstances, facts_of}
 use Rattle.smq_present.specs.join.Keyed.{accepted_key, grouping_of, keyed_receipt}
 use Rattle.smq_present.specs.join.Listings.{is_traffic_list, notes_of, receipt_listing, receipt_notes}
 use Rattle.smq_book.specs.index.Due.{due_by_fact}
@@ -79,7 +79,7 @@ module _ (s : SettingsValue) where
       (λ i. listed_set (no-keys i ++ receipt_notes (members-none i))) ∙ ap listed_set none-listed ∙ made-none listed_total listed_exact
 
   facts-none : facts_of s nothing_said ≡ empty
-  facts-none = chosen-none (λ place (m : Message). Some (fact_by place m (circumstances s nothing_said m)))
+  facts-none = chosen-none (λ place (m : Message). Some (fact_in_circumstances place m (circumstances s nothing_said m)))
 
   held-none : held_of s nothing_said ≡ nothing_held
   held-none = λ i. record {

@@ -15,11 +15,11 @@ use Rattle.smq_kit.specs.Orders.{place_cmp}
 use Rattle.smq_kit.proofs.PlaceOrders.{places_total, places_exact}
 use Rattle.smq_group.specs.Matching.{Grouping, GroupedReceipt}
 use Rattle.smq_pair.specs.Pairing as pairs
-use Rattle.smq_pair.specs.Pairing.{PairingValue, PlacedHeader, pair_at}
+use Rattle.smq_pair.specs.Pairing.{PairingValue, pair_at}
 use Rattle.smq_pair.specs.declared.pairing.Pair.{Pair}
 use Rattle.smq_receipt.specs.declared.reading.Receipt.{Receipt}
 use Rattle.smq_pdu.specs.Pairing.{is_request}
-use Rattle.smq_present.specs.declared.present.kept.KeptPdu.{KeptPdu}
+use Rattle.smq_present.specs.declared.present.kept.StoredPdu.{StoredPdu}
 use Rattle.smq_present.specs.declared.present.session.Session.{Session}
 use Rattle.smq_present.specs.present.Kept.{header_of, kept_pdus, receipt_in}
 use Rattle.smq_present.specs.present.Present.{PresentValue, direction, session_of}
@@ -39,16 +39,16 @@ use Rattle.smq_book.proofs.lemmas.index.Weights.{not-there}
 -- ---- the delivery receipt that a PDU is stands at its place
 
 module _ (origin : Origin) where
-  abbrev said_as : KeptPdu → Option Receipt → Option (Place × ReceivedReceipt)
+  abbrev said_as : StoredPdu → Option Receipt → Option (Place × ReceivedReceipt)
   said_as p receipt = option_map (λ (receipt : Receipt). (place_of origin FromCentre p, received origin p receipt)) receipt
 
-  passes : (q : Place) (p : KeptPdu) (receipt : Option Receipt) (rest : List (Place × ReceivedReceipt))
+  passes : (q : Place) (p : StoredPdu) (receipt : Option Receipt) (rest : List (Place × ReceivedReceipt))
       → eq_by_cmp place_cmp q (place_of origin FromCentre p) ≡ false
       → find place_cmp q (option_to_list (said_as p receipt) ++ rest) ≡ find place_cmp q rest
   passes q p None rest apart = refl
   passes q p (Some receipt) rest apart = ap (λ b. cond b (Some (received origin p receipt)) (find place_cmp q rest)) apart
 
-  stands : (p : KeptPdu) (receipt : Option Receipt) (rest : List (Place × ReceivedReceipt))
+  stands : (p : StoredPdu) (receipt : Option Receipt) (rest : List (Place × ReceivedReceipt))
       → find place_cmp (place_of origin FromCentre p) rest ≡ None
       → find place_cmp (place_of origin FromCentre p) (option_to_list (said_as p receipt) ++ rest) ≡ option_map (received origin p) receipt
   stands p None rest none = none
@@ -56,7 +56,7 @@ module _ (origin : Origin) where
       ap (λ b. cond b (Some (received origin p receipt)) (find place_cmp (place_of origin FromCentre p) rest))
       (ap is_eq (tied_itself places_total (place_of origin FromCentre p)))
 
-  none-below : (ps : List KeptPdu) (low : ℕ) (p : KeptPdu) → p.offset < low → Rises low ps
+  none-below : (ps : List StoredPdu) (low : ℕ) (p : StoredPdu) → p.offset < low → Rises low ps
       → find place_cmp (place_of origin FromCentre p) (receipts_among origin ps) ≡ None
   none-below [] low p h rises = refl
   none-below (x ∷ ps) low p h rises =
@@ -64,7 +64,7 @@ module _ (origin : Origin) where
       (elsewhere origin FromCentre p x (λ same. omega (arith, h, rises.0, same)))
       ∙ none-below ps (x.offset + 1) p (omega (arith, h, rises.0)) rises.1
 
-  own-receipt : (before later : List KeptPdu) (low : ℕ) (p : KeptPdu) → Rises low (before ++ p ∷ later)
+  own-receipt : (before later : List StoredPdu) (low : ℕ) (p : StoredPdu) → Rises low (before ++ p ∷ later)
       → find place_cmp (place_of origin FromCentre p) (receipts_among origin (before ++ p ∷ later)) ≡ option_map (received origin p) (receipt_in p.content)
   own-receipt [] later low p rises =
       stands p (receipt_in p.content) (receipts_among origin later) (none-below later (p.offset + 1) p (omega arith) rises.1)
@@ -78,7 +78,7 @@ at-split : {X : Type 0} (xs ys : List X) (y : X) → slice_get (xs ++ y ∷ ys) 
 at-split [] ys y = refl
 at-split (x ∷ xs) ys y = at-split xs ys y
 
-all-placed : (origin : Origin) (dir : Dir) (ps : List KeptPdu) → AllOf dir (map (placed origin dir) ps)
+all-placed : (origin : Origin) (dir : Dir) (ps : List StoredPdu) → AllOf dir (map (placed origin dir) ps)
 all-placed origin dir [] = tt
 all-placed origin dir (p ∷ ps) = (refl, all-placed origin dir ps)
 
@@ -98,7 +98,7 @@ module _ (p : PresentValue) (n : ℕ) (s : Session) (there : session_of p n ≡ 
   abbrev v : PairingValue
   v = session_pairing (n, s)
 
-  own-pair : (dir : Dir) (x : KeptPdu) → pair_in p (place_of at_origin dir x) ≡ pair_at v (place_of at_origin dir x)
+  own-pair : (dir : Dir) (x : StoredPdu) → pair_in p (place_of at_origin dir x) ≡ pair_at v (place_of at_origin dir x)
   own-pair dir x = ap (option_and_then (λ (session : Session). pair_at (session_pairing (n, session)) (place_of at_origin dir x))) there
 
   no-submit : (q : Place) → q.dir ≡ FromCentre → get g.submits q ≡ None
@@ -111,7 +111,7 @@ module _ (p : PresentValue) (n : ℕ) (s : Session) (there : session_of p n ≡ 
 
   -- ---- of the client
 
-  module _ (x : KeptPdu) where
+  module _ (x : StoredPdu) where
     abbrev q : Place
     q = place_of at_origin FromClient x
 
@@ -143,7 +143,7 @@ module _ (p : PresentValue) (n : ℕ) (s : Session) (there : session_of p n ≡ 
 
   -- ---- of the centre
 
-  module _ (before later : List KeptPdu) (x : KeptPdu) (all : kept_pdus s.centre ≡ before ++ x ∷ later) where
+  module _ (before later : List StoredPdu) (x : StoredPdu) (all : kept_pdus s.centre ≡ before ++ x ∷ later) where
     abbrev r : Place
     r = place_of at_origin FromCentre x
 
@@ -174,7 +174,7 @@ module _ (p : PresentValue) (n : ℕ) (s : Session) (there : session_of p n ≡ 
     stands-there : is_request (header_of x) ≡ true → (pair : Pair) → pair_at v r ≡ Some pair → pair.request ≡ r
     stands-there asks pair is =
         own-request v r pair (map (placed at_origin FromCentre) before, placed at_origin FromCentre x)
-        (ap (λ (ps : List KeptPdu). pairs.standing_at r (map (placed at_origin FromCentre) ps)) all
+        (ap (λ (ps : List StoredPdu). pairs.standing_at r (map (placed at_origin FromCentre) ps)) all
         ∙ standing at_origin FromCentre [] 0 before later x rises) asks refl is
 
     centre-bound : pdu_load g v at_origin FromCentre x ≤ 64 * weight p r
@@ -202,7 +202,7 @@ module _ (p : PresentValue) (n : ℕ) (s : Session) (there : session_of p n ≡ 
 
   -- ---- of either direction, the last of those that came
 
-  clients-bound : (ps : List KeptPdu) → sum_by (pdu_load g v at_origin FromClient) ps ≤ 64 * weights p (map (place_of at_origin FromClient) ps)
+  clients-bound : (ps : List StoredPdu) → sum_by (pdu_load g v at_origin FromClient) ps ≤ 64 * weights p (map (place_of at_origin FromClient) ps)
   clients-bound [] = omega arith
   clients-bound (x ∷ ps) =
       let one = client-bound x in
@@ -211,7 +211,7 @@ module _ (p : PresentValue) (n : ℕ) (s : Session) (there : session_of p n ≡ 
       let b = sum_by-cons (weight p) (place_of at_origin FromClient x) (map (place_of at_origin FromClient) ps) in
       omega (arith, one, rest, a, b)
 
-  centres-bound : (before ps : List KeptPdu) → kept_pdus s.centre ≡ before ++ ps
+  centres-bound : (before ps : List StoredPdu) → kept_pdus s.centre ≡ before ++ ps
       → sum_by (pdu_load g v at_origin FromCentre) ps ≤ 64 * weights p (map (place_of at_origin FromCentre) ps)
   centres-bound before [] all = omega arith
   centres-bound before (x ∷ ps) all =
@@ -221,7 +221,7 @@ module _ (p : PresentValue) (n : ℕ) (s : Session) (there : session_of p n ≡ 
       let b = sum_by-cons (weight p) (place_of at_origin FromCentre x) (map (place_of at_origin FromCentre) ps) in
       omega (arith, one, rest, a, b)
 
-  pub pdus-bound : (dir : Dir) (before ps : List KeptPdu) → kept_pdus (direction dir s) ≡ before ++ ps
+  pub pdus-bound : (dir : Dir) (before ps : List StoredPdu) → kept_pdus (direction dir s) ≡ before ++ ps
       → sum_by (pdu_load g v at_origin dir) ps ≤ 64 * weights p (map (place_of at_origin dir) ps)
   pdus-bound FromClient before ps all = clients-bound ps
   pdus-bound FromCentre before ps all = centres-bound before ps all

@@ -17,7 +17,7 @@ use Rattle.smq_pair.specs.Pairing.{PlacedHeader, pair_at, placed_header}
 use Rattle.smq_pair.specs.Growth.{made_by, pushed}
 use Rattle.smq_pdu.specs.declared.body.Submit.{Submit}
 use Rattle.smq_pdu.specs.Pairing.{is_request, is_response, request_rank, response_index}
-use Rattle.smq_present.specs.declared.present.kept.KeptPdu.{KeptPdu}
+use Rattle.smq_present.specs.declared.present.kept.StoredPdu.{StoredPdu}
 use Rattle.smq_present.specs.present.Kept.{header_of, headers_of, is_undecodable, is_unreadable, receipt_in, submit_in}
 use Rattle.smq_present.specs.pairing.Traffic.{Message, Origin, ReceivedReceipt, Response, TrafficValue, received, message_of, pairing_among, place_of, placed, response_in, response_to}
 use Rattle.smq_present.specs.within.Pairs.{Rises, SubmitsAreRequests}
@@ -29,7 +29,7 @@ use Rattle.smq_present.proofs.lemmas.pairing.Searched.{at-offset}
 use Rattle.smq_present.specs.present.Settings.{SettingsValue}
 use Rattle.smq_present.specs.join.Moves.{Move, PutMessage, TakeMessage, PutReceipt, TakeReceipt, PutNote, TakeNote, moved, moved_by}
 use Rattle.smq_book.specs.index.Held.{Holding, IsHeld, IsTraffic, KeepsTraffic, held_of, traffic_held}
-use Rattle.smq_book.specs.index.Pushed.{IsHeldAfter, answer_moves, message_with, noted_moves, receipt_moves, said_by, said_in, submit_moves, with_response}
+use Rattle.smq_book.specs.index.Pushed.{IsHeldAfter, answer_moves, message_with, noted_moves, receipt_moves, said_by, paired_response, submit_moves, with_response}
 use Rattle.smq_book.proofs.lemmas.edits.Moved.{moved-both}
 use Rattle.smq_book.proofs.lemmas.index.Kept.{moved-held, moved-is}
 
@@ -106,11 +106,11 @@ module _ (origin : Origin) where
   met-of-notes p None = one-of-notes (is_request p.header) _ _ (tt, tt) (one-of-notes (is_response p.header) _ _ (tt, tt) tt)
   met-of-notes p (Some pair) = (either-of-notes (is_request p.header) _ _ tt tt, one-of-notes pair.agrees _ _ tt (tt, tt))
 
-  unreadable-of-notes : (dir : Dir) (next : KeptPdu) → AreOfNotes (unreadable_moves origin dir next)
+  unreadable-of-notes : (dir : Dir) (next : StoredPdu) → AreOfNotes (unreadable_moves origin dir next)
   unreadable-of-notes FromClient next = tt
   unreadable-of-notes FromCentre next = one-of-notes (is_unreadable next.content) _ _ (tt, tt) tt
 
-  pub noted-of-notes : (dir : Dir) (next : KeptPdu) (made : Option Pair) → AreOfNotes (noted_moves origin dir next made)
+  pub noted-of-notes : (dir : Dir) (next : StoredPdu) (made : Option Pair) → AreOfNotes (noted_moves origin dir next made)
   noted-of-notes dir next made =
       both-of-notes (met_moves (placed origin dir next) made ++ undecodable_moves origin dir next) (unreadable_moves origin dir next)
       (both-of-notes (met_moves (placed origin dir next) made) (undecodable_moves origin dir next)
@@ -118,7 +118,7 @@ module _ (origin : Origin) where
       (unreadable-of-notes dir next)
 
   -- what is held after them has the messages and the receipts that there were
-  module _ (s : SettingsValue) (g h : Holding) (dir : Dir) (next : KeptPdu) (made : Option Pair)
+  module _ (s : SettingsValue) (g h : Holding) (dir : Dir) (next : StoredPdu) (made : Option Pair)
       (after : IsHeldAfter s g (noted_moves origin dir next made) h) where
     pub messages-noted : h.messages ≡ g.messages
     messages-noted = ap (λ (t : TrafficValue). t.messages) after.traffic
@@ -134,7 +134,7 @@ met-header : (q : Place) (command status seq : ℕ) (made : Option Pair)
 met-header q command status seq None = refl
 met-header q command status seq (Some pair) = refl
 
-module _ (origin : Origin) (next : KeptPdu) (made : Option Pair) (q : Place) where
+module _ (origin : Origin) (next : StoredPdu) (made : Option Pair) (q : Place) where
   met-placed : (dir : Dir) → q ≡ place_of origin dir next
       → met_moves (placed_header q next.command 0 0) made ≡ met_moves (placed origin dir next) made
   met-placed dir is =
@@ -157,42 +157,42 @@ module _ (origin : Origin) (next : KeptPdu) (made : Option Pair) (q : Place) whe
 
 module _ (o : Origin) where
   -- what the pair says is what the response says to the request
-  said-again : (centre : List KeptPdu) (p : KeptPdu) (at : Option ℕ) → Rises 0 centre
-      → said_in centre (option_map (pair_with o p) (option_and_then (λ j. slice_get centre j) at))
+  said-again : (centre : List StoredPdu) (p : StoredPdu) (at : Option ℕ) → Rises 0 centre
+      → paired_response centre (option_map (pair_with o p) (option_and_then (λ j. slice_get centre j) at))
       ≡ option_map (response_in (header_of p)) (option_and_then (λ j. slice_get centre j) at)
   said-again centre p None rises = refl
   said-again centre p (Some j) rises = again (slice_get centre j) refl
     where
-      again : (r : Option KeptPdu) → slice_get centre j ≡ r
-          → said_in centre (option_map (pair_with o p) r) ≡ option_map (response_in (header_of p)) r
+      again : (r : Option StoredPdu) → slice_get centre j ≡ r
+          → paired_response centre (option_map (pair_with o p) r) ≡ option_map (response_in (header_of p)) r
       again None e = refl
       again (Some r) e = ap (option_map (said_by (pair_with o p r))) ((at-offset 0 centre j r rises e).1)
 
-  pushed-client : (client centre : List KeptPdu) (p : KeptPdu)
+  pushed-client : (client centre : List StoredPdu) (p : StoredPdu)
       → pushed (pairing_among o client centre) (placed o FromClient p) ≡ pairing_among o (client ++ p ∷ []) centre
   pushed-client client centre p = λ i. record {
     client = sym (map-append (placed o FromClient) client (p ∷ [])) i;
     centre = (pairing_among o client centre).centre;
   }
 
-  pub said-to : (client centre : List KeptPdu) (p : KeptPdu) → Rises 0 (client ++ p ∷ []) → Rises 0 centre → is_request (header_of p) ≡ true
-      → said_in centre (pair_at (pushed (pairing_among o client centre) (placed o FromClient p)) (place_of o FromClient p))
+  pub said-to : (client centre : List StoredPdu) (p : StoredPdu) → Rises 0 (client ++ p ∷ []) → Rises 0 centre → is_request (header_of p) ≡ true
+      → paired_response centre (pair_at (pushed (pairing_among o client centre) (placed o FromClient p)) (place_of o FromClient p))
       ≡ option_map (response_in (header_of p)) (response_to centre client p)
   said-to client centre p rises centre_rises request =
       let same = response-same (client ++ p ∷ []) centre client (p ∷ []) (length client) p refl refl in
-      ap (λ v. said_in centre (pair_at v (place_of o FromClient p))) (pushed-client client centre p)
-      ∙ ap (said_in centre) (request-pair o client [] centre p rises request ∙ ap (option_map (pair_with o p)) same)
+      ap (λ v. paired_response centre (pair_at v (place_of o FromClient p))) (pushed-client client centre p)
+      ∙ ap (paired_response centre) (request-pair o client [] centre p rises request ∙ ap (option_map (pair_with o p)) same)
       ∙ said-again centre p
       (response_index (headers_of centre) p.seq (request_rank (headers_of (client ++ p ∷ [])) (length client) p.seq)) centre_rises
       ∙ ap (option_map (response_in (header_of p))) (sym same)
 
 -- ---- the next PDU of the client
 
-last-at : (xs : List KeptPdu) (y : KeptPdu) → slice_get (xs ++ y ∷ []) (length xs) ≡ Some y
+last-at : (xs : List StoredPdu) (y : StoredPdu) → slice_get (xs ++ y ∷ []) (length xs) ≡ Some y
 last-at [] y = refl
 last-at (x ∷ xs) y = last-at xs y
 
-module _ (origin : Origin) (next : KeptPdu) where
+module _ (origin : Origin) (next : StoredPdu) where
   -- where it is a submit_sm or data_sm, it puts in one message
   pub submit-one : (response : Option Response) (submit : Submit) (q : Place) (m : Message) → q ≡ place_of origin FromClient next
       → m ≡ message_with origin next submit response → Some submit ≡ submit_in next.content
@@ -203,20 +203,15 @@ module _ (origin : Origin) (next : KeptPdu) where
       ∙ ap (λ (o : Option Submit). map PutMessage (option_to_list
       (option_map (λ (submit : Submit). (place_of origin FromClient next, message_with origin next submit response)) o))) said
 
-  -- and else none
-  pub submit-none : (response : Option Response) → None ≡ submit_in next.content → [] ≡ submit_moves origin next response
-  submit-none response said = ap (λ (o : Option Submit). map PutMessage (option_to_list
-      (option_map (λ (submit : Submit). (place_of origin FromClient next, message_with origin next submit response)) o))) said
-
   -- its message by what the pair that it makes says is what it puts in
-  module _ (client centre : List KeptPdu)
+  module _ (client centre : List StoredPdu)
       (rises : Rises 0 (client ++ next ∷ [])) (centre_rises : Rises 0 centre) (asks : SubmitsAreRequests (client ++ next ∷ [])) where
     abbrev made : Option Pair
     made = made_by (pairing_among origin client centre) (placed origin FromClient next)
 
     message-by : (o : Option Submit) → submit_in next.content ≡ o
         → map PutMessage (option_to_list (option_map
-        (λ (submit : Submit). (place_of origin FromClient next, message_with origin next submit (said_in centre made))) o))
+        (λ (submit : Submit). (place_of origin FromClient next, message_with origin next submit (paired_response centre made))) o))
         ≡ map PutMessage (option_to_list (option_map
         (λ (submit : Submit). (place_of origin FromClient next, message_of origin next submit (response_to centre client next))) o))
     message-by None e = refl
@@ -224,7 +219,7 @@ module _ (origin : Origin) (next : KeptPdu) where
         ap (λ (r : Option Response). PutMessage (place_of origin FromClient next, message_with origin next submit r) ∷ [])
         (said-to origin client centre next rises centre_rises (asks.each (length client) next submit (last-at client next) e))
 
-    pub client-pushed : submit_moves origin next (said_in centre made) ≡ client_moves origin client centre next
+    pub client-pushed : submit_moves origin next (paired_response centre made) ≡ client_moves origin client centre next
     client-pushed = message-by (submit_in next.content) refl
 
 -- ---- the next PDU of the centre
@@ -265,7 +260,7 @@ after-over s g h q n a = record {
   });
 }
 
-module _ (messages : FinMap place_cmp Message) (next : KeptPdu) where
+module _ (messages : FinMap place_cmp Message) (next : StoredPdu) where
   abbrev answered_in : Pair → Option Message → List Move
   answered_in pair found = flat_map anew (option_to_list (option_map (λ m. (pair.request, with_response m (said_by pair next))) found))
 
@@ -286,7 +281,7 @@ module _ (messages : FinMap place_cmp Message) (next : KeptPdu) where
       by None = refl
       by (Some m) = refl
 
-module _ (origin : Origin) (next : KeptPdu) where
+module _ (origin : Origin) (next : StoredPdu) where
   pub receipt-one : (receipt : Receipt) (q : Place) (r : ReceivedReceipt) → q ≡ place_of origin FromCentre next
       → r ≡ received origin next receipt → Some receipt ≡ receipt_in next.content → PutReceipt (q, r) ∷ [] ≡ receipt_moves origin next
   receipt-one receipt q r place is said =

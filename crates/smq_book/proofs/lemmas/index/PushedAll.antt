@@ -12,7 +12,7 @@ use Rattle.smq_frame.specs.Tail.{tail_of}
 use Rattle.smq_pair.specs.Growth.{made_by}
 use Rattle.smq_tally.specs.declared.list.List.TheVariants as list
 use Rattle.smq_tally.specs.Lists.{listed}
-use Rattle.smq_present.specs.declared.present.kept.KeptPdu.{KeptPdu}
+use Rattle.smq_present.specs.declared.present.kept.StoredPdu.{StoredPdu}
 use Rattle.smq_present.specs.declared.present.session.Session.{Session}
 use Rattle.smq_present.specs.present.Batch.{BatchValue, batch_pdus, next_tail}
 use Rattle.smq_present.specs.present.Kept.{kept_pdus}
@@ -146,19 +146,19 @@ module _ (notes pdus rest other : List Move) where
 -- ---- PDUs in turn
 
 module _ (origin : Origin) where
-  pub next-of-notes : (dir : Dir) (client centre : List KeptPdu) (next : KeptPdu) → AreOfNotes (next_moves origin dir client centre next)
+  pub next-of-notes : (dir : Dir) (client centre : List StoredPdu) (next : StoredPdu) → AreOfNotes (next_moves origin dir client centre next)
   next-of-notes dir client centre next =
       noted-of-notes origin dir next (made_by (pairing_among origin client centre) (placed origin dir next))
 
-  client-of-pdus : (client centre : List KeptPdu) (next : KeptPdu) → AreOfPdus (client_moves origin client centre next)
+  client-of-pdus : (client centre : List StoredPdu) (next : StoredPdu) → AreOfPdus (client_moves origin client centre next)
   client-of-pdus client centre next = messages-of-pdus (message_at origin centre client next)
 
-  centre-of-pdus : (client centre : List KeptPdu) (next : KeptPdu) → AreOfPdus (centre_moves origin client centre next)
+  centre-of-pdus : (client centre : List StoredPdu) (next : StoredPdu) → AreOfPdus (centre_moves origin client centre next)
   centre-of-pdus client centre next =
       both-of-pdus (flat_map anew (answered origin client centre next)) (map PutReceipt (option_to_list (receipt_at origin next)))
       (anew-of-pdus (answered origin client centre next)) (receipts-of-pdus (receipt_at origin next))
 
-  pushed-messages : (dir : Dir) (client centre later : List KeptPdu) (t : TrafficValue)
+  pushed-messages : (dir : Dir) (client centre later : List StoredPdu) (t : TrafficValue)
       → (moved_by t (pushed_moves origin dir client centre later)).messages ≡ (moved_by t (push_moves origin dir client centre later)).messages
   pushed-messages FromClient client centre [] t = refl
   pushed-messages FromCentre client centre [] t = refl
@@ -171,7 +171,7 @@ module _ (origin : Origin) where
       (pushed_moves origin FromCentre client (centre ++ next ∷ []) later) (push_moves origin FromCentre client (centre ++ next ∷ []) later)
       (next-of-notes FromCentre client centre next) (pushed-messages FromCentre client (centre ++ next ∷ []) later) t
 
-  pushed-receipts : (dir : Dir) (client centre later : List KeptPdu) (t : TrafficValue)
+  pushed-receipts : (dir : Dir) (client centre later : List StoredPdu) (t : TrafficValue)
       → (moved_by t (pushed_moves origin dir client centre later)).receipts ≡ (moved_by t (push_moves origin dir client centre later)).receipts
   pushed-receipts FromClient client centre [] t = refl
   pushed-receipts FromCentre client centre [] t = refl
@@ -184,7 +184,7 @@ module _ (origin : Origin) where
       (pushed_moves origin FromCentre client (centre ++ next ∷ []) later) (push_moves origin FromCentre client (centre ++ next ∷ []) later)
       (next-of-notes FromCentre client centre next) (pushed-receipts FromCentre client (centre ++ next ∷ []) later) t
 
-  pushed-notes : (dir : Dir) (client centre later : List KeptPdu) (t : TrafficValue)
+  pushed-notes : (dir : Dir) (client centre later : List StoredPdu) (t : TrafficValue)
       → (moved_by t (pushed_moves origin dir client centre later)).notes ≡ (moved_by t (note_moves origin dir client centre later)).notes
   pushed-notes FromClient client centre [] t = refl
   pushed-notes FromCentre client centre [] t = refl
@@ -207,10 +207,10 @@ module _ (sessions : FinMap nat_cmp Session) (batch : BatchValue)
   abbrev origin : Origin
   origin = batch_origin found batch
 
-  abbrev client : List KeptPdu
+  abbrev client : List StoredPdu
   client = kept_pdus (session_before found batch.link).client
 
-  abbrev centre : List KeptPdu
+  abbrev centre : List StoredPdu
   centre = kept_pdus (session_before found batch.link).centre
 
   abbrev was : TrafficValue

@@ -17,14 +17,14 @@ use Rattle.smq_tally.specs.declared.outcome.Outcome.TheVariants as o
 use Rattle.smq_present.specs.present.Settings.{SettingsValue}
 use Rattle.smq_present.specs.pairing.Traffic.{Message, TrafficValue}
 use Rattle.smq_present.specs.join.Circumstances.{circumstances, lapsed_in, route_in}
-use Rattle.smq_present.specs.join.Facts.{by_lapse, fact_by, facts_of, with_lapse, with_route}
+use Rattle.smq_present.specs.join.Facts.{by_lapse, fact_in_circumstances, facts_of, with_lapse, with_route}
 use Rattle.smq_book.specs.edits.Reached.{is_due}
 use Rattle.smq_tally.specs.Tally.{TallyValue}
 use Rattle.smq_book.specs.declared.index.index.Index.{Index}
 use Rattle.smq_book.specs.index.Due.{due_in, is_due_fact}
 use Rattle.smq_book.specs.index.Ends.{ends_by}
 use Rattle.smq_book.specs.index.Held.{Holding, held_by, held_now}
-use Rattle.smq_book.specs.index.Refreshed.{MayRestate, refreshed, restated}
+use Rattle.smq_book.specs.index.Recomputed.{MayRestate, refreshed, restated}
 use Rattle.smq_present.proofs.lemmas.join.Lapsing.{fact-lapses}
 use Rattle.smq_present.proofs.lemmas.join.MoveLemmas.{fact-at, fact-place}
 
@@ -44,15 +44,15 @@ module _ (s : SettingsValue) (t : TrafficValue) (versions : Versions) (windows :
   abbrev z : SettingsValue
   z = set_anew s versions windows clock
 
-  restates_one : (q : Place) (m : Message) → fact_by q m (circumstances z t m) ≡ restated z m (fact_by q m (circumstances s t m))
+  restates_one : (q : Place) (m : Message) → fact_in_circumstances q m (circumstances z t m) ≡ restated z m (fact_in_circumstances q m (circumstances s t m))
   restates_one q m = ap (with_route (route_in versions m)) (fact-lapses q m (circumstances s t m) (lapsed_in z m))
 
   -- what is known under what was set before is restated to what is known then
   pub restates : MayRestate z t (facts_of s t)
   restates = record { each = λ q m there. known q m z there ∙ ap Some (restates_one q m) ∙ sym (ap (option_map (restated z m)) (known q m s there)) }
     where
-      known : (q : Place) (m : Message) (s : SettingsValue) → get t.messages q ≡ Some m → get (facts_of s t) q ≡ Some (fact_by q m (circumstances s t m))
-      known q m s there = fact-at s t q ∙ ap (option_map (λ (m : Message). fact_by q m (circumstances s t m))) there
+      known : (q : Place) (m : Message) (s : SettingsValue) → get t.messages q ≡ Some m → get (facts_of s t) q ≡ Some (fact_in_circumstances q m (circumstances s t m))
+      known q m s there = fact-at s t q ∙ ap (option_map (λ (m : Message). fact_in_circumstances q m (circumstances s t m))) there
 
 module _ (z : SettingsValue) (t : TrafficValue) where
   -- a fact that is set anew is restated to itself

@@ -6,7 +6,7 @@ use Rattle.smq_kit.specs.Replies.{IsReply}
 use Rattle.smq_route.specs.declared.version.Version.{Version}
 use Rattle.smq_route.specs.Edits.{added, changed}
 use Rattle.smq_route.specs.Versions.{Versions}
-use Rattle.smq_book.specs.index.Refreshed.{LeaveOthers}
+use Rattle.smq_book.specs.index.Recomputed.{LeaveOthers}
 use Rattle.smq_present.specs.pairing.Traffic.{TrafficValue}
 use Rattle.smq_present.specs.present.Settings.{SettingsValue}
 use Rattle.smq_book.proofs.lemmas.edits.RouteEdits.{added-outside, changed-outside}

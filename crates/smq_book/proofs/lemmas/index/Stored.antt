@@ -23,7 +23,7 @@ use Rattle.smq_group.specs.Standings.{standing_at}
 use Rattle.smq_present.specs.present.Settings.{SettingsValue}
 use Rattle.smq_present.specs.pairing.Traffic.{Message, ReceivedReceipt, TrafficValue}
 use Rattle.smq_present.specs.join.Circumstances.{circumstances, circumstances_by, decider_in, lapsed_in, route_in, standing_in}
-use Rattle.smq_present.specs.join.Facts.{fact_by, facts_of}
+use Rattle.smq_present.specs.join.Facts.{fact_in_circumstances, facts_of}
 use Rattle.smq_present.specs.join.Keyed.{accepted_key, grouping_of, keyed_receipt}
 use Rattle.smq_present.specs.join.Listings.{list_of_standing}
 use Rattle.smq_present.specs.join.Outcomes.{is_shared}
@@ -112,16 +112,16 @@ module _ (s : SettingsValue) (u : TrafficValue) (g : Grouping) (are : AreOf s u 
 
   -- what is known of it
   pub fact-there : (m : Message) → get u.messages q ≡ Some m → get (facts_of s u) q
-      ≡ Some (fact_by q m (record {
+      ≡ Some (fact_in_circumstances q m (record {
         standing = standing_in g s m;
         decider = decider_held u.receipts (standing_at g q);
         route = route_in s.versions m;
         lapsed = lapsed_in s m;
       }))
   fact-there m there =
-      get-chosen places_total places_exact (λ place m. Some (fact_by place m (circumstances s u m))) u.messages q
-      ∙ ap (option_and_then (λ (m : Message). Some (fact_by q m (circumstances s u m)))) there
-      ∙ (λ i. Some (fact_by q m (record {
+      get-chosen places_total places_exact (λ place m. Some (fact_in_circumstances place m (circumstances s u m))) u.messages q
+      ∙ ap (option_and_then (λ (m : Message). Some (fact_in_circumstances q m (circumstances s u m)))) there
+      ∙ (λ i. Some (fact_in_circumstances q m (record {
         standing = standing_in (grouped i) s m;
         decider = (decider i);
         route = route_in s.versions m;
@@ -137,8 +137,8 @@ module _ (s : SettingsValue) (u : TrafficValue) (g : Grouping) (are : AreOf s u 
 
   pub fact-absent : get u.messages q ≡ None → get (facts_of s u) q ≡ None
   fact-absent none =
-      get-chosen places_total places_exact (λ place m. Some (fact_by place m (circumstances s u m))) u.messages q
-      ∙ ap (option_and_then (λ (m : Message). Some (fact_by q m (circumstances s u m)))) none
+      get-chosen places_total places_exact (λ place m. Some (fact_in_circumstances place m (circumstances s u m))) u.messages q
+      ∙ ap (option_and_then (λ (m : Message). Some (fact_in_circumstances q m (circumstances s u m)))) none
 
   pub shared-there : (m : Message) → get u.messages q ≡ Some m → is_shared (standing_in g s m) ≡ is_told_shared (standing_at g q)
   shared-there m there = sym (told-shared (standing_in g s m)) ∙ sym (ap is_told_shared (message-standing m there))
@@ -148,11 +148,11 @@ module _ (s : SettingsValue) (u : TrafficValue) (g : Grouping) (are : AreOf s u 
       (lapsed : Bool) (f : Fact)
       → get u.messages q ≡ Some m → standing ≡ standing_at g q → decider ≡ decider_held u.receipts standing → route ≡ route_in s.versions m
       → lapsed ≡ lapsed_in s m
-      → f ≡ fact_by q m (circumstances_by (standing_in g s m) decider route lapsed)
+      → f ≡ fact_in_circumstances q m (circumstances_by (standing_in g s m) decider route lapsed)
       → Some f ≡ get (facts_of s u) q
   fact-is m standing decider route lapsed f there told decides routed lapses is =
       ap Some is
-      ∙ (λ i. Some (fact_by q m (circumstances_by (standing_in g s m) ((decides ∙ ap (decider_held u.receipts) told) i) (routed i) (lapses i))))
+      ∙ (λ i. Some (fact_in_circumstances q m (circumstances_by (standing_in g s m) ((decides ∙ ap (decider_held u.receipts) told) i) (routed i) (lapses i))))
       ∙ sym (fact-there m there)
 
   -- where no message stands, the list that is told is that of the receipt

@@ -12,7 +12,7 @@ use Rattle.smq_pdu.specs.declared.body.Submit.{Submit}
 use Rattle.smq_receipt.specs.declared.reading.Receipt.{Receipt}
 use Rattle.smq_tally.specs.declared.list.Listed.{Listed}
 use Rattle.smq_present.specs.join.Listings.{is_traffic_list, AllTraffic}
-use Rattle.smq_present.specs.declared.present.kept.KeptPdu.{KeptPdu}
+use Rattle.smq_present.specs.declared.present.kept.StoredPdu.{StoredPdu}
 use Rattle.smq_present.specs.declared.present.session.Session.{Session}
 use Rattle.smq_present.specs.present.Kept.{kept_pdus, receipt_in, submit_in}
 use Rattle.smq_present.specs.pairing.Traffic.{Message, Origin, ReceivedReceipt, origin_of, message_at, message_of, messages_among, place_of, received, receipt_at, receipts_among, response_to, session_notes, traffic_of, with_earlier}
@@ -27,7 +27,7 @@ use Rattle.smq_book.proofs.lemmas.index.Pushed.{after-both, after-same}
 
 module _ (origin : Origin) where
   -- the place of a message is that of its submit_sm or data_sm, whatever answers it
-  one-submit : (centre earlier : List KeptPdu) (p : KeptPdu) (submit : Option Submit) (rest later : List Move) → rest ≡ later
+  one-submit : (centre earlier : List StoredPdu) (p : StoredPdu) (submit : Option Submit) (rest later : List Move) → rest ≡ later
       → map (λ (m : Place × Message). TakeMessage m.0) (option_to_list
       (option_map (λ s. (place_of origin FromClient p, message_of origin p s (response_to centre earlier p))) submit)) ++ rest
       ≡ option_to_list (option_map (λ s. TakeMessage (place_of origin FromClient p)) submit) ++ later
@@ -35,14 +35,14 @@ module _ (origin : Origin) where
   one-submit centre earlier p (Some s) rest later is = ap (λ ms. TakeMessage (place_of origin FromClient p) ∷ ms) is
 
   -- and that of a receipt is its PDU's
-  one-receipt : (p : KeptPdu) (receipt : Option Receipt) (rest later : List Move) → rest ≡ later
+  one-receipt : (p : StoredPdu) (receipt : Option Receipt) (rest later : List Move) → rest ≡ later
       → map (λ (r : Place × ReceivedReceipt). TakeReceipt r.0)
       (option_to_list (option_map (λ r. (place_of origin FromCentre p, received origin p r)) receipt)) ++ rest
       ≡ option_to_list (option_map (λ r. TakeReceipt (place_of origin FromCentre p)) receipt) ++ later
   one-receipt p None rest later is = is
   one-receipt p (Some r) rest later is = ap (λ ms. TakeReceipt (place_of origin FromCentre p) ∷ ms) is
 
-  submits-from : (centre earlier client : List KeptPdu)
+  submits-from : (centre earlier client : List StoredPdu)
       → map (λ m. TakeMessage m.0) (flat_map (λ e. option_to_list (message_at origin centre e.0 e.1)) (with_earlier earlier client))
       ≡ submit_takes origin client
   submits-from centre earlier [] = refl
@@ -54,14 +54,14 @@ module _ (origin : Origin) where
       (flat_map (λ e. option_to_list (message_at origin centre e.0 e.1)) (with_earlier (earlier ++ p ∷ []) later)))
       (submit_takes origin later) (submits-from centre (earlier ++ p ∷ []) later)
 
-  pub receipts-taken : (centre : List KeptPdu) → map (λ r. TakeReceipt r.0) (receipts_among origin centre) ≡ receipt_takes origin centre
+  pub receipts-taken : (centre : List StoredPdu) → map (λ r. TakeReceipt r.0) (receipts_among origin centre) ≡ receipt_takes origin centre
   receipts-taken [] = refl
   receipts-taken (p ∷ later) =
       map-append (λ r. TakeReceipt r.0) (option_to_list (receipt_at origin p)) (receipts_among origin later)
       ∙ one-receipt p (receipt_in p.content) (map (λ r. TakeReceipt r.0) (receipts_among origin later)) (receipt_takes origin later)
       (receipts-taken later)
 
-  pub submits-taken : (client centre : List KeptPdu)
+  pub submits-taken : (client centre : List StoredPdu)
       → map (λ m. TakeMessage m.0) (messages_among origin client centre) ≡ submit_takes origin client
   submits-taken client centre = submits-from centre [] client
 
@@ -74,7 +74,7 @@ withdrawal-is e = λ i.
 
 -- after them the traffic is that without the session
 module _ (sessions : FinMap nat_cmp Session) (n : ℕ) (s : Session) (there : get sessions n ≡ Some s) where
-  pub withdrawn-after : (z : SettingsValue) (g h : Holding) (client centre : List KeptPdu) (notes : List Listed) → client ≡ kept_pdus s.client
+  pub withdrawn-after : (z : SettingsValue) (g h : Holding) (client centre : List StoredPdu) (notes : List Listed) → client ≡ kept_pdus s.client
       → centre ≡ kept_pdus s.centre → notes ≡ session_notes (n, s) → traffic_held g ≡ traffic_of sessions
       → IsHeldAfter z g (submit_takes (origin_of (n, s)) client ++ (receipt_takes (origin_of (n, s)) centre ++ note_takes notes)) h
       → traffic_held h ≡ traffic_of (remove sessions n)
@@ -98,7 +98,7 @@ traffic-at notes i d all within = by notes i all (slice_get-get_or notes i d wit
 
 -- ---- PDU by PDU, and note by note
 
-module _ (origin : Origin) (p : KeptPdu) where
+module _ (origin : Origin) (p : StoredPdu) where
   pub submit-absent : None ≡ submit_in p.content → [] ≡ submit_take origin p
   submit-absent none = ap (λ x. option_to_list (option_map (λ (s : Submit). TakeMessage (place_of origin FromClient p)) x)) none
 

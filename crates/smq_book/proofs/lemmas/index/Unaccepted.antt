@@ -9,7 +9,7 @@ use Rattle.smq_group.specs.Matching.{submit_standing}
 use Rattle.smq_present.specs.present.Settings.{SettingsValue}
 use Rattle.smq_present.specs.pairing.Traffic.{Message, Response, TrafficValue}
 use Rattle.smq_present.specs.join.Circumstances.{Circumstances, circumstances, circumstances_by, decider_in, lapsed_in, route_in}
-use Rattle.smq_present.specs.join.Facts.{fact_by, facts_of}
+use Rattle.smq_present.specs.join.Facts.{fact_in_circumstances, facts_of}
 use Rattle.smq_present.specs.join.Keyed.{accepted_id, accepted_key, grouping_of}
 use Rattle.smq_present.specs.join.Outcomes.{is_shared, outcome_by, responded, says_delivered}
 use Rattle.smq_book.specs.edits.Reached.{is_due}
@@ -49,16 +49,16 @@ module _ (s : SettingsValue) (m : Message) (refused : accepted_key s m ≡ None)
       (fails m.response (no-id s m (accepted_id m.response) refl refused))
 
   pub refused-fact : (t : TrafficValue) (q : Place) (f : Fact) → get t.messages q ≡ Some m
-      → f ≡ fact_by q m (circumstances_by None None (route_in s.versions m) false) → Some f ≡ get (facts_of s t) q
+      → f ≡ fact_in_circumstances q m (circumstances_by None None (route_in s.versions m) false) → Some f ≡ get (facts_of s t) q
   refused-fact t q f there is =
       let c = circumstances_by None None (route_in s.versions m) false in
       ap Some is
-      ∙ (λ i. Some (record (fact_by q m c) { outcome = sym (undue (lapsed_in s m) (outcome_by m c) (refused-undue c)) i }))
+      ∙ (λ i. Some (record (fact_in_circumstances q m c) { outcome = sym (undue (lapsed_in s m) (outcome_by m c) (refused-undue c)) i }))
       ∙ ap Some (sym (fact-lapses q m c (lapsed_in s m)))
-      ∙ (λ i. Some (fact_by q m (record {
+      ∙ (λ i. Some (fact_in_circumstances q m (record {
         standing = option_map (submit_standing (grouping_of s t)) (sym refused i);
         decider = decider_in t (option_map (submit_standing (grouping_of s t)) (sym refused i));
         route = route_in s.versions m;
         lapsed = lapsed_in s m;
       })))
-      ∙ sym (fact-at s t q ∙ ap (option_map (λ m. fact_by q m (circumstances s t m))) there)
+      ∙ sym (fact-at s t q ∙ ap (option_map (λ m. fact_in_circumstances q m (circumstances s t m))) there)

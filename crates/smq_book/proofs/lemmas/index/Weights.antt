@@ -30,7 +30,7 @@ use Rattle.smq_present.specs.pairing.Traffic.{Message, ReceivedReceipt, TrafficV
 use Rattle.smq_book.specs.edits.Reach.{members}
 use Rattle.smq_book.specs.edits.Reached.{IsMoveOf, key_receipts, key_submits}
 use Rattle.smq_book.specs.index.Touches.{MembersGo, is_key, key_in, taken_load, taken_of, receipt_key_at}
-use Rattle.smq_book.proofs.lemmas.edits.KeyMoves.{receipt-standings-outside, standings-outside}
+use Rattle.smq_book.proofs.lemmas.edits.KeyMoves.{receipt-groups-outside, groups-outside}
 use Rattle.smq_book.proofs.lemmas.edits.ReachBounds.{members-number}
 use Rattle.smq_book.proofs.lemmas.index.Costs.{unchanged}
 use Rattle.smq_group.proofs.Earliest.{own_key}
@@ -170,7 +170,7 @@ module _ (g h : Grouping) (cs : List Change) (tells : TellsChanges g h cs) where
   pub few-changes : (key : LinkKey) (q : Place) → IsMoveOf key q g h → length cs ≤ members g key + 2
   few-changes key q move =
       let all = told-few (q ∷ keys (key_submits g key)) (q ∷ keys (key_receipts g key))
-      (standings-outside key q g h move) (receipt-standings-outside key q g h move) in
+      (groups-outside key q g h move) (receipt-groups-outside key q g h move) in
       let many = members-number g key in
       omega (arith, all, many)
 

@@ -1,6 +1,6 @@
 use Rattle.std.proofs.Common.{◌<◌, subst, sym}
 use Rattle.std.specs.List.{All}
-use Rattle.smq_pair.specs.declared.entry.Link.TheVariants.{Before}
+use Rattle.smq_pair.specs.declared.paired_pdu.PduLink.TheVariants.{Before}
 use Rattle.smq_pair.specs.within.Stream.{Held}
 use Rattle.smq_pair.proofs.Held.{linked-above}
 use Rattle.smq_pair.proofs.streams.join.Goals as goal

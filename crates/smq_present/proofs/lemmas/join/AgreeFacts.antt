@@ -17,7 +17,7 @@ use Rattle.smq_kit.specs.LinkKeys.{same_key}
 use Rattle.smq_group.specs.Matching.{Grouping, Single, Shared, candidates, decider, earlier, matches, submit_standing}
 use Rattle.smq_present.specs.join.Keyed.{grouping_of, accepted_key, keyed_receipt, can_decide}
 use Rattle.smq_present.specs.join.Circumstances.{circumstances, standing_in, decider_in, route_in, lapsed_in}
-use Rattle.smq_present.specs.join.Facts.{fact_by, facts_of}
+use Rattle.smq_present.specs.join.Facts.{fact_in_circumstances, facts_of}
 use Rattle.smq_present.specs.within.Accepted.{number_accepted, decider_of}
 use Rattle.smq_present.specs.within.Messages.{SubmittedMessage}
 use Rattle.smq_present.specs.within.Outcomes as listed
@@ -135,16 +135,16 @@ module _ (s : SettingsValue) (xs : List SubmittedMessage) (rs : List KeyedReceip
       }
 
   facts-map : (ys : List SubmittedMessage) → Keyed s ys
-      → map (λ e. e.1) (flat_map (kept_of (λ place m. Some (fact_by place m (circumstances s traffic m)))) (map message_entry ys))
-      ≡ map (listed.fact_of s xs rs) ys
+      → map (λ e. e.1) (flat_map (kept_of (λ place m. Some (fact_in_circumstances place m (circumstances s traffic m)))) (map message_entry ys))
+      ≡ map (listed.fact_among s xs rs) ys
   facts-map [] h = refl
-  facts-map (y ∷ ys) h = λ i. fact_by y.place (message_from y) (circumstances-agree y h.0 i) ∷ facts-map ys h.1 i
+  facts-map (y ∷ ys) h = λ i. fact_in_circumstances y.place (message_from y) (circumstances-agree y h.0 i) ∷ facts-map ys h.1 i
 
   -- the facts by place, in order, are those of the lists
   pub facts-agree : values (facts_of s traffic) ≡ listed.facts_among s xs rs
   facts-agree =
       ap (λ es. map (λ e. e.1) es)
-      (maps.entries-chosen places_total places_exact (λ place m. Some (fact_by place m (circumstances s traffic m))) traffic.messages
-      ∙ ap (flat_map (kept_of (λ place m. Some (fact_by place m (circumstances s traffic m)))))
+      (maps.entries-chosen places_total places_exact (λ place m. Some (fact_in_circumstances place m (circumstances s traffic m))) traffic.messages
+      ∙ ap (flat_map (kept_of (λ place m. Some (fact_in_circumstances place m (circumstances s traffic m)))))
       (maps.entries-from_entries places_total places_exact (map message_entry xs) messages_sorted))
       ∙ facts-map xs keyed

@@ -16,9 +16,9 @@ use Rattle.smq_pdu.proofs.Pairs.{response-in-turn}
 use Rattle.smq_pdu.specs.declared.body.Submit.{Submit}
 use Rattle.smq_receipt.specs.declared.reading.Receipt.{Receipt}
 use Rattle.smq_kit.specs.declared.link_key.LinkKey.{LinkKey}
-use Rattle.smq_present.specs.declared.pairing.pairs.Source.{Source}
+use Rattle.smq_present.specs.declared.pairing.pairs.SessionForms.{SessionForms}
 use Rattle.smq_present.specs.declared.present.forms.Forms.{Forms}
-use Rattle.smq_present.specs.declared.present.kept.KeptPdu.{KeptPdu}
+use Rattle.smq_present.specs.declared.present.kept.StoredPdu.{StoredPdu}
 use Rattle.smq_present.specs.present.Kept.{header_of, headers_of, submit_in, receipt_in}
 use Rattle.smq_present.specs.present.Settings.{SettingsValue, forms_of}
 use Rattle.smq_present.specs.pairing.Traffic.{Message, ReceivedReceipt, Origin, response_in, response_to, place_of, message_of, message_at, receipts_among, with_earlier}
@@ -35,12 +35,12 @@ use Rattle.smq_present.specs.within.Receipts.{PlacedReceipt, KeyedReceipt, recei
 -- ---- the response of a rank among those of a sequence number is the one at its index
 
 -- the headers before a PDU
-headers-before : (before after : List KeptPdu) → take (length before) (headers_of (before ++ after)) ≡ headers_of before
+headers-before : (before after : List StoredPdu) → take (length before) (headers_of (before ++ after)) ≡ headers_of before
 headers-before before after =
     (λ i. take (sym (length-map before header_of) i) (map-append header_of before after i)) ∙ take-append_seam (headers_of before) (headers_of after)
 
 -- the response after these PDUs is that of the PDU at their number
-pub response-same : (client centre before after : List KeptPdu) (i : ℕ) (p : KeptPdu) → client ≡ before ++ after → i ≡ length before
+pub response-same : (client centre before after : List StoredPdu) (i : ℕ) (p : StoredPdu) → client ≡ before ++ after → i ≡ length before
     → response_to centre before p ≡ response_of client centre i p
 response-same client centre before after i p all many =
     response-in-turn header_of centre p.seq (count_by (is_request_of p.seq) (headers_of before))
@@ -55,10 +55,10 @@ message_entry s = (s.place, message_from s)
 abbrev pub receipt_entry : KeyedReceipt → Place × ReceivedReceipt
 receipt_entry e = (e.1.place, received e.1)
 
-abbrev pub origin_in : Source → Origin
+abbrev pub origin_in : SessionForms → Origin
 origin_in source = record { session = source.session; link = source.link }
 
-message-by : (submit : Option Submit) (source : Source) (client centre before : List KeptPdu) (i : ℕ) (p : KeptPdu)
+message-by : (submit : Option Submit) (source : SessionForms) (client centre before : List StoredPdu) (i : ℕ) (p : StoredPdu)
     → response_to centre before p ≡ response_of client centre i p
     → option_to_list (option_map (λ (submit : Submit). (
       place_of (origin_in source) FromClient p,
@@ -68,9 +68,9 @@ message-by : (submit : Option Submit) (source : Source) (client centre before : 
     ≡ map message_entry (submit_by submit source client centre i p)
 message-by None source client centre before i p h = refl
 message-by (Some submit) source client centre before i p h =
-    ap (λ (r : Option KeptPdu). (place_of (origin_in source) FromClient p, message_of (origin_in source) p submit r) ∷ []) h
+    ap (λ (r : Option StoredPdu). (place_of (origin_in source) FromClient p, message_of (origin_in source) p submit r) ∷ []) h
 
-pub messages-map : (source : Source) (client centre before after : List KeptPdu) (i : ℕ) → client ≡ before ++ after → i ≡ length before
+pub messages-map : (source : SessionForms) (client centre before after : List StoredPdu) (i : ℕ) → client ≡ before ++ after → i ≡ length before
     → flat_map (λ e. option_to_list (message_at (origin_in source) centre e.0 e.1)) (with_earlier before after)
     ≡ map message_entry (flat_map (λ e. submit_by (submit_in e.1.content) source client centre e.0 e.1) (enumerate_from i after))
 messages-map source client centre before [] i all many = refl
@@ -81,13 +81,13 @@ messages-map source client centre before (p ∷ after) i all many =
     ∙ sym (map-append message_entry (submit_by (submit_in p.content) source client centre i p)
     (flat_map (λ e. submit_by (submit_in e.1.content) source client centre e.0 e.1) (enumerate_from (i + 1) after)))
 
-receipt-by : (receipt : Option Receipt) (source : Source) (p : KeptPdu)
+receipt-by : (receipt : Option Receipt) (source : SessionForms) (p : StoredPdu)
     → option_to_list (option_map (λ (receipt : Receipt). receipt_entry (receipts.keyed_receipt source p receipt)) receipt)
     ≡ map receipt_entry (receipt_by receipt source p)
 receipt-by None source p = refl
 receipt-by (Some receipt) source p = refl
 
-pub receipts-map : (source : Source) (ps : List KeptPdu) → receipts_among (origin_in source) ps
+pub receipts-map : (source : SessionForms) (ps : List StoredPdu) → receipts_among (origin_in source) ps
     ≡ map receipt_entry (receipts.receipts_among source ps)
 receipts-map source [] = refl
 receipts-map source (p ∷ ps) =
@@ -113,18 +113,18 @@ pub receipts-append : (s : SettingsValue) (xs ys : List KeyedReceipt) → KeyedR
 receipts-append s [] ys h k = k
 receipts-append s (x ∷ xs) ys h k = (h.0, receipts-append s xs ys h.1 k)
 
-same_id : (header : Header) (response : Option KeptPdu) → accepted_id (option_map (response_in header) response) ≡ listed.accepted_id header response
+same_id : (header : Header) (response : Option StoredPdu) → accepted_id (option_map (response_in header) response) ≡ listed.accepted_id header response
 same_id header None = refl
 same_id header (Some r) = refl
 
-keyed-by : (s : SettingsValue) (submit : Option Submit) (source : Source) (client centre : List KeptPdu) (i : ℕ) (p : KeptPdu)
+keyed-by : (s : SettingsValue) (submit : Option Submit) (source : SessionForms) (client centre : List StoredPdu) (i : ℕ) (p : StoredPdu)
     → forms_of s source.link ≡ source.forms
     → Keyed s (submit_by submit source client centre i p)
 keyed-by s None source client centre i p h = tt
 keyed-by s (Some submit) source client centre i p h =
     ((λ j. option_map (link_key source.link (h j).response) (same_id (header_of p) (response_of client centre i p) j)), tt)
 
-pub keyed-among : (s : SettingsValue) (source : Source) (client centre : List KeptPdu) (es : List (ℕ × KeptPdu))
+pub keyed-among : (s : SettingsValue) (source : SessionForms) (client centre : List StoredPdu) (es : List (ℕ × StoredPdu))
     → forms_of s source.link ≡ source.forms
     → Keyed s (flat_map (λ e. submit_by (submit_in e.1.content) source client centre e.0 e.1) es)
 keyed-among s source client centre [] h = tt
@@ -132,12 +132,12 @@ keyed-among s source client centre (e ∷ es) h =
     keyed-append s (submit_by (submit_in e.1.content) source client centre e.0 e.1) _
     (keyed-by s (submit_in e.1.content) source client centre e.0 e.1 h) (keyed-among s source client centre es h)
 
-receipts-by : (s : SettingsValue) (receipt : Option Receipt) (source : Source) (p : KeptPdu) → forms_of s source.link ≡ source.forms
+receipts-by : (s : SettingsValue) (receipt : Option Receipt) (source : SessionForms) (p : StoredPdu) → forms_of s source.link ≡ source.forms
     → KeyedReceipts s (receipt_by receipt source p)
 receipts-by s None source p h = tt
 receipts-by s (Some receipt) source p h = (ap (λ (forms : Forms). link_key source.link forms.receipt receipt.id) h, tt)
 
-pub receipts-keyed : (s : SettingsValue) (source : Source) (ps : List KeptPdu) → forms_of s source.link ≡ source.forms
+pub receipts-keyed : (s : SettingsValue) (source : SessionForms) (ps : List StoredPdu) → forms_of s source.link ≡ source.forms
     → KeyedReceipts s (receipts.receipts_among source ps)
 receipts-keyed s source [] h = tt
 receipts-keyed s source (p ∷ ps) h =

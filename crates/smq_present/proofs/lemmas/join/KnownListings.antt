@@ -7,8 +7,8 @@ use Rattle.std.proofs.lemmas.List.{map-append}
 use Rattle.smq_kit.specs.declared.message_id.Form.{Form}
 use Rattle.smq_kit.specs.declared.place.Place.{Place}
 use Rattle.smq_kit.specs.Orders.{place_cmp}
-use Rattle.smq_present.specs.declared.pairing.pairs.Source.{Source}
-use Rattle.smq_present.specs.declared.present.kept.KeptPdu.{KeptPdu}
+use Rattle.smq_present.specs.declared.pairing.pairs.SessionForms.{SessionForms}
+use Rattle.smq_present.specs.declared.present.kept.StoredPdu.{StoredPdu}
 use Rattle.smq_present.specs.known.Pairing.{known_origin}
 use Rattle.smq_present.specs.known.Join.{later_origin, settings_with, listings_under}
 use Rattle.smq_present.specs.pairing.Traffic.{Message, ReceivedReceipt, messages_among, receipts_among, traffic_among}
@@ -23,17 +23,17 @@ use Rattle.smq_present.proofs.lemmas.join.AgreeListings.{receipts-agree}
 use Rattle.smq_present.proofs.lemmas.join.KnownFacts.{forms-set, source_with}
 
 -- session 11 of link 1, with these forms
-abbrev pub later_source : Form → Form → Source
+abbrev pub later_source : Form → Form → SessionForms
 later_source response receipt =
     record { session = record { 0 = 11 }; link = record { 0 = 1 }; forms = record { response = response; receipt = receipt } }
 
 -- the receipts of both sessions
-abbrev pub receipts_of_two : Form → Form → List KeptPdu → List KeptPdu → List KeyedReceipt
+abbrev pub receipts_of_two : Form → Form → List StoredPdu → List StoredPdu → List KeyedReceipt
 receipts_of_two response receipt centre later =
     receipts.receipts_among (source_with response receipt) centre ++ receipts.receipts_among (later_source response receipt) later
 
 -- where the places rise, as they do in any streams
-pub listings_known : (response receipt : Form) (client centre later : List KeptPdu)
+pub listings_known : (response receipt : Form) (client centre later : List StoredPdu)
     → T (is_sorted place_cmp (messages_among known_origin client centre))
     → T (is_sorted place_cmp (receipts_among known_origin centre ++ receipts_among later_origin later))
     → listings_under response receipt client centre later
@@ -42,8 +42,8 @@ pub listings_known : (response receipt : Form) (client centre later : List KeptP
 unfolding listings_under
 listings_known response receipt client centre later rise receipts_rise =
     let s = settings_with response receipt in
-    let source : Source = source_with response receipt in
-    let other : Source = later_source response receipt in
+    let source : SessionForms = source_with response receipt in
+    let other : SessionForms = later_source response receipt in
     let submits : List SubmittedMessage = submits_among source client centre in
     let rs : List KeyedReceipt = receipts_of_two response receipt centre later in
     let messages : messages_among known_origin client centre ≡ map message_entry submits = messages-map source client centre [] client 0 refl refl in

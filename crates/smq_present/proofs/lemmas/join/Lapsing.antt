@@ -12,7 +12,7 @@ use Rattle.smq_present.specs.present.Settings.{SettingsValue, with_clock}
 use Rattle.smq_present.specs.pairing.Traffic.{TrafficValue, Message, Response, ReceivedReceipt}
 use Rattle.smq_present.specs.join.Circumstances.{Circumstances, circumstances, window_of}
 use Rattle.smq_present.specs.join.Outcomes.{responded, is_shared, is_decided, says_delivered, outcome_by, error_by, link_delay_by, centre_delay_by, first_that_holds}
-use Rattle.smq_present.specs.join.Facts.{fact_by, facts_of, by_lapse, with_lapse}
+use Rattle.smq_present.specs.join.Facts.{fact_in_circumstances, facts_of, by_lapse, with_lapse}
 use Rattle.smq_present.proofs.lemmas.join.MoveLemmas.{fact-at, frame}
 use Rattle.smq_present.proofs.lemmas.join.Routed.{routes_in}
 
@@ -65,7 +65,7 @@ outcome-stays b o.Open h l = absurd (h refl)
 outcome-stays b o.Lapsed h l = absurd (l refl)
 outcome-stays b _ h l = refl
 
-pub fact-lapses : (q : Place) (m : Message) (c : Circumstances) (b : Bool) → fact_by q m (record c { lapsed = b }) ≡ with_lapse b (fact_by q m c)
+pub fact-lapses : (q : Place) (m : Message) (c : Circumstances) (b : Bool) → fact_in_circumstances q m (record c { lapsed = b }) ≡ with_lapse b (fact_in_circumstances q m c)
 fact-lapses q m c b =
     let outcome = outcome-lapses m c b in
     let decided = decided-stays b (outcome_by m c) in
@@ -87,21 +87,21 @@ module _ (s : SettingsValue) (clock : ℕ) (t : TrafficValue) (q : Place) where
   abbrev at_end : Message → Bool
   at_end m = nat_le (m.moment + window_of s m.link) clock
 
-  lapsed_by : (m : Option Message) → option_map (λ m. fact_by q m (circumstances (with_clock s clock) t m)) m
-      ≡ option_map (λ m. with_lapse (at_end m) (fact_by q m (circumstances s t m))) m
+  lapsed_by : (m : Option Message) → option_map (λ m. fact_in_circumstances q m (circumstances (with_clock s clock) t m)) m
+      ≡ option_map (λ m. with_lapse (at_end m) (fact_in_circumstances q m (circumstances s t m))) m
   lapsed_by None = refl
   lapsed_by (Some m) = ap Some (fact-lapses q m (circumstances s t m) (at_end m))
 
-  pub lapsed : get (facts_of (with_clock s clock) t) q ≡ option_map (λ m. with_lapse (at_end m) (fact_by q m (circumstances s t m)))
+  pub lapsed : get (facts_of (with_clock s clock) t) q ≡ option_map (λ m. with_lapse (at_end m) (fact_in_circumstances q m (circumstances s t m)))
       (get t.messages q)
   lapsed = fact-at (with_clock s clock) t q ∙ lapsed_by (get t.messages q)
 
-  others_by : (m : Option Message) (fact : Fact) → option_map (λ m. fact_by q m (circumstances s t m)) m ≡ Some fact
+  others_by : (m : Option Message) (fact : Fact) → option_map (λ m. fact_in_circumstances q m (circumstances s t m)) m ≡ Some fact
       → fact.outcome ≢ o.Open → fact.outcome ≢ o.Lapsed
-      → option_map (λ m. with_lapse (at_end m) (fact_by q m (circumstances s t m))) m ≡ Some fact
+      → option_map (λ m. with_lapse (at_end m) (fact_in_circumstances q m (circumstances s t m))) m ≡ Some fact
   others_by None fact e h l = absurd cc
   others_by (Some m) fact e h l =
-      let one : fact_by q m (circumstances s t m) ≡ fact = cc in
+      let one : fact_in_circumstances q m (circumstances s t m) ≡ fact = cc in
       ap (λ f. Some (with_lapse (at_end m) f)) one ∙ (λ i. Some (record fact { outcome = outcome-stays (at_end m) fact.outcome h l i }))
 
   pub others : (fact : Fact) → get (facts_of s t) q ≡ Some fact → fact.outcome ≢ o.Open → fact.outcome ≢ o.Lapsed

@@ -18,7 +18,7 @@ use Rattle.smq_kit.specs.LinkKeys.{same_key}
 use Rattle.smq_group.specs.Matching.{Grouping, GroupedReceipt, Candidate, Standing, Single, Shared, candidates, candidate_cmp, earlier, decider, matches, submit_standing, decided_by}
 use Rattle.smq_present.specs.join.Keyed.{grouping_of, accepted_key, keyed_receipt}
 use Rattle.smq_present.specs.join.Circumstances.{circumstances, standing_in, decider_in, route_in, lapsed_in}
-use Rattle.smq_present.specs.join.Facts.{fact_by, facts_of}
+use Rattle.smq_present.specs.join.Facts.{fact_in_circumstances, facts_of}
 use Rattle.smq_present.specs.join.Moves.{standings_of, same_standing, changes_of, IsMove, put_message, take_message, put_receipt, take_receipt}
 use Rattle.smq_group.proofs.Earliest.{pairs_total}
 use Rattle.smq_group.proofs.Least.{reduce-all}
@@ -26,27 +26,27 @@ use Rattle.smq_group.proofs.Least.{reduce-all}
 -- ---- the frame
 
 pub fact-at : (s : SettingsValue) (t : TrafficValue) (q : Place)
-    → get (facts_of s t) q ≡ option_map (λ m. fact_by q m (circumstances s t m)) (get t.messages q)
-fact-at s t q = maps.get-chosen places_total places_exact (λ q m. Some (fact_by q m (circumstances s t m))) t.messages q ∙ as_map (get t.messages q)
+    → get (facts_of s t) q ≡ option_map (λ m. fact_in_circumstances q m (circumstances s t m)) (get t.messages q)
+fact-at s t q = maps.get-chosen places_total places_exact (λ q m. Some (fact_in_circumstances q m (circumstances s t m))) t.messages q ∙ as_map (get t.messages q)
   where
-    as_map : (m : Option Message) → option_and_then (λ m. Some (fact_by q m (circumstances s t m))) m
-        ≡ option_map (λ m. fact_by q m (circumstances s t m)) m
+    as_map : (m : Option Message) → option_and_then (λ m. Some (fact_in_circumstances q m (circumstances s t m))) m
+        ≡ option_map (λ m. fact_in_circumstances q m (circumstances s t m)) m
     as_map None = refl
     as_map (Some m) = refl
 
 fact_in : (place : Place) (s : SettingsValue) (t : TrafficValue) (m : Option Message) (fact : Fact)
-    → option_map (λ m. fact_by place m (circumstances s t m)) m ≡ Some fact → fact.place ≡ place
+    → option_map (λ m. fact_in_circumstances place m (circumstances s t m)) m ≡ Some fact → fact.place ≡ place
 fact_in place s t None fact e = absurd cc
-fact_in place s t (Some m) fact e = let one : fact_by place m (circumstances s t m) ≡ fact = cc in ap (λ (f : Fact). f.place) (sym one)
+fact_in place s t (Some m) fact e = let one : fact_in_circumstances place m (circumstances s t m) ≡ fact = cc in ap (λ (f : Fact). f.place) (sym one)
 
 pub fact-place : (s : SettingsValue) (t : TrafficValue) (place : Place) (fact : Fact) → get (facts_of s t) place ≡ Some fact → fact.place ≡ place
 fact-place s t place fact e = fact_in place s t (get t.messages place) fact (sym (fact-at s t place) ∙ e)
 
 frame_by : (s z : SettingsValue) (t u : TrafficValue) (q : Place) (m : Option Message)
     → ((x : Message) → m ≡ Some x → circumstances s t x ≡ circumstances z u x)
-    → option_map (λ m. fact_by q m (circumstances s t m)) m ≡ option_map (λ m. fact_by q m (circumstances z u m)) m
+    → option_map (λ m. fact_in_circumstances q m (circumstances s t m)) m ≡ option_map (λ m. fact_in_circumstances q m (circumstances z u m)) m
 frame_by s z t u q None same = refl
-frame_by s z t u q (Some m) same = ap (λ c. Some (fact_by q m c)) (same m refl)
+frame_by s z t u q (Some m) same = ap (λ c. Some (fact_in_circumstances q m c)) (same m refl)
 
 -- the same message in the same circumstances gives the same fact, whatever else is set or present
 pub frame : (s z : SettingsValue) (t u : TrafficValue) (q : Place) → get t.messages q ≡ get u.messages q
@@ -55,7 +55,7 @@ pub frame : (s z : SettingsValue) (t u : TrafficValue) (q : Place) → get t.mes
 frame s z t u q message same =
     fact-at s t q
     ∙ frame_by s z t u q (get t.messages q) same
-    ∙ ap (option_map (λ m. fact_by q m (circumstances z u m))) message
+    ∙ ap (option_map (λ m. fact_in_circumstances q m (circumstances z u m))) message
     ∙ sym (fact-at z u q)
 
 -- ---- a decider is a receipt that is there

@@ -22,7 +22,7 @@ use Rattle.smq_kit.specs.declared.place.Place.{Place}
 use Rattle.smq_kit.specs.Orders.{place_cmp}
 use Rattle.smq_tally.specs.declared.list.List.{List as ListName}
 use Rattle.smq_tally.specs.declared.list.Listed.{Listed}
-use Rattle.smq_present.specs.declared.present.kept.KeptPdu.{KeptPdu}
+use Rattle.smq_present.specs.declared.present.kept.StoredPdu.{StoredPdu}
 use Rattle.smq_present.specs.join.Listings.{same_list}
 use Rattle.smq_present.proofs.lemmas.join.ReceiptLists.{any-of-list}
 use Rattle.smq_present.proofs.lemmas.join.SessionLists.{find-marks, note_number, noted, notes-own, notes-all}
@@ -35,7 +35,7 @@ one_list e name places = same_list e.list name && list_any (eq_by_cmp place_cmp 
 abbrev pub five : Listed → List Place → List Place → List Place → List Place → List Place → Bool
 five e w s m u d = ((one_list e list.Waiting w || one_list e list.StrayAnswers s) || one_list e list.Mismatched m) || (one_list e list.Unreadable u || one_list e list.Undecodable d)
 
-pub any-notes : (origin : Origin) (client centre : List KeptPdu) (e : Listed) → list_any (eq_by_cmp listed_cmp e) (notes_among origin client centre)
+pub any-notes : (origin : Origin) (client centre : List StoredPdu) (e : Listed) → list_any (eq_by_cmp listed_cmp e) (notes_among origin client centre)
     ≡ five e (waiting (pairing_among origin client centre)) (strays (pairing_among origin client centre)) (mismatched (pairing_among origin client centre)) (unreadable origin centre) (undecodable origin client centre)
 any-notes origin client centre e =
     let test = eq_by_cmp listed_cmp e in
@@ -64,7 +64,7 @@ in_lists list.Broken w s m u d b = b
 in_lists _ w s m u d b = false
 
 -- whether a note is one of a session whose PDUs are these and whose directions are broken at these places
-abbrev pub is_noted : Origin → List KeptPdu → List KeptPdu → List Place → Listed → Bool
+abbrev pub is_noted : Origin → List StoredPdu → List StoredPdu → List Place → Listed → Bool
 is_noted origin client centre broken e =
     in_lists e.list (is_among e.place (waiting (pairing_among origin client centre))) (is_among e.place (strays (pairing_among origin client centre)))
     (is_among e.place (mismatched (pairing_among origin client centre))) (is_among e.place (unreadable origin centre))

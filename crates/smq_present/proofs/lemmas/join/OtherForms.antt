@@ -14,7 +14,7 @@ use Rattle.smq_kit.specs.LinkKeys.{link_key}
 use Rattle.smq_group.specs.Matching.{submit_standing}
 use Rattle.smq_present.specs.join.Keyed.{accepted_id, accepted_key, keyed_receipt, can_decide, grouping_of}
 use Rattle.smq_present.specs.join.Circumstances.{circumstances, decider_in, route_in, lapsed_in}
-use Rattle.smq_present.specs.join.Facts.{fact_by, facts_of}
+use Rattle.smq_present.specs.join.Facts.{fact_in_circumstances, facts_of}
 
 module _ (s z : SettingsValue) (t : TrafficValue) (link : LinkId)
     (windows : s.windows ≡ z.windows) (versions : s.versions ≡ z.versions) (clock : s.clock ≡ z.clock)
@@ -46,9 +46,9 @@ module _ (s z : SettingsValue) (t : TrafficValue) (link : LinkId)
 
   -- nor do the facts
   pub facts-ignore : facts_of s t ≡ facts_of z t
-  facts-ignore = maps.chosen-alike places_total places_exact (λ q m. Some (fact_by q m (circumstances s t m)))
-      (λ q m. Some (fact_by q m (circumstances z t m))) t.messages (λ q m e i.
-      Some (fact_by q m (record {
+  facts-ignore = maps.chosen-alike places_total places_exact (λ q m. Some (fact_in_circumstances q m (circumstances s t m)))
+      (λ q m. Some (fact_in_circumstances q m (circumstances z t m))) t.messages (λ q m e i.
+      Some (fact_in_circumstances q m (record {
         standing = option_map (submit_standing (grouping-ignores i)) (same-key m (no_message q m e) i);
         decider = decider_in t (option_map (submit_standing (grouping-ignores i)) (same-key m (no_message q m e) i));
         route = route_in (versions i) m;

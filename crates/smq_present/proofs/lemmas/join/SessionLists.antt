@@ -24,7 +24,7 @@ use Rattle.smq_tally.specs.declared.list.Listed.{Listed}
 use Rattle.smq_tally.specs.within.ListOrder.{listed_total}
 use Rattle.smq_tally.proofs.ListOrders.{listed_exact}
 use Rattle.smq_present.specs.present.Content.{Content}
-use Rattle.smq_present.specs.declared.present.kept.KeptPdu.{KeptPdu}
+use Rattle.smq_present.specs.declared.present.kept.StoredPdu.{StoredPdu}
 use Rattle.smq_present.specs.declared.present.session.Session.{Session}
 use Rattle.smq_tally.proofs.Listings.{marked}
 
@@ -85,7 +85,7 @@ module _ (origin : Origin) where
   listed-here : (name : l.List) (qs : List Place) → AllByRecursion Here qs → AllByRecursion NotedHere (map (listed name) qs)
   listed-here name qs h = all-mapped NotedHere Here (listed name) qs h (λ q is. is)
 
-  module _ (client centre : List KeptPdu) where
+  module _ (client centre : List StoredPdu) where
     abbrev v : PairingValue
     v = pairing_among origin client centre
 
@@ -98,8 +98,8 @@ module _ (origin : Origin) where
         (all-map (λ (p : PlacedHeader). p.place.session.0 ≡ origin.session.0) (placed origin FromCentre) centre (λ p. refl))))
         (λ p is. is)
 
-    where-here : (test : Content → Bool) (dir : Dir) (pdus : List KeptPdu) → AllByRecursion Here (places_where test origin dir pdus)
-    where-here test dir pdus = all-map Here (place_of origin dir) (filter (λ (p : KeptPdu). test p.content) pdus) (λ p. refl)
+    where-here : (test : Content → Bool) (dir : Dir) (pdus : List StoredPdu) → AllByRecursion Here (places_where test origin dir pdus)
+    where-here test dir pdus = all-map Here (place_of origin dir) (filter (λ (p : StoredPdu). test p.content) pdus) (λ p. refl)
 
     pub notes-here : AllByRecursion NotedHere (notes_among origin client centre)
     notes-here =

@@ -14,19 +14,19 @@ use Rattle.smq_receipt.specs.Readings.{text_of, usable_id, receipted_id, state_i
 use Rattle.smq_receipt.specs.declared.reading.Reading.TheVariants as v
 use Rattle.smq_present.specs.present.Content.{Content}
 use Rattle.smq_present.specs.present.Content as c
-use Rattle.smq_present.specs.declared.present.kept.KeptPdu.{KeptPdu}
+use Rattle.smq_present.specs.declared.present.kept.StoredPdu.{StoredPdu}
 use Rattle.smq_present.specs.known.Pairing.{broken_session, known_origin}
 use Rattle.smq_present.specs.present.Kept.{kept_pdus}
 use Rattle.smq_present.specs.pairing.Traffic.{notes_among, broken_notes, session_notes}
 
-abbrev pdu : ℕ → ℕ → ℕ → ℕ → Content → KeptPdu
+abbrev pdu : ℕ → ℕ → ℕ → ℕ → Content → StoredPdu
 pdu offset moment command seq content =
     record { offset = offset; moment = moment; command = command; status = 0; seq = seq; content = content }
 
-abbrev client_pdus : List KeptPdu
+abbrev client_pdus : List StoredPdu
 client_pdus = pdu 0 1000 4 1 c.Undecodable ∷ []
 
-abbrev centre_pdus : List KeptPdu
+abbrev centre_pdus : List StoredPdu
 centre_pdus = pdu 0 1200 5 90 (c.Deliver v.NoId) ∷ pdu 45 1200 5 91 (c.Deliver v.NoState) ∷ pdu 82 1300 5 92 c.Undecodable ∷ []
 
 abbrev broken_tail : ℕ → ℕ → TailValue

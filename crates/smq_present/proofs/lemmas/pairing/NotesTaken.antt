@@ -22,7 +22,7 @@ use Rattle.smq_tally.specs.declared.list.List.TheVariants as list
 use Rattle.smq_tally.specs.declared.list.Listed.{Listed}
 use Rattle.smq_tally.specs.Lists.{listed, listed_set}
 use Rattle.smq_present.specs.present.Content.{Content}
-use Rattle.smq_present.specs.declared.present.kept.KeptPdu.{KeptPdu}
+use Rattle.smq_present.specs.declared.present.kept.StoredPdu.{StoredPdu}
 use Rattle.smq_present.specs.present.Kept.{header_of, is_undecodable, is_unreadable}
 use Rattle.smq_present.specs.pairing.Dealt.{KeepsPairsTogether, KeepsResponses, pdus_taken, requests_numbered, takes, traffic_among}
 use Rattle.smq_present.specs.pairing.Traffic.{Origin, content_notes, disagrees, messages_among, mismatched, notes_among, pairing_among, pairing_notes, place_of, placed, places_where, receipts_among, responses_of, undecodable, unreadable}
@@ -191,13 +191,13 @@ module _ (here : Place → Bool) where
   -- ---- notes of a session
 
   module _ (origin : Origin) where
-    where-taken : (test : Content → Bool) (dir : Dir) (pdus : List KeptPdu)
+    where-taken : (test : Content → Bool) (dir : Dir) (pdus : List StoredPdu)
         → places_where test origin dir (pdus_taken here origin dir pdus) ≡ filter here (places_where test origin dir pdus)
     where-taken test dir pdus =
         ap (map (place_of origin dir)) (filter-swap (takes here origin dir) (λ p. test p.content) pdus)
         ∙ sym (filter-map here (place_of origin dir) (filter (λ p. test p.content) pdus))
 
-    contents-taken : (client centre : List KeptPdu)
+    contents-taken : (client centre : List StoredPdu)
         → content_notes origin (pdus_taken here origin FromClient client) (pdus_taken here origin FromCentre centre)
         ≡ filter (note_here here) (content_notes origin client centre)
     contents-taken client centre =
@@ -210,7 +210,7 @@ module _ (here : Place → Bool) where
         ∙ sym (filter-append (note_here here) (map (listed list.Unreadable) (unreadable origin centre))
         (map (listed list.Undecodable) (undecodable origin client centre)))
 
-    alike-placed : (one two : Header → Bool) (d e : Dir) (ps rs : List KeptPdu)
+    alike-placed : (one two : Header → Bool) (d e : Dir) (ps rs : List StoredPdu)
         → Alike (takes here origin d) (takes here origin e) (filter (λ p. one (header_of p)) ps) (filter (λ p. two (header_of p)) rs)
         → Alike put put (filter (λ (x : PlacedHeader). one x.header) (map (placed origin d) ps))
         (filter (λ (x : PlacedHeader). two x.header) (map (placed origin e) rs))
@@ -221,7 +221,7 @@ module _ (here : Place → Bool) where
         (sym (filter-map (λ (x : PlacedHeader). two x.header) (placed origin e) rs))
         (alike-map put put (placed origin d) (placed origin e) (filter (λ p. one (header_of p)) ps) (filter (λ p. two (header_of p)) rs) a))
 
-    both-alike : (d e : Dir) (own other : List KeptPdu) → KeepsResponses here origin d e own other → KeepsResponses here origin e d other own
+    both-alike : (d e : Dir) (own other : List StoredPdu) → KeepsResponses here origin d e own other → KeepsResponses here origin e d other own
         → BothAlike (map (placed origin d) own) (map (placed origin e) other)
     both-alike d e own other asks answers = record {
       requests = λ seq. alike-placed (is_request_of seq) (is_response_of seq) d e own other
@@ -231,7 +231,7 @@ module _ (here : Place → Bool) where
           (λ n response request at asked. sym (answers seq n request response asked at)));
     }
 
-    pairing-taken : (client centre : List KeptPdu)
+    pairing-taken : (client centre : List StoredPdu)
         → pairing_among origin (pdus_taken here origin FromClient client) (pdus_taken here origin FromCentre centre)
         ≡ part (pairing_among origin client centre)
     pairing-taken client centre = λ i. record {
@@ -240,7 +240,7 @@ module _ (here : Place → Bool) where
     }
 
     -- the notes of the PDUs that are taken are those at the places that are taken
-    pub notes-taken : (client centre : List KeptPdu) → KeepsPairsTogether here origin client centre
+    pub notes-taken : (client centre : List StoredPdu) → KeepsPairsTogether here origin client centre
         → notes_among origin (pdus_taken here origin FromClient client) (pdus_taken here origin FromCentre centre)
         ≡ filter (note_here here) (notes_among origin client centre)
     notes-taken client centre keeps =
@@ -254,7 +254,7 @@ module _ (here : Place → Bool) where
     -- ---- traffic of a session
 
     -- what the PDUs that are taken say is what all say, at the places that are taken
-    pub traffic-taken : (client centre : List KeptPdu) → SubmitsAreRequests client → KeepsPairsTogether here origin client centre
+    pub traffic-taken : (client centre : List StoredPdu) → SubmitsAreRequests client → KeepsPairsTogether here origin client centre
         → traffic_among origin (pdus_taken here origin FromClient client) (pdus_taken here origin FromCentre centre)
         ≡ dealt here (traffic_among origin client centre)
     traffic-taken client centre asks keeps = λ i. record {

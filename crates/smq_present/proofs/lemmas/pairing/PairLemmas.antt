@@ -9,7 +9,7 @@ use Rattle.smq_pdu.specs.declared.body.Submit.{Submit}
 use Rattle.smq_pair.specs.Pairing.{pair_at, pair_of}
 use Rattle.smq_pdu.specs.Pairing.{IsPair, is_response_of, is_request_of, is_request, is_response, request_rank, response_index}
 use Rattle.smq_pdu.proofs.Pairs.{finds_pairs, finds_each}
-use Rattle.smq_present.specs.declared.present.kept.KeptPdu.{KeptPdu}
+use Rattle.smq_present.specs.declared.present.kept.StoredPdu.{StoredPdu}
 use Rattle.smq_present.specs.known.Pairing.{InTurn}
 use Rattle.smq_present.specs.present.Kept.{header_of, headers_of, kept_pdus, submit_in}
 use Rattle.smq_present.specs.pairing.Traffic.{Origin, place_of, placed, pairing_among, response_to}
@@ -21,14 +21,14 @@ use Rattle.smq_present.proofs.lemmas.pairing.Requests.{kept-ask}
 
 -- ---- pairs
 
-abbrev rank : List KeptPdu → List KeptPdu → KeptPdu → ℕ
+abbrev rank : List StoredPdu → List StoredPdu → StoredPdu → ℕ
 rank before after p = request_rank (headers_of (before ++ p ∷ after)) (length before) p.seq
 
-found_at : (before after centre : List KeptPdu) (p : KeptPdu) → response_to centre before p
+found_at : (before after centre : List StoredPdu) (p : StoredPdu) → response_to centre before p
     ≡ option_and_then (λ j. slice_get centre j) (response_index (headers_of centre) p.seq (rank before after p))
 found_at before after centre p = response-same (before ++ p ∷ after) centre before (p ∷ after) (length before) p refl refl
 
-pub pair-each : (before after centre : List KeptPdu) (p : KeptPdu) (j : ℕ) (response : Header)
+pub pair-each : (before after centre : List StoredPdu) (p : StoredPdu) (j : ℕ) (response : Header)
     → IsPair (headers_of (before ++ p ∷ after)) (headers_of centre) (length before) j (header_of p) response
     → response_to centre before p ≡ slice_get centre j
 pair-each before after centre p j response pair =
@@ -36,19 +36,19 @@ pair-each before after centre p j response pair =
     ∙ ap (option_and_then (λ j. slice_get centre j)) (finds_each (headers_of (before ++ p ∷ after)) (headers_of centre)
     (length before) j (header_of p) response pair)
 
-here : (before after : List KeptPdu) (p : KeptPdu) → slice_get (headers_of (before ++ p ∷ after)) (length before) ≡ Some (header_of p)
+here : (before after : List StoredPdu) (p : StoredPdu) → slice_get (headers_of (before ++ p ∷ after)) (length before) ≡ Some (header_of p)
 here [] after p = refl
 here (b ∷ before) after p = here before after p
 
-header-at : (centre : List KeptPdu) (j : ℕ) (r : KeptPdu) → slice_get centre j ≡ Some r → slice_get (headers_of centre) j ≡ Some (header_of r)
+header-at : (centre : List StoredPdu) (j : ℕ) (r : StoredPdu) → slice_get centre j ≡ Some r → slice_get (headers_of centre) j ≡ Some (header_of r)
 header-at [] j r e = absurd cc
-header-at (x ∷ centre) zero r e = let one : x ≡ r = cc in ap (λ (x : KeptPdu). Some (header_of x)) one
+header-at (x ∷ centre) zero r e = let one : x ≡ r = cc in ap (λ (x : StoredPdu). Some (header_of x)) one
 header-at (x ∷ centre) (suc j) r e = header-at centre j r e
 
 one_header : (a b : Header) (o : Option Header) → o ≡ Some a → o ≡ Some b → a ≡ b
 one_header a b o e f = cc
 
-by_place : (before after centre : List KeptPdu) (p r : KeptPdu) (o : Option ℕ) → is_request (header_of p) ≡ true
+by_place : (before after centre : List StoredPdu) (p r : StoredPdu) (o : Option ℕ) → is_request (header_of p) ≡ true
     → response_index (headers_of centre) p.seq (rank before after p) ≡ o
     → option_and_then (λ j. slice_get centre j) o ≡ Some r
     → (j : ℕ) × (slice_get centre j ≡ Some r) × IsPair (headers_of (before ++ p ∷ after)) (headers_of centre) (length before) j
@@ -61,7 +61,7 @@ by_place before after centre p r (Some j) request place e =
     (header-at centre j r e) in
     (j, e, subst (λ (h : Header). IsPair (headers_of (before ++ p ∷ after)) (headers_of centre) (length before) j (header_of p) h) same pair.1)
 
-pub pair-found : (before after centre : List KeptPdu) (p r : KeptPdu) → is_request (header_of p) ≡ true → response_to centre before p ≡ Some r
+pub pair-found : (before after centre : List StoredPdu) (p r : StoredPdu) → is_request (header_of p) ≡ true → response_to centre before p ≡ Some r
     → (j : ℕ) × (slice_get centre j ≡ Some r) × IsPair (headers_of (before ++ p ∷ after)) (headers_of centre) (length before) j
     (header_of p) (header_of r)
 pair-found before after centre p r request e =
@@ -70,11 +70,11 @@ pair-found before after centre p r request e =
 
 -- ---- the pairs of a session
 
-nth-after : (before after : List KeptPdu) (p : KeptPdu) → slice_get (before ++ p ∷ after) (length before) ≡ Some p
+nth-after : (before after : List StoredPdu) (p : StoredPdu) → slice_get (before ++ p ∷ after) (length before) ≡ Some p
 nth-after [] after p = refl
 nth-after (b ∷ before) after p = nth-after before after p
 
-pub pair-stands : (origin : Origin) (client centre : List Octet) (before after : List KeptPdu) (p : KeptPdu) (submit : Submit)
+pub pair-stands : (origin : Origin) (client centre : List Octet) (before after : List StoredPdu) (p : StoredPdu) (submit : Submit)
     → kept_pdus client ≡ before ++ p ∷ after → submit_in p.content ≡ Some submit
     → pair_at (pairing_among origin (kept_pdus client) (kept_pdus centre)) (place_of origin FromClient p)
     ≡ option_map (λ r. pair_of (placed origin FromClient p) (placed origin FromCentre r))
@@ -89,18 +89,18 @@ pair-stands origin client centre before after p submit all said =
 both : (a b : Bool) → a ≡ true → b ≡ true → (a && b) ≡ true
 both a b p q = rw (p, q) refl
 
-of_number : (p : KeptPdu) (seq : ℕ) → is_response (header_of p) ≡ true → p.seq ≡ seq → is_response_of seq (header_of p) ≡ true
+of_number : (p : StoredPdu) (seq : ℕ) → is_response (header_of p) ≡ true → p.seq ≡ seq → is_response_of seq (header_of p) ≡ true
 of_number p seq response same = both (is_response (header_of p)) (p.seq == seq) response (eq-eqb p.seq seq same)
 
-asks_itself : (p : KeptPdu) → is_request (header_of p) ≡ true → is_request_of p.seq (header_of p) ≡ true
+asks_itself : (p : StoredPdu) → is_request (header_of p) ≡ true → is_request_of p.seq (header_of p) ≡ true
 asks_itself p request = both (is_request (header_of p)) (p.seq == p.seq) request (eq-eqb p.seq p.seq refl)
 
-pub first-response : (one two response later : KeptPdu) → InTurn one two response later → response_to (response ∷ later ∷ []) [] one ≡ Some response
+pub first-response : (one two response later : StoredPdu) → InTurn one two response later → response_to (response ∷ later ∷ []) [] one ≡ Some response
 first-response one two response later turn =
     let here : is_response_of one.seq (header_of response) ≡ true = of_number response one.seq turn.first_response turn.first_response_seq in
     rw here refl
 
-pub second-response : (one two response later : KeptPdu) → InTurn one two response later
+pub second-response : (one two response later : StoredPdu) → InTurn one two response later
     → response_to (response ∷ later ∷ []) (one ∷ []) two ≡ Some later
 second-response one two response later turn =
     let before : is_request_of one.seq (header_of one) ≡ true = asks_itself one turn.request in

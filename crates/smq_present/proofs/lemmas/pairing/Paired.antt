@@ -18,7 +18,7 @@ use Rattle.smq_pdu.specs.Pairing.{is_request, is_response, is_request_of, is_res
 use Rattle.smq_pair.specs.declared.pairing.Pair.{Pair}
 use Rattle.smq_pair.specs.Pairing as pairs
 use Rattle.smq_pair.specs.Pairing.{PlacedHeader, headers, pair_of, pair_after, pair_at}
-use Rattle.smq_present.specs.declared.present.kept.KeptPdu.{KeptPdu}
+use Rattle.smq_present.specs.declared.present.kept.StoredPdu.{StoredPdu}
 use Rattle.smq_present.specs.present.Kept.{header_of, headers_of}
 use Rattle.smq_present.specs.pairing.Traffic.{Origin, place_of, placed, pairing_among, response_to, responses_of, rank_after}
 use Rattle.smq_present.specs.within.Pairs.{Rises}
@@ -29,12 +29,12 @@ itself : (q : Place) → eq_by_cmp place_cmp q q ≡ true
 itself q = ap is_eq (tied_itself places_total q)
 
 -- a PDU after others stands above the bound from which they rise
-pub above : (low : ℕ) (before after : List KeptPdu) (p : KeptPdu) → Rises low (before ++ p ∷ after) → low ≤ p.offset
+pub above : (low : ℕ) (before after : List StoredPdu) (p : StoredPdu) → Rises low (before ++ p ∷ after) → low ≤ p.offset
 above low [] after p r = r.0
 above low (x ∷ before) after p r = let more : x.offset + 1 ≤ p.offset = above (x.offset + 1) before after p r.1 in omega (arith, r.0, more)
 
 module _ (o : Origin) (d : Dir) where
-  other : (p x : KeptPdu) → x.offset < p.offset → eq_by_cmp place_cmp (place_of o d p) (place_of o d x) ≡ false
+  other : (p x : StoredPdu) → x.offset < p.offset → eq_by_cmp place_cmp (place_of o d p) (place_of o d x) ≡ false
   other p x h = by_test (eq_by_cmp place_cmp (place_of o d p) (place_of o d x)) refl
     where
       by_test : (b : Bool) → eq_by_cmp place_cmp (place_of o d p) (place_of o d x) ≡ b → b ≡ false
@@ -43,15 +43,15 @@ module _ (o : Origin) (d : Dir) where
           absurd (omega (arith, h, same))
       by_test false e = refl
 
-  abbrev standing_from : KeptPdu → List PlacedHeader → List KeptPdu → List (List PlacedHeader × PlacedHeader)
+  abbrev standing_from : StoredPdu → List PlacedHeader → List StoredPdu → List (List PlacedHeader × PlacedHeader)
   standing_from p earlier ps = filter (λ e. eq_by_cmp place_cmp (place_of o d p) e.1.place) (pairs.with_earlier earlier (map (placed o d) ps))
 
-  abbrev standing_next : Bool → KeptPdu → List PlacedHeader → KeptPdu → List KeptPdu → Option (List PlacedHeader × PlacedHeader)
+  abbrev standing_next : Bool → StoredPdu → List PlacedHeader → StoredPdu → List StoredPdu → Option (List PlacedHeader × PlacedHeader)
   standing_next b p earlier x ps = slice_get (cond b ((earlier, placed o d x) ∷ standing_from p (earlier ++ placed o d x ∷ []) ps)
       (standing_from p (earlier ++ placed o d x ∷ []) ps)) 0
 
   -- the PDU at the place of one stands after those before that one
-  pub standing : (earlier : List PlacedHeader) (low : ℕ) (before after : List KeptPdu) (p : KeptPdu) → Rises low (before ++ p ∷ after)
+  pub standing : (earlier : List PlacedHeader) (low : ℕ) (before after : List StoredPdu) (p : StoredPdu) → Rises low (before ++ p ∷ after)
       → slice_get (standing_from p earlier (before ++ p ∷ after)) 0 ≡ Some (earlier ++ map (placed o d) before, placed o d p)
   standing earlier low [] after p r =
       ap (λ b. standing_next b p earlier p after) (itself (place_of o d p)) ∙ ap (λ es. Some (es, placed o d p)) (sym (append-nil earlier))
@@ -61,7 +61,7 @@ module _ (o : Origin) (d : Dir) where
       ∙ standing (earlier ++ placed o d x ∷ []) (x.offset + 1) before after p r.1
       ∙ ap (λ es. Some (es, placed o d p)) (append_assoc earlier (placed o d x ∷ []) (map (placed o d) before))
 
-  pub filter-placed : (test : Header → Bool) (ps : List KeptPdu)
+  pub filter-placed : (test : Header → Bool) (ps : List StoredPdu)
       → filter (λ (r : PlacedHeader). test r.header) (map (placed o d) ps) ≡ map (placed o d) (filter (λ p. test (header_of p)) ps)
   filter-placed test [] = refl
   filter-placed test (p ∷ ps) =
@@ -72,7 +72,7 @@ module _ (o : Origin) (d : Dir) where
         | false ↦ filter-placed test ps
       ]
 
-  headers-placed : (ps : List KeptPdu) → headers (map (placed o d) ps) ≡ headers_of ps
+  headers-placed : (ps : List StoredPdu) → headers (map (placed o d) ps) ≡ headers_of ps
   headers-placed [] = refl
   headers-placed (p ∷ ps) = ap (λ hs. header_of p ∷ hs) (headers-placed ps)
 
@@ -80,10 +80,10 @@ module _ (o : Origin) (d : Dir) where
 
 module _ (o : Origin) where
   -- a request of the client with its response
-  abbrev pub pair_with : KeptPdu → KeptPdu → Pair
+  abbrev pub pair_with : StoredPdu → StoredPdu → Pair
   pair_with p r = pair_of (placed o FromClient p) (placed o FromCentre r)
 
-  responses-placed : (centre before : List KeptPdu) (p : KeptPdu)
+  responses-placed : (centre before : List StoredPdu) (p : StoredPdu)
       → pairs.response_to (map (placed o FromCentre) centre) (map (placed o FromClient) before) (placed o FromClient p)
       ≡ option_map (placed o FromCentre) (response_to centre before p)
   responses-placed centre before p =
@@ -91,12 +91,12 @@ module _ (o : Origin) where
       (count_by (is_request_of p.seq) (headers-placed o FromClient before i)))
       ∙ slice_get-map (placed o FromCentre) (responses_of centre p.seq) (rank_after before p.seq)
 
-  with_response : (p : KeptPdu) (r : Option KeptPdu)
+  with_response : (p : StoredPdu) (r : Option StoredPdu)
       → option_map (λ r. pair_of (placed o FromClient p) r) (option_map (placed o FromCentre) r) ≡ option_map (pair_with p) r
   with_response p None = refl
   with_response p (Some r) = refl
 
-  pub request-pair : (before after centre : List KeptPdu) (p : KeptPdu) → Rises 0 (before ++ p ∷ after) → is_request (header_of p) ≡ true
+  pub request-pair : (before after centre : List StoredPdu) (p : StoredPdu) → Rises 0 (before ++ p ∷ after) → is_request (header_of p) ≡ true
       → pair_at (pairing_among o (before ++ p ∷ after) centre) (place_of o FromClient p) ≡ option_map (pair_with p) (response_to centre before p)
   request-pair before after centre p rises request =
       let other_side = map (placed o FromCentre) centre in
@@ -112,11 +112,11 @@ module _ (o : Origin) where
 -- ---- the PDUs of a session
 
 module _ (o : Origin) where
-  of_session : (d : Dir) (ps : List KeptPdu) → list_all (λ (p : PlacedHeader). p.place.session.0 == o.session.0) (map (placed o d) ps) ≡ true
+  of_session : (d : Dir) (ps : List StoredPdu) → list_all (λ (p : PlacedHeader). p.place.session.0 == o.session.0) (map (placed o d) ps) ≡ true
   of_session d [] = refl
   of_session d (p ∷ ps) = let same : (o.session.0 == o.session.0) ≡ true = grind (arith, nat_tests) in (λ i. same i && of_session d ps i)
 
-  pub of_both : (client centre : List KeptPdu)
+  pub of_both : (client centre : List StoredPdu)
       → list_all (λ (p : PlacedHeader). p.place.session.0 == o.session.0) (map (placed o FromClient) client
       ++ map (placed o FromCentre) centre) ≡ true
   of_both client centre =

@@ -10,7 +10,7 @@ use Rattle.smq_kit.specs.declared.place.Dir.TheVariants.{FromClient, FromCentre}
 use Rattle.smq_kit.specs.declared.place.Place.{Place}
 use Rattle.smq_pdu.specs.Pairing.{is_request, is_request_of, is_response_of}
 use Rattle.smq_pdu.specs.declared.body.Submit.{Submit}
-use Rattle.smq_present.specs.declared.present.kept.KeptPdu.{KeptPdu}
+use Rattle.smq_present.specs.declared.present.kept.StoredPdu.{StoredPdu}
 use Rattle.smq_present.specs.present.Kept.{header_of, receipt_in, submit_in}
 use Rattle.smq_present.specs.pairing.Dealt.{KeepsPairsTogether, KeepsResponses, pdus_taken, requests_numbered, takes}
 use Rattle.smq_present.specs.pairing.Traffic.{Message, Origin, ReceivedReceipt, place_of, message_of, messages_among, rank_after, receipt_at, receipts_among, received, response_to, responses_of, with_earlier}
@@ -53,15 +53,15 @@ module _ {A B : Type 0} (f : A → Bool) (g : B → Bool) where
 module _ (here : Place → Bool) (origin : Origin) where
   -- ---- the response of a request
 
-  abbrev of_client : KeptPdu → Bool
+  abbrev of_client : StoredPdu → Bool
   of_client = takes here origin FromClient
 
-  abbrev of_centre : KeptPdu → Bool
+  abbrev of_centre : StoredPdu → Bool
   of_centre = takes here origin FromCentre
 
-  module _ (earlier later centre : List KeptPdu) (p : KeptPdu) (keeps : KeepsResponses here origin FromClient FromCentre (earlier ++ p ∷ later) centre)
+  module _ (earlier later centre : List StoredPdu) (p : StoredPdu) (keeps : KeepsResponses here origin FromClient FromCentre (earlier ++ p ∷ later) centre)
       (request : is_request (header_of p) ≡ true) (taken : of_client p ≡ true) where
-    abbrev numbered : KeptPdu → Bool
+    abbrev numbered : StoredPdu → Bool
     numbered x = is_request_of p.seq (header_of x)
 
     own-number : numbered p ≡ true
@@ -98,24 +98,24 @@ module _ (here : Place → Bool) (origin : Origin) where
   one-taken q f false h None = refl
   one-taken q f b h (Some y) = ap (λ b. cond b ((q, f y) ∷ []) []) h
 
-  abbrev said : KeptPdu → Option Submit → Option KeptPdu → List (Place × Message)
+  abbrev said : StoredPdu → Option Submit → Option StoredPdu → List (Place × Message)
   said p submit response =
       option_to_list (option_map (λ submit. (place_of origin FromClient p, message_of origin p submit response)) submit)
 
-  abbrev say : List KeptPdu → List KeptPdu × KeptPdu → List (Place × Message)
+  abbrev say : List StoredPdu → List StoredPdu × StoredPdu → List (Place × Message)
   say centre e = said e.1 (submit_in e.1.content) (response_to centre e.0 e.1)
 
-  module _ (centre : List KeptPdu) where
-    abbrev part : List KeptPdu
+  module _ (centre : List StoredPdu) where
+    abbrev part : List StoredPdu
     part = pdus_taken here origin FromCentre centre
 
-    abbrev own : List KeptPdu → List KeptPdu
+    abbrev own : List StoredPdu → List StoredPdu
     own pdus = pdus_taken here origin FromClient pdus
 
-    abbrev rest : List KeptPdu → KeptPdu → List KeptPdu → List (Place × Message)
+    abbrev rest : List StoredPdu → StoredPdu → List StoredPdu → List (Place × Message)
     rest earlier p later = filter (λ e. here e.0) (flat_map (say centre) (with_earlier (earlier ++ p ∷ []) later))
 
-    messages-from : (earlier later : List KeptPdu) → KeepsResponses here origin FromClient FromCentre (earlier ++ later) centre
+    messages-from : (earlier later : List StoredPdu) → KeepsResponses here origin FromClient FromCentre (earlier ++ later) centre
         → SubmitsAreRequests later
         → flat_map (say part) (with_earlier (own earlier) (own later))
         ≡ filter (λ e. here e.0) (flat_map (say centre) (with_earlier earlier later))
@@ -154,14 +154,14 @@ module _ (here : Place → Bool) (origin : Origin) where
             (sym (one-taken (place_of origin FromClient p) (λ submit. message_of origin p submit (response_to centre earlier p)) false h (submit_in p.content)))
 
   -- the messages of the PDUs that are taken are those at the places that are taken
-  pub messages-taken : (client centre : List KeptPdu) → SubmitsAreRequests client → KeepsPairsTogether here origin client centre
+  pub messages-taken : (client centre : List StoredPdu) → SubmitsAreRequests client → KeepsPairsTogether here origin client centre
       → messages_among origin (pdus_taken here origin FromClient client) (pdus_taken here origin FromCentre centre)
       ≡ filter (λ e. here e.0) (messages_among origin client centre)
   messages-taken client centre asks keeps = messages-from centre [] client keeps.client_asks asks
 
   -- ---- receipts
 
-  pub receipts-taken : (centre : List KeptPdu) → receipts_among origin (pdus_taken here origin FromCentre centre)
+  pub receipts-taken : (centre : List StoredPdu) → receipts_among origin (pdus_taken here origin FromCentre centre)
       ≡ filter (λ e. here e.0) (receipts_among origin centre)
   receipts-taken [] = refl
   receipts-taken (p ∷ centre) =

@@ -18,7 +18,7 @@ use Rattle.smq_frame.proofs.Offsets.{Ascends, ascends-map, stream_frames-ascend}
 use Rattle.smq_pdu.specs.Placed.{placed_pdu, stream_pdus}
 use Rattle.smq_pdu.specs.declared.body.Submit.{Submit}
 use Rattle.smq_receipt.specs.declared.reading.Receipt.{Receipt}
-use Rattle.smq_present.specs.declared.present.kept.KeptPdu.{KeptPdu}
+use Rattle.smq_present.specs.declared.present.kept.StoredPdu.{StoredPdu}
 use Rattle.smq_present.specs.declared.present.session.Session.{Session}
 use Rattle.smq_present.specs.present.Kept.{kept_pdu, kept_pdus, submit_in, receipt_in}
 use Rattle.smq_present.specs.pairing.Traffic.{Message, ReceivedReceipt, Origin, origin_of, place_of, message_of, received, response_to, with_earlier, message_at, receipts_among, session_messages, session_receipts}
@@ -26,7 +26,7 @@ use Rattle.smq_present.specs.within.Pairs.{Rises}
 
 -- ---- the offsets of a stream's PDUs ascend
 
-rises-of : (low : ℕ) (ps : List KeptPdu) → Ascends (λ p. p.offset) low ps → Rises low ps
+rises-of : (low : ℕ) (ps : List StoredPdu) → Ascends (λ p. p.offset) low ps → Rises low ps
 rises-of low [] h = tt
 rises-of low (p ∷ ps) h = (h.0, rises-of (p.offset + 1) ps h.1)
 
@@ -115,7 +115,7 @@ module _ {X : Type 0} where
 
 -- ---- messages and receipts
 
-message-rises : (submit : Option Submit) (origin : Origin) (centre before : List KeptPdu) (low : ℕ) (p : KeptPdu)
+message-rises : (submit : Option Submit) (origin : Origin) (centre before : List StoredPdu) (low : ℕ) (p : StoredPdu)
     (rest : List (Place × Message)) → low ≤ p.offset
     → Rising origin.session.0 FromClient (p.offset + 1) rest
     → Rising origin.session.0 FromClient low
@@ -127,13 +127,13 @@ message-rises : (submit : Option Submit) (origin : Origin) (centre before : List
 message-rises None origin centre before low p rest h k = rising-below origin.session.0 FromClient low (p.offset + 1) rest (omega arith) k
 message-rises (Some submit) origin centre before low p rest h k = (refl, refl, h, k)
 
-pub messages-rise : (origin : Origin) (centre before : List KeptPdu) (low : ℕ) (ps : List KeptPdu) → Rises low ps
+pub messages-rise : (origin : Origin) (centre before : List StoredPdu) (low : ℕ) (ps : List StoredPdu) → Rises low ps
     → Rising origin.session.0 FromClient low (flat_map (λ e. option_to_list (message_at origin centre e.0 e.1)) (with_earlier before ps))
 messages-rise origin centre before low [] h = tt
 messages-rise origin centre before low (p ∷ ps) h =
     message-rises (submit_in p.content) origin centre before low p _ h.0 (messages-rise origin centre (before ++ p ∷ []) (p.offset + 1) ps h.1)
 
-receipt-rises : (receipt : Option Receipt) (origin : Origin) (low : ℕ) (p : KeptPdu) (rest : List (Place × ReceivedReceipt)) → low ≤ p.offset
+receipt-rises : (receipt : Option Receipt) (origin : Origin) (low : ℕ) (p : StoredPdu) (rest : List (Place × ReceivedReceipt)) → low ≤ p.offset
     → Rising origin.session.0 FromCentre (p.offset + 1) rest
     → Rising origin.session.0 FromCentre low
     (option_to_list (option_map (λ (receipt : Receipt). (place_of origin FromCentre p, received origin p receipt)) receipt)
@@ -141,7 +141,7 @@ receipt-rises : (receipt : Option Receipt) (origin : Origin) (low : ℕ) (p : Ke
 receipt-rises None origin low p rest h k = rising-below origin.session.0 FromCentre low (p.offset + 1) rest (omega arith) k
 receipt-rises (Some receipt) origin low p rest h k = (refl, refl, h, k)
 
-pub receipts-rise : (origin : Origin) (low : ℕ) (ps : List KeptPdu) → Rises low ps → Rising origin.session.0 FromCentre low (receipts_among origin ps)
+pub receipts-rise : (origin : Origin) (low : ℕ) (ps : List StoredPdu) → Rises low ps → Rising origin.session.0 FromCentre low (receipts_among origin ps)
 receipts-rise origin low [] h = tt
 receipts-rise origin low (p ∷ ps) h = receipt-rises (receipt_in p.content) origin low p _ h.0 (receipts-rise origin (p.offset + 1) ps h.1)
 

@@ -20,25 +20,25 @@ use Rattle.smq_kit.proofs.Comparisons.{or_first, or_second}
 use Rattle.smq_pdu.specs.Header.{Header}
 use Rattle.smq_pdu.specs.Pairing.{is_response_of}
 use Rattle.smq_pdu.specs.declared.body.Submit.{Submit}
-use Rattle.smq_present.specs.declared.present.kept.KeptPdu.{KeptPdu}
+use Rattle.smq_present.specs.declared.present.kept.StoredPdu.{StoredPdu}
 use Rattle.smq_present.specs.present.Kept.{header_of, headers_of, submit_in}
 use Rattle.smq_present.specs.pairing.Traffic.{Message, Origin, place_of, message_of, message_at, messages_among, rank_after, response_to, with_earlier}
 use Rattle.smq_present.specs.pairing.Pushes.{is_next_response, requests_of}
 
 -- ---- a PDU more of the client
 
-with-push : (before ps : List KeptPdu) (x : KeptPdu) → with_earlier before (ps ++ x ∷ []) ≡ with_earlier before ps ++ (before ++ ps, x) ∷ []
-with-push before [] x = ap (λ (b : List KeptPdu). (b, x) ∷ []) (sym (append-nil before))
+with-push : (before ps : List StoredPdu) (x : StoredPdu) → with_earlier before (ps ++ x ∷ []) ≡ with_earlier before ps ++ (before ++ ps, x) ∷ []
+with-push before [] x = ap (λ (b : List StoredPdu). (b, x) ∷ []) (sym (append-nil before))
 with-push before (p ∷ ps) x =
     ap (λ es. (before, p) ∷ es) (with-push (before ++ p ∷ []) ps x
-    ∙ ap (λ (b : List KeptPdu). with_earlier (before ++ p ∷ []) ps ++ (b, x) ∷ []) (append_assoc before (p ∷ []) ps))
+    ∙ ap (λ (b : List StoredPdu). with_earlier (before ++ p ∷ []) ps ++ (b, x) ∷ []) (append_assoc before (p ∷ []) ps))
 
 -- a PDU more of the client is the message that it is, if any, after the others
-pub client-push : (origin : Origin) (client centre : List KeptPdu) (next : KeptPdu)
+pub client-push : (origin : Origin) (client centre : List StoredPdu) (next : StoredPdu)
     → messages_among origin (client ++ next ∷ []) centre ≡ messages_among origin client centre
     ++ option_to_list (message_at origin centre client next)
 client-push origin client centre next =
-    let say : List KeptPdu × KeptPdu → List (Place × Message) = λ e. option_to_list (message_at origin centre e.0 e.1) in
+    let say : List StoredPdu × StoredPdu → List (Place × Message) = λ e. option_to_list (message_at origin centre e.0 e.1) in
     ap (flat_map say) (with-push [] client next)
     ∙ flat_map-append say (with_earlier [] client) ((client, next) ∷ [])
     ∙ ap (λ (ms : List (Place × Message)). messages_among origin client centre ++ ms)
@@ -53,7 +53,7 @@ get-push (x ∷ xs) y zero h = refl
 get-push (x ∷ xs) y (suc r) h = get-push xs y r (λ e. h (ap suc e))
 
 module _ (p : Header → Bool) where
-  pub count-headers : (xs : List KeptPdu) → count_by p (headers_of xs) ≡ length (filter (λ x. p (header_of x)) xs)
+  pub count-headers : (xs : List StoredPdu) → count_by p (headers_of xs) ≡ length (filter (λ x. p (header_of x)) xs)
   count-headers [] = refl
   count-headers (x ∷ xs) =
       sum_by-cons (λ h. cond (p h) 1 0) (header_of x) (headers_of xs)
@@ -63,7 +63,7 @@ module _ (p : Header → Bool) where
         | false ↦ omega (arith, count-headers xs)
       ]
 
-  filter-push : (xs : List KeptPdu) (y : KeptPdu) (r : ℕ) (b : Bool) → p (header_of y) ≡ b → (b ≡ true → r ≢ count_by p (headers_of xs))
+  filter-push : (xs : List StoredPdu) (y : StoredPdu) (r : ℕ) (b : Bool) → p (header_of y) ≡ b → (b ≡ true → r ≢ count_by p (headers_of xs))
       → slice_get (filter (λ x. p (header_of x)) (xs ++ y ∷ [])) r ≡ slice_get (filter (λ x. p (header_of x)) xs) r
   filter-push xs y r true e h =
       ap (λ ys. slice_get ys r) (filter-append (λ x. p (header_of x)) xs (y ∷ [])
@@ -82,25 +82,25 @@ equal_test m n e = grind (arith, nat_tests)
 
 -- ---- a PDU more of the centre
 
-module _ (origin : Origin) (client centre : List KeptPdu) (next : KeptPdu) where
-  pub response-stays : (before : List KeptPdu) (p : KeptPdu) → is_next_response centre next before p ≡ false
+module _ (origin : Origin) (client centre : List StoredPdu) (next : StoredPdu) where
+  pub response-stays : (before : List StoredPdu) (p : StoredPdu) → is_next_response centre next before p ≡ false
       → response_to (centre ++ next ∷ []) before p ≡ response_to centre before p
   response-stays before p h =
       filter-push (is_response_of p.seq) centre next (rank_after before p.seq) (is_response_of p.seq (header_of next)) refl
       (λ t is. not_both _ _ h t (equal_test (rank_after before p.seq) (count_by (is_response_of p.seq) (headers_of centre)) is))
 
-  say : List KeptPdu → List KeptPdu × KeptPdu → List (Place × Message)
+  say : List StoredPdu → List StoredPdu × StoredPdu → List (Place × Message)
   say other e = option_to_list (message_at origin other e.0 e.1)
 
-  said : Option Submit → KeptPdu → Option KeptPdu → List (Place × Message)
+  said : Option Submit → StoredPdu → Option StoredPdu → List (Place × Message)
   said submit p response = option_to_list (option_map
       (λ (submit : Submit). (place_of origin FromClient p, message_of origin p submit response)) submit)
 
-  message-stays : (e : List KeptPdu × KeptPdu) → is_next_response centre next e.0 e.1 ≡ false → say (centre ++ next ∷ []) e ≡ say centre e
+  message-stays : (e : List StoredPdu × StoredPdu) → is_next_response centre next e.0 e.1 ≡ false → say (centre ++ next ∷ []) e ≡ say centre e
   unfolding say said
   message-stays e h = ap (said (submit_in e.1.content) e.1) (response-stays e.0 e.1 h)
 
-  passed-over : (submit : Option Submit) (p : KeptPdu) (response : Option KeptPdu) (rest : List (Place × Message)) (q : Place)
+  passed-over : (submit : Option Submit) (p : StoredPdu) (response : Option StoredPdu) (rest : List (Place × Message)) (q : Place)
       → eq_by_cmp place_cmp q (place_of origin FromClient p) ≡ false
       → find place_cmp q (said submit p response ++ rest) ≡ find place_cmp q rest
   unfolding said
@@ -112,10 +112,10 @@ module _ (origin : Origin) (client centre : List KeptPdu) (next : KeptPdu) where
   front q [] ys zs h = h
   front q (x ∷ xs) ys zs h = ap (cond (eq_by_cmp place_cmp q x.0) (Some x.1)) (front q xs ys zs h)
 
-  answered : List KeptPdu × KeptPdu → List Place
+  answered : List StoredPdu × StoredPdu → List Place
   answered e = cond (is_next_response centre next e.0 e.1) (place_of origin FromClient e.1 ∷ []) []
 
-  found-alike : (q : Place) (es : List (List KeptPdu × KeptPdu)) → list_any (eq_by_cmp place_cmp q) (flat_map answered es) ≡ false
+  found-alike : (q : Place) (es : List (List StoredPdu × StoredPdu)) → list_any (eq_by_cmp place_cmp q) (flat_map answered es) ≡ false
       → find place_cmp q (flat_map (say centre) es) ≡ find place_cmp q (flat_map (say (centre ++ next ∷ [])) es)
   unfolding answered say said
   found-alike q [] h = refl

@@ -15,7 +15,7 @@ use Rattle.smq_pdu.specs.Placed.{placed_pdu}
 use Rattle.smq_pdu.specs.Readers.{mandatory_at, tlvs_of}
 use Rattle.smq_pdu.specs.declared.body.Submit.{Submit}
 use Rattle.smq_receipt.specs.declared.reading.Receipt.{Receipt}
-use Rattle.smq_present.specs.declared.present.kept.KeptPdu.{KeptPdu}
+use Rattle.smq_present.specs.declared.present.kept.StoredPdu.{StoredPdu}
 use Rattle.smq_present.specs.present.Kept.{content_of_body, kept_pdu, kept_pdus, header_of, receipt_in, submit_in}
 use Rattle.smq_present.specs.within.Pairs.{SubmitsAreRequests}
 
@@ -78,7 +78,7 @@ frame-asks f submit e =
     by (inl same) = asks submit_sm refl same
     by (inr same) = asks data_sm refl same
 
-frames-ask : (fs : List FrameValue) (i : ℕ) (p : KeptPdu) (submit : Submit) → slice_get (map kept_pdu (map placed_pdu fs)) i
+frames-ask : (fs : List FrameValue) (i : ℕ) (p : StoredPdu) (submit : Submit) → slice_get (map kept_pdu (map placed_pdu fs)) i
     ≡ Some p → submit_in p.content ≡ Some submit → is_request (header_of p) ≡ true
 frames-ask fs i p submit at said =
     of_frame (slice_get fs i) (sym (slice_get-map kept_pdu (map placed_pdu fs) i ∙ ap (option_map kept_pdu) (slice_get-map placed_pdu fs i)) ∙ at)
@@ -87,7 +87,7 @@ frames-ask fs i p submit at said =
     of_frame None e = absurd cc
     of_frame (Some f) e =
         let one : kept_pdu (placed_pdu f) ≡ p = cc in
-        ap (λ (q : KeptPdu). is_request (header_of q)) (sym one) ∙ frame-asks f submit (ap (λ (q : KeptPdu). submit_in q.content) one ∙ said)
+        ap (λ (q : StoredPdu). is_request (header_of q)) (sym one) ∙ frame-asks f submit (ap (λ (q : StoredPdu). submit_in q.content) one ∙ said)
 
 pub kept-ask : (stream : List Octet) → SubmitsAreRequests (kept_pdus stream)
 kept-ask stream = record { each = frames-ask (stream_frames stream) }
@@ -138,7 +138,7 @@ frame-delivers f r e =
     by (inr (inl same)) = asks deliver_sm refl same
     by (inr (inr same)) = asks data_sm refl same
 
-frames-deliver : (fs : List FrameValue) (i : ℕ) (p : KeptPdu) (r : Receipt) → slice_get (map kept_pdu (map placed_pdu fs)) i
+frames-deliver : (fs : List FrameValue) (i : ℕ) (p : StoredPdu) (r : Receipt) → slice_get (map kept_pdu (map placed_pdu fs)) i
     ≡ Some p → receipt_in p.content ≡ Some r → is_request (header_of p) ≡ true
 frames-deliver fs i p r at said =
     of_frame (slice_get fs i) (sym (slice_get-map kept_pdu (map placed_pdu fs) i ∙ ap (option_map kept_pdu) (slice_get-map placed_pdu fs i)) ∙ at)
@@ -147,8 +147,8 @@ frames-deliver fs i p r at said =
     of_frame None e = absurd cc
     of_frame (Some f) e =
         let one : kept_pdu (placed_pdu f) ≡ p = cc in
-        ap (λ (q : KeptPdu). is_request (header_of q)) (sym one) ∙ frame-delivers f r (ap (λ (q : KeptPdu). receipt_in q.content) one ∙ said)
+        ap (λ (q : StoredPdu). is_request (header_of q)) (sym one) ∙ frame-delivers f r (ap (λ (q : StoredPdu). receipt_in q.content) one ∙ said)
 
-pub kept-delivers : (stream : List Octet) (i : ℕ) (p : KeptPdu) (r : Receipt) → slice_get (kept_pdus stream) i ≡ Some p
+pub kept-delivers : (stream : List Octet) (i : ℕ) (p : StoredPdu) (r : Receipt) → slice_get (kept_pdus stream) i ≡ Some p
     → receipt_in p.content ≡ Some r → is_request (header_of p) ≡ true
 kept-delivers stream i p r at said = frames-deliver (stream_frames stream) i p r at said

@@ -14,7 +14,7 @@ use Rattle.smq_tally.specs.declared.list.List.TheVariants as list
 use Rattle.smq_tally.specs.declared.list.Listed.{Listed}
 use Rattle.smq_tally.specs.Lists.{list_rank, listed}
 use Rattle.smq_present.specs.present.Content.{Content}
-use Rattle.smq_present.specs.declared.present.kept.KeptPdu.{KeptPdu}
+use Rattle.smq_present.specs.declared.present.kept.StoredPdu.{StoredPdu}
 use Rattle.smq_present.specs.declared.present.session.Session.{Session}
 use Rattle.smq_present.specs.present.Kept.{kept_pdus, is_undecodable, is_unreadable}
 use Rattle.smq_present.specs.present.Present.{direction}
@@ -68,10 +68,10 @@ by-list v us ds bs l q high h =
     ]
 
 module _ (e : ℕ × Session) (q : Place) where
-  abbrev client : List KeptPdu
+  abbrev client : List StoredPdu
   client = kept_pdus e.1.client
 
-  abbrev centre : List KeptPdu
+  abbrev centre : List StoredPdu
   centre = kept_pdus e.1.centre
 
   abbrev unreadables : List Place
@@ -134,13 +134,13 @@ module _ (e : ℕ × Session) (q : Place) where
 
   -- the PDU at a place of a session, whose content passes a test
   abbrev pub Passes : (Content → Bool) → Type 0
-  Passes test = (p : KeptPdu) × Contains (kept_pdus (direction q.dir e.1)) p × (p.offset ≡ q.offset) × (test p.content ≡ true)
+  Passes test = (p : StoredPdu) × Contains (kept_pdus (direction q.dir e.1)) p × (p.offset ≡ q.offset) × (test p.content ≡ true)
 
   pub place-has : (test : Content → Bool) (d : Dir) → Contains (places_where test (origin_of e) d (kept_pdus (direction d e.1))) q
       → (e.0 ≡ q.session.0) × (d ≡ q.dir) × Passes test
   place-has test d h =
-      let w = map-has (place_of (origin_of e) d) (filter (λ (p : KeptPdu). test p.content) (kept_pdus (direction d e.1))) q h in
-      let f = filter-has (λ (p : KeptPdu). test p.content) (kept_pdus (direction d e.1)) w.0 w.1 in
+      let w = map-has (place_of (origin_of e) d) (filter (λ (p : StoredPdu). test p.content) (kept_pdus (direction d e.1))) q h in
+      let f = filter-has (λ (p : StoredPdu). test p.content) (kept_pdus (direction d e.1)) w.0 w.1 in
       let dir : d ≡ q.dir = ap (λ (x : Place). x.dir) w.2 in (
         ap (λ (x : Place). x.session.0) w.2,
         dir,
@@ -158,8 +158,8 @@ module _ (e : ℕ × Session) (q : Place) where
   has-place test number w =
       let is : place_of (origin_of e) q.dir w.0 ≡ q = λ i. record { session = record { 0 = number i }; dir = q.dir; offset = w.2 i } in
       subst (λ (x : Place). Contains (places_where test (origin_of e) q.dir (kept_pdus (direction q.dir e.1))) x) is
-      (has-map (place_of (origin_of e) q.dir) (filter (λ (p : KeptPdu). test p.content) (kept_pdus (direction q.dir e.1))) w.0
-      (has-filter (λ (p : KeptPdu). test p.content) (kept_pdus (direction q.dir e.1)) w.0 w.1 w.3))
+      (has-map (place_of (origin_of e) q.dir) (filter (λ (p : StoredPdu). test p.content) (kept_pdus (direction q.dir e.1))) w.0
+      (has-filter (λ (p : StoredPdu). test p.content) (kept_pdus (direction q.dir e.1)) w.0 w.1 w.3))
 
   pub undecodable-there : Contains undecodables q → (e.0 ≡ q.session.0) × Passes is_undecodable
   undecodable-there h = elim (Contains-append_cases (places_where is_undecodable (origin_of e) FromClient client)

@@ -22,7 +22,7 @@ use Rattle.smq_tally.specs.declared.list.List.TheVariants as list
 use Rattle.smq_tally.specs.declared.list.Listed.{Listed}
 use Rattle.smq_tally.specs.Lists.{listed}
 use Rattle.smq_present.specs.present.Content.{Content}
-use Rattle.smq_present.specs.declared.present.kept.KeptPdu.{KeptPdu}
+use Rattle.smq_present.specs.declared.present.kept.StoredPdu.{StoredPdu}
 use Rattle.smq_present.specs.present.Kept.{header_of, headers_of, is_undecodable, is_unreadable}
 use Rattle.smq_present.specs.pairing.Traffic.{Origin, place_of, placed, pairing_among, disagrees, notes_among, places_where}
 use Rattle.smq_present.specs.within.Pairs.{Rises, from_session}
@@ -35,19 +35,19 @@ use Rattle.smq_present.specs.within.Sides.{IsSide, IsPaired, pairing_in, disagre
 
 -- ---- the pair at a place
 
-headers-placed : (o : Origin) (d : Dir) (ps : List KeptPdu) → headers (map (placed o d) ps) ≡ headers_of ps
+headers-placed : (o : Origin) (d : Dir) (ps : List StoredPdu) → headers (map (placed o d) ps) ≡ headers_of ps
 headers-placed o d ps = map-map (λ (p : PlacedHeader). p.header) (placed o d) ps
 
-turn-placed : (o : Origin) (d : Dir) (kind : Kind) (seq n : ℕ) (ps : List KeptPdu)
+turn-placed : (o : Origin) (d : Dir) (kind : Kind) (seq n : ℕ) (ps : List StoredPdu)
     → slice_get (filter (λ (r : PlacedHeader). is_turn kind seq r.header) (map (placed o d) ps)) n
     ≡ option_map (placed o d) (slice_get (turns_of kind seq ps) n)
 turn-placed o d kind seq n ps = ap (λ rs. slice_get rs n) (filter-placed o d (is_turn kind seq) ps) ∙ slice_get-map (placed o d) (turns_of kind seq ps) n
 
-mine-from : (d : Dir) (o : Origin) (mine other : List KeptPdu) → pdus_from d (pairing_in d o mine other) ≡ map (placed o d) mine
+mine-from : (d : Dir) (o : Origin) (mine other : List StoredPdu) → pdus_from d (pairing_in d o mine other) ≡ map (placed o d) mine
 mine-from FromClient o mine other = refl
 mine-from FromCentre o mine other = refl
 
-other-from : (d : Dir) (o : Origin) (mine other : List KeptPdu)
+other-from : (d : Dir) (o : Origin) (mine other : List StoredPdu)
     → pdus_from (pairs.opposite d) (pairing_in d o mine other) ≡ map (placed o (pairs.opposite d)) other
 other-from FromClient o mine other = refl
 other-from FromCentre o mine other = refl
@@ -60,11 +60,11 @@ none-same : {A B C : Type 0} (f : B → C) (g : A → B) (x : Option A) → is_n
 none-same f g None = refl
 none-same f g (Some x) = refl
 
-module _ (o : Origin) (d : Dir) (mine other : List KeptPdu) (rises : Rises 0 mine) (i : ℕ) (p : KeptPdu) (at : slice_get mine i ≡ Some p) where
+module _ (o : Origin) (d : Dir) (mine other : List StoredPdu) (rises : Rises 0 mine) (i : ℕ) (p : StoredPdu) (at : slice_get mine i ≡ Some p) where
   abbrev here : PlacedHeader
   here = placed o d p
 
-  abbrev there : KeptPdu → PlacedHeader
+  abbrev there : StoredPdu → PlacedHeader
   there r = placed o (pairs.opposite d) r
 
   abbrev earlier : List PlacedHeader
@@ -75,7 +75,7 @@ module _ (o : Origin) (d : Dir) (mine other : List KeptPdu) (rises : Rises 0 min
 
   split : mine ≡ take i mine ++ p ∷ drop (i + 1) mine
   split = sym (take-append-drop i mine) ∙ ap (λ ps. take i mine ++ ps) (drop_more mine i p (slice_get_within mine i p at)
-      ∙ ap (λ (q : KeptPdu). q ∷ drop (i + 1) mine) (get_or_from_slice_get mine i p p at))
+      ∙ ap (λ (q : StoredPdu). q ∷ drop (i + 1) mine) (get_or_from_slice_get mine i p p at))
 
   pair-here : pair ≡ pair_after (map there other) earlier here
   pair-here =
@@ -102,7 +102,7 @@ module _ (o : Origin) (d : Dir) (mine other : List KeptPdu) (rises : Rises 0 min
       (count_by (is_response_of p.seq) hs)) (headers-placed o d (take i mine))
       ∙ turn-placed o (pairs.opposite d) Request p.seq (count_by (is_response_of p.seq) (headers_of (take i mine))) other)
 
-  disagrees-same : (r : Option KeptPdu) → disagrees_with p r ≡ disagrees (option_map (λ r. pair_of here r) (option_map there r))
+  disagrees-same : (r : Option StoredPdu) → disagrees_with p r ≡ disagrees (option_map (λ r. pair_of here r) (option_map there r))
   disagrees-same None = refl
   disagrees-same (Some r) = refl
 
@@ -124,12 +124,12 @@ module _ (o : Origin) (d : Dir) (mine other : List KeptPdu) (rises : Rises 0 min
 -- ---- a side
 
 -- what is noted of it is what is noted of its PDUs
-pub noted-side : (l : ListName) (session : SessionId) (d : Dir) (mine other : List KeptPdu) (side : Side) → IsSide session d mine other side
+pub noted-side : (l : ListName) (session : SessionId) (d : Dir) (mine other : List StoredPdu) (side : Side) → IsSide session d mine other side
     → noted l side ≡ noted_in l (from_session session) d mine other
 noted-side l session d mine other side is = λ k. noted_in l (from_session (is.session k)) (is.dir k) (is.pdus k) (is.other k)
 
 -- a PDU of it is in a list where that is said by its partners
-pub noted-at : (side : Side) (l : ListName) (i : ℕ) (p : KeptPdu) (response request : Option KeptPdu) (b : Bool) → IsPaired side
+pub noted-at : (side : Side) (l : ListName) (i : ℕ) (p : StoredPdu) (response request : Option StoredPdu) (b : Bool) → IsPaired side
     → slice_get side.pdus.now i ≡ Some p → response ≡ partner_at side.responses.items side.other.now i
     → request ≡ partner_at side.requests.items side.other.now i → b ≡ is_noted_by l response request p
     → cond b (listed l (place_of (from_session side.session) side.dir p) ∷ []) []
@@ -143,7 +143,7 @@ noted-at side l i p response request b paired at r q is =
 
 module _ (l : ListName) (o : Origin) where
   -- a direction's places that pass a test, where those of PDUs that pass another stand
-  one-side : (at : Place → Bool) (test : Header → Bool) (d : Dir) (ps : List KeptPdu)
+  one-side : (at : Place → Bool) (test : Header → Bool) (d : Dir) (ps : List StoredPdu)
       → map (listed l) (filter at (map (λ (p : PlacedHeader). p.place) (filter (λ (p : PlacedHeader). test p.header) (map (placed o d) ps))))
       ≡ flat_map (λ p. cond (test (header_of p) && at (place_of o d p)) (listed l (place_of o d p) ∷ []) []) ps
   one-side at test d [] = refl
@@ -162,7 +162,7 @@ module _ (l : ListName) (o : Origin) where
         | false ↦ one-side at test d ps
       ]
 
-  both-sides : (at : Place → Bool) (test : Header → Bool) (client centre : List KeptPdu)
+  both-sides : (at : Place → Bool) (test : Header → Bool) (client centre : List StoredPdu)
       → map (listed l) (filter at (places_of test (pairing_among o client centre)))
       ≡ flat_map (λ p. cond (test (header_of p) && at (place_of o FromClient p)) (listed l (place_of o FromClient p) ∷ []) []) client
       ++ flat_map (λ p. cond (test (header_of p) && at (place_of o FromCentre p)) (listed l (place_of o FromCentre p) ∷ []) []) centre
@@ -177,7 +177,7 @@ module _ (l : ListName) (o : Origin) where
       ∙ map-append (listed l) (filter at (map place (filter passes cs))) (filter at (map place (filter passes ss)))
       ∙ (λ k. one-side at test FromClient client k ++ one-side at test FromCentre centre k)
 
-  where-noted : (test : Content → Bool) (d : Dir) (ps : List KeptPdu) → map (listed l) (places_where test o d ps)
+  where-noted : (test : Content → Bool) (d : Dir) (ps : List StoredPdu) → map (listed l) (places_where test o d ps)
       ≡ flat_map (λ p. cond (test p.content) (listed l (place_of o d p) ∷ []) []) ps
   where-noted test d [] = refl
   where-noted test d (p ∷ ps) = elim (test p.content) as (λ b. map (listed l) (map (place_of o d) (cond b (p ∷ filter (λ p. test p.content) ps) (filter (λ p. test p.content) ps)))
@@ -186,7 +186,7 @@ module _ (l : ListName) (o : Origin) where
         | false ↦ where-noted test d ps
       ]
 
-module _ (o : Origin) (client centre : List KeptPdu) where
+module _ (o : Origin) (client centre : List StoredPdu) where
   -- those of both directions
   abbrev pub noted_both : ListName → List Listed
   noted_both l = noted_in l o FromClient client centre ++ noted_in l o FromCentre centre client

@@ -11,7 +11,7 @@ use Rattle.std.proofs.Math.ListN.{get_or-append}
 use Rattle.std.proofs.lemmas.Option.{slice_get_within, slice_get-get_or, unwrap_or-slice_get, get_or_from_slice_get}
 use Rattle.smq_pdu.specs.Header.{header_with}
 use Rattle.smq_pair.proofs.Entered.{count-last}
-use Rattle.smq_present.specs.declared.present.kept.KeptPdu.{KeptPdu}
+use Rattle.smq_present.specs.declared.present.kept.StoredPdu.{StoredPdu}
 use Rattle.smq_present.specs.present.Kept.{header_of, headers_of}
 use Rattle.smq_present.specs.declared.pairing.sides.Kind.{Kind}
 use Rattle.smq_present.specs.declared.pairing.sides.Kind.TheVariants.{Request, Response}
@@ -50,11 +50,11 @@ flat None = refl
 flat (Some o) = refl
 
 -- the kind of a PDU is that of its command
-pub of-command : (kind : Kind) (p : KeptPdu) → is_kind kind (header_of p) ≡ is_kind kind (header_with p.command)
+pub of-command : (kind : Kind) (p : StoredPdu) → is_kind kind (header_of p) ≡ is_kind kind (header_with p.command)
 of-command Request p = refl
 of-command Response p = refl
 
-module _ (kind : Kind) (pdus : List KeptPdu) where
+module _ (kind : Kind) (pdus : List StoredPdu) where
   -- ---- one is taken
 
   -- the first of a number has its index
@@ -62,7 +62,7 @@ module _ (kind : Kind) (pdus : List KeptPdu) where
       → option_and_then (slice_get pdus) (first_in turns.first seq) ≡ slice_get (turns_of kind seq pdus) (taken seq)
   first-at taken turns seq h = by_first (first_in turns.first seq) (h.first seq)
     where
-      left : List KeptPdu
+      left : List StoredPdu
       left = drop (taken seq) (turns_of kind seq pdus)
 
       by_first : (first : Option ℕ) → BeginsAt kind seq pdus left first
@@ -112,18 +112,18 @@ module _ (kind : Kind) (pdus : List KeptPdu) where
   pub no-next : (i : ℕ) (next : List (Option ℕ)) → length pdus ≤ i → HasNext kind pdus i next
   no-next i next all = λ j p seq low at turn. absurd (let within = slice_get_within pdus j p at in omega (arith, low, all, within))
 
-  module _ (i : ℕ) (x : KeptPdu) (h : i < length pdus) (is : x ≡ get_or pdus i x) where
+  module _ (i : ℕ) (x : StoredPdu) (h : i < length pdus) (is : x ≡ get_or pdus i x) where
     here : drop i pdus ≡ x ∷ drop (i + 1) pdus
-    here = drop_more pdus i x h ∙ ap (λ (p : KeptPdu). p ∷ drop (i + 1) pdus) (sym is)
+    here = drop_more pdus i x h ∙ ap (λ (p : StoredPdu). p ∷ drop (i + 1) pdus) (sym is)
 
     at-here : slice_get pdus i ≡ Some x
     at-here = slice_get-get_or pdus i x h ∙ ap Some (sym is)
 
-    abbrev with_it : ℕ → Bool → List KeptPdu
+    abbrev with_it : ℕ → Bool → List StoredPdu
     with_it seq b = cond b (x ∷ turns_of kind seq (drop (i + 1) pdus)) (turns_of kind seq (drop (i + 1) pdus))
 
     -- what stands at its index is it
-    same-pdu : (j : ℕ) (p : KeptPdu) → j ≡ i → slice_get pdus j ≡ Some p → p ≡ x
+    same-pdu : (j : ℕ) (p : StoredPdu) → j ≡ i → slice_get pdus j ≡ Some p → p ≡ x
     same-pdu j p same at = let e : Some p ≡ Some x = sym at ∙ ap (slice_get pdus) same ∙ at-here in cc
 
     -- it is of the kind
@@ -147,7 +147,7 @@ module _ (kind : Kind) (pdus : List KeptPdu) where
         → BeginsAt kind seq pdus (turns_of kind seq (drop (i + 1) pdus)) (next_at next i)) → HasNext kind pdus i next
     next-here next later own = λ j p seq low at turn. elim (cases_eq j i) [
       | inl same ↦ subst (λ k. BeginsAt kind seq pdus (turns_of kind seq (drop (k + 1) pdus)) (next_at next k)) (sym same)
-          (own seq (ap (λ (y : KeptPdu). is_turn kind seq (header_of y)) (sym (same-pdu j p same at)) ∙ turn))
+          (own seq (ap (λ (y : StoredPdu). is_turn kind seq (header_of y)) (sym (same-pdu j p same at)) ∙ turn))
       | inr apart ↦ later j p seq (omega (arith, low, apart)) at turn
     ]
 
@@ -171,13 +171,13 @@ module _ (kind : Kind) (pdus : List KeptPdu) where
 -- ---- one PDU more is given its partner
 
 -- how many of a kind and a number stand before an index
-abbrev pub counted : Kind → List KeptPdu → ℕ → ℕ → ℕ
+abbrev pub counted : Kind → List StoredPdu → ℕ → ℕ → ℕ
 counted kind mine n seq = count_by (is_turn kind seq) (headers_of (take n mine))
 
-module _ (kind : Kind) (mine : List KeptPdu) (i : ℕ) (x : KeptPdu) (h : i < length mine) (is : x ≡ get_or mine i x) where
+module _ (kind : Kind) (mine : List StoredPdu) (i : ℕ) (x : StoredPdu) (h : i < length mine) (is : x ≡ get_or mine i x) where
   headers-more : headers_of (take (i + 1) mine) ≡ headers_of (take i mine) ++ header_of x ∷ []
   headers-more = ap headers_of (take_more mine i x h) ∙ map-append header_of (take i mine) (get_or mine i x ∷ [])
-      ∙ ap (λ (y : KeptPdu). headers_of (take i mine) ++ header_of y ∷ []) (sym is)
+      ∙ ap (λ (y : StoredPdu). headers_of (take i mine) ++ header_of y ∷ []) (sym is)
 
   counted-more : (seq : ℕ) → counted kind mine (i + 1) seq ≡ counted kind mine i seq + cond (is_turn kind seq (header_of x)) 1 0
   counted-more seq = ap (count_by (is_turn kind seq)) headers-more ∙ count-last (is_turn kind seq) (headers_of (take i mine)) (header_of x)
@@ -193,19 +193,19 @@ module _ (kind : Kind) (mine : List KeptPdu) (i : ℕ) (x : KeptPdu) (h : i < le
   counted-other of_other seq =
       sym (counted-more seq ∙ ap (λ b. counted kind mine i seq + cond (b && (x.seq == seq)) 1 0) of_other ∙ (let e : counted kind mine i seq + 0 ≡ counted kind mine i seq = omega arith in e))
 
-  pub partners-more : (other : List KeptPdu) (old : List (Option ℕ)) (partner : Option ℕ) → length old ≡ i → HasPartnersTo i kind mine other old
+  pub partners-more : (other : List StoredPdu) (old : List (Option ℕ)) (partner : Option ℕ) → length old ≡ i → HasPartnersTo i kind mine other old
       → (is_kind kind (header_of x) ≡ true → option_and_then (slice_get other) partner ≡ partner_after kind other (take i mine) x)
       → HasPartnersTo (i + 1) kind mine other (old ++ partner ∷ [])
   partners-more other old partner many so has = λ j p low at of_kind. by_index j p low at of_kind (cases_eq j i)
     where
-      by_index : (j : ℕ) (p : KeptPdu) → j < i + 1 → slice_get mine j ≡ Some p → is_kind kind (header_of p) ≡ true
+      by_index : (j : ℕ) (p : StoredPdu) → j < i + 1 → slice_get mine j ≡ Some p → is_kind kind (header_of p) ≡ true
           → (j ≡ i) ⊎ (j ≢ i) → partner_at (old ++ partner ∷ []) other j ≡ partner_after kind other (take j mine) p
       by_index j p low at of_kind (inl same) =
           let at_i : slice_get mine i ≡ Some p = ap (slice_get mine) (sym same) ∙ at in
           let it : p ≡ x = sym (get_or_from_slice_get mine i p x at_i) ∙ sym is in
           ap (option_and_then (slice_get other)) (ap (λ k. unwrap_or (slice_get (old ++ partner ∷ []) k) None) same
           ∙ unwrap_or-slice_get (old ++ partner ∷ []) i None ∙ get_or_push old partner None i many)
-          ∙ has (ap (λ (y : KeptPdu). is_kind kind (header_of y)) (sym it) ∙ of_kind)
+          ∙ has (ap (λ (y : StoredPdu). is_kind kind (header_of y)) (sym it) ∙ of_kind)
           ∙ (λ k. partner_after kind other (take (sym same k) mine) (sym it k))
       by_index j p low at of_kind (inr apart) =
           ap (option_and_then (slice_get other)) (unwrap_or-slice_get (old ++ partner ∷ []) j None

@@ -24,7 +24,7 @@ use Rattle.smq_tally.specs.within.ListOrder.{listed_total}
 use Rattle.smq_tally.proofs.ListOrders.{listed_exact}
 use Rattle.smq_present.specs.present.Content.{Content}
 use Rattle.smq_present.specs.present.Content as c
-use Rattle.smq_present.specs.declared.present.kept.KeptPdu.{KeptPdu}
+use Rattle.smq_present.specs.declared.present.kept.StoredPdu.{StoredPdu}
 use Rattle.smq_present.specs.declared.present.session.Session.{Session}
 use Rattle.smq_present.specs.present.Kept.{kept_pdus, is_undecodable, is_unreadable}
 use Rattle.smq_present.specs.present.Present.{direction, octets_in}
@@ -131,17 +131,17 @@ module _ (sessions : FinMap nat_cmp Session) (q : Place) where
   }
 
   -- where a PDU stands, its session is present
-  present : (p : KeptPdu) → StandsAt sessions q p → (s : Session) × (get sessions q.session.0 ≡ Some s) × Contains (kept_pdus (direction q.dir s)) p
+  present : (p : StoredPdu) → StandsAt sessions q p → (s : Session) × (get sessions q.session.0 ≡ Some s) × Contains (kept_pdus (direction q.dir s)) p
   present p at = by (get sessions q.session.0) refl
     where
       by : (o : Option Session) → get sessions q.session.0 ≡ o → (s : Session) × (get sessions q.session.0 ≡ Some s)
           × Contains (kept_pdus (direction q.dir s)) p
-      by None found = none-in p (subst (λ (ps : List KeptPdu). Contains ps p) kept_pdus-nil
+      by None found = none-in p (subst (λ (ps : List StoredPdu). Contains ps p) kept_pdus-nil
           (subst (λ (o : Option Session). Contains (kept_pdus (octets_in q.dir o)) p) found at.among))
       by (Some s) found = (s, found, subst (λ (o : Option Session). Contains (kept_pdus (octets_in q.dir o)) p) found at.among)
 
   pub undecodable-places : IsTrue (contains_key (traffic_of sessions).notes (listed list.Undecodable q))
-      ↔ ((p : KeptPdu) × StandsAt sessions q p × (p.content ≡ c.Undecodable))
+      ↔ ((p : StoredPdu) × StandsAt sessions q p × (p.content ≡ c.Undecodable))
   undecodable-places = (
     λ h. let n = noted-in list.Undecodable h in
         let w = undecodable-there n.0 q (undecodable-noted n.0 q n.2) in
@@ -152,7 +152,7 @@ module _ (sessions : FinMap nat_cmp Session) (q : Place) where
   )
 
   pub unreadable-places : IsTrue (contains_key (traffic_of sessions).notes (listed list.Unreadable q))
-      ↔ ((p : KeptPdu) × StandsAt sessions q p × (q.dir ≡ FromCentre) × (Says p.content v.NoId ⊎ Says p.content v.NoState))
+      ↔ ((p : StoredPdu) × StandsAt sessions q p × (q.dir ≡ FromCentre) × (Says p.content v.NoId ⊎ Says p.content v.NoState))
   unreadable-places = (
     λ h. let n = noted-in list.Unreadable h in
         let w = place-has n.0 q is_unreadable FromCentre (unreadable-noted n.0 q n.2) in

@@ -7,18 +7,16 @@ use Rattle.std.specs.Map.{lookup}
 use Rattle.std.specs.Ordering.{nat_cmp}
 use Rattle.smq_frame.specs.Stream.{Octet, values}
 use Rattle.smq_frame.specs.Tail.{tail_of}
-use Rattle.smq_kit.specs.declared.names.LinkId.{LinkId}
 use Rattle.smq_kit.specs.declared.refusal.Refusal.{Refusal}
 use Rattle.smq_kit.specs.declared.refusal.Refusal.TheVariants.{Memory, NoSession}
-use Rattle.smq_present.specs.declared.present.edit.Edit.TheVariants.{Append, SetForm}
-use Rattle.smq_present.specs.declared.present.forms.Forms.{Forms}
+use Rattle.smq_present.specs.declared.present.edit.Edit.TheVariants.{Append}
 use Rattle.smq_present.specs.declared.present.session.Session.{Session}
 use Rattle.smq_present.specs.present.Batch.{BatchValue}
 use Rattle.smq_present.specs.present.Present.{PresentValue, direction, octets_in}
 use Rattle.smq_present.specs.present.Settings.{SettingsValue}
 use Rattle.smq_kit.specs.Replies.{IsReply, IsReplyInPlace, first_of}
 use Rattle.smq_present.specs.present.Replies.{append_refusals, no_session, reply}
-use Rattle.smq_present.specs.present.Steps.{session_after, with_forms, change}
+use Rattle.smq_present.specs.present.Steps.{session_after, change}
 use Rattle.smq_present.proofs.lemmas.present.BatchReplies.{IsReply-weaker, new_session, no_octets, put-new, refused-new}
 use Rattle.smq_present.proofs.lemmas.present.NumberMaps.{seen, get-seen, insert-seen, insert-same, remove-seen}
 
@@ -93,18 +91,6 @@ present_becomes p old new settings b r is a =
     let with : FinMap nat_cmp Session → PresentValue = λ m. record { sessions = m; settings = settings } in
     subst (λ (q : PresentValue). IsReply (reply q (Append b)) r (after ≡ change q (Append b)) (after ≡ q)) is
     (IsReply-weaker (reply before (Append b)) r (λ e. ap with e) (λ e. ap with e) a)
-
--- the forms of a link are set, or memory is wanting
-pub settings_become : {T : Type 0} (p : PresentValue) (sessions : FinMap nat_cmp Session) (old new : SettingsValue) (link : LinkId)
-    (forms : Forms) (r : Result T Refusal)
-    → (record { sessions = sessions; settings = old }) ≡ p → MatchResult r (λ _. new ≡ with_forms old link forms) (λ e. (e ≡ Memory) × (new ≡ old))
-    → IsReply (reply p (SetForm link forms.response forms.receipt)) r ((record { sessions = sessions; settings = new })
-    ≡ change p (SetForm link forms.response forms.receipt)) ((record { sessions = sessions; settings = new }) ≡ p)
-settings_become p sessions old new link forms (Ok x) is a =
-    ap (λ (s : SettingsValue). record { sessions = sessions; settings = s }) a
-    ∙ ap (λ (q : PresentValue). change q (SetForm link forms.response forms.receipt)) is
-settings_become p sessions old new link forms (Err e) is a =
-    (a.0, ap (λ (s : SettingsValue). record { sessions = sessions; settings = s }) a.1 ∙ is)
 
 -- the session is taken out, or isn't there
 pub removed : {T : Type 0} (es fs : List (ℕ × Session)) (k : ℕ) (s : Session) (x : T) → Some s ≡ lookup (is_at (nat_cmp k)) es

@@ -1,6 +1,6 @@
 -- The reply to a batch, for a new session and for one that is present.
 use Rattle.std.proofs.Common.{◌≡◌, true, List, [], ◌∷◌, ◌++◌, Option, Some, None, Result, Ok, Err, refl, ap, ◌∙◌, subst, eq-eqb}
-use Rattle.std.specs.Prelude.{◌==◌, MatchResult, OnOk}
+use Rattle.std.specs.Prelude.{◌==◌, MatchResult}
 use Rattle.smq_kit.specs.declared.names.LinkId.{LinkId}
 use Rattle.smq_kit.specs.declared.place.Dir.{Dir}
 use Rattle.smq_kit.specs.declared.place.Dir.TheVariants.{FromClient, FromCentre}
@@ -30,12 +30,6 @@ made-or-wanting P Q o (Err e) none a = rw none a
 
 pub told : (T P Q : Type 0) (o : Option Refusal) (e : Refusal) → o ≡ Some e → Q → IsReply {T = T} o (Err e) P Q
 told T P Q o e is same = rw is (refl, same)
-
--- what holds once it is made
-pub on-made : {T : Type 0} (P Q A B : Type 0) (o : Option Refusal) (r : Result T Refusal) → IsReply o r P Q → (o ≡ None → A → B) → OnOk r A → OnOk r B
-on-made P Q A B None (Ok x) is f a = f refl a
-on-made P Q A B (Some e) (Ok x) is f a = absurd is
-on-made P Q A B o (Err e) is f a = tt
 
 -- a batch goes after its direction
 pub put-client : {T : Type 0} (s : Session) (b : BatchValue) (r : Result T Refusal) (new : List Octet) → b.dir ≡ FromClient

@@ -26,7 +26,7 @@ use Rattle.smq_present.specs.declared.present.forms.Forms.{Forms}
 use Rattle.smq_present.specs.declared.present.session.Session.{Session}
 use Rattle.smq_present.specs.present.Batch.{BatchValue}
 use Rattle.smq_present.specs.present.Present.{PresentValue, session_of, direction, octets_in, octets_of}
-use Rattle.smq_present.specs.present.Settings.{set_forms_of, set_window_of, with_windows, with_versions, with_clock}
+use Rattle.smq_present.specs.present.Settings.{forms_if_set, window_if_set, with_windows, with_versions, with_clock}
 use Rattle.smq_kit.specs.Replies.{first_of}
 use Rattle.smq_present.specs.present.Replies.{no_session, append_refusals, reply}
 use Rattle.smq_present.specs.present.Steps.{session_with, session_after, change, step_unless, step, steps, Appends, Withdraws, SetsForm, SetsWindow, AddsRoute, EndsRoute, CorrectsRoute, Advances, is_append_to, is_of_session, edits_without, LeavesNoTrace, IsAsNeverThere, AreAppendedAgain, AppendsCommute}
@@ -207,10 +207,10 @@ withdraws-alone p q s one =
     one.rest ∙ ap (λ (m : FinMap nat_cmp Session). record p { sessions = m }) same
 
 same_forms : (p q r : PresentValue) (link : LinkId) (response receipt : Form) → SetsForm p q link response receipt
-    → SetsForm p r link response receipt → (n : ℕ) → set_forms_of q.settings n ≡ set_forms_of r.settings n
+    → SetsForm p r link response receipt → (n : ℕ) → forms_if_set q.settings n ≡ forms_if_set r.settings n
 same_forms p q r link response receipt one two n =
     elim (either_number n link.0 (nat_cmp n link.0) refl) [
-      | inl is ↦ subst (λ (m : ℕ). set_forms_of q.settings m ≡ set_forms_of r.settings m) (sym is) (one.there ∙ sym two.there)
+      | inl is ↦ subst (λ (m : ℕ). forms_if_set q.settings m ≡ forms_if_set r.settings m) (sym is) (one.there ∙ sym two.there)
       | inr ne ↦ one.elsewhere n ne ∙ sym (two.elsewhere n ne)
     ]
 
@@ -224,10 +224,10 @@ sets-alone p q link response receipt one =
     one.rest ∙ ap (λ (m : FinMap nat_cmp Forms). record p { settings = record p.settings { forms = m } }) same
 
 same_windows : (p q r : PresentValue) (link : LinkId) (window : ℕ) → SetsWindow p q link window → SetsWindow p r link window
-    → (n : ℕ) → set_window_of q.settings n ≡ set_window_of r.settings n
+    → (n : ℕ) → window_if_set q.settings n ≡ window_if_set r.settings n
 same_windows p q r link window one two n =
     elim (either_number n link.0 (nat_cmp n link.0) refl) [
-      | inl is ↦ subst (λ (m : ℕ). set_window_of q.settings m ≡ set_window_of r.settings m) (sym is) (one.there ∙ sym two.there)
+      | inl is ↦ subst (λ (m : ℕ). window_if_set q.settings m ≡ window_if_set r.settings m) (sym is) (one.there ∙ sym two.there)
       | inr ne ↦ one.elsewhere n ne ∙ sym (two.elsewhere n ne)
     ]
 

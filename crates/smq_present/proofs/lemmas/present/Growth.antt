@@ -9,13 +9,13 @@ use Rattle.smq_frame.specs.Stream.{Octet, values, handed_in, stream_frames, fram
 use Rattle.smq_frame.specs.Tail.{TailValue, tail_from, tail_of, tail_after}
 use Rattle.smq_frame.proofs.Streams.{stream_grows, stamp_there, stream_frames-nil}
 use Rattle.smq_pdu.specs.Placed.{PlacedPdu, placed_pdu}
-use Rattle.smq_present.specs.declared.present.kept.KeptPdu.{KeptPdu}
+use Rattle.smq_present.specs.declared.present.kept.StoredPdu.{StoredPdu}
 use Rattle.smq_present.specs.declared.present.session.Piece.{Piece}
 use Rattle.smq_present.specs.present.Kept.{kept_pdu, kept_pdus}
 use Rattle.smq_present.specs.present.Stream.{stream_of, last_moment, Keeps}
 
 -- what is kept of frames
-abbrev pub kept_frames : List FrameValue → List KeptPdu
+abbrev pub kept_frames : List FrameValue → List StoredPdu
 kept_frames frames = map kept_pdu (map placed_pdu frames)
 
 kept_frames-append : (fs gs : List FrameValue) → kept_frames (fs ++ gs) ≡ kept_frames fs ++ kept_frames gs
@@ -52,7 +52,7 @@ length-handed_in : (m : ℕ) (octets : List ℕ) → length (handed_in m octets)
 length-handed_in m octets = length-map octets _
 
 -- what is kept of a direction after one more piece
-pub keeps-grown : (pieces : List Piece) (now : List Octet) (moment : ℕ) (octets : List ℕ) (tail next : TailValue) (kept added : List KeptPdu) (last : ℕ)
+pub keeps-grown : (pieces : List Piece) (now : List Octet) (moment : ℕ) (octets : List ℕ) (tail next : TailValue) (kept added : List StoredPdu) (last : ℕ)
     → Keeps (stream_of pieces) tail kept last → stream_of pieces ≡ now → added ≡ kept_frames (frames_after (tail_of (values now)) moment octets)
     → next ≡ tail_after (tail_of (values now)) octets → length now + length octets ≤ 2 ^ 48 → 0 < length octets
     → Keeps (stream_of (pieces ++ record { moment = moment; octets = octets } ∷ [])) next (kept ++ added) moment
@@ -69,7 +69,7 @@ keeps-grown pieces now moment octets tail next kept added last keeps seen pdus f
 
 -- the same of a piece whose parts are copied
 pub keeps-copied : (pieces : List Piece) (now : List Octet) (moment : ℕ) (octets their_octets : List ℕ) (tail next their_next : TailValue)
-    (kept added their_pdus : List KeptPdu) (last : ℕ)
+    (kept added their_pdus : List StoredPdu) (last : ℕ)
     → octets ≡ their_octets → next ≡ their_next → added ≡ their_pdus
     → Keeps (stream_of pieces) tail kept last → stream_of pieces ≡ now → their_pdus ≡ kept_frames (frames_after (tail_of (values now)) moment their_octets)
     → their_next ≡ tail_after (tail_of (values now)) their_octets → length now + length their_octets ≤ 2 ^ 48 → 0 < length their_octets

@@ -105,9 +105,9 @@ forms_set link their_link response their_response receipt their_receipt =
     (λ e. ((let same : link ≡ their_link = cc in same), ((let same : response ≡ their_response = cc in same), (let same : receipt ≡ their_receipt = cc in same))))
     (Decides-and _ _ (links link their_link) (Decides-and _ _ (forms response their_response) (forms receipt their_receipt)))
 
-windows_set : (link their_link : LinkId) (window their_window : ℕ)
+link_windows : (link their_link : LinkId) (window their_window : ℕ)
     → Decides (edits_eq (v.SetWindow link window) (v.SetWindow their_link their_window)) ((v.SetWindow link window) ≡ (v.SetWindow their_link their_window))
-windows_set link their_link window their_window =
+link_windows link their_link window their_window =
     Decides-like {P = (link ≡ their_link) × (window ≡ their_window)} (edits_eq (v.SetWindow link window) (v.SetWindow their_link their_window))
     (λ p i. v.SetWindow (p.0 i) (p.1 i))
     (λ e. ((let same : link ≡ their_link = cc in same), (let same : window ≡ their_window = cc in same)))
@@ -191,7 +191,7 @@ edits (v.SetForm a b c) (v.Advance s) = unlike (v.SetForm a b c) (v.Advance s) r
 edits (v.SetWindow a b) (v.Append s) = unlike (v.SetWindow a b) (v.Append s) refl refl
 edits (v.SetWindow a b) (v.Withdraw s) = unlike (v.SetWindow a b) (v.Withdraw s) refl refl
 edits (v.SetWindow a b) (v.SetForm s t u) = unlike (v.SetWindow a b) (v.SetForm s t u) refl refl
-edits (v.SetWindow a b) (v.SetWindow s t) = windows_set a s b t
+edits (v.SetWindow a b) (v.SetWindow s t) = link_windows a s b t
 edits (v.SetWindow a b) (v.AddRoute s t u w) = unlike (v.SetWindow a b) (v.AddRoute s t u w) refl refl
 edits (v.SetWindow a b) (v.EndRoute s t u) = unlike (v.SetWindow a b) (v.EndRoute s t u) refl refl
 edits (v.SetWindow a b) (v.CorrectRoute s t u w) = unlike (v.SetWindow a b) (v.CorrectRoute s t u w) refl refl

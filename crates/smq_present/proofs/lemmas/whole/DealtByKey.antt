@@ -32,7 +32,7 @@ use Rattle.smq_tally.proofs.Tallies.{count-tables}
 use Rattle.smq_present.specs.present.Settings.{SettingsValue}
 use Rattle.smq_present.specs.pairing.Traffic.{Message, ReceivedReceipt, TrafficValue}
 use Rattle.smq_present.specs.join.Circumstances.{Circumstances, circumstances, decider_in, lapsed_in, route_in}
-use Rattle.smq_present.specs.join.Facts.{fact_by, facts_of}
+use Rattle.smq_present.specs.join.Facts.{fact_in_circumstances, facts_of}
 use Rattle.smq_present.specs.join.Keyed.{accepted_key, grouping_of, keyed_receipt}
 use Rattle.smq_present.specs.join.Listings.{notes_of}
 use Rattle.smq_present.specs.whole.Dealt.{HasKey, KeepsKeysTogether, dealt, other_places, tables_from}
@@ -287,12 +287,12 @@ module _ (s : SettingsValue) (t : TrafficValue) (here : Place → Bool) (togethe
   -- the facts of a part are those of the whole at its places
   pub facts-kept : facts_of s (dealt here t) ≡ retain_keys (facts_of s t) here
   facts-kept =
-      maps.chosen-alike places_total places_exact (λ place m. Some (fact_by place m (circumstances s (dealt here t) m)))
-      (λ place m. Some (fact_by place m (circumstances s t m))) (retain_keys t.messages here)
+      maps.chosen-alike places_total places_exact (λ place m. Some (fact_in_circumstances place m (circumstances s (dealt here t) m)))
+      (λ place m. Some (fact_in_circumstances place m (circumstances s t m))) (retain_keys t.messages here)
       (λ q m there.
       let both = found-kept (here q) (get t.messages q) m (sym (get-kept places_total places_exact here t.messages q) ∙ there) in
-      ap (λ (c : Circumstances). Some (fact_by q m c)) (circumstances-same q m both.1 both.0))
-      ∙ chosen-kept here (λ place m. Some (fact_by place m (circumstances s t m))) t.messages
+      ap (λ (c : Circumstances). Some (fact_in_circumstances q m c)) (circumstances-same q m both.1 both.0))
+      ∙ chosen-kept here (λ place m. Some (fact_in_circumstances place m (circumstances s t m))) t.messages
 
 -- ---- both parts
 

@@ -46,18 +46,18 @@ use Rattle.smq_kit.specs.Orders.{place_cmp}
 use Rattle.smq_kit.specs.declared.place.Dir.TheVariants.{FromClient, FromCentre}
 use Rattle.smq_tally.specs.declared.outcome.Outcome.TheVariants as o
 use Rattle.smq_tally.specs.declared.value.SubmitError.TheVariants as s
-use Rattle.smq_present.specs.declared.pairing.pairs.Source.{Source}
+use Rattle.smq_present.specs.declared.pairing.pairs.SessionForms.{SessionForms}
 use Rattle.smq_present.specs.declared.present.forms.Forms.{Forms}
 use Rattle.smq_present.specs.present.Content.{Content}
 use Rattle.smq_present.specs.present.Content as c
-use Rattle.smq_present.specs.declared.present.kept.KeptPdu.{KeptPdu}
+use Rattle.smq_present.specs.declared.present.kept.StoredPdu.{StoredPdu}
 use Rattle.smq_present.specs.known.Pairing.{place_at}
 use Rattle.smq_present.specs.known.Join.{settings_with}
-use Rattle.smq_present.specs.known.Whole.{known_session, other_session, far_session, known_book, nested_versions, fact_of}
+use Rattle.smq_present.specs.known.Whole.{known_session, other_session, far_session, known_book, nested_versions, known_fact}
 use Rattle.smq_present.specs.present.Kept.{kept_pdus}
 use Rattle.smq_present.specs.present.Settings.{opening_forms, opening_window, forms_of}
 use Rattle.smq_present.specs.pairing.Traffic.{traffic_of, Origin, notes_among, broken_notes, session_notes}
-use Rattle.smq_present.specs.join.Facts.{fact_by, facts_of}
+use Rattle.smq_present.specs.join.Facts.{fact_in_circumstances, facts_of}
 use Rattle.smq_present.specs.within.Lists.{session_submits, session_receipts, submits_of, receipts_of, notes_of, facts_listed, receipt_notes_listed, placed_fact}
 use Rattle.smq_present.specs.within.Messages.{SubmittedMessage, submits_among}
 use Rattle.smq_present.specs.within.Outcomes.{message_from, circumstances_of}
@@ -69,42 +69,42 @@ use Rattle.smq_present.proofs.lemmas.join.KnownFacts.{forms-set}
 
 -- ---- the PDUs of each direction
 
-abbrev pdu : ℕ → ℕ → ℕ → ℕ → Content → KeptPdu
+abbrev pdu : ℕ → ℕ → ℕ → ℕ → Content → StoredPdu
 pdu offset moment command seq content =
     record { offset = offset; moment = moment; command = command; status = 0; seq = seq; content = content }
 
-abbrev submit : ℕ → ℕ → ℕ → Option (List ℕ) → KeptPdu
+abbrev submit : ℕ → ℕ → ℕ → Option (List ℕ) → StoredPdu
 submit offset moment seq number = pdu offset moment 4 seq (c.Submit (record { registered_delivery = 1; number = number }))
 
-abbrev response : ℕ → ℕ → ℕ → List ℕ → KeptPdu
+abbrev response : ℕ → ℕ → ℕ → List ℕ → StoredPdu
 response offset moment seq id = pdu offset moment 0x8000_0004 seq (c.SubmitAnswer (Some id))
 
-abbrev receipt : ℕ → ℕ → ℕ → List ℕ → MessageState → ErrorCode → Option ℤ → KeptPdu
+abbrev receipt : ℕ → ℕ → ℕ → List ℕ → MessageState → ErrorCode → Option ℤ → StoredPdu
 receipt offset moment seq id state error delay =
     pdu offset moment 5 seq (c.Deliver (v.Receipt (record { id = id; state = state; interim = false; error = error; centre_delay = delay })))
 
-abbrev known_client : List KeptPdu
+abbrev known_client : List StoredPdu
 known_client = submit 0 1000 1 (Some (codes "447700900123")) ∷ submit 45 1500 2 (Some (codes "447700900123")) ∷ []
 
-abbrev centre_dated : Option ℤ → Option ℤ → List KeptPdu
+abbrev centre_dated : Option ℤ → Option ℤ → List StoredPdu
 centre_dated submitted done =
     response 0 1200 1 (codes "07") ∷ response 19 1700 2 (codes "08")
     ∷ receipt 38 5000 90 (codes "7") state.Delivered e.Unstated (option_map (λ p. p.1 -ℤ p.0) (option_zip submitted done)) ∷ []
 
-abbrev known_centre : List KeptPdu
+abbrev known_centre : List StoredPdu
 known_centre = centre_dated (Some (pos 1740746040000)) (Some (pos 4102444798000))
 
-abbrev other_client : List KeptPdu
+abbrev other_client : List StoredPdu
 other_client = receipt 0 100 1 (codes "08") state.Delivered e.Unstated None ∷ []
 
-abbrev other_centre : List KeptPdu
+abbrev other_centre : List StoredPdu
 other_centre = receipt 0 5000 91 (codes "007") state.Undeliverable (e.Text (codes "012")) None
     ∷ receipt 60 6500 92 (codes "008") state.Undeliverable (e.Text (codes "027")) None ∷ []
 
-abbrev far_client : List KeptPdu
+abbrev far_client : List StoredPdu
 far_client = submit 0 2000 1 None ∷ submit 33 2000 2 None ∷ submit 66 2000 3 None ∷ []
 
-abbrev far_centre : List KeptPdu
+abbrev far_centre : List StoredPdu
 far_centre = response 0 2100 1 (codes "7") ∷ response 18 2100 2 (codes "7") ∷ response 36 2100 3 (codes "9")
     ∷ receipt 54 3000 90 (codes "7") state.Delivered e.Unstated None ∷ []
 
@@ -158,7 +158,7 @@ far-centre = refl
 
 -- ---- messages and receipts
 
-abbrev source : ℕ → ℕ → Forms → Source
+abbrev source : ℕ → ℕ → Forms → SessionForms
 source session link forms = record { session = record { 0 = session }; link = record { 0 = link }; forms = forms }
 
 decimal : Forms
@@ -199,16 +199,16 @@ receipts-are =
 
 abbrev facts : List Fact
 facts =
-    record (fact_of 10 1 0 o.Delivered None) {
+    record (known_fact 10 1 0 o.Delivered None) {
       route = Some (record { 0 = 3 }, codes "23410");
       link_delay =
           Some b.Under5Seconds;
       centre_delay = Some b.Over;
     }
-    ∷ record (fact_of 10 1 45 o.Failed (Some (s.Failed (e.Text (codes "027"))))) { link_delay = Some b.Under30Seconds }
-    ∷ fact_of 65546 65537 0 o.Ambiguous None
-    ∷ fact_of 65546 65537 33 o.Ambiguous None
-    ∷ fact_of 65546 65537 66 o.Lapsed None ∷ []
+    ∷ record (known_fact 10 1 45 o.Failed (Some (s.Failed (e.Text (codes "027"))))) { link_delay = Some b.Under30Seconds }
+    ∷ known_fact 65546 65537 0 o.Ambiguous None
+    ∷ known_fact 65546 65537 33 o.Ambiguous None
+    ∷ known_fact 65546 65537 66 o.Lapsed None ∷ []
 
 -- the route of a message, where these are the versions
 abbrev route_from : List (VersionKey × Version) → SubmittedMessage → Option (RouteId × List ℕ)
@@ -218,7 +218,7 @@ route_from versions s = option_and_then (λ number. option_map (λ e. (e.1.route
 -- the facts of messages, where these are the versions, and these the windows that were set
 abbrev facts_from : List (VersionKey × Version) → (ℕ → Option ℕ) → List SubmittedMessage → List KeyedReceipt → List Fact
 facts_from versions windows submits receipts = map
-    (λ m. fact_by m.place (message_from m) (record (circumstances_of known_book.settings submits receipts m) {
+    (λ m. fact_in_circumstances m.place (message_from m) (record (circumstances_of known_book.settings submits receipts m) {
       route =
           route_from versions m;
       lapsed =
@@ -271,7 +271,7 @@ abbrev origin : ℕ → ℕ → Origin
 origin session link = record { session = record { 0 = session }; link = record { 0 = link } }
 
 -- the notes of a session whose PDUs and tails are these
-abbrev noted : Origin → List KeptPdu → List KeptPdu → TailValue → TailValue → List Listed
+abbrev noted : Origin → List StoredPdu → List StoredPdu → TailValue → TailValue → List Listed
 noted o client centre client_tail centre_tail = notes_among o client centre ++ broken_notes o client_tail centre_tail
 
 abbrev notes : List Listed

@@ -10,7 +10,7 @@ use Rattle.smq_tally.specs.declared.fact.Fact.{Fact}
 use Rattle.smq_tally.specs.Rows.{stands_in}
 use Rattle.smq_tally.specs.within.Counting.{count_of}
 use Rattle.smq_tally.proofs.Tallies.{count-tables}
-use Rattle.smq_present.specs.declared.present.kept.KeptPdu.{KeptPdu}
+use Rattle.smq_present.specs.declared.present.kept.StoredPdu.{StoredPdu}
 use Rattle.smq_present.specs.known.Join.{known_facts, known_traffic, settings_with}
 use Rattle.smq_present.specs.known.Pairing.{known_origin}
 use Rattle.smq_present.specs.pairing.Traffic.{TrafficValue, messages_among, receipts_among}
@@ -21,7 +21,7 @@ use Rattle.smq_present.proofs.lemmas.join.KnownFacts.{facts_known, listed}
 use Rattle.smq_present.proofs.lemmas.whole.DealtByKey.{retained}
 
 -- where the places rise, as they do in any stream
-pub facts-of-part : (here : Place → Bool) (client centre part_client part_centre : List KeptPdu)
+pub facts-of-part : (here : Place → Bool) (client centre part_client part_centre : List StoredPdu)
     → filter (λ e. here e.0) (messages_among known_origin client centre) ≡ messages_among known_origin part_client part_centre
     → filter (λ e. here e.0) (receipts_among known_origin centre) ≡ receipts_among known_origin part_centre
     → T (is_sorted place_cmp (messages_among known_origin part_client part_centre))
@@ -46,7 +46,7 @@ counted-of t key facts is =
     count-tables (facts_of (settings_with Verbatim Verbatim) t) (notes_of (settings_with Verbatim Verbatim) t) key
     ∙ ap (count_by (stands_in key)) is
 
-pub facts-of-whole : (client centre : List KeptPdu)
+pub facts-of-whole : (client centre : List StoredPdu)
     → T (is_sorted place_cmp (messages_among known_origin client centre)) → T (is_sorted place_cmp (receipts_among known_origin centre))
     → values (facts_of (settings_with Verbatim Verbatim) (known_traffic client centre)) ≡ listed 0 Verbatim Verbatim client centre
 unfolding known_facts

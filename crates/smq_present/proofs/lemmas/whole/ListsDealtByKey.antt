@@ -26,7 +26,7 @@ use Rattle.smq_tally.proofs.Listings.{get-listed, listed-iff, marked}
 use Rattle.smq_present.specs.present.Settings.{SettingsValue}
 use Rattle.smq_present.specs.pairing.Traffic.{Message, TrafficValue}
 use Rattle.smq_present.specs.join.Circumstances.{circumstances}
-use Rattle.smq_present.specs.join.Facts.{fact_by, facts_of}
+use Rattle.smq_present.specs.join.Facts.{fact_in_circumstances, facts_of}
 use Rattle.smq_present.specs.join.Listings.{list_of_standing, receipt_listing, receipt_notes}
 use Rattle.smq_present.specs.whole.Dealt.{KeepsKeysTogether, dealt, other_places, tables_from}
 use Rattle.smq_present.proofs.lemmas.whole.DealtByKey.{entries-kept, facts-kept, filter-swap, get-kept, others-together, part, receipt-same, receipts-kept, whole}
@@ -111,12 +111,12 @@ module _ (s : SettingsValue) (t : TrafficValue) where
   fact-place : (q : Place) (f : Fact) → get (facts_of s t) q ≡ Some f → f.place ≡ q
   fact-place q f e =
       by (get t.messages q)
-      (sym (maps.get-chosen places_total places_exact (λ place m. Some (fact_by place m (circumstances s t m))) t.messages q) ∙ e)
+      (sym (maps.get-chosen places_total places_exact (λ place m. Some (fact_in_circumstances place m (circumstances s t m))) t.messages q) ∙ e)
     where
-      by : (v : Option Message) → option_and_then (λ m. Some (fact_by q m (circumstances s t m))) v ≡ Some f → f.place ≡ q
+      by : (v : Option Message) → option_and_then (λ m. Some (fact_in_circumstances q m (circumstances s t m))) v ≡ Some f → f.place ≡ q
       by None e = absurd cc
       by (Some m) e =
-          let same : fact_by q m (circumstances s t m) ≡ f = cc in
+          let same : fact_in_circumstances q m (circumstances s t m) ≡ f = cc in
           sym (ap (λ (x : Fact). x.place) same)
 
   -- all that is listed: notes, receipts, and messages for their outcomes

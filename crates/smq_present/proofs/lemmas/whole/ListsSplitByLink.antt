@@ -26,7 +26,7 @@ use Rattle.smq_present.specs.whole.Scratch.{scratch}
 use Rattle.smq_present.specs.within.Listings.{note_by, note_of}
 use Rattle.smq_present.specs.within.Lists.{facts_listed, notes_of, receipt_notes_listed, session_receipts, session_submits}
 use Rattle.smq_present.specs.within.Messages.{SubmittedMessage}
-use Rattle.smq_present.specs.within.Outcomes.{fact_of}
+use Rattle.smq_present.specs.within.Outcomes.{fact_among}
 use Rattle.smq_present.specs.within.Receipts.{KeyedReceipt, least_receipt}
 use Rattle.smq_present.proofs.lemmas.whole.AgreePresent.{facts-are, notes-are}
 use Rattle.smq_present.proofs.lemmas.whole.SplitByLink.{ReceiptOfLink, all-append, all-weaker, candidates-part, facts-there, number-part, part, parted, receipts-of}
@@ -136,7 +136,7 @@ module _ (x : Listed) where
     sessions = entries p.sessions
 
     abbrev fact_in : SubmittedMessage → Fact
-    fact_in m = fact_of p.settings (flat_map (session_submits p.settings) sessions) (flat_map (session_receipts p.settings) sessions) m
+    fact_in m = fact_among p.settings (flat_map (session_submits p.settings) sessions) (flat_map (session_receipts p.settings) sessions) m
 
     abbrev any_fact : List SubmittedMessage → Bool
     any_fact ms = any (flat_map listings_of_fact (map fact_in ms))
@@ -154,7 +154,7 @@ module _ (x : Listed) where
         || (any (flat_map (note_of (flat_map (session_submits p.settings) es) (flat_map (session_receipts p.settings) es))
         (flat_map (session_receipts p.settings) es))
         || any (flat_map listings_of_fact (map
-        (fact_of p.settings (flat_map (session_submits p.settings) es) (flat_map (session_receipts p.settings) es))
+        (fact_among p.settings (flat_map (session_submits p.settings) es) (flat_map (session_receipts p.settings) es))
         (flat_map (session_submits p.settings) es)))))
         (maps.entries-chosen nat_cmp_total nat_cmp-IsAntisymmetric (session_there here) p.sessions)
         ∙ (λ i. any (flat_map session_notes (part p.settings here sessions))

@@ -24,15 +24,15 @@ use Rattle.smq_tally.specs.declared.view.View.{View}
 use Rattle.smq_tally.specs.Rows.{count_key, stands_in}
 use Rattle.smq_tally.specs.Tables.{count_at}
 use Rattle.smq_tally.proofs.Tallies.{count-tables}
-use Rattle.smq_present.specs.declared.pairing.pairs.Source.{Source}
-use Rattle.smq_present.specs.declared.present.kept.KeptPdu.{KeptPdu}
+use Rattle.smq_present.specs.declared.pairing.pairs.SessionForms.{SessionForms}
+use Rattle.smq_present.specs.declared.present.kept.StoredPdu.{StoredPdu}
 use Rattle.smq_present.specs.declared.present.session.Session.{Session}
 use Rattle.smq_present.specs.present.Kept.{header_of, kept_pdus, receipt_in, submit_in}
 use Rattle.smq_present.specs.present.Present.{PresentValue}
 use Rattle.smq_present.specs.present.Settings.{SettingsValue}
 use Rattle.smq_present.specs.pairing.Traffic.{traffic_of}
 use Rattle.smq_present.specs.join.Circumstances.{lapsed_in, route_in}
-use Rattle.smq_present.specs.join.Facts.{fact_by, facts_of}
+use Rattle.smq_present.specs.join.Facts.{fact_in_circumstances, facts_of}
 use Rattle.smq_present.specs.join.Keyed.{can_decide}
 use Rattle.smq_present.specs.join.Listings.{notes_of}
 use Rattle.smq_group.specs.Matching.{Shared, Single}
@@ -41,7 +41,7 @@ use Rattle.smq_present.specs.whole.Scratch.{scratch}
 use Rattle.smq_present.specs.within.Accepted.{accepted_with, decider_of, number_accepted}
 use Rattle.smq_present.specs.within.Lists.{facts_listed, session_receipts, session_submits, source_of}
 use Rattle.smq_present.specs.within.Messages.{SubmittedMessage, accepted_id, message_of, submit_with, submit_by, response_of}
-use Rattle.smq_present.specs.within.Outcomes.{circumstances_by, fact_of, message_from, standing_of}
+use Rattle.smq_present.specs.within.Outcomes.{circumstances_by, fact_among, message_from, standing_of}
 use Rattle.smq_present.specs.within.Receipts.{KeyedReceipt, least_receipt, receipt_by}
 use Rattle.smq_group.proofs.MatchingLemmas.{failing}
 use Rattle.smq_present.proofs.lemmas.whole.AgreePresent.{facts-are}
@@ -77,7 +77,7 @@ OfLink link m = (key : LinkKey) → m.key ≡ Some key → key.link ≡ link
 abbrev pub ReceiptOfLink : LinkId → KeyedReceipt → Type 0
 ReceiptOfLink link e = e.0.link ≡ link
 
-message-of : (source : Source) (p : KeptPdu) (submit : Submit) (response : Option KeptPdu) → OfLink source.link (message_of source p submit response)
+message-of : (source : SessionForms) (p : StoredPdu) (submit : Submit) (response : Option StoredPdu) → OfLink source.link (message_of source p submit response)
 message-of source p submit response key e = from (accepted_id (header_of p) response) e
   where
     from : (id : Option (List ℕ)) → option_map (link_key source.link source.forms.response) id ≡ Some key → key.link ≡ source.link
@@ -86,7 +86,7 @@ message-of source p submit response key e = from (accepted_id (header_of p) resp
         let same : link_key source.link source.forms.response id ≡ key = cc in
         sym (ap (λ (k : LinkKey). k.link) same)
 
-submit-of : (source : Source) (p : KeptPdu) (response : Option KeptPdu) (submit : Option Submit)
+submit-of : (source : SessionForms) (p : StoredPdu) (response : Option StoredPdu) (submit : Option Submit)
     → AllByRecursion (OfLink source.link) (submit_with submit source p response)
 submit-of source p response None = tt
 submit-of source p response (Some submit) = (message-of source p submit response, tt)
@@ -99,7 +99,7 @@ submits-of s e =
     all-flat (OfLink e.1.link) (λ x. submit_by (submit_in x.1.content) source client centre x.0 x.1) (enumerate_from 0 client)
     (λ x. submit-of source x.1 (response_of client centre x.0 x.1) (submit_in x.1.content))
 
-receipt-of : (source : Source) (p : KeptPdu) (receipt : Option Receipt) → AllByRecursion (ReceiptOfLink source.link) (receipt_by receipt source p)
+receipt-of : (source : SessionForms) (p : StoredPdu) (receipt : Option Receipt) → AllByRecursion (ReceiptOfLink source.link) (receipt_by receipt source p)
 receipt-of source p None = tt
 receipt-of source p (Some receipt) = (refl, tt)
 
@@ -208,10 +208,10 @@ module _ (s : SettingsValue) (here : LinkId → Bool) where
 
   module _ (all : List (ℕ × Session)) where
     abbrev pub fact_there : SubmittedMessage → Fact
-    fact_there m = fact_of s (flat_map (session_submits s) (part all)) (flat_map (session_receipts s) (part all)) m
+    fact_there m = fact_among s (flat_map (session_submits s) (part all)) (flat_map (session_receipts s) (part all)) m
 
     abbrev pub fact_in_all : SubmittedMessage → Fact
-    fact_in_all m = fact_of s (flat_map (session_submits s) all) (flat_map (session_receipts s) all) m
+    fact_in_all m = fact_among s (flat_map (session_submits s) all) (flat_map (session_receipts s) all) m
 
     abbrev IsHere : SubmittedMessage → Type 0
     IsHere m = (key : LinkKey) → m.key ≡ Some key → here key.link ≡ true
@@ -220,17 +220,17 @@ module _ (s : SettingsValue) (here : LinkId → Bool) where
     fact-same m h = by m.key h
       where
         by : (k : Option LinkKey) → ((key : LinkKey) → k ≡ Some key → here key.link ≡ true)
-            → fact_by m.place (message_from m) (circumstances_by
+            → fact_in_circumstances m.place (message_from m) (circumstances_by
             (option_map (standing_of (flat_map (session_submits s) (part all)) (flat_map (session_receipts s) (part all))) k)
             (decider_of (flat_map (session_submits s) (part all)) (flat_map (session_receipts s) (part all)) k)
             (route_in s.versions (message_from m)) (lapsed_in s (message_from m)))
-            ≡ fact_by m.place (message_from m) (circumstances_by
+            ≡ fact_in_circumstances m.place (message_from m) (circumstances_by
             (option_map (standing_of (flat_map (session_submits s) all) (flat_map (session_receipts s) all)) k)
             (decider_of (flat_map (session_submits s) all) (flat_map (session_receipts s) all) k)
             (route_in s.versions (message_from m)) (lapsed_in s (message_from m)))
         by None h = refl
         by (Some key) h = λ i.
-            fact_by m.place (message_from m) (circumstances_by
+            fact_in_circumstances m.place (message_from m) (circumstances_by
             (Some (if number-part key (h key refl) all i == 1
             then Single (option_map (λ r. r.place) (least_receipt (map (λ e. e.1) (candidates-part key (h key refl) all i)))) else Shared))
             (if number-part key (h key refl) all i == 1
@@ -320,7 +320,7 @@ module _ (p : PresentValue) (view : View) (value : Value) (outcome : Outcome) (h
   count-part =
       count-listed (of_links here p) view value outcome
       ∙ ap (λ (es : List (ℕ × Session)). count_by (stands p view value outcome)
-      (map (fact_of p.settings (flat_map (session_submits p.settings) es) (flat_map (session_receipts p.settings) es))
+      (map (fact_among p.settings (flat_map (session_submits p.settings) es) (flat_map (session_receipts p.settings) es))
       (flat_map (session_submits p.settings) es)))
       (maps.entries-chosen nat_cmp_total nat_cmp-IsAntisymmetric (session_there here) p.sessions)
       ∙ ap (count_by (stands p view value outcome)) (facts-there p.settings here (entries p.sessions))

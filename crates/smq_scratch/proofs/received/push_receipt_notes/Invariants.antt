@@ -10,13 +10,13 @@ use Rattle.smq_scratch.proofs.received.push_receipt_notes.Given as goal
 abbrev pub invariant-loop-pdu : goal.invariant-loop-pdu
 invariant-loop-pdu l =
     l.notes.items ++ flat_map listing_of (lines_kept l.keys.matches.messages l.keys.deciders.receipts
-    (receipts_among l.sourced-inside.source (drop l.pdu-index l.centre)))
+    (receipts_among l.view-inside.source (drop l.pdu-index l.centre)))
     ≡ l.initial.notes.items ++ flat_map listing_of (lines_kept l.keys.matches.messages l.keys.deciders.receipts
-    (receipts_among l.sourced-inside.source l.centre))
+    (receipts_among l.view-inside.source l.centre))
 
-abbrev pub invariant-loop-sourced : goal.invariant-loop-sourced
-invariant-loop-sourced l =
+abbrev pub invariant-loop-view : goal.invariant-loop-view
+invariant-loop-view l =
     l.notes.items ++ flat_map listing_of (lines_kept l.keys.matches.messages l.keys.deciders.receipts
-    (flat_map receipts_in (drop l.sourced-index l.sessions)))
+    (flat_map receipts_in (drop l.view-index l.sessions)))
     ≡ l.initial.notes.items ++ flat_map listing_of (lines_kept l.keys.matches.messages l.keys.deciders.receipts
     (flat_map receipts_in l.sessions))

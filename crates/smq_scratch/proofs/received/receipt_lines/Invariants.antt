@@ -9,12 +9,12 @@ use Rattle.smq_scratch.proofs.received.receipt_lines.Given as goal
 abbrev pub invariant-loop-pdu : goal.invariant-loop-pdu
 invariant-loop-pdu l =
     l.made.items ++ lines_kept l.keys.matches.messages l.keys.deciders.receipts
-    (receipts_among l.sourced-inside.source (drop l.pdu-index l.pdu-items))
+    (receipts_among l.view-inside.source (drop l.pdu-index l.pdu-items))
     ≡ l.initial.made.items ++ lines_kept l.keys.matches.messages l.keys.deciders.receipts
-    (receipts_among l.sourced-inside.source l.pdu-items)
+    (receipts_among l.view-inside.source l.pdu-items)
 
-abbrev pub invariant-loop-sourced : goal.invariant-loop-sourced
-invariant-loop-sourced l =
+abbrev pub invariant-loop-view : goal.invariant-loop-view
+invariant-loop-view l =
     l.made.items ++ lines_kept l.keys.matches.messages l.keys.deciders.receipts
-    (flat_map receipts_in (drop l.sourced-index l.sourced-items))
-    ≡ lines_kept l.keys.matches.messages l.keys.deciders.receipts (flat_map receipts_in l.sourced-items)
+    (flat_map receipts_in (drop l.view-index l.view-items))
+    ≡ lines_kept l.keys.matches.messages l.keys.deciders.receipts (flat_map receipts_in l.view-items)

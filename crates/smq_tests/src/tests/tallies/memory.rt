@@ -90,8 +90,8 @@ fn number_listed(tables: &Tables, list: List) -> u64 {
     number
 }
 
-/// Whichever allocation is refused (gate/check-refused-calls), a refused step leaves the tally as it was, and is
-/// made when it is tried again.
+/// Whichever allocation is refused (gate/check-out-of-memory-in-calls), a refused step leaves the tally as it was, and
+/// is made when it is tried again.
 #[test]
 fn want_of_memory_changes_nothing(rt: HostRuntime) {
     let mut tally = new_tally(&rt, rt.alloc());
@@ -158,8 +158,8 @@ fn is_copied(rt: &impl Abort, alloc: Global, tables: &Tables) -> bool {
     copy == *tables && have_as_many_rows(&copy, tables) && have_as_many_places(&copy, tables)
 }
 
-/// Whichever allocation is refused (gate/check-refused-calls), a copy of many rows and places, settled or not, shows
-/// what its tables show.
+/// Whichever allocation is refused (gate/check-out-of-memory-in-calls), a copy of many rows and places, settled or not,
+/// shows what its tables show.
 #[test]
 fn a_copy_shows_what_its_tables_show(rt: HostRuntime) {
     let mut tally = tally_below(&rt, rt.alloc(), 1000);

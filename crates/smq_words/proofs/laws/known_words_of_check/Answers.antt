@@ -7,9 +7,9 @@ known : KnowsCheck
 unfolding clap_on_literals
 known = record {
   alone = λ names formats. refl;
-  alone_checks = λ names formats. record { rows = _; enters = refl; has_path = refl };
+  alone_checks = λ names formats. record { rows = _; enters = refl; say = tt; has_path = refl };
   settings = λ names formats. refl;
-  settings_checks = λ names formats. record { rows = _; enters = refl; has_path = refl };
+  settings_checks = λ names formats. record { rows = _; enters = refl; say = tt; has_path = refl };
   format = λ names formats. refl;
   name = λ names formats. refl;
 }

@@ -7,9 +7,9 @@ known : KnowsFollow
 unfolding clap_on_literals
 known = record {
   alone = λ names formats. refl;
-  alone_follows = λ names formats. record { rows = _; enters = refl; has_format = refl; has_path = refl };
-  settings_follows = λ names formats. record { rows = _; enters = refl; has_format = refl; has_path = refl };
-  table_follows = λ names formats. record { rows = _; enters = refl; has_format = refl; has_path = refl };
+  alone_follows = λ names formats. record { rows = _; enters = refl; say = refl; has_path = refl };
+  settings_follows = λ names formats. record { rows = _; enters = refl; say = refl; has_path = refl };
+  table_follows = λ names formats. record { rows = _; enters = refl; say = refl; has_path = refl };
   name = λ names formats. refl;
 }
 

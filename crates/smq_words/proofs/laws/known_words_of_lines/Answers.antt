@@ -7,9 +7,9 @@ known : KnowsLines
 unfolding clap_on_literals
 known = record {
   messages = λ names formats. refl;
-  messages_asked = λ names formats. record { rows = _; enters = refl; has_path = refl };
-  receipts_asked = λ names formats. record { rows = _; enters = refl; has_path = refl };
-  settings_asked = λ names formats. record { rows = _; enters = refl; has_path = refl };
+  messages_asked = λ names formats. record { rows = _; enters = refl; say = tt; has_path = refl };
+  receipts_asked = λ names formats. record { rows = _; enters = refl; say = tt; has_path = refl };
+  settings_asked = λ names formats. record { rows = _; enters = refl; say = tt; has_path = refl };
   format = λ names formats. refl;
   name = λ names formats. refl;
 }

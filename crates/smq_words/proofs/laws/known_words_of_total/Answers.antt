@@ -7,10 +7,10 @@ known : KnowsTotal
 unfolding clap_on_literals
 known = record {
   alone = λ names formats. refl;
-  alone_totals = λ names formats. record { rows = _; enters = refl; is_named = refl; has_format = refl; has_path = refl };
-  settings_totals = λ names formats. record { rows = _; enters = refl; is_named = refl; has_format = refl; has_path = refl };
-  table_totals = λ names formats. record { rows = _; enters = refl; is_named = refl; has_format = refl; has_path = refl };
-  name_totals = λ names formats. record { rows = _; enters = refl; is_named = refl; has_format = refl; has_path = refl };
+  alone_totals = λ names formats. record { rows = _; enters = refl; say = (refl, refl); has_path = refl };
+  settings_totals = λ names formats. record { rows = _; enters = refl; say = (refl, refl); has_path = refl };
+  table_totals = λ names formats. record { rows = _; enters = refl; say = (refl, refl); has_path = refl };
+  name_totals = λ names formats. record { rows = _; enters = refl; say = (refl, refl); has_path = refl };
 }
 
 pub returns : goal.returns

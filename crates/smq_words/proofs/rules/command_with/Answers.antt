@@ -1,8 +1,9 @@
-use Rattle.std.proofs.Common.{◌∙◌, ap, ap₂}
+use Rattle.std.proofs.Common.{◌∙◌, ap, ap₂, codes}
 use Rattle.std.proofs.lemmas.Result.{IfOk-weaker}
 use Rattle.clap.specs.Simple.{App}
 use Rattle.clap.specs.Words.{with_subcommand}
 use Rattle.clap.specs.declared.builder.value_parser.ValueParser.TheVariants.{Names}
+use Rattle.smq_words.specs.Words.{named_app}
 use Rattle.smq_words.proofs.rules.command_with.Goals as goal
 
 pub returns : goal.returns
@@ -27,10 +28,12 @@ returns c =
           ∙ ap₂ with_subcommand
           (c.in_ok-subcommand.ensures.shape c.in_ok-report.ensures.local
           ∙ ap₂ with_subcommand c.in_ok-bare_command.ensures.rules (ap (λ (a : App). a.top) c.in_ok-report.ensures.rules))
-          (ap (λ (a : App). a.top) c.in_ok-query.ensures.rules))
+          (ap (λ (a : App). a.top)
+          (c.in_ok-query.ensures.rules ∙ ap (λ rule. named_app (codes "query") rule (Names c.args.formats)) c.name_argument.ensures.0)))
           (ap (λ (a : App). a.top) c.in_ok-check.ensures.rules))
           (ap (λ (a : App). a.top) c.in_ok-follow.ensures.rules))
-          (ap (λ (a : App). a.top) c.in_ok-total.ensures.rules))
+          (ap (λ (a : App). a.top)
+          (c.in_ok-total.ensures.rules ∙ ap (λ rule. named_app (codes "total") rule (Names c.args.formats)) c.optional_name.ensures.0)))
           (ap (λ (a : App). a.top) c.in_ok-messages.ensures.rules))
           (ap (λ (a : App). a.top) c.in_ok-receipts.ensures.rules);
     }) c.subcommand-7.ensures

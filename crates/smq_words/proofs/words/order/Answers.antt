@@ -1,5 +1,5 @@
 use Rattle.std.proofs.Common.{◌≡◌, ◌∙◌, [], List, Result, Ok, Err, ap, inr, map, refl, subst, sym, true}
-use Rattle.std.specs.Prelude.{IsErrAnd}
+use Rattle.std.specs.Prelude.{IsErrAnd, option_map, string_bytes}
 use Rattle.clap.specs.Faults.{is_simple_and_free}
 use Rattle.clap.specs.Kinds.{HasKind}
 use Rattle.clap.specs.Words.{App, Text, app_of, fault_of, is_simple, subcommand_of, subcommand_rows_of}
@@ -52,7 +52,7 @@ returns-clause-order g c =
     let order = c.in_ok-order_in.field-0 in (
       app,
       is,
-      subst (λ e. Asks e order) entered
-          (order_asks (subcommand_rows_of c.in_ok-matches.matches) order asks c.in_ok-order_in.ensures.run c.in_ok-order_in.ensures.check
-          c.in_ok-order_in.ensures.follow c.in_ok-order_in.ensures.total c.in_ok-order_in.ensures.lines),
+      subst (λ e. Asks e order.task (option_map string_bytes order.settings)) entered
+          (order_asks (subcommand_rows_of c.in_ok-matches.matches) order asks.0 asks.1 asks.2
+          (c.in_ok-order_in.ensures asks.0 asks.1 asks.2)),
     )

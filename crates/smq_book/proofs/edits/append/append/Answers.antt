@@ -88,12 +88,12 @@ returns-clause-touches c =
     let n = batch.session.0 in
     let free = (ap (λ (s : Option Session). first_of (append_refusals s batch))
     (ap (λ (m : SessionId). session_of p m.0) (sym c.session-number.ensures) ∙ sym c.session-found.ensures) ∙ sym c.append_refusal.ensures ∙ c.in_default.is) in
-    let full : HasNoneVacant c.args.index.now.standings =
+    let full : HasNoneVacant c.args.index.now.groups =
     record { each = λ k. ap (λ (vacant : List LinkKey). count_by (same_key k) vacant) c.requires.kept.pending.vacant } in
     let sum = c.in-Ok.ensures.touches full in
     let none = c.requires.kept.pending_pairs n in
     let members = ap (λ (h : Holding). h.members) c.in-Ok.ensures.held.held ∙ ap (grouping_of p.settings) c.in-Ok.ensures.traffic in
-    let bound = append-bound p batch c.append_said.new.index.standings.members (pairs_now c.append_said.new.pairings n) free
+    let bound = append-bound p batch c.append_said.new.index.groups.members (pairs_now c.append_said.new.pairings n) free
     (in-step (get p.sessions n) batch free) members c.in-Ok.ensures.pairs in
     let settled = ap (λ (s : SessionId). pairs_cost c.append_said.new.pairings s.0) c.session-number.ensures in
     omega (arith, sum, none, bound, settled, c.settle.ensures.touches, c.settle-2.ensures.touches)

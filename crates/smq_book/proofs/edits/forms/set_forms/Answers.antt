@@ -3,7 +3,7 @@ use Rattle.std.specs.FinMap.{get}
 use Rattle.std.specs.List.{AllByRecursion, sum_by}
 use Rattle.std.specs.Prelude.{map}
 use Rattle.smq_kit.specs.declared.place.Place.{Place}
-use Rattle.smq_book.specs.declared.index.stored.Said.{Said}
+use Rattle.smq_book.specs.declared.index.stored.Item.{Item}
 use Rattle.smq_present.specs.declared.present.edit.Edit.TheVariants.{SetForm}
 use Rattle.smq_book.specs.edits.Reach.{groups}
 use Rattle.smq_book.specs.index.Coming.{AreNew}
@@ -14,7 +14,7 @@ use Rattle.smq_present.specs.join.Keyed.{grouping_of}
 use Rattle.smq_present.specs.join.Moves.{moved_by}
 use Rattle.smq_present.specs.pairing.Traffic.{TrafficValue}
 use Rattle.smq_present.specs.present.Present.{PresentValue}
-use Rattle.smq_present.specs.present.Settings.{SettingsValue, set_forms_of}
+use Rattle.smq_present.specs.present.Settings.{SettingsValue, forms_if_set}
 use Rattle.smq_present.specs.present.Steps.{change, with_forms}
 use Rattle.smq_present.specs.within.InOrder.{sessions_in}
 use Rattle.smq_book.proofs.lemmas.index.FormBounds.{forms-bound}
@@ -35,13 +35,13 @@ put_link-requires-clause-held c =
 
 pub put_link-requires-clause-stand : goal.put_link-requires-clause-stand
 put_link-requires-clause-stand c =
-    subst (AllByRecursion (λ (e : Place × Said). KeepsTraffic (put_of e))) (sym c.in-Ok.ensures.taken)
+    subst (AllByRecursion (λ (e : Place × Item). KeepsTraffic (put_of e))) (sym c.in-Ok.ensures.taken)
     (keyed-stand c.args.link (traffic_held (held_now c.args.index.now)) c.requires.indexed.held.traffic)
 
 pub put_link-requires-clause-new : goal.put_link-requires-clause-new
 put_link-requires-clause-new c =
     let u = traffic_held (held_now c.take_link.new.index) in
-    subst (λ (es : List (Place × Said)). AreNew u (map put_of es)) (sym c.in-Ok.ensures.taken)
+    subst (λ (es : List (Place × Item)). AreNew u (map put_of es)) (sym c.in-Ok.ensures.taken)
     (keyed-new c.args.link (traffic_held (held_now c.args.index.now)) c.requires.indexed.held.traffic u c.in-Ok.ensures.held.traffic)
 
 pub restore_forms-requires : goal.restore_forms-requires
@@ -82,7 +82,7 @@ pub returns-clause-indexed : goal.returns-clause-indexed
 returns-clause-indexed c =
     let u = traffic_held (held_now c.take_link.new.index) in
     settled-again c.put_link.new.index (sym (ap (λ (p : PresentValue). p.sessions) c.present.view_is)) c.in-Ok-put_link.ensures.held.held
-    (c.in-Ok-put_link.ensures.held.traffic ∙ ap (λ (es : List (Place × Said)). moved_by u (map put_of es)) c.in-Ok.ensures.taken
+    (c.in-Ok-put_link.ensures.held.traffic ∙ ap (λ (es : List (Place × Item)). moved_by u (map put_of es)) c.in-Ok.ensures.taken
     ∙ in-again c.args.link (traffic_held (held_now c.args.index.now)) c.requires.indexed.held.traffic u c.in-Ok.ensures.held.traffic)
     c.settle.ensures.held c.settle.ensures.settled c.settle.ensures.pending c.requires.indexed
 
@@ -95,18 +95,18 @@ returns-clause-touches c =
     let h = c.take_link.new.index in
     let u = traffic_held (held_now h) in
     let z = c.set_forms.new.self in
-    let n = c.put_link.new.index.standings.members in
+    let n = c.put_link.new.index.groups.members in
     let edit = SetForm link c.args.forms.response c.args.forms.receipt in
     let settings : z ≡ (change p edit).settings =
     c.in-Ok-set_forms.ensures.reply ∙ ap (λ (x : PresentValue). with_forms x.settings link c.args.forms) c.present.view_is in
-    let last = c.in-Ok-put_link.ensures.held.traffic ∙ ap (λ (es : List (Place × Said)). moved_by u (map put_of es)) c.in-Ok.ensures.taken
+    let last = c.in-Ok-put_link.ensures.held.traffic ∙ ap (λ (es : List (Place × Item)). moved_by u (map put_of es)) c.in-Ok.ensures.taken
     ∙ in-again link (traffic_held (held_now g)) is.held.traffic u c.in-Ok.ensures.held.traffic ∙ is.traffic in
     let members : n ≡ groups (change p edit) =
     ap (λ (x : Holding). x.members) c.in-Ok-put_link.ensures.held.held.held ∙ (λ i. grouping_of (settings i) (last i)) in
-    let bound = forms-bound p g is link c.args.forms.response c.args.forms.receipt z h.standings n c.in-Ok.ensures.went settings members in
-    let puts = ap (sum_by (put_load h.standings n z)) (c.in-Ok.ensures.taken ∙ ap (keyed_on link) is.traffic) in
+    let bound = forms-bound p g is link c.args.forms.response c.args.forms.receipt z h.groups n c.in-Ok.ensures.went settings members in
+    let puts = ap (sum_by (put_load h.groups n z)) (c.in-Ok.ensures.taken ∙ ap (keyed_on link) is.traffic) in
     let taken = subst (λ (t : TrafficValue). index_cost h ≤ index_cost g
-    + (2 + length (keyed_places link t) + sum_by (taken_load g.standings) (keyed_places link t))) is.traffic
+    + (2 + length (keyed_places link t) + sum_by (taken_load g.groups) (keyed_places link t))) is.traffic
     (c.in-Ok.ensures.touches is.pending.vacant) in
     omega (arith, bound, puts, taken, c.in-Ok-put_link.ensures.touches, c.settle.ensures.touches)
 
@@ -115,5 +115,5 @@ pub returns-then-has_forms-clause-reply : goal.returns-then-has_forms-clause-rep
 returns-then-has_forms-clause-reply c =
     let p = c.args.present.now in
     let there : get p.settings.forms c.args.link.0 ≡ Some c.args.forms =
-    ap (λ (q : PresentValue). set_forms_of q.settings c.args.link.0) (sym c.present.view_is) ∙ c.has_forms.ensures.0 c.if-has_forms.true in
+    ap (λ (q : PresentValue). forms_if_set q.settings c.args.link.0) (sym c.present.view_is) ∙ c.has_forms.ensures.0 c.if-has_forms.true in
     sym (ap (λ m. record p { settings = record p.settings { forms = m } }) (insert-same p.settings.forms c.args.link.0 c.args.forms there))

@@ -5,7 +5,7 @@ use Rattle.smq_kit.specs.Replies.{first_of}
 use Rattle.smq_route.specs.Edits.{add_refusals}
 use Rattle.smq_book.specs.index.Kept.{IsIndexed}
 use Rattle.smq_book.specs.edits.Reached.{messages_under}
-use Rattle.smq_book.specs.index.Refreshed.{LeaveOthers}
+use Rattle.smq_book.specs.index.Recomputed.{LeaveOthers}
 use Rattle.smq_book.specs.index.Touches.{index_cost}
 use Rattle.smq_present.specs.pairing.Traffic.{traffic_of}
 use Rattle.smq_present.specs.present.Present.{PresentValue}

@@ -1,6 +1,6 @@
 use Rattle.std.proofs.Common.{◌≡◌, List, ◌++◌, sym, subst, ◌∙◌, arith}
 use Rattle.std.specs.List.{sum_by}
-use Rattle.smq_present.specs.declared.present.kept.KeptPdu.{KeptPdu}
+use Rattle.smq_present.specs.declared.present.kept.StoredPdu.{StoredPdu}
 use Rattle.smq_present.specs.present.Batch.{batch_pdus}
 use Rattle.smq_present.specs.present.Kept.{kept_pdus}
 use Rattle.smq_present.specs.present.Present.{direction}
@@ -14,7 +14,7 @@ pub push_all-requires-clause-rises : goal.push_all-requires-clause-rises
 push_all-requires-clause-rises c =
     let s = c.args.session.now in
     let b = c.args.batch.now in
-    subst (λ (ps : List KeptPdu). Rises 0 ps)
+    subst (λ (ps : List StoredPdu). Rises 0 ps)
     (λ i. kept_pdus (direction (sym c.dir-dir.ensures i) s) ++ sym c.pdus.ensures i)
     (batch-rises (direction b.dir s) b c.requires.in_step)
 
@@ -38,10 +38,10 @@ returns-clause-pairs c =
 pub returns-clause-touches : goal.returns-clause-touches
 returns-clause-touches c = λ full.
     let all = c.in_ok-push_all.ensures.touches full in
-    let g = c.note_broken.new.index.standings.members in
+    let g = c.note_broken.new.index.groups.members in
     let b = c.args.batch.now in
-    let sums : sum_by (pdu_load c.push_all.new.index.standings.members c.push_all.new.pairing.pdus
+    let sums : sum_by (pdu_load c.push_all.new.index.groups.members c.push_all.new.pairing.pdus
     (from_session c.session-number.result) c.dir-dir.result) c.pdus.result.now
-    ≡ sum_by (pdu_load g c.push_all.new.pairing.pdus (from_session b.session) b.dir) (batch_pdus b) = (λ i. sum_by (pdu_load (sym c.note_broken.ensures.standings i).members c.push_all.new.pairing.pdus
+    ≡ sum_by (pdu_load g c.push_all.new.pairing.pdus (from_session b.session) b.dir) (batch_pdus b) = (λ i. sum_by (pdu_load (sym c.note_broken.ensures.keeps.groups i).members c.push_all.new.pairing.pdus
     (from_session (c.session-number.ensures i)) (c.dir-dir.ensures i)) (c.pdus.ensures i)) in
-    omega (arith, all, sums, c.note_broken.ensures.touches)
+    omega (arith, all, sums, c.note_broken.ensures.keeps.touches)

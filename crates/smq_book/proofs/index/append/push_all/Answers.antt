@@ -6,7 +6,7 @@ use Rattle.smq_kit.specs.declared.place.Place.{Place}
 use Rattle.smq_pair.specs.Growth.{IsNext, made_by, pushed}
 use Rattle.smq_pair.specs.Pairing.{PairingValue, pair_at}
 use Rattle.smq_pair.specs.declared.pairing.Pair.{Pair}
-use Rattle.smq_present.specs.declared.present.kept.KeptPdu.{KeptPdu}
+use Rattle.smq_present.specs.declared.present.kept.StoredPdu.{StoredPdu}
 use Rattle.smq_present.specs.present.Kept.{kept_pdus}
 use Rattle.smq_book.specs.index.Held.{held_now, traffic_held}
 use Rattle.smq_book.specs.index.Touches.{pdu_load}
@@ -18,7 +18,7 @@ use Rattle.smq_present.proofs.lemmas.pairing.PairsStay.{pair-stays}
 use Rattle.smq_book.proofs.lemmas.index.Comes.{both-come, pdu-heavier, still-none}
 use Rattle.smq_book.proofs.lemmas.index.Pushed.{after-same}
 use Rattle.smq_book.proofs.lemmas.index.Rises.{both-rise}
-use Rattle.smq_book.proofs.lemmas.index.Said.{comes-next, held-more, moves-more, pairs-more, said-more, unsaid}
+use Rattle.smq_book.proofs.lemmas.index.Item.{comes-next, held-more, moves-more, pairs-more, said-more, unsaid}
 use Rattle.smq_book.proofs.index.append.push_all.Goals as goal
 
 pub push_pdu-requires-clause-unsaid : goal.push_pdu-requires-clause-unsaid
@@ -41,7 +41,7 @@ push_pdu-requires-clause-next c =
 
 pub push_pdu-requires-clause-centre : goal.push_pdu-requires-clause-centre
 push_pdu-requires-clause-centre c =
-    subst (λ (ps : List KeptPdu). Rises 0 ps) (sym c.pdus-centre.ensures) (kept-rise c.args.session.now.centre)
+    subst (λ (ps : List StoredPdu). Rises 0 ps) (sym c.pdus-centre.ensures) (kept-rise c.args.session.now.centre)
 
 -- What the PDU leaves is what it leaves among those that came, and so it is with those that come next.
 pub loop-pdu-preserved : goal.loop-pdu-preserved
@@ -74,18 +74,18 @@ loop-pdu-preserved c =
           ∙ pairs-more origin s pdus i x c.loop-pdu-test.true c.pdu-item.is dir;
       settled = c.push_pdu.ensures.settled ∙ was.settled;
       settled_pairs = c.push_pdu.ensures.settled_pairs ∙ was.settled_pairs;
-      came = both-come c.args.index.now.standings c.loop-pdu.index.standings c.push_pdu.new.index.standings was.came
+      came = both-come c.args.index.now.groups c.loop-pdu.index.groups c.push_pdu.new.index.groups was.came
           c.in_ok-push_pdu.ensures.came;
       touches = λ full.
           let from = from_session c.args.number in
           let v = c.loop-pdu.pairing.pdus in
           let w = c.push_pdu.new.pairing.pdus in
-          let g = c.loop-pdu.index.standings in
-          let h = c.push_pdu.new.index.standings in
+          let g = c.loop-pdu.index.groups in
+          let h = c.push_pdu.new.index.groups in
           let stays : (q : Place) (pair : Pair) → pair_at v q ≡ Some pair → pair_at w q ≡ Some pair = λ q pair is.
           subst (λ (x : PairingValue). pair_at x q ≡ Some pair) (sym c.in_ok-push_pdu.ensures.pairs) (pair-stays v (placed from dir x) q pair is) in
           let so_far = was.touches full in
-          let this = c.in_ok-push_pdu.ensures.touches (still-none c.args.index.now.standings g was.came full) in
+          let this = c.in_ok-push_pdu.ensures.touches (still-none c.args.index.now.groups g was.came full) in
           let heavier = sum_by-le-sum_by (pdu_load g.members v from dir) (pdu_load h.members w from dir) (take i pdus)
           (pdu-heavier g h c.in_ok-push_pdu.ensures.came v w stays from dir) in
           let more = sum_by_more (pdu_load h.members w from dir) pdus i x c.loop-pdu-test.true in
@@ -98,6 +98,6 @@ loop-pdu-preserved c =
 pub returns-clause-touches : goal.returns-clause-touches
 returns-clause-touches c = λ full.
     let was = c.loop-pdu.invariant.touches full in
-    let all = ap (sum_by (pdu_load c.loop-pdu.index.standings.members c.loop-pdu.pairing.pdus (from_session c.args.number) c.args.dir))
+    let all = ap (sum_by (pdu_load c.loop-pdu.index.groups.members c.loop-pdu.pairing.pdus (from_session c.args.number) c.args.dir))
     (take_all c.loop-pdu.pdu-index c.args.pdus.now (omega arith)) in
     omega (arith, was, all)

@@ -19,10 +19,10 @@ invariant-loop-pdu l = record {
       (take l.pdu-index l.pdus);
   settled : held_settled l.index ≡ held_settled l.initial.index;
   settled_pairs : l.pairing.settled ≡ l.initial.pairing.settled;
-  came : MembersCome l.initial.index.standings l.index.standings;
-  touches : HasNoneVacant l.initial.index.standings
+  came : MembersCome l.initial.index.groups l.index.groups;
+  touches : HasNoneVacant l.initial.index.groups
       → index_cost l.index + pairing_cost l.pairing ≤ index_cost l.initial.index + pairing_cost l.initial.pairing
-      + sum_by (pdu_load l.index.standings.members l.pairing.pdus (from_session l.number) l.dir) (take l.pdu-index l.pdus);
+      + sum_by (pdu_load l.index.groups.members l.pairing.pdus (from_session l.number) l.dir) (take l.pdu-index l.pdus);
   rises : RisesWithFacts l.initial.index l.index;
   pairs_counted : l.initial.pairing.touches ≤ l.pairing.touches;
 }

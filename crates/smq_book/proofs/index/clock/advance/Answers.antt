@@ -7,7 +7,7 @@ use Rattle.smq_book.specs.index.Ends.{places_ending}
 use Rattle.smq_book.specs.index.Held.{Holding, ends_in, held_now, traffic_held}
 use Rattle.smq_book.proofs.lemmas.index.Anew.{none-ending}
 use Rattle.smq_book.proofs.lemmas.index.Restated.{restates}
-use Rattle.smq_book.proofs.lemmas.index.Refreshed.{clock-held}
+use Rattle.smq_book.proofs.lemmas.index.Recomputed.{clock-held}
 use Rattle.smq_book.proofs.index.clock.advance.Goals as goal
 
 pub returns-clause-held : goal.returns-clause-held

@@ -6,7 +6,7 @@ use Rattle.std.proofs.lemmas.List.{nil_from_length}
 use Rattle.std.proofs.lemmas.List.Sums.{sum_by-cons}
 use Rattle.smq_kit.specs.declared.link_key.LinkKey.{LinkKey}
 use Rattle.smq_kit.specs.declared.place.Place.{Place}
-use Rattle.smq_book.specs.declared.index.stored.Said.{Said}
+use Rattle.smq_book.specs.declared.index.stored.Item.{Item}
 use Rattle.smq_book.specs.edits.Reach.{members}
 use Rattle.smq_book.specs.index.Coming.{AreNew}
 use Rattle.smq_book.specs.index.Held.{KeepsTraffic, held_now, traffic_held}
@@ -22,26 +22,26 @@ use Rattle.smq_book.proofs.index.forms.put_link.Goals as goal
 
 pub put-requires-clause-stands : goal.put-requires-clause-stands
 put-requires-clause-stands c =
-    let stand = subst (AllByRecursion (λ (e : Place × Said). KeepsTraffic (put_of e))) c.in-Some.ensures.steps.0 c.loop-place.invariant.stand in stand.0
+    let stand = subst (AllByRecursion (λ (e : Place × Item). KeepsTraffic (put_of e))) c.in-Some.ensures.steps.0 c.loop-place.invariant.stand in stand.0
 
 pub put-requires-clause-new : goal.put-requires-clause-new
 put-requires-clause-new c =
-    let new = subst (λ (es : List (Place × Said)). AreNew (traffic_held (held_now c.loop-place.index)) (map put_of es)) c.in-Some.ensures.steps.0
+    let new = subst (λ (es : List (Place × Item)). AreNew (traffic_held (held_now c.loop-place.index)) (map put_of es)) c.in-Some.ensures.steps.0
     c.loop-place.invariant.new in new.0
 
 pub loop-place-preserved : goal.loop-place-preserved
 loop-place-preserved c =
     let t = traffic_held (held_now c.loop-place.index) in
     let u = traffic_held (held_now c.put.new.self) in
-    let g = c.args.index.now.standings in
-    let here = c.loop-place.index.standings in
-    let e : Place × Said = (c.in-Some.place, c.in-Some.said) in
+    let g = c.args.index.now.groups in
+    let here = c.loop-place.index.groups in
+    let e : Place × Item = (c.in-Some.place, c.in-Some.said) in
     let rest = into_iter_items c.next.new.self in
     let after = c.in_ok-put.ensures.held in
     let come = c.in_ok-put.ensures.came in
     let next : into_iter_items c.loop-place.place-iterator ≡ e ∷ rest = c.in-Some.ensures.steps.0 in
-    let stand = subst (AllByRecursion (λ (e : Place × Said). KeepsTraffic (put_of e))) next c.loop-place.invariant.stand in
-    let new = subst (λ (es : List (Place × Said)). AreNew t (map put_of es)) next c.loop-place.invariant.new in
+    let stand = subst (AllByRecursion (λ (e : Place × Item). KeepsTraffic (put_of e))) next c.loop-place.invariant.stand in
+    let new = subst (λ (es : List (Place × Item)). AreNew t (map put_of es)) next c.loop-place.invariant.new in
     record {
       held = after.held;
       traffic = moves-more t u (put_of e) (map put_of (into_iter_items c.loop-place.place-iterator)) (map put_of rest)
@@ -50,7 +50,7 @@ loop-place-preserved c =
       stand = stand.1;
       new = subst (λ (w : TrafficValue). AreNew w (map put_of rest)) (sym after.traffic) new.1;
       settled = c.put.ensures.settled ∙ c.loop-place.invariant.settled;
-      came = both-come g here c.put.new.self.standings c.loop-place.invariant.came come;
+      came = both-come g here c.put.new.self.groups c.loop-place.invariant.came come;
       touches = λ n fewer.
           let less : (k : LinkKey) → members here.members k ≤ members n k = λ k. (let a = come.more k in let b = fewer k in omega (arith, a, b)) in
           let before = c.loop-place.invariant.touches n less in
@@ -66,12 +66,12 @@ returns-clause-held c =
     let none : length (into_iter_items c.loop-place.place-iterator) ≡ 0 = search rules in
     record {
       held = c.loop-place.invariant.held;
-      traffic = ap (λ (es : List (Place × Said)). moved_by (traffic_held (held_now c.loop-place.index)) (map put_of es))
+      traffic = ap (λ (es : List (Place × Item)). moved_by (traffic_held (held_now c.loop-place.index)) (map put_of es))
           (sym (nil_from_length (into_iter_items c.loop-place.place-iterator) none))
           ∙ c.loop-place.invariant.traffic;
     }
 
 pub returns-clause-touches : goal.returns-clause-touches
 returns-clause-touches c =
-    let all = c.loop-place.invariant.touches c.loop-place.index.standings.members (λ k. omega arith) in
+    let all = c.loop-place.invariant.touches c.loop-place.index.groups.members (λ k. omega arith) in
     omega (arith, all)

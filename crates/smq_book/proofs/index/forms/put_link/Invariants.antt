@@ -21,9 +21,9 @@ invariant-loop-place l = record {
   stand : AllByRecursion (λ e. KeepsTraffic (put_of e)) (into_iter_items l.place-iterator);
   new : AreNew (traffic_held (held_now l.index)) (map put_of (into_iter_items l.place-iterator));
   settled : held_settled l.index ≡ held_settled l.initial.index;
-  came : MembersCome l.initial.index.standings l.index.standings;
-  touches : (n : Grouping) → ((k : LinkKey) → members l.index.standings.members k ≤ members n k)
-      → index_cost l.index + sum_by (put_load l.initial.index.standings n l.settings) (into_iter_items l.place-iterator)
-      ≤ index_cost l.initial.index + sum_by (put_load l.initial.index.standings n l.settings) l.fn.taken.items;
+  came : MembersCome l.initial.index.groups l.index.groups;
+  touches : (n : Grouping) → ((k : LinkKey) → members l.index.groups.members k ≤ members n k)
+      → index_cost l.index + sum_by (put_load l.initial.index.groups n l.settings) (into_iter_items l.place-iterator)
+      ≤ index_cost l.initial.index + sum_by (put_load l.initial.index.groups n l.settings) l.fn.taken.items;
   rises : RisesWithFacts l.initial.index l.index;
 }

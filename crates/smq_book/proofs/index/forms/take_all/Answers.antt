@@ -5,7 +5,7 @@ use Rattle.std.proofs.lemmas.List.{append-nil, append_assoc, at_drop_all, drop_m
 use Rattle.std.proofs.lemmas.List.Sums.{sum_by_more}
 use Rattle.smq_kit.specs.declared.place.Dir.TheVariants.{FromClient}
 use Rattle.smq_kit.specs.declared.place.Place.{Place}
-use Rattle.smq_book.specs.declared.index.stored.Said.{Said}
+use Rattle.smq_book.specs.declared.index.stored.Item.{Item}
 use Rattle.smq_book.specs.index.Held.{held_now, traffic_held}
 use Rattle.smq_book.specs.index.LinkOut.{found_at, found_in_turn, take_at}
 use Rattle.smq_book.specs.index.Touches.{taken_load}
@@ -35,16 +35,16 @@ loop-place-preserved c =
       held = after.held;
       traffic = moves-more t u (take_at q) (map take_at (drop i xs)) (map take_at rest) (moved_by first (map take_at xs)) after.traffic
           (ap (map take_at) next) c.loop-place.invariant.traffic;
-      taken = ap (λ (es : List (Place × Said)). es ++ found_in_turn u rest) c.in_ok-take_one.ensures.taken
+      taken = ap (λ (es : List (Place × Item)). es ++ found_in_turn u rest) c.in_ok-take_one.ensures.taken
           ∙ append_assoc c.loop-place.taken.items (found_at t q) (found_in_turn u rest)
           ∙ ap (λ (w : TrafficValue). c.loop-place.taken.items ++ (found_at t q ++ found_in_turn w rest)) after.traffic
           ∙ ap (λ (qs : List Place). c.loop-place.taken.items ++ found_in_turn t qs) (sym next)
           ∙ c.loop-place.invariant.taken;
       settled = c.take_one.ensures.settled ∙ c.loop-place.invariant.settled;
-      went = both-go c.args.index.now.standings c.loop-place.index.standings c.take_one.new.index.standings c.loop-place.invariant.went
+      went = both-go c.args.index.now.groups c.loop-place.index.groups c.take_one.new.index.groups c.loop-place.invariant.went
           c.in_ok-take_one.ensures.went;
-      touches = (let more = sum_by_more (taken_load c.args.index.now.standings) xs i none c.loop-place-test.true in
-          let less = load-lighter c.args.index.now.standings c.loop-place.index.standings c.loop-place.invariant.went q in
+      touches = (let more = sum_by_more (taken_load c.args.index.now.groups) xs i none c.loop-place-test.true in
+          let less = load-lighter c.args.index.now.groups c.loop-place.index.groups c.loop-place.invariant.went q in
           omega (arith, more, less, c.loop-place.invariant.touches, c.in_ok-take_one.ensures.touches));
       rises = both-rise c.args.index.now c.loop-place.index c.take_one.new.index c.loop-place.invariant.rises c.in_ok-take_one.ensures.rises;
     }
@@ -58,5 +58,5 @@ returns-clause-taken c =
 
 pub returns-clause-touches : goal.returns-clause-touches
 returns-clause-touches c =
-    let all = ap (sum_by (taken_load c.args.index.now.standings)) (take_all c.loop-place.place-index c.args.places.now (omega arith)) in
+    let all = ap (sum_by (taken_load c.args.index.now.groups)) (take_all c.loop-place.place-index c.args.places.now (omega arith)) in
     omega (arith, all, c.loop-place.invariant.touches)

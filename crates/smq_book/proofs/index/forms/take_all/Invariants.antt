@@ -16,7 +16,7 @@ invariant-loop-place l = record {
   taken : l.taken.items ++ found_in_turn (traffic_held (held_now l.index)) (drop l.place-index l.places)
       ≡ found_in_turn (traffic_held (held_now l.initial.index)) l.places;
   settled : held_settled l.index ≡ held_settled l.initial.index;
-  went : MembersGo l.initial.index.standings l.index.standings;
-  touches : index_cost l.index ≤ index_cost l.initial.index + sum_by (taken_load l.initial.index.standings) (take l.place-index l.places);
+  went : MembersGo l.initial.index.groups l.index.groups;
+  touches : index_cost l.index ≤ index_cost l.initial.index + sum_by (taken_load l.initial.index.groups) (take l.place-index l.places);
   rises : RisesWithFacts l.initial.index l.index;
 }

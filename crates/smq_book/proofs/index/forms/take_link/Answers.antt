@@ -42,13 +42,13 @@ returns-clause-rises c =
 pub returns-clause-went : goal.returns-clause-went
 returns-clause-went c =
     let read = c.places_on.ensures.read in
-    go-read c.args.index.now.standings c.places_on.new.index.standings (ap (λ (x : Holding). x.members) read.held) read.vacant
-    c.take_all.new.index.standings c.in_ok-taken.ensures.went
+    go-read c.args.index.now.groups c.places_on.new.index.groups (ap (λ (x : Holding). x.members) read.held) read.vacant
+    c.take_all.new.index.groups c.in_ok-taken.ensures.went
 
 pub returns-clause-touches : goal.returns-clause-touches
 returns-clause-touches c = λ vacant.
-    let i = c.args.index.now.standings in
-    let l = c.places_on.new.index.standings in
+    let i = c.args.index.now.groups in
+    let l = c.places_on.new.index.groups in
     let read = c.places_on.ensures.read in
     let told = c.in_ok-places.ensures.value c.args.settings.now c.requires in
     let looks = c.in_ok-places.ensures.touches vacant in

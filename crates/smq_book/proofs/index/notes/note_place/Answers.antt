@@ -1,11 +1,15 @@
+use Rattle.std.proofs.Common.{rules}
 use Rattle.smq_tally.specs.Lists.{listed}
 use Rattle.smq_book.specs.index.Held.{held_now, traffic_held}
 use Rattle.smq_present.specs.join.Moves.{PutNote}
 use Rattle.smq_book.proofs.lemmas.index.Pushed.{after-one}
 use Rattle.smq_book.proofs.index.notes.note_place.Goals as goal
 
-pub returns-clause-held : goal.returns-clause-held
-returns-clause-held c = λ s is.
-    let g = held_now c.args.index.now in
-    after-one s g (held_now c.put_note.new.self) (PutNote (listed c.args.list c.args.place)) is c.requires
-    (c.in_ok-put_note.ensures.held s (traffic_held g) is.held)
+pub returns-clause-ok : goal.returns-clause-ok
+returns-clause-ok c = record {
+  held = λ s is.
+      let g = held_now c.args.index.now in
+      after-one s g (held_now c.put_note.new.self) (PutNote (listed c.args.list c.args.place)) is c.requires
+      (c.in_ok-put_note.ensures.held s (traffic_held g) is.held);
+  rises = search rules;
+}

@@ -4,7 +4,7 @@ use Rattle.smq_present.specs.present.Settings.{with_versions}
 use Rattle.smq_present.specs.join.Facts.{facts_of}
 use Rattle.smq_book.specs.index.Held.{held_now, traffic_held}
 use Rattle.smq_book.proofs.lemmas.index.Restated.{restates}
-use Rattle.smq_book.proofs.lemmas.index.Refreshed.{routes-held, told-numbers}
+use Rattle.smq_book.proofs.lemmas.index.Recomputed.{routes-held, told-numbers}
 use Rattle.smq_book.proofs.index.routes.set_routes.Goals as goal
 
 pub returns-clause-held : goal.returns-clause-held

@@ -8,7 +8,7 @@ use Rattle.smq_book.specs.index.Ends.{ends_by, ends_put, ends_taken}
 use Rattle.smq_book.specs.index.Held.{dues_in, ends_in, held_now, held_settled, traffic_held}
 use Rattle.smq_book.proofs.lemmas.index.Ends.{ends-moved}
 use Rattle.smq_book.proofs.lemmas.index.Restated.{restates}
-use Rattle.smq_book.proofs.lemmas.index.Refreshed.{window-held}
+use Rattle.smq_book.proofs.lemmas.index.Recomputed.{window-held}
 use Rattle.smq_book.proofs.index.window.set_window.Goals as goal
 
 pub returns-clause-held : goal.returns-clause-held

@@ -18,7 +18,7 @@ pub loop-pdu-init : goal.loop-pdu-init
 loop-pdu-init c = record {
   held = after-none c.args.settings.now (held_now c.args.index.now) c.requires;
   settled = refl;
-  went = none-go c.args.index.now.standings c.args.index.now.standings refl;
+  went = none-go c.args.index.now.groups c.args.index.now.groups refl;
   touches = omega arith;
   rises = none-rise c.args.index.now;
 }
@@ -32,12 +32,12 @@ loop-pdu-preserved c = record {
       c.loop-pdu.pdu-index c.pdu-item.result (held_now c.loop-pdu.index) (held_now c.take_submit.new.index) c.loop-pdu-test.true
       c.pdu-item.is c.loop-pdu.invariant.held c.in_ok-take_submit.ensures.held;
   settled = c.take_submit.ensures.settled ∙ c.loop-pdu.invariant.settled;
-  went = both-go c.args.index.now.standings c.loop-pdu.index.standings c.take_submit.new.index.standings c.loop-pdu.invariant.went
+  went = both-go c.args.index.now.groups c.loop-pdu.index.groups c.take_submit.new.index.groups c.loop-pdu.invariant.went
       c.in_ok-take_submit.ensures.went;
-  touches = (let f = message_load c.args.index.now.standings (from_session c.args.number) in
+  touches = (let f = message_load c.args.index.now.groups (from_session c.args.number) in
       let more = sum_by_more f c.args.client.now c.loop-pdu.pdu-index c.pdu-item.result c.loop-pdu-test.true in
       let this = ap f c.pdu-item.is in
-      let less = message-lighter c.args.index.now.standings c.loop-pdu.index.standings c.loop-pdu.invariant.went
+      let less = message-lighter c.args.index.now.groups c.loop-pdu.index.groups c.loop-pdu.invariant.went
       (place_of (from_session c.args.number) FromClient c.pdu-item.result) in
       omega (arith, more, this, less, c.loop-pdu.invariant.touches, c.in_ok-take_submit.ensures.touches));
   rises = both-rise c.args.index.now c.loop-pdu.index c.take_submit.new.index c.loop-pdu.invariant.rises
@@ -51,6 +51,6 @@ returns-clause-held c =
 
 pub returns-clause-touches : goal.returns-clause-touches
 returns-clause-touches c =
-    let all = ap (sum_by (message_load c.args.index.now.standings (from_session c.args.number)))
+    let all = ap (sum_by (message_load c.args.index.now.groups (from_session c.args.number)))
     (take_all c.loop-pdu.pdu-index c.args.client.now (omega arith)) in
     omega (arith, all, c.loop-pdu.invariant.touches)

@@ -12,8 +12,8 @@ abbrev pub invariant-loop-pdu : goal.invariant-loop-pdu
 invariant-loop-pdu l = record {
   held : IsHeldAfter l.settings (held_now l.initial.index) (submit_takes (from_session l.number) (take l.pdu-index l.client)) (held_now l.index);
   settled : held_settled l.index ≡ held_settled l.initial.index;
-  went : MembersGo l.initial.index.standings l.index.standings;
+  went : MembersGo l.initial.index.groups l.index.groups;
   touches : index_cost l.index ≤ index_cost l.initial.index
-      + sum_by (message_load l.initial.index.standings (from_session l.number)) (take l.pdu-index l.client);
+      + sum_by (message_load l.initial.index.groups (from_session l.number)) (take l.pdu-index l.client);
   rises : RisesWithFacts l.initial.index l.index;
 }

@@ -45,7 +45,7 @@ returns-clause-held c =
     (c.in_ok-take_receipt.ensures.held (traffic_held g) c.requires.traffic c.requires.held))
 
 pub returns-in_default-clause-went : goal.returns-in_default-clause-went
-returns-in_default-clause-went c = none-go c.args.index.now.standings c.args.index.now.standings refl
+returns-in_default-clause-went c = none-go c.args.index.now.groups c.args.index.now.groups refl
 
 pub returns-clause-went : goal.returns-clause-went
 returns-clause-went c =
@@ -56,10 +56,10 @@ returns-clause-went c =
     let is = ap (λ (h : Holding). h.members) (c.in_ok-take_receipt.ensures.held t c.requires.traffic c.requires.held)
     ∙ received-taken s q t
     ∙ ap (λ (x : Grouping). without_receipt x q) (sym (ap (λ (h : Holding). h.members) c.requires.held)) in
-    receipt-goes c.args.index.now.standings c.take_receipt.new.self.standings q is c.in_ok-take_receipt.ensures.vacant
+    receipt-goes c.args.index.now.groups c.take_receipt.new.self.groups q is c.in_ok-take_receipt.ensures.vacant
 
 pub returns-clause-touches : goal.returns-clause-touches
 returns-clause-touches c =
-    let g = c.args.index.now.standings in
+    let g = c.args.index.now.groups in
     let here = ap (λ (q : Place). taken_of g (receipt_key_at g.members q)) c.place_of.ensures in
     omega (arith, here, c.in_ok-take_receipt.ensures.weighs)

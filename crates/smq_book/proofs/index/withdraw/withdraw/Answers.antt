@@ -49,8 +49,8 @@ returns-clause-traffic c =
 
 pub returns-clause-touches : goal.returns-clause-touches
 returns-clause-touches c =
-    let g = c.args.index.now.standings in
-    let h = c.take_messages.new.index.standings in
+    let g = c.args.index.now.groups in
+    let h = c.take_messages.new.index.groups in
     let origin = from_session c.args.number in
     let noted : c.as_slice.result.now ≡ session_notes (c.args.number.0, c.args.session.now) =
     c.as_slice.ensures.value ∙ c.in_ok-notes.ensures in

@@ -2,8 +2,8 @@ use Rattle.std.proofs.Common.{ℕ, ◌≡◌, ◌-◌, Some, refl, sym, ap, ◌�
 use Rattle.std.specs.FinMap.{get}
 use Rattle.std.specs.Map.{remove_entry}
 use Rattle.std.specs.BTreeMap.{is_at}
-use Rattle.smq_group.specs.declared.outlook.Group.{Group}
-use Rattle.smq_group.specs.declared.outlook.Outlook.{Outlook}
+use Rattle.smq_group.specs.declared.group_summary.Group.{Group}
+use Rattle.smq_group.specs.declared.group_summary.GroupSummary.{GroupSummary}
 use Rattle.smq_group.specs.Groups.{GroupsValue, key_on}
 use Rattle.smq_group.specs.Matching.{Grouping, matches}
 use Rattle.smq_group.specs.declared.changes.Added.TheVariants as put
@@ -25,19 +25,19 @@ pub without_submit-after-requires : goal.without_submit-after-requires
 without_submit-after-requires c =
     let there : get (grouping_in c.self.inside.submits.content c.self.inside.receipts.content).submits c.args.place ≡ Some (key_on c.args.link c.args.key.now) = ap (λ (v : GroupsValue). get v.members.submits c.args.place) c.self.view_is ∙ c.requires.there in
     let count : c.group_of-before.result.outlook.matches ≡ matches (grouping_in c.self.inside.submits.content c.self.inside.receipts.content) (key_on c.args.link c.args.key.now) =
-    ap (λ (o : Outlook). o.matches) ((ap (λ (x : Group). x.outlook) c.group_of-before.ensures.value) ∙ ap (λ k. outlook_at k c.self.inside.outlooks.content) c.key_of_link-key.ensures ∙ c.self.invariant.0.indexed.outlook (key_on c.args.link c.args.key.now)) in
+    ap (λ (o : GroupSummary). o.matches) ((ap (λ (x : Group). x.outlook) c.group_of-before.ensures.value) ∙ ap (λ k. outlook_at k c.self.inside.outlooks.content) c.key_of_link-key.ensures ∙ c.self.invariant.0.indexed.outlook (key_on c.args.link c.args.key.now)) in
     let some = submit-counts (grouping_in c.self.inside.submits.content c.self.inside.receipts.content) (key_on c.args.link c.args.key.now) c.args.place there in
     omega (arith, some, count)
 
-pub tell_and_keep-requires-clause-counted : goal.tell_and_keep-requires-clause-counted
-tell_and_keep-requires-clause-counted c =
-    ap (λ (o : Outlook). o.matches) c.without_submit-after.ensures ∙ (let there : get (grouping_in c.self.inside.submits.content c.self.inside.receipts.content).submits c.args.place ≡ Some c.key_of_link-key.result = ap (λ (v : GroupsValue). get v.members.submits c.args.place) c.self.view_is ∙ c.requires.there ∙ ap Some (sym c.key_of_link-key.ensures) in
+pub standing_changes_and_summary-requires-clause-counted : goal.standing_changes_and_summary-requires-clause-counted
+standing_changes_and_summary-requires-clause-counted c =
+    ap (λ (o : GroupSummary). o.matches) c.without_submit-after.ensures ∙ (let there : get (grouping_in c.self.inside.submits.content c.self.inside.receipts.content).submits c.args.place ≡ Some c.key_of_link-key.result = ap (λ (v : GroupsValue). get v.members.submits c.args.place) c.self.view_is ∙ c.requires.there ∙ ap Some (sym c.key_of_link-key.ensures) in
     counted-remove c.self.inside.submits.content c.self.inside.receipts.content c.self.inside.candidates.content c.self.inside.outlooks.content c.key_of_link-key.result c.group_of-before.result.outlook
     c.self.invariant.0 (ap (λ (x : Group). x.outlook) c.group_of-before.ensures.value) c.args.place c.remove.new.self.content there (rw (← c.copy.ensures) c.in_ok-remove.ensures.content))
 
-pub tell_and_keep-requires-clause-received : goal.tell_and_keep-requires-clause-received
-tell_and_keep-requires-clause-received c =
-    ap (λ (o : Outlook). o.receipts) c.without_submit-after.ensures
+pub standing_changes_and_summary-requires-clause-received : goal.standing_changes_and_summary-requires-clause-received
+standing_changes_and_summary-requires-clause-received c =
+    ap (λ (o : GroupSummary). o.receipts) c.without_submit-after.ensures
     ∙ received-is c.self.inside.submits.content c.self.inside.receipts.content c.self.inside.candidates.content c.self.inside.outlooks.content c.key_of_link-key.result c.group_of-before.result.outlook
     c.self.invariant.0 (ap (λ (x : Group). x.outlook) c.group_of-before.ensures.value)
 
@@ -45,17 +45,17 @@ pub invariant_of-self-in-Ok : goal.invariant_of-self-in-Ok
 invariant_of-self-in-Ok c =
     let there : get (grouping_in c.self.inside.submits.content c.self.inside.receipts.content).submits c.args.place ≡ Some c.key_of_link-key.result = ap (λ (v : GroupsValue). get v.members.submits c.args.place) c.self.view_is ∙ c.requires.there ∙ ap Some (sym c.key_of_link-key.ensures) in
     let left : c.remove.new.self.content ≡ remove_entry (is_at (kept_member_cmp (member_of c.key_of_link-key.result c.args.place))) c.self.inside.submits.content = rw (← c.copy.ensures) c.in_ok-remove.ensures.content in
-    let less = ap (λ (o : Outlook). o.matches) c.without_submit-after.ensures in
+    let less = ap (λ (o : GroupSummary). o.matches) c.without_submit-after.ensures in
     let count = counted-remove c.self.inside.submits.content c.self.inside.receipts.content c.self.inside.candidates.content c.self.inside.outlooks.content c.key_of_link-key.result c.group_of-before.result.outlook
     c.self.invariant.0 (ap (λ (x : Group). x.outlook) c.group_of-before.ensures.value) c.args.place c.remove.new.self.content there left in
     let known : c.group_of-before.result.outlook.matches ≡ matches (grouping_in c.self.inside.submits.content c.self.inside.receipts.content) c.key_of_link-key.result =
-    ap (λ (x : Group). x.outlook.matches) c.group_of-before.ensures.value ∙ ap (λ (o : Outlook). o.matches) (c.self.invariant.0.indexed.outlook c.key_of_link-key.result) in
+    ap (λ (x : Group). x.outlook.matches) c.group_of-before.ensures.value ∙ ap (λ (o : GroupSummary). o.matches) (c.self.invariant.0.indexed.outlook c.key_of_link-key.result) in
     let some = submit-counts (grouping_in c.self.inside.submits.content c.self.inside.receipts.content) c.key_of_link-key.result c.args.place there in
     let only = only-told c.group_of-before.result.outlook c.without_submit-after.result (members_in c.key_of_link-key.result c.remove.new.self.content) _ c.in-Ok.changes.items (omega (arith, less, known, some)) (less ∙ count) c.in-Ok.ensures.told in (
       rw (c.in-Ok.ensures.submits.content, c.in-Ok.ensures.receipts.content, c.in_ok-remove.ensures.content, c.copy.ensures)
-          (submit-taken c.self.inside.submits.content c.self.inside.receipts.content c.self.inside.candidates.content c.self.inside.outlooks.content c.tell_and_keep.new.outlooks.content c.key_of_link-key.result c.args.place
+          (submit-taken c.self.inside.submits.content c.self.inside.receipts.content c.self.inside.candidates.content c.self.inside.outlooks.content c.standing_changes_and_summary.new.outlooks.content c.key_of_link-key.result c.args.place
           there c.self.invariant.0
-          (ap (λ (x : Group). x.outlook) c.in-Ok.ensures.here ∙ c.without_submit-after.ensures ∙ ap (λ (o : Outlook). record o { matches = o.matches - 1 }) (ap (λ (x : Group). x.outlook) c.group_of-before.ensures.value))
+          (ap (λ (x : Group). x.outlook) c.in-Ok.ensures.here ∙ c.without_submit-after.ensures ∙ ap (λ (o : GroupSummary). record o { matches = o.matches - 1 }) (ap (λ (x : Group). x.outlook) c.group_of-before.ensures.value))
           (ap (λ (x : Group). x.only) c.in-Ok.ensures.here ∙ only ∙ ap (λ es. only_of (members_in c.key_of_link-key.result es)) left)
           (λ other h. c.in-Ok.ensures.elsewhere other h ∙ ap (group_at other) c.group_of-before.ensures.content)),
       rw (c.in-Ok.ensures.submits.settled, c.in-Ok.ensures.receipts.settled, c.in-Ok.ensures.settled, c.in_ok-remove.ensures.settled, c.group_of-before.ensures.settled) c.self.invariant.1,
@@ -87,7 +87,7 @@ pub returns-in-Ok-clause-changes : goal.returns-in-Ok-clause-changes
 returns-in-Ok-clause-changes c =
     let key = c.key_of_link-key.result in
     let g = c.args.self.now.members in
-    tells-call g c.tell_and_keep.new.submits.content c.remove.new.self.content c.tell_and_keep.new.receipts.content c.self.inside.receipts.content c.self.inside.candidates.content c.tell_and_keep.new.outlooks.content key put.Nothing
+    tells-call g c.standing_changes_and_summary.new.submits.content c.remove.new.self.content c.standing_changes_and_summary.new.receipts.content c.self.inside.receipts.content c.self.inside.candidates.content c.standing_changes_and_summary.new.outlooks.content key put.Nothing
     c.group_of-before.result.outlook c.without_submit-after.result c.in-Ok.changes.items
     c.in-Ok.ensures.submits.content c.in-Ok.ensures.receipts.content
     (subst (λ (h : Grouping). Moves g h key put.Nothing) (sym (returns-in-Ok-clause-ok c)) (moves-no_submit g key c.args.place (c.requires.there ∙ ap Some (sym c.key_of_link-key.ensures))))
@@ -114,8 +114,8 @@ returns-in-Ok-clause-vacant c = λ k.
     let there : get (grouping_in c.self.inside.submits.content c.self.inside.receipts.content).submits c.args.place ≡ Some key = ap (λ (v : GroupsValue). get v.members.submits c.args.place) c.self.view_is ∙ c.requires.there ∙ ap Some (sym c.key_of_link-key.ensures) in
     let held = is_held c.self.inside.submits.content c.self.inside.receipts.content key c.args.place there in
     let was = counted-vacant k c.self.inside.submits.places c.self.inside.receipts.places c.self.inside.candidates.places in
-    let is = counted-vacant k c.tell_and_keep.new.submits.places c.tell_and_keep.new.receipts.places c.self.inside.candidates.places in
-    let emptied = member-put key k c.args.place None c.self.inside.submits.places c.tell_and_keep.new.submits.places (c.in-Ok.ensures.submits.places ∙ rw (← c.copy.ensures) (c.in_ok-remove.ensures.places (rw c.copy.ensures held))) in
+    let is = counted-vacant k c.standing_changes_and_summary.new.submits.places c.standing_changes_and_summary.new.receipts.places c.self.inside.candidates.places in
+    let emptied = member-put key k c.args.place None c.self.inside.submits.places c.standing_changes_and_summary.new.submits.places (c.in-Ok.ensures.submits.places ∙ rw (← c.copy.ensures) (c.in_ok-remove.ensures.places (rw c.copy.ensures held))) in
     let same = ap (vacant_of member_key k) c.in-Ok.ensures.receipts.places in
     let share = ap {B = ℕ} (λ (l : LinkKey). cond (same_key k l) 1 0) c.key_of_link-key.ensures in
     rw (← c.self.view_is) (omega (arith, was, is, emptied, same, share))

@@ -1,6 +1,6 @@
 use Rattle.std.proofs.Common.{refl, sym, ap, ◌∙◌, subst}
-use Rattle.smq_pair.specs.declared.entry.Entry.{Entry}
-use Rattle.smq_pair.specs.declared.entry.Link.TheVariants.{Alone}
+use Rattle.smq_pair.specs.declared.paired_pdu.PairedPdu.{PairedPdu}
+use Rattle.smq_pair.specs.declared.paired_pdu.PduLink.TheVariants.{Alone}
 use Rattle.smq_pair.specs.Paired.{PairedValue}
 use Rattle.smq_pair.specs.within.Kept.{entries_in, settled_entries, with_its}
 use Rattle.smq_pair.specs.within.Waits.{Holds, Waits, meeting_at}
@@ -8,7 +8,7 @@ use Rattle.smq_pair.proofs.Steps.{Adds, adds-alone, adds-met}
 use Rattle.smq_pair.proofs.pairing.Pairing.add.Goals as goal
 
 -- the entry that is added of a series
-abbrev met : goal.In_ok-meet-in-Some → Entry
+abbrev met : goal.In_ok-meet-in-Some → PairedPdu
 met c = with_its (meeting_at c.in-Some.series c.args.place.offset c.self.inside.waits.content (entries_in c.self.inside.streams)).link
     (record { seq = c.args.seq; command = c.args.command; status = c.args.status; link = Alone })
 
@@ -20,7 +20,7 @@ added-met c =
     c.in_ok-meet-in-Some.ensures.ordered c.in_ok-meet-in-Some.ensures.waits refl (entries_in c.meet.new.streams) c.in_ok-meet-in-Some.ensures.streams
 
 -- and of none
-abbrev passed : goal.In_ok-add-in-None → Entry
+abbrev passed : goal.In_ok-add-in-None → PairedPdu
 passed c = record { seq = c.args.seq; command = c.args.command; status = c.args.status; link = Alone }
 
 added-alone : (c : goal.In_ok-add-in-None) → Adds c.self.inside.waits.content (entries_in c.self.inside.streams) c.args.self.now.pdus c.args.place (passed c)

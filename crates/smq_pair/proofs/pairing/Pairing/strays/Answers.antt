@@ -2,7 +2,7 @@ use Rattle.std.proofs.Common.{ap, subst, ◌∙◌}
 use Rattle.std.specs.List.Sorted.{IsStrictlySortedBy}
 use Rattle.smq_kit.specs.Orders.{place_cmp}
 use Rattle.smq_pdu.specs.Pairing.{is_response}
-use Rattle.smq_pair.specs.declared.entry.Side.TheVariants.{Response}
+use Rattle.smq_pair.specs.declared.paired_pdu.Role.TheVariants.{Response}
 use Rattle.smq_pair.specs.Paired.{PairedValue}
 use Rattle.smq_pair.specs.Pairing.{strays}
 use Rattle.smq_pair.proofs.Searched.{alone-places, alone-ascend}

@@ -13,7 +13,7 @@ use Rattle.smq_present.specs.declared.present.forms.Forms.{Forms}
 use Rattle.smq_present.specs.declared.present.session.Session.{Session}
 use Rattle.smq_present.specs.known.Present.{with_forms, with_forms_and_octets, waiting, one_more}
 use Rattle.smq_present.specs.present.Present.{PresentValue, octets_in, octets_of}
-use Rattle.smq_present.specs.present.Settings.{opening_forms, set_forms_of, forms_of}
+use Rattle.smq_present.specs.present.Settings.{opening_forms, forms_if_set, forms_of}
 use Rattle.smq_present.specs.present.Steps.{change}
 use Rattle.smq_present.specs.present.Stream.{last_moment}
 use Rattle.smq_present.proofs.lemmas.present.Changes.{appends-change, step-made}
@@ -26,15 +26,15 @@ known = record { response = Hexadecimal; receipt = Decimal }
 or_opening : Option Forms → Forms
 or_opening o = unwrap_or o opening_forms
 
-set_of_one : set_forms_of with_forms.settings 1 ≡ Some known
+set_of_one : forms_if_set with_forms.settings 1 ≡ Some known
 unfolding known
 set_of_one = get-insert nat_cmp_total empty 1 known 1
 
-set_of_two : set_forms_of with_forms.settings 2 ≡ None
+set_of_two : forms_if_set with_forms.settings 2 ≡ None
 unfolding known
 set_of_two = get-insert nat_cmp_total empty 1 known 2 ∙ get-empty nat_cmp 2
 
-set_of_far : set_forms_of with_forms.settings 65537 ≡ None
+set_of_far : forms_if_set with_forms.settings 65537 ≡ None
 unfolding known
 set_of_far = get-insert nat_cmp_total empty 1 known 65537 ∙ get-empty nat_cmp 65537
 

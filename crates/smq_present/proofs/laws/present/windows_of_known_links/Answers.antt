@@ -17,7 +17,7 @@ use Rattle.smq_present.specs.join.Circumstances.{window_of}
 use Rattle.smq_present.specs.known.Present.{known_versions, with_window, with_window_anew, with_window_and_octets, waiting, one_more}
 use Rattle.smq_present.specs.present.Present.{PresentValue, session_of, octets_in, octets_of}
 use Rattle.smq_present.specs.present.Replies.{no_session}
-use Rattle.smq_present.specs.present.Settings.{opening_forms, opening_window, set_window_of}
+use Rattle.smq_present.specs.present.Settings.{opening_forms, opening_window, window_if_set}
 use Rattle.smq_present.specs.present.Steps.{change}
 use Rattle.smq_present.specs.present.Stream.{last_moment}
 use Rattle.smq_present.proofs.lemmas.present.Changes.{appends-change, step-made}
@@ -38,19 +38,19 @@ set = record { response = Hexadecimal; receipt = Decimal }
 or_opening : Option ℕ → ℕ
 or_opening o = unwrap_or o opening_window
 
-set_of_one : set_window_of with_window.settings 1 ≡ Some 1000
+set_of_one : window_if_set with_window.settings 1 ≡ Some 1000
 set_of_one = get-insert nat_cmp_total empty 1 1000 1
 
-set_of_two : set_window_of with_window.settings 2 ≡ None
+set_of_two : window_if_set with_window.settings 2 ≡ None
 set_of_two = get-insert nat_cmp_total empty 1 1000 2 ∙ get-empty nat_cmp 2
 
-set_of_far : set_window_of with_window.settings 65537 ≡ None
+set_of_far : window_if_set with_window.settings 65537 ≡ None
 set_of_far = get-insert nat_cmp_total empty 1 1000 65537 ∙ get-empty nat_cmp 65537
 
-set_anew : set_window_of with_window_anew.settings 1 ≡ Some 1001
+set_anew : window_if_set with_window_anew.settings 1 ≡ Some 1001
 set_anew = get-insert nat_cmp_total (insert empty 1 1000) 1 1001 1
 
-set_of_two_anew : set_window_of with_window_anew.settings 2 ≡ None
+set_of_two_anew : window_if_set with_window_anew.settings 2 ≡ None
 set_of_two_anew = get-insert nat_cmp_total (insert empty 1 1000) 1 1001 2 ∙ set_of_two
 
 there : window_of with_window.settings (record { 0 = 1 }) ≡ 1000

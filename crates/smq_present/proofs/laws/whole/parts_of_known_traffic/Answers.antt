@@ -4,7 +4,7 @@ use Rattle.smq_kit.specs.declared.message_id.Form.TheVariants.{Verbatim}
 use Rattle.smq_pdu.specs.Pairing.{nth_index}
 use Rattle.smq_tally.specs.declared.fact.Fact.{Fact}
 use Rattle.smq_present.specs.present.Content as c
-use Rattle.smq_present.specs.declared.present.kept.KeptPdu.{KeptPdu}
+use Rattle.smq_present.specs.declared.present.kept.StoredPdu.{StoredPdu}
 use Rattle.smq_present.specs.known.Dealt.{of_first_key, of_messages, two_keys}
 use Rattle.smq_present.specs.known.Join.{settings_with}
 use Rattle.smq_present.specs.known.Pairing.{accepted, delivered, pdu, submit}
@@ -14,16 +14,16 @@ use Rattle.smq_present.proofs.lemmas.join.KnownFacts.{listed}
 use Rattle.smq_present.proofs.lemmas.whole.KnownParts.{counted-of, facts-of-part, facts-of-whole}
 use Rattle.smq_present.proofs.laws.whole.parts_of_known_traffic.Goals as goal
 
-abbrev response : KeptPdu
+abbrev response : StoredPdu
 response = pdu 17 0x8000_0004 0 2 (c.SubmitAnswer (Some (50 ∷ [])))
 
-abbrev client : List KeptPdu
+abbrev client : List StoredPdu
 client = submit 0 1 1 ∷ submit 49 2 1 ∷ []
 
-abbrev centre : List KeptPdu
+abbrev centre : List StoredPdu
 centre = accepted 1 ∷ response ∷ delivered 34 5000 ∷ []
 
-abbrev facts_in : List KeptPdu → List KeptPdu → List Fact
+abbrev facts_in : List StoredPdu → List StoredPdu → List Fact
 facts_in part_client part_centre = listed 0 Verbatim Verbatim part_client part_centre
 
 whole : values (facts_of (settings_with Verbatim Verbatim) two_keys) ≡ facts_in client centre

@@ -8,7 +8,7 @@ use Rattle.smq_tally.specs.declared.list.List.{List as ListName}
 use Rattle.smq_tally.specs.declared.list.List.TheVariants as list
 use Rattle.smq_tally.specs.declared.list.Listed.{Listed}
 use Rattle.smq_tally.specs.Lists.{listed}
-use Rattle.smq_present.specs.declared.present.kept.KeptPdu.{KeptPdu}
+use Rattle.smq_present.specs.declared.present.kept.StoredPdu.{StoredPdu}
 use Rattle.smq_present.specs.present.Kept.{kept_pdus}
 use Rattle.smq_present.specs.pairing.Traffic.{Origin, broken_at, broken_notes}
 use Rattle.smq_present.specs.within.Pairs.{from_session}
@@ -19,8 +19,8 @@ use Rattle.smq_present.proofs.pairing.notes.push_notes.Goals as goal
 pub returns : goal.returns
 returns c =
     let o : Origin = from_session c.args.number in
-    let client : List KeptPdu = kept_pdus c.args.session.now.client in
-    let centre : List KeptPdu = kept_pdus c.args.session.now.centre in
+    let client : List StoredPdu = kept_pdus c.args.session.now.client in
+    let centre : List StoredPdu = kept_pdus c.args.session.now.centre in
     let old = c.args.notes.now.items in
     let of_client : (l : ListName) → noted l c.args.client.now ≡ noted_in l o FromClient client centre =
     λ l. noted-side l c.args.number FromClient client centre c.args.client.now c.requires.client in

@@ -4,5 +4,5 @@ use Rattle.std.specs.List.{AllZip}
 use Rattle.smq_present.specs.within.Said.{Says}
 use Rattle.smq_present.proofs.pairing.traffic.read_sessions.Given as goal
 
-abbrev pub invariant-loop-sourced : goal.invariant-loop-sourced
-invariant-loop-sourced l = AllZip Says (take l.sourced-index l.sessions) l.read.items
+abbrev pub invariant-loop-view : goal.invariant-loop-view
+invariant-loop-view l = AllZip Says (take l.view-index l.sessions) l.read.items

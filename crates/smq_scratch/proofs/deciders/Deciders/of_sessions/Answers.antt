@@ -9,13 +9,13 @@ use Rattle.smq_scratch.proofs.Deciding.{deciders-add, deciders-none, deciders-sk
 use Rattle.smq_scratch.proofs.deciders.Deciders.of_sessions.Goals as goal
 use Rattle.smq_scratch.proofs.deciders.Deciders.of_sessions.Goals.{in-Some+then-can_decide+in_ok-add, in-Some+else-can_decide, in_default}
 
-pub loop-sourced-init : goal.loop-sourced-init
-loop-sourced-init c = deciders-none c.new.result c.new.ensures.empty
+pub loop-view-init : goal.loop-view-init
+loop-view-init c = deciders-none c.new.result c.new.ensures.empty
 
 pub loop-pdu-preserved : goal.loop-pdu-preserved
 loop-pdu-preserved c =
-    let before = flat_map receipts_in (take c.loop-sourced.sourced-index c.args.sessions.now) in
-    let source = c.sourced.inside.source in
+    let before = flat_map receipts_in (take c.loop-view.view-index c.args.sessions.now) in
+    let source = c.view.inside.source in
     let so_far = before ++ receipts_among source (take c.loop-pdu.pdu-index c.pdus-pdu-items.result.now) in
     subst (λ (ys : List KeyedReceipt). HasDeciders c.match-receipt_at.deciders.receipts ys)
     (receipts-more source c.pdus-pdu-items.result.now c.loop-pdu.pdu-index c.pdu-item.result c.receipt_at.result before c.loop-pdu-test.true

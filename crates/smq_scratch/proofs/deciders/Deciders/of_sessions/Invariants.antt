@@ -8,7 +8,7 @@ use Rattle.smq_scratch.proofs.deciders.Deciders.of_sessions.Given as goal
 
 abbrev pub invariant-loop-pdu : goal.invariant-loop-pdu
 invariant-loop-pdu l = HasDeciders l.deciders.receipts
-    (flat_map receipts_in (take l.sourced-index l.sessions) ++ receipts_among l.sourced-inside.source (take l.pdu-index l.pdu-items))
+    (flat_map receipts_in (take l.view-index l.sessions) ++ receipts_among l.view-inside.source (take l.pdu-index l.pdu-items))
 
-abbrev pub invariant-loop-sourced : goal.invariant-loop-sourced
-invariant-loop-sourced l = HasDeciders l.deciders.receipts (flat_map receipts_in (take l.sourced-index l.sessions))
+abbrev pub invariant-loop-view : goal.invariant-loop-view
+invariant-loop-view l = HasDeciders l.deciders.receipts (flat_map receipts_in (take l.view-index l.sessions))

@@ -1,4 +1,4 @@
-use Rattle.std.proofs.Common.{◌≡◌, ◌≤◌, List, [], Some, None, length, subst, refl, ap, sym, ◌∙◌, rules, arith}
+use Rattle.std.proofs.Common.{◌≡◌, ◌≤◌, List, Some, None, length, subst, refl, ap, sym, ◌∙◌, rules, arith}
 use Rattle.std.specs.FinMap.{get}
 use Rattle.smq_group.specs.declared.change.Change.{Change}
 use Rattle.smq_group.specs.Changes.{TellsChanges}
@@ -13,8 +13,7 @@ use Rattle.smq_book.proofs.lemmas.index.Followed.{facts-alone, holds-said, holds
 use Rattle.smq_book.proofs.lemmas.index.Members.{kept-traffic, members-unmoved, submit-there}
 use Rattle.smq_book.proofs.lemmas.index.Moves.{came-submit}
 use Rattle.smq_present.proofs.lemmas.join.MoveLemmas.{put_message-moves}
-use Rattle.smq_book.proofs.lemmas.index.Costs.{tells-none}
-use Rattle.smq_book.specs.index.Touches.{vacancies_at, load_of}
+use Rattle.smq_book.specs.index.Touches.{load_of}
 use Rattle.smq_book.specs.edits.Reached.{IsMoveOf}
 use Rattle.smq_book.proofs.lemmas.index.StandingIn.{no-receipt-in, submit-in}
 use Rattle.smq_book.proofs.lemmas.index.Weights.{few-changes, submit-put}
@@ -43,16 +42,16 @@ returns-in_default-clause-held c = λ t traffic held.
     let stores = stored-unmoved stored q m refused none free c.in_ok-set.ensures.content in
     let move = put_message-moves q m t free in
     let alike = sym (members-unmoved s q t m refused none) in
-    let now = stands-none i.standings.members q (submit-in c.requires.are q old c.requires.unanswered)
+    let now = stands-none i.groups.members q (submit-in c.requires.are q old c.requires.unanswered)
     (no-receipt-in c.requires.are q (c.requires.are.apart q old c.requires.unanswered)) in
     let may = may-follow s t u i held stores traffic q move refl None (λ p e. nobody p e)
     (λ x y was is. one-route s.versions (get t.messages q) x old was is_before
     ∙ one-route s.versions (get u.messages q) m y (put-there t.messages q m) is) (kept-traffic t traffic (PutMessage (q, m)) (traffic.messages q old is_before)) in
-    let set = c.in_ok-refresh.ensures.anew now may in
-    holds-said s t u i held stores traffic q move refl c.refresh.new.self c.refresh.ensures.said refl refl refl c.refresh.new.self.tally
+    let set = c.in_ok-recompute_at.ensures.anew now may in
+    holds-said s t u i held stores traffic q move refl c.recompute_at.new.self c.recompute_at.ensures.said refl refl refl c.recompute_at.new.self.tally
     (set.facts ∙ facts-alone s t u i held stores traffic q move refl alike)
     (set.notes ∙ notes-alone s t u i held stores traffic q move refl alike)
-    (c.in_ok-refresh.ensures.due (due-answered (due-held s t i held) q old m is_before refl refl stores.messages))
+    (c.in_ok-recompute_at.ensures.due (due-answered (due-held s t i held) q old m is_before refl refl stores.messages))
     (numbers-stay s t i held q old m is_before refl)
 
 pub returns-clause-held : goal.returns-clause-held
@@ -64,7 +63,7 @@ returns-clause-held c = λ t traffic held.
     let old = without_response m in
     let key = c.in-Some.accepted in
     let u = put_message q m t in
-    let g = i.standings.members in
+    let g = i.groups.members in
     let h = c.add_submit.new.self.members in
     let is_before : get t.messages q ≡ Some old = sym (ap (λ (h : Holding). get h.messages q) held) ∙ c.requires.unanswered in
     let stored = stored-held s t i traffic held in
@@ -87,33 +86,13 @@ returns-clause-held c = λ t traffic held.
     (c.in_ok-follow.ensures.due (due-answered (due-held s t i held) q old m is_before refl refl stores.messages))
     (numbers-stay s t i held q old m is_before refl)
 
-pub returns-in_default-clause-touches : goal.returns-in_default-clause-touches
-returns-in_default-clause-touches c = record {
-  changes = [];
-  told = tells-none c.args.self.now.standings.members c.refresh.new.self.standings.members
-      (ap (λ (v : GroupsValue). v.members) c.refresh.ensures.said.standings);
-  bound = omega (arith, c.in_ok-refresh.ensures.touches);
-}
-
-pub returns-clause-touches : goal.returns-clause-touches
-returns-clause-touches c =
-    let g = c.args.self.now.standings in
-    let walked = ap (vacancies_at g) (sym c.key-key.ensures ∙ c.in-Some.is) in
-    let as-many = ap (length {A = Change}) c.as_slice.ensures.value in
-    record {
-      changes = c.in_ok-changes.changes.items;
-      told = subst (λ (x : Grouping). TellsChanges g.members x c.in_ok-changes.changes.items)
-          (sym (ap (λ (v : GroupsValue). v.members) c.follow.ensures.said.standings)) c.in_ok-changes.ensures.changes;
-      bound = omega (arith, walked, as-many, c.in_ok-changes.ensures.touches, c.in_ok-changes.ensures.pending, c.in_ok-follow.ensures.touches);
-    }
-
 pub returns-clause-vacant : goal.returns-clause-vacant
 returns-clause-vacant c = λ k.
-    subst (λ (v : GroupsValue). vacancies v k ≤ vacancies c.args.self.now.standings k) (sym c.follow.ensures.said.standings)
+    subst (λ (v : GroupsValue). vacancies v k ≤ vacancies c.args.self.now.groups k) (sym c.follow.ensures.said.groups)
     (c.in_ok-changes.ensures.vacant k)
 
 pub returns-in_default-clause-weighs : goal.returns-in_default-clause-weighs
-returns-in_default-clause-weighs c = omega (arith, c.in_ok-refresh.ensures.touches)
+returns-in_default-clause-weighs c = omega (arith, c.in_ok-recompute_at.ensures.touches)
 
 pub returns-clause-weighs : goal.returns-clause-weighs
 returns-clause-weighs c =
@@ -121,13 +100,13 @@ returns-clause-weighs c =
     let s = c.args.settings.now in
     let q = c.args.place in
     let old = without_response c.args.answered in
-    let g = i.standings.members in
+    let g = i.groups.members in
     let h = c.add_submit.new.self.members in
     let key = c.in-Some.accepted in
     let absent = submit-in c.requires.are q old c.requires.unanswered in
     let free = no-receipt-in c.requires.are q (c.requires.are.apart q old c.requires.unanswered) in
     let move = subst (λ (x : Grouping). IsMoveOf key q g x) (sym c.in_ok-changes.ensures.ok) (submit-put g q key absent free) in
     let told = few-changes g h c.in_ok-changes.changes.items c.in_ok-changes.ensures.changes key q move in
-    let loaded = ap (load_of i.standings) (sym c.key-key.ensures ∙ c.in-Some.is) in
+    let loaded = ap (load_of i.groups) (sym c.key-key.ensures ∙ c.in-Some.is) in
     let as-many = ap (length {A = Change}) c.as_slice.ensures.value in
     omega (arith, loaded, told, as-many, c.in_ok-changes.ensures.touches, c.in_ok-changes.ensures.pending, c.in_ok-follow.ensures.touches)

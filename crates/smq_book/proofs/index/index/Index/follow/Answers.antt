@@ -32,12 +32,12 @@ loop-change-preserved c =
     let within = c.loop-change-test.true in
     let d : Change = get_or cs n past in
     let so = c.loop-change.invariant in
-    let stood = ap (λ (v : GroupsValue). v.members) so.said.standings in
+    let stood = ap (λ (v : GroupsValue). v.members) so.said.groups in
     record {
-      said = both-keep so.said c.refresh.ensures.said;
+      said = both-keep so.said c.recompute_at.ensures.said;
       anew = λ told before.
           let was = so.anew told before in
-          let set = c.in_ok-refresh.ensures.anew (told-at i.standings.members cs n past told within ∙ (λ j. standing_at (sym stood j) d.place))
+          let set = c.in_ok-recompute_at.ensures.anew (told-at i.groups.members cs n past told within ∙ (λ j. standing_at (sym stood j) d.place))
           was.follows in
           record {
             facts = set.facts
@@ -47,11 +47,11 @@ loop-change-preserved c =
                 i.tally.facts cs n past within);
             notes = set.notes
                 ∙ (λ j. with_listing (was.notes j) d.place (list_held (stood j) d.place))
-                ∙ sym (fold_more (λ (m : FinSet listed_cmp) (x : Change). with_listing m x.place (list_held i.standings.members x.place))
+                ∙ sym (fold_more (λ (m : FinSet listed_cmp) (x : Change). with_listing m x.place (list_held i.groups.members x.place))
                 i.tally.notes cs n past within);
             follows = set.follows;
           };
-      due = λ same. c.in_ok-refresh.ensures.due (so.due same);
-      touches = omega (arith, c.in_ok-refresh.ensures.touches, so.touches);
-      rises = both-rise i c.loop-change.self c.refresh.new.self so.rises c.in_ok-refresh.ensures.rises;
+      due = λ same. c.in_ok-recompute_at.ensures.due (so.due same);
+      touches = omega (arith, c.in_ok-recompute_at.ensures.touches, so.touches);
+      rises = both-rise i c.loop-change.self c.recompute_at.new.self so.rises c.in_ok-recompute_at.ensures.rises;
     }

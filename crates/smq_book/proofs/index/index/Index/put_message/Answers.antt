@@ -1,4 +1,4 @@
-use Rattle.std.proofs.Common.{◌≡◌, ◌≤◌, List, [], None, length, subst, refl, ap, sym, ◌∙◌, rules, arith}
+use Rattle.std.proofs.Common.{◌≡◌, ◌≤◌, List, None, length, subst, refl, ap, sym, ◌∙◌, rules, arith}
 use Rattle.std.specs.FinMap.{get, insert}
 use Rattle.smq_kit.specs.declared.place.Place.{Place}
 use Rattle.smq_group.specs.declared.change.Change.{Change}
@@ -13,8 +13,7 @@ use Rattle.smq_book.proofs.lemmas.index.Followed.{holds-told, holds-unaccepted, 
 use Rattle.smq_book.proofs.lemmas.index.Members.{kept-traffic, members-unput}
 use Rattle.smq_book.proofs.lemmas.index.Moves.{came-submit}
 use Rattle.smq_present.proofs.lemmas.join.MoveLemmas.{put_message-moves}
-use Rattle.smq_book.proofs.lemmas.index.Costs.{tells-none}
-use Rattle.smq_book.specs.index.Touches.{vacancies_at, load_of}
+use Rattle.smq_book.specs.index.Touches.{load_of}
 use Rattle.smq_book.specs.edits.Reached.{IsMoveOf}
 use Rattle.smq_book.proofs.lemmas.index.StandingIn.{no-receipt-in, no-submit-in}
 use Rattle.smq_book.proofs.lemmas.index.Weights.{few-changes, submit-put}
@@ -55,7 +54,7 @@ returns-clause-held c = λ t traffic held.
     let m = c.args.message in
     let key = c.in-Some.key in
     let u = put_message q m t in
-    let g = i.standings.members in
+    let g = i.groups.members in
     let h = c.add_submit.new.self.members in
     let none : get t.messages q ≡ None = sym (ap (λ (h : Holding). get h.messages q) held) ∙ c.requires.absent in
     let numbered = c.in_ok-put_number.ensures.value in
@@ -77,30 +76,9 @@ returns-clause-held c = λ t traffic held.
     (c.in_ok-follow.ensures.due (due-came (due-held s t i held) q m none (unknown-before s t i held q none) stores.messages))
     (numbers-came s t i held q m none numbered)
 
-pub returns-in_default-clause-touches : goal.returns-in_default-clause-touches
-returns-in_default-clause-touches c = record {
-  changes = [];
-  told = tells-none c.args.self.now.standings.members c.args.self.now.standings.members refl;
-  bound = omega (arith, c.put_number.ensures.touches, c.add.ensures.pending, c.in_ok-add.ensures.ok_touches);
-}
-
-pub returns-clause-touches : goal.returns-clause-touches
-returns-clause-touches c =
-    let g = c.args.self.now.standings in
-    let key = c.in-Some.key in
-    let h = c.add_submit.new.self.members in
-    let walked = ap (vacancies_at g) (sym c.key-key.ensures ∙ c.in-Some.is) in
-    let as-many = ap (length {A = Change}) c.as_slice.ensures.value in
-    record {
-      changes = c.in_ok-changes.changes.items;
-      told = subst (λ (x : Grouping). TellsChanges g.members x c.in_ok-changes.changes.items)
-          (sym (ap (λ (v : GroupsValue). v.members) c.follow.ensures.said.standings)) c.in_ok-changes.ensures.changes;
-      bound = omega (arith, walked, as-many, c.put_number.ensures.touches, c.in_ok-changes.ensures.touches, c.in_ok-changes.ensures.pending, c.in_ok-follow.ensures.touches);
-    }
-
 pub returns-clause-vacant : goal.returns-clause-vacant
 returns-clause-vacant c = λ k.
-    subst (λ (v : GroupsValue). vacancies v k ≤ vacancies c.args.self.now.standings k) (sym c.follow.ensures.said.standings)
+    subst (λ (v : GroupsValue). vacancies v k ≤ vacancies c.args.self.now.groups k) (sym c.follow.ensures.said.groups)
     (c.in_ok-changes.ensures.vacant k)
 
 pub returns-in_default-clause-weighs : goal.returns-in_default-clause-weighs
@@ -111,13 +89,13 @@ returns-clause-weighs c =
     let i = c.args.self.now in
     let s = c.args.settings.now in
     let q = c.args.place in
-    let g = i.standings.members in
+    let g = i.groups.members in
     let h = c.add_submit.new.self.members in
     let key = c.in-Some.key in
     let absent = no-submit-in c.requires.are q c.requires.absent in
     let free = no-receipt-in c.requires.are q c.requires.apart in
     let move = subst (λ (x : Grouping). IsMoveOf key q g x) (sym c.in_ok-changes.ensures.ok) (submit-put g q key absent free) in
     let told = few-changes g h c.in_ok-changes.changes.items c.in_ok-changes.ensures.changes key q move in
-    let loaded = ap (load_of i.standings) (sym c.key-key.ensures ∙ c.in-Some.is) in
+    let loaded = ap (load_of i.groups) (sym c.key-key.ensures ∙ c.in-Some.is) in
     let as-many = ap (length {A = Change}) c.as_slice.ensures.value in
     omega (arith, loaded, told, as-many, c.put_number.ensures.touches, c.in_ok-changes.ensures.touches, c.in_ok-changes.ensures.pending, c.in_ok-follow.ensures.touches)

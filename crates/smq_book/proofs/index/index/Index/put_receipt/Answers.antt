@@ -30,7 +30,7 @@ returns-clause-held c = λ t traffic held.
     let q = c.args.place in
     let r : ReceivedReceipt = c.args.receipt in
     let u = put_receipt q r t in
-    let g = i.standings.members in
+    let g = i.groups.members in
     let h = c.add_receipt.new.self.members in
     let none : get t.receipts q ≡ None = sym (ap (λ (h : Holding). get h.receipts q) held) ∙ c.requires.absent in
     let free : get t.messages q ≡ None = sym (ap (λ (h : Holding). get h.messages q) held) ∙ c.requires.apart in
@@ -55,21 +55,9 @@ returns-clause-held c = λ t traffic held.
     (c.in_ok-follow.ensures.anew now may) there (c.in_ok-follow.ensures.due (due-same (due-held s t i held) stores.messages))
     (ap (λ (h : Holding). h.numbers) held)
 
-pub returns-clause-touches : goal.returns-clause-touches
-returns-clause-touches c =
-    let g = c.args.self.now.standings in
-    let walked = ap (vacancies g) c.key-key.ensures in
-    let as-many = ap (length {A = Change}) c.as_slice.ensures.value in
-    record {
-      changes = c.in_ok-changes.changes.items;
-      told = subst (λ (x : Grouping). TellsChanges g.members x c.in_ok-changes.changes.items)
-          (sym (ap (λ (v : GroupsValue). v.members) c.follow.ensures.said.standings)) c.in_ok-changes.ensures.changes;
-      bound = omega (arith, walked, as-many, c.in_ok-changes.ensures.touches, c.in_ok-changes.ensures.pending, c.in_ok-follow.ensures.touches);
-    }
-
 pub returns-clause-vacant : goal.returns-clause-vacant
 returns-clause-vacant c = λ k.
-    subst (λ (v : GroupsValue). vacancies v k ≤ vacancies c.args.self.now.standings k) (sym c.follow.ensures.said.standings)
+    subst (λ (v : GroupsValue). vacancies v k ≤ vacancies c.args.self.now.groups k) (sym c.follow.ensures.said.groups)
     (c.in_ok-changes.ensures.vacant k)
 
 pub returns-clause-weighs : goal.returns-clause-weighs
@@ -77,7 +65,7 @@ returns-clause-weighs c =
     let i = c.args.self.now in
     let s = c.args.settings.now in
     let q = c.args.place in
-    let g = i.standings.members in
+    let g = i.groups.members in
     let h = c.add_receipt.new.self.members in
     let key = c.key-key.result in
     let r : GroupedReceipt = record { key = key; moment = c.receipt.inside.moment; decides = c.can_decide-decides.result } in
@@ -85,6 +73,6 @@ returns-clause-weighs c =
     let free = no-submit-in c.requires.are q c.requires.apart in
     let move = subst (λ (x : Grouping). IsMoveOf key q g x) (sym c.in_ok-changes.ensures.ok) (receipt-put g q r absent free) in
     let told = few-changes g h c.in_ok-changes.changes.items c.in_ok-changes.ensures.changes key q move in
-    let loaded = ap (λ (k : LinkKey). load_of i.standings (Some k)) c.key-key.ensures in
+    let loaded = ap (λ (k : LinkKey). load_of i.groups (Some k)) c.key-key.ensures in
     let as-many = ap (length {A = Change}) c.as_slice.ensures.value in
     omega (arith, loaded, told, as-many, c.in_ok-changes.ensures.touches, c.in_ok-changes.ensures.pending, c.in_ok-follow.ensures.touches)

@@ -28,7 +28,7 @@ returns-in_default-clause-facts c = λ new told may.
     let gone : ◌≡◌ {A = Option Message} None (option_copied c.get.result) = search rules in
     let none : get (messages_in i.messages.content) q ≡ None = sym (gone ∙ c.get.ensures ∙ stored-at i.messages.content q) in
     c.in_ok-take_fact.ensures.facts
-    ∙ ap (set_at i.tally.facts q) (sym (fact-absent c.args.settings.now (stored_in i) i.standings.members may.are q none))
+    ∙ ap (set_at i.tally.facts q) (sym (fact-absent c.args.settings.now (stored_in i) i.groups.members may.are q none))
 
 pub returns-in_default-clause-due : goal.returns-in_default-clause-due
 returns-in_default-clause-due c = λ same.
@@ -45,7 +45,7 @@ returns-in_ok-set_end-clause-facts c = λ new told may.
     let there : get (messages_in i.messages.content) q ≡ Some m = sym (some ∙ c.get.ensures ∙ stored-at i.messages.content q) in
     c.in_ok-replace.ensures.ok
     ∙ (λ j. insert (c.look_up-there.ensures.held j).facts (c.fact_at-fact.ensures.place j) c.fact_at-fact.result)
-    ∙ ap (set_at i.tally.facts q) (c.fact_at-fact.ensures.value (stored_in i) i.standings.members may.are told refl there
+    ∙ ap (set_at i.tally.facts q) (c.fact_at-fact.ensures.value (stored_in i) i.groups.members may.are told refl there
     (c.route_by-route.ensures (λ f is. may.routed q m f there (sym c.look_up-there.ensures.value ∙ is) ∙ ap (λ (v : Versions). route_in v m) (sym c.routes.ensures))
     ∙ ap (λ (v : Versions). route_in v m) c.routes.ensures))
 
@@ -58,7 +58,7 @@ returns-else-is_now-is_due-clause-facts c = λ new told may.
     let there : get (messages_in i.messages.content) q ≡ Some m = sym (some ∙ c.get.ensures ∙ stored-at i.messages.content q) in
     c.in_ok-replace.ensures.ok
     ∙ (λ j. insert (c.look_up-there.ensures.held j).facts (c.fact_at-fact.ensures.place j) c.fact_at-fact.result)
-    ∙ ap (set_at i.tally.facts q) (c.fact_at-fact.ensures.value (stored_in i) i.standings.members may.are told refl there
+    ∙ ap (set_at i.tally.facts q) (c.fact_at-fact.ensures.value (stored_in i) i.groups.members may.are told refl there
     (c.route_by-route.ensures (λ f is. may.routed q m f there (sym c.look_up-there.ensures.value ∙ is) ∙ ap (λ (v : Versions). route_in v m) (sym c.routes.ensures))
     ∙ ap (λ (v : Versions). route_in v m) c.routes.ensures))
 
@@ -78,7 +78,7 @@ returns-in_ok-set_end-clause-due c = λ same.
     (c.in_ok-set_end.ensures.value
     ∙ (λ j. set_at (ends_in i.ends.content) (c.of-end.ensures j) (noted (is_now j)))
     ∙ (λ j. set_at (ends_in i.ends.content) (end_at ((c.message.view_is j).moment
-    + (c.of.ensures ∙ (λ k. window_in (c.windows_set.ensures k) (c.message.view_is k).link)) j) q) (noted (is_due_fact (Some fact)))))
+    + (c.of.ensures ∙ (λ k. window_in (c.link_windows.ensures k) (c.message.view_is k).link)) j) q) (noted (is_due_fact (Some fact)))))
 
 pub returns-else-is_now-is_due-clause-due : goal.returns-else-is_now-is_due-clause-due
 returns-else-is_now-is_due-clause-due c = λ same.

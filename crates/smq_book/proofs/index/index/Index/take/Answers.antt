@@ -41,11 +41,11 @@ returns-in_ok-take_message-in-FromClient-clause-went c =
     let is = ap (λ (h : Holding). h.members) (c.in_ok-take_message-in-FromClient.ensures.held t c.requires.traffic c.requires.held)
     ∙ members-taken s q t
     ∙ ap (λ (x : Grouping). without_submit x q) (sym (ap (λ (h : Holding). h.members) c.requires.held)) in
-    submit-goes c.args.self.now.standings c.take_message.new.self.standings q is c.in_ok-take_message-in-FromClient.ensures.vacant
+    submit-goes c.args.self.now.groups c.take_message.new.self.groups q is c.in_ok-take_message-in-FromClient.ensures.vacant
 
 pub returns-in_ok-take_message-in-FromClient-clause-touches : goal.returns-in_ok-take_message-in-FromClient-clause-touches
 returns-in_ok-take_message-in-FromClient-clause-touches c =
-    let g = c.args.self.now.standings in
+    let g = c.args.self.now.groups in
     let key = ap (λ (d : Dir). taken_of g (key_in d g.members c.args.place)) c.in-FromClient.is in
     omega (arith, key, c.in_ok-take_message-in-FromClient.ensures.weighs)
 
@@ -68,10 +68,10 @@ returns-in_ok-take_receipt-in-FromCentre-clause-went c =
     let is = ap (λ (h : Holding). h.members) (c.in_ok-take_receipt-in-FromCentre.ensures.held t c.requires.traffic c.requires.held)
     ∙ received-taken s q t
     ∙ ap (λ (x : Grouping). without_receipt x q) (sym (ap (λ (h : Holding). h.members) c.requires.held)) in
-    receipt-goes c.args.self.now.standings c.take_receipt.new.self.standings q is c.in_ok-take_receipt-in-FromCentre.ensures.vacant
+    receipt-goes c.args.self.now.groups c.take_receipt.new.self.groups q is c.in_ok-take_receipt-in-FromCentre.ensures.vacant
 
 pub returns-in_ok-take_receipt-in-FromCentre-clause-touches : goal.returns-in_ok-take_receipt-in-FromCentre-clause-touches
 returns-in_ok-take_receipt-in-FromCentre-clause-touches c =
-    let g = c.args.self.now.standings in
+    let g = c.args.self.now.groups in
     let key = ap (λ (d : Dir). taken_of g (key_in d g.members c.args.place)) c.in-FromCentre.is in
     omega (arith, key, c.in_ok-take_receipt-in-FromCentre.ensures.weighs)

@@ -1,4 +1,4 @@
-use Rattle.std.proofs.Common.{◌≡◌, ◌+◌, ℕ, if◌then◌else◌, Option, List, [], Some, None, length, subst, refl, ap, sym, ◌∙◌, rules, arith}
+use Rattle.std.proofs.Common.{◌≡◌, ◌+◌, ℕ, if◌then◌else◌, Option, List, Some, None, length, subst, refl, ap, sym, ◌∙◌, rules, arith}
 use Rattle.std.specs.FinMap.{FinMap, get, remove}
 use Rattle.std.specs.Option.{option_copied}
 use Rattle.smq_shelf.specs.Keeping.{KeepingMap}
@@ -23,8 +23,7 @@ use Rattle.smq_book.proofs.lemmas.index.Followed.{facts-gone, facts-left, holds-
 use Rattle.smq_book.proofs.lemmas.index.Members.{kept-traffic, members-untaken, submit-there}
 use Rattle.smq_book.proofs.lemmas.index.Stored.{stored-at}
 use Rattle.smq_present.proofs.lemmas.join.MoveLemmas.{take_message-moves}
-use Rattle.smq_book.proofs.lemmas.index.Costs.{tells-none}
-use Rattle.smq_book.specs.index.Touches.{is_key, vacancies_at, taken_of}
+use Rattle.smq_book.specs.index.Touches.{is_key, taken_of}
 use Rattle.smq_kit.specs.declared.link_key.LinkKey.{LinkKey}
 use Rattle.smq_book.specs.edits.Reached.{IsMoveOf}
 use Rattle.smq_book.proofs.lemmas.index.StandingIn.{no-receipt-in, submit-in}
@@ -71,7 +70,7 @@ returns-in_default-key-clause-held c = λ t traffic held.
     ∙ (λ j. remove (dues_in i.due.content) (due_at (c.message.view_is j).link (c.message.view_is j).moment q)) in
     let gone-end = c.in_ok-set_end.ensures.value
     ∙ ap (remove (ends_in i.ends.content)) (c.of-end.ensures
-    ∙ (λ j. end_at ((c.message.view_is j).moment + (c.of-window.ensures ∙ (λ k. window_in (c.windows_set.ensures k) (c.message.view_is k).link)) j) q)) in
+    ∙ (λ j. end_at ((c.message.view_is j).moment + (c.of-window.ensures ∙ (λ k. window_in (c.link_windows.ensures k) (c.message.view_is k).link)) j) q)) in
     let none = submit-there s q t m there ∙ sym c.key-key.ensures ∙ gone in
     let stores = stored-dropped (stored-held s t i traffic held) q traffic none c.in_ok-remove.ensures.ordered c.in_ok-remove.ensures.content in
     let apart = (stored-held s t i traffic held).stands.apart q m there in
@@ -95,7 +94,7 @@ returns-clause-held c = λ t traffic held.
     let q = c.args.place in
     let m = c.in-Some.message.now in
     let u = take_message q t in
-    let g = i.standings.members in
+    let g = i.groups.members in
     let h = c.remove_submit.new.self.members in
     let some : ◌≡◌ {A = Option Message} (Some m) (option_copied c.get.result) = search rules in
     let there : get t.messages q ≡ Some m =
@@ -112,7 +111,7 @@ returns-clause-held c = λ t traffic held.
     ∙ (λ j. remove (dues_in i.due.content) (due_at (c.message.view_is j).link (c.message.view_is j).moment q)) in
     let gone-end = c.in_ok-set_end.ensures.value
     ∙ ap (remove (ends_in i.ends.content)) (c.of-end.ensures
-    ∙ (λ j. end_at ((c.message.view_is j).moment + (c.of-window.ensures ∙ (λ k. window_in (c.windows_set.ensures k) (c.message.view_is k).link)) j) q)) in
+    ∙ (λ j. end_at ((c.message.view_is j).moment + (c.of-window.ensures ∙ (λ k. window_in (c.link_windows.ensures k) (c.message.view_is k).link)) j) q)) in
     let taken = c.in_ok-take_fact-2.ensures.facts in
     let now = told s t u i held stores traffic q move refl cs tells in
     let may = may-follow s t u i held stores traffic q move refl None (λ p e. nobody p e)
@@ -130,49 +129,6 @@ returns-clause-held c = λ t traffic held.
     ∙ ap (λ (x : FinMap place_cmp Message). get x q) stores.messages ∙ free))
     (numbers-went s t i held q m there c.in_ok-take_number.ensures.value)
 
-pub returns-in_default-clause-touches : goal.returns-in_default-clause-touches
-returns-in_default-clause-touches c = record {
-  changes = [];
-  told = tells-none c.args.self.now.standings.members c.args.self.now.standings.members refl;
-  bound = omega arith;
-}
-
-pub returns-in_default-key-clause-touches : goal.returns-in_default-key-clause-touches
-returns-in_default-key-clause-touches c = record {
-  changes = [];
-  told = tells-none c.args.self.now.standings.members c.args.self.now.standings.members refl;
-  bound = omega (arith, c.take_number.ensures.touches, c.in_ok-set_due.ensures.touches, c.in_ok-set_end.ensures.touches, c.in_ok-take_fact.ensures.touches);
-}
-
-pub returns-clause-touches : goal.returns-clause-touches
-returns-clause-touches c =
-    let i = c.args.self.now in
-    let s = c.args.settings.now in
-    let q = c.args.place in
-    let m = c.in-Some.message.now in
-    let some : ◌≡◌ {A = Option Message} (Some m) (option_copied c.get.result) = search rules in
-    let there : get (messages_in i.messages.content) q ≡ Some m = sym (some ∙ c.get.ensures ∙ stored-at i.messages.content q) in
-    let keyed = submit-in c.requires.are q m there ∙ sym c.key-key.ensures in
-    let walked = ap (vacancies_at i.standings) (keyed ∙ c.in-Some-key.is) in
-    let as-many = ap (length {A = Change}) c.as_slice.ensures.value in
-    record {
-      changes = c.in_ok-changes.changes.items;
-      told = subst (λ (x : Grouping). TellsChanges i.standings.members x c.in_ok-changes.changes.items)
-          (sym (ap (λ (v : GroupsValue). v.members) c.follow.ensures.said.standings)) c.in_ok-changes.ensures.changes;
-      bound = omega (
-        arith,
-        walked,
-        as-many,
-        c.take_number.ensures.touches,
-        c.in_ok-set_due.ensures.touches,
-        c.in_ok-set_end.ensures.touches,
-        c.in_ok-changes.ensures.touches,
-        c.in_ok-changes.ensures.pending,
-        c.in_ok-follow.ensures.touches,
-        c.in_ok-take_fact-2.ensures.touches,
-      );
-    }
-
 pub returns-clause-vacant : goal.returns-clause-vacant
 returns-clause-vacant c = λ k.
     let i = c.args.self.now in
@@ -183,7 +139,7 @@ returns-clause-vacant c = λ k.
     let there : get (messages_in i.messages.content) q ≡ Some m = sym (some ∙ c.get.ensures ∙ stored-at i.messages.content q) in
     let keyed = submit-in c.requires.are q m there ∙ sym c.key-key.ensures in
     let taken = ap {B = ℕ} (λ (key : Option LinkKey). if is_key k key then 1 else 0) (keyed ∙ c.in-Some-key.is) in
-    let same = ap (λ (v : GroupsValue). vacancies v k) c.follow.ensures.said.standings in
+    let same = ap (λ (v : GroupsValue). vacancies v k) c.follow.ensures.said.groups in
     omega (arith, taken, same, c.in_ok-changes.ensures.vacant k)
 
 pub returns-in_default-key-clause-weighs : goal.returns-in_default-key-clause-weighs
@@ -195,7 +151,7 @@ returns-clause-weighs c =
     let s = c.args.settings.now in
     let q = c.args.place in
     let m = c.in-Some.message.now in
-    let g = i.standings.members in
+    let g = i.groups.members in
     let h = c.remove_submit.new.self.members in
     let key = c.in-Some-key.key in
     let some : ◌≡◌ {A = Option Message} (Some m) (option_copied c.get.result) = search rules in
@@ -204,7 +160,7 @@ returns-clause-weighs c =
     let free = no-receipt-in c.requires.are q (c.requires.are.apart q m there) in
     let move = subst (λ (x : Grouping). IsMoveOf key q g x) (sym c.in_ok-changes.ensures.ok) (submit-taken g q key keyed free) in
     let told = few-changes g h c.in_ok-changes.changes.items c.in_ok-changes.ensures.changes key q move in
-    let loaded = ap (taken_of i.standings) keyed in
+    let loaded = ap (taken_of i.groups) keyed in
     let one = submit-counts g q key keyed in
     let as-many = ap (length {A = Change}) c.as_slice.ensures.value in
     omega (

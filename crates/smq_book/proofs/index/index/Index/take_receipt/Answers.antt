@@ -1,4 +1,4 @@
-use Rattle.std.proofs.Common.{◌≡◌, ℕ, if◌then◌else◌, Option, List, [], Some, None, length, subst, refl, ap, sym, ◌∙◌, rules, arith}
+use Rattle.std.proofs.Common.{◌≡◌, ℕ, if◌then◌else◌, Option, List, Some, None, length, subst, refl, ap, sym, ◌∙◌, rules, arith}
 use Rattle.std.specs.FinMap.{get}
 use Rattle.std.specs.Option.{option_copied}
 use Rattle.std.specs.Prelude.{option_map}
@@ -22,8 +22,7 @@ use Rattle.smq_book.proofs.lemmas.index.Followed.{facts-taken, holds-said, may-f
 use Rattle.smq_book.proofs.lemmas.index.Members.{kept-traffic}
 use Rattle.smq_book.proofs.lemmas.index.Stored.{stands-none, stored-at}
 use Rattle.smq_present.proofs.lemmas.join.MoveLemmas.{take_receipt-moves}
-use Rattle.smq_book.proofs.lemmas.index.Costs.{tells-none}
-use Rattle.smq_book.specs.index.Touches.{is_key, receipt_key_at, vacancies_at, taken_of}
+use Rattle.smq_book.specs.index.Touches.{is_key, receipt_key_at, taken_of}
 use Rattle.smq_kit.specs.declared.link_key.LinkKey.{LinkKey}
 use Rattle.smq_present.specs.join.Keyed.{keyed_receipt, receipt_key}
 use Rattle.smq_book.specs.edits.Reached.{IsMoveOf}
@@ -62,7 +61,7 @@ returns-clause-held c = λ t traffic held.
     let i = c.args.self.now in
     let q = c.args.place in
     let u = take_receipt q t in
-    let g = i.standings.members in
+    let g = i.groups.members in
     let h = c.remove_receipt.new.self.members in
     let stores = stored-forgotten
     (stored-held s t i traffic held) q traffic c.in_ok-remove.ensures.ordered c.in_ok-remove.ensures.content c.in_ok-changes.ensures.ok in
@@ -75,7 +74,7 @@ returns-clause-held c = λ t traffic held.
     (λ x y was is. one-route s.versions (get t.messages q) x y was is) (kept-traffic t traffic (TakeReceipt q) tt) in
     let set = c.in_ok-follow.ensures.anew now may in
     let said = c.follow.ensures.said in
-    let gs = ap (λ (v : GroupsValue). v.members) said.standings in
+    let gs = ap (λ (v : GroupsValue). v.members) said.groups in
     let r = c.in-Some.receipt.now in
     let some : ◌≡◌ {A = Option ReceivedReceipt} (Some r) (option_copied c.get.result) = search rules in
     let there : get (receipts_in i.receipts.content) q ≡ Some r = sym (some ∙ c.get.ensures ∙ stored-at i.receipts.content q) in
@@ -84,49 +83,16 @@ returns-clause-held c = λ t traffic held.
     ∙ no-submit-in c.requires.are q (no-message-there (stored_in i) q r (c.requires.are.apart q) there))
     (ap (λ (x : Grouping). get x.receipts q) c.in_ok-changes.ensures.ok ∙ get-removed places_total places_exact g.receipts q)
     ∙ (λ j. standing_at (sym gs j) q) in
-    let last = c.in_ok-refresh.ensures.anew gone set.follows in
-    holds-said s t u i held stores traffic q move refl c.refresh.new.self (both-keep said c.refresh.ensures.said) refl refl refl c.refresh.new.self.tally
+    let last = c.in_ok-recompute_at.ensures.anew gone set.follows in
+    holds-said s t u i held stores traffic q move refl c.recompute_at.new.self (both-keep said c.recompute_at.ensures.said) refl refl refl c.recompute_at.new.self.tally
     (last.facts
     ∙ (λ j. set_at (set.facts j) q (get (facts_of s (stored_traffic (said.messages j).content (said.receipts j).content)) q))
     ∙ facts-taken s t u i held stores traffic q move refl cs tells)
     (last.notes
     ∙ (λ j. with_listing (set.notes j) q (list_held (gs j) q))
     ∙ notes-taken s t u i held stores traffic q move refl cs tells)
-    (c.in_ok-refresh.ensures.due (c.in_ok-follow.ensures.due (due-same (due-held s t i held) stores.messages)))
+    (c.in_ok-recompute_at.ensures.due (c.in_ok-follow.ensures.due (due-same (due-held s t i held) stores.messages)))
     (ap (λ (h : Holding). h.numbers) held)
-
-pub returns-in_default-clause-touches : goal.returns-in_default-clause-touches
-returns-in_default-clause-touches c = record {
-  changes = [];
-  told = tells-none c.args.self.now.standings.members c.args.self.now.standings.members refl;
-  bound = omega arith;
-}
-
-pub returns-clause-touches : goal.returns-clause-touches
-returns-clause-touches c =
-    let i = c.args.self.now in
-    let s = c.args.settings.now in
-    let q = c.args.place in
-    let r = c.in-Some.receipt.now in
-    let some : ◌≡◌ {A = Option ReceivedReceipt} (Some r) (option_copied c.get.result) = search rules in
-    let there : get (receipts_in i.receipts.content) q ≡ Some r = sym (some ∙ c.get.ensures ∙ stored-at i.receipts.content q) in
-    let keyed = ap (option_map (λ (x : GroupedReceipt). x.key)) (receipt-in c.requires.are q r there) ∙ ap Some (sym c.key-key.ensures) in
-    let walked = ap (vacancies_at i.standings) keyed in
-    let as-many = ap (length {A = Change}) c.as_slice.ensures.value in
-    record {
-      changes = c.in_ok-changes.changes.items;
-      told = subst (λ (x : Grouping). TellsChanges i.standings.members x c.in_ok-changes.changes.items)
-          (sym (ap (λ (v : GroupsValue). v.members) (c.refresh.ensures.said.standings ∙ c.follow.ensures.said.standings))) c.in_ok-changes.ensures.changes;
-      bound = omega (
-        arith,
-        walked,
-        as-many,
-        c.in_ok-changes.ensures.touches,
-        c.in_ok-changes.ensures.pending,
-        c.in_ok-follow.ensures.touches,
-        c.in_ok-refresh.ensures.touches,
-      );
-    }
 
 pub returns-clause-vacant : goal.returns-clause-vacant
 returns-clause-vacant c = λ k.
@@ -138,7 +104,7 @@ returns-clause-vacant c = λ k.
     let there : get (receipts_in i.receipts.content) q ≡ Some r = sym (some ∙ c.get.ensures ∙ stored-at i.receipts.content q) in
     let keyed = ap (option_map (λ (x : GroupedReceipt). x.key)) (receipt-in c.requires.are q r there) ∙ ap Some (sym c.key-key.ensures) in
     let taken = ap {B = ℕ} (λ (key : Option LinkKey). if is_key k key then 2 else 0) keyed in
-    let same = ap (λ (v : GroupsValue). vacancies v k) (c.refresh.ensures.said.standings ∙ c.follow.ensures.said.standings) in
+    let same = ap (λ (v : GroupsValue). vacancies v k) (c.recompute_at.ensures.said.groups ∙ c.follow.ensures.said.groups) in
     omega (arith, taken, same, c.in_ok-changes.ensures.vacant k)
 
 pub returns-clause-weighs : goal.returns-clause-weighs
@@ -147,7 +113,7 @@ returns-clause-weighs c =
     let s = c.args.settings.now in
     let q = c.args.place in
     let r = c.in-Some.receipt.now in
-    let g = i.standings.members in
+    let g = i.groups.members in
     let h = c.remove_receipt.new.self.members in
     let t = stored_in i in
     let some : ◌≡◌ {A = Option ReceivedReceipt} (Some r) (option_copied c.get.result) = search rules in
@@ -156,9 +122,9 @@ returns-clause-weighs c =
     let free = no-submit-in c.requires.are q (no-message-there t q r (c.requires.are.apart q) there) in
     let move = subst (λ (x : Grouping). IsMoveOf (receipt_key s r) q g x) (sym c.in_ok-changes.ensures.ok) (receipt-taken g q (keyed_receipt s r) keyed free) in
     let told = few-changes g h c.in_ok-changes.changes.items c.in_ok-changes.ensures.changes (receipt_key s r) q move in
-    let walked = ap (vacancies i.standings) c.key-key.ensures in
-    let loaded : taken_of i.standings (receipt_key_at g q) ≡ taken_of i.standings (Some (receipt_key s r)) =
-    ap (λ (x : Option GroupedReceipt). taken_of i.standings (option_map (λ (x : GroupedReceipt). x.key) x)) keyed in
+    let walked = ap (vacancies i.groups) c.key-key.ensures in
+    let loaded : taken_of i.groups (receipt_key_at g q) ≡ taken_of i.groups (Some (receipt_key s r)) =
+    ap (λ (x : Option GroupedReceipt). taken_of i.groups (option_map (λ (x : GroupedReceipt). x.key) x)) keyed in
     let as-many = ap (length {A = Change}) c.as_slice.ensures.value in
     let one = receipt-counts g q (keyed_receipt s r) keyed in
     omega (
@@ -171,5 +137,5 @@ returns-clause-weighs c =
       c.in_ok-changes.ensures.touches,
       c.in_ok-changes.ensures.pending,
       c.in_ok-follow.ensures.touches,
-      c.in_ok-refresh.ensures.touches,
+      c.in_ok-recompute_at.ensures.touches,
     )

@@ -1,6 +1,6 @@
 use Rattle.std.proofs.Common.{ap, sym, ◌∙◌}
 use Rattle.std.specs.FinMap.{insert}
-use Rattle.smq_present.specs.present.Settings.{SettingsValue, set_forms_of}
+use Rattle.smq_present.specs.present.Settings.{SettingsValue, forms_if_set}
 use Rattle.smq_present.proofs.lemmas.present.NumberMaps.{get-seen, insert-seen}
 use Rattle.smq_present.proofs.present.settings.Settings.set_forms.Goals as goal
 
@@ -13,4 +13,4 @@ returns-clause-reply c =
 pub returns-clause-before : goal.returns-clause-before
 returns-clause-before c =
     c.in-Ok.ensures.old ∙ sym (get-seen c.self.inside.forms.entries c.args.link.0)
-    ∙ ap (λ (s : SettingsValue). set_forms_of s c.args.link.0) c.self.view_is
+    ∙ ap (λ (s : SettingsValue). forms_if_set s c.args.link.0) c.self.view_is

@@ -1,0 +1,224 @@
+//! One direction of a connection, and its sessions.
+use crate::notice::Noted;
+use crate::side::Side;
+use smq_packets::Segment;
+use smq_streams::{Fit, Framer, Stream};
+use std::alloc::{AllocError, Global};
+use std::collections::VecDeque;
+
+/// A session that begins with the first PDU that begins at a place or behind it.
+#[derive(Clone, Copy)]
+pub struct Following {
+    pub session: u64,
+    pub place: u64,
+}
+
+/// A packet, and the place behind the last octet that those before it had brought.
+#[derive(Clone, Copy)]
+struct Top {
+    number: u64,
+    before: u64,
+}
+
+/// A gap that was given up, behind which no PDU was seen to begin yet.
+#[derive(Clone, Copy)]
+pub struct Sought {
+    pub session: u64,
+}
+
+/// One direction of a connection.
+#[derive(Drop)]
+pub struct Direction {
+    pub stream: Stream,
+    /// Whether a SYN, or the answer to one, told the first octet.
+    pub has_syn: bool,
+    /// Where the PDUs of what was settled end; its session, and the one that follows.
+    pub framer: Framer,
+    pub session: u64,
+    pub following: Option<Following>,
+    /// The last row's moment.
+    moment: u64,
+    /// While the other direction waits: what packets of this one brought.
+    tops: VecDeque<Top>,
+    pub sought: Option<Sought>,
+    /// The place of a FIN.
+    fin: Option<u64>,
+    pub outside: Noted,
+    pub cut: Noted,
+    pub raised: Noted,
+}
+
+/// A place of a row where sessions change: so many octets are of a session, the others of another.
+#[derive(Clone, Copy)]
+pub struct Settled {
+    pub before: u64,
+    pub place: usize,
+    pub after: u64,
+}
+
+impl Direction {
+    /// A direction of a session, of which nothing is known.
+    pub fn new(alloc: Global, session: u64) -> Direction {
+        Direction {
+            stream: Stream::new(alloc),
+            has_syn: false,
+            framer: Framer::new(),
+            session,
+            following: None,
+            moment: 0,
+            tops: VecDeque::new(alloc),
+            sought: None,
+            fin: None,
+            outside: Noted::none(),
+            cut: Noted::none(),
+            raised: Noted::none(),
+        }
+    }
+
+    /// Begins with a SYN of this number.
+    pub fn begin_by_syn(&mut self, sequence: u32) {
+        self.stream.begin(sequence.wrapping_add(1), false);
+        self.has_syn = true;
+    }
+
+    /// Whether a segment is of this direction, by its sequence number.
+    pub fn fits(&self, segment: &Segment) -> bool {
+        self.stream.fit(segment.sequence, segment.length as u64) == Fit::Within
+    }
+
+    /// Whether the other end may acknowledge a number of this direction.
+    pub fn fits_acknowledged(&self, acknowledged: u32) -> bool {
+        self.stream.fit(acknowledged, 0) == Fit::Within
+    }
+
+    /// Takes note of a FIN behind octets.
+    pub fn note_fin(&mut self, sequence: u32) {
+        self.stream.note_end(sequence);
+        if self.fin.is_none() {
+            self.fin = self.stream.place(sequence);
+        }
+    }
+
+    /// Whether all octets up to a FIN came.
+    pub fn is_finished(&self) -> bool {
+        self.fin == Some(self.stream.next()) && !self.stream.has_gap()
+    }
+
+    /// Takes note of what a packet brought while the other direction waits, or forgets that.
+    pub fn note_top(&mut self, number: u64, before: u64, waits: bool) -> Result<(), AllocError> {
+        if !waits {
+            self.tops.clear();
+            return Ok(());
+        }
+        if before < self.stream.top() {
+            self.tops.push_back(Top { number, before })?;
+        }
+        Ok(())
+    }
+
+    /// The place behind all octets that packets before one have; it isn't before the other direction waits.
+    pub fn top_before(&self, number: u64) -> u64 {
+        let mut low: usize = 0;
+        let mut high = self.tops.len();
+        for _ in 0..64 {
+            if low >= high {
+                break;
+            }
+            let middle = low.saturating_add(high.saturating_sub(low) / 2);
+            match self.tops.get(middle) {
+                Some(top) if top.number < number => low = middle.saturating_add(1),
+                _ => high = middle,
+            }
+        }
+        match self.tops.get(low) {
+            Some(top) => top.before,
+            None => self.stream.top(),
+        }
+    }
+
+    /// How much memory what waits takes, at most.
+    pub fn weight(&self) -> u64 {
+        self.stream
+            .weight()
+            .saturating_add((self.tops.len() as u64).saturating_mul(16))
+    }
+
+    /// The moment of a packet, or the last one where that is later.
+    pub fn raise_moment(&mut self, number: u64, moment: u64) -> u64 {
+        if moment < self.moment {
+            self.raised.add(number);
+        } else {
+            self.moment = moment;
+        }
+        self.moment
+    }
+
+    /// Tells octets at a place, which follow those settled before, their sessions: all are of one, or the last ones of the next.
+    pub fn settle(&mut self, place: u64, octets: &[u8]) -> Settled {
+        let before = self.session;
+        if let Some(following) = self.following {
+            let skipped = following.place.saturating_sub(place);
+            let skipped = if skipped < octets.len() as u64 {
+                skipped as usize
+            } else {
+                octets.len()
+            };
+            if let Some((front, back)) = octets.split_at_checked(skipped) {
+                self.framer.feed(front);
+                if let Some(at) = self.framer.next_pdu(back) {
+                    if let Some((_, rest)) = back.split_at_checked(at) {
+                        self.session = following.session;
+                        self.following = None;
+                        self.framer = Framer::new();
+                        self.framer.feed(rest);
+                        return Settled {
+                            before,
+                            place: skipped.saturating_add(at),
+                            after: following.session,
+                        };
+                    }
+                }
+                self.framer.feed(back);
+            }
+        } else {
+            self.framer.feed(octets);
+        }
+        Settled {
+            before,
+            place: octets.len(),
+            after: before,
+        }
+    }
+
+    /// Begins a session with the next octets.
+    pub fn begin_session(&mut self, session: u64) {
+        self.session = session;
+        self.following = None;
+        self.framer = Framer::new();
+    }
+}
+
+/// A direction of two, by the end that sends it.
+#[derive(Drop)]
+pub struct Both {
+    pub client: Direction,
+    pub centre: Direction,
+}
+
+impl Both {
+    /// The direction of an end.
+    pub fn of(&self, side: Side) -> &Direction {
+        match side {
+            Side::Client => &self.client,
+            Side::Centre => &self.centre,
+        }
+    }
+
+    /// The direction of an end, to be changed.
+    pub fn of_mut(&mut self, side: Side) -> &mut Direction {
+        match side {
+            Side::Client => &mut self.client,
+            Side::Centre => &mut self.centre,
+        }
+    }
+}

@@ -1,0 +1,28 @@
+//! Packet captures as the octets of SMPP sessions: pieces of each direction in order, each with the moment at which all before it had
+//! come.
+#![tactic(auto)]
+
+mod capture;
+mod clock;
+mod connection;
+mod direction;
+mod ended;
+mod ends;
+mod fault;
+mod half_open;
+mod links;
+mod notice;
+mod output;
+mod room;
+mod row;
+mod sessions;
+mod side;
+mod sink;
+
+pub use capture::{Capture, Options};
+pub use fault::Fault;
+pub use links::Link;
+pub use notice::{About, Behind, Busy, Noted, Notice, Sender};
+pub use row::put_row;
+pub use side::Side;
+pub use sink::{Loss, Piece, SessionLine, Sink, Texts};

@@ -1,5 +1,0 @@
-use Rattle.std.proofs.Common.{rules, append_assoc}
-use Rattle.smq_engine.proofs.checking.line_of.Goals as goal
-
-pub returns : goal.returns
-returns c = rw (← c.word_of-word.ensures) (search (rules, append_assoc))

@@ -1,0 +1,46 @@
+-- Laws of the answers, and of totals.
+use Rattle.std.specs.Prelude.{◌≡◌, ◌≤◌, ℕ, ◌+◌, List, [], ◌∷◌, ◌++◌, length, Option, Some}
+use Rattle.smq_kit.specs.declared.refusal.Refusal.{Refusal}
+use Rattle.smq_present.specs.whole.Scratch.{scratch}
+use Rattle.smq_load.specs.declared.record.Row as rows
+use Rattle.smq_load.specs.Script.{IsFirstBad, most_records}
+use Rattle.smq_report.specs.declared.pick.Format.{Format}
+use Rattle.smq_report.specs.declared.pick.Pick.{Pick}
+use Rattle.smq_report.specs.Report.{report_text}
+use Rattle.smq_report.specs.declared.pick.Output.{Output}
+use Rattle.smq_engine.specs.declared.runs.Limit.TheVariants.{Script, Unlimited}
+use Rattle.smq_engine.specs.IsRun.{IsRun, SaysNoRow}
+use Rattle.smq_engine.specs.Play.{present_of}
+use Rattle.smq_engine.specs.declared.record.Record.{Record}
+use Rattle.smq_engine.specs.declared.record.Record.TheVariants.{Ask}
+use Rattle.smq_engine.specs.Record.{ask_name, pick_of}
+use Rattle.smq_engine.specs.Answers.{answer_to, answers, present_after, refusal_to, refusals, refused_after, rows_of, said_of, told_line}
+
+-- What is said of some records stands whatever records come after them, and is followed by what is said of those: so a beginning of the
+-- answers that ends with an answer is true of the records up to its question. The answer to a last question is the report text of what
+-- the rows before it leave present, the questions among them left out, and its line.
+pub record AnswersStand : Type 0 where
+  pub answered : (format : Format) (settings_rows : List rows.Row) (first more : List Record)
+      → answers format settings_rows (first ++ more) ≡ answers format settings_rows first ++ said_of (answer_to format settings_rows) first more
+  pub told : (settings_rows : List rows.Row) (first more : List Record)
+      → refusals settings_rows (first ++ more) ≡ refusals settings_rows first ++ said_of (refusal_to settings_rows) first more
+  pub last : (format : Format) (settings_rows : List rows.Row) (first : List Record) (pick : Pick)
+      → answers format settings_rows (first ++ Ask pick ∷ [])
+      ≡ answers format settings_rows first
+      ++ (report_text pick format (scratch (present_of settings_rows (rows_of first)))
+      ++ told_line (length first + 1) pick (present_after settings_rows first).settings.clock (refused_after settings_rows first))
+
+-- each pick is asked by its name
+abbrev pub EachIsAsked : Type 0
+EachIsAsked = (pick : Pick) → pick_of (ask_name pick) ≡ Some pick
+
+-- What is written of a script is written of its rows where there is no limit; and where the rows are no more than a script may have, the
+-- other way round. Among as many records as a script may have, its first bad one is the first that says no row.
+pub record TotalsAreRuns : Type 0 where
+  pub run : (output : Output) (settings : List ℕ) (refused : List (ℕ × Refusal)) (old new : Option (List ℕ)) (text : List ℕ)
+      → IsRun Script output settings refused old new text → IsRun Unlimited output settings refused old new text
+  pub total : (output : Output) (settings : List ℕ) (refused : List (ℕ × Refusal)) (old new : Option (List ℕ)) (text : List ℕ)
+      → (all : IsRun Unlimited output settings refused old new text) → length all.rows ≤ most_records
+      → IsRun Script output settings refused old new text
+  pub no_row : (text : List ℕ) (number : ℕ) → IsFirstBad text number → number ≤ most_records → SaysNoRow text number
+  pub first_bad : (text : List ℕ) (number : ℕ) → SaysNoRow text number → number ≤ most_records → IsFirstBad text number

@@ -1,9 +1,0 @@
-pub mod RecordLemmas
-pub mod AnswerLemmas
-pub mod ReadingLemmas
-pub mod FollowLemmas
-pub mod KnownEndings
-pub mod LawLemmas
-pub mod StreamLemmas
-pub mod TotalLemmas
-pub mod WrittenLemmas

@@ -1,4 +1,0 @@
-pub mod Lines
-pub mod Names
-pub mod Texts
-pub mod Known

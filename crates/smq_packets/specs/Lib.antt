@@ -1,0 +1,14 @@
+pub mod Numbers
+pub mod Addresses
+pub mod Layers
+pub mod Links
+pub mod Datagrams
+pub mod Tunnels
+pub mod Segments
+pub mod Readings
+pub mod Options
+pub mod Interfaces
+pub mod Blocks
+pub mod Records
+pub mod Fragments
+pub mod Known

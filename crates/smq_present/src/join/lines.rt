@@ -1,0 +1,115 @@
+//! What lines for messages and delivery receipts say.
+ghost use Rattle.std.specs.Prelude.{◌≡◌};
+
+use smq_kit::{Digits, LinkId, MessageId, Moment, Place};
+use smq_receipt::Receipt;
+use smq_tally::Fact;
+use std::marker::Model;
+
+/// What a line for a message says.
+#[derive(Drop)]
+pub struct MessageLine<'a> {
+    /// What is known of the message, and where its submit_sm or data_sm (SMPP 3.4, 4.4.1 and 4.7.1) stands.
+    pub fact: Fact,
+    /// When that came.
+    pub moment: Moment,
+    /// The number that it is sent to (5.2.9), where it has one.
+    pub number: Option<&'a Digits>,
+    /// The id with which it is accepted, as its response gives it (message_id, 5.2.23).
+    pub id: Option<&'a MessageId>,
+    /// Where its response stands, in octets from the centre's first, where it has one.
+    pub response: Option<u64>,
+    /// The delivery receipt that decides it, where one does.
+    pub receipt: Option<DecidingReceipt>,
+}
+
+impl<'a> Model for MessageLine<'a> {
+    ghost use Rattle.std.specs.Option.{option_copied};
+    ghost use Rattle.smq_present.specs.join.Lines.{MessageLineValue};
+
+    ghost Value = { MessageLineValue };
+
+    ghost view = { λ l. record {
+      fact = l.fact;
+      moment = l.moment;
+      number = option_copied l.number;
+      id = option_copied l.id;
+      response = l.response;
+      receipt = l.receipt;
+    } };
+}
+
+/// The delivery receipt that decides a message.
+#[derive(Clone, Copy, Debug, PartialEq, Eq)]
+pub struct DecidingReceipt {
+    /// Where its deliver_sm or data_sm stands (4.6.1 and 4.7.1).
+    pub place: Place,
+    /// When that came.
+    pub moment: Moment,
+    /// Done date minus submit date (appendix B), in ms, where both are there and are dates. It may be negative.
+    pub centre_delay: Option<i64>,
+}
+
+/// How a delivery receipt stands to the messages of its link that are accepted with its key.
+#[derive(Clone, Copy, Debug, PartialEq, Eq)]
+pub enum ReceiptStanding {
+    /// There is none.
+    Stray,
+    /// There is one, which it decides.
+    Deciding,
+    /// There is one, which another receipt decides; this one could have.
+    Extra,
+    /// There is one, which it can't decide: its state isn't final (5.2.28), or it is an intermediate notification.
+    Noted,
+    /// There are two or more.
+    Ambiguous,
+}
+
+impl ReceiptStanding {
+    ghost use Rattle.smq_present.specs.join.Lines.{standing_name};
+
+    /// The name in lines.
+    pub fn name(self) -> &'static str
+        ensures { result.now ≡ standing_name self }
+    {
+        match self {
+            ReceiptStanding::Stray => "stray",
+            ReceiptStanding::Deciding => "deciding",
+            ReceiptStanding::Extra => "extra",
+            ReceiptStanding::Noted => "noted",
+            ReceiptStanding::Ambiguous => "ambiguous",
+        }
+    }
+}
+
+/// What a line for a delivery receipt says.
+#[derive(Drop)]
+pub struct ReceiptLine<'a> {
+    /// The link of its session.
+    pub link: LinkId,
+    /// Where its deliver_sm or data_sm stands.
+    pub place: Place,
+    /// When that came.
+    pub moment: Moment,
+    /// What it says.
+    pub receipt: &'a Receipt,
+    /// How it stands to messages.
+    pub standing: ReceiptStanding,
+    /// The message that it matches, where that is one alone.
+    pub message: Option<Place>,
+}
+
+impl<'a> Model for ReceiptLine<'a> {
+    ghost use Rattle.smq_present.specs.join.Lines.{ReceiptLineValue};
+
+    ghost Value = { ReceiptLineValue };
+
+    ghost view = { λ l. record {
+      link = l.link;
+      place = l.place;
+      moment = l.moment;
+      receipt = l.receipt.now;
+      standing = l.standing;
+      message = l.message;
+    } };
+}

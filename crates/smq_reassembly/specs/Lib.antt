@@ -1,0 +1,10 @@
+pub mod Octet
+pub mod Piece
+pub mod Stream
+pub mod Moment
+pub mod Sequence
+pub mod State
+pub mod Segment
+pub mod within
+pub mod Known
+pub mod Capture

@@ -1,0 +1,7 @@
+use Rattle.std.proofs.Common.{arith}
+use Rattle.std.proofs.lemmas.Grind.{common_steps}
+use Rattle.smq_report.proofs.PaddingLemmas.{padded_outcome, padded_right}
+use Rattle.smq_report.proofs.table_layout.push_row.Goals as goal
+
+pub returns : goal.returns
+returns c = grind (arith, common_steps, padded_right, padded_outcome)

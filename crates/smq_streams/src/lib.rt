@@ -1,0 +1,12 @@
+//! One direction of a connection: its octets in order, gaps that are given up, and where PDUs of SMPP begin.
+#![tactic(auto)]
+
+mod framer;
+mod headers;
+mod seeker;
+mod stream;
+
+pub use framer::Framer;
+pub use headers::{LONGEST_PDU, SHORTEST_PDU};
+pub use seeker::Seeker;
+pub use stream::{Fit, Found, Given, Missing, Stream, Why};

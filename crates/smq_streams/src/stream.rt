@@ -1,0 +1,477 @@
+//! One direction of a connection.
+use crate::seeker::Seeker;
+use smq_reassembly::{Next, Packet, Part, Place, Reassembly, Taken, WINDOW, place_of};
+use std::alloc::{AllocError, Global};
+use std::collections::VecDeque;
+
+/// A gap is given up so many ms after the other end acknowledged what is missing, or after it opened where that isn't seen.
+const ACKNOWLEDGED_FOR: u64 = 2_000;
+
+const OPEN_FOR: u64 = 300_000;
+
+/// What a piece that waits takes besides its octets.
+const PIECE: u64 = 128;
+
+/// Where a segment stands by its sequence number.
+#[derive(Clone, Copy, Debug, PartialEq, Eq)]
+pub enum Fit {
+    /// Before the first octet.
+    Before,
+    /// Among the octets, or within a window ahead of them.
+    Within,
+    /// Further ahead.
+    Ahead,
+}
+
+/// Octets that follow one another, as one packet brought them: the place of the first in the direction.
+#[derive(Drop)]
+pub struct Given {
+    pub place: u64,
+    pub number: u64,
+    pub moment: u64,
+    /// Whether the first of them is the first of its segment.
+    pub begins: bool,
+    pub octets: Vec<u8>,
+}
+
+/// A PDU that is seen to begin behind a gap: its place, the packet of its first octet, and how many octets before it were passed over.
+#[derive(Clone, Copy)]
+pub struct Found {
+    pub place: u64,
+    pub number: u64,
+}
+
+/// Octets that are missing: the first, and the one behind the last.
+#[derive(Clone, Copy)]
+pub struct Missing {
+    pub from: u64,
+    pub until: u64,
+}
+
+/// Why a gap was given up.
+#[derive(Clone, Copy, Debug, PartialEq, Eq)]
+pub enum Why {
+    /// The other end acknowledged what is missing 2 s ago.
+    Acknowledged,
+    /// It opened 300 s ago.
+    Old,
+    /// Too much waited behind gaps.
+    Full,
+    /// The connection ended.
+    Ended,
+    /// The input ended.
+    End,
+}
+
+/// A place up to which the other end has all, and when it was the first time to say so.
+#[derive(Clone, Copy)]
+struct Acknowledged {
+    place: u64,
+    moment: u64,
+}
+
+/// The octets of one direction. Places count from its first octet.
+#[derive(Drop)]
+pub struct Stream {
+    /// The sequence number of the first octet.
+    first: Option<u32>,
+    order: Reassembly,
+    /// The place behind the last octet that was sent, as far as was seen, and behind the last one that was captured.
+    end: u64,
+    top: u64,
+    /// What the last segment brought of the next octets, until it is given.
+    lent: Option<Given>,
+    /// Since when something waits; and, while it does, what the other end acknowledges.
+    opened: Option<u64>,
+    acknowledged: VecDeque<Acknowledged>,
+    /// Whether octets are passed over until a PDU begins; and whether a gap is before them.
+    is_searching: bool,
+    is_behind_gap: bool,
+    seeker: Seeker,
+    /// Whether nothing more is taken.
+    is_stopped: bool,
+}
+
+impl Stream {
+    /// A direction of which nothing is known.
+    pub fn new(alloc: Global) -> Stream {
+        Stream {
+            first: None,
+            order: Reassembly::new(alloc),
+            end: 0,
+            top: 0,
+            lent: None,
+            opened: None,
+            acknowledged: VecDeque::new(alloc),
+            is_searching: false,
+            is_behind_gap: false,
+            seeker: Seeker::new(alloc),
+            is_stopped: false,
+        }
+    }
+
+    /// Learns the sequence number of the first octet, where none is known; whether the first PDU has to be looked for.
+    pub fn begin(&mut self, first: u32, is_searching: bool) {
+        if self.first.is_none() {
+            self.first = Some(first);
+            self.is_searching = is_searching;
+        }
+    }
+
+    /// The sequence number of the first octet, if it is known.
+    pub fn first(&self) -> Option<u32> {
+        self.first
+    }
+
+    /// The place behind the octets that were given.
+    pub fn next(&self) -> u64 {
+        self.order.next()
+    }
+
+    /// The place behind the last octet that was sent, as far as was seen.
+    pub fn end(&self) -> u64 {
+        self.end
+    }
+
+    /// The place behind the last octet that was captured.
+    pub fn top(&self) -> u64 {
+        self.top
+    }
+
+    /// Whether octets are passed over until a PDU begins.
+    pub fn is_searching(&self) -> bool {
+        self.is_searching
+    }
+
+    /// Whether a gap was given up.
+    pub fn is_behind_gap(&self) -> bool {
+        self.is_behind_gap
+    }
+
+    /// Takes nothing more: what waits is let go.
+    pub fn stop(&mut self) {
+        self.is_stopped = true;
+        self.order.let_go();
+        self.lent = None;
+        self.opened = None;
+        self.acknowledged.clear();
+    }
+
+    /// Whether octets wait behind a gap.
+    pub fn has_gap(&self) -> bool {
+        self.order.waiting_pieces() > 0
+    }
+
+    /// Whether octets wait behind a gap, or behind one that was given up until it is seen where a PDU begins.
+    pub fn is_open(&self) -> bool {
+        self.has_gap() || self.is_unclear()
+    }
+
+    /// Whether a PDU may begin behind a gap, which what follows will show.
+    fn is_unclear(&self) -> bool {
+        self.is_searching && self.is_behind_gap && !self.seeker.is_through()
+    }
+
+    /// How much memory what waits takes, at most.
+    pub fn weight(&self) -> u64 {
+        (self.order.waiting_pieces() as u64)
+            .saturating_mul(PIECE)
+            .saturating_add(self.order.waiting_octets())
+            .saturating_add(self.seeker.len() as u64)
+            .saturating_add((self.acknowledged.len() as u64).saturating_mul(16))
+    }
+
+    /// Where an octet with a sequence number stands: the nearest place to what was given. None before the first octet.
+    pub fn place(&self, sequence: u32) -> Option<u64> {
+        match place_of(self.first?, self.order.next(), sequence) {
+            Place::Ahead(far) => Some(self.order.next().saturating_add(far as u64)),
+            Place::Behind(far) => self.order.next().checked_sub(far as u64),
+        }
+    }
+
+    /// Where a segment of so many octets stands. One octet before the first is a probe that keeps the connection alive.
+    pub fn fit(&self, sequence: u32, length: u64) -> Fit {
+        let Some(first) = self.first else {
+            return Fit::Within;
+        };
+        match place_of(first, self.order.next(), sequence) {
+            Place::Ahead(far) if far as u64 > WINDOW => Fit::Ahead,
+            Place::Behind(far)
+                if self.order.next().saturating_add(length).saturating_add(1) < far as u64
+                    || (length > 0 && self.order.next().saturating_add(length) < far as u64) => {
+                Fit::Before
+            }
+            _ => Fit::Within,
+        }
+    }
+
+    /// Takes note that all octets before a sequence number were sent; where that is no segment's that has octets or a FIN, the last
+    /// number before it may be that of a FIN.
+    pub fn note_sent(&mut self, sequence: u32, is_exact: bool) {
+        let slack = u64::from(!is_exact);
+        if let Some(place) = self.place(sequence) {
+            if self.end.saturating_add(slack) < place
+                && place.saturating_sub(self.order.next()) <= WINDOW
+            {
+                self.end = place;
+            }
+        }
+    }
+
+    /// Takes note that the octets end before a sequence number, which is that of a FIN.
+    pub fn note_end(&mut self, sequence: u32) {
+        if let Some(place) = self.place(sequence) {
+            if place.saturating_add(1) == self.end {
+                self.end = place;
+            }
+        }
+    }
+
+    /// Takes note that the other end has all octets before a sequence number.
+    pub fn note_acknowledged(&mut self, sequence: u32, moment: u64) -> Result<(), AllocError> {
+        let Some(place) = self.place(sequence) else {
+            return Ok(());
+        };
+        if place.saturating_sub(self.order.next()) > WINDOW {
+            return Ok(());
+        }
+        // (one more than the octets is the number of a FIN)
+        if place > self.end.saturating_add(1) {
+            self.end = place;
+        }
+        if !self.has_gap() {
+            return Ok(());
+        }
+        match self.acknowledged.back() {
+            Some(last) if place <= last.place => Ok(()),
+            _ => Ok(self.acknowledged.push_back(Acknowledged { place, moment })?),
+        }
+    }
+
+    /// Takes the octets of a segment where they are the next and none wait, and tells whether it did: they count as given then.
+    pub fn takes_next(
+        &mut self,
+        alloc: Global,
+        sequence: u32,
+        octets: &[u8],
+        packet: Packet,
+    ) -> Result<bool, AllocError> {
+        let Some(first) = self.first else {
+            return Ok(false);
+        };
+        if self.is_searching || self.is_stopped || octets.is_empty() || self.has_gap() {
+            return Ok(false);
+        }
+        let Place::Ahead(0) = place_of(first, self.order.next(), sequence) else {
+            return Ok(false);
+        };
+        let Taken::Lends(_) = self
+            .order
+            .take_segment(alloc, first, sequence, packet, octets)?
+        else {
+            return Ok(false);
+        };
+        let next = self.order.next();
+        self.note_captured(next);
+        Ok(true)
+    }
+
+    /// Takes the octets of a segment, and tells whether it is within the window.
+    pub fn add(
+        &mut self,
+        alloc: Global,
+        sequence: u32,
+        octets: &[u8],
+        packet: Packet,
+    ) -> Result<bool, AllocError> {
+        let Some(first) = self.first else {
+            return Ok(true);
+        };
+        if octets.is_empty() || self.is_stopped {
+            return Ok(true);
+        }
+        let place = self.order.next();
+        let length = octets.len() as u64;
+        let end = match place_of(first, place, sequence) {
+            Place::Ahead(far) => place.saturating_add(far as u64).saturating_add(length),
+            Place::Behind(far) => place.saturating_add(length.saturating_sub(far as u64)),
+        };
+        match self
+            .order
+            .take_segment(alloc, first, sequence, packet, octets)?
+        {
+            Taken::Lends(next) => {
+                let Next {
+                    packet,
+                    begins,
+                    octets,
+                } = next;
+                self.lent = Some(Given {
+                    place,
+                    number: packet.number,
+                    moment: packet.moment,
+                    begins,
+                    octets: Vec::from_slice(alloc, octets)?,
+                });
+            }
+            Taken::Waits => {}
+            Taken::Repeats => return Ok(true),
+            Taken::TooFarAhead => return Ok(false),
+        }
+        self.note_captured(end);
+        Ok(true)
+    }
+
+    /// Takes note that octets up to a place were captured.
+    fn note_captured(&mut self, end: u64) {
+        self.top = self.top.max(end);
+        self.end = self.end.max(end);
+    }
+
+    /// The next octets that follow what was given, as one segment brought them; none while a PDU is looked for.
+    pub fn next_part(&mut self, alloc: Global) -> Result<Option<Given>, AllocError> {
+        if self.is_searching {
+            return Ok(None);
+        }
+        match self.seeker.next_part(alloc)? {
+            Some(given) => Ok(Some(given)),
+            None => Ok(self.next_in_order()),
+        }
+    }
+
+    /// The next octets, as one segment brought them.
+    fn next_in_order(&mut self) -> Option<Given> {
+        if let Some(given) = self.lent.take() {
+            return Some(given);
+        }
+        let place = self.order.next();
+        let Part {
+            packet,
+            begins,
+            octets,
+        } = self.order.next_part()?;
+        Some(Given {
+            place,
+            number: packet.number,
+            moment: packet.moment,
+            begins,
+            octets,
+        })
+    }
+
+    /// Takes note of when something begins and ceases to wait.
+    pub fn watch(&mut self, moment: u64) {
+        if !self.has_gap() {
+            self.acknowledged.clear();
+        }
+        if !self.is_open() {
+            self.opened = None;
+        } else if self.opened.is_none() {
+            self.opened = Some(moment);
+        }
+    }
+
+    /// Lets the time of what waits begin anew.
+    pub fn watch_anew(&mut self, moment: u64) {
+        self.opened = None;
+        self.watch(moment);
+    }
+
+    /// Since when something waits.
+    pub fn opened(&self) -> Option<u64> {
+        self.opened
+    }
+
+    /// When what waits is given up.
+    pub fn deadline(&mut self) -> Option<u64> {
+        let old = self.opened?.saturating_add(OPEN_FOR);
+        match self.acknowledged_since() {
+            Some(moment) if moment.saturating_add(ACKNOWLEDGED_FOR) < old => {
+                Some(moment.saturating_add(ACKNOWLEDGED_FOR))
+            }
+            _ => Some(old),
+        }
+    }
+
+    /// Since when the other end acknowledges what is missing.
+    fn acknowledged_since(&mut self) -> Option<u64> {
+        let least = self.order.first_waiting()?;
+        for _ in 0..self.acknowledged.len() {
+            match self.acknowledged.front() {
+                Some(it) if it.place < least => {}
+                _ => break,
+            }
+            let _ = self.acknowledged.pop_front();
+        }
+        Some(self.acknowledged.front()?.moment)
+    }
+
+    /// Why what waits is given up at a moment, if it is.
+    pub fn is_lost(&mut self, moment: u64) -> Option<Why> {
+        let opened = self.opened?;
+        if let Some(since) = self.acknowledged_since() {
+            if moment >= since.saturating_add(ACKNOWLEDGED_FOR) {
+                return Some(Why::Acknowledged);
+            }
+        }
+        if moment >= opened.saturating_add(OPEN_FOR) {
+            return Some(Why::Old);
+        }
+        None
+    }
+
+    /// The packet that brought the first octets behind a gap, or behind one that was given up.
+    pub fn first_packet(&self) -> Option<u64> {
+        if self.is_unclear() {
+            return Some(self.seeker.number());
+        }
+        Some(self.order.first_waiting_packet()?.number)
+    }
+
+    /// Gives the gap before what waits up: the stream goes on behind it, where a PDU begins. What is missing.
+    pub fn skip_gap(&mut self) -> Option<Missing> {
+        let from = self.order.next();
+        let until = self.order.skip_gap()?;
+        self.is_searching = true;
+        self.is_behind_gap = true;
+        Some(Missing { from, until })
+    }
+
+    /// What is missing where the capture of this direction ends.
+    pub fn missing_tail(&self) -> Option<Missing> {
+        let from = self.order.next();
+        if self.is_stopped {
+            return None;
+        }
+        let until = self.order.first_waiting().unwrap_or(self.end);
+        if from < until {
+            Some(Missing { from, until })
+        } else {
+            None
+        }
+    }
+
+    /// Passes over what follows, up to the first PDU that begins in it. Where no more octets come before a gap or the end, what isn't
+    /// clear is no PDU.
+    pub fn search(&mut self, alloc: Global, is_end: bool) -> Result<Option<Found>, AllocError> {
+        for _ in 0..u64::MAX {
+            let Some(given) = self.next_in_order() else {
+                break;
+            };
+            self.seeker.push(alloc, &given)?;
+        }
+        if !self.seeker.find(is_end) {
+            return Ok(None);
+        }
+        self.is_searching = false;
+        Ok(Some(Found {
+            place: self.seeker.place(),
+            number: self.seeker.number(),
+        }))
+    }
+
+    /// How many octets were passed over since it was last asked.
+    pub fn take_passed(&mut self) -> u64 {
+        self.seeker.take_passed()
+    }
+}
