@@ -1,0 +1,5 @@
+"""Why nothing is packed."""
+
+
+class Unfit(Exception):
+    """What is told."""
