@@ -3,10 +3,12 @@
 
 mod framer;
 mod headers;
+mod laws;
 mod seeker;
 mod stream;
 
 pub use framer::Framer;
 pub use headers::{LONGEST_PDU, SHORTEST_PDU};
+pub use laws::{known_octets, one_framer};
 pub use seeker::Seeker;
 pub use stream::{Fit, Found, Given, Missing, Stream, Why};
