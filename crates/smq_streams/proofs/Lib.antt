@@ -1,3 +1,7 @@
+pub mod Octets
+pub mod Sights
+pub mod Marks
 pub mod Framing
 pub mod KnownOctets
 pub mod OneFramer
+pub mod Finding

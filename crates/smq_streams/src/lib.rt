@@ -2,13 +2,15 @@
 #![tactic(auto)]
 
 mod framer;
+mod given;
 mod headers;
 mod laws;
 mod seeker;
 mod stream;
 
 pub use framer::Framer;
+pub use given::Given;
 pub use headers::{LONGEST_PDU, SHORTEST_PDU};
 pub use laws::{known_octets, one_framer};
 pub use seeker::Seeker;
-pub use stream::{Fit, Found, Given, Missing, Stream, Why};
+pub use stream::{Fit, Found, Missing, Stream, Why};

@@ -1,4 +1,5 @@
 //! One direction of a connection.
+use crate::given::Given;
 use crate::seeker::Seeker;
 use smq_reassembly::{Next, Packet, Part, Place, Reassembly, Taken, WINDOW, place_of};
 use std::alloc::{AllocError, Global};
@@ -21,17 +22,6 @@ pub enum Fit {
     Within,
     /// Further ahead.
     Ahead,
-}
-
-/// Octets that follow one another, as one packet brought them: the place of the first in the direction.
-#[derive(Drop)]
-pub struct Given {
-    pub place: u64,
-    pub number: u64,
-    pub moment: u64,
-    /// Whether the first of them is the first of its segment.
-    pub begins: bool,
-    pub octets: Vec<u8>,
 }
 
 /// A PDU that is seen to begin behind a gap: its place, the packet of its first octet, and how many octets before it were passed over.
