@@ -278,7 +278,10 @@ impl Connection {
             return Ok(());
         };
         let packet = Packet { number, moment };
-        if stream.takes_next(output.alloc, first, octets.as_slice(), packet)? {
+        let is_next = stream
+            .takes_next(output.alloc, first, octets.as_slice(), packet)?
+            .is_some();
+        if is_next {
             self.put(side, place, octets, number, moment)?;
         }
         self.write(output)
@@ -364,10 +367,11 @@ impl Connection {
         let place = direction.stream.next();
         // (mostly a segment is the next, and nothing waits)
         let packet = Packet { number, moment };
-        if direction
+        if let Some(next) = direction
             .stream
             .takes_next(output.alloc, sequence, octets, packet)?
         {
+            let octets = next.octets;
             if is_free && direction.following.is_none() {
                 let moment = direction.raise_moment(number, moment);
                 direction.framer.feed(octets);

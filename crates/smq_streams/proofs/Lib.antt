@@ -5,3 +5,5 @@ pub mod Framing
 pub mod KnownOctets
 pub mod OneFramer
 pub mod Finding
+pub mod Notes
+pub mod Directions

@@ -3,5 +3,7 @@ pub mod Header
 pub mod Sight
 pub mod Framing
 pub mod Search
+pub mod Acknowledged
+pub mod Direction
 pub mod within
 pub mod Known

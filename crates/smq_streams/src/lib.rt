@@ -1,6 +1,7 @@
 //! One direction of a connection: its octets in order, gaps that are given up, and where PDUs of SMPP begin.
 #![tactic(auto)]
 
+mod acknowledged;
 mod framer;
 mod given;
 mod headers;

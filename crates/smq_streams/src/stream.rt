@@ -1,9 +1,20 @@
 //! One direction of a connection.
+ghost use Rattle.std.specs.Prelude.{◌≡◌, ℕ, ◌+◌, ◌<◌, ◌≤◌, ◌++◌, ◌∷◌, [], List, IfOk, OnOk, IfSome, IsSome, MatchOption, IsTrue, ◌↔◌, length, None, Some, true, false};
+ghost use Rattle.smq_reassembly.specs.Octet.{Octet, octets_of};
+ghost use Rattle.smq_reassembly.specs.Moment.{IsGiven, Start};
+ghost use Rattle.smq_reassembly.specs.Piece.{Piece, octets_in};
+ghost use Rattle.smq_reassembly.specs.Segment.{piece_of};
+ghost use Rattle.smq_reassembly.specs.Sequence.{IsPlace};
+ghost use Rattle.smq_streams.specs.Direction.{Adds, Direction, Gives, IsLost, Searches, Skips, acknowledged_since, given_up_at};
+ghost use Rattle.smq_streams.specs.Search.{octets_given, with_given};
+ghost use Rattle.std.specs.Option.{is_some};
+
+use crate::acknowledged::Acknowledged;
 use crate::given::Given;
 use crate::seeker::Seeker;
 use smq_reassembly::{Next, Packet, Part, Place, Reassembly, Taken, WINDOW, place_of};
 use std::alloc::{AllocError, Global};
-use std::collections::VecDeque;
+use std::marker::Model;
 
 /// A gap is given up so many ms after the other end acknowledged what is missing, or after it opened where that isn't seen.
 const ACKNOWLEDGED_FOR: u64 = 2_000;
@@ -53,13 +64,6 @@ pub enum Why {
     End,
 }
 
-/// A place up to which the other end has all, and when it was the first time to say so.
-#[derive(Clone, Copy)]
-struct Acknowledged {
-    place: u64,
-    moment: u64,
-}
-
 /// The octets of one direction. Places count from its first octet.
 #[derive(Drop)]
 pub struct Stream {
@@ -69,30 +73,46 @@ pub struct Stream {
     /// The place behind the last octet that was sent, as far as was seen, and behind the last one that was captured.
     end: u64,
     top: u64,
-    /// What the last segment brought of the next octets, until it is given.
-    lent: Option<Given>,
     /// Since when something waits; and, while it does, what the other end acknowledges.
     opened: Option<u64>,
-    acknowledged: VecDeque<Acknowledged>,
+    acknowledged: Acknowledged,
     /// Whether octets are passed over until a PDU begins; and whether a gap is before them.
     is_searching: bool,
     is_behind_gap: bool,
+    /// The next octets that were taken out of their order and weren't given.
     seeker: Seeker,
     /// Whether nothing more is taken.
     is_stopped: bool,
 }
 
+impl Model for Stream {
+    ghost use Rattle.smq_streams.specs.Direction.{Direction};
+
+    ghost Value = { Direction };
+
+    ghost view = { λ s. record {
+      first = s.first;
+      order = s.order;
+      held = s.seeker;
+      opened = s.opened;
+      notes = s.acknowledged;
+      is_searching = s.is_searching;
+      is_stopped = s.is_stopped;
+    } };
+}
+
 impl Stream {
     /// A direction of which nothing is known.
-    pub fn new(alloc: Global) -> Stream {
+    pub fn new(alloc: Global) -> Stream
+        ensures { Gives [] (record { place = 0; moment = 0 }) [] result }
+    {
         Stream {
             first: None,
             order: Reassembly::new(alloc),
             end: 0,
             top: 0,
-            lent: None,
             opened: None,
-            acknowledged: VecDeque::new(alloc),
+            acknowledged: Acknowledged::new(alloc),
             is_searching: false,
             is_behind_gap: false,
             seeker: Seeker::new(alloc),
@@ -114,7 +134,9 @@ impl Stream {
     }
 
     /// The place behind the octets that were given.
-    pub fn next(&self) -> u64 {
+    pub fn next(&self) -> u64
+        ensures { result ≡ self.now.order.next }
+    {
         self.order.next()
     }
 
@@ -129,7 +151,9 @@ impl Stream {
     }
 
     /// Whether octets are passed over until a PDU begins.
-    pub fn is_searching(&self) -> bool {
+    pub fn is_searching(&self) -> bool
+        ensures { result ≡ self.now.is_searching }
+    {
         self.is_searching
     }
 
@@ -142,13 +166,14 @@ impl Stream {
     pub fn stop(&mut self) {
         self.is_stopped = true;
         self.order.let_go();
-        self.lent = None;
         self.opened = None;
         self.acknowledged.clear();
     }
 
     /// Whether octets wait behind a gap.
-    pub fn has_gap(&self) -> bool {
+    pub fn has_gap(&self) -> bool
+        ensures { result ≡ false → self.now.order.waiting ≡ [] }
+    {
         self.order.waiting_pieces() > 0
     }
 
@@ -232,38 +257,49 @@ impl Stream {
         if !self.has_gap() {
             return Ok(());
         }
-        match self.acknowledged.back() {
-            Some(last) if place <= last.place => Ok(()),
-            _ => Ok(self.acknowledged.push_back(Acknowledged { place, moment })?),
-        }
+        self.acknowledged.note(place, moment)
     }
 
-    /// Takes the octets of a segment where they are the next and none wait, and tells whether it did: they count as given then.
-    pub fn takes_next(
+    /// Takes the octets of a segment where they are the next and none wait, and lends them: they count as given then.
+    pub fn takes_next<'a>(
         &mut self,
         alloc: Global,
         sequence: u32,
-        octets: &[u8],
+        octets: &'a [u8],
         packet: Packet,
-    ) -> Result<bool, AllocError> {
+    ) -> Result<Option<Next<'a>>, AllocError>
+        ensures takes { (pieces : List Piece) (start : Start) (given : List Octet) (f : ℕ) (place : Place)
+            → Gives pieces start given self.old → self.old.first ≡ Some f
+            → IsPlace f self.old.order.next sequence place
+            → IfOk result (λ r. IfSome r (λ next.
+            Gives (pieces ++ piece_of place self.old.order.next packet octets.now ∷ []) start
+            (given ++ octets_of next.packet next.begins next.octets.now) self.new)) }
+    {
         let Some(first) = self.first else {
-            return Ok(false);
+            return Ok(None);
         };
-        if self.is_searching || self.is_stopped || octets.is_empty() || self.has_gap() {
-            return Ok(false);
+        if self.is_searching || self.is_stopped || octets.is_empty() || self.is_held() {
+            return Ok(None);
         }
         let Place::Ahead(0) = place_of(first, self.order.next(), sequence) else {
-            return Ok(false);
+            return Ok(None);
         };
-        let Taken::Lends(_) = self
+        let Taken::Lends(next) = self
             .order
             .take_segment(alloc, first, sequence, packet, octets)?
         else {
-            return Ok(false);
+            return Ok(None);
         };
-        let next = self.order.next();
-        self.note_captured(next);
-        Ok(true)
+        let end = self.order.next();
+        self.note_captured(end);
+        Ok(Some(next))
+    }
+
+    /// Whether octets are held or wait, behind which the next ones have to stand.
+    fn is_held(&self) -> bool
+        ensures { result ≡ false → self.now.held.octets ≡ [] }
+    {
+        self.has_gap() || !self.seeker.is_through()
     }
 
     /// Takes the octets of a segment, and tells whether it is within the window.
@@ -273,7 +309,14 @@ impl Stream {
         sequence: u32,
         octets: &[u8],
         packet: Packet,
-    ) -> Result<bool, AllocError> {
+    ) -> Result<bool, AllocError>
+        ensures adds { (pieces : List Piece) (start : Start) (given : List Octet) (f : ℕ) (place : Place)
+            → Gives pieces start given self.old → self.old.first ≡ Some f
+            → self.old.is_stopped ≡ false → 0 < length octets.now
+            → IsPlace f self.old.order.next sequence place
+            → IfOk result (λ taken. Adds pieces start given
+            (piece_of place self.old.order.next packet octets.now) self.old self.new taken) }
+    {
         let Some(first) = self.first else {
             return Ok(true);
         };
@@ -290,20 +333,7 @@ impl Stream {
             .order
             .take_segment(alloc, first, sequence, packet, octets)?
         {
-            Taken::Lends(next) => {
-                let Next {
-                    packet,
-                    begins,
-                    octets,
-                } = next;
-                self.lent = Some(Given {
-                    place,
-                    number: packet.number,
-                    moment: packet.moment,
-                    begins,
-                    octets: Vec::from_slice(alloc, octets)?,
-                });
-            }
+            Taken::Lends(next) => self.hold(alloc, place, next)?,
             Taken::Waits => {}
             Taken::Repeats => return Ok(true),
             Taken::TooFarAhead => return Ok(false),
@@ -312,14 +342,46 @@ impl Stream {
         Ok(true)
     }
 
+    /// Holds octets that were lent until they are given.
+    fn hold(&mut self, alloc: Global, place: u64, next: Next<'_>) -> Result<(), AllocError>
+        ensures { OnOk result ((self.new.order ≡ self.old.order) × (self.new.held.octets
+            ≡ self.old.held.octets ++ octets_of next.entry.packet next.entry.begins next.entry.octets.now)) }
+    {
+        let given = Given {
+            place,
+            number: next.packet.number,
+            moment: next.packet.moment,
+            begins: next.begins,
+            octets: Vec::from_slice(alloc, next.octets)?,
+        };
+        self.hold_given(alloc, &given)?;
+        Ok(())
+    }
+
+    /// Holds octets until they are given.
+    fn hold_given(&mut self, alloc: Global, given: &Given) -> Result<(), AllocError>
+        ensures { OnOk result (self.new ≡ record self.old { held = with_given given.now self.old.held }) }
+    {
+        self.seeker.push(alloc, given)
+    }
+
     /// Takes note that octets up to a place were captured.
-    fn note_captured(&mut self, end: u64) {
+    fn note_captured(&mut self, end: u64)
+        ensures { self.new ≡ self.old }
+    {
         self.top = self.top.max(end);
         self.end = self.end.max(end);
     }
 
     /// The next octets that follow what was given, as one segment brought them; none while a PDU is looked for.
-    pub fn next_part(&mut self, alloc: Global) -> Result<Option<Given>, AllocError> {
+    pub fn next_part(&mut self, alloc: Global) -> Result<Option<Given>, AllocError>
+        ensures some { (pieces : List Piece) (start : Start) (given : List Octet)
+            → Gives pieces start given self.old → IfOk result (λ r. IfSome r (λ part.
+            Gives pieces start (given ++ octets_given part) self.new)) }
+        ensures none { (pieces : List Piece) (start : Start) (given : List Octet)
+            → Gives pieces start given self.old → self.old.is_searching ≡ false
+            → IfOk result (λ r. r ≡ None → IsGiven pieces start given) }
+    {
         if self.is_searching {
             return Ok(None);
         }
@@ -330,10 +392,20 @@ impl Stream {
     }
 
     /// The next octets, as one segment brought them.
-    fn next_in_order(&mut self) -> Option<Given> {
-        if let Some(given) = self.lent.take() {
-            return Some(given);
-        }
+    fn next_in_order(&mut self) -> Option<Given>
+        ensures same { (self.new.held ≡ self.old.held) × (self.new.is_searching ≡ self.old.is_searching) }
+        ensures fewer { IsSome result → octets_in self.new.order.waiting < octets_in self.old.order.waiting }
+        ensures some { (pieces : List Piece) (start : Start) (given : List Octet)
+            → Gives pieces start given self.old → IfSome result (λ part.
+            Gives pieces start given (record self.new {
+              held = record self.old.held {
+                octets = self.old.held.octets ++ octets_given part;
+              };
+            })) }
+        ensures none { (pieces : List Piece) (start : Start) (given : List Octet)
+            → Gives pieces start given self.old → result ≡ None
+            → IsGiven pieces start (given ++ self.old.held.octets) × Gives pieces start given self.new }
+    {
         let place = self.order.next();
         let Part {
             packet,
@@ -368,12 +440,16 @@ impl Stream {
     }
 
     /// Since when something waits.
-    pub fn opened(&self) -> Option<u64> {
+    pub fn opened(&self) -> Option<u64>
+        ensures { result ≡ self.now.opened }
+    {
         self.opened
     }
 
     /// When what waits is given up.
-    pub fn deadline(&mut self) -> Option<u64> {
+    pub fn deadline(&mut self) -> Option<u64>
+        ensures value { result ≡ given_up_at self.old.opened (acknowledged_since self.old) }
+    {
         let old = self.opened?.saturating_add(OPEN_FOR);
         match self.acknowledged_since() {
             Some(moment) if moment.saturating_add(ACKNOWLEDGED_FOR) < old => {
@@ -384,20 +460,18 @@ impl Stream {
     }
 
     /// Since when the other end acknowledges what is missing.
-    fn acknowledged_since(&mut self) -> Option<u64> {
+    fn acknowledged_since(&mut self) -> Option<u64>
+        ensures value { result ≡ acknowledged_since self.old }
+        ensures same { self.new ≡ record self.old { notes = self.new.notes } }
+    {
         let least = self.order.first_waiting()?;
-        for _ in 0..self.acknowledged.len() {
-            match self.acknowledged.front() {
-                Some(it) if it.place < least => {}
-                _ => break,
-            }
-            let _ = self.acknowledged.pop_front();
-        }
-        Some(self.acknowledged.front()?.moment)
+        self.acknowledged.since(least)
     }
 
     /// Why what waits is given up at a moment, if it is.
-    pub fn is_lost(&mut self, moment: u64) -> Option<Why> {
+    pub fn is_lost(&mut self, moment: u64) -> Option<Why>
+        ensures { IsLost self.old.opened (acknowledged_since self.old) moment result }
+    {
         let opened = self.opened?;
         if let Some(since) = self.acknowledged_since() {
             if moment >= since.saturating_add(ACKNOWLEDGED_FOR) {
@@ -419,7 +493,12 @@ impl Stream {
     }
 
     /// Gives the gap before what waits up: the stream goes on behind it, where a PDU begins. What is missing.
-    pub fn skip_gap(&mut self) -> Option<Missing> {
+    pub fn skip_gap(&mut self) -> Option<Missing>
+        ensures skips { (pieces : List Piece) (start : Start) (given : List Octet)
+            → Gives pieces start given self.old → self.old.held.octets ≡ []
+            → IfSome result (λ missing. Skips pieces self.old self.new missing) }
+        ensures none { result ≡ None → self.old.order.waiting ≡ [] }
+    {
         let from = self.order.next();
         let until = self.order.skip_gap()?;
         self.is_searching = true;
@@ -443,13 +522,12 @@ impl Stream {
 
     /// Passes over what follows, up to the first PDU that begins in it. Where no more octets come before a gap or the end, what isn't
     /// clear is no PDU.
-    pub fn search(&mut self, alloc: Global, is_end: bool) -> Result<Option<Found>, AllocError> {
-        for _ in 0..u64::MAX {
-            let Some(given) = self.next_in_order() else {
-                break;
-            };
-            self.seeker.push(alloc, &given)?;
-        }
+    pub fn search(&mut self, alloc: Global, is_end: bool) -> Result<Option<Found>, AllocError>
+        ensures { (pieces : List Piece) (start : Start) (given : List Octet)
+            → Gives pieces start given self.old
+            → IfOk result (λ found. Searches is_end pieces start given self.new (is_some found)) }
+    {
+        self.hold_all(alloc)?;
         if !self.seeker.find(is_end) {
             return Ok(None);
         }
@@ -458,6 +536,18 @@ impl Stream {
             place: self.seeker.place(),
             number: self.seeker.number(),
         }))
+    }
+
+    /// Holds all octets that are the next.
+    fn hold_all(&mut self, alloc: Global) -> Result<(), AllocError>
+        ensures { (pieces : List Piece) (start : Start) (given : List Octet)
+            → Gives pieces start given self.old → OnOk result (Gives pieces start given self.new
+            × IsGiven pieces start (given ++ self.new.held.octets)) }
+    {
+        'parts: while let Some(given) = self.next_in_order() {
+            self.hold_given(alloc, &given)?;
+        }
+        Ok(())
     }
 
     /// How many octets were passed over since it was last asked.

@@ -1,0 +1,12 @@
+use Rattle.std.proofs.Common.{List}
+use Rattle.smq_reassembly.specs.Moment.{Start}
+use Rattle.smq_reassembly.specs.Octet.{Octet}
+use Rattle.smq_reassembly.specs.Piece.{Piece, octets_in}
+use Rattle.smq_streams.specs.Direction.{Gives}
+use Rattle.smq_streams.proofs.stream.Stream.hold_all.Given as goal
+
+abbrev pub invariant-parts : goal.invariant-parts
+invariant-parts l = (pieces : List Piece) (start : Start) (given : List Octet) → Gives pieces start given l.initial.self → Gives pieces start given l.self
+
+abbrev pub decreases-parts : goal.decreases-parts
+decreases-parts l = octets_in l.self.order.waiting

@@ -1,0 +1,19 @@
+use Rattle.std.proofs.Common.{◌≡◌, ◌++◌, List, [], refl, sym, subst}
+use Rattle.smq_reassembly.specs.Octet.{Octet}
+use Rattle.smq_reassembly.specs.State.{Follows}
+use Rattle.smq_streams.specs.Direction.{Direction, Gives}
+use Rattle.smq_streams.proofs.stream.Stream.skip_gap.Goals as goal
+
+pub returns-clause-skips : goal.returns-clause-skips
+returns-clause-skips c pieces start given g e =
+    let f = subst (λ (d : Direction). Gives pieces start given d) (sym c.self.view_is) g in
+    let none = subst (λ (d : Direction). d.held.octets ≡ []) (sym c.self.view_is) e in
+    let s = c.in_ok-until.ensures.some pieces start (given ++ c.self.inside.seeker.octets) f in
+    rw (← c.self.view_is)
+    (record {
+      from = c.next-from.ensures.value;
+      gap = s.0;
+      gives = subst (λ (os : List Octet). Follows pieces (record { place = c.in_ok-until.until; moment = c.self.inside.order.last.moment }) os c.skip_gap.new.self)
+          (sym none) s.1;
+      searches = refl;
+    })

@@ -1,0 +1,84 @@
+-- A direction of a connection: what came of it, what was given, and what waits.
+use Rattle.std.specs.Prelude.{◌≡◌, ℕ, ◌+◌, ◌<◌, ◌≤◌, ◌⊎◌, ◌^◌, min, Bool, true, false, List, [], ◌∷◌, ◌++◌, length, take, drop, Option, Some, None}
+use Rattle.smq_reassembly.specs.declared.packet.Packet.{Packet}
+use Rattle.smq_reassembly.specs.declared.sequence.Place.{Place}
+use Rattle.smq_reassembly.specs.Octet.{Octet}
+use Rattle.smq_reassembly.specs.Moment.{IsGiven, Start}
+use Rattle.smq_reassembly.specs.Piece.{Piece, first_place}
+use Rattle.smq_reassembly.specs.Segment.{IsTooFarAhead, piece_of}
+use Rattle.smq_reassembly.specs.State.{Follows, State}
+use Rattle.smq_reassembly.specs.Stream.{IsGap}
+use Rattle.smq_streams.specs.declared.acknowledged.Note.{Note}
+use Rattle.smq_streams.specs.declared.stream.Missing.{Missing}
+use Rattle.smq_streams.specs.declared.stream.Why.{Why}
+use Rattle.smq_streams.specs.declared.stream.Why.TheVariants.{Acknowledged, Old, Full, Ended, End}
+use Rattle.smq_streams.specs.Acknowledged.{since}
+use Rattle.smq_streams.specs.Search.{BeginNone, Search, Stops, counted}
+
+-- a direction: the sequence number of its first octet; its octets in order; those of them that weren't given yet; since when something
+-- waits, and what the other end acknowledged since
+pub record Direction : Type 0 where
+  pub first : Option ℕ
+  pub order : State
+  pub held : Search
+  pub opened : Option ℕ
+  pub notes : List Note
+  pub is_searching : Bool
+  pub is_stopped : Bool
+
+-- what was given of a part and what is held behind it is the stream so far of the pieces that came, from the part's start on
+abbrev pub Gives : List Piece → Start → List Octet → Direction → Type 0
+Gives pieces start given d = Follows pieces start (given ++ d.held.octets) d.order
+
+-- a segment was taken, or ends too far ahead and nothing changed
+abbrev pub Adds : List Piece → Start → List Octet → Piece → Direction → Direction → Bool → Type 0
+Adds pieces start given piece before after true =
+    (IsTooFarAhead before.order.next piece → ⊥) × Gives (pieces ++ piece ∷ []) start given after
+Adds pieces start given piece before after false =
+    IsTooFarAhead before.order.next piece × Gives pieces start given after
+
+-- of what follows in a part octets that begin no PDU were passed over, and the search stopped behind them
+pub record Searches (is_end : Bool) (pieces : List Piece) (start : Start) (given : List Octet) (after : Direction) (is_found : Bool) : Type 0 where
+  pub held : List Octet
+  pub count : ℕ
+  pub whole : IsGiven pieces start (given ++ held)
+  pub passed : BeginNone is_end held count
+  pub left : after.held.octets ≡ drop count held
+  pub gives : Gives pieces start (given ++ take count held) after
+  pub stops : Stops is_end after.held.octets is_found
+
+-- what is missing up to what waits first is a gap of the pieces that came, and the next part begins behind it
+pub record Skips (pieces : List Piece) (before after : Direction) (missing : Missing) : Type 0 where
+  pub from : missing.from ≡ before.order.next
+  pub gap : IsGap pieces before.order.next missing.until
+  pub gives :
+      Gives pieces (record { place = missing.until; moment = before.order.last.moment }) [] after
+  pub searches : after.is_searching ≡ true
+
+-- since when the other end acknowledges what is missing before what waits first
+abbrev pub acknowledged_at : Option ℕ → List Note → Option ℕ
+acknowledged_at None notes = None
+acknowledged_at (Some place) notes = since notes place
+
+abbrev pub acknowledged_since : Direction → Option ℕ
+acknowledged_since d = acknowledged_at (first_place d.order.waiting) d.notes
+
+-- what waits is given up 300,000 ms after it opened, and 2,000 ms after the other end acknowledged what is missing
+abbrev pub given_up_at : Option ℕ → Option ℕ → Option ℕ
+given_up_at None since = None
+given_up_at (Some opened) None = Some (counted opened 300000)
+given_up_at (Some opened) (Some moment) = Some (min (counted moment 2000) (counted opened 300000))
+
+-- at a moment what waits is lost or isn't yet, and why
+abbrev pub IsLost : Option ℕ → Option ℕ → ℕ → Option Why → Type 0
+IsLost opened since moment None =
+    ((o : ℕ) → opened ≡ Some o → moment < counted o 300000)
+    × ((o m : ℕ) → opened ≡ Some o → since ≡ Some m → moment < counted m 2000)
+IsLost opened since moment (Some Acknowledged) =
+    (o : ℕ) × (m : ℕ) × (opened ≡ Some o) × (since ≡ Some m) × (counted m 2000 ≤ moment)
+IsLost opened since moment (Some Old) =
+    (o : ℕ) × (opened ≡ Some o) × (counted o 300000 ≤ moment)
+    × ((m : ℕ) → since ≡ Some m → moment < counted m 2000)
+IsLost opened since moment (Some Full) = ⊥
+IsLost opened since moment (Some Ended) = ⊥
+IsLost opened since moment (Some End) = ⊥
