@@ -1,84 +1,170 @@
-//! `smq capture`: the script of packet captures.
-use crate::capture_words::{CaptureOrder, capture_order};
+//! Packet captures: their script, or what is done with their rows behind those of standard input.
+use crate::capture_rows::{CaptureRows, RowTexts};
+use crate::capture_words::options_of;
 use crate::error_lines::ErrorLines;
+use crate::sources::Sources;
 use crate::status::{BAD_INPUT, DONE, FAULT, NO_MEMORY, REFUSED};
-use clap::error::ErrorKind;
-use smq_capture::{Capture, Fault, Sink, Texts};
+use crate::timed_input::{Blocks, TimedInput};
+use crate::{print_words_error, run_task};
+use smq_capture::{Capture, Fault, Options, Sink, Texts};
+use smq_report::Output;
+use smq_words::{Captures, Task};
+use std::io::{ErrorKind, IsTerminal, Read, Write};
 use std::rt::Files;
+use std::sync::Wait;
+use std::thread::Threads;
+use std::time::Clock;
 use std::{fs, io};
 
-/// Writes the script for which the words behind `capture` ask, and gives the status.
-pub fn capture<R: Files + Input + Print + Eprint + AllocGlobal>(rt: &R, words: &[String]) -> u8 {
-    match capture_order(rt.alloc(), words) {
-        Ok(order) => write_script(rt, order),
-        Err(error) if error.kind() == ErrorKind::OutOfMemory => {
-            print_fault(rt, None, Fault::Memory)
+/// Does a task with settings and captures, and gives the status. Where standard input is a capture, and rows of the clock are wanted while
+/// nothing comes, `start` starts what reads it.
+pub fn run_with_captures<R, F>(
+    rt: &R,
+    task: Task,
+    settings: &[u8],
+    captures: Captures,
+    start: F,
+) -> u8
+where
+    R: Files + Input + Print + Eprint + AllocGlobal + Threads + Wait + Clock + Sync,
+    R::Reader: IsTerminal,
+    F: FnOnce() -> io::Result<Blocks>,
+    requires { F.IsAlwaysCallable start }
+{
+    let is_script = task == Task::Capture;
+    let options = match options_of(
+        rt.alloc(),
+        &captures,
+        is_script && captures.questions.is_empty(),
+    ) {
+        Ok(options) => options,
+        Err(error) => return print_words_error(rt, &error),
+    };
+    if options.every.is_none() || !reads_input(captures.paths.as_slice()) {
+        return run_reading(rt, task, settings, captures, options, rt.reader());
+    }
+    match start() {
+        Ok(blocks) => {
+            let input = TimedInput::new(rt, blocks);
+            run_reading(rt, task, settings, captures, options, input)
         }
-        Err(error) => {
-            let is_bad = error.use_stderr();
-            match error.print(rt) {
-                Ok(()) if !is_bad => DONE,
-                Err(_) if !is_bad => FAULT,
-                _ => BAD_INPUT,
-            }
-        }
+        Err(_) => print_fault(rt, None, &Fault::Memory),
     }
 }
 
-/// Reads the captures that are named, and writes their script.
-fn write_script<R: Files + Input + Print + Eprint + AllocGlobal>(
+/// Whether a capture is read from standard input.
+fn reads_input(paths: &[String]) -> bool {
+    paths.is_empty() || paths.iter().any(|path| path.as_str() == "-")
+}
+
+/// The same, where standard input is read by this, if it is a capture.
+fn run_reading<R, I>(
     rt: &R,
-    order: CaptureOrder,
-) -> u8 {
-    let CaptureOrder {
-        options,
+    task: Task,
+    settings: &[u8],
+    captures: Captures,
+    options: Options,
+    input: I,
+) -> u8
+where
+    R: Files + Input + Print + Eprint + AllocGlobal + Threads + Wait + Clock + Sync,
+    R::Reader: IsTerminal,
+    I: Read + Drop,
+{
+    let Captures {
+        paths,
         index,
         losses,
-        paths,
-    } = order;
+        questions,
+        ..
+    } = captures;
     let index = match create(rt, &index) {
         Ok(index) => index,
-        Err(fault) => return print_fault(rt, Some("--index"), fault),
+        Err(fault) => return print_fault(rt, Some("--index"), &fault),
     };
     let losses = match create(rt, &losses) {
         Ok(losses) => losses,
-        Err(fault) => return print_fault(rt, Some("--losses"), fault),
+        Err(fault) => return print_fault(rt, Some("--losses"), &fault),
     };
-    let texts = Texts::new(
-        rt.alloc(),
-        io::writer(rt),
-        ErrorLines::new(rt),
-        index,
-        losses,
-    );
-    let mut capture = Capture::new(rt.alloc(), options, texts);
-    if paths.is_empty() {
-        if let Err(fault) = capture.read(&mut rt.reader()) {
-            return break_off(rt, &mut capture, "-", fault);
-        }
+    let sources = Sources::new(rt, input, paths.as_slice());
+    let alloc = rt.alloc();
+    let notices = ErrorLines::new(rt);
+    if task == Task::Capture {
+        let texts = Texts::new(alloc, questions, io::writer(rt), notices, index, losses);
+        return write_script(rt, sources, Capture::new(alloc, options, texts));
     }
-    for path in paths.as_slice() {
-        if let Err(fault) = read_file(rt, &mut capture, path.as_str()) {
-            return break_off(rt, &mut capture, path.as_str(), fault);
+    let texts = Texts::new(alloc, questions, Vec::new(alloc), notices, index, losses);
+    let rows = CaptureRows::new(sources, Capture::new(alloc, options, texts));
+    let is_alone = reads_input(paths.as_slice()) || rt.reader().is_terminal();
+    run_with_rows(rt, played(task), settings, rows, is_alone)
+}
+
+/// The task that does the same with rows as they are read, however many there are.
+fn played(task: Task) -> Task {
+    match task {
+        Task::Run(query) => Task::Total(Output::Report(query)),
+        other => other,
+    }
+}
+
+/// Does a task with rows of captures, behind those of standard input unless they are alone, and gives the status.
+fn run_with_rows<R, I>(
+    rt: &R,
+    task: Task,
+    settings: &[u8],
+    rows: CaptureRows<'_, R, I>,
+    is_alone: bool,
+) -> u8
+where
+    R: Files + Input + Print + Eprint + AllocGlobal + Threads + Wait + Clock + Sync,
+    I: Read + Drop,
+{
+    let mut rows = rows;
+    let mut status = DONE;
+    if is_alone {
+        status = run_task(rt, task, settings, &mut rows);
+    } else {
+        // (the last row of standard input may have no end of line)
+        let mut all = rt.reader().chain(b"\n".as_slice()).chain(rows);
+        status = run_task(rt, task, settings, &mut all);
+        rows = all.into_inner().1;
+    }
+    match rows.fault() {
+        Some((path, fault)) => print_fault(rt, path_of(path, fault), fault),
+        None if status == DONE && rows.has_loss() => REFUSED,
+        None => status,
+    }
+}
+
+/// Writes the script of captures, and gives the status.
+fn write_script<R, I, W>(
+    rt: &R,
+    sources: Sources<'_, R, I>,
+    capture: Capture<Texts<W, ErrorLines<'_, R>, R::File, R::File>>,
+) -> u8
+where
+    R: Files + Eprint + AllocGlobal + Clock,
+    I: Read + Drop,
+    W: Write + Drop,
+{
+    let mut sources = sources;
+    let mut capture = capture;
+    for _ in 0..u64::MAX {
+        match sources.read_on(&mut capture) {
+            Ok(true) => {}
+            Ok(false) => break,
+            Err(fault) => {
+                let status = print_fault(rt, path_of(sources.path(), &fault), &fault);
+                let _ = capture.break_off();
+                return status;
+            }
         }
     }
     match capture.end() {
         Ok(true) => REFUSED,
         Ok(false) => DONE,
-        Err(fault) => print_fault(rt, None, fault),
+        Err(fault) => print_fault(rt, None, &fault),
     }
-}
-
-/// Prints why a capture can't be read to its end, gives what was read of it, and gives the status.
-fn break_off<R: Eprint, S: Sink + Drop>(
-    rt: &R,
-    capture: &mut Capture<S>,
-    path: &str,
-    fault: Fault,
-) -> u8 {
-    let status = print_fault(rt, Some(path), fault);
-    let _ = capture.break_off();
-    status
 }
 
 /// The file that is to be written, if one is named.
@@ -92,30 +178,29 @@ fn create<R: Files>(rt: &R, path: &Option<String>) -> Result<Option<R::File>, Fa
     }
 }
 
-/// Reads a capture.
-fn read_file<R: Files + Input, S: Sink + Drop>(
-    rt: &R,
-    capture: &mut Capture<S>,
-    path: &str,
-) -> Result<(), Fault> {
-    if path == "-" {
-        return capture.read(&mut rt.reader());
-    }
-    match fs::open(rt, path) {
-        Ok(mut file) => capture.read(&mut file),
-        Err(error) => Err(Fault::Read(error)),
+/// The path of the capture that is read, where a fault is of it.
+fn path_of<'a>(path: &'a str, fault: &Fault) -> Option<&'a str> {
+    match fault {
+        Fault::Write(_) | Fault::Memory => None,
+        _ => Some(path),
     }
 }
 
 /// Prints a fault, of a file where it is of one, and gives the status.
-fn print_fault<R: Eprint>(rt: &R, path: Option<&str>, fault: Fault) -> u8 {
+fn print_fault<R: Eprint>(rt: &R, path: Option<&str>, fault: &Fault) -> u8 {
     let _ = match path {
-        Some(path) => eprintln!(rt; "smq capture: {path}: {fault}"),
-        None => eprintln!(rt; "smq capture: {fault}"),
+        Some(path) => eprintln!(rt; "smq: {path}: {fault}"),
+        None => eprintln!(rt; "smq: {fault}"),
     };
     match fault {
         Fault::Memory => NO_MEMORY,
-        Fault::Read(_) | Fault::Write(_) => FAULT,
+        Fault::Read(error) | Fault::Write(error) => {
+            if error.kind() == ErrorKind::OutOfMemory {
+                NO_MEMORY
+            } else {
+                FAULT
+            }
+        }
         _ => BAD_INPUT,
     }
 }

@@ -1,7 +1,13 @@
 //! Known values of the definitions: each is the contract of a function with no body.
+ghost use Rattle.smq.specs.CaptureRows.{RowsAreRead};
 ghost use Rattle.smq.specs.Known.{KnowsStatuses};
 
 /// The statuses with which the program ends.
 pub fn known_statuses()
     ensures { KnowsStatuses }
+{}
+
+/// What is written of captures is read as those pieces of sessions, one after the other, and nothing else.
+pub fn rows_are_read()
+    ensures { RowsAreRead }
 {}

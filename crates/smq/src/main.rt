@@ -9,46 +9,60 @@ ghost use Rattle.clap.specs.Words.{kind_of};
 ghost use Rattle.smq.specs.Statuses.{bad_words_status, fault_status, run_status};
 
 mod capture;
+mod capture_rows;
 mod capture_words;
 mod error_lines;
+mod first_octets;
 mod laws;
+mod sources;
 mod status;
+mod timed_input;
 
+use capture::run_with_captures;
+use capture_words::has_words;
 use clap::error::ErrorKind;
 use error_lines::ErrorLines;
+use first_octets::{FirstOctets, Mark};
 use smq_desk::NoGate;
 use smq_engine::{Checked, Followed, Ran, RunFault, check, follow, run, total};
 use smq_kit::Refusal;
 use smq_load::MOST_SETTINGS;
 use smq_report::{Format, Output, Query};
-use smq_words::{Order, Task, order, own_words};
+use smq_words::{Captures, Order, Task, bad_words, order, own_words};
 use status::{BAD_INPUT, DONE, FAULT, check_status, fault_status, followed_status, ran_status};
-use std::io::Read;
+use std::io::{IsTerminal, Read};
 use std::process::ExitCode;
 use std::rt::{Env, Files};
 use std::sync::Wait;
 use std::thread::Threads;
-use std::{fs, io};
+use std::time::Clock;
+use std::{fs, io, thread};
+use timed_input::{Blocks, blocks, send_all};
 
 fn main(rt: HostRuntime) -> ExitCode {
-    ExitCode::from(obey(&rt))
+    // (a thread takes the runtime by value, which no other function can name)
+    ExitCode::from(obey(&rt, || -> io::Result<Blocks> {
+        let (to, from) = blocks(rt.alloc())?;
+        let handle = rt;
+        let _thread = thread::spawn(&rt, move || send_all(&handle, &to))?;
+        Ok(from)
+    }))
 }
 
 /// Does what the program's words ask for, and gives the status. A message that can't be told changes no status.
-fn obey<R: Env + Files + Input + Print + Eprint + AllocGlobal + Threads + Wait + Sync>(
-    rt: &R,
-) -> u8 {
+fn obey<R, F>(rt: &R, start: F) -> u8
+where
+    R: Env + Files + Input + Print + Eprint + AllocGlobal + Threads + Wait + Clock + Sync,
+    R::Reader: IsTerminal,
+    F: FnOnce() -> io::Result<Blocks>,
+    requires { F.IsAlwaysCallable start }
+{
     let words = match own_words(rt) {
         Ok(words) => words,
         Err(error) => return words_unreadable(rt, &error),
     };
-    if let Some((first, behind)) = words.as_slice().split_first() {
-        if first.as_str() == "capture" {
-            return capture::capture(rt, behind);
-        }
-    }
     match order(rt.alloc(), words.as_slice()) {
-        Ok(order) => run_order(rt, order),
+        Ok(order) => run_order(rt, order, start),
         Err(error) => print_words_error(rt, &error),
     }
 }
@@ -92,17 +106,49 @@ fn print_words_error<R: Print + Eprint>(rt: &R, error: &clap::Error) -> u8
 }
 
 /// Reads the settings that an order names, does its task, and gives the status.
-fn run_order<R: Files + Input + Print + Eprint + AllocGlobal + Threads + Wait + Sync>(
-    rt: &R,
-    order: Order,
-) -> u8 {
-    let Order { task, settings } = order;
+fn run_order<R, F>(rt: &R, order: Order, start: F) -> u8
+where
+    R: Files + Input + Print + Eprint + AllocGlobal + Threads + Wait + Clock + Sync,
+    R::Reader: IsTerminal,
+    F: FnOnce() -> io::Result<Blocks>,
+    requires { F.IsAlwaysCallable start }
+{
+    let Order {
+        task,
+        settings,
+        captures,
+    } = order;
     let Some(path) = settings else {
-        return run_task(rt, task, &[]);
+        return run_reading(rt, task, &[], captures, start);
     };
     match read_start(rt, path.as_str()) {
-        Ok(octets) => run_task(rt, task, octets.as_slice()),
+        Ok(octets) => run_reading(rt, task, octets.as_slice(), captures, start),
         Err(error) => print_unread_settings(rt, path.as_str(), &error),
+    }
+}
+
+/// Does a task with settings, and with captures where some are named, and gives the status.
+fn run_reading<R, F>(rt: &R, task: Task, settings: &[u8], captures: Captures, start: F) -> u8
+where
+    R: Files + Input + Print + Eprint + AllocGlobal + Threads + Wait + Clock + Sync,
+    R::Reader: IsTerminal,
+    F: FnOnce() -> io::Result<Blocks>,
+    requires { F.IsAlwaysCallable start }
+{
+    if task == Task::Capture || !captures.paths.is_empty() {
+        return run_with_captures(rt, task, settings, captures, start);
+    }
+    if !has_words(&captures) {
+        let mut rows = FirstOctets::new(rt.reader());
+        let status = run_task(rt, task, settings, &mut rows);
+        return print_mark(rt, status, rows.mark());
+    }
+    match bad_words(
+        rt.alloc(),
+        "--link, --strict, --every and what else is of captures want --capture",
+    ) {
+        Ok(error) => print_words_error(rt, &error),
+        Err(error) => print_words_error(rt, &error),
     }
 }
 
@@ -130,62 +176,85 @@ fn read_start<R: Files + AllocGlobal>(rt: &R, path: &str) -> io::Result<Vec<u8>>
     Ok(octets)
 }
 
-/// Does a task with settings, and gives the status. Rows that are refused, and a fault, are told on standard error.
-fn run_task<R: Input + Print + Eprint + AllocGlobal + Threads + Wait + Sync>(
-    rt: &R,
-    task: Task,
-    settings: &[u8],
-) -> u8 {
+/// Prints what standard input is where it is bad and begins as a capture does, and gives the status.
+fn print_mark<R: Eprint>(rt: &R, status: u8, mark: Mark) -> u8
+    ensures { result ≡ status }
+{
+    if status == BAD_INPUT {
+        let _ = match mark {
+            Mark::Capture => {
+                eprintln!(rt;
+                    "standard input is a packet capture, which is read by --capture - --link PORT=LINK"
+                )
+            }
+            Mark::Packed => eprintln!(rt; "standard input is packed by gzip: zcat FILE | smq .."),
+            Mark::Other => Ok(()),
+        };
+    }
+    status
+}
+
+/// Does a task with settings and rows, and gives the status. Rows that are refused, and a fault, are told on standard error.
+fn run_task<R, I>(rt: &R, task: Task, settings: &[u8], rows: &mut I) -> u8
+where
+    R: Print + Eprint + AllocGlobal + Threads + Wait + Sync,
+    I: Read,
+{
     match task {
-        Task::Run(query) => print_ran(rt, write_run(rt, query, settings)),
-        Task::Total(output) => print_ran(rt, write_total(rt, output, settings)),
-        Task::Check => match write_check(rt, settings) {
+        Task::Run(query) => print_ran(rt, write_run(rt, query, settings, rows)),
+        Task::Total(output) => print_ran(rt, write_total(rt, output, settings, rows)),
+        Task::Check => match write_check(rt, settings, rows) {
             Ok(checked) => check_status(checked),
             Err(fault) => print_fault(rt, fault),
         },
-        Task::Follow(format) => match write_answers(rt, format, settings) {
+        Task::Follow(format) => match write_answers(rt, format, settings, rows) {
             Ok(followed) => followed_status(followed),
             Err(fault) => print_fault(rt, fault),
         },
+        Task::Capture => BAD_INPUT,
     }
 }
 
 /// Plays the script after the settings, and writes what the query asks for. What `run` promises ends here, so that the callers are
 /// proved over little; and so do the promises of the three below.
-fn write_run<R: Input + Print + AllocGlobal>(
+fn write_run<R: Print + AllocGlobal, I: Read>(
     rt: &R,
     query: Query,
     settings: &[u8],
+    rows: &mut I,
 ) -> Result<Ran, RunFault> {
-    run(rt, &mut rt.reader(), settings, query, &mut io::writer(rt))
+    run(rt, rows, settings, query, &mut io::writer(rt))
 }
 
 /// Plays rows after the settings as they are read, and writes an output of what they leave.
-fn write_total<R: Input + Print + AllocGlobal>(
+fn write_total<R: Print + AllocGlobal, I: Read>(
     rt: &R,
     output: Output,
     settings: &[u8],
+    rows: &mut I,
 ) -> Result<Ran, RunFault> {
-    total(rt, &mut rt.reader(), settings, output, &mut io::writer(rt))
+    total(rt, rows, settings, output, &mut io::writer(rt))
 }
 
 /// Checks the script after the settings, and writes what was found.
-fn write_check<R: Input + Print + AllocGlobal + Threads + Wait + Sync>(
+fn write_check<R: Print + AllocGlobal + Threads + Wait + Sync, I: Read>(
     rt: &R,
     settings: &[u8],
+    rows: &mut I,
 ) -> Result<Checked, RunFault> {
-    check(rt, &mut rt.reader(), settings, &mut io::writer(rt), &NoGate)
+    check(rt, rows, settings, &mut io::writer(rt), &NoGate)
 }
 
 /// Plays rows after the settings as they come, and writes the answers to what is asked among them. A refused row is told at once.
-fn write_answers<R: Input + Print + Eprint + AllocGlobal>(
+fn write_answers<R: Print + Eprint + AllocGlobal, I: Read>(
     rt: &R,
     format: Format,
     settings: &[u8],
+    rows: &mut I,
 ) -> Result<Followed, RunFault> {
     follow(
         rt,
-        &mut rt.reader(),
+        rows,
         settings,
         format,
         &mut io::writer(rt),

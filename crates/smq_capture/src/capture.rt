@@ -7,12 +7,13 @@ use crate::output::Output;
 use crate::room::Room;
 use crate::sessions::Sessions;
 use crate::sink::Sink;
+use crate::ticks::Ticks;
 use smq_packets::{
     Block, FileHead, Fragments, LinkType, MOST_INTERFACES, NoBlock, Section, Unread,
     read_file_head, read_record, read_record_head, read_segment,
 };
 use std::alloc::{AllocError, Global};
-use std::io::Read;
+use std::io::{ErrorKind, Read};
 
 /// The most rows and octets of a script that a report takes.
 const MOST_ROWS: u64 = 1_000_000;
@@ -28,6 +29,10 @@ pub struct Options {
     pub first_session: u64,
     /// Whether nothing of a direction is given after a gap, and a stream without a SYN begins with its first octets.
     pub is_strict: bool,
+    /// Each so many ms of the capture's clock the sink is told of it.
+    pub every: Option<u64>,
+    /// Whether it is told where the rows are more than a report takes.
+    pub tells_long_scripts: bool,
 }
 
 /// Captures, read one after the other as one.
@@ -36,6 +41,8 @@ pub struct Capture<S> {
     alloc: Global,
     sessions: Sessions<S>,
     clock: Clock,
+    ticks: Ticks,
+    tells_long_scripts: bool,
     fragments: Fragments,
     /// What the interfaces of this file lost so far, and those of files before.
     lost: Vec<u64>,
@@ -44,6 +51,55 @@ pub struct Capture<S> {
     headers: Noted,
     malformed: Noted,
     not_read: Noted,
+}
+
+/// The most octets of what stands before the first packet's head of a pcap file.
+const LONGEST_HEAD: usize = 24;
+
+/// What became of a read.
+#[derive(Clone, Copy, Debug, PartialEq, Eq)]
+pub enum Step {
+    /// More may follow.
+    GoesOn,
+    /// Nothing came within the reader's time (`TimedOut`).
+    Waits,
+    /// The file ended, or can't be read on.
+    Ended,
+}
+
+/// A file of packets that is being read.
+#[derive(Drop)]
+pub struct Reading {
+    room: Room,
+    format: Option<Format>,
+    /// How many octets of a packet that was taken are still to come.
+    skipped: u64,
+}
+
+impl Reading {
+    /// Nothing of it was read yet.
+    pub fn new(alloc: Global) -> Reading {
+        Reading {
+            room: Room::new(alloc),
+            format: None,
+            skipped: 0,
+        }
+    }
+
+    /// Learns from its first octets which file it is.
+    fn begin(&mut self, alloc: Global) -> Result<(), Fault> {
+        let format = match self.room.unused() {
+            [0x1F, 0x8B, ..] => return Err(Fault::Packed),
+            [0x0A, 0x0D, 0x0D, 0x0A, ..] => Format::Blocks(Section::new(alloc)),
+            octets => {
+                let head = read_file_head(octets)?;
+                self.room.use_up(LONGEST_HEAD);
+                Format::Records(head)
+            }
+        };
+        self.format = Some(format);
+        Ok(())
+    }
 }
 
 /// How the packets of a file follow one another.
@@ -90,12 +146,16 @@ impl<S: Sink + Drop> Capture<S> {
             links,
             first_session,
             is_strict,
+            every,
+            tells_long_scripts,
         } = options;
         let output = Output::new(alloc, sink, first_session, is_strict);
         Capture {
             alloc,
             sessions: Sessions::new(alloc, links, output),
             clock: Clock::new(),
+            ticks: Ticks::new(every),
+            tells_long_scripts,
             fragments: Fragments::new(alloc),
             lost: Vec::new(alloc),
             lost_before: 0,
@@ -106,59 +166,105 @@ impl<S: Sink + Drop> Capture<S> {
         }
     }
 
-    /// Reads a pcap or pcapng file to its end. What is known of it then is given to the sink before each read.
-    pub fn read<R: Read>(&mut self, reader: &mut R) -> Result<(), Fault> {
-        let mut room = Room::new(self.alloc);
-        for _ in 0..24 {
-            if room.unused().len() >= 24 || room.fill(self.alloc, reader)? == 0 {
-                break;
-            }
-        }
-        match room.unused() {
-            [0x1F, 0x8B, ..] => Err(Fault::Packed),
-            [0x0A, 0x0D, 0x0D, 0x0A, ..] => {
-                let blocks = Format::Blocks(Section::new(self.alloc));
-                self.read_packets(reader, room, blocks)
-            }
-            _ => {
-                let records = Format::Records(read_file_head(room.unused())?);
-                room.use_up(24);
-                self.read_packets(reader, room, records)
-            }
-        }
+    /// Where what is read of the captures goes.
+    pub fn sink(&mut self) -> &mut S {
+        &mut self.sessions.output.sink
     }
 
-    /// Reads the packets of a file, of which these octets were read.
-    fn read_packets<R: Read>(
-        &mut self,
-        reader: &mut R,
-        first: Room,
-        format: Format,
-    ) -> Result<(), Fault> {
-        let mut room = first;
-        let mut format = format;
-        let mut skipped: u64 = 0;
+    /// Reads a pcap or pcapng file to its end.
+    pub fn read<R: Read>(&mut self, reader: &mut R) -> Result<(), Fault> {
+        let mut reading = Reading::new(self.alloc);
         for _ in 0..u64::MAX {
-            skipped = skipped.saturating_sub(room.skip(skipped));
-            if skipped == 0 {
-                let taken = self.take_all(&mut format, room.unused(), room.used())?;
-                room.use_up(taken.octets);
-                skipped = taken.skipped;
-                if !taken.goes_on {
-                    return Ok(self.forget_interfaces());
-                }
-            }
-            self.sessions.output.sink.flush()?;
-            if room.fill(self.alloc, reader)? == 0 {
+            if self.read_on(&mut reading, reader)? == Step::Ended {
                 break;
             }
         }
-        self.forget_interfaces();
-        if skipped == 0 && room.unused().is_empty() {
-            return Ok(());
+        Ok(())
+    }
+
+    /// Reads once from a file, takes the packets that are whole then, and gives what is known of the capture to the sink.
+    pub fn read_on<R: Read>(
+        &mut self,
+        reading: &mut Reading,
+        reader: &mut R,
+    ) -> Result<Step, Fault> {
+        let count = match reading.room.fill(self.alloc, reader) {
+            Ok(count) => count,
+            Err(Fault::Read(error)) if error.kind() == ErrorKind::TimedOut => {
+                return Ok(Step::Waits);
+            }
+            Err(fault) => return Err(fault),
+        };
+        if reading.format.is_none() {
+            if reading.room.unused().len() < LONGEST_HEAD && count > 0 {
+                return Ok(Step::GoesOn);
+            }
+            reading.begin(self.alloc)?;
         }
-        let number = self.packets.saturating_add(1);
-        self.sessions.output.tell(Notice::FileEnds(number))
+        let goes_on = self.take_read(reading)?;
+        if goes_on && count > 0 {
+            self.sessions.output.sink.flush()?;
+            return Ok(Step::GoesOn);
+        }
+        self.end_file(reading, goes_on)?;
+        Ok(Step::Ended)
+    }
+
+    /// Takes the packets of a file that are whole; whether more may follow.
+    fn take_read(&mut self, reading: &mut Reading) -> Result<bool, Fault> {
+        let Reading {
+            room,
+            format,
+            skipped,
+        } = reading;
+        let Some(format) = format else {
+            return Ok(true);
+        };
+        *skipped = skipped.saturating_sub(room.skip(*skipped));
+        if *skipped > 0 {
+            return Ok(true);
+        }
+        let taken = self.take_all(format, room.unused(), room.used())?;
+        room.use_up(taken.octets);
+        *skipped = taken.skipped;
+        Ok(taken.goes_on)
+    }
+
+    /// Ends a file, which may break off within a packet.
+    fn end_file(&mut self, reading: &Reading, goes_on: bool) -> Result<(), Fault> {
+        self.forget_interfaces();
+        if goes_on && (reading.skipped > 0 || !reading.room.unused().is_empty()) {
+            let number = self.packets.saturating_add(1);
+            self.sessions.output.tell(Notice::FileEnds(number))?;
+        }
+        self.sessions.output.sink.flush()
+    }
+
+    /// Does what is due while no packet comes, at a moment of the host's clock, in ms from any beginning: the capture's clock goes on from
+    /// the newest packet.
+    pub fn pass_time(&mut self, now: u64) -> Result<(), Fault> {
+        let passed = self.ticks.passed(self.packets, now);
+        match self.clock.newest() {
+            Some(newest) => {
+                let moment = newest.saturating_add(passed);
+                self.sessions.give_up(moment)?;
+                self.tick(moment)?;
+            }
+            None => {
+                if self.ticks.is_due_unknown(passed, now) {
+                    self.sessions.output.sink.tick(None)?;
+                }
+            }
+        }
+        self.sessions.output.sink.flush()
+    }
+
+    /// Tells the sink of the clock where that is due before a moment.
+    fn tick(&mut self, moment: u64) -> Result<(), Fault> {
+        match self.ticks.pass_to(moment) {
+            Some(tick) => self.sessions.output.sink.tick(tick.clock),
+            None => Ok(()),
+        }
     }
 
     /// Takes the whole records or blocks at the front of octets, of which the first has a place in the file.
@@ -280,6 +386,7 @@ impl<S: Sink + Drop> Capture<S> {
         let number = self.packets;
         self.take_doubted(Some(moment))?;
         if self.clock.believes(moment) {
+            self.tick(moment)?;
             self.take_frame(link_type, number, moment, is_whole, frame)
         } else {
             Ok(
@@ -309,6 +416,7 @@ impl<S: Sink + Drop> Capture<S> {
             let ahead = moment.saturating_sub(before.unwrap_or(given));
             self.sessions.output.tell(Notice::Moment { number, ahead })?;
         }
+        self.tick(given)?;
         self.take_frame(link_type, number, given, is_whole, frame.as_slice())
     }
 
@@ -345,10 +453,19 @@ impl<S: Sink + Drop> Capture<S> {
         }
     }
 
+    /// Tells how much is missing, and whether the script is too long for a report where that is wanted.
+    fn tell_sums(&mut self) -> Result<(), Fault> {
+        self.sessions.output.tell_gaps()?;
+        if self.tells_long_scripts {
+            self.sessions.output.tell_length(MOST_ROWS, MOST_OCTETS)?;
+        }
+        Ok(())
+    }
+
     /// Gives and tells all that waits, where a capture can't be read to its end.
     pub fn break_off(&mut self) -> Result<(), Fault> {
         self.sessions.end(self.clock.now())?;
-        self.sessions.output.tell_all(MOST_ROWS, MOST_OCTETS)?;
+        self.tell_sums()?;
         self.sessions.output.sink.flush()
     }
 
@@ -356,6 +473,9 @@ impl<S: Sink + Drop> Capture<S> {
     pub fn end(&mut self) -> Result<bool, Fault> {
         self.take_doubted(None)?;
         self.sessions.end(self.clock.now())?;
+        if self.ticks.is_wanted() {
+            self.sessions.output.sink.tick(None)?;
+        }
         if self.headers.count > 0 {
             self.sessions.output.tell(Notice::Headers(self.headers))?;
         }
@@ -376,7 +496,7 @@ impl<S: Sink + Drop> Capture<S> {
         if self.not_read.count > 0 {
             self.sessions.output.tell(Notice::NotRead(self.not_read))?;
         }
-        self.sessions.output.tell_all(MOST_ROWS, MOST_OCTETS)?;
+        self.tell_sums()?;
         self.sessions.tell_skipped()?;
         if self.packets == 0 {
             self.sessions.output.tell(Notice::NoPackets)?;

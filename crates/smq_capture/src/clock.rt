@@ -1,4 +1,7 @@
 //! Which moments of packets are believed.
+ghost use Rattle.std.specs.Prelude.{◌≡◌, if◌then◌else◌, unwrap_or, None};
+ghost use Rattle.smq_capture.specs.Clock.{is_believed, newest_settled, newest_with, settled};
+
 use smq_packets::LinkType;
 use std::alloc::{AllocError, Global};
 
@@ -27,7 +30,9 @@ pub struct Clock {
 
 impl Clock {
     /// Before the first packet.
-    pub fn new() -> Clock {
+    pub fn new() -> Clock
+        ensures { result.newest ≡ None }
+    {
         Clock {
             newest: None,
             doubted: None,
@@ -35,17 +40,26 @@ impl Clock {
     }
 
     /// The newest moment that is believed, or 0.
-    pub fn now(&self) -> u64 {
+    pub fn now(&self) -> u64
+        ensures { result ≡ unwrap_or self.now.newest 0 }
+    {
         self.newest.unwrap_or(0)
     }
 
     /// The newest moment that is believed.
-    pub fn newest(&self) -> Option<u64> {
+    pub fn newest(&self) -> Option<u64>
+        ensures { result ≡ self.now.newest }
+    {
         self.newest
     }
 
     /// Whether a moment is believed at once, which then is the newest if it is later.
-    pub fn believes(&mut self, moment: u64) -> bool {
+    pub fn believes(&mut self, moment: u64) -> bool
+        ensures believed { result ≡ is_believed self.old.newest moment }
+        ensures newest { self.new.newest ≡ if is_believed self.old.newest moment
+            then newest_with self.old.newest moment else self.old.newest }
+        ensures doubted { self.new.doubted ≡ self.old.doubted }
+    {
         match self.newest {
             Some(newest) if moment <= newest.saturating_add(AHEAD) && moment <= LAST_MOMENT => {
                 if newest < moment {
@@ -85,7 +99,11 @@ impl Clock {
 
     /// The moment that a packet has whose own isn't believed at once, where the next one's is this, if there is one: its own where that
     /// isn't far behind; else the newest, or the next one's. None where there is none of these.
-    pub fn settle(&mut self, moment: u64, next: Option<u64>) -> Option<u64> {
+    pub fn settle(&mut self, moment: u64, next: Option<u64>) -> Option<u64>
+        ensures settled { result ≡ settled self.old.newest moment next }
+        ensures newest { self.new.newest ≡ newest_settled self.old.newest moment next }
+        ensures doubted { self.new.doubted ≡ self.old.doubted }
+    {
         let next = match next {
             Some(next) if next <= LAST_MOMENT => Some(next),
             _ => None,

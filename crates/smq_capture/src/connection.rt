@@ -3,19 +3,22 @@
 //! A connection is a session up to its first gap that is given up. The next session begins with the first PDU that is seen to begin
 //! behind that gap; and, in the other direction, with the first PDU that begins behind all octets that packets before the one of that
 //! PDU have. Gaps are taken in the order of the packets behind them, and a session without an octet gives its number to the next.
-use crate::direction::{Both, Direction, Following, Sought};
+use crate::direction::{Both, Direction};
 use crate::ended::{Span, Spans};
 use crate::ends::Ends;
 use crate::fault::Fault;
 use crate::notice::{About, Behind, Noted, Notice, Sender};
 use crate::output::Output;
 use crate::side::Side;
-use crate::sink::{Loss, Piece, SessionLine, Sink};
+use crate::sink::{Piece, SessionLine, Sink};
 use smq_packets::{ACK, End, FIN, RST, SYN, Segment};
 use smq_reassembly::{Packet, WINDOW};
 use smq_streams::{Missing, Stream, Why};
 use std::alloc::{AllocError, Global};
 use std::collections::VecDeque;
+
+mod gaps;
+mod rows;
 
 /// What a row that waits takes besides its octets.
 const ROW: u64 = 160;
@@ -409,406 +412,6 @@ impl Connection {
         self.write(output)
     }
 
-    /// Puts rows of the octets that follow, with the number and the moment of the packet that filled a gap before them, or else of
-    /// their own.
-    fn release<S: Sink>(
-        &mut self,
-        output: &mut Output<S>,
-        sender: Side,
-        filled: Option<(u64, u64)>,
-    ) -> Result<(), Fault> {
-        for _ in 0..u64::MAX {
-            let Some(given) = self.both.of_mut(sender).stream.next_part(output.alloc)? else {
-                break;
-            };
-            let (number, moment) = match filled {
-                Some(packet) => packet,
-                None => (given.number, given.moment),
-            };
-            self.put(sender, given.place, given.octets, number, moment)?;
-        }
-        Ok(())
-    }
-
-    /// Puts a row behind the others of the connection.
-    fn put(
-        &mut self,
-        sender: Side,
-        place: u64,
-        octets: Vec<u8>,
-        number: u64,
-        moment: u64,
-    ) -> Result<(), AllocError> {
-        let moment = self.both.of_mut(sender).raise_moment(number, moment);
-        let weight = ROW.saturating_add(octets.len() as u64);
-        let cuts = Vec::new(*octets.allocator());
-        self.rows.push_back(Row {
-            sender,
-            place,
-            number,
-            moment,
-            octets,
-            settled: 0,
-            cuts,
-        })?;
-        self.rows_weight = self.rows_weight.saturating_add(weight);
-        Ok(())
-    }
-
-    /// Writes the rows whose sessions are known: all of them where nothing waits that may begin another.
-    fn write<S: Sink>(&mut self, output: &mut Output<S>) -> Result<(), Fault> {
-        if output.is_strict || !self.is_open() {
-            self.settle(Side::Client, None)?;
-            self.settle(Side::Centre, None)?;
-        }
-        for _ in 0..u64::MAX {
-            match self.rows.front() {
-                Some(row) if row.settled >= row.octets.len() => {}
-                _ => break,
-            }
-            let Some(row) = self.rows.pop_front() else {
-                break;
-            };
-            self.written = self.written.saturating_add(1);
-            let weight = ROW.saturating_add(row.octets.len() as u64);
-            self.rows_weight = self.rows_weight.saturating_sub(weight);
-            self.write_row(output, &row)?;
-        }
-        self.tell_sessions(output, false)
-    }
-
-    /// Writes a row, a part of it for each session.
-    fn write_row<S: Sink>(&mut self, output: &mut Output<S>, row: &Row) -> Result<(), Fault> {
-        let mut from: usize = 0;
-        for (index, cut) in row.cuts.as_slice().iter().enumerate() {
-            let goes_on = match row.cuts.get(index.saturating_add(1)) {
-                Some(next) => next.session == cut.session,
-                None => false,
-            };
-            if goes_on {
-                continue;
-            }
-            if let Some(octets) = row.octets.as_slice().get(from..cut.until) {
-                self.note_packet(cut.session, row.number);
-                output.put(&Piece {
-                    link: self.link,
-                    session: cut.session,
-                    sender: row.sender,
-                    moment: row.moment,
-                    octets,
-                })?;
-            }
-            from = cut.until;
-        }
-        Ok(())
-    }
-
-    /// Takes note of a packet of a session.
-    fn note_packet(&mut self, session: u64, number: u64) {
-        // (mostly it is of the last session; their numbers rise)
-        let mut low: usize = 0;
-        let mut high = self.lines.len().saturating_sub(1);
-        if session != self.last {
-            for _ in 0..64 {
-                if low >= high {
-                    break;
-                }
-                let middle = low.saturating_add(high.saturating_sub(low) / 2);
-                match self.lines.get(middle) {
-                    Some(line) if line.session < session => low = middle.saturating_add(1),
-                    _ => high = middle,
-                }
-            }
-        }
-        if let Some(line) = self.lines.get_mut(high) {
-            if line.session == session && line.last < number {
-                line.last = number;
-            }
-        }
-    }
-
-    /// Tells the sessions that both directions left.
-    fn tell_sessions<S: Sink>(
-        &mut self,
-        output: &mut Output<S>,
-        is_end: bool,
-    ) -> Result<(), Fault> {
-        if !is_end && !self.rows.is_empty() {
-            return Ok(());
-        }
-        for _ in 0..self.lines.len() {
-            match self.lines.front() {
-                Some(line)
-                    if is_end
-                        || (line.session < self.both.client.session
-                            && line.session < self.both.centre.session) => {}
-                _ => break,
-            }
-            if let Some(line) = self.lines.pop_front() {
-                output.note_session(&line)?;
-            }
-        }
-        Ok(())
-    }
-
-    /// Tells the rows of a direction their sessions, in order, up to a place of it.
-    fn settle(&mut self, side: Side, until: Option<u64>) -> Result<(), AllocError> {
-        let mut at = match side {
-            Side::Client => self.client_row,
-            Side::Centre => self.centre_row,
-        };
-        if at < self.written {
-            at = self.written;
-        }
-        for _ in 0..u64::MAX {
-            let index = at.saturating_sub(self.written) as usize;
-            let Some(row) = self.rows.get_mut(index) else {
-                break;
-            };
-            if row.sender == side {
-                let limit = match until {
-                    None => row.octets.len(),
-                    Some(place) => shorter(place.saturating_sub(row.place), row.octets.len()),
-                };
-                let direction = self.both.of_mut(side);
-                if settle_row(direction, row, limit, self.last)? {
-                    self.has_rows = true;
-                }
-                if row.settled < row.octets.len() {
-                    break;
-                }
-            }
-            at = at.saturating_add(1);
-        }
-        match side {
-            Side::Client => self.client_row = at,
-            Side::Centre => self.centre_row = at,
-        }
-        Ok(())
-    }
-
-    /// Goes on behind gaps that won't fill any more by a moment, or behind all where the connection ends.
-    pub fn give_up<S: Sink>(
-        &mut self,
-        output: &mut Output<S>,
-        moment: u64,
-        why: Option<Why>,
-    ) -> Result<(), Fault> {
-        for _ in 0..u64::MAX {
-            let Some((side, why)) = self.lost(moment, why) else {
-                break;
-            };
-            self.give_up_one(output, side, moment, why)?;
-        }
-        self.write(output)
-    }
-
-    /// Goes on behind what has waited longest, as too much waits.
-    pub fn give_up_oldest<S: Sink>(
-        &mut self,
-        output: &mut Output<S>,
-        moment: u64,
-    ) -> Result<(), Fault> {
-        let client = self.both.client.stream.opened();
-        let centre = self.both.centre.stream.opened();
-        let side = match (client, centre) {
-            (Some(one), Some(other)) if other < one => Side::Centre,
-            (None, Some(_)) => Side::Centre,
-            _ => Side::Client,
-        };
-        if output.is_strict {
-            self.stop(output, side, moment, Why::Full)?;
-        } else {
-            self.give_up_one(output, side, moment, Why::Full)?;
-        }
-        self.write(output)
-    }
-
-    /// The direction in which something won't come any more, and why; where both have such, the one whose next packet came first.
-    fn lost(&mut self, moment: u64, why: Option<Why>) -> Option<(Side, Why)> {
-        let client = why_lost(&mut self.both.client.stream, moment, why);
-        let centre = why_lost(&mut self.both.centre.stream, moment, why);
-        match (client, centre) {
-            (Some(one), Some(other)) => {
-                let before = self.both.client.stream.first_packet();
-                if self.both.centre.stream.first_packet() < before {
-                    Some((Side::Centre, other))
-                } else {
-                    Some((Side::Client, one))
-                }
-            }
-            (Some(one), None) => Some((Side::Client, one)),
-            (None, Some(other)) => Some((Side::Centre, other)),
-            (None, None) => None,
-        }
-    }
-
-    /// Gives up what waits in a direction: where it isn't clear whether a PDU begins, none does; else the next gap, behind which the
-    /// direction goes on with the first PDU.
-    fn give_up_one<S: Sink>(
-        &mut self,
-        output: &mut Output<S>,
-        side: Side,
-        moment: u64,
-        why: Why,
-    ) -> Result<(), Fault> {
-        if self.both.of(side).stream.is_searching() {
-            if let Some(place) = self.go_on(output, side, true)? {
-                self.tell_going_on(output, side, place)?;
-                self.both.of_mut(side).stream.watch_anew(moment);
-                return Ok(());
-            }
-        }
-        if let Some(missing) = self.both.of_mut(side).stream.skip_gap() {
-            let is_end = why == Why::Ended || why == Why::End;
-            let sender = self.note_missing(output, side, missing, moment, why)?;
-            let behind = match self.go_on(output, side, is_end)? {
-                Some(place) => {
-                    self.both.of_mut(side).sought = None;
-                    Behind::At(place, self.last)
-                }
-                None if is_end => Behind::Nothing,
-                None => {
-                    self.both.of_mut(side).sought = Some(Sought {
-                        session: sender.session,
-                    });
-                    Behind::Sought
-                }
-            };
-            tell_gap(output, sender, missing, behind)?;
-            if let Behind::At(_, _) = behind {
-                self.tell_passed(output, side)?;
-            }
-        }
-        self.both.of_mut(side).stream.watch_anew(moment);
-        Ok(())
-    }
-
-    /// Counts octets that are missing in the last session.
-    fn note_missing<S: Sink>(
-        &mut self,
-        output: &mut Output<S>,
-        side: Side,
-        missing: Missing,
-        moment: u64,
-        why: Why,
-    ) -> Result<Sender, Fault> {
-        let count = missing.until.saturating_sub(missing.from);
-        if let Some(line) = self.lines.back_mut() {
-            line.missing = line.missing.saturating_add(count);
-        }
-        output.note_loss(&Loss {
-            session: self.last,
-            sender: side,
-            place: missing.from,
-            missing: count,
-            moment,
-            why,
-        })?;
-        Ok(Sender {
-            session: self.last,
-            link: self.link,
-            side,
-        })
-    }
-
-    /// Writes nothing more of a direction that has a gap.
-    fn stop<S: Sink>(
-        &mut self,
-        output: &mut Output<S>,
-        side: Side,
-        moment: u64,
-        why: Why,
-    ) -> Result<(), Fault> {
-        if let Some(missing) = self.both.of(side).stream.missing_tail() {
-            let sender = self.note_missing(output, side, missing, moment, why)?;
-            tell_gap(output, sender, missing, Behind::Nothing)?;
-        }
-        self.both.of_mut(side).stream.stop();
-        Ok(())
-    }
-
-    /// Looks for a PDU in what follows in a direction, and begins with it. Its place, if there is one.
-    fn go_on<S: Sink>(
-        &mut self,
-        output: &mut Output<S>,
-        side: Side,
-        is_end: bool,
-    ) -> Result<Option<u64>, Fault> {
-        let Some(found) = self.both.of_mut(side).stream.search(output.alloc, is_end)? else {
-            return Ok(None);
-        };
-        self.settle(side, None)?;
-        if self.both.of(side).stream.is_behind_gap() {
-            let place = self.both.of(side.other()).top_before(found.number);
-            self.settle(side.other(), Some(place))?;
-            if self.has_rows {
-                self.begin_session(output, side, found.number, place)?;
-            }
-        }
-        let last = self.last;
-        self.both.of_mut(side).begin_session(last);
-        self.release(output, side, None)?;
-        Ok(Some(found.place))
-    }
-
-    /// Begins the next session with a packet: the other direction is in it from a place on.
-    fn begin_session<S: Sink>(
-        &mut self,
-        output: &mut Output<S>,
-        side: Side,
-        number: u64,
-        place: u64,
-    ) -> Result<(), AllocError> {
-        let session = output.next_session();
-        self.last = session;
-        self.has_rows = false;
-        self.both.of_mut(side.other()).following = Some(Following { session, place });
-        self.lines.push_back(SessionLine {
-            session,
-            link: self.link,
-            client: self.client,
-            centre: self.centre,
-            first: number,
-            last: number,
-            has_syn: false,
-            missing: 0,
-        })?;
-        Ok(())
-    }
-
-    /// Tells that a direction goes on with a PDU that was looked for.
-    fn tell_going_on<S: Sink>(
-        &mut self,
-        output: &mut Output<S>,
-        side: Side,
-        place: u64,
-    ) -> Result<(), Fault> {
-        if let Some(sought) = self.both.of(side).sought {
-            self.both.of_mut(side).sought = None;
-            output.tell(Notice::GoesOn {
-                sender: Sender {
-                    session: sought.session,
-                    link: self.link,
-                    side,
-                },
-                session: self.last,
-                place,
-            })?;
-        }
-        self.tell_passed(output, side)
-    }
-
-    /// Tells how many octets were passed over.
-    fn tell_passed<S: Sink>(&mut self, output: &mut Output<S>, side: Side) -> Result<(), Fault> {
-        let count = self.both.of_mut(side).stream.take_passed();
-        if count > 0 {
-            let sender = self.label(side);
-            output.tell(Notice::Passed { sender, count })?;
-        }
-        Ok(())
-    }
-
     /// Gives up all that waits, writes all rows, and tells what is missing and was changed.
     pub fn finish<S: Sink>(
         &mut self,
@@ -825,16 +428,6 @@ impl Connection {
         self.tell_side(output, Side::Client, moment, why)?;
         self.tell_side(output, Side::Centre, moment, why)?;
         self.tell_sessions(output, true)
-    }
-
-    /// Ends the search for the first PDU of a direction.
-    fn end_search<S: Sink>(&mut self, output: &mut Output<S>, side: Side) -> Result<(), Fault> {
-        if self.both.of(side).stream.is_searching() {
-            if let Some(place) = self.go_on(output, side, true)? {
-                self.tell_going_on(output, side, place)?;
-            }
-        }
-        Ok(())
     }
 
     /// Tells what is missing and was changed in a direction.
@@ -883,15 +476,6 @@ fn least(one: Option<u64>, other: Option<u64>) -> Option<u64> {
     }
 }
 
-/// A length, or a number where that is less.
-fn shorter(number: u64, length: usize) -> usize {
-    if number < length as u64 {
-        number as usize
-    } else {
-        length
-    }
-}
-
 /// How many octets a segment had, as a part of sequence numbers.
 fn length_of(segment: &Segment) -> u32 {
     (segment.length as u64 % 0x1_0000_0000) as u32
@@ -915,64 +499,6 @@ fn span_of(stream: &Stream) -> Option<Span> {
     })
 }
 
-/// Why what waits in a direction won't come any more, if it won't.
-fn why_lost(stream: &mut Stream, moment: u64, why: Option<Why>) -> Option<Why> {
-    if !stream.is_open() {
-        return None;
-    }
-    match why {
-        Some(why) => Some(why),
-        None => stream.is_lost(moment),
-    }
-}
-
-/// Tells octets of a row their sessions up to a limit; whether one of them is the last session.
-fn settle_row(
-    direction: &mut Direction,
-    row: &mut Row,
-    limit: usize,
-    last: u64,
-) -> Result<bool, AllocError> {
-    let from = row.settled;
-    let Some(octets) = row.octets.as_slice().get(from..limit) else {
-        return Ok(false);
-    };
-    if octets.is_empty() {
-        return Ok(false);
-    }
-    let settled = direction.settle(row.place.saturating_add(from as u64), octets);
-    let place = from.saturating_add(settled.place);
-    if from < place {
-        row.cuts.push(Cut {
-            until: place,
-            session: settled.before,
-        })?;
-    }
-    if place < limit {
-        row.cuts.push(Cut {
-            until: limit,
-            session: settled.after,
-        })?;
-    }
-    row.settled = limit;
-    Ok(settled.after == last)
-}
-
-/// Tells of octets that are missing.
-fn tell_gap<S: Sink>(
-    output: &mut Output<S>,
-    sender: Sender,
-    missing: Missing,
-    behind: Behind,
-) -> Result<(), Fault> {
-    output.tell(Notice::Gap {
-        sender,
-        first: missing.from,
-        last: missing.until.saturating_sub(1),
-        behind,
-    })
-}
-
 /// Tells something of packets, where there are any.
 fn tell_packets<S: Sink>(
     output: &mut Output<S>,
@@ -988,4 +514,19 @@ fn tell_packets<S: Sink>(
         })?;
     }
     Ok(())
+}
+
+/// Tells of octets that are missing.
+fn tell_gap<S: Sink>(
+    output: &mut Output<S>,
+    sender: Sender,
+    missing: Missing,
+    behind: Behind,
+) -> Result<(), Fault> {
+    output.tell(Notice::Gap {
+        sender,
+        first: missing.from,
+        last: missing.until.saturating_sub(1),
+        behind,
+    })
 }

@@ -85,8 +85,8 @@ impl<S: Sink> Output<S> {
         self.sink.note_loss(loss)
     }
 
-    /// Tells how much is missing, and whether the script is too long for a report.
-    pub fn tell_all(&mut self, most_rows: u64, most_octets: u64) -> Result<(), Fault> {
+    /// Tells how much is missing.
+    pub fn tell_gaps(&mut self) -> Result<(), Fault> {
         if self.gaps > 0 {
             let notice = Notice::Gaps {
                 gaps: self.gaps,
@@ -95,6 +95,11 @@ impl<S: Sink> Output<S> {
             };
             self.tell(notice)?;
         }
+        Ok(())
+    }
+
+    /// Tells whether there are more rows or octets than these.
+    pub fn tell_length(&mut self, most_rows: u64, most_octets: u64) -> Result<(), Fault> {
         if self.rows > most_rows || self.octets > most_octets {
             let notice = Notice::Long {
                 rows: self.rows,

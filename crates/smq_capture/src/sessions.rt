@@ -7,13 +7,14 @@ use crate::half_open::{Answer, HalfOpen, Syn};
 use crate::links::{Link, centre_of, link_of};
 use crate::notice::{Busy, Notice};
 use crate::output::Output;
+use crate::queues::Queues;
 use crate::side::Side;
 use crate::sink::Sink;
 use smq_packets::{ACK, End, SYN, Segment};
 use smq_reassembly::WINDOW;
 use smq_streams::Why;
 use std::alloc::{AllocError, Global};
-use std::collections::{BTreeSet, HashMap, VecDeque};
+use std::collections::{HashMap, VecDeque};
 
 /// The most octets of memory that what waits takes, of all connections.
 const MOST_WAITING: u64 = 67_108_864;
@@ -31,27 +32,12 @@ const CLOSING_FOR: u64 = 60_000;
 
 const MOST_CLOSING: usize = 1_024;
 
-/// A pair of ends in a queue, by a moment.
-#[derive(Clone, Copy, Debug, PartialEq, Eq, PartialOrd, Ord)]
-struct Due {
-    moment: u64,
-    ends: Ends,
-}
-
 /// A connection that ended: when, its ends, and its first session.
 #[derive(Clone, Copy)]
 struct Closing {
     moment: u64,
     ends: Ends,
     session: u64,
-}
-
-/// The connections in which something waits: by when it is given up, and by since when it waits; and how much memory it takes.
-#[derive(Drop)]
-struct Queues {
-    due: BTreeSet<Due>,
-    oldest: BTreeSet<Due>,
-    waiting: u64,
 }
 
 /// The connections of a capture: those that are open, are about to begin, and ended.
@@ -68,62 +54,6 @@ pub struct Sessions<S> {
     skipped: u64,
     unanswered: u64,
     busy: HashMap<u16, u64>,
-}
-
-impl Queues {
-    /// Nothing waits.
-    fn new(alloc: Global) -> Queues {
-        Queues {
-            due: BTreeSet::new(alloc),
-            oldest: BTreeSet::new(alloc),
-            waiting: 0,
-        }
-    }
-
-    /// Puts a connection where it stands now.
-    fn take(&mut self, ends: Ends, connection: &mut Connection) -> Result<(), AllocError> {
-        let weight = connection.weight();
-        self.waiting = self
-            .waiting
-            .saturating_sub(connection.counted)
-            .saturating_add(weight);
-        connection.counted = weight;
-        let due = connection.deadline();
-        if due != connection.due {
-            remove(&mut self.due, connection.due, ends);
-            insert(&mut self.due, due, ends)?;
-            connection.due = due;
-        }
-        let opened = connection.waits_since();
-        if opened != connection.opened {
-            remove(&mut self.oldest, connection.opened, ends);
-            insert(&mut self.oldest, opened, ends)?;
-            connection.opened = opened;
-        }
-        Ok(())
-    }
-
-    /// Forgets a connection.
-    fn forget(&mut self, ends: Ends, connection: &Connection) {
-        remove(&mut self.due, connection.due, ends);
-        remove(&mut self.oldest, connection.opened, ends);
-        self.waiting = self.waiting.saturating_sub(connection.counted);
-    }
-}
-
-/// Puts ends into a queue.
-fn insert(queue: &mut BTreeSet<Due>, moment: Option<u64>, ends: Ends) -> Result<(), AllocError> {
-    if let Some(moment) = moment {
-        let _ = queue.insert(Due { moment, ends })?;
-    }
-    Ok(())
-}
-
-/// Takes ends out of a queue.
-fn remove(queue: &mut BTreeSet<Due>, moment: Option<u64>, ends: Ends) {
-    if let Some(moment) = moment {
-        let _ = queue.remove(&Due { moment, ends });
-    }
 }
 
 impl<S: Sink + Drop> Sessions<S> {
@@ -483,10 +413,10 @@ impl<S: Sink + Drop> Sessions<S> {
     }
 
     /// Goes on behind gaps that won't fill any more by a moment.
-    fn give_up(&mut self, moment: u64) -> Result<(), Fault> {
+    pub fn give_up(&mut self, moment: u64) -> Result<(), Fault> {
         for _ in 0..u64::MAX {
-            let ends = match self.queues.due.first() {
-                Some(due) if due.moment <= moment && !self.output.is_strict => due.ends,
+            let ends = match self.queues.due_by(moment) {
+                Some(ends) if !self.output.is_strict => ends,
                 _ => break,
             };
             let Some(connection) = self.open.get_mut(&ends) else {
@@ -501,12 +431,11 @@ impl<S: Sink + Drop> Sessions<S> {
     /// Goes on behind the gaps that have waited longest, while too much waits.
     fn give_up_oldest(&mut self, moment: u64) -> Result<(), Fault> {
         for _ in 0..u64::MAX {
-            if self.queues.waiting <= MOST_WAITING {
+            if self.queues.waiting() <= MOST_WAITING {
                 break;
             }
-            let ends = match self.queues.oldest.first() {
-                Some(due) => due.ends,
-                None => break,
+            let Some(ends) = self.queues.oldest() else {
+                break;
             };
             let Some(connection) = self.open.get_mut(&ends) else {
                 break;

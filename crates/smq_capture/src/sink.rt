@@ -54,6 +54,10 @@ pub trait Sink {
     /// Takes a piece; how many octets a row of it has.
     fn put(&mut self, piece: &Piece<'_>) -> Result<usize, Fault>;
 
+    /// Takes that the capture's clock has passed a multiple of what was asked for, which is told where it is later than the one before, and
+    /// once more that the captures ended.
+    fn tick(&mut self, clock: Option<u64>) -> Result<(), Fault>;
+
     /// Takes what is told.
     fn tell(&mut self, notice: &Notice) -> Result<(), Fault>;
 
@@ -67,11 +71,13 @@ pub trait Sink {
     fn flush(&mut self) -> Result<(), Fault>;
 }
 
-/// Writes pieces as rows of a script, and the rest as lines, where there are writers for them.
+/// Writes pieces as rows of a script, and the rest as lines, where there are writers for them. At each tick come a row of the clock and
+/// rows of questions.
 #[derive(Drop)]
 pub struct Texts<W, N, I, L> {
     alloc: Global,
     text: Vec<u8>,
+    questions: Vec<String>,
     rows: W,
     notices: N,
     index: Option<I>,
@@ -79,16 +85,29 @@ pub struct Texts<W, N, I, L> {
 }
 
 impl<W: Write, N: Write, I: Write, L: Write> Texts<W, N, I, L> {
-    /// Writes to these.
-    pub fn new(alloc: Global, rows: W, notices: N, index: Option<I>, losses: Option<L>) -> Self {
+    /// Writes to these, and asks these questions.
+    pub fn new(
+        alloc: Global,
+        questions: Vec<String>,
+        rows: W,
+        notices: N,
+        index: Option<I>,
+        losses: Option<L>,
+    ) -> Self {
         Texts {
             alloc,
             text: Vec::new(alloc),
+            questions,
             rows,
             notices,
             index,
             losses,
         }
+    }
+
+    /// The writer of rows.
+    pub fn rows(&mut self) -> &mut W {
+        &mut self.rows
     }
 
     /// Writes the rows that it took.
@@ -115,6 +134,19 @@ impl<W: Write, N: Write, I: Write, L: Write> Sink for Texts<W, N, I, L> {
             self.write_rows()?;
         }
         Ok(after.saturating_sub(before))
+    }
+
+    fn tick(&mut self, clock: Option<u64>) -> Result<(), Fault> {
+        if let Some(moment) = clock {
+            let row = format!(in self.alloc; "clock,{moment}\n")?;
+            self.text.extend_from_slice(row.as_bytes())?;
+        }
+        for name in self.questions.as_slice() {
+            self.text.extend_from_slice(b"ask,")?;
+            self.text.extend_from_slice(name.as_bytes())?;
+            self.text.extend_from_slice(b"\n")?;
+        }
+        Ok(())
     }
 
     fn tell(&mut self, notice: &Notice) -> Result<(), Fault> {

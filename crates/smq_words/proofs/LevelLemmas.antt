@@ -1,7 +1,7 @@
 -- What `clap` finds at the words of one level in which it finds no fault: each value of an argument has what the parser of
--- the argument asks for, whatever the order of the words.
-use Rattle.std.proofs.Common.{◌≡◌, ◌∙◌, ◌&&◌, ℕ, zero, suc, Bool, true, false, cond, List, [], ◌∷◌, ◌++◌, length, Option, Some, None, refl, sym, ap, subst}
-use Rattle.std.specs.Prelude.{drop, encode_utf8, find, fold, is_some, option_and_then, slice_get}
+-- the argument asks for, whatever the order of the words, be it a default or not.
+use Rattle.std.proofs.Common.{◌≡◌, ◌&&◌, ℕ, zero, suc, Bool, true, false, cond, List, [], ◌∷◌, ◌++◌, length, Option, Some, None, refl, sym, subst, codes}
+use Rattle.std.specs.Prelude.{drop, encode_utf8, find, fold, is_some, option_and_then, option_map, slice_get}
 use Rattle.std.specs.Option.{option_map_or}
 use Rattle.std.specs.Str.{bytes_eq, chars}
 use Rattle.std.proofs.lemmas.Slice.Eq.{bytes_eq-Decides}
@@ -11,9 +11,10 @@ use Rattle.clap.specs.Kinds.{Kinds, or_else, value_kinds, values_kinds}
 use Rattle.clap.specs.Lexer.{long_of, short_of}
 use Rattle.clap.specs.Simple.{Shape}
 use Rattle.clap.specs.Takes.{is_given}
-use Rattle.clap.specs.Walk.{Held, Names, Outcome, Row, Rule, Step, Text, Waiting, Walk, after_flag, after_step, arg_by_id, arg_by_index, arg_by_long, arg_by_short, at_row, attached_value, bundle_met, bundle_step, default_rows, first_of, flag_met, has_row, is_pending, long_met, long_or_other, more_values, nothing_held, option_met, option_word, plain_word, reacted, reading_by, rows_after, settled, settled_rows, short_met, short_or_plain, subcommand_met, subcommand_or_other, takes_several, takes_values, to_positional, used, used_by_id, walk_from, walked, walked_from, with_default, with_values, without, word_met}
+use Rattle.clap.specs.Values.{read_as}
+use Rattle.clap.specs.Walk.{Held, Names, Outcome, Row, Rule, Step, Text, Waiting, Walk, after_flag, after_step, arg_by_id, arg_by_index, arg_by_long, arg_by_short, at_row, attached_value, bundle_met, bundle_step, default_rows, first_of, flag_met, has_row, is_pending, long_met, long_or_other, more_values, nothing_held, one_of, option_met, option_word, plain_word, reacted, reading_by, row_text, rows_after, settled, settled_rows, short_met, short_or_plain, subcommand_met, subcommand_or_other, takes_several, takes_values, to_positional, used, used_by_id, values_or_missing, walk_from, walked, walked_from, with_default, with_values, without, word_met}
 use Rattle.clap.specs.Walk.{done, idle, next, option, plain, positional, refused, subcommand, trailing, value, waits}
-use Rattle.clap.specs.declared.builder.action.ArgAction.TheVariants.{Help, Set}
+use Rattle.clap.specs.declared.builder.action.ArgAction.TheVariants.{Append, Help, Set, SetTrue}
 use Rattle.clap.specs.declared.builder.range.ValueRange.{ValueRange}
 use Rattle.clap.specs.declared.builder.value_parser.Reading.{Reading}
 use Rattle.clap.specs.declared.builder.value_parser.ValueParser.{ValueParser}
@@ -115,6 +116,38 @@ set_keeps P a f again (v ∷ vs) rows h fit =
     let passes = (neither _ _ reacts).1 in
     with_values_fit P a.id _ _ (v ∷ vs) (without a.id rows)
     (values_pass (P a.id) a.ignore_case (parser_of_value a.parser) f (v ∷ vs) passes) (without_fit P a.id rows fit)
+
+-- an argument that takes one value a use, and keeps those of the uses before
+abbrev pub appended : Rule → Rule
+appended a = record a { action = Some Append; range = Some one }
+
+pub append_keeps : (P : Text → Text → Type 0) (a : Rule) → ((v : Text) → value_kinds a.ignore_case (parser_of_value a.parser) v ≡ []
+    → P a.id v) → Keeps P (appended a)
+append_keeps P a f again [] rows h fit = absurd (some_kind h)
+append_keeps P a f again (v ∷ vs) rows h fit =
+    let passes = (neither _ _ h).1 in
+    with_values_fit P a.id _ _ (v ∷ vs) rows
+    (values_pass (P a.id) a.ignore_case (parser_of_value a.parser) f (v ∷ vs) passes) fit
+
+abbrev none : ValueRange
+none = record { start_inclusive = 0; end_inclusive = 0 }
+
+-- a flag: where it is given, its value is `true`
+abbrev pub flagged : Rule → Rule
+flagged a = record a { action = Some SetTrue; range = Some none; missing = codes "true" ∷ [] }
+
+pub flag_keeps : (P : Text → Text → Type 0) (a : Rule) → ((v : Text) → value_kinds a.ignore_case (parser_of_value a.parser) v ≡ []
+    → P a.id v) → Keeps P (flagged a)
+flag_keeps P a f again values rows h fit = by_values values (neither _ _ (neither _ _ h).1).1
+  where
+    by_values : (values : List Text) → values_kinds a.ignore_case (parser_of_value a.parser) (values_or_missing (flagged a) values) ≡ []
+        → Fit P (used (flagged a) values rows)
+    by_values [] passes =
+        with_values_fit P a.id _ _ (codes "true" ∷ []) (without a.id rows)
+        (values_pass (P a.id) a.ignore_case (parser_of_value a.parser) f (codes "true" ∷ []) passes) (without_fit P a.id rows fit)
+    by_values (v ∷ vs) passes =
+        with_values_fit P a.id _ _ (v ∷ vs) (without a.id rows)
+        (values_pass (P a.id) a.ignore_case (parser_of_value a.parser) f (v ∷ vs) passes) (without_fit P a.id rows fit)
 
 -- an argument that asks for help
 abbrev pub asks_help : Rule → Rule
@@ -302,29 +335,33 @@ walk_fit P s all names (word ∷ words) w clean fit =
 
 -- ---- the end of a level
 
--- no argument has a default
-abbrev pub NoDefaults : List Rule → Type 0
-NoDefaults [] = Unit {0}
-NoDefaults (a ∷ rest) = (a.defaults ≡ []) × NoDefaults rest
+-- each default value of an argument has P of the argument's id
+abbrev pub DefaultsFit : (Text → Text → Type 0) → List Rule → Type 0
+DefaultsFit P [] = Unit {0}
+DefaultsFit P (a ∷ rest) = Each (P a.id) a.defaults × DefaultsFit P rest
 
-no_default : (c : List Rule) → NoDefaults c → (rows : List Row) → fold with_default rows c ≡ rows
-no_default [] none rows = refl
-no_default (a ∷ rest) none rows = ap (λ rows. fold with_default rows rest) (same (has_row a.id rows)) ∙ no_default rest none.1 rows
+defaults_fit : (P : Text → Text → Type 0) (c : List Rule) → DefaultsFit P c → (rows : List Row) → Fit P rows → Fit P (fold with_default rows c)
+defaults_fit P [] all rows fit = fit
+defaults_fit P (a ∷ rest) all rows fit = defaults_fit P rest all.1 (with_default rows a) (by_row (has_row a.id rows))
   where
-    same : (b : Bool) → cond b rows (default_rows a.id (reading_by a) a.defaults rows) ≡ rows
-    same true = refl
-    same false = ap (λ vs. default_rows a.id (reading_by a) vs rows) none.0
+    by_values : (vs : List Text) → Each (P a.id) vs → Fit P (default_rows a.id (reading_by a) vs rows)
+    by_values [] each = fit
+    by_values (v ∷ vs) each = with_values_fit P a.id _ _ (v ∷ vs) rows each fit
+
+    by_row : (b : Bool) → Fit P (cond b rows (default_rows a.id (reading_by a) a.defaults rows))
+    by_row true = fit
+    by_row false = by_values a.defaults all.0
 
 -- the rows of a level without a fault fit, and what it requires is given
-pub level_fit : (P : Text → Text → Type 0) (s : Shape) → AllKeep P s.rules → NoDefaults s.rules → (words : List Text)
+pub level_fit : (P : Text → Text → Type 0) (s : Shape) → AllKeep P s.rules → DefaultsFit P s.rules → (words : List Text)
     → level_fault s [] nothing_held words false [] ≡ []
     → Fit P (rows_after s.rules [] words) × (check_fault s (rows_after s.rules [] words) false ≡ [])
-level_fit P s all none words clean =
+level_fit P s all defaults words clean =
     let end = (fold (walked s.rules []) (walk_from nothing_held) words).held in
     let walks = neither (walk_fault s [] (walk_from nothing_held) words) _ clean in
     let settles = neither (settle_fault s.rules s.args_override_self end) _ walks.1 in
     let checks = neither (defaults_fault (settled s.rules end).rows s.rules) _ settles.1 in (
-      subst (Fit P) (sym (no_default s.rules none (settled s.rules end).rows))
+      defaults_fit P s.rules defaults (settled s.rules end).rows
           (settle_fit P s.rules all s.args_override_self end settles.0 (walk_fit P s all [] words (walk_from nothing_held) walks.0 tt)),
       checks.1,
     )
@@ -360,6 +397,19 @@ first_fit P id rows fit = of_row (find (λ r. bytes_eq r.id id) rows) (found_fit
     of_row : (o : Option Row) → IfFit (P id) o → IfHas (P id) (option_and_then (λ r. slice_get r.values 0) o)
     of_row None h = tt
     of_row (Some r) h = of_values r.values h
+
+-- and so has Q as it is read, where P gives that
+pub read_fit : (P : Text → Text → Type 0) (Q : Text → Type 0) (id : Text) → ((how : Reading) (v : Text) → P id v → Q (read_as how v))
+    → (rows : List Row) → Fit P rows → IfHas Q (one_of id rows)
+read_fit P Q id reads rows fit = of_row (find (λ r. bytes_eq r.id id) rows) (found_fit P id rows fit)
+  where
+    of_values : (how : Reading) (vs : List Text) → SomeEach (P id) vs → IfHas Q (option_map (read_as how) (slice_get vs 0))
+    of_values how [] h = tt
+    of_values how (v ∷ vs) h = reads how v h.0
+
+    of_row : (o : Option Row) → IfFit (P id) o → IfHas Q (option_and_then row_text o)
+    of_row None h = tt
+    of_row (Some r) h = of_values r.reading r.values h
 
 -- an argument that is given has a first value
 pub given_fit : (P : Text → Text → Type 0) (id : Text) (rows : List Row) → Fit P rows → is_given id rows ≡ true

@@ -1,3 +1,4 @@
+pub mod KnownLemmas
 pub mod LevelLemmas
 pub mod OrderLemmas
 pub mod RuleLemmas

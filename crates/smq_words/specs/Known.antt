@@ -1,8 +1,8 @@
 -- The words of orders, at known values.
-use Rattle.std.specs.Prelude.{◌≡◌, [], ◌∷◌, List, codes, Option, Some, None}
+use Rattle.std.specs.Prelude.{◌≡◌, ◌++◌, [], ◌∷◌, List, codes, false, true, Option, Some, None}
 use Rattle.clap.specs.Words.{Kinds, Text, fault_of, subcommand_of}
 use Rattle.clap.specs.declared.builder.value_parser.ValueParser.{ValueParser}
-use Rattle.clap.specs.declared.error.kind.ErrorKind.TheVariants.{UnknownArgument}
+use Rattle.clap.specs.declared.error.kind.ErrorKind.TheVariants.{MissingRequiredArgument, UnknownArgument}
 use Rattle.smq_report.specs.declared.pick.Format.{Format}
 use Rattle.smq_report.specs.declared.pick.Format.TheVariants as format
 use Rattle.smq_report.specs.declared.pick.Pick.{Pick}
@@ -13,12 +13,29 @@ use Rattle.smq_report.specs.declared.pick.Output.TheVariants.{Messages, Receipts
 use Rattle.smq_report.specs.declared.pick.Query.{Query}
 use Rattle.smq_report.specs.Picks.{pick_names}
 use Rattle.smq_words.specs.declared.orders.Task.{Task}
-use Rattle.smq_words.specs.declared.orders.Task.TheVariants.{Check, Follow, Run, Total}
-use Rattle.smq_words.specs.Words.{Asks, format_names, format_rule, program, settings_rule, subcommand_name, version_text}
+use Rattle.smq_words.specs.declared.orders.Task.TheVariants.{Capture, Check, Follow, Run, Total}
+use Rattle.smq_words.specs.Words.{Asks, CaptureTexts, format_names, format_rule, link_rule, program, question_names, settings_rule, subcommand_name, version_text}
 
 -- what is asked of a report, and in which format
 abbrev pub of_query : Pick → Format → Query
 of_query pick format = record { pick = pick; format = format }
+
+-- no captures
+abbrev pub no_captures : CaptureTexts
+no_captures = record {
+  paths = [];
+  links = [];
+  first_session = None;
+  index = None;
+  losses = None;
+  every = None;
+  questions = [];
+  is_strict = false;
+}
+
+-- the captures at these paths, with these links
+abbrev pub captures_at : List Text → List Text → CaptureTexts
+captures_at paths links = record no_captures { paths = paths; links = links }
 
 -- the names that `query` takes, the subcommands, the formats and the options, the version, and what `report` alone asks for
 pub record KnowsWords : Type 0 where
@@ -33,16 +50,23 @@ pub record KnowsWords : Type 0 where
   pub formats : format_names ≡ codes "csv" ∷ codes "table" ∷ []
   pub format_option : (formats : ValueParser) → (format_rule formats).long ≡ Some (codes "format")
   pub settings_option : settings_rule.long ≡ Some (codes "settings")
+  pub link_option : link_rule.long ≡ Some (codes "link")
+  pub questions : question_names ≡ pick_names ++ codes "report" ∷ []
   pub version : version_text ≡ codes "0.23.0"
-  pub plain : Asks (Some (codes "report", [])) (Run (of_query pick.All format.Csv)) None
+  pub plain : Asks (Some (codes "report", [])) (Run (of_query pick.All format.Csv)) None no_captures
 
--- the fault that `clap` finds in words, whatever names and formats its parsers take
+-- the fault that `clap` finds in words, whatever names, formats and questions its parsers take
 abbrev pub HasFault : List Text → Kinds → Type 0
-HasFault words fault = (names formats : ValueParser) → fault_of (program names formats) words ≡ fault
+HasFault words fault = (names formats questions : ValueParser) → fault_of (program names formats questions) words ≡ fault
 
--- the task and the path of settings for which words ask
+-- the task, the path of settings and the captures for which words ask
+abbrev pub AskWith : List Text → Task → Option Text → CaptureTexts → Type 0
+AskWith words task path captures =
+    (names formats questions : ValueParser) → Asks (subcommand_of (program names formats questions) words) task path captures
+
+-- the same where they ask for no captures
 abbrev pub AskFor : List Text → Task → Option Text → Type 0
-AskFor words task path = (names formats : ValueParser) → Asks (subcommand_of (program names formats) words) task path
+AskFor words task path = AskWith words task path no_captures
 
 -- words of `check`: it takes a path of settings, and neither a format nor a name
 pub record KnowsCheck : Type 0 where
@@ -77,3 +101,34 @@ pub record KnowsLines : Type 0 where
   pub settings_asked : AskFor (codes "receipts" ∷ codes "--settings" ∷ codes "p" ∷ []) (Total Receipts) (Some (codes "p"))
   pub format : HasFault (codes "messages" ∷ codes "--format" ∷ codes "csv" ∷ []) (UnknownArgument ∷ [])
   pub name : HasFault (codes "receipts" ∷ codes "link" ∷ []) (UnknownArgument ∷ [])
+
+-- words of `capture`: it takes a link or more, captures and how they are read, and no path of settings
+pub record KnowsCapture : Type 0 where
+  pub captures : AskWith (codes "capture" ∷ codes "--link" ∷ codes "2775=1" ∷ codes "a.pcap" ∷ []) Capture None
+      (captures_at (codes "a.pcap" ∷ []) (codes "2775=1" ∷ []))
+  pub taken : HasFault (codes "capture" ∷ codes "--link" ∷ codes "2775=1" ∷ codes "a.pcap" ∷ []) []
+  pub two : AskWith (codes "capture" ∷ codes "a" ∷ codes "--link" ∷ codes "1=1" ∷ codes "--link=2=2" ∷ codes "-" ∷ []) Capture None
+      (captures_at (codes "a" ∷ codes "-" ∷ []) (codes "1=1" ∷ codes "2=2" ∷ []))
+  pub options : AskWith (codes "capture" ∷ codes "--link" ∷ codes "1=1" ∷ codes "--strict" ∷ codes "--index" ∷ codes "i" ∷ codes "--losses" ∷ codes "l"
+      ∷ codes "--first-session" ∷ codes "7" ∷ []) Capture None
+      (record (captures_at [] (codes "1=1" ∷ [])) { first_session = Some (codes "7"); index = Some (codes "i"); losses = Some (codes "l"); is_strict = true })
+  pub live : AskWith (codes "capture" ∷ codes "--link" ∷ codes "1=1" ∷ codes "--every" ∷ codes "60" ∷ codes "--ask" ∷ codes "link" ∷ codes "--ask"
+      ∷ codes "report" ∷ []) Capture None
+      (record (captures_at [] (codes "1=1" ∷ [])) { every = Some (codes "60"); questions = codes "link" ∷ codes "report" ∷ [] })
+  pub no_link : HasFault (codes "capture" ∷ codes "a.pcap" ∷ []) (MissingRequiredArgument ∷ [])
+  pub settings : HasFault (codes "capture" ∷ codes "--link" ∷ codes "1=1" ∷ codes "--settings" ∷ codes "p" ∷ []) (UnknownArgument ∷ [])
+
+-- words of captures behind the other subcommands: each takes captures and how they are read, and `follow` alone what is asked meanwhile
+pub record KnowsCaptures : Type 0 where
+  pub report : AskWith (codes "report" ∷ codes "--capture" ∷ codes "f" ∷ codes "--link" ∷ codes "2775=1" ∷ []) (Run (of_query pick.All format.Csv))
+      None (captures_at (codes "f" ∷ []) (codes "2775=1" ∷ []))
+  pub report_taken : HasFault (codes "report" ∷ codes "--capture" ∷ codes "f" ∷ codes "--link" ∷ codes "2775=1" ∷ []) []
+  pub check : AskWith (codes "check" ∷ codes "--capture" ∷ codes "f" ∷ codes "--capture" ∷ codes "g" ∷ codes "--strict" ∷ []) Check None
+      (record (captures_at (codes "f" ∷ codes "g" ∷ []) []) { is_strict = true })
+  pub messages : AskWith (codes "messages" ∷ codes "--index" ∷ codes "i" ∷ codes "--losses" ∷ codes "l" ∷ []) (Total Messages) None
+      (record no_captures { index = Some (codes "i"); losses = Some (codes "l") })
+  pub follow : AskWith (codes "follow" ∷ codes "--every" ∷ codes "5" ∷ codes "--first-session" ∷ codes "2" ∷ []) (Follow format.Csv) None
+      (record no_captures { every = Some (codes "5"); first_session = Some (codes "2") })
+  pub every : HasFault (codes "report" ∷ codes "--every" ∷ codes "5" ∷ []) (UnknownArgument ∷ [])
+  pub ask : HasFault (codes "total" ∷ codes "--ask" ∷ codes "link" ∷ []) (UnknownArgument ∷ [])
+  pub file : HasFault (codes "report" ∷ codes "a.pcap" ∷ []) (UnknownArgument ∷ [])

@@ -1,12 +1,13 @@
 -- The words that the program takes, as `clap` reads them.
-use Rattle.std.specs.Prelude.{◌≡◌, ◌⊎◌, ⊤, List, [], ◌∷◌, map, codes, true, false, unwrap_or, option_map, string_bytes, Option, Some, Result, IsErrAnd}
+use Rattle.std.specs.Prelude.{◌≡◌, ◌⊎◌, ◌++◌, ⊤, Bool, List, [], ◌∷◌, fold, map, codes, true, false, unwrap_or, option_map, string_bytes, Option, Some, Result, IsErrAnd}
 use Rattle.std.specs.Borrow.{Bor}
-use Rattle.clap.specs.Words.{App, FailsBy, Row, Rule, Text, fault_of, first_of, kind_of, new_app, new_rule, rule_of, subcommand_of, with_rule, with_subcommand}
+use Rattle.clap.specs.Words.{App, FailsBy, Row, Rule, Text, all_of, fault_of, first_of, kind_of, new_app, new_rule, one_of, rule_of, subcommand_of, with_rule, with_subcommand}
 use Rattle.clap.specs.Simple.{on_top}
+use Rattle.clap.specs.Values.{bool_text}
 use Rattle.clap.specs.declared.error.Error.{Error}
 use Rattle.clap.specs.declared.error.kind.ErrorKind.TheVariants.{OutOfMemory}
 use Rattle.clap.specs.declared.builder.arg.Arg.{Arg}
-use Rattle.clap.specs.declared.builder.action.ArgAction.TheVariants.{Set}
+use Rattle.clap.specs.declared.builder.action.ArgAction.TheVariants.{Append, Set, SetTrue}
 use Rattle.clap.specs.declared.builder.value_parser.ValueParser.{ValueParser}
 use Rattle.clap.specs.declared.builder.value_parser.ValueParser.TheVariants.{Names}
 use Rattle.smq_report.specs.Picks.{pick_name, pick_names}
@@ -17,9 +18,10 @@ use Rattle.smq_report.specs.declared.pick.Output.TheVariants as output
 use Rattle.smq_report.specs.declared.pick.Pick.{Pick}
 use Rattle.smq_report.specs.declared.pick.Pick.TheVariants as pick
 use Rattle.smq_report.specs.declared.pick.Query.{Query}
+use Rattle.smq_words.specs.declared.orders.Captures.{Captures}
 use Rattle.smq_words.specs.declared.orders.Order.{Order}
 use Rattle.smq_words.specs.declared.orders.Task.{Task}
-use Rattle.smq_words.specs.declared.orders.Task.TheVariants.{Check, Follow, Run, Total}
+use Rattle.smq_words.specs.declared.orders.Task.TheVariants.{Capture, Check, Follow, Run, Total}
 
 -- ---- the subcommands
 
@@ -41,6 +43,7 @@ subcommand_name (Run query) = run_name query.pick
 subcommand_name Check = codes "check"
 subcommand_name (Follow format) = codes "follow"
 subcommand_name (Total asked) = total_name asked
+subcommand_name Capture = codes "capture"
 
 -- the name of a format
 abbrev pub format_name : Format → Text
@@ -50,6 +53,10 @@ format_name format.Table = codes "table"
 -- the names of formats
 abbrev pub format_names : List Text
 format_names = map format_name (format.Csv ∷ format.Table ∷ [])
+
+-- the names of questions: those of views and lists, and the whole report's
+abbrev pub question_names : List Text
+question_names = pick_names ++ codes "report" ∷ []
 
 -- ---- the program's words, without its own name
 
@@ -89,21 +96,77 @@ settings_rule = record (new_rule (codes "settings")) {
   value_names = 1;
 }
 
+-- an option with one value, any text
+abbrev pub option_rule : Text → Rule
+option_rule name = record (new_rule name) { long = Some name; action = Some Set; value_names = 1 }
+
+-- an option that may come again, each time with one value, any text
+abbrev pub repeated_rule : Text → Rule
+repeated_rule name = record (new_rule name) { long = Some name; action = Some Append; value_names = 1 }
+
+-- `--link`, which may come again
+abbrev pub link_rule : Rule
+link_rule = repeated_rule (codes "link")
+
+-- `--link`, which comes once or more
+abbrev pub required_link_rule : Rule
+required_link_rule = record link_rule { required = true }
+
+-- `--strict`, a flag
+abbrev pub strict_rule : Rule
+strict_rule = record (new_rule (codes "strict")) { long = Some (codes "strict"); action = Some SetTrue }
+
+-- `--ask`, which may come again, with the name of a question
+abbrev pub ask_rule : ValueParser → Rule
+ask_rule questions = record (repeated_rule (codes "ask")) { parser = Some questions }
+
+-- FILE, which may be left out and may come again
+abbrev pub file_rule : Rule
+file_rule = record (new_rule (codes "FILE")) { action = Some Append }
+
 -- an argument that its own subcommand alone has, with this rule
 abbrev pub IsArgument : Rule → Arg → Type 0
 IsArgument rule argument = (rule_of argument ≡ rule) × (argument.global ≡ false)
 
--- a subcommand whose one option is `--settings`, as `check`, `messages` and `receipts` are
-abbrev pub settings_app : Text → App
-settings_app name = with_rule (new_app name) settings_rule
+-- a subcommand with more arguments
+abbrev pub with_rules : App → List Rule → App
+with_rules app rules = fold with_rule app rules
 
--- a subcommand with the options `--format` and `--settings`, as `report` and `follow` are
+-- how captures are read, beside their links
+abbrev pub reading_rules : List Rule
+reading_rules =
+    option_rule (codes "first-session") ∷ strict_rule ∷ option_rule (codes "index") ∷ option_rule (codes "losses") ∷ []
+
+-- the captures that are read behind rows, and how
+abbrev pub captures_rules : List Rule
+captures_rules = repeated_rule (codes "capture") ∷ link_rule ∷ reading_rules
+
+-- what is asked while packets come
+abbrev pub live_rules : ValueParser → List Rule
+live_rules questions = option_rule (codes "every") ∷ ask_rule questions ∷ []
+
+-- a subcommand with `--settings` and the options of captures, as `check`, `messages` and `receipts` are
+abbrev pub settings_app : Text → App
+settings_app name = with_rules (with_rule (new_app name) settings_rule) captures_rules
+
+-- a subcommand with `--format` as well, as `report` is
 abbrev pub options_app : Text → ValueParser → App
-options_app name formats = with_rule (with_rule (new_app name) (format_rule formats)) settings_rule
+options_app name formats =
+    with_rules (with_rule (with_rule (new_app name) (format_rule formats)) settings_rule) captures_rules
 
 -- a subcommand with a name and the same options, as `query` and `total` are
 abbrev pub named_app : Text → Rule → ValueParser → App
-named_app name rule formats = with_rule (with_rule (with_rule (new_app name) rule) (format_rule formats)) settings_rule
+named_app name rule formats =
+    with_rules (with_rule (with_rule (with_rule (new_app name) rule) (format_rule formats)) settings_rule) captures_rules
+
+-- `follow`: the options of `report`, and what is asked while packets come
+abbrev pub follow_app : ValueParser → ValueParser → App
+follow_app formats questions = with_rules (options_app (codes "follow") formats) (live_rules questions)
+
+-- `capture`: its links, how captures are read, what is asked while packets come, and the captures
+abbrev pub capture_app : ValueParser → App
+capture_app questions =
+    with_rule (with_rules (with_rules (with_rule (new_app (codes "capture")) required_link_rule) reading_rules) (live_rules questions)) file_rule
 
 -- the program's version
 abbrev pub version_text : Text
@@ -115,24 +178,29 @@ bare_program = on_top (λ shape. record shape { no_binary_name = true; subcomman
     (new_app (codes "smq"))
 
 -- the program's subcommands
-abbrev pub program : ValueParser → ValueParser → App
-program names formats =
+abbrev pub program : ValueParser → ValueParser → ValueParser → App
+program names formats questions =
     with_subcommand
     (with_subcommand
     (with_subcommand
     (with_subcommand
     (with_subcommand
-    (with_subcommand (with_subcommand bare_program (options_app (codes "report") formats).top) (named_app (codes "query") (name_rule names) formats).top)
-    (settings_app (codes "check")).top) (options_app (codes "follow") formats).top)
-    (named_app (codes "total") (optional_rule names) formats).top) (settings_app (codes "messages")).top) (settings_app (codes "receipts")).top
+    (with_subcommand
+    (with_subcommand (with_subcommand bare_program (capture_app questions).top) (options_app (codes "report") formats).top)
+    (named_app (codes "query") (name_rule names) formats).top) (settings_app (codes "check")).top)
+    (follow_app formats questions).top) (named_app (codes "total") (optional_rule names) formats).top)
+    (settings_app (codes "messages")).top) (settings_app (codes "receipts")).top
 
--- the program's words, where NAME is the name of a view or a list, and a format is `csv` or `table`
+-- the program's words, where NAME is the name of a view or a list, a format is `csv` or `table`, and a question is the name of a view or a
+-- list, or `report`
 pub record IsProgram (app : App) : Type 0 where
   pub names : ValueParser
   pub formats : ValueParser
+  pub questions : ValueParser
   pub takes_names : TakesNames pick_names names
   pub takes_formats : TakesNames format_names formats
-  pub is_program : app ≡ program names formats
+  pub takes_questions : TakesNames question_names questions
+  pub is_program : app ≡ program names formats questions
 
 -- ---- what the words ask for
 
@@ -157,16 +225,65 @@ Say rows (Follow format) = HasFormat rows format
 Say rows (Total (output.Report query)) = IsQueried rows query
 Say rows (Total output.Messages) = ⊤
 Say rows (Total output.Receipts) = ⊤
+Say rows Capture = ⊤
 
--- The matches of the subcommand that words enter ask for a task and a path: the subcommand is the task's, its arguments ask for what
--- the task says, and the path is that of `--settings`.
-pub record Asks (entered : Option (Text × List Row)) (task : Task) (path : Option Text) : Type 0 where
+-- the words of captures, as texts
+pub record CaptureTexts : Type 0 where
+  pub paths : List Text
+  pub links : List Text
+  pub first_session : Option Text
+  pub index : Option Text
+  pub losses : Option Text
+  pub every : Option Text
+  pub questions : List Text
+  pub is_strict : Bool
+
+-- the texts of an order's captures
+abbrev pub texts_of_captures : Captures → CaptureTexts
+texts_of_captures captures = record {
+  paths = map string_bytes captures.paths.items;
+  links = map string_bytes captures.links.items;
+  first_session = option_map string_bytes captures.first_session;
+  index = option_map string_bytes captures.index;
+  losses = option_map string_bytes captures.losses;
+  every = option_map string_bytes captures.every;
+  questions = map string_bytes captures.questions.items;
+  is_strict = captures.is_strict;
+}
+
+-- all values of an argument, in the order of the words
+abbrev pub values_of : Text → List Row → List Text
+values_of id rows = unwrap_or (all_of id rows) []
+
+-- whether a flag is given
+abbrev pub HasFlag : Text → List Row → Bool → Type 0
+HasFlag id rows is_given = unwrap_or (one_of id rows) (codes "false") ≡ bool_text is_given
+
+-- What the arguments of a subcommand say of captures: the paths are those of FILE, which `capture` has, or of `--capture`, which the
+-- others have; each of the rest is what its option says.
+pub record HasCaptures (rows : List Row) (texts : CaptureTexts) : Type 0 where
+  pub paths : values_of (codes "FILE") rows ++ values_of (codes "capture") rows ≡ texts.paths
+  pub links : values_of (codes "link") rows ≡ texts.links
+  pub first_session : first_of (codes "first-session") rows ≡ texts.first_session
+  pub index : first_of (codes "index") rows ≡ texts.index
+  pub losses : first_of (codes "losses") rows ≡ texts.losses
+  pub every : first_of (codes "every") rows ≡ texts.every
+  pub questions : values_of (codes "ask") rows ≡ texts.questions
+  pub strict : HasFlag (codes "strict") rows texts.is_strict
+
+-- The matches of the subcommand that words enter ask for a task, a path and captures: the subcommand is the task's, its arguments ask for
+-- what the task says, the path is that of `--settings`, and the captures are those that the arguments name.
+pub record Asks (entered : Option (Text × List Row)) (task : Task) (path : Option Text) (captures : CaptureTexts) : Type 0 where
   pub rows : List Row
   pub enters : entered ≡ Some (subcommand_name task, rows)
   pub say : Say rows task
   pub has_path : first_of (codes "settings") rows ≡ path
+  pub has_captures : HasCaptures rows captures
+
+-- an order is one for which the matches of the subcommand ask
+abbrev pub IsAsked : Option (Text × List Row) → Order → Type 0
+IsAsked entered order = Asks entered order.task (option_map string_bytes order.settings) (texts_of_captures order.captures)
 
 -- an order is the one for which `clap`'s matches of the words ask
 abbrev pub HasOrder : List Text → Order → Type 0
-HasOrder words order =
-    (app : App) × IsProgram app × Asks (subcommand_of app words) order.task (option_map string_bytes order.settings)
+HasOrder words order = (app : App) × IsProgram app × IsAsked (subcommand_of app words) order

@@ -1,5 +1,5 @@
 //! Known values of the definitions: each is the contract of a function with no body.
-ghost use Rattle.smq_words.specs.Known.{KnowsCheck, KnowsFollow, KnowsLines, KnowsTotal, KnowsWords};
+ghost use Rattle.smq_words.specs.Known.{KnowsCapture, KnowsCaptures, KnowsCheck, KnowsFollow, KnowsLines, KnowsTotal, KnowsWords};
 
 /// The words of orders.
 pub fn known_words()
@@ -24,4 +24,14 @@ pub fn known_words_of_total()
 /// Which words `messages` and `receipts` take.
 pub fn known_words_of_lines()
     ensures { KnowsLines }
+{}
+
+/// Which words `capture` takes.
+pub fn known_words_of_capture()
+    ensures { KnowsCapture }
+{}
+
+/// Which words of captures the other subcommands take.
+pub fn known_words_of_captures()
+    ensures { KnowsCaptures }
 {}

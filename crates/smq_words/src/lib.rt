@@ -7,8 +7,8 @@ mod rules;
 mod words;
 
 pub use laws::{
-    known_words, known_words_of_check, known_words_of_follow, known_words_of_lines,
-    known_words_of_total,
+    known_words, known_words_of_capture, known_words_of_captures, known_words_of_check,
+    known_words_of_follow, known_words_of_lines, known_words_of_total,
 };
-pub use orders::{Order, Task};
-pub use words::{order, own_words};
+pub use orders::{Captures, Order, Task};
+pub use words::{bad_words, order, own_words};

@@ -1,5 +1,6 @@
 //! What the words of the program ask for.
 use smq_report::{Format, Output, Query};
+use std::alloc::Global;
 
 /// What is done.
 #[derive(Clone, Copy, Debug, PartialEq, Eq)]
@@ -12,6 +13,8 @@ pub enum Task {
     Follow(Format),
     /// To play rows, however many there are, and to write an output of what they leave.
     Total(Output),
+    /// To write the script of packet captures.
+    Capture,
 }
 
 /// What the words ask for.
@@ -21,4 +24,43 @@ pub struct Order {
     pub task: Task,
     /// The path of settings, if one is named.
     pub settings: Option<String>,
+    /// Which captures are read, and how.
+    pub captures: Captures,
+}
+
+/// The words of captures, as they stand: values as texts.
+#[derive(Debug, Drop)]
+pub struct Captures {
+    /// Paths: each FILE of `capture`, each --capture of the other subcommands.
+    pub paths: Vec<String>,
+    /// Each --link.
+    pub links: Vec<String>,
+    /// The value of --first-session, if given.
+    pub first_session: Option<String>,
+    /// The path of --index, if given.
+    pub index: Option<String>,
+    /// The path of --losses, if given.
+    pub losses: Option<String>,
+    /// The value of --every, if given.
+    pub every: Option<String>,
+    /// Each --ask.
+    pub questions: Vec<String>,
+    /// Whether --strict is given.
+    pub is_strict: bool,
+}
+
+impl Captures {
+    /// No captures.
+    pub(crate) fn none(alloc: Global) -> Captures {
+        Captures {
+            paths: Vec::new(alloc),
+            links: Vec::new(alloc),
+            first_session: None,
+            index: None,
+            losses: None,
+            every: None,
+            questions: Vec::new(alloc),
+            is_strict: false,
+        }
+    }
 }

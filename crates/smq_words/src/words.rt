@@ -1,12 +1,14 @@
 //! The words of the program, and what they ask for.
-ghost use Rattle.std.specs.Prelude.{◌≡◌, Option, Some, IfOk, map, option_map, string_bytes, unwrap_or, codes};
-ghost use Rattle.clap.specs.Words.{Text, first_of, found_of, rows_of, subcommand_rows_of};
+ghost use Rattle.std.specs.Prelude.{◌≡◌, ◌++◌, Bool, Option, Some, IfErr, IfOk, OnOk, map, option_map, string_bytes, unwrap_or, codes};
+ghost use Rattle.clap.specs.Words.{Text, first_of, found_of, kind_of, rows_of, subcommand_rows_of};
 ghost use Rattle.smq_report.specs.Picks.{pick_name};
-ghost use Rattle.smq_words.specs.Words.{Asks, HasOrder, TakesWords, format_name};
-ghost use Rattle.smq_words.specs.within.Tasks.{IsOrderOf, task_named};
+ghost use Rattle.smq_words.specs.Words.{Asks, CaptureTexts, HasCaptures, HasFlag, HasOrder, IsAsked, TakesWords, format_name};
+ghost use Rattle.smq_words.specs.Words.{texts_of, texts_of_captures, values_of};
+ghost use Rattle.smq_words.specs.within.Tasks.{task_named};
 
-use crate::orders::{Order, Task};
-use crate::rules::{command, more_help, pick_names};
+use crate::orders::{Captures, Order, Task};
+use crate::rules::{bare_command, command, more_help, pick_names, question_names};
+use clap::error::ErrorKind;
 use clap::{ArgMatches, Error};
 use smq_report::{Format, Output, Pick, Query};
 use std::alloc::{AllocError, Global};
@@ -21,40 +23,50 @@ pub fn order<S: AsStr>(alloc: Global, words: &[S]) -> Result<Order, Error>
     ensures order { IfOk result (HasOrder (map S.text words.now)) }
 {
     let names = pick_names(alloc)?;
+    let questions = question_names(alloc)?;
     let more = more_help(alloc)?;
-    let command = command(alloc, names.as_slice(), more.as_str())?;
+    let command = command(alloc, names.as_slice(), questions.as_slice(), more.as_str())?;
     let matches = command.try_get_matches_from(words)?;
     Ok(order_in(alloc, &matches)?)
 }
 
 /// What the matches of the words ask for. `clap` takes no words without a subcommand.
 fn order_in(alloc: Global, matches: &ArgMatches) -> Result<Order, AllocError>
-    ensures { (task : Task) → (path : Option Text)
-        → Asks (subcommand_rows_of matches.now) task path → IfOk result (IsOrderOf task path) }
+    ensures { (task : Task) → (path : Option Text) → (captures : CaptureTexts)
+        → Asks (subcommand_rows_of matches.now) task path captures
+        → IfOk result (IsAsked (subcommand_rows_of matches.now)) }
 {
     match matches.subcommand() {
         Some((name, entered)) => order_of(alloc, name, entered),
         None => Ok(Order {
             task: Task::Check,
             settings: None,
+            captures: Captures::none(alloc),
         }),
     }
 }
 
 /// What the matches of the subcommand of a name ask for.
 fn order_of(alloc: Global, name: &str, entered: &ArgMatches) -> Result<Order, AllocError>
-    ensures { (task : Task) → (path : Option Text)
-        → Asks (Some (name.now, rows_of (found_of entered.now))) task path → IfOk result (IsOrderOf task path) }
+    ensures { (task : Task) → (path : Option Text) → (captures : CaptureTexts)
+        → Asks (Some (name.now, rows_of (found_of entered.now))) task path captures
+        → IfOk result (IsAsked (Some (name.now, rows_of (found_of entered.now)))) }
 {
-    let settings = named_path(alloc, entered.get_str("settings"))?;
+    let settings = given_text(alloc, entered, "settings")?;
+    let captures = captures_of(alloc, entered)?;
     let task = task_of(name, entered);
-    Ok(Order { task, settings })
+    Ok(Order {
+        task,
+        settings,
+        captures,
+    })
 }
 
 /// The task for which the matches of the subcommand of a name ask.
 fn task_of(name: &str, entered: &ArgMatches) -> Task
-    ensures { (task : Task) → (path : Option Text)
-        → Asks (Some (name.now, rows_of (found_of entered.now))) task path → result ≡ task }
+    ensures { (task : Task) → (path : Option Text) → (captures : CaptureTexts)
+        → Asks (Some (name.now, rows_of (found_of entered.now))) task path captures
+        → result ≡ task }
 {
     task_named(name, query_in(entered))
 }
@@ -78,6 +90,9 @@ fn task_named(name: &str, query: Query) -> Task
     if name == "total" {
         return Task::Total(Output::Report(query));
     }
+    if name == "capture" {
+        return Task::Capture;
+    }
     Task::Run(query)
 }
 
@@ -97,15 +112,98 @@ fn query_in(entered: &ArgMatches) -> Query
     }
 }
 
-/// A path, where one is given.
-fn named_path(alloc: Global, path: Option<&str>) -> Result<Option<String>, AllocError>
-    ensures { IfOk result (λ named.
-        option_map string_bytes named ≡ option_map (λ text. text.now) path.entry) }
+/// What the matches of a subcommand say of captures.
+fn captures_of(alloc: Global, entered: &ArgMatches) -> Result<Captures, AllocError>
+    ensures { (texts : CaptureTexts) → HasCaptures (rows_of (found_of entered.now)) texts
+        → IfOk result (λ captures.
+        HasCaptures (rows_of (found_of entered.now)) (texts_of_captures captures)) }
 {
-    match path {
+    Ok(Captures {
+        paths: paths_in(alloc, entered)?,
+        links: given_texts(alloc, entered, "link")?,
+        first_session: given_text(alloc, entered, "first-session")?,
+        index: given_text(alloc, entered, "index")?,
+        losses: given_text(alloc, entered, "losses")?,
+        every: given_text(alloc, entered, "every")?,
+        questions: given_texts(alloc, entered, "ask")?,
+        is_strict: is_given(entered, "strict"),
+    })
+}
+
+/// The paths of captures: those of FILE and of `--capture`, of which a subcommand has one.
+fn paths_in(alloc: Global, entered: &ArgMatches) -> Result<Vec<String>, AllocError>
+    ensures { IfOk result (λ paths. map string_bytes paths.items
+        ≡ values_of (codes "FILE") (rows_of (found_of entered.now))
+        ++ values_of (codes "capture") (rows_of (found_of entered.now))) }
+{
+    let mut paths = given_texts(alloc, entered, "FILE")?;
+    push_given(alloc, &mut paths, entered, "capture")?;
+    Ok(paths)
+}
+
+/// All values of an argument, in the order of the words.
+fn given_texts(alloc: Global, entered: &ArgMatches, id: &str) -> Result<Vec<String>, AllocError>
+    ensures { IfOk result (λ given. map string_bytes given.items
+        ≡ values_of id.now (rows_of (found_of entered.now))) }
+{
+    let mut given = Vec::new(alloc);
+    push_given(alloc, &mut given, entered, id)?;
+    Ok(given)
+}
+
+/// Puts all values of an argument after the texts.
+fn push_given(
+    alloc: Global,
+    texts: &mut Vec<String>,
+    entered: &ArgMatches,
+    id: &str,
+) -> Result<(), AllocError>
+    ensures { OnOk result (map string_bytes texts.new.items
+        ≡ map string_bytes texts.old.items
+        ++ values_of id.now (rows_of (found_of entered.now))) }
+{
+    match entered.get_strs(id) {
+        Some(values) => push_texts(alloc, texts, values),
+        None => Ok(()),
+    }
+}
+
+/// Puts texts after others.
+fn push_texts(alloc: Global, texts: &mut Vec<String>, more: &[&str]) -> Result<(), AllocError>
+    ensures { OnOk result (map string_bytes texts.new.items
+        ≡ map string_bytes texts.old.items ++ texts_of more.now) }
+{
+    for text in more {
+        texts.push(String::from_str(alloc, text)?)?;
+    }
+    Ok(())
+}
+
+/// The first value of an argument, if it has one.
+fn given_text(alloc: Global, entered: &ArgMatches, id: &str) -> Result<Option<String>, AllocError>
+    ensures { IfOk result (λ given. option_map string_bytes given
+        ≡ first_of id.now (rows_of (found_of entered.now))) }
+{
+    copied_text(alloc, entered.get_str(id))
+}
+
+/// A text of its own, where one is given.
+fn copied_text(alloc: Global, text: Option<&str>) -> Result<Option<String>, AllocError>
+    ensures { IfOk result (λ copied.
+        option_map string_bytes copied ≡ option_map (λ text. text.now) text.entry) }
+{
+    match text {
         Some(text) => Ok(Some(String::from_str(alloc, text)?)),
         None => Ok(None),
     }
+}
+
+/// Whether a flag is given.
+fn is_given(entered: &ArgMatches, id: &str) -> bool
+    ensures { (given : Bool) → HasFlag id.now (rows_of (found_of entered.now)) given
+        → result ≡ given }
+{
+    entered.get_flag(id)
 }
 
 /// The pick of a name, and the whole report where none is given. `clap` lets no name through but those of picks.
@@ -135,6 +233,15 @@ fn named_format(name: Option<&str>) -> Format
         }
         None => Format::Csv,
     }
+}
+
+/// That words are bad, as `clap` tells it, with this message.
+pub fn bad_words(alloc: Global, message: &str) -> Result<Error, Error>
+    ensures kind { IfOk result (λ error. kind_of error ≡ ErrorKind.ValueValidation) }
+    ensures memory { IfErr result (λ error. kind_of error ≡ ErrorKind.OutOfMemory) }
+{
+    let mut command = bare_command(alloc, "")?;
+    Ok(command.error(ErrorKind::ValueValidation, message)?)
 }
 
 /// The program's words, without its own name.

@@ -1,17 +1,30 @@
-use Rattle.std.proofs.Common.{refl}
+use Rattle.std.proofs.Common.{[], ◌∷◌, codes, refl}
 use Rattle.clap.proofs.OnLiterals.{clap_on_literals}
 use Rattle.smq_words.specs.Known.{KnowsCheck}
+use Rattle.smq_words.proofs.KnownLemmas.{given, lenient}
 use Rattle.smq_words.proofs.laws.known_words_of_check.Goals as goal
 
 known : KnowsCheck
 unfolding clap_on_literals
 known = record {
-  alone = λ names formats. refl;
-  alone_checks = λ names formats. record { rows = _; enters = refl; say = tt; has_path = refl };
-  settings = λ names formats. refl;
-  settings_checks = λ names formats. record { rows = _; enters = refl; say = tt; has_path = refl };
-  format = λ names formats. refl;
-  name = λ names formats. refl;
+  alone = λ names formats questions. refl;
+  alone_checks = λ names formats questions. record {
+    rows = lenient ∷ [];
+    enters = refl;
+    say = tt;
+    has_path = refl;
+    has_captures = record { paths = refl; links = refl; first_session = refl; index = refl; losses = refl; every = refl; questions = refl; strict = refl };
+  };
+  settings = λ names formats questions. refl;
+  settings_checks = λ names formats questions. record {
+    rows = given (codes "settings") (codes "p" ∷ []) ∷ lenient ∷ [];
+    enters = refl;
+    say = tt;
+    has_path = refl;
+    has_captures = record { paths = refl; links = refl; first_session = refl; index = refl; losses = refl; every = refl; questions = refl; strict = refl };
+  };
+  format = λ names formats questions. refl;
+  name = λ names formats questions. refl;
 }
 
 pub returns : goal.returns

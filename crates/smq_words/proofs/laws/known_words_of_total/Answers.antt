@@ -1,16 +1,41 @@
-use Rattle.std.proofs.Common.{refl}
+use Rattle.std.proofs.Common.{[], ◌∷◌, codes, refl}
 use Rattle.clap.proofs.OnLiterals.{clap_on_literals}
 use Rattle.smq_words.specs.Known.{KnowsTotal}
+use Rattle.smq_words.proofs.KnownLemmas.{given, lenient, named}
 use Rattle.smq_words.proofs.laws.known_words_of_total.Goals as goal
 
 known : KnowsTotal
 unfolding clap_on_literals
 known = record {
-  alone = λ names formats. refl;
-  alone_totals = λ names formats. record { rows = _; enters = refl; say = (refl, refl); has_path = refl };
-  settings_totals = λ names formats. record { rows = _; enters = refl; say = (refl, refl); has_path = refl };
-  table_totals = λ names formats. record { rows = _; enters = refl; say = (refl, refl); has_path = refl };
-  name_totals = λ names formats. record { rows = _; enters = refl; say = (refl, refl); has_path = refl };
+  alone = λ names formats questions. refl;
+  alone_totals = λ names formats questions. record {
+    rows = lenient ∷ [];
+    enters = refl;
+    say = (refl, refl);
+    has_path = refl;
+    has_captures = record { paths = refl; links = refl; first_session = refl; index = refl; losses = refl; every = refl; questions = refl; strict = refl };
+  };
+  settings_totals = λ names formats questions. record {
+    rows = given (codes "settings") (codes "p" ∷ []) ∷ lenient ∷ [];
+    enters = refl;
+    say = (refl, refl);
+    has_path = refl;
+    has_captures = record { paths = refl; links = refl; first_session = refl; index = refl; losses = refl; every = refl; questions = refl; strict = refl };
+  };
+  table_totals = λ names formats questions. record {
+    rows = named formats (codes "format") (codes "table" ∷ []) ∷ lenient ∷ [];
+    enters = refl;
+    say = (refl, refl);
+    has_path = refl;
+    has_captures = record { paths = refl; links = refl; first_session = refl; index = refl; losses = refl; every = refl; questions = refl; strict = refl };
+  };
+  name_totals = λ names formats questions. record {
+    rows = named names (codes "NAME") (codes "link" ∷ []) ∷ lenient ∷ [];
+    enters = refl;
+    say = (refl, refl);
+    has_path = refl;
+    has_captures = record { paths = refl; links = refl; first_session = refl; index = refl; losses = refl; every = refl; questions = refl; strict = refl };
+  };
 }
 
 pub returns : goal.returns

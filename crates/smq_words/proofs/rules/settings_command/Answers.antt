@@ -1,15 +1,19 @@
-use Rattle.std.proofs.Common.{◌∙◌, ap₂}
+use Rattle.std.proofs.Common.{◌∙◌, ap, ap₂}
 use Rattle.std.proofs.lemmas.Result.{IfOk-weaker}
+use Rattle.clap.specs.Simple.{App}
 use Rattle.clap.specs.Words.{with_rule}
+use Rattle.smq_words.specs.Words.{captures_rules, with_rules}
 use Rattle.smq_words.proofs.RuleLemmas.{or_none}
 use Rattle.smq_words.proofs.rules.settings_command.Goals as goal
 
 pub returns-clause-rules : goal.returns-clause-rules
 returns-clause-rules c =
     let (settings_is, settings_local) = c.settings_option.ensures in
-    IfOk-weaker c.arg.result _ _ (λ made h. h.shape settings_local ∙ ap₂ with_rule c.subcommand.ensures.rules settings_is) c.arg.ensures
+    IfOk-weaker c.with_captures.result _ _
+    (λ made h. h ∙ ap (λ (app : App). with_rules app captures_rules) (c.in_ok-command.ensures.shape settings_local ∙ ap₂ with_rule c.subcommand.ensures.rules settings_is))
+    c.with_captures.ensures.rules
 
 pub returns-clause-local : goal.returns-clause-local
 returns-clause-local c =
-    IfOk-weaker c.arg.result _ _
-    (λ made h. h.globals ∙ or_none _ _ c.settings_option.ensures.1 ∙ c.subcommand.ensures.local) c.arg.ensures
+    IfOk-weaker c.with_captures.result _ _
+    (λ made h. h ∙ c.in_ok-command.ensures.globals ∙ or_none _ _ c.settings_option.ensures.1 ∙ c.subcommand.ensures.local) c.with_captures.ensures.local

@@ -1,12 +1,11 @@
-use Rattle.std.proofs.Common.{◌∙◌, codes}
 use Rattle.clap.specs.Words.{found_of, rows_of}
-use Rattle.clap.proofs.WalkLemmas.{first_value-rows}
-use Rattle.smq_words.proofs.OrderLemmas.{asked_path}
+use Rattle.smq_words.specs.declared.orders.Order.{Order}
+use Rattle.smq_words.proofs.OrderLemmas.{asked_captures, order_asked}
 use Rattle.smq_words.proofs.words.order_of.Goals as goal
 
 pub returns : goal.returns
-returns c task path asks = (
-  c.task_of-task.ensures task path asks,
-  c.in_ok-settings.ensures ∙ c.get_str.ensures ∙ first_value-rows (found_of c.args.entered.now) (codes "settings")
-      ∙ asked_path c.args.name.now (rows_of (found_of c.args.entered.now)) task path asks,
-)
+returns c task path captures asks =
+    let rows = rows_of (found_of c.args.entered.now) in
+    let order : Order = record { task = c.task_of-task.result; settings = c.in_ok-settings.settings; captures = c.in_ok-captures.captures } in
+    order_asked c.args.name.now rows task path captures asks order (c.task_of-task.ensures task path captures asks) c.in_ok-settings.ensures
+    (c.in_ok-captures.ensures captures (asked_captures c.args.name.now rows task path captures asks))

@@ -1,0 +1,264 @@
+//! Gaps of a connection that are given up, and the sessions that begin behind them.
+use crate::connection::{Connection, tell_gap};
+use crate::direction::{Following, Sought};
+use crate::fault::Fault;
+use crate::notice::{Behind, Notice, Sender};
+use crate::output::Output;
+use crate::side::Side;
+use crate::sink::{Loss, SessionLine, Sink};
+use smq_packets::End;
+use smq_streams::{Missing, Stream, Why};
+use std::alloc::AllocError;
+
+impl Connection {
+    /// Goes on behind gaps that won't fill any more by a moment, or behind all where the connection ends.
+    pub fn give_up<S: Sink>(
+        &mut self,
+        output: &mut Output<S>,
+        moment: u64,
+        why: Option<Why>,
+    ) -> Result<(), Fault> {
+        for _ in 0..u64::MAX {
+            let Some((side, why)) = self.lost(moment, why) else {
+                break;
+            };
+            self.give_up_one(output, side, moment, why)?;
+        }
+        self.write(output)
+    }
+
+    /// Goes on behind what has waited longest, as too much waits.
+    pub fn give_up_oldest<S: Sink>(
+        &mut self,
+        output: &mut Output<S>,
+        moment: u64,
+    ) -> Result<(), Fault> {
+        let client = self.both.client.stream.opened();
+        let centre = self.both.centre.stream.opened();
+        let side = match (client, centre) {
+            (Some(one), Some(other)) if other < one => Side::Centre,
+            (None, Some(_)) => Side::Centre,
+            _ => Side::Client,
+        };
+        if output.is_strict {
+            self.stop(output, side, moment, Why::Full)?;
+        } else {
+            self.give_up_one(output, side, moment, Why::Full)?;
+        }
+        self.write(output)
+    }
+
+    /// The direction in which something won't come any more, and why; where both have such, the one whose next packet came first.
+    fn lost(&mut self, moment: u64, why: Option<Why>) -> Option<(Side, Why)> {
+        let client = why_lost(&mut self.both.client.stream, moment, why);
+        let centre = why_lost(&mut self.both.centre.stream, moment, why);
+        match (client, centre) {
+            (Some(one), Some(other)) => {
+                let before = self.both.client.stream.first_packet();
+                if self.both.centre.stream.first_packet() < before {
+                    Some((Side::Centre, other))
+                } else {
+                    Some((Side::Client, one))
+                }
+            }
+            (Some(one), None) => Some((Side::Client, one)),
+            (None, Some(other)) => Some((Side::Centre, other)),
+            (None, None) => None,
+        }
+    }
+
+    /// Gives up what waits in a direction: where it isn't clear whether a PDU begins, none does; else the next gap, behind which the
+    /// direction goes on with the first PDU.
+    fn give_up_one<S: Sink>(
+        &mut self,
+        output: &mut Output<S>,
+        side: Side,
+        moment: u64,
+        why: Why,
+    ) -> Result<(), Fault> {
+        if self.both.of(side).stream.is_searching() {
+            if let Some(place) = self.go_on(output, side, true)? {
+                self.tell_going_on(output, side, place)?;
+                self.both.of_mut(side).stream.watch_anew(moment);
+                return Ok(());
+            }
+        }
+        if let Some(missing) = self.both.of_mut(side).stream.skip_gap() {
+            let is_end = why == Why::Ended || why == Why::End;
+            let sender = self.note_missing(output, side, missing, moment, why)?;
+            let behind = match self.go_on(output, side, is_end)? {
+                Some(place) => {
+                    self.both.of_mut(side).sought = None;
+                    Behind::At(place, self.last)
+                }
+                None if is_end => Behind::Nothing,
+                None => {
+                    self.both.of_mut(side).sought = Some(Sought {
+                        session: sender.session,
+                    });
+                    Behind::Sought
+                }
+            };
+            tell_gap(output, sender, missing, behind)?;
+            if let Behind::At(_, _) = behind {
+                self.tell_passed(output, side)?;
+            }
+        }
+        self.both.of_mut(side).stream.watch_anew(moment);
+        Ok(())
+    }
+
+    /// Counts octets that are missing in the last session.
+    pub(crate) fn note_missing<S: Sink>(
+        &mut self,
+        output: &mut Output<S>,
+        side: Side,
+        missing: Missing,
+        moment: u64,
+        why: Why,
+    ) -> Result<Sender, Fault> {
+        let count = missing.until.saturating_sub(missing.from);
+        if let Some(line) = self.lines.back_mut() {
+            line.missing = line.missing.saturating_add(count);
+        }
+        output.note_loss(&Loss {
+            session: self.last,
+            sender: side,
+            place: missing.from,
+            missing: count,
+            moment,
+            why,
+        })?;
+        Ok(Sender {
+            session: self.last,
+            link: self.link,
+            side,
+        })
+    }
+
+    /// Writes nothing more of a direction that has a gap.
+    fn stop<S: Sink>(
+        &mut self,
+        output: &mut Output<S>,
+        side: Side,
+        moment: u64,
+        why: Why,
+    ) -> Result<(), Fault> {
+        if let Some(missing) = self.both.of(side).stream.missing_tail() {
+            let sender = self.note_missing(output, side, missing, moment, why)?;
+            tell_gap(output, sender, missing, Behind::Nothing)?;
+        }
+        self.both.of_mut(side).stream.stop();
+        Ok(())
+    }
+
+    /// Looks for a PDU in what follows in a direction, and begins with it. Its place, if there is one.
+    pub(crate) fn go_on<S: Sink>(
+        &mut self,
+        output: &mut Output<S>,
+        side: Side,
+        is_end: bool,
+    ) -> Result<Option<u64>, Fault> {
+        let Some(found) = self.both.of_mut(side).stream.search(output.alloc, is_end)? else {
+            return Ok(None);
+        };
+        self.settle(side, None)?;
+        if self.both.of(side).stream.is_behind_gap() {
+            let place = self.both.of(side.other()).top_before(found.number);
+            self.settle(side.other(), Some(place))?;
+            if self.has_rows {
+                self.begin_session(output, side, found.number, place)?;
+            }
+        }
+        let last = self.last;
+        self.both.of_mut(side).begin_session(last);
+        self.release(output, side, None)?;
+        Ok(Some(found.place))
+    }
+
+    /// Begins the next session with a packet: the other direction is in it from a place on.
+    fn begin_session<S: Sink>(
+        &mut self,
+        output: &mut Output<S>,
+        side: Side,
+        number: u64,
+        place: u64,
+    ) -> Result<(), AllocError> {
+        let session = output.next_session();
+        self.last = session;
+        self.has_rows = false;
+        self.both.of_mut(side.other()).following = Some(Following { session, place });
+        self.lines.push_back(SessionLine {
+            session,
+            link: self.link,
+            client: self.client,
+            centre: self.centre,
+            first: number,
+            last: number,
+            has_syn: false,
+            missing: 0,
+        })?;
+        Ok(())
+    }
+
+    /// Tells that a direction goes on with a PDU that was looked for.
+    pub(crate) fn tell_going_on<S: Sink>(
+        &mut self,
+        output: &mut Output<S>,
+        side: Side,
+        place: u64,
+    ) -> Result<(), Fault> {
+        if let Some(sought) = self.both.of(side).sought {
+            self.both.of_mut(side).sought = None;
+            output.tell(Notice::GoesOn {
+                sender: Sender {
+                    session: sought.session,
+                    link: self.link,
+                    side,
+                },
+                session: self.last,
+                place,
+            })?;
+        }
+        self.tell_passed(output, side)
+    }
+
+    /// Tells how many octets were passed over.
+    pub(crate) fn tell_passed<S: Sink>(
+        &mut self,
+        output: &mut Output<S>,
+        side: Side,
+    ) -> Result<(), Fault> {
+        let count = self.both.of_mut(side).stream.take_passed();
+        if count > 0 {
+            let sender = self.label(side);
+            output.tell(Notice::Passed { sender, count })?;
+        }
+        Ok(())
+    }
+
+    /// Ends the search for the first PDU of a direction.
+    pub(crate) fn end_search<S: Sink>(
+        &mut self,
+        output: &mut Output<S>,
+        side: Side,
+    ) -> Result<(), Fault> {
+        if self.both.of(side).stream.is_searching() {
+            if let Some(place) = self.go_on(output, side, true)? {
+                self.tell_going_on(output, side, place)?;
+            }
+        }
+        Ok(())
+    }
+}
+
+/// Why what waits in a direction won't come any more, if it won't.
+fn why_lost(stream: &mut Stream, moment: u64, why: Option<Why>) -> Option<Why> {
+    if !stream.is_open() {
+        return None;
+    }
+    match why {
+        Some(why) => Some(why),
+        None => stream.is_lost(moment),
+    }
+}
