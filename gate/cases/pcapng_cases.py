@@ -1,9 +1,14 @@
-"""Cases of pcapng for gate/check-pcap-to-script: a name, the capture, the rows, and, where there are any, what is told and the status."""
+"""Cases of `smq capture` in pcapng: a name, the capture, the rows, and, where there are any, what is told and the status."""
 import gzip
 import struct
 
-from oracle.made_captures import CONVERSATION, RAW_IP, block, client, conversation, handshake, interface, missing, option, packet, pcapng, row
-from oracle.made_captures import section, told
+from cases.file_cases import NOTHING, PACKED
+from oracle.made_captures import CONVERSATION, RAW_IP, block, client, conversation, gaps, handshake, interface, missing, option, packet
+from oracle.made_captures import pcapng, row, section, told
+
+NOT_READ = "packets without a moment, or of a link type that isn't read, not read: "
+NO_SESSION = ("no session: no connection has a port that --link names",
+              "nor any other: was another interface captured, or a filter too narrow?")
 
 
 def pcapng_cases():
@@ -32,10 +37,12 @@ def pcapng_cases():
     raw = [packet(it[14:], 1000 + 10 * at, 1) for at, it in enumerate(frames)]
     both = begin + interface(RAW_IP, option(9, b"\x03"))
     yield "pcapng, two interfaces", both + kept[0] + raw[1] + kept[2] + raw[3], CONVERSATION
-    yield "pcapng, packed by gzip", gzip.compress(pcapng(frames)), CONVERSATION
-    nothing = "no packet is in the capture: is it the right file, and did tcpdump end with an interrupt (Ctrl-C)?"
-    yield "pcapng, no packets", begin, [], [nothing], 1
-    yield "pcapng, a section alone", section(), [], [nothing], 1
+    yield "pcapng, no packets", begin, [], [NOTHING], 1
+    yield "pcapng, a section alone", section(), [], [NOTHING], 1
+    for order, order_name in (("<", "little end first"), (">", "big end first")):
+        yield f"pcapng, {order_name}, statistics by which packets were dropped", pcapng(frames, order=order) + statistics(500, 3, order), \
+            CONVERSATION, ["the capture says that packets were dropped: 503"], 1
+    yield "pcapng, statistics by which none were", pcapng(frames) + statistics(0, 0), CONVERSATION
 
 
 def pcapng_loss_cases():
@@ -44,35 +51,48 @@ def pcapng_loss_cases():
     whole = pcapng(frames)
     simple = block(3, struct.pack("<I", len(frames[0])) + frames[0])
     yield "pcapng, packets without a moment", begin + simple + whole + simple, CONVERSATION, [
-        "packets without a moment (simple packet blocks), not read: 2, the first is packet 1"], 1
+        NOT_READ + "2, the first is packet 1"], 1
     foreign = packet(frames[0], 0, 1)
     yield "pcapng, an interface that isn't read beside another", (
         begin + interface(147) + foreign + foreign + b"".join(packet(it, 1_000_000 + 10_000 * at) for at, it in enumerate(frames))), \
-        CONVERSATION, ["packets of link type 147, which isn't read: 2, the first is packet 1"], 1
+        CONVERSATION, [NOT_READ + "2, the first is packet 1"], 1
+    # (what isn't read of a file is passed over)
+    yield "pcapng of another link type", pcapng(handshake(), link_type=147), [], [NOT_READ + "2, the first is packet 1", *NO_SESSION], 1
+    early = pcapng([(1_999, handshake()[0])], options=option(14, struct.pack("<q", -2)))
+    yield "pcapng, a moment before the first", early, [], [NOT_READ + "1, the first is packet 1", *NO_SESSION], 1
+    late = pcapng([(4_102_444_800_001, handshake()[0])])
+    yield "pcapng, a moment past the last", late, [], ["smq: the moment of packet 1 is past the year 2099"], 2
     snap = 14 + 20 + 20 + 4
     yield "pcapng, a snap length within octets", pcapng([*handshake(), client(0, b"abcdef")], snap=snap), [
         row("client", 1020, b"abcd")], [
-        missing(4, 5), told("packets cut off by the snap length: 1 from the client, the first is packet 3")], 1
+        missing(4, 5), told("packets cut off by the snap length: 1 from the client, the first is packet 3"), gaps(1, 2)], 1
     last = len(packet(frames[3], 0))
     for name, octets in (("its last length", 1), ("its frame", 20), ("its head", last - 10), ("its type", last - 2)):
         yield f"pcapng that ends within a packet, {name}", whole[:-octets], CONVERSATION[:1], ["the file ends within packet 4"], 1
     yield "pcapng that ends within another block", whole + block(5, bytes(32))[:-1], CONVERSATION, [
-        "the file ends within the block before packet 5"], 1
+        "the file ends within packet 5"], 1
     yield "pcapng that ends within a section", whole + section()[:10], CONVERSATION, ["the file ends within packet 5"], 1
-    fault = "what gzip packed is broken within packet 5: Compressed file ended before the end-of-stream marker was reached"
-    yield "pcapng, packed by gzip, and cut off", gzip.compress(whole)[:-8], CONVERSATION, [fault], 1
-    place = f"at octet {len(whole)} of the file: it says"
-    for name, octets, fault in (
-            ("a length that is no multiple of four", struct.pack("<II", 6, 45), f"of packet 5 is broken, {place} 45 octets"),
-            ("a packet of no length", struct.pack("<II", 6, 0), f"of packet 5 is broken, {place} 0 octets"),
-            ("a packet shorter than its head", struct.pack("<II", 6, 28) + bytes(20), f"of packet 5 is broken, {place} 28 octets"),
-            ("a block of 3 GB", struct.pack("<II", 5, 3_000_000_000), f"before packet 5 is broken, {place} 3000000000 octets"),
-            ("another length at the end", block(6, bytes(40))[:-4] + struct.pack("<I", 48),
-             f"of packet 5 is broken, {place} 52 octets, and 48 at its end"),
-            ("more octets than the block has", block(6, struct.pack("<5I", 0, 0, 0, 9, 9) + bytes(8)),
-             f"of packet 5 is broken, {place} 9 octets"),
-            ("an interface that isn't described", packet(frames[0], 0, 1),
-             f"of packet 5 is broken, {place} interface 1, and 1 are described"),
-            ("a section of no byte order", section().replace(b"\x4d\x3c\x2b\x1a", bytes(4)),
-             f"before packet 5 is broken, {place} another byte order")):
-        yield f"pcapng, {name}", whole + octets, CONVERSATION, [f"the block {fault}"], 1
+    packed = gzip.compress(whole)
+    yield "pcapng, packed by gzip", packed, [], [PACKED], 2
+    yield "pcapng, packed by gzip, and cut off", packed[:-8], [], [PACKED], 2
+    # (a block needs 12 octets, and one that isn't read is skipped)
+    for name, octets in (("a length that is no multiple of four", struct.pack("<II", 6, 45)),
+                         ("a packet of no length", struct.pack("<II", 6, 0)),
+                         ("a block of 3 GB", struct.pack("<II", 5, 3_000_000_000))):
+        yield f"pcapng, {name}", whole + octets, CONVERSATION, ["the file ends within packet 5"], 1
+    # (the octet is that of the field that can't be, counted from the block's first)
+    for name, octets, place in (
+            ("a packet shorter than its head", struct.pack("<II", 6, 28) + bytes(20), 4),
+            ("another length at the end", block(6, bytes(40))[:-4] + struct.pack("<I", 48), 48),
+            ("more octets than the block has", block(6, struct.pack("<5I", 0, 0, 0, 9, 9) + bytes(8)), 20),
+            ("an interface that isn't described", packet(frames[0], 0, 1), 8)):
+        yield f"pcapng, {name}", whole + octets, CONVERSATION, [
+            f"the block of packet 5, or one before it, is broken, at octet {len(whole) + place} of the file"], 1
+    broken = section().replace(b"\x4d\x3c\x2b\x1a", bytes(4))
+    yield "pcapng, a section of no byte order", whole + broken, CONVERSATION, ["smq: CAPTURE: it is no pcap or pcapng file"], 2
+
+
+def statistics(by_interface, by_system, order="<"):
+    """Returns the block by which an interface and the system dropped so many packets."""
+    counts = option(5, struct.pack(order + "Q", by_interface), order) + option(7, struct.pack(order + "Q", by_system), order)
+    return block(5, struct.pack(order + "3I", 0, 0, 0) + counts + bytes(4), order)

@@ -1,4 +1,4 @@
-"""Makes small captures of one connection or more, for the checks of tools/pcap-to-script, and rows and lines that it gives of them."""
+"""Makes small captures of one connection or more, and rows and lines that `smq capture` gives of them."""
 import socket
 import struct
 
@@ -7,6 +7,8 @@ CLIENT_V6, CENTRE_V6 = ("2001:db8::1", 40000), ("2001:db8::9", 2775)
 CLIENT_FIRST, CENTRE_FIRST = 1_000, 500_000
 FIN, SYN, RST, ACK = 1, 2, 4, 16
 ETHERNET, RAW_IP = 1, 101
+# The words of cases
+WORDS, STRICT = "--link 2775=7", "--link 2775=7 --strict"
 
 
 def tcp(source, destination, sequence, octets=b"", flags=ACK, acknowledged=0):
@@ -131,4 +133,19 @@ def missing(first, last, sender="client"):
     return told(f"octets {first} to {last} from the {sender} are missing: nothing after them is written")
 
 
+def no_syn(sender, session=1):
+    return told(f"no SYN seen from the {sender}: the first octets of its stream may be missing", session)
+
+
+def passed(count, sender="client", session=1):
+    return told(f"octets from the {sender} before a PDU was seen to begin, not written: {count}", session)
+
+
+def gaps(count, octets, not_written=0):
+    """Returns the line that sums up so many gaps."""
+    return f"gaps: {count}; octets missing: {octets}, captured and not written: {not_written}"
+
+
+# An enquire_link
+PDU = struct.pack(">4I", 16, 0x15, 0, 1)
 CONVERSATION = [row("client", 1020, b"ab"), row("centre", 1030, b"cde")]
