@@ -7,10 +7,10 @@ import collections
 import itertools
 import re
 
-from lib import streams
+from lib import smpp_names
 from lib.loader import load
 from lib.report_names import WINDOW
-from lib.streams import LONGEST_PDU, SHORTEST_PDU
+from lib.smpp_names import LONGEST_PDU, SHORTEST_PDU
 
 CHECK = load("check-script")
 # What a PDU is by its command_id
@@ -29,7 +29,7 @@ def moment_of(row):
 def kind_of(command):
     """Returns what a PDU is by its command_id in hexadecimal digits."""
     number = int(command, 16)
-    return WITHOUT_RESPONSE if number in streams.WITHOUT_RESPONSE else RESPONSE if number >= streams.RESPONSE else REQUEST
+    return WITHOUT_RESPONSE if number in smpp_names.WITHOUT_RESPONSE else RESPONSE if number >= smpp_names.RESPONSE else REQUEST
 
 
 def put(waiting, number, pair):

@@ -1,4 +1,9 @@
-"""Names of commands and statuses in SMPP 3.4, 5.1.2.1 and 5.1.3."""
+"""Names of commands and statuses in SMPP 3.4, 5.1.2.1 and 5.1.3, and what a PDU can be by its length and command_id."""
+
+# Lengths of PDUs that smq reads, bit 31 of responses, and requests that have none
+SHORTEST_PDU, LONGEST_PDU = 16, 131_072
+RESPONSE = 0x80000000
+WITHOUT_RESPONSE = (0x0B, 0x102)
 
 COMMANDS = {
     0x00000001: "bind_receiver", 0x00000002: "bind_transmitter", 0x00000003: "query_sm", 0x00000004: "submit_sm",
