@@ -121,7 +121,8 @@ def words_in(root, empty):
             yield from (f"{shell}: {before} lacks {it}" for it in sorted(listed - offered))
             for it in sorted(offered):
                 # (where nothing is offered as an option's value, a path is)
-                values = [[value] for value in offers(*before, it, "") or ("x",)] if f"{it} <" in help_of else [[]]
+                has_value = re.search(rf"(?<![\w-]){re.escape(it)} <", help_of)
+                values = [[value] for value in offers(*before, it, "") or ("x",)] if has_value else [[]]
                 for asked in ([*before, it, *value, *([] if "help" in (it, *before) else ["--help"])] for value in values):
                     if not root.takes("smq", *asked):
                         yield f"{shell}: smq doesn't take {' '.join(asked)}"
