@@ -1,6 +1,6 @@
 //! Laws of the definitions, each the contract of a function with nothing to do.
 ghost use Rattle.std.specs.Prelude.{◌≡◌, ◌∷◌, [], ℕ, List};
-ghost use Rattle.smq_packets.specs.Known.{KnownBlocks, KnownRecords, KnownRefusals, KnownSegments};
+ghost use Rattle.smq_packets.specs.Known.{KnownBlocks, KnownFragments, KnownRecords, KnownRefusals, KnownSegments};
 ghost use Rattle.smq_packets.specs.Readings.{HasOneReading};
 ghost use Rattle.smq_packets.specs.declared.layer.Layer.{Layer};
 
@@ -49,4 +49,9 @@ pub fn known_records()
 /// Blocks of pcapng.
 pub fn known_blocks()
     ensures { KnownBlocks }
+{}
+
+/// Fragments: of no use, come again, overlapping, too old, and put together.
+pub fn known_fragments()
+    ensures { KnownFragments }
 {}

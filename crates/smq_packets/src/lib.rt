@@ -22,8 +22,8 @@ pub use file::{
 };
 pub use fragments::{Fragments, MOST_PARTS, MOST_WAITING, Whole};
 pub use laws::{
-    known_blocks, known_bounds, known_flags, known_records, known_refusals, known_segments,
-    one_reading,
+    known_blocks, known_bounds, known_flags, known_fragments, known_records, known_refusals,
+    known_segments, one_reading,
 };
 pub use layer::{Address, Unread};
 pub use link::LinkType;
