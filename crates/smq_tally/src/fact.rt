@@ -48,6 +48,20 @@ impl Fact {
         }
     }
 
+    /// What it is counted by in a view, if it has a value there. It takes no memory.
+    pub fn value_in(&self, view: View) -> Option<Value>
+        ensures { result ≡ value_in view self.now }
+    {
+        Some(match view {
+            View::Link => Value::Link(self.link),
+            View::Route => route_value(self.route.as_ref()),
+            View::Network => network_value(self.route.as_ref()),
+            View::Error => Value::Error(self.error.as_ref()?.copy()),
+            View::LinkDelay => Value::Band(self.link_delay?),
+            View::CentreDelay => Value::Band(self.centre_delay?),
+        })
+    }
+
     /// Where it is listed, if it is open or lapsed.
     pub(crate) fn listed(&self) -> Option<Listed>
         ensures { option_to_list result ≡ listings_of_fact self.now }
@@ -124,14 +138,7 @@ impl ShelfKey for RowKey {
 pub(crate) fn row_in(view: View, fact: &Fact) -> Option<RowKey>
     ensures { result ≡ by_row.row_in view fact.now }
 {
-    let value = match view {
-        View::Link => Value::Link(fact.link),
-        View::Route => route_value(fact.route.as_ref()),
-        View::Network => network_value(fact.route.as_ref()),
-        View::Error => Value::Error(fact.error.as_ref()?.copy()),
-        View::LinkDelay => Value::Band(fact.link_delay?),
-        View::CentreDelay => Value::Band(fact.centre_delay?),
-    };
+    let value = fact.value_in(view)?;
     Some(RowKey { view, value })
 }
 
