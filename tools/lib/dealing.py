@@ -224,26 +224,28 @@ class Groups:
         """Reads the lines; now is the last moment that is known, or None where nothing has to be settled. What is waited for within
         its window are receipts of `open`, `unasked` and `ambiguous` messages, messages of stray receipts, and the other of a pair."""
         now = -1 if now is None else now
-        self.read_lines(messages, 0, 9, 7, (b"open", b"unasked", b"ambiguous"), now)
-        self.read_lines(receipts, 1, 4, 8, (b"stray",), now)
+        self.read_lines(messages, 0, b"outcome", (b"open", b"unasked", b"ambiguous"), now)
+        self.read_lines(receipts, 1, b"standing", (b"stray",), now)
         for lane, pair, moment in self.script.unpaired():
             if moment + self.windows.get(lane.link, WINDOW) > now:
                 self.open.add(pair)
         self.open.update([first for first, pair in self.others if pair in self.open])
         self.open.update([pair for first, pair in self.others if first in self.open])
 
-    def read_lines(self, text, side, id_at, outcome_at, waited, now):
-        """Reads lines of messages or of receipts, whose ids and outcomes stand in these columns."""
-        session = None
-        for fields in records_of(text, max(id_at, outcome_at) + 1):
-            if fields[1] != session:
-                session, link = fields[1], int(fields[0])
+    def read_lines(self, text, side, outcome, waited, now):
+        """Reads lines of messages or of receipts, whose outcomes stand in the column of this name."""
+        names, session = text[: text.index(b"\n")].split(b","), None
+        ats = [names.index(it) for it in (b"link", b"session", b"offset", b"moment", b"id", outcome)]
+        link_at, session_at, offset_at, moment_at, id_at, outcome_at = ats
+        for fields in records_of(text, max(ats) + 1):
+            if fields[session_at] != session:
+                session, link = fields[session_at], int(fields[link_at])
                 places, firsts = self.script.sessions[int(session)][side].places(), self.firsts[link]
                 form, window = self.forms.get(link, ("verbatim", "verbatim"))[side], self.windows.get(link, WINDOW)
-            pair, identity = places[int(fields[2])], fields[id_at]
+            pair, identity = places[int(fields[offset_at])], fields[id_at]
             if identity:
                 first = firsts.setdefault(key_of(identity, form), pair)
                 if first != pair:
                     self.others.append((first, pair))
-            if fields[outcome_at] in waited and int(fields[3]) + window > now:
+            if fields[outcome_at] in waited and int(fields[moment_at]) + window > now:
                 self.open.add(pair)
