@@ -9,20 +9,21 @@ import re
 from lib.report_names import BANDS, DIRECTIONS, LISTED_STANDINGS, LISTS, OUTCOMES, VIEWS, WINDOW
 
 SUBMIT_SM, DELIVER_SM, DATA_SM, GENERIC_NACK, RESPONSE = 0x04, 0x05, 0x103, 0x80000000, 0x80000000
+COMMAND_NAMES = {SUBMIT_SM: "submit_sm", DELIVER_SM: "deliver_sm", DATA_SM: "data_sm"}
 WITHOUT_RESPONSE = (0x0B, 0x102)
 RECEIPTED_MESSAGE_ID, NETWORK_ERROR_CODE, MESSAGE_PAYLOAD, MESSAGE_STATE = 0x001E, 0x0423, 0x0424, 0x0427
 STATES = (b"ENROUTE", b"DELIVRD", b"EXPIRED", b"DELETED", b"UNDELIV", b"ACCEPTD", b"UNKNOWN", b"REJECTD")
 ENROUTE, DELIVERED, ACCEPTED = 1, 2, 6
 STATE_NAMES = "enroute delivered expired deleted undeliverable accepted unknown rejected".split()
 MESSAGE_FIELDS = ("link session offset moment number route network outcome error id response_offset receipt_session receipt_offset "
-                  "receipt_moment centre_delay").split()
-RECEIPT_FIELDS = "link session offset moment id state interim error standing message_session message_offset".split()
+                  "receipt_moment centre_delay key command").split()
+RECEIPT_FIELDS = "link session offset moment id state interim error standing message_session message_offset key command".split()
 EPOCH = datetime.datetime(1970, 1, 1)
 
 # at: session, direction (0 for the client) and offset; response: the PDU that it is paired with, or None
 Pdu = collections.namedtuple("Pdu", "at moment octets command status number")
 Fields = collections.namedtuple("Fields", "ton address esm_class registered text parameters")
-Receipt = collections.namedtuple("Receipt", "at moment key decides state error delay identity interim")
+Receipt = collections.namedtuple("Receipt", "at moment key decides state error delay identity interim command")
 
 
 def word(octets, at):
@@ -145,7 +146,7 @@ def receipt_of(pdu, link, form):
     submitted, done = date_of(named(header, b"submit date")), date_of(named(header, b"done date"))
     delay = None if submitted is None or done is None else done - submitted
     return Receipt(pdu.at, pdu.moment, key_of(link, identity, form), state not in (ENROUTE, ACCEPTED) and kind != 0x20, state,
-                   error_of(parameters.get(NETWORK_ERROR_CODE, b""), named(header, b"err")), delay, identity, kind == 0x20)
+                   error_of(parameters.get(NETWORK_ERROR_CODE, b""), named(header, b"err")), delay, identity, kind == 0x20, pdu.command)
 
 
 def error_of(code, stated):
@@ -242,7 +243,8 @@ class Tables:
             session, _, offset = places.get(receipt.key, (None, None, None))
             self.receipt_lines[receipt.at] = (
                 receipt.key[0], receipt.at[0], receipt.at[2], receipt.moment, receipt.identity, STATE_NAMES[receipt.state - 1],
-                "yes" if receipt.interim else "no", error_text(receipt.error), standing, session, offset)
+                "yes" if receipt.interim else "no", error_text(receipt.error), standing, session, offset,
+                receipt.key[1], COMMAND_NAMES[receipt.command])
         for link, pdu, fields, response in self.messages:
             key = keys.get(pdu.at)
             receipt = deciding.get(key)
@@ -264,7 +266,8 @@ class Tables:
             self.message_lines[pdu.at] = (
                 link, pdu.at[0], pdu.at[2], pdu.moment, number_of(fields), route[1], network[1], outcome, values.get("error", (0, None))[1],
                 ids.get(pdu.at), response and response.at[2],
-                *((receipt.at[0], receipt.at[2], receipt.moment, receipt.delay) if decides else (None,) * 4))
+                *((receipt.at[0], receipt.at[2], receipt.moment, receipt.delay) if decides else (None,) * 4),
+                None if key is None else key[1], COMMAND_NAMES[pdu.command])
 
     def standing(self, receipt, matches, decider):
         if matches != 1:

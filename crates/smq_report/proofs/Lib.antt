@@ -6,3 +6,4 @@ pub mod ValueLemmas
 pub mod LineLemmas
 pub mod LayoutLemmas
 pub mod PickLemmas
+pub mod KeyLemmas

@@ -4,11 +4,13 @@ use Rattle.std.specs.Fmt.{decimal, signed_decimal}
 use Rattle.std.specs.List.{flat_map}
 use Rattle.std.specs.Option.{option_and_then}
 use Rattle.csv.specs.Writing.{default_writer, row_text}
+use Rattle.smq_kit.specs.declared.message_id.Key.{Key}
+use Rattle.smq_kit.specs.declared.message_id.Key.TheVariants.{Number, Text}
 use Rattle.smq_tally.specs.Names.{outcome_name}
 use Rattle.smq_tally.specs.Rows.{network_value, route_value}
 use Rattle.smq_report.specs.Values.{code_text, error_text, value_text}
 use Rattle.smq_present.specs.join.Lines.{MessageLineValue, ReceiptLineValue, standing_name}
-use Rattle.smq_report.specs.Words.{state_name, yes_or_no}
+use Rattle.smq_report.specs.Words.{command_name, state_name, yes_or_no}
 
 -- a record as `csv` writes it: commas between its fields, a line feed after it, and a field between double quotes where it has a
 -- comma, a double quote, which is written twice, or an end of a line
@@ -19,6 +21,11 @@ csv_record fields = row_text default_writer fields
 abbrev pub text_or_empty : {A : Type 0} → (A → List ℕ) → Option A → List ℕ
 text_or_empty text None = []
 text_or_empty text (Some value) = text value
+
+-- the key of an id as it is printed: a number in decimal, a text as it stands
+abbrev pub key_text : Key → List ℕ
+key_text (Number number) = decimal number
+key_text (Text id) = id
 
 -- ---- lines for messages
 
@@ -40,10 +47,12 @@ message_columns =
     ∷ codes "receipt_offset"
     ∷ codes "receipt_moment"
     ∷ codes "centre_delay"
+    ∷ codes "key"
+    ∷ codes "command"
     ∷ []
 
 -- the fields of a line for a message, one for each column: what a report prints of its route, its network and its error, and
--- nothing where it has no number, error, id, response, deciding receipt or centre's delay
+-- nothing where it has no number, error, id, response, deciding receipt, centre's delay or key
 abbrev pub message_fields : MessageLineValue → List (List ℕ)
 message_fields line =
     decimal line.fact.link.0
@@ -61,6 +70,8 @@ message_fields line =
     ∷ text_or_empty (λ receipt. decimal receipt.place.offset) line.receipt
     ∷ text_or_empty (λ receipt. decimal receipt.moment) line.receipt
     ∷ text_or_empty signed_decimal (option_and_then (λ receipt. receipt.centre_delay) line.receipt)
+    ∷ text_or_empty key_text line.key
+    ∷ command_name line.command
     ∷ []
 
 -- the record of a line for a message
@@ -87,6 +98,8 @@ receipt_columns =
     ∷ codes "standing"
     ∷ codes "message_session"
     ∷ codes "message_offset"
+    ∷ codes "key"
+    ∷ codes "command"
     ∷ []
 
 -- the fields of a line for a delivery receipt, one for each column: what a report prints of its error, and nothing where it
@@ -104,6 +117,8 @@ receipt_fields line =
     ∷ standing_name line.standing
     ∷ text_or_empty (λ message. decimal message.session.0) line.message
     ∷ text_or_empty (λ message. decimal message.offset) line.message
+    ∷ key_text line.key
+    ∷ command_name line.command
     ∷ []
 
 -- the record of a line for a delivery receipt

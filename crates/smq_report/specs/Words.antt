@@ -1,7 +1,14 @@
--- The words in lines: of states of messages, and of what is so or isn't.
-use Rattle.std.specs.Prelude.{Bool, true, false, ℕ, List, codes}
+-- The words in lines: of commands, of states of messages, and of what is so or isn't.
+use Rattle.std.specs.Prelude.{◌==◌, if◌then◌else◌, Bool, true, false, ℕ, List, [], codes}
 use Rattle.smq_receipt.specs.declared.message_state.MessageState.{MessageState}
 use Rattle.smq_receipt.specs.declared.message_state.MessageState.TheVariants as m
+
+-- the name of the command_id of a message or a delivery receipt (SMPP 3.4, 5.1.2.1); lines have no other command
+abbrev pub command_name : ℕ → List ℕ
+command_name command =
+    if command == 0x0000_0004 then codes "submit_sm"
+    else (if command == 0x0000_0005 then codes "deliver_sm"
+    else (if command == 0x0000_0103 then codes "data_sm" else []))
 
 -- the name of a state (SMPP 3.4, 5.2.28), in small letters
 abbrev pub state_name : MessageState → List ℕ

@@ -2,18 +2,19 @@
 ghost use Rattle.std.specs.Prelude.{◌≡◌, ◌++◌, ◌∷◌, [], OnOk};
 ghost use Rattle.std.specs.Fmt.{decimal, signed_decimal};
 ghost use Rattle.csv.specs.Records.{fields_of, partial_of};
+ghost use Rattle.smq_report.specs.Lines.{key_text};
 ghost use Rattle.smq_report.specs.Values.{code_text, error_text};
 
 use crate::value::{push_code, push_error};
 use csv::ByteRecord;
-use smq_kit::ErrorCode;
+use smq_kit::{ErrorCode, Key};
 use smq_tally::SubmitError;
 use std::alloc::{AllocError, Global};
 use std::marker::Model;
 
 /// The fields of a record, and room for the text of the next. A contract sees the fields. Where memory runs out there is none.
 #[derive(Drop)]
-pub(crate) struct Fields {
+pub struct Fields {
     record: ByteRecord,
     text: String,
 }
@@ -55,14 +56,14 @@ impl Fields {
     }
 
     /// Puts octets as a field after the others.
-    pub(crate) fn put_octets(&mut self, octets: &[u8]) -> Result<(), AllocError>
+    pub fn put_octets(&mut self, octets: &[u8]) -> Result<(), AllocError>
         ensures { OnOk result (self.new ≡ self.old ++ octets.now ∷ []) }
     {
         put_field(&mut self.record, octets)
     }
 
     /// Puts a number in decimal.
-    pub(crate) fn put_number(&mut self, number: u64) -> Result<(), AllocError>
+    pub fn put_number(&mut self, number: u64) -> Result<(), AllocError>
         ensures { OnOk result (self.new ≡ self.old ++ decimal number ∷ []) }
     {
         self.text.clear();
@@ -71,7 +72,7 @@ impl Fields {
     }
 
     /// Puts a number in decimal, behind `-` where it is negative.
-    pub(crate) fn put_signed(&mut self, number: i64) -> Result<(), AllocError>
+    pub fn put_signed(&mut self, number: i64) -> Result<(), AllocError>
         ensures { OnOk result (self.new ≡ self.old ++ signed_decimal number ∷ []) }
     {
         self.text.clear();
@@ -86,6 +87,20 @@ impl Fields {
         self.text.clear();
         push_error(&mut self.text, error)?;
         put_field(&mut self.record, self.text.as_bytes())
+    }
+
+    /// Puts the key of an id: a number in decimal, a text as it stands.
+    pub(crate) fn put_key(&mut self, key: &Key) -> Result<(), AllocError>
+        ensures { OnOk result (self.new ≡ self.old ++ key_text key.now ∷ []) }
+    {
+        match key {
+            Key::Number(number) => {
+                self.text.clear();
+                write!(self.text, "{number}")?;
+                put_field(&mut self.record, self.text.as_bytes())
+            }
+            Key::Text(id) => put_field(&mut self.record, id.as_slice()),
+        }
     }
 
     /// Puts the error of a delivery receipt.

@@ -1,5 +1,5 @@
 //! Laws of the definitions: each is the contract of a function with no body.
-ghost use Rattle.std.specs.Prelude.{◌≡◌, ◌++◌, ◌↔◌, IsTrue};
+ghost use Rattle.std.specs.Prelude.{◌≡◌, ◌++◌, ◌↔◌, ◌<◌, ◌^◌, ℕ, IsTrue, List};
 ghost use Rattle.std.specs.List.{flat_map};
 ghost use Rattle.smq_tally.specs.Lists.{lists};
 ghost use Rattle.smq_tally.specs.Rows.{views};
@@ -7,10 +7,12 @@ ghost use Rattle.smq_tally.specs.Tables.{TablesValue};
 ghost use Rattle.smq_report.specs.Csv.{csv_text};
 ghost use Rattle.smq_report.specs.Equal.{faults_eq, formats_eq, picks_eq, sections_eq};
 ghost use Rattle.smq_report.specs.Known.{KnowsBeginnings, KnowsColumns, KnowsReports, KnowsSections, KnowsTexts};
-ghost use Rattle.smq_report.specs.KnownLines.{KnowsMessages, KnowsNames, KnowsQuotes, KnowsReceipts};
+ghost use Rattle.smq_report.specs.KnownLines.{KnowsKeys, KnowsMessages, KnowsNames, KnowsQuotes, KnowsReceipts};
+ghost use Rattle.smq_report.specs.Lines.{key_text};
 ghost use Rattle.smq_report.specs.Table.{table_text};
 
 use crate::pick::{Format, Pick, ReportFault, Section};
+use smq_kit::Key;
 
 /// A whole report is those of the views and then those of the lists, one after the other.
 pub fn whole_reports_are_those_of_views_and_lists()
@@ -28,6 +30,14 @@ pub fn what_is_asked_for_is_told_apart()
     ensures sections { (a b : Section) → IsTrue (sections_eq a b) ↔ (a ≡ b) }
     ensures formats { (a b : Format) → IsTrue (formats_eq a b) ↔ (a ≡ b) }
     ensures faults { (a b : ReportFault) → IsTrue (faults_eq a b) ↔ (a ≡ b) }
+{}
+
+/// Two numbers, and likewise two texts, are one key exactly where they are printed alike. (A number and a text may be, too.)
+pub fn keys_of_a_kind_are_printed_apart()
+    ensures numbers { (a b : ℕ) → a < 2 ^ 128 → b < 2 ^ 128
+        → (key_text (Key.Number a) ≡ key_text (Key.Number b)) ↔ (Key.Number a ≡ Key.Number b) }
+    ensures texts { (a b : List ℕ)
+        → (key_text (Key.Text a) ≡ key_text (Key.Text b)) ↔ (Key.Text a ≡ Key.Text b) }
 {}
 
 /// The order of sections.
@@ -65,7 +75,12 @@ pub fn known_receipts()
     ensures { KnowsReceipts }
 {}
 
-/// The words of states and of standings.
+/// The texts of known keys.
+pub fn known_keys()
+    ensures { KnowsKeys }
+{}
+
+/// The words of commands, of states and of standings.
 pub fn known_names()
     ensures { KnowsNames }
 {}

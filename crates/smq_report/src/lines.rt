@@ -15,7 +15,7 @@ use std::alloc::{AllocError, Global};
 use std::io::Write;
 
 /// A line that is written as a record of CSV.
-pub(crate) trait Line {
+pub trait Line {
     ghost use Rattle.std.specs.Prelude.{◌≡◌, ◌++◌, ℕ, List, OnOk};
 
     /// Its fields, one for each column.
@@ -72,8 +72,9 @@ pub fn write_receipts<W: Write>(
     write_lines(alloc, &RECEIPT_COLUMNS, lines, writer)
 }
 
-/// Writes a record of columns, and a record for each line.
-fn write_lines<L: Line, W: Write>(
+/// Writes lines as CSV: a record of columns, and a record for each line. It holds about 64 KiB of them at a time. `Write` comes only where
+/// the writer failed in this call. On an error a beginning of the text has gone out, or nothing.
+pub fn write_lines<L: Line, W: Write>(
     alloc: Global,
     columns: &[&[u8]],
     lines: &[L],

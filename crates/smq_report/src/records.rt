@@ -5,17 +5,17 @@ ghost use Rattle.std.specs.Option.{option_and_then};
 ghost use Rattle.smq_tally.specs.Rows.{network_value, route_value};
 ghost use Rattle.smq_report.specs.Values.{error_text, value_text};
 ghost use Rattle.smq_report.specs.Words as names;
-ghost use Rattle.smq_report.specs.Lines.{message_fields, receipt_fields, text_or_empty};
+ghost use Rattle.smq_report.specs.Lines.{key_text, message_fields, receipt_fields, text_or_empty};
 
 use crate::fields::Fields;
-use smq_kit::{Digits, MessageId, Network, Place, RouteId};
+use smq_kit::{Digits, Key, MessageId, Network, Place, RouteId};
 use smq_present::{DecidingReceipt, MessageLine, ReceiptLine};
 use smq_receipt::MessageState;
 use smq_tally::SubmitError;
 use std::alloc::AllocError;
 
 /// The columns of lines for messages.
-pub(crate) const MESSAGE_COLUMNS: [&[u8]; 15] = [
+pub(crate) const MESSAGE_COLUMNS: [&[u8]; 17] = [
     b"link",
     b"session",
     b"offset",
@@ -31,10 +31,12 @@ pub(crate) const MESSAGE_COLUMNS: [&[u8]; 15] = [
     b"receipt_offset",
     b"receipt_moment",
     b"centre_delay",
+    b"key",
+    b"command",
 ];
 
 /// The columns of lines for delivery receipts.
-pub(crate) const RECEIPT_COLUMNS: [&[u8]; 11] = [
+pub(crate) const RECEIPT_COLUMNS: [&[u8]; 13] = [
     b"link",
     b"session",
     b"offset",
@@ -46,6 +48,8 @@ pub(crate) const RECEIPT_COLUMNS: [&[u8]; 11] = [
     b"standing",
     b"message_session",
     b"message_offset",
+    b"key",
+    b"command",
 ];
 
 /// Puts the fields of a line for a message after the others.
@@ -61,7 +65,9 @@ pub(crate) fn put_message(fields: &mut Fields, line: &MessageLine<'_>) -> Result
     put_error(fields, line.fact.error.as_ref())?;
     put_id(fields, line.id)?;
     put_offset(fields, line.response)?;
-    put_deciding(fields, line.receipt)
+    put_deciding(fields, line.receipt)?;
+    put_key(fields, line.key().as_ref())?;
+    put_command(fields, line.command)
 }
 
 /// Puts the fields of a line for a delivery receipt after the others.
@@ -77,7 +83,9 @@ pub(crate) fn put_receipt(fields: &mut Fields, line: &ReceiptLine<'_>) -> Result
     fields.put_octets(yes_or_no(receipt.interim).as_bytes())?;
     fields.put_code(&receipt.error)?;
     fields.put_octets(line.standing.name().as_bytes())?;
-    put_matched(fields, line.message)
+    put_matched(fields, line.message)?;
+    fields.put_key(&line.key())?;
+    put_command(fields, line.command)
 }
 
 /// Puts the session and the offset of a place.
@@ -194,6 +202,36 @@ fn put_matched(fields: &mut Fields, message: Option<Place>) -> Result<(), AllocE
             fields.put_octets(b"")?;
             fields.put_octets(b"")
         }
+    }
+}
+
+/// Puts the key of an id.
+fn put_key(fields: &mut Fields, key: Option<&Key>) -> Result<(), AllocError>
+    ensures { OnOk result (fields.new
+        ≡ fields.old ++ text_or_empty key_text (option_copied key.entry) ∷ []) }
+{
+    match key {
+        Some(key) => fields.put_key(key),
+        None => fields.put_octets(b""),
+    }
+}
+
+/// Puts the name of a command_id.
+fn put_command(fields: &mut Fields, command: u32) -> Result<(), AllocError>
+    ensures { OnOk result (fields.new ≡ fields.old ++ names.command_name command ∷ []) }
+{
+    fields.put_octets(command_name(command).as_bytes())
+}
+
+/// The name of the command_id of a message or a delivery receipt (SMPP 3.4, 5.1.2.1).
+fn command_name(command: u32) -> &'static str
+    ensures { result.now ≡ names.command_name command }
+{
+    match command {
+        0x0000_0004 => "submit_sm",
+        0x0000_0005 => "deliver_sm",
+        0x0000_0103 => "data_sm",
+        _ => "",
     }
 }
 

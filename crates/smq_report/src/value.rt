@@ -8,8 +8,8 @@ use smq_tally::{SubmitError, Value};
 use std::alloc::AllocError;
 use std::str;
 
-/// Puts a value after the text.
-pub(crate) fn push_value(text: &mut String, value: &Value) -> Result<(), AllocError>
+/// Puts a value after the text, as reports print it. It needs no quotes in CSV.
+pub fn push_value(text: &mut String, value: &Value) -> Result<(), AllocError>
     ensures ok { OnOk result
         (string_bytes text.new ≡ string_bytes text.old ++ value_text value.now) }
     ensures plain { OnOk result (IsPlain (value_text value.now)) }

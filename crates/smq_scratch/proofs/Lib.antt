@@ -4,5 +4,6 @@ pub mod Matched
 pub mod LineLaws
 pub mod DecidedLines
 pub mod NamedLines
+pub mod LineCommands
 pub mod Collected
 pub mod JoinedLemmas

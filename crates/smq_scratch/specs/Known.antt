@@ -1,8 +1,12 @@
 -- The lines for messages and receipts that are written out.
 use Rattle.std.specs.Prelude.{◌≡◌, ℕ, true, false, Bool, List, [], ◌∷◌, map, codes, Option, Some, None, ℤ, pos}
+use Rattle.smq_kit.specs.declared.message_id.Form.TheVariants.{Decimal, Hexadecimal}
+use Rattle.smq_kit.specs.declared.message_id.Key.TheVariants.{Number, Text}
 use Rattle.smq_kit.specs.declared.place.Dir.TheVariants.{FromClient, FromCentre}
 use Rattle.smq_receipt.specs.declared.message_state.MessageState.{MessageState}
 use Rattle.smq_receipt.specs.declared.message_state.MessageState.TheVariants.{Enroute, Delivered, Undeliverable}
+use Rattle.smq_receipt.specs.declared.reading.Reading.TheVariants as v
+use Rattle.smq_receipt.specs.declared.reading.Receipt.{Receipt}
 use Rattle.smq_kit.specs.declared.error_code.ErrorCode.TheVariants as e
 use Rattle.smq_tally.specs.declared.outcome.Outcome.TheVariants as o
 use Rattle.smq_present.specs.join.Lines.{MessageLineValue, ReceiptLineValue}
@@ -10,7 +14,7 @@ use Rattle.smq_present.specs.declared.join.lines.ReceiptStanding.TheVariants.{St
 use Rattle.smq_present.specs.declared.pairing.pairs.SessionForms.{SessionForms}
 use Rattle.smq_present.specs.present.Content as c
 use Rattle.smq_present.specs.declared.present.kept.StoredPdu.{StoredPdu}
-use Rattle.smq_present.specs.known.Pairing.{place_at, receipt_pdu, receipt_saying, submit}
+use Rattle.smq_present.specs.known.Pairing.{data_sm, place_at, receipt_pdu, receipt_saying, submit}
 use Rattle.smq_present.specs.present.Settings.{SettingsValue, opening_forms}
 use Rattle.smq_present.specs.within.Messages.{SubmittedMessage, message_of}
 use Rattle.smq_present.specs.within.Receipts.{KeyedReceipt, keyed_receipt}
@@ -109,3 +113,58 @@ pub record KnownReceiptLines : Type 0 where
       map (λ line. line.message) known_receipt_lines
       ≡ Some (place_at 10 FromClient 0) ∷ Some (place_at 10 FromClient 0) ∷ Some (place_at 10 FromClient 0)
       ∷ Some (place_at 10 FromClient 0) ∷ Some (place_at 10 FromClient 0) ∷ None ∷ None ∷ []
+
+-- ---- keys and commands
+
+-- a session of link 1, whose ids are in hexadecimal in responses and in decimal in receipts
+abbrev pub numbered_source : ℕ → SessionForms
+numbered_source session = record (known_source session) { forms = record { response = Hexadecimal; receipt = Decimal } }
+
+-- a PDU of session 10 that asks for a receipt, with this response
+abbrev pub numbered_submit : StoredPdu → Option StoredPdu → SubmittedMessage
+numbered_submit request response =
+    message_of (numbered_source 10) request (record { registered_delivery = 1; number = None }) response
+
+-- four messages: a submit_sm that is accepted with the id 1F, a data_sm that is with 010, one that is with 1G, which is no number, and
+-- a submit_sm without a response
+abbrev pub numbered_submits : List SubmittedMessage
+numbered_submits =
+    numbered_submit (submit 0 1 1) (Some (known_response 0 0x8000_0004 0 (codes "1F")))
+    ∷ numbered_submit (data_sm 34 1 1 v.NotReceipt) (Some (known_response 18 0x8000_0103 0 (codes "010")))
+    ∷ numbered_submit (data_sm 68 1 1 v.NotReceipt) (Some (known_response 36 0x8000_0103 0 (codes "1G")))
+    ∷ numbered_submit (submit 102 1 1) None ∷ []
+
+-- a receipt of this id, which says that the message was delivered
+abbrev pub numbered_receipt : List ℕ → Receipt
+numbered_receipt id = record (receipt_saying Delivered e.Unstated false) { id = id }
+
+-- a deliver_sm and a data_sm of session 11 at an offset that are such a receipt
+abbrev pub in_deliver_sm : ℕ → List ℕ → KeyedReceipt
+in_deliver_sm offset id = keyed_receipt (numbered_source 11) (receipt_pdu offset 5000 (numbered_receipt id)) (numbered_receipt id)
+
+abbrev pub in_data_sm : ℕ → List ℕ → KeyedReceipt
+in_data_sm offset id =
+    keyed_receipt (numbered_source 11) (data_sm offset 91 0 (v.Receipt (numbered_receipt id))) (numbered_receipt id)
+
+-- four receipts: a deliver_sm of the id 031, a data_sm of 16, one of 1F, which is no number, and a deliver_sm of 1G, which is none either
+abbrev pub numbered_receipts : List KeyedReceipt
+numbered_receipts =
+    in_deliver_sm 0 (codes "031") ∷ in_data_sm 60 (codes "16") ∷ in_data_sm 120 (codes "1F") ∷ in_deliver_sm 180 (codes "1G") ∷ []
+
+-- What the lines for these messages and receipts say of keys and commands, whatever else is set, and which match.
+pub record KnownKeyLines (s : SettingsValue) : Type 0 where
+  pub keys :
+      map (λ line. line.key) (map (message_line s numbered_submits numbered_receipts) numbered_submits)
+      ≡ Some (Number 31) ∷ Some (Number 16) ∷ Some (Text (codes "1G")) ∷ None ∷ []
+  pub commands :
+      map (λ line. line.command) (map (message_line s numbered_submits numbered_receipts) numbered_submits)
+      ≡ 0x0000_0004 ∷ 0x0000_0103 ∷ 0x0000_0103 ∷ 0x0000_0004 ∷ []
+  pub keys_of_receipts :
+      map (λ line. line.key) (map (receipt_line numbered_submits numbered_receipts) numbered_receipts)
+      ≡ Number 31 ∷ Number 16 ∷ Text (codes "1F") ∷ Text (codes "1G") ∷ []
+  pub commands_of_receipts :
+      map (λ line. line.command) (map (receipt_line numbered_submits numbered_receipts) numbered_receipts)
+      ≡ 0x0000_0005 ∷ 0x0000_0103 ∷ 0x0000_0103 ∷ 0x0000_0005 ∷ []
+  pub matches :
+      map (λ line. line.message) (map (receipt_line numbered_submits numbered_receipts) numbered_receipts)
+      ≡ Some (place_at 10 FromClient 0) ∷ Some (place_at 10 FromClient 34) ∷ None ∷ Some (place_at 10 FromClient 68) ∷ []

@@ -36,6 +36,8 @@ message_line settings submits receipts m = record {
   id = accepted_id m.header m.response;
   response = option_map (λ p. p.offset) m.response;
   receipt = option_map deciding_receipt (decider_of submits receipts m.key);
+  key = option_map (λ k. k.key) m.key;
+  command = m.header.command;
 }
 
 -- the lines for the submitted messages that are present, in the order of their places
@@ -75,6 +77,8 @@ receipt_line submits receipts e = record {
   receipt = e.1.receipt;
   standing = standing_by (number_accepted e.0 submits) (least_receipt (candidates e.0 receipts)) e.1;
   message = only_place (accepted_among e.0 submits);
+  key = e.0.key;
+  command = e.1.command;
 }
 
 -- the lines for the delivery receipts that are present, in the order of their places

@@ -24,6 +24,8 @@ use std::marker::Model;
 pub(crate) struct PlacedReceipt<'a> {
     pub place: Place,
     pub received: ReceivedReceipt<'a>,
+    /// The command_id of its deliver_sm or data_sm (SMPP 3.4, 5.1.2.1).
+    pub command: u32,
 }
 
 impl<'a> Model for PlacedReceipt<'a> {
@@ -36,6 +38,7 @@ impl<'a> Model for PlacedReceipt<'a> {
       place = r.place;
       moment = r.received.moment;
       receipt = r.received.receipt;
+      command = r.command;
     } };
 }
 
@@ -77,6 +80,7 @@ pub(crate) fn receipt_at<'a>(
                 moment: pdu.moment,
                 receipt,
             },
+            command: pdu.command,
         },
     ))
 }

@@ -1,7 +1,8 @@
 //! Laws of lines: what they have in common with the tables of what is present. Each is the contract of a function with no body.
-ghost use Rattle.std.specs.Prelude.{◌≡◌, ◌↔◌, Contains, Some, count_by, is_some, map};
+ghost use Rattle.std.specs.Prelude.{◌≡◌, ◌↔◌, ◌⊎◌, Contains, Some, count_by, is_some, map};
 ghost use Rattle.std.specs.FinMap as fin;
 ghost use Rattle.std.specs.List.{flat_map};
+ghost use Rattle.smq_pdu.specs.Commands.{data_sm, deliver_sm, submit_sm};
 ghost use Rattle.smq_tally.specs.Rows.{count_key, stands_in};
 ghost use Rattle.smq_tally.specs.Tables.{count_at, listed_in};
 ghost use Rattle.smq_present.specs.join.Lines.{MessageLineValue, ReceiptLineValue};
@@ -15,7 +16,7 @@ ghost use Rattle.smq_present.specs.pairing.Traffic.{traffic_of};
 ghost use Rattle.smq_present.specs.present.Present.{PresentValue};
 ghost use Rattle.smq_present.specs.present.Settings.{SettingsValue};
 ghost use Rattle.smq_present.specs.whole.Scratch.{scratch};
-ghost use Rattle.smq_scratch.specs.Known.{KnownMessageLines, KnownReceiptLines};
+ghost use Rattle.smq_scratch.specs.Known.{KnownKeyLines, KnownMessageLines, KnownReceiptLines};
 ghost use Rattle.smq_scratch.specs.Lines.{HasDecidingLine, HasLineAt, HasLineNaming, listing_of, message_lines, receipt_lines};
 
 use smq_kit::Place;
@@ -68,9 +69,18 @@ pub fn receipt_lines_give_the_lists()
         ≡ receipt_notes (grouping_of p.settings (traffic_of p.sessions)) }
 {}
 
+/// A message is a submit_sm or a data_sm, by the command of its line, and a delivery receipt a deliver_sm or a data_sm.
+pub fn lines_are_of_few_commands()
+    ensures messages { (p : PresentValue) (line : MessageLineValue) → Contains (message_lines p) line
+        → (line.command ≡ submit_sm) ⊎ (line.command ≡ data_sm) }
+    ensures receipts { (p : PresentValue) (line : ReceiptLineValue) → Contains (receipt_lines p) line
+        → (line.command ≡ deliver_sm) ⊎ (line.command ≡ data_sm) }
+{}
+
 /// The lines for messages and receipts that are written out: each standing of a receipt, a message that is delivered, two that share an
-/// id, and three without one.
+/// id, and three without one; and the keys and commands of others, of a link with two forms of ids.
 pub fn lines_of_known_messages()
     ensures messages { (s : SettingsValue) → KnownMessageLines s }
     ensures receipts { KnownReceiptLines }
+    ensures keys { (s : SettingsValue) → KnownKeyLines s }
 {}

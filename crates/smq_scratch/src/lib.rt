@@ -13,9 +13,9 @@ mod submitted;
 
 // laws
 pub use laws::{
-    lines_name_each_other, lines_name_what_decides, lines_of_known_messages,
-    message_lines_are_counted, message_lines_have_the_facts, open_and_lapsed_lines_are_listed,
-    receipt_lines_give_the_lists,
+    lines_are_of_few_commands, lines_name_each_other, lines_name_what_decides,
+    lines_of_known_messages, message_lines_are_counted, message_lines_have_the_facts,
+    open_and_lapsed_lines_are_listed, receipt_lines_give_the_lists,
 };
 
 // calls

@@ -85,6 +85,8 @@ fn line_at<'a>(source: SessionForms, pdu: &'a StoredPdu, keys: &Keys<'_>) -> Opt
         receipt: receipt.received.receipt,
         standing,
         message: message_at(found),
+        form: source.forms.receipt,
+        command: receipt.command,
     })
 }
 

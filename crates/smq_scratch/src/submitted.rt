@@ -69,6 +69,8 @@ fn message_line<'a>(
             Some(receipt) => Some(receipt.deciding()),
             None => None,
         },
+        form: submit.source.forms.response,
+        command: submit.request.command,
     }
 }
 

@@ -1,5 +1,6 @@
 -- What lines for messages and delivery receipts say, without where it lies in memory.
 use Rattle.std.specs.Prelude.{ℕ, List, Option, codes}
+use Rattle.smq_kit.specs.declared.message_id.Key.{Key}
 use Rattle.smq_kit.specs.declared.names.LinkId.{LinkId}
 use Rattle.smq_kit.specs.declared.place.Place.{Place}
 use Rattle.smq_receipt.specs.declared.reading.Receipt.{Receipt}
@@ -9,7 +10,7 @@ use Rattle.smq_present.specs.declared.join.lines.ReceiptStanding.{ReceiptStandin
 use Rattle.smq_present.specs.declared.join.lines.ReceiptStanding.TheVariants as r
 
 -- what a line for a message says: what is known of it, when it came in ms, its number, the id with which it is accepted, the
--- offset of its response, and the receipt that decides it
+-- offset of its response, the receipt that decides it, the key of its id, and its command_id
 pub record MessageLineValue : Type 0 where
   pub fact : Fact
   pub moment : ℕ
@@ -17,9 +18,11 @@ pub record MessageLineValue : Type 0 where
   pub id : Option (List ℕ)
   pub response : Option ℕ
   pub receipt : Option DecidingReceipt
+  pub key : Option Key
+  pub command : ℕ
 
 -- what a line for a delivery receipt says: its link, its place, when it came in ms, what it says, how it stands to messages,
--- and the message that it matches
+-- the message that it matches, the key of its id, and its command_id
 pub record ReceiptLineValue : Type 0 where
   pub link : LinkId
   pub place : Place
@@ -27,6 +30,8 @@ pub record ReceiptLineValue : Type 0 where
   pub receipt : Receipt
   pub standing : ReceiptStanding
   pub message : Option Place
+  pub key : Key
+  pub command : ℕ
 
 -- the name of a standing
 abbrev pub standing_name : ReceiptStanding → List ℕ

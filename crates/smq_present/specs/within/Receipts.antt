@@ -15,12 +15,14 @@ use Rattle.smq_present.specs.present.Kept.{receipt_in}
 use Rattle.smq_present.specs.join.Keyed.{can_decide}
 use Rattle.smq_kit.specs.LinkKeys.{link_key, same_key}
 
--- a delivery receipt: a deliver_sm or data_sm of the centre (SMPP 3.4, 4.6.1 and 4.7.1) that says what became of a message
+-- a delivery receipt: a deliver_sm or data_sm of the centre (SMPP 3.4, 4.6.1 and 4.7.1) that says what became of a message, with
+-- its command_id
 pub record PlacedReceipt : Type 0 where
   pub link : LinkId
   pub place : Place
   pub moment : ℕ
   pub receipt : Receipt
+  pub command : ℕ
 
 -- a delivery receipt with the key of its id
 abbrev pub KeyedReceipt : Type 0
@@ -35,6 +37,7 @@ keyed_receipt source p receipt = (
     place = record { session = source.session; dir = FromCentre; offset = p.offset };
     moment = p.moment;
     receipt = receipt;
+    command = p.command;
   },
 )
 

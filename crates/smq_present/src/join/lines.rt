@@ -1,7 +1,7 @@
 //! What lines for messages and delivery receipts say.
 ghost use Rattle.std.specs.Prelude.{◌≡◌};
 
-use smq_kit::{Digits, LinkId, MessageId, Moment, Place};
+use smq_kit::{Digits, Form, Key, LinkId, MessageId, Moment, Place, key_of};
 use smq_receipt::Receipt;
 use smq_tally::Fact;
 use std::marker::Model;
@@ -21,10 +21,15 @@ pub struct MessageLine<'a> {
     pub response: Option<u64>,
     /// The delivery receipt that decides it, where one does.
     pub receipt: Option<DecidingReceipt>,
+    /// How ids are written in responses of its link.
+    pub form: Form,
+    /// The command_id of its submit_sm or data_sm (5.1.2.1).
+    pub command: u32,
 }
 
 impl<'a> Model for MessageLine<'a> {
-    ghost use Rattle.std.specs.Option.{option_copied};
+    ghost use Rattle.std.specs.Option.{option_copied, option_map};
+    ghost use Rattle.smq_kit.specs.Keys.{key_under};
     ghost use Rattle.smq_present.specs.join.Lines.{MessageLineValue};
 
     ghost Value = { MessageLineValue };
@@ -36,7 +41,21 @@ impl<'a> Model for MessageLine<'a> {
       id = option_copied l.id;
       response = l.response;
       receipt = l.receipt;
+      key = option_map (key_under l.form) (option_copied l.id);
+      command = l.command;
     } };
+}
+
+impl<'a> MessageLine<'a> {
+    /// The key of the id with which it is accepted, where it is. It takes no memory.
+    pub fn key(&self) -> Option<Key>
+        ensures { result ≡ self.now.key }
+    {
+        match self.id {
+            Some(id) => Some(key_of(self.form, id)),
+            None => None,
+        }
+    }
 }
 
 /// The delivery receipt that decides a message.
@@ -97,9 +116,14 @@ pub struct ReceiptLine<'a> {
     pub standing: ReceiptStanding,
     /// The message that it matches, where that is one alone.
     pub message: Option<Place>,
+    /// How ids are written in delivery receipts of its link.
+    pub form: Form,
+    /// The command_id of its deliver_sm or data_sm.
+    pub command: u32,
 }
 
 impl<'a> Model for ReceiptLine<'a> {
+    ghost use Rattle.smq_kit.specs.Keys.{key_under};
     ghost use Rattle.smq_present.specs.join.Lines.{ReceiptLineValue};
 
     ghost Value = { ReceiptLineValue };
@@ -111,5 +135,16 @@ impl<'a> Model for ReceiptLine<'a> {
       receipt = l.receipt.now;
       standing = l.standing;
       message = l.message;
+      key = key_under l.form l.receipt.now.id;
+      command = l.command;
     } };
+}
+
+impl<'a> ReceiptLine<'a> {
+    /// The key of the id that it names. It takes no memory.
+    pub fn key(&self) -> Key
+        ensures { result ≡ self.now.key }
+    {
+        key_of(self.form, &self.receipt.id)
+    }
 }

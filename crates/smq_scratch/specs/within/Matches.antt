@@ -53,6 +53,8 @@ line_by found decider e = record {
   receipt = e.1.receipt;
   standing = standing_by (number_in found) decider e.1;
   message = place_in found;
+  key = e.0.key;
+  command = e.1.command;
 }
 
 -- the same by what maps have at its key

@@ -2,14 +2,16 @@
 use crate::tests::scripts::*;
 use crate::tests::writers::Expecting;
 use smq_book::Present;
+use smq_kit::Form;
 use smq_report::{write_messages, write_receipts};
 use smq_scratch::{message_lines, receipt_lines};
 use std::alloc::{AllocError, Global};
 
-/// Five messages: one that failed, two that share an id, one without a response, one that was refused; and five receipts: two of the
-/// first before and after that which decides it, which comes in session 11, and one each of the ids of the others.
+/// Ids are hexadecimal. Five messages: one that failed, two that share an id, one without a response, one that was refused; and five
+/// receipts: two of the first before and after that which decides it, which comes in session 11, and one each of the ids of the others.
 const SCRIPT: &[Step] = &[
     Step::Route(b"4477", 0, 3, b"23410"),
+    Step::Forms(Form::Hexadecimal, Form::Hexadecimal),
     SUBMIT,
     Step::Client(10, 1000, Sent::Submit(2, NUMBER)),
     Step::Client(10, 1100, Sent::Submit(3, b"")),
@@ -36,21 +38,21 @@ const SCRIPT: &[Step] = &[
 /// A submit_sm to `NUMBER` has 49 octets and one to no number 37; a response with an id of one octet has 18.
 const MESSAGES: &[u8] =
     b"link,session,offset,moment,number,route,network,outcome,error,id,response_offset,\
-receipt_session,receipt_offset,receipt_moment,centre_delay\n\
-1,10,0,1000,447700900123,3,23410,failed,text:027,a,0,11,50,5000,60000\n\
-1,10,49,1000,447700900123,3,23410,ambiguous,,b,18,,,,\n\
-1,10,98,1100,,none,none,ambiguous,,b,36,,,,\n\
-1,10,135,1100,447700900123,3,23410,waiting,,,,,,,\n\
-1,10,184,1100,447700900123,3,23410,refused,status:8,,54,,,,\n";
+receipt_session,receipt_offset,receipt_moment,centre_delay,key,command\n\
+1,10,0,1000,447700900123,3,23410,failed,text:027,a,0,11,50,5000,60000,10,submit_sm\n\
+1,10,49,1000,447700900123,3,23410,ambiguous,,b,18,,,,,11,submit_sm\n\
+1,10,98,1100,,none,none,ambiguous,,b,36,,,,,11,submit_sm\n\
+1,10,135,1100,447700900123,3,23410,waiting,,,,,,,,,submit_sm\n\
+1,10,184,1100,447700900123,3,23410,refused,status:8,,54,,,,,,submit_sm\n";
 
 /// A deliver_sm has 33 octets and its text: 17 of it make 50, and 69 make 102.
 const RECEIPTS: &[u8] =
-    b"link,session,offset,moment,id,state,interim,error,standing,message_session,message_offset\n\
-1,10,72,6000,a,delivered,no,unstated,extra,10,0\n\
-1,11,0,3000,a,enroute,no,unstated,noted,10,0\n\
-1,11,50,5000,a,undeliverable,no,text:027,deciding,10,0\n\
-1,11,152,5000,b,delivered,no,unstated,ambiguous,,\n\
-1,11,202,5000,c,delivered,no,unstated,stray,,\n";
+    b"link,session,offset,moment,id,state,interim,error,standing,message_session,message_offset,key,command\n\
+1,10,72,6000,a,delivered,no,unstated,extra,10,0,10,deliver_sm\n\
+1,11,0,3000,a,enroute,no,unstated,noted,10,0,10,deliver_sm\n\
+1,11,50,5000,a,undeliverable,no,text:027,deciding,10,0,10,deliver_sm\n\
+1,11,152,5000,b,delivered,no,unstated,ambiguous,,,11,deliver_sm\n\
+1,11,202,5000,c,delivered,no,unstated,stray,,,12,deliver_sm\n";
 
 /// Whether the lines for messages read so.
 fn has_messages(alloc: Global, present: &Present, text: &'static [u8]) -> Result<bool, AllocError> {

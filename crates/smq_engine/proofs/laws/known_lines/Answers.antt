@@ -5,12 +5,12 @@ use Rattle.smq_engine.proofs.laws.known_lines.Goals as goal
 
 no_message : messages_text []
     ≡ codes "link,session,offset,moment,number,route,network,outcome,error,id,response_offset,"
-    ++ (codes "receipt_session,receipt_offset,receipt_moment,centre_delay" ++ 10 ∷ [])
+    ++ (codes "receipt_session,receipt_offset,receipt_moment,centre_delay,key,command" ++ 10 ∷ [])
 unfolding fields_text is_blank escaped
 no_message = refl
 
 no_receipt : receipts_text []
-    ≡ codes "link,session,offset,moment,id,state,interim,error,standing,message_session,message_offset" ++ 10 ∷ []
+    ≡ codes "link,session,offset,moment,id,state,interim,error,standing,message_session,message_offset,key,command" ++ 10 ∷ []
 unfolding fields_text is_blank escaped
 no_receipt = refl
 

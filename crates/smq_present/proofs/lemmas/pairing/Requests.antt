@@ -5,7 +5,7 @@ use Rattle.std.proofs.lemmas.Bool.Decides.{nat_tests}
 use Rattle.std.proofs.lemmas.Option.{slice_get-map}
 use Rattle.smq_frame.specs.Frame.{FrameValue}
 use Rattle.smq_frame.specs.Stream.{Octet, stream_frames}
-use Rattle.smq_pdu.specs.Bodies.{BodyValue, SubmitAnswerBody, DeliverBody, OtherBody, UndecodableBody, deliver_said}
+use Rattle.smq_pdu.specs.Bodies.{BodyValue, SubmitBody, SubmitAnswerBody, DeliverBody, OtherBody, UndecodableBody, deliver_said, submit_said}
 use Rattle.smq_pdu.specs.Commands.{submit_sm, submit_sm_resp, deliver_sm, data_sm, data_sm_resp}
 use Rattle.smq_pdu.specs.Fields.{Mandatory}
 use Rattle.smq_pdu.specs.Header.{header_at, header_with}
@@ -55,7 +55,7 @@ by_response : (b : Bool) (command : ℕ) (octets : List ℕ) (submit : Submit)
 by_response true command octets submit e = absurd (no_submit submit e)
 by_response false command octets submit e = by_delivery (command == deliver_sm) command octets submit e
 
-by_command : (b : Bool) (command : ℕ) (octets : List ℕ) (submit : Submit) → (command == submit_sm) ≡ b
+pub by_command : (b : Bool) (command : ℕ) (octets : List ℕ) (submit : Submit) → (command == submit_sm) ≡ b
     → submit_in (content_of_body (cond b (submit_of octets) (response_or_other command octets))) ≡ Some submit
     → (command ≡ submit_sm) ⊎ (command ≡ data_sm)
 by_command true command octets submit same e = inl (grind (arith, nat_tests, same))
@@ -114,17 +114,23 @@ received_by_response : (b : Bool) (command : ℕ) (octets : List ℕ) (r : Recei
 received_by_response true command octets r e = absurd (no_receipt r e)
 received_by_response false command octets r e = received_by_delivery (command == deliver_sm) command octets r refl e
 
-received_by_command : (b : Bool) (command : ℕ) (octets : List ℕ) (r : Receipt) → (command == submit_sm) ≡ b
+no_submission : (fields : Option (Mandatory × List ℕ)) (r : Receipt)
+    → receipt_in (content_of_body (elim fields [ None ↦ UndecodableBody | Some p ↦ SubmitBody (submit_said p.0) ])) ≡ Some r → ⊥
+no_submission None r e = no_receipt r e
+no_submission (Some p) r e = no_receipt r e
+
+pub received_by_command : (b : Bool) (command : ℕ) (octets : List ℕ) (r : Receipt)
     → receipt_in (content_of_body (cond b (submit_of octets) (response_or_other command octets))) ≡ Some r
-    → (command ≡ submit_sm) ⊎ ((command ≡ deliver_sm) ⊎ (command ≡ data_sm))
-received_by_command true command octets r same e = inl (grind (arith, nat_tests, same))
-received_by_command false command octets r same e = inr (received_by_response (command == submit_sm_resp || command == data_sm_resp) command octets r e)
+    → (command ≡ deliver_sm) ⊎ (command ≡ data_sm)
+unfolding submit_of
+received_by_command true command octets r e = absurd (no_submission (mandatory_at octets) r e)
+received_by_command false command octets r e = received_by_response (command == submit_sm_resp || command == data_sm_resp) command octets r e
 
 frame-delivers : (f : FrameValue) (r : Receipt) → receipt_in (kept_pdu (placed_pdu f)).content ≡ Some r
     → is_request (header_of (kept_pdu (placed_pdu f))) ≡ true
 unfolding body_of
 frame-delivers f r e =
-    by (received_by_command ((header_at f.octets).command == submit_sm) (header_at f.octets).command (drop 16 f.octets) r refl e)
+    by (received_by_command ((header_at f.octets).command == submit_sm) (header_at f.octets).command (drop 16 f.octets) r e)
   where
     asks : (named : ℕ) → is_request (header_with named) ≡ true → (header_at f.octets).command ≡ named
         → is_request (header_of (kept_pdu (placed_pdu f))) ≡ true
@@ -132,11 +138,10 @@ frame-delivers f r e =
         ap (λ command. is_request (record { command = command; status = (header_at f.octets).status; seq = (header_at f.octets).seq })) same
         ∙ request
 
-    by : ((header_at f.octets).command ≡ submit_sm) ⊎ (((header_at f.octets).command ≡ deliver_sm) ⊎ ((header_at f.octets).command ≡ data_sm))
+    by : ((header_at f.octets).command ≡ deliver_sm) ⊎ ((header_at f.octets).command ≡ data_sm)
         → is_request (header_of (kept_pdu (placed_pdu f))) ≡ true
-    by (inl same) = asks submit_sm refl same
-    by (inr (inl same)) = asks deliver_sm refl same
-    by (inr (inr same)) = asks data_sm refl same
+    by (inl same) = asks deliver_sm refl same
+    by (inr same) = asks data_sm refl same
 
 frames-deliver : (fs : List FrameValue) (i : ℕ) (p : StoredPdu) (r : Receipt) → slice_get (map kept_pdu (map placed_pdu fs)) i
     ≡ Some p → receipt_in p.content ≡ Some r → is_request (header_of p) ≡ true

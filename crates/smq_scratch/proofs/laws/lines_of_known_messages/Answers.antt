@@ -21,3 +21,6 @@ returns-clause-receipts c = record {
   standings = refl;
   messages = refl;
 }
+
+pub returns-clause-keys : goal.returns-clause-keys
+returns-clause-keys c = λ s. record { keys = refl; commands = refl; keys_of_receipts = refl; commands_of_receipts = refl; matches = refl }
