@@ -1,0 +1,5 @@
+pub mod MonthLemmas
+pub mod Named
+pub mod Sums
+pub mod Tallied
+pub mod Texts

@@ -1,0 +1,76 @@
+-- Known columns, days, cells and counts.
+use Rattle.std.specs.Prelude.{◌≡◌, ◌++◌, List, [], ◌∷◌, Some, None, codes, find}
+use Rattle.std.specs.List.Sorted.{IsStrictlySortedBy}
+use Rattle.smq_tally.specs.declared.outcome.Outcome.TheVariants as o
+use Rattle.smq_tally.specs.declared.value.Value.TheVariants as w
+use Rattle.smq_tally.specs.declared.view.View.TheVariants as v
+use Rattle.smq_count.specs.declared.cell.Cell.{Cell}
+use Rattle.smq_count.specs.declared.cell.Cell.TheVariants as cell
+use Rattle.smq_count.specs.declared.column.Column.TheVariants as c
+use Rattle.smq_count.specs.declared.column.Period.TheVariants as p
+use Rattle.smq_count.specs.Cells.{cell_cmp, cell_text, period_of}
+use Rattle.smq_count.specs.Columns.{columns, is_named}
+use Rattle.smq_count.specs.Months.{day_text, hour_text, minute_text, month_of, month_text, time_text}
+
+-- Columns have these names, and no others.
+pub record KnowsColumns : Type 0 where
+  pub link : find (is_named (codes "link")) columns ≡ Some (c.View v.Link)
+  pub session : find (is_named (codes "session")) columns ≡ Some c.Session
+  pub route : find (is_named (codes "route")) columns ≡ Some (c.View v.Route)
+  pub outcome : find (is_named (codes "outcome")) columns ≡ Some c.Outcome
+  pub centre_delay : find (is_named (codes "centre-delay")) columns ≡ Some (c.View v.CentreDelay)
+  pub minute : find (is_named (codes "minute")) columns ≡ Some (c.Period p.Minute)
+  pub hour : find (is_named (codes "hour")) columns ≡ Some (c.Period p.Hour)
+  pub day : find (is_named (codes "day")) columns ≡ Some (c.Period p.Day)
+  pub month : find (is_named (codes "month")) columns ≡ Some (c.Period p.Month)
+  pub least_prefix : find (is_named (codes "prefix:1")) columns ≡ Some (c.Prefix 1)
+  pub most_prefix : find (is_named (codes "prefix:15")) columns ≡ Some (c.Prefix 15)
+  pub no_prefix : find (is_named (codes "prefix:0")) columns ≡ None
+  pub longer_prefix : find (is_named (codes "prefix:16")) columns ≡ None
+  pub other : find (is_named (codes "Link")) columns ≡ None
+
+-- Days are written so: the first, the leap day of a century, the last of a year, and the last that there is.
+pub record KnowsDays : Type 0 where
+  pub first : day_text 0 ≡ codes "1970-01-01"
+  pub leap_day : day_text 11016 ≡ codes "2000-02-29"
+  pub last_of_year : day_text 20818 ≡ codes "2026-12-31"
+  pub last : day_text 47482 ≡ codes "2100-01-01"
+  pub hour : hour_text 264400 ≡ codes "2000-02-29T16Z"
+  pub minute : minute_text 15864005 ≡ day_text 11016 ++ codes "T16:05Z"
+  pub time : time_text 965 ≡ codes "16:05Z"
+  pub month : month_text (month_of 11016) ≡ codes "2000-02"
+
+-- Cells are written so, and moments are of these periods: 1,700,000,000,000 ms is 2023-11-14T22:13:20Z.
+pub record KnowsCells : Type 0 where
+  pub minute : period_of p.Minute 1700000000000 ≡ 28333333
+  pub hour : period_of p.Hour 1700000000000 ≡ 472222
+  pub day : period_of p.Day 1700000000000 ≡ 19675
+  pub last_of_minute : period_of p.Minute 59999 ≡ 0
+  pub session : cell_text (cell.Session (record { 0 = 10 })) ≡ codes "10"
+  pub outcome : cell_text (cell.Outcome o.NoId) ≡ codes "noid"
+  pub no_route : cell_text (cell.Value w.NoRoute) ≡ codes "none"
+  pub prefix : cell_text (cell.Prefix (record { items = codes "447" })) ≡ codes "447"
+  pub nothing : cell_text cell.Nothing ≡ []
+
+-- cells of columns, each column's in order
+abbrev pub known_routes : List Cell
+known_routes = cell.Value (w.Route (record { 0 = 2 })) ∷ cell.Value (w.Route (record { 0 = 10 })) ∷ cell.Value w.NoRoute ∷ []
+
+abbrev pub known_sessions : List Cell
+known_sessions = cell.Session (record { 0 = 2 }) ∷ cell.Session (record { 0 = 10 }) ∷ []
+
+abbrev pub known_outcomes : List Cell
+known_outcomes = cell.Outcome o.Waiting ∷ cell.Outcome o.Delivered ∷ cell.Outcome o.Open ∷ []
+
+abbrev pub known_prefixes : List Cell
+known_prefixes =
+    cell.Prefix (record { items = codes "4" }) ∷ cell.Prefix (record { items = codes "44" }) ∷ cell.Prefix (record { items = codes "447" })
+    ∷ cell.Prefix (record { items = codes "5" }) ∷ cell.Nothing ∷ []
+
+-- What stands in a column has its order.
+pub record KnowsOrder : Type 0 where
+  pub routes : IsStrictlySortedBy cell_cmp known_routes
+  pub sessions : IsStrictlySortedBy cell_cmp known_sessions
+  pub outcomes : IsStrictlySortedBy cell_cmp known_outcomes
+  pub days : IsStrictlySortedBy cell_cmp (cell.Period p.Day 9 ∷ cell.Period p.Day 10 ∷ [])
+  pub prefixes : IsStrictlySortedBy cell_cmp known_prefixes

@@ -1,0 +1,6 @@
+pub mod Columns
+pub mod Months
+pub mod Cells
+pub mod Counts
+pub mod Known
+pub mod within
