@@ -1,3 +1,5 @@
+pub mod ArgumentLemmas
+pub mod EnteredLemmas
 pub mod KnownLemmas
 pub mod LevelLemmas
 pub mod OrderLemmas

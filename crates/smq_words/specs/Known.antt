@@ -2,7 +2,7 @@
 use Rattle.std.specs.Prelude.{◌≡◌, ◌++◌, [], ◌∷◌, List, codes, false, true, Option, Some, None}
 use Rattle.clap.specs.Words.{Kinds, Text, fault_of, subcommand_of}
 use Rattle.clap.specs.declared.builder.value_parser.ValueParser.{ValueParser}
-use Rattle.clap.specs.declared.error.kind.ErrorKind.TheVariants.{MissingRequiredArgument, UnknownArgument}
+use Rattle.clap.specs.declared.error.kind.ErrorKind.TheVariants.{ArgumentConflict, MissingRequiredArgument, UnknownArgument}
 use Rattle.smq_report.specs.declared.pick.Format.{Format}
 use Rattle.smq_report.specs.declared.pick.Format.TheVariants as format
 use Rattle.smq_report.specs.declared.pick.Pick.{Pick}
@@ -13,8 +13,8 @@ use Rattle.smq_report.specs.declared.pick.Output.TheVariants.{Messages, Receipts
 use Rattle.smq_report.specs.declared.pick.Query.{Query}
 use Rattle.smq_report.specs.Picks.{pick_names}
 use Rattle.smq_words.specs.declared.orders.Task.{Task}
-use Rattle.smq_words.specs.declared.orders.Task.TheVariants.{Capture, Check, Follow, Run, Total}
-use Rattle.smq_words.specs.Words.{Asks, CaptureTexts, format_names, format_rule, link_rule, program, question_names, settings_rule, subcommand_name, version_text}
+use Rattle.smq_words.specs.declared.orders.Task.TheVariants.{Capture, Check, Count, Follow, Run, Total}
+use Rattle.smq_words.specs.Words.{Asks, CaptureTexts, CountingTexts, format_names, format_rule, link_rule, no_counting, program, question_names, settings_rule, subcommand_name, version_text}
 
 -- what is asked of a report, and in which format
 abbrev pub of_query : Pick → Format → Query
@@ -53,18 +53,22 @@ pub record KnowsWords : Type 0 where
   pub link_option : link_rule.long ≡ Some (codes "link")
   pub questions : question_names ≡ pick_names ++ codes "report" ∷ []
   pub version : version_text ≡ codes "0.23.0"
-  pub plain : Asks (Some (codes "report", [])) (Run (of_query pick.All format.Csv)) None no_captures
+  pub plain : Asks (Some (codes "report", [])) (Run (of_query pick.All format.Csv)) None no_counting no_captures
 
 -- the fault that `clap` finds in words, whatever names, formats and questions its parsers take
 abbrev pub HasFault : List Text → Kinds → Type 0
 HasFault words fault = (names formats questions : ValueParser) → fault_of (program names formats questions) words ≡ fault
 
--- the task, the path of settings and the captures for which words ask
-abbrev pub AskWith : List Text → Task → Option Text → CaptureTexts → Type 0
-AskWith words task path captures =
-    (names formats questions : ValueParser) → Asks (subcommand_of (program names formats questions) words) task path captures
+-- the task, the path of settings, what is counted by, and the captures for which words ask
+abbrev pub AskAll : List Text → Task → Option Text → CountingTexts → CaptureTexts → Type 0
+AskAll words task path counting captures =
+    (names formats questions : ValueParser) → Asks (subcommand_of (program names formats questions) words) task path counting captures
 
--- the same where they ask for no captures
+-- the same where nothing is counted by
+abbrev pub AskWith : List Text → Task → Option Text → CaptureTexts → Type 0
+AskWith words task path captures = AskAll words task path no_counting captures
+
+-- the same where they ask for no captures, either
 abbrev pub AskFor : List Text → Task → Option Text → Type 0
 AskFor words task path = AskWith words task path no_captures
 
@@ -132,3 +136,32 @@ pub record KnowsCaptures : Type 0 where
   pub every : HasFault (codes "report" ∷ codes "--every" ∷ codes "5" ∷ []) (UnknownArgument ∷ [])
   pub ask : HasFault (codes "total" ∷ codes "--ask" ∷ codes "link" ∷ []) (UnknownArgument ∷ [])
   pub file : HasFault (codes "report" ∷ codes "a.pcap" ∷ []) (UnknownArgument ∷ [])
+
+-- these columns and conditions
+abbrev pub counted_by : Text → List Text → CountingTexts
+counted_by columns conditions = record { columns = Some columns; conditions = conditions }
+
+-- words of `count`: it takes columns once, conditions, a path of settings and captures, and neither a format nor a name; `messages` takes no
+-- condition, and `total` no columns
+pub record KnowsCount : Type 0 where
+  pub columns : HasFault (codes "count" ∷ codes "--by" ∷ codes "link,day" ∷ []) []
+  pub columns_count : AskAll (codes "count" ∷ codes "--by" ∷ codes "link,day" ∷ []) Count None (counted_by (codes "link,day") []) no_captures
+  pub conditions : HasFault
+      (codes "count" ∷ codes "--where" ∷ codes "link=1" ∷ codes "--by" ∷ codes "day" ∷ codes "--where" ∷ codes "outcome=open" ∷ []) []
+  pub conditions_count : AskAll
+      (codes "count" ∷ codes "--where" ∷ codes "link=1" ∷ codes "--by" ∷ codes "day" ∷ codes "--where" ∷ codes "outcome=open" ∷ []) Count None
+      (counted_by (codes "day") (codes "link=1" ∷ codes "outcome=open" ∷ [])) no_captures
+  pub joined : AskAll (codes "count" ∷ codes "--by=day" ∷ codes "--where=error=" ∷ []) Count None
+      (counted_by (codes "day") (codes "error=" ∷ [])) no_captures
+  pub settings : AskAll (codes "count" ∷ codes "--settings" ∷ codes "p" ∷ codes "--by" ∷ codes "hour" ∷ []) Count (Some (codes "p"))
+      (counted_by (codes "hour") []) no_captures
+  pub captures : AskAll
+      (codes "count" ∷ codes "--by" ∷ codes "route" ∷ codes "--capture" ∷ codes "f" ∷ codes "--link" ∷ codes "2775=1" ∷ codes "--strict" ∷ []) Count
+      None (counted_by (codes "route") []) (record (captures_at (codes "f" ∷ []) (codes "2775=1" ∷ [])) { is_strict = true })
+  pub no_columns : HasFault (codes "count" ∷ []) (MissingRequiredArgument ∷ [])
+  pub conditions_alone : HasFault (codes "count" ∷ codes "--where" ∷ codes "link=1" ∷ []) (MissingRequiredArgument ∷ [])
+  pub twice : HasFault (codes "count" ∷ codes "--by" ∷ codes "link" ∷ codes "--by" ∷ codes "day" ∷ []) (ArgumentConflict ∷ [])
+  pub format : HasFault (codes "count" ∷ codes "--by" ∷ codes "link" ∷ codes "--format" ∷ codes "csv" ∷ []) (UnknownArgument ∷ [])
+  pub name : HasFault (codes "count" ∷ codes "link" ∷ []) (UnknownArgument ∷ [])
+  pub messages : HasFault (codes "messages" ∷ codes "--where" ∷ codes "link=1" ∷ []) (UnknownArgument ∷ [])
+  pub total : HasFault (codes "total" ∷ codes "--by" ∷ codes "link" ∷ []) (UnknownArgument ∷ [])

@@ -1,5 +1,5 @@
 -- The words that the program takes, as `clap` reads them.
-use Rattle.std.specs.Prelude.{◌≡◌, ◌⊎◌, ◌++◌, ⊤, Bool, List, [], ◌∷◌, fold, map, codes, true, false, unwrap_or, option_map, string_bytes, Option, Some, Result, IsErrAnd}
+use Rattle.std.specs.Prelude.{◌≡◌, ◌⊎◌, ◌++◌, ⊤, Bool, List, [], ◌∷◌, fold, map, codes, true, false, unwrap_or, option_map, string_bytes, Option, Some, None, Result, IsErrAnd}
 use Rattle.std.specs.Borrow.{Bor}
 use Rattle.clap.specs.Words.{App, FailsBy, Row, Rule, Text, all_of, fault_of, first_of, kind_of, new_app, new_rule, one_of, rule_of, subcommand_of, with_rule, with_subcommand}
 use Rattle.clap.specs.Simple.{on_top}
@@ -19,9 +19,10 @@ use Rattle.smq_report.specs.declared.pick.Pick.{Pick}
 use Rattle.smq_report.specs.declared.pick.Pick.TheVariants as pick
 use Rattle.smq_report.specs.declared.pick.Query.{Query}
 use Rattle.smq_words.specs.declared.orders.Captures.{Captures}
+use Rattle.smq_words.specs.declared.orders.Counting.{Counting}
 use Rattle.smq_words.specs.declared.orders.Order.{Order}
 use Rattle.smq_words.specs.declared.orders.Task.{Task}
-use Rattle.smq_words.specs.declared.orders.Task.TheVariants.{Capture, Check, Follow, Run, Total}
+use Rattle.smq_words.specs.declared.orders.Task.TheVariants.{Capture, Check, Count, Follow, Run, Total}
 
 -- ---- the subcommands
 
@@ -43,6 +44,7 @@ subcommand_name (Run query) = run_name query.pick
 subcommand_name Check = codes "check"
 subcommand_name (Follow format) = codes "follow"
 subcommand_name (Total asked) = total_name asked
+subcommand_name Count = codes "count"
 subcommand_name Capture = codes "capture"
 
 -- the name of a format
@@ -99,6 +101,10 @@ settings_rule = record (new_rule (codes "settings")) {
 -- an option with one value, any text
 abbrev pub option_rule : Text → Rule
 option_rule name = record (new_rule name) { long = Some name; action = Some Set; value_names = 1 }
+
+-- `--by`, which is required and has one value, any text
+abbrev pub columns_rule : Rule
+columns_rule = record (option_rule (codes "by")) { required = true }
 
 -- an option that may come again, each time with one value, any text
 abbrev pub repeated_rule : Text → Rule
@@ -163,6 +169,13 @@ named_app name rule formats =
 abbrev pub follow_app : ValueParser → ValueParser → App
 follow_app formats questions = with_rules (options_app (codes "follow") formats) (live_rules questions)
 
+-- `count`: by which columns, the conditions, `--settings` and the options of captures
+abbrev pub count_app : App
+count_app =
+    with_rules
+    (with_rule (with_rule (with_rule (new_app (codes "count")) columns_rule) (repeated_rule (codes "where"))) settings_rule)
+    captures_rules
+
 -- `capture`: its links, how captures are read, what is asked while packets come, and the captures
 abbrev pub capture_app : ValueParser → App
 capture_app questions =
@@ -177,19 +190,27 @@ abbrev pub bare_program : App
 bare_program = on_top (λ shape. record shape { no_binary_name = true; subcommand_required = true; has_version = true })
     (new_app (codes "smq"))
 
--- the program's subcommands
-abbrev pub program : ValueParser → ValueParser → ValueParser → App
-program names formats questions =
+-- the program with its subcommands up to `follow`
+abbrev pub first_program : ValueParser → ValueParser → ValueParser → App
+first_program names formats questions =
     with_subcommand
-    (with_subcommand
-    (with_subcommand
-    (with_subcommand
     (with_subcommand
     (with_subcommand
     (with_subcommand (with_subcommand bare_program (capture_app questions).top) (options_app (codes "report") formats).top)
     (named_app (codes "query") (name_rule names) formats).top) (settings_app (codes "check")).top)
-    (follow_app formats questions).top) (named_app (codes "total") (optional_rule names) formats).top)
+    (follow_app formats questions).top
+
+-- a program, and then the subcommands that take a script of any length
+abbrev pub with_any_length : ValueParser → ValueParser → App → App
+with_any_length names formats app =
+    with_subcommand
+    (with_subcommand
+    (with_subcommand (with_subcommand app (named_app (codes "total") (optional_rule names) formats).top) count_app.top)
     (settings_app (codes "messages")).top) (settings_app (codes "receipts")).top
+
+-- the program, with all its subcommands
+abbrev pub program : ValueParser → ValueParser → ValueParser → App
+program names formats questions = with_any_length names formats (first_program names formats questions)
 
 -- the program's words, where NAME is the name of a view or a list, a format is `csv` or `table`, and a question is the name of a view or a
 -- list, or `report`
@@ -225,7 +246,24 @@ Say rows (Follow format) = HasFormat rows format
 Say rows (Total (output.Report query)) = IsQueried rows query
 Say rows (Total output.Messages) = ⊤
 Say rows (Total output.Receipts) = ⊤
+Say rows Count = (columns : Text) × (first_of (codes "by") rows ≡ Some columns)
 Say rows Capture = ⊤
+
+-- what `count` counts by, as texts
+pub record CountingTexts : Type 0 where
+  pub columns : Option Text
+  pub conditions : List Text
+
+-- what the other subcommands count by: nothing
+abbrev pub no_counting : CountingTexts
+no_counting = record { columns = None; conditions = [] }
+
+-- the texts of what an order counts by
+abbrev pub texts_of_counting : Counting → CountingTexts
+texts_of_counting counting = record {
+  columns = option_map string_bytes counting.columns;
+  conditions = map string_bytes counting.conditions.items;
+}
 
 -- the words of captures, as texts
 pub record CaptureTexts : Type 0 where
@@ -255,6 +293,11 @@ texts_of_captures captures = record {
 abbrev pub values_of : Text → List Row → List Text
 values_of id rows = unwrap_or (all_of id rows) []
 
+-- what the arguments of a task's subcommand say of counting: those of `count` the value of `--by` and each of `--where`, all others nothing
+abbrev pub counting_in : List Row → Task → CountingTexts
+counting_in rows Count = record { columns = first_of (codes "by") rows; conditions = values_of (codes "where") rows }
+counting_in rows _ = no_counting
+
 -- whether a flag is given
 abbrev pub HasFlag : Text → List Row → Bool → Type 0
 HasFlag id rows is_given = unwrap_or (one_of id rows) (codes "false") ≡ bool_text is_given
@@ -271,18 +314,21 @@ pub record HasCaptures (rows : List Row) (texts : CaptureTexts) : Type 0 where
   pub questions : values_of (codes "ask") rows ≡ texts.questions
   pub strict : HasFlag (codes "strict") rows texts.is_strict
 
--- The matches of the subcommand that words enter ask for a task, a path and captures: the subcommand is the task's, its arguments ask for
--- what the task says, the path is that of `--settings`, and the captures are those that the arguments name.
-pub record Asks (entered : Option (Text × List Row)) (task : Task) (path : Option Text) (captures : CaptureTexts) : Type 0 where
+-- The matches of the subcommand that words enter ask for a task, a path, what is counted by, and captures: the subcommand is the task's,
+-- its arguments ask for what the task says, the path is that of `--settings`, and the rest is what the arguments say of it.
+pub record Asks (entered : Option (Text × List Row)) (task : Task) (path : Option Text) (counting : CountingTexts) (captures : CaptureTexts)
+    : Type 0 where
   pub rows : List Row
   pub enters : entered ≡ Some (subcommand_name task, rows)
   pub say : Say rows task
   pub has_path : first_of (codes "settings") rows ≡ path
+  pub has_counting : counting_in rows task ≡ counting
   pub has_captures : HasCaptures rows captures
 
 -- an order is one for which the matches of the subcommand ask
 abbrev pub IsAsked : Option (Text × List Row) → Order → Type 0
-IsAsked entered order = Asks entered order.task (option_map string_bytes order.settings) (texts_of_captures order.captures)
+IsAsked entered order =
+    Asks entered order.task (option_map string_bytes order.settings) (texts_of_counting order.counting) (texts_of_captures order.captures)
 
 -- an order is the one for which `clap`'s matches of the words ask
 abbrev pub HasOrder : List Text → Order → Type 0

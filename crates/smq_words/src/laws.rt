@@ -1,5 +1,5 @@
 //! Known values of the definitions: each is the contract of a function with no body.
-ghost use Rattle.smq_words.specs.Known.{KnowsCapture, KnowsCaptures, KnowsCheck, KnowsFollow, KnowsLines, KnowsTotal, KnowsWords};
+ghost use Rattle.smq_words.specs.Known.{KnowsCapture, KnowsCaptures, KnowsCheck, KnowsCount, KnowsFollow, KnowsLines, KnowsTotal, KnowsWords};
 
 /// The words of orders.
 pub fn known_words()
@@ -19,6 +19,11 @@ pub fn known_words_of_follow()
 /// Which words `total` takes.
 pub fn known_words_of_total()
     ensures { KnowsTotal }
+{}
+
+/// Which words `count` takes.
+pub fn known_words_of_count()
+    ensures { KnowsCount }
 {}
 
 /// Which words `messages` and `receipts` take.

@@ -1,4 +1,7 @@
 //! What the words of the program ask for.
+ghost use Rattle.std.specs.Prelude.{◌≡◌};
+ghost use Rattle.smq_words.specs.Words.{no_counting, texts_of_counting};
+
 use smq_report::{Format, Output, Query};
 use std::alloc::Global;
 
@@ -13,6 +16,8 @@ pub enum Task {
     Follow(Format),
     /// To play rows, however many there are, and to write an output of what they leave.
     Total(Output),
+    /// To play rows, however many there are, and to count the messages that they leave by columns.
+    Count,
     /// To write the script of packet captures.
     Capture,
 }
@@ -24,8 +29,31 @@ pub struct Order {
     pub task: Task,
     /// The path of settings, if one is named.
     pub settings: Option<String>,
+    /// What `count` counts by; nothing where the task is another.
+    pub counting: Counting,
     /// Which captures are read, and how.
     pub captures: Captures,
+}
+
+/// What `count` counts by, as it stands: values as texts.
+#[derive(Debug, Drop)]
+pub struct Counting {
+    /// The value of --by; none where the task is another.
+    pub columns: Option<String>,
+    /// Each --where.
+    pub conditions: Vec<String>,
+}
+
+impl Counting {
+    /// Nothing.
+    pub(crate) fn none(alloc: Global) -> Counting
+        ensures { texts_of_counting result ≡ no_counting }
+    {
+        Counting {
+            columns: None,
+            conditions: Vec::new(alloc),
+        }
+    }
 }
 
 /// The words of captures, as they stand: values as texts.

@@ -2,12 +2,14 @@
 ghost use Rattle.std.specs.Prelude.{◌≡◌, ◌++◌, Bool, Option, Some, IfErr, IfOk, OnOk, map, option_map, string_bytes, unwrap_or, codes};
 ghost use Rattle.clap.specs.Words.{Text, first_of, found_of, kind_of, rows_of, subcommand_rows_of};
 ghost use Rattle.smq_report.specs.Picks.{pick_name};
-ghost use Rattle.smq_words.specs.Words.{Asks, CaptureTexts, HasCaptures, HasFlag, HasOrder, IsAsked, TakesWords, format_name};
-ghost use Rattle.smq_words.specs.Words.{texts_of, texts_of_captures, values_of};
-ghost use Rattle.smq_words.specs.within.Tasks.{task_named};
+ghost use Rattle.smq_words.specs.Words.{Asks, CaptureTexts, CountingTexts, HasCaptures, HasFlag, HasOrder, IsAsked, TakesWords, format_name};
+ghost use Rattle.smq_words.specs.Words.{texts_of, texts_of_captures, texts_of_counting, values_of};
+ghost use Rattle.smq_words.specs.within.Tasks.{counting_named, task_named};
 
-use crate::orders::{Captures, Order, Task};
-use crate::rules::{bare_command, command, more_help, pick_names, question_names};
+use crate::help::more_help;
+use crate::names::{pick_names, question_names};
+use crate::orders::{Captures, Counting, Order, Task};
+use crate::rules::{bare_command, command};
 use clap::error::ErrorKind;
 use clap::{ArgMatches, Error};
 use smq_report::{Format, Output, Pick, Query};
@@ -32,8 +34,9 @@ pub fn order<S: AsStr>(alloc: Global, words: &[S]) -> Result<Order, Error>
 
 /// What the matches of the words ask for. `clap` takes no words without a subcommand.
 fn order_in(alloc: Global, matches: &ArgMatches) -> Result<Order, AllocError>
-    ensures { (task : Task) → (path : Option Text) → (captures : CaptureTexts)
-        → Asks (subcommand_rows_of matches.now) task path captures
+    ensures { (task : Task) → (path : Option Text)
+        → (counting : CountingTexts) → (captures : CaptureTexts)
+        → Asks (subcommand_rows_of matches.now) task path counting captures
         → IfOk result (IsAsked (subcommand_rows_of matches.now)) }
 {
     match matches.subcommand() {
@@ -41,6 +44,7 @@ fn order_in(alloc: Global, matches: &ArgMatches) -> Result<Order, AllocError>
         None => Ok(Order {
             task: Task::Check,
             settings: None,
+            counting: Counting::none(alloc),
             captures: Captures::none(alloc),
         }),
     }
@@ -48,24 +52,28 @@ fn order_in(alloc: Global, matches: &ArgMatches) -> Result<Order, AllocError>
 
 /// What the matches of the subcommand of a name ask for.
 fn order_of(alloc: Global, name: &str, entered: &ArgMatches) -> Result<Order, AllocError>
-    ensures { (task : Task) → (path : Option Text) → (captures : CaptureTexts)
-        → Asks (Some (name.now, rows_of (found_of entered.now))) task path captures
+    ensures { (task : Task) → (path : Option Text)
+        → (counting : CountingTexts) → (captures : CaptureTexts)
+        → Asks (Some (name.now, rows_of (found_of entered.now))) task path counting captures
         → IfOk result (IsAsked (Some (name.now, rows_of (found_of entered.now)))) }
 {
     let settings = given_text(alloc, entered, "settings")?;
+    let counting = counting_of(alloc, name, entered)?;
     let captures = captures_of(alloc, entered)?;
     let task = task_of(name, entered);
     Ok(Order {
         task,
         settings,
+        counting,
         captures,
     })
 }
 
 /// The task for which the matches of the subcommand of a name ask.
 fn task_of(name: &str, entered: &ArgMatches) -> Task
-    ensures { (task : Task) → (path : Option Text) → (captures : CaptureTexts)
-        → Asks (Some (name.now, rows_of (found_of entered.now))) task path captures
+    ensures { (task : Task) → (path : Option Text)
+        → (counting : CountingTexts) → (captures : CaptureTexts)
+        → Asks (Some (name.now, rows_of (found_of entered.now))) task path counting captures
         → result ≡ task }
 {
     task_named(name, query_in(entered))
@@ -80,6 +88,9 @@ fn task_named(name: &str, query: Query) -> Task
     }
     if name == "follow" {
         return Task::Follow(query.format);
+    }
+    if name == "count" {
+        return Task::Count;
     }
     if name == "messages" {
         return Task::Total(Output::Messages);
@@ -110,6 +121,20 @@ fn query_in(entered: &ArgMatches) -> Query
         pick: named_pick(entered.get_str("NAME")),
         format: named_format(entered.get_str("format")),
     }
+}
+
+/// What the matches of the subcommand of a name say of counting.
+fn counting_of(alloc: Global, name: &str, entered: &ArgMatches) -> Result<Counting, AllocError>
+    ensures { IfOk result (λ counting.
+        texts_of_counting counting ≡ counting_named name.now (rows_of (found_of entered.now))) }
+{
+    if name != "count" {
+        return Ok(Counting::none(alloc));
+    }
+    Ok(Counting {
+        columns: given_text(alloc, entered, "by")?,
+        conditions: given_texts(alloc, entered, "where")?,
+    })
 }
 
 /// What the matches of a subcommand say of captures.

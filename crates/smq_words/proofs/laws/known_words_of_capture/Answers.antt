@@ -12,6 +12,7 @@ known = record {
     enters = refl;
     say = tt;
     has_path = refl;
+    has_counting = refl;
     has_captures = record { paths = refl; links = refl; first_session = refl; index = refl; losses = refl; every = refl; questions = refl; strict = refl };
   };
   taken = λ names formats questions. refl;
@@ -20,6 +21,7 @@ known = record {
     enters = refl;
     say = tt;
     has_path = refl;
+    has_counting = refl;
     has_captures = record { paths = refl; links = refl; first_session = refl; index = refl; losses = refl; every = refl; questions = refl; strict = refl };
   };
   options = λ names formats questions. record {
@@ -27,6 +29,7 @@ known = record {
     enters = refl;
     say = tt;
     has_path = refl;
+    has_counting = refl;
     has_captures = record { paths = refl; links = refl; first_session = refl; index = refl; losses = refl; every = refl; questions = refl; strict = refl };
   };
   live = λ names formats questions. record {
@@ -34,6 +37,7 @@ known = record {
     enters = refl;
     say = tt;
     has_path = refl;
+    has_counting = refl;
     has_captures = record { paths = refl; links = refl; first_session = refl; index = refl; losses = refl; every = refl; questions = refl; strict = refl };
   };
   no_link = λ names formats questions. refl;

@@ -12,6 +12,7 @@ known = record {
     enters = refl;
     say = (refl, refl);
     has_path = refl;
+    has_counting = refl;
     has_captures = record { paths = refl; links = refl; first_session = refl; index = refl; losses = refl; every = refl; questions = refl; strict = refl };
   };
   report_taken = λ names formats questions. refl;
@@ -20,6 +21,7 @@ known = record {
     enters = refl;
     say = tt;
     has_path = refl;
+    has_counting = refl;
     has_captures = record { paths = refl; links = refl; first_session = refl; index = refl; losses = refl; every = refl; questions = refl; strict = refl };
   };
   messages = λ names formats questions. record {
@@ -27,6 +29,7 @@ known = record {
     enters = refl;
     say = tt;
     has_path = refl;
+    has_counting = refl;
     has_captures = record { paths = refl; links = refl; first_session = refl; index = refl; losses = refl; every = refl; questions = refl; strict = refl };
   };
   follow = λ names formats questions. record {
@@ -34,6 +37,7 @@ known = record {
     enters = refl;
     say = refl;
     has_path = refl;
+    has_counting = refl;
     has_captures = record { paths = refl; links = refl; first_session = refl; index = refl; losses = refl; every = refl; questions = refl; strict = refl };
   };
   every = λ names formats questions. refl;

@@ -13,6 +13,7 @@ known = record {
     enters = refl;
     say = refl;
     has_path = refl;
+    has_counting = refl;
     has_captures = record { paths = refl; links = refl; first_session = refl; index = refl; losses = refl; every = refl; questions = refl; strict = refl };
   };
   settings_follows = λ names formats questions. record {
@@ -20,6 +21,7 @@ known = record {
     enters = refl;
     say = refl;
     has_path = refl;
+    has_counting = refl;
     has_captures = record { paths = refl; links = refl; first_session = refl; index = refl; losses = refl; every = refl; questions = refl; strict = refl };
   };
   table_follows = λ names formats questions. record {
@@ -27,6 +29,7 @@ known = record {
     enters = refl;
     say = refl;
     has_path = refl;
+    has_counting = refl;
     has_captures = record { paths = refl; links = refl; first_session = refl; index = refl; losses = refl; every = refl; questions = refl; strict = refl };
   };
   name = λ names formats questions. refl;

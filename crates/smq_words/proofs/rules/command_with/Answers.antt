@@ -1,45 +1,20 @@
-use Rattle.std.proofs.Common.{◌∙◌, ap, ap₂, codes}
+use Rattle.std.proofs.Common.{◌∙◌, ap}
 use Rattle.std.proofs.lemmas.Result.{IfOk-weaker}
-use Rattle.clap.specs.Simple.{App}
-use Rattle.clap.specs.Words.{with_subcommand}
 use Rattle.clap.specs.declared.builder.value_parser.ValueParser.TheVariants.{Names}
-use Rattle.smq_words.specs.Words.{live_rules, named_app, with_rules}
+use Rattle.smq_words.specs.Words.{with_any_length}
 use Rattle.smq_words.proofs.rules.command_with.Goals as goal
 
 pub returns : goal.returns
 returns c =
-    IfOk-weaker c.subcommand-8.result _ _
+    let names = Names c.args.names in
+    let formats = Names c.args.formats in
+    IfOk-weaker c.with_any_length.result _ _
     (λ m h. record {
-      names = Names c.args.names;
-      formats = Names c.args.formats;
-      takes_names = c.requires.names;
+      names = names;
+      formats = formats;
       questions = Names c.args.questions;
+      takes_names = c.requires.names;
       takes_formats = c.requires.formats;
       takes_questions = c.requires.questions;
-      is_program = h.shape c.in_ok-receipts.ensures.local
-          ∙ ap₂ with_subcommand
-          (c.in_ok-subcommand-7.ensures.shape c.in_ok-messages.ensures.local
-          ∙ ap₂ with_subcommand
-          (c.in_ok-subcommand-6.ensures.shape c.in_ok-total.ensures.local
-          ∙ ap₂ with_subcommand
-          (c.in_ok-subcommand-5.ensures.shape (c.in_ok-follow.ensures.local ∙ c.in_ok-rows.ensures.local)
-          ∙ ap₂ with_subcommand
-          (c.in_ok-subcommand-4.ensures.shape c.in_ok-check.ensures.local
-          ∙ ap₂ with_subcommand
-          (c.in_ok-subcommand-3.ensures.shape c.in_ok-query.ensures.local
-          ∙ ap₂ with_subcommand
-          (c.in_ok-subcommand-2.ensures.shape c.in_ok-report.ensures.local
-          ∙ ap₂ with_subcommand
-          (c.in_ok-subcommand.ensures.shape c.in_ok-capture.ensures.local
-          ∙ ap₂ with_subcommand c.in_ok-bare_command.ensures.rules (ap (λ (a : App). a.top) c.in_ok-capture.ensures.rules))
-          (ap (λ (a : App). a.top) c.in_ok-report.ensures.rules))
-          (ap (λ (a : App). a.top)
-          (c.in_ok-query.ensures.rules ∙ ap (λ rule. named_app (codes "query") rule (Names c.args.formats)) c.name_argument.ensures.0)))
-          (ap (λ (a : App). a.top) c.in_ok-check.ensures.rules))
-          (ap (λ (a : App). a.top)
-          (c.in_ok-follow.ensures.rules ∙ ap (λ (a : App). with_rules a (live_rules (Names c.args.questions))) c.in_ok-rows.ensures.rules)))
-          (ap (λ (a : App). a.top)
-          (c.in_ok-total.ensures.rules ∙ ap (λ rule. named_app (codes "total") rule (Names c.args.formats)) c.optional_name.ensures.0)))
-          (ap (λ (a : App). a.top) c.in_ok-messages.ensures.rules))
-          (ap (λ (a : App). a.top) c.in_ok-receipts.ensures.rules);
-    }) c.subcommand-8.ensures
+      is_program = h ∙ ap (with_any_length names formats) c.in_ok-first.ensures;
+    }) c.with_any_length.ensures

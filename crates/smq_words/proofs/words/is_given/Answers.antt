@@ -3,7 +3,7 @@ use Rattle.std.specs.Prelude.{unwrap_or}
 use Rattle.clap.specs.Matches.{one_text}
 use Rattle.clap.specs.Words.{found_of}
 use Rattle.clap.proofs.WalkLemmas.{one_text-rows}
-use Rattle.smq_words.proofs.OrderLemmas.{flag_is}
+use Rattle.smq_words.proofs.ArgumentLemmas.{flag_is}
 use Rattle.smq_words.proofs.words.is_given.Goals as goal
 
 pub returns : goal.returns

@@ -7,7 +7,8 @@ use Rattle.clap.specs.declared.builder.value_parser.ValueParser.{ValueParser}
 use Rattle.clap.specs.declared.error.Error.{Error}
 use Rattle.clap.proofs.OnLiterals.{clap_on_literals}
 use Rattle.smq_words.specs.Words.{IsAsked, IsProgram, TakesWords, program}
-use Rattle.smq_words.proofs.OrderLemmas.{Asked, words_ask}
+use Rattle.smq_words.proofs.EnteredLemmas.{Asked}
+use Rattle.smq_words.proofs.OrderLemmas.{words_ask}
 use Rattle.smq_words.proofs.words.order.Goals as goal
 
 program_is_simple : (names formats questions : ValueParser) → is_simple_and_free (program names formats questions) ≡ true
@@ -51,5 +52,5 @@ returns-clause-order g c =
     let asks = subst Asked (sym (entered ∙ ap (λ (a : App). subcommand_of a words) is.is_program)) asked in (
       app,
       is,
-      subst (λ e. IsAsked e c.in_ok-order_in.field-0) entered (c.in_ok-order_in.ensures asks.0 asks.1 asks.2 asks.3),
+      subst (λ e. IsAsked e c.in_ok-order_in.field-0) entered (c.in_ok-order_in.ensures asks.0 asks.1 asks.2 asks.3 asks.4),
     )

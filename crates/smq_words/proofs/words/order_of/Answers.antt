@@ -4,8 +4,14 @@ use Rattle.smq_words.proofs.OrderLemmas.{asked_captures, order_asked}
 use Rattle.smq_words.proofs.words.order_of.Goals as goal
 
 pub returns : goal.returns
-returns c task path captures asks =
+returns c task path counting captures asks =
     let rows = rows_of (found_of c.args.entered.now) in
-    let order : Order = record { task = c.task_of-task.result; settings = c.in_ok-settings.settings; captures = c.in_ok-captures.captures } in
-    order_asked c.args.name.now rows task path captures asks order (c.task_of-task.ensures task path captures asks) c.in_ok-settings.ensures
-    (c.in_ok-captures.ensures captures (asked_captures c.args.name.now rows task path captures asks))
+    let order : Order = record {
+      task = c.task_of-task.result;
+      settings = c.in_ok-settings.settings;
+      counting = c.in_ok-counting.counting;
+      captures = c.in_ok-captures.captures;
+    } in
+    order_asked c.args.name.now rows task path counting captures asks order (c.task_of-task.ensures task path counting captures asks) c.in_ok-settings.ensures
+    c.in_ok-counting.ensures
+    (c.in_ok-captures.ensures captures (asked_captures c.args.name.now rows task path counting captures asks))

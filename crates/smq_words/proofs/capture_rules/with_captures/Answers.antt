@@ -4,7 +4,7 @@ use Rattle.clap.specs.Simple.{App}
 use Rattle.clap.specs.Words.{app_of, with_rule}
 use Rattle.smq_words.specs.Words.{reading_rules, with_rules}
 use Rattle.smq_words.proofs.RuleLemmas.{or_none}
-use Rattle.smq_words.proofs.rules.with_captures.Goals as goal
+use Rattle.smq_words.proofs.capture_rules.with_captures.Goals as goal
 
 pub returns-clause-rules : goal.returns-clause-rules
 returns-clause-rules c =

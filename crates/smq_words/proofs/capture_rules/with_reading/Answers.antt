@@ -2,7 +2,7 @@ use Rattle.std.proofs.Common.{◌∙◌, ap, ap₂}
 use Rattle.std.proofs.lemmas.Result.{IfOk-weaker}
 use Rattle.clap.specs.Words.{app_of, with_rule}
 use Rattle.smq_words.proofs.RuleLemmas.{or_none}
-use Rattle.smq_words.proofs.rules.with_reading.Goals as goal
+use Rattle.smq_words.proofs.capture_rules.with_reading.Goals as goal
 
 pub returns-clause-rules : goal.returns-clause-rules
 returns-clause-rules c =

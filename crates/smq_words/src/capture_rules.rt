@@ -1,0 +1,157 @@
+//! The options of captures.
+ghost use Rattle.std.specs.Prelude.{◌≡◌, IfOk, codes};
+ghost use Rattle.clap.specs.Words.{app_of};
+ghost use Rattle.clap.specs.declared.builder.command.Command.TheViews.{out-Command as fields_of};
+ghost use Rattle.clap.specs.declared.builder.value_parser.ValueParser.TheVariants.{Names};
+ghost use Rattle.smq_words.specs.Words.{IsArgument, ask_rule, captures_rules, file_rule, link_rule, live_rules, option_rule};
+ghost use Rattle.smq_words.specs.Words.{reading_rules, repeated_rule, required_link_rule, strict_rule, with_rules};
+
+use clap::{Arg, ArgAction, Command};
+use std::alloc::{AllocError, Global};
+
+/// The subcommand, and the options of the captures that it reads behind rows.
+pub fn with_captures<'a>(alloc: Global, command: Command<'a>) -> Result<Command<'a>, AllocError>
+    ensures rules { IfOk result (λ made.
+        app_of made ≡ with_rules (app_of command.entry) captures_rules) }
+    ensures local { IfOk result (λ made.
+        (fields_of made).has_globals ≡ (fields_of command.entry).has_globals) }
+{
+    let named = command.arg(capture_option(alloc))?.arg(link_option(alloc))?;
+    with_reading(alloc, named)
+}
+
+/// The subcommand, and how it reads captures.
+pub fn with_reading<'a>(alloc: Global, command: Command<'a>) -> Result<Command<'a>, AllocError>
+    ensures rules { IfOk result (λ made.
+        app_of made ≡ with_rules (app_of command.entry) reading_rules) }
+    ensures local { IfOk result (λ made.
+        (fields_of made).has_globals ≡ (fields_of command.entry).has_globals) }
+{
+    command
+        .arg(first_session_option(alloc))?
+        .arg(strict_flag(alloc))?
+        .arg(index_option(alloc))?
+        .arg(losses_option(alloc))
+}
+
+/// The subcommand, and what it is asked while packets come.
+pub fn with_live<'a>(
+    alloc: Global,
+    command: Command<'a>,
+    questions: &'a [&'a str],
+) -> Result<Command<'a>, AllocError>
+    ensures rules { IfOk result (λ made.
+        app_of made ≡ with_rules (app_of command.entry) (live_rules (Names questions.entry))) }
+    ensures local { IfOk result (λ made.
+        (fields_of made).has_globals ≡ (fields_of command.entry).has_globals) }
+{
+    command
+        .arg(every_option(alloc))?
+        .arg(ask_option(alloc, questions))
+}
+
+fn capture_option<'a>(alloc: Global) -> Arg<'a>
+    ensures { IsArgument (repeated_rule (codes "capture")) result }
+{
+    Arg::new(alloc, "capture")
+        .long("capture")
+        .value_name("FILE")
+        .help(
+            "A packet capture that is read behind the rows, or - for standard input; may come again",
+        )
+        .action(ArgAction::Append)
+}
+
+fn link_option<'a>(alloc: Global) -> Arg<'a>
+    ensures { IsArgument link_rule result }
+{
+    Arg::new(alloc, "link")
+        .long("link")
+        .value_name("[HOST:]PORT=LINK")
+        .help(
+            "A port of the centre, and the number that its link has in the report; may come again",
+        )
+        .action(ArgAction::Append)
+}
+
+pub fn required_link<'a>(alloc: Global) -> Arg<'a>
+    ensures { IsArgument required_link_rule result }
+{
+    link_option(alloc).required(true)
+}
+
+fn first_session_option<'a>(alloc: Global) -> Arg<'a>
+    ensures { IsArgument (option_rule (codes "first-session")) result }
+{
+    Arg::new(alloc, "first-session")
+        .long("first-session")
+        .value_name("N")
+        .help("The number of the first session (1)")
+        .action(ArgAction::Set)
+}
+
+fn strict_flag<'a>(alloc: Global) -> Arg<'a>
+    ensures { IsArgument strict_rule result }
+{
+    Arg::new(alloc, "strict")
+        .long("strict")
+        .help(
+            "Write nothing of a direction after a gap, rather than a new session from the next PDU on",
+        )
+        .action(ArgAction::SetTrue)
+}
+
+fn index_option<'a>(alloc: Global) -> Arg<'a>
+    ensures { IsArgument (option_rule (codes "index")) result }
+{
+    Arg::new(alloc, "index")
+        .long("index")
+        .value_name("FILE")
+        .help(
+            "Write a line for each session to FILE: session, link, both ends, first and last packet, 1 for a SYN of both ends, octets missing",
+        )
+        .action(ArgAction::Set)
+}
+
+fn losses_option<'a>(alloc: Global) -> Arg<'a>
+    ensures { IsArgument (option_rule (codes "losses")) result }
+{
+    Arg::new(alloc, "losses")
+        .long("losses")
+        .value_name("FILE")
+        .help(
+            "Write a line for each gap to FILE: session, direction, offset, octets missing, moment, why",
+        )
+        .action(ArgAction::Set)
+}
+
+fn every_option<'a>(alloc: Global) -> Arg<'a>
+    ensures { IsArgument (option_rule (codes "every")) result }
+{
+    Arg::new(alloc, "every")
+        .long("every")
+        .value_name("SECONDS")
+        .help("Tell the clock before the first packet of each so many seconds, and ask then")
+        .action(ArgAction::Set)
+}
+
+fn ask_option<'a>(alloc: Global, questions: &'a [&'a str]) -> Arg<'a>
+    ensures { IsArgument (ask_rule (Names questions.entry)) result }
+{
+    Arg::new(alloc, "ask")
+        .long("ask")
+        .value_name("NAME")
+        .help(
+            "What is asked every so many seconds and at the end: a view, a list, or report; may come again",
+        )
+        .action(ArgAction::Append)
+        .value_parser(questions)
+}
+
+pub fn file_argument<'a>(alloc: Global) -> Arg<'a>
+    ensures { IsArgument file_rule result }
+{
+    Arg::new(alloc, "FILE")
+        .help("A capture, or - for standard input")
+        .action(ArgAction::Append)
+}

@@ -1,0 +1,141 @@
+//! What help says.
+use crate::names::{with_lists, with_views};
+use smq_tally::{List, View};
+use std::alloc::{AllocError, Global};
+
+pub const ABOUT: &str =
+    "Tells what became of SMPP 3.4 messages, from captured sessions in a script on standard input";
+
+pub const USAGE: &str =
+    "smq capture [OPTIONS] --link <[HOST:]PORT=LINK> [FILE]... > SCRIPT\n       smq report [OPTIONS] < SCRIPT\n       smq query [OPTIONS] <NAME> < SCRIPT\n       smq check [OPTIONS] < SCRIPT\n       smq follow [OPTIONS] < ROWS\n       smq total [OPTIONS] [NAME] < SCRIPT\n       smq count [OPTIONS] --by <COLUMNS> < SCRIPT\n       smq messages [OPTIONS] < SCRIPT\n       smq receipts [OPTIONS] < SCRIPT";
+
+/// The help of a subcommand: what it does, and how it is called.
+#[derive(Clone, Copy)]
+pub struct Help<'a> {
+    pub about: &'a str,
+    pub usage: &'a str,
+}
+
+pub const CAPTURE: Help<'static> = Help {
+    about: "Writes the script of packet captures: the octets of each TCP stream of their SMPP sessions, as smq reads them",
+    usage: "smq capture [OPTIONS] --link <[HOST:]PORT=LINK> [FILE]... > SCRIPT",
+};
+
+pub const REPORT: Help<'static> = Help {
+    about: "Writes the whole report of a script: all views, then all lists",
+    usage: "smq report [OPTIONS] < SCRIPT",
+};
+
+pub const QUERY: Help<'static> = Help {
+    about: "Writes one view or one list of a script's report",
+    usage: "smq query [OPTIONS] <NAME> < SCRIPT",
+};
+
+pub const CHECK: Help<'static> = Help {
+    about: "Plays a script by many threads on one desk, and says whether its tables equal a count from nothing",
+    usage: "smq check [OPTIONS] < SCRIPT",
+};
+
+pub const FOLLOW: Help<'static> = Help {
+    about: "Plays rows as they come, and writes what is asked among them of the report at that moment",
+    usage: "smq follow [OPTIONS] < ROWS",
+};
+
+pub const TOTAL: Help<'static> = Help {
+    about: "Writes what report or query NAME writes, of a script of any length: no row of it is kept",
+    usage: "smq total [OPTIONS] [NAME] < SCRIPT",
+};
+
+pub const COUNT: Help<'static> = Help {
+    about: "Counts the messages of a script of any length by columns, and writes a line of CSV for each combination that has some",
+    usage: "smq count [OPTIONS] --by <COLUMNS> < SCRIPT",
+};
+
+pub const MESSAGES: Help<'static> = Help {
+    about: "Writes a line of CSV for each message of a script of any length: its route, outcome, id and receipt",
+    usage: "smq messages [OPTIONS] < SCRIPT",
+};
+
+pub const RECEIPTS: Help<'static> = Help {
+    about: "Writes a line of CSV for each delivery receipt of a script of any length, with the message it matches",
+    usage: "smq receipts [OPTIONS] < SCRIPT",
+};
+
+/// The first part of what stands below each help, before the names of views and lists.
+const SCRIPT: &str = "\
+SCRIPT is CSV records, one a line, as `piece,LINK,SESSION,DIR,MOMENT,HEX`, where DIR is client or centre and
+MOMENT is in ms since 1970 or YYYY-MM-DDTHH:MM:SSZ. It has at most 1,000,000 records and 268,435,456 octets
+(total, count, messages, receipts: any number). ROWS are the same, with `ask,NAME` or `ask,report` among them,
+and without a limit. A message takes some 2 KB of memory (follow: 5). docs/FORMATS.md tells all records, the
+settings, the report and the lines; tools/check-script says what is wrong with a script.
+`--capture FILE` with `--link` reads a packet capture behind the rows of standard input (-: from standard
+input, which has no rows then); smq capture --help tells how.
+";
+
+/// The last part.
+const STATUS: &str = "
+
+Status:
+  0  each row was taken
+  1  a row was refused and skipped, which all but check tell on standard error, or something is missing
+     in captures, which all tell (check: or the tables differ)
+  2  bad words, settings or rows: nothing was written (follow: no more than was asked before)
+  3  a read or a write failed
+  4  out of memory (check: or no thread, or desk refused)";
+
+/// What stands below the help of `capture`.
+pub const CAPTURE_MORE: &str = "\
+FILE is a pcap or pcapng file, - is standard input, which is read where no file is named; several are taken one
+after the other, as one capture. `zcat FILE | smq capture .. -` reads what gzip packed. The end of a connection with a
+port that --link names is the centre (SMSC), the other the client (ESME); HOST is an address, an IPv6 one in
+brackets. Other connections are skipped. Each connection is a session, numbered in the order in which they begin: with
+a SYN and its answer, or with octets. One row stands for each segment that brings new octets:
+
+  piece,LINK,SESSION,DIR,MOMENT,HEX
+
+Of octets that come twice the first copy counts. A segment behind a gap is held back until the gap fills. A gap that
+the other end acknowledged 2 s ago, or that is 300 s old, is given up, and so are the oldest where more than 64 MiB
+wait: the session ends there, and the next one begins behind it with the first PDU that is seen to begin, and in the
+other direction with the first PDU behind all that was captured before.
+
+`--every SECONDS` writes a row `clock,MOMENT` before the first packet of each so many seconds (multiples of them since
+1970), and while no packet comes one as the host's clock goes on from the newest packet. After each, and once more at
+the end, comes a row `ask,NAME` for each --ask, a question to smq follow.
+
+Status:
+  0  all that was sent was captured, as far as is seen
+  1  something is missing, which standard error tells, or there is no session
+  2  bad words, or a file that is no capture
+  3  a read or a write failed
+  4  out of memory";
+
+/// How many columns a line of names may have.
+const COLUMNS: usize = 105;
+
+/// What stands below each help, with the names of views and lists.
+pub fn more_help(alloc: Global) -> Result<String, AllocError> {
+    let views = with_views(Vec::new(alloc), View::all())?;
+    let lists = with_lists(Vec::new(alloc), List::all())?;
+    let mut text = String::from_str(alloc, SCRIPT)?;
+    push_sentence(&mut text, "Views count messages:", views.as_slice())?;
+    push_sentence(&mut text, "Lists have places:", lists.as_slice())?;
+    text.push_str(STATUS)?;
+    Ok(text)
+}
+
+/// Puts a sentence with names after the text, as a paragraph's next lines.
+fn push_sentence(text: &mut String, heading: &str, names: &[&str]) -> Result<(), AllocError> {
+    text.push('\n')?;
+    text.push_str(heading)?;
+    let mut room = COLUMNS.saturating_sub(heading.len());
+    let mut mark = "";
+    for name in names {
+        let columns = name.len().saturating_add(2);
+        text.push_str(mark)?;
+        text.push(if columns > room { '\n' } else { ' ' })?;
+        text.push_str(name)?;
+        room = if columns > room { COLUMNS } else { room }.saturating_sub(columns);
+        mark = ",";
+    }
+    text.push('.')
+}
