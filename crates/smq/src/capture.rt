@@ -7,6 +7,7 @@ use crate::status::{BAD_INPUT, DONE, FAULT, NO_MEMORY, REFUSED};
 use crate::timed_input::{Blocks, TimedInput};
 use crate::{print_words_error, run_task};
 use smq_capture::{Capture, Fault, Options, Sink, Texts};
+use smq_count::Counting;
 use smq_report::Output;
 use smq_words::{Captures, Task};
 use std::io::{ErrorKind, IsTerminal, Read, Write};
@@ -22,6 +23,7 @@ pub fn run_with_captures<R, F>(
     rt: &R,
     task: Task,
     settings: &[u8],
+    counting: &Counting,
     captures: Captures,
     start: F,
 ) -> u8
@@ -41,12 +43,12 @@ where
         Err(error) => return print_words_error(rt, &error),
     };
     if options.every.is_none() || !reads_input(captures.paths.as_slice()) {
-        return run_reading(rt, task, settings, captures, options, rt.reader());
+        return run_reading(rt, task, settings, counting, captures, options, rt.reader());
     }
     match start() {
         Ok(blocks) => {
             let input = TimedInput::new(rt, blocks);
-            run_reading(rt, task, settings, captures, options, input)
+            run_reading(rt, task, settings, counting, captures, options, input)
         }
         Err(_) => print_fault(rt, None, &Fault::Memory),
     }
@@ -62,6 +64,7 @@ fn run_reading<R, I>(
     rt: &R,
     task: Task,
     settings: &[u8],
+    counting: &Counting,
     captures: Captures,
     options: Options,
     input: I,
@@ -96,7 +99,7 @@ where
     let texts = Texts::new(alloc, questions, Vec::new(alloc), notices, index, losses);
     let rows = CaptureRows::new(sources, Capture::new(alloc, options, texts));
     let is_alone = reads_input(paths.as_slice()) || rt.reader().is_terminal();
-    run_with_rows(rt, played(task), settings, rows, is_alone)
+    run_with_rows(rt, played(task), settings, counting, rows, is_alone)
 }
 
 /// The task that does the same with rows as they are read, however many there are.
@@ -112,6 +115,7 @@ fn run_with_rows<R, I>(
     rt: &R,
     task: Task,
     settings: &[u8],
+    counting: &Counting,
     rows: CaptureRows<'_, R, I>,
     is_alone: bool,
 ) -> u8
@@ -122,11 +126,11 @@ where
     let mut rows = rows;
     let mut status = DONE;
     if is_alone {
-        status = run_task(rt, task, settings, &mut rows);
+        status = run_task(rt, task, settings, counting, &mut rows);
     } else {
         // (the last row of standard input may have no end of line)
         let mut all = rt.reader().chain(b"\n".as_slice()).chain(rows);
-        status = run_task(rt, task, settings, &mut all);
+        status = run_task(rt, task, settings, counting, &mut all);
         rows = all.into_inner().1;
     }
     match rows.fault() {

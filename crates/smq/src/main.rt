@@ -23,8 +23,9 @@ use capture_words::has_words;
 use clap::error::ErrorKind;
 use error_lines::ErrorLines;
 use first_octets::{FirstOctets, Mark};
+use smq_count::Counting;
 use smq_desk::NoGate;
-use smq_engine::{Checked, Followed, Ran, RunFault, check, follow, run, total};
+use smq_engine::{Checked, Followed, Ran, RunFault, check, count, follow, run, total};
 use smq_kit::Refusal;
 use smq_load::MOST_SETTINGS;
 use smq_report::{Format, Output, Query};
@@ -38,6 +39,10 @@ use std::thread::Threads;
 use std::time::Clock;
 use std::{fs, io, thread};
 use timed_input::{Blocks, blocks, send_all};
+
+/// What is said of words that name no column.
+const BAD_COLUMNS: &str =
+    "--by and --where want columns: link, session, route, network, outcome, error, link-delay, centre-delay, minute, hour, day, month, prefix:N (N from 1 to 15)";
 
 fn main(rt: HostRuntime) -> ExitCode {
     // (a thread takes the runtime by value, which no other function can name)
@@ -116,19 +121,50 @@ where
     let Order {
         task,
         settings,
+        counting,
         captures,
     } = order;
+    let counting = match counting_of(rt, &counting) {
+        Ok(counting) => counting,
+        Err(status) => return status,
+    };
     let Some(path) = settings else {
-        return run_reading(rt, task, &[], captures, start);
+        return run_reading(rt, task, &[], &counting, captures, start);
     };
     match read_start(rt, path.as_str()) {
-        Ok(octets) => run_reading(rt, task, octets.as_slice(), captures, start),
+        Ok(octets) => run_reading(rt, task, octets.as_slice(), &counting, captures, start),
         Err(error) => print_unread_settings(rt, path.as_str(), &error),
     }
 }
 
+/// What is counted, by the words for it; nothing where these are of another task. The status where they name no column.
+fn counting_of<R: Print + Eprint + AllocGlobal>(
+    rt: &R,
+    words: &smq_words::Counting,
+) -> Result<Counting, u8> {
+    let alloc = rt.alloc();
+    let Some(columns) = &words.columns else {
+        return Ok(Counting {
+            columns: Vec::new(alloc),
+            conditions: Vec::new(alloc),
+        });
+    };
+    match Counting::parse(alloc, columns.as_bytes(), words.conditions.as_slice()) {
+        Ok(Some(counting)) => Ok(counting),
+        Ok(None) => Err(print_bad_words(rt, BAD_COLUMNS)),
+        Err(_) => Err(print_fault(rt, RunFault::Memory)),
+    }
+}
+
 /// Does a task with settings, and with captures where some are named, and gives the status.
-fn run_reading<R, F>(rt: &R, task: Task, settings: &[u8], captures: Captures, start: F) -> u8
+fn run_reading<R, F>(
+    rt: &R,
+    task: Task,
+    settings: &[u8],
+    counting: &Counting,
+    captures: Captures,
+    start: F,
+) -> u8
 where
     R: Files + Input + Print + Eprint + AllocGlobal + Threads + Wait + Clock + Sync,
     R::Reader: IsTerminal,
@@ -136,17 +172,22 @@ where
     requires { F.IsAlwaysCallable start }
 {
     if task == Task::Capture || !captures.paths.is_empty() {
-        return run_with_captures(rt, task, settings, captures, start);
+        return run_with_captures(rt, task, settings, counting, captures, start);
     }
     if !has_words(&captures) {
         let mut rows = FirstOctets::new(rt.reader());
-        let status = run_task(rt, task, settings, &mut rows);
+        let status = run_task(rt, task, settings, counting, &mut rows);
         return print_mark(rt, status, rows.mark());
     }
-    match bad_words(
-        rt.alloc(),
+    print_bad_words(
+        rt,
         "--link, --strict, --every and what else is of captures want --capture",
-    ) {
+    )
+}
+
+/// Prints why words are refused, and gives the status.
+fn print_bad_words<R: Print + Eprint + AllocGlobal>(rt: &R, message: &str) -> u8 {
+    match bad_words(rt.alloc(), message) {
         Ok(error) => print_words_error(rt, &error),
         Err(error) => print_words_error(rt, &error),
     }
@@ -195,7 +236,7 @@ fn print_mark<R: Eprint>(rt: &R, status: u8, mark: Mark) -> u8
 }
 
 /// Does a task with settings and rows, and gives the status. Rows that are refused, and a fault, are told on standard error.
-fn run_task<R, I>(rt: &R, task: Task, settings: &[u8], rows: &mut I) -> u8
+fn run_task<R, I>(rt: &R, task: Task, settings: &[u8], counting: &Counting, rows: &mut I) -> u8
 where
     R: Print + Eprint + AllocGlobal + Threads + Wait + Sync,
     I: Read,
@@ -203,6 +244,7 @@ where
     match task {
         Task::Run(query) => print_ran(rt, write_run(rt, query, settings, rows)),
         Task::Total(output) => print_ran(rt, write_total(rt, output, settings, rows)),
+        Task::Count => print_ran(rt, write_counts(rt, counting, settings, rows)),
         Task::Check => match write_check(rt, settings, rows) {
             Ok(checked) => check_status(checked),
             Err(fault) => print_fault(rt, fault),
@@ -216,7 +258,7 @@ where
 }
 
 /// Plays the script after the settings, and writes what the query asks for. What `run` promises ends here, so that the callers are
-/// proved over little; and so do the promises of the three below.
+/// proved over little; and so do the promises of the four below.
 fn write_run<R: Print + AllocGlobal, I: Read>(
     rt: &R,
     query: Query,
@@ -234,6 +276,16 @@ fn write_total<R: Print + AllocGlobal, I: Read>(
     rows: &mut I,
 ) -> Result<Ran, RunFault> {
     total(rt, rows, settings, output, &mut io::writer(rt))
+}
+
+/// Plays rows after the settings as they are read, and writes counts of the messages that they leave.
+fn write_counts<R: Print + AllocGlobal, I: Read>(
+    rt: &R,
+    counting: &Counting,
+    settings: &[u8],
+    rows: &mut I,
+) -> Result<Ran, RunFault> {
+    count(rt, rows, settings, counting, &mut io::writer(rt))
 }
 
 /// Checks the script after the settings, and writes what was found.

@@ -7,7 +7,7 @@ use Rattle.smq_load.specs.Script.{IsScript}
 use Rattle.smq_load.specs.Settings.{settings_of}
 use Rattle.smq_report.specs.declared.pick.Output.TheVariants.{Report}
 use Rattle.smq_report.specs.declared.pick.Query.{Query}
-use Rattle.smq_engine.specs.IsRun.{HasBegun, StopsRun}
+use Rattle.smq_engine.specs.IsRun.{HasBegun, StopsRun, output_text}
 use Rattle.smq_kit.specs.declared.message_id.Form.TheVariants.{Decimal}
 use Rattle.smq_engine.specs.Known.{form_row, known_report}
 use Rattle.smq_engine.specs.declared.runs.Limit.TheVariants.{Script}
@@ -16,7 +16,7 @@ use Rattle.smq_engine.specs.declared.runs.Limit.TheVariants.{Script}
 
 -- two octets of the report are a beginning
 pub begun-two : (query : Query) (settings text : List ℕ) → settings_of settings ≡ Some (form_row Decimal ∷ []) → IsScript text (Plain (Advance 5) ∷ [])
-    → HasBegun Script (Report query) settings (Some (7 ∷ [])) (Some (7 ∷ take 2 (known_report query))) text
+    → HasBegun Script (output_text (Report query)) settings (Some (7 ∷ [])) (Some (7 ∷ take 2 (known_report query))) text
 begun-two query settings text set script = record {
   settings_rows = form_row Decimal ∷ [];
   rows = Plain (Advance 5) ∷ [];
@@ -26,7 +26,7 @@ begun-two query settings text set script = record {
 }
 
 -- no octet is lost
-pub begun-less : (query : Query) (settings text : List ℕ) → HasBegun Script (Report query) settings (Some (7 ∷ [])) (Some []) text → ⊥
+pub begun-less : (query : Query) (settings text : List ℕ) → HasBegun Script (output_text (Report query)) settings (Some (7 ∷ [])) (Some []) text → ⊥
 begun-less query settings text h = absurd (some_octet _ h.written.1)
   where
     some_octet : (more : List ℕ) → ◌≡◌ {A = List ℕ} [] (7 ∷ more) → ⊥
@@ -34,17 +34,17 @@ begun-less query settings text h = absurd (some_octet _ h.written.1)
 
 -- settings that say no rows
 pub begun-unread : (query : Query) (settings text : List ℕ) (old new : Option (List ℕ)) → settings_of settings ≡ None
-    → HasBegun Script (Report query) settings old new text → ⊥
+    → HasBegun Script (output_text (Report query)) settings old new text → ⊥
 begun-unread query settings text old new none h = absurd (apart h.settings_rows (sym none ∙ h.are_settings))
   where
     apart : (rows : List Row) → ◌≡◌ {A = Option (List Row)} None (Some rows) → ⊥
     apart rows e = absurd cc
 
-pub stopped-less : (query : Query) (settings text : List ℕ) → StopsRun Script (Report query) settings (Some (7 ∷ [])) (Some []) text → ⊥
+pub stopped-less : (query : Query) (settings text : List ℕ) → StopsRun Script (output_text (Report query)) settings (Some (7 ∷ [])) (Some []) text → ⊥
 stopped-less query settings text (inl e) = absurd cc
 stopped-less query settings text (inr h) = begun-less query settings text h
 
 pub stopped-unread : (query : Query) (settings text : List ℕ) → settings_of settings ≡ None
-    → StopsRun Script (Report query) settings (Some (7 ∷ [])) (Some (7 ∷ 8 ∷ [])) text → ⊥
+    → StopsRun Script (output_text (Report query)) settings (Some (7 ∷ [])) (Some (7 ∷ 8 ∷ [])) text → ⊥
 stopped-unread query settings text none (inl e) = absurd cc
 stopped-unread query settings text none (inr h) = begun-unread query settings text _ _ none h

@@ -5,10 +5,10 @@ use Rattle.smq_load.specs.Script.{IsFirstBad, most_records}
 use Rattle.smq_load.proofs.NextRecordLemmas.{length-SayRows}
 use Rattle.smq_report.specs.declared.pick.Output.{Output}
 use Rattle.smq_engine.specs.declared.runs.Limit.TheVariants.{Script, Unlimited}
-use Rattle.smq_engine.specs.IsRun.{IsRun, SaysNoRow}
+use Rattle.smq_engine.specs.IsRun.{IsRun, SaysNoRow, output_text}
 
 pub run-total : (output : Output) (settings : List ℕ) (refused : List (ℕ × Refusal)) (old new : Option (List ℕ)) (text : List ℕ)
-    → IsRun Script output settings refused old new text → IsRun Unlimited output settings refused old new text
+    → IsRun Script (output_text output) settings refused old new text → IsRun Unlimited (output_text output) settings refused old new text
 run-total output settings refused old new text h =
     let script = h.are_rows in
     record {
@@ -21,8 +21,8 @@ run-total output settings refused old new text h =
     }
 
 pub total-run : (output : Output) (settings : List ℕ) (refused : List (ℕ × Refusal)) (old new : Option (List ℕ)) (text : List ℕ)
-    → (all : IsRun Unlimited output settings refused old new text) → length all.rows ≤ most_records
-    → IsRun Script output settings refused old new text
+    → (all : IsRun Unlimited (output_text output) settings refused old new text) → length all.rows ≤ most_records
+    → IsRun Script (output_text output) settings refused old new text
 total-run output settings refused old new text all few =
     let rows = all.are_rows in
     let count = length-SayRows rows.records all.rows rows.say_rows in

@@ -1,6 +1,8 @@
 -- What the program makes of settings and rows: of those of a script, or of any number.
 use Rattle.std.specs.Prelude.{◌≡◌, ◌≢◌, ◌⊎◌, ◌+◌, ⊤, ℕ, List, ◌∷◌, ◌++◌, length, IfSome, None, Option, Some}
 use Rattle.std.specs.Io.KnownBytes.{Appends, Keeps}
+use Rattle.smq_count.specs.declared.counting.Counting.{Counting}
+use Rattle.smq_count.specs.Counts.{counts_text}
 use Rattle.smq_kit.specs.declared.refusal.Refusal.{Refusal}
 use Rattle.smq_present.specs.present.Present.{PresentValue}
 use Rattle.smq_present.specs.whole.Scratch.{scratch}
@@ -97,37 +99,41 @@ output_text (Report query) p = report_text query.pick query.format (scratch p)
 output_text Messages p = messages_text (message_lines p)
 output_text Receipts p = receipts_text (receipt_lines p)
 
+-- the text of counts of the messages that are present
+abbrev pub count_text : Counting → PresentValue → List ℕ
+count_text counting p = counts_text counting (message_lines p)
+
 -- The settings and the text say rows, the refused ones are those of the text after the settings, and what was written after
--- the earlier octets is exactly the text of the output of what the edits of all these rows, in order, leave present in a new book.
-pub record IsRun (limit : Limit) (output : Output) (settings : List ℕ) (refused : List (ℕ × Refusal)) (old new : Option (List ℕ))
+-- the earlier octets is exactly the text that is made of what the edits of all these rows, in order, leave present in a new book.
+pub record IsRun (limit : Limit) (made : PresentValue → List ℕ) (settings : List ℕ) (refused : List (ℕ × Refusal)) (old new : Option (List ℕ))
     (text : List ℕ) : Type 0 where
   pub settings_rows : List Row
   pub rows : List Row
   pub are_settings : settings_of settings ≡ Some settings_rows
   pub are_rows : AreRows limit text rows
   pub refused_are : refused ≡ refused_of settings_rows rows
-  pub written : Appends old new (output_text output (present_of settings_rows rows))
+  pub written : Appends old new (made (present_of settings_rows rows))
 
--- A run writes its output: the settings and the text say rows, and a beginning of the text was written that `IsRun` tells.
-pub record HasBegun (limit : Limit) (output : Output) (settings : List ℕ) (old new : Option (List ℕ)) (text : List ℕ) : Type 0 where
+-- A run writes its text: the settings and the text say rows, and a beginning of the text was written that `IsRun` tells.
+pub record HasBegun (limit : Limit) (made : PresentValue → List ℕ) (settings : List ℕ) (old new : Option (List ℕ)) (text : List ℕ) : Type 0 where
   pub settings_rows : List Row
   pub rows : List Row
   pub are_settings : settings_of settings ≡ Some settings_rows
   pub are_rows : AreRows limit text rows
-  pub written : AppendsBeginning old new (output_text output (present_of settings_rows rows))
+  pub written : AppendsBeginning old new (made (present_of settings_rows rows))
 
--- what a run that fails wrote: nothing, or a beginning of its output
-abbrev pub StopsRun : Limit → Output → List ℕ → Option (List ℕ) → Option (List ℕ) → List ℕ → Type 0
-StopsRun limit output settings old new text = Keeps old new ⊎ HasBegun limit output settings old new text
+-- what a run that fails wrote: nothing, or a beginning of its text
+abbrev pub StopsRun : Limit → (PresentValue → List ℕ) → List ℕ → Option (List ℕ) → Option (List ℕ) → List ℕ → Type 0
+StopsRun limit made settings old new text = Keeps old new ⊎ HasBegun limit made settings old new text
 
 -- A run ends by a fault: it tells of settings and text what is so; nothing was written but where a write failed or memory ran out, and
--- then no more than a beginning of the output.
-pub record EndsRun (limit : Limit) (output : Output) (fault : RunFault) (settings : List ℕ) (text left old new : Option (List ℕ))
+-- then no more than a beginning of the text.
+pub record EndsRun (limit : Limit) (made : PresentValue → List ℕ) (fault : RunFault) (settings : List ℕ) (text left old new : Option (List ℕ))
     : Type 0 where
   pub tells : TellsRead limit fault settings text left
   pub unwritten : fault ≢ Write → fault ≢ Memory → Keeps old new
-  pub write : fault ≡ Write → IfSome text (HasBegun limit output settings old new)
-  pub begun : IfSome text (StopsRun limit output settings old new)
+  pub write : fault ≡ Write → IfSome text (HasBegun limit made settings old new)
+  pub begun : IfSome text (StopsRun limit made settings old new)
 
 -- ---- faults
 

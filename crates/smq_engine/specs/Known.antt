@@ -28,7 +28,7 @@ use Rattle.smq_engine.specs.Faults.{fault_text}
 use Rattle.smq_engine.specs.IsCheck.{Compares, EndsCheck, check_text}
 use Rattle.smq_report.specs.declared.pick.Output.TheVariants.{Report}
 use Rattle.smq_engine.specs.declared.runs.Limit.TheVariants.{Script}
-use Rattle.smq_engine.specs.IsRun.{EndsRun, HasBegun, StopsRun, TellsRead}
+use Rattle.smq_engine.specs.IsRun.{EndsRun, HasBegun, StopsRun, TellsRead, output_text}
 use Rattle.smq_engine.specs.Play.{after_rows, edit_of, edits_from, edits_of, present_of, refusal_of, refused_of, refused_rows, unprepared}
 use Rattle.smq_engine.specs.Workers.{HaveMadeRows, pieces_of_worker, plain_edits, worker_of}
 use Rattle.smq_engine.specs.within.Jobs.{desk_fault}
@@ -120,19 +120,19 @@ known_report query = report_text query.pick query.format (scratch (present_of (f
 pub record KnowsRuns : Type 0 where
   pub begins : (query : Query) (settings text : List ℕ) → settings_of settings ≡ Some (form_row Decimal ∷ [])
       → IsScript text (Plain (Advance 5) ∷ [])
-      → HasBegun Script (Report query) settings (Some (7 ∷ [])) (Some (7 ∷ take 2 (known_report query))) text
-  pub loses : (query : Query) (settings text : List ℕ) → HasBegun Script (Report query) settings (Some (7 ∷ [])) (Some []) text → ⊥
+      → HasBegun Script (output_text (Report query)) settings (Some (7 ∷ [])) (Some (7 ∷ take 2 (known_report query))) text
+  pub loses : (query : Query) (settings text : List ℕ) → HasBegun Script (output_text (Report query)) settings (Some (7 ∷ [])) (Some []) text → ⊥
   pub bad_settings : (query : Query) (settings text : List ℕ) (old new : Option (List ℕ)) → settings_of settings ≡ None
-      → HasBegun Script (Report query) settings old new text → ⊥
+      → HasBegun Script (output_text (Report query)) settings old new text → ⊥
   pub no_script : (query : Query) (settings text : List ℕ) (old new : Option (List ℕ))
-      → ((rows : List Row) → IsScript text rows → ⊥) → HasBegun Script (Report query) settings old new text → ⊥
-  pub stops_before : (query : Query) (settings text : List ℕ) → StopsRun Script (Report query) settings (Some (7 ∷ [])) (Some (7 ∷ [])) text
+      → ((rows : List Row) → IsScript text rows → ⊥) → HasBegun Script (output_text (Report query)) settings old new text → ⊥
+  pub stops_before : (query : Query) (settings text : List ℕ) → StopsRun Script (output_text (Report query)) settings (Some (7 ∷ [])) (Some (7 ∷ [])) text
   pub stops_within : (query : Query) (settings text : List ℕ) → settings_of settings ≡ Some (form_row Decimal ∷ [])
       → IsScript text (Plain (Advance 5) ∷ [])
-      → StopsRun Script (Report query) settings (Some (7 ∷ [])) (Some (7 ∷ take 2 (known_report query))) text
-  pub stops_with_less : (query : Query) (settings text : List ℕ) → StopsRun Script (Report query) settings (Some (7 ∷ [])) (Some []) text → ⊥
+      → StopsRun Script (output_text (Report query)) settings (Some (7 ∷ [])) (Some (7 ∷ take 2 (known_report query))) text
+  pub stops_with_less : (query : Query) (settings text : List ℕ) → StopsRun Script (output_text (Report query)) settings (Some (7 ∷ [])) (Some []) text → ⊥
   pub stops_at_bad_settings : (query : Query) (settings text : List ℕ) → settings_of settings ≡ None
-      → StopsRun Script (Report query) settings (Some (7 ∷ [])) (Some (7 ∷ 8 ∷ [])) text → ⊥
+      → StopsRun Script (output_text (Report query)) settings (Some (7 ∷ [])) (Some (7 ∷ 8 ∷ [])) text → ⊥
 
 -- what a run and a check that end by a fault tell of settings and text, and what they left written
 pub record KnowsFailures : Type 0 where
@@ -145,16 +145,16 @@ pub record KnowsFailures : Type 0 where
       → TellsRead Script run_fault.BadSettings settings text left → ⊥
   pub settings_after_read : (settings : List ℕ) → TellsRead Script run_fault.BadSettings settings (Some (7 ∷ 8 ∷ [])) (Some (8 ∷ [])) → ⊥
   pub read : (query : Query) (settings text : List ℕ) (left : Option (List ℕ))
-      → EndsRun Script (Report query) run_fault.Read settings (Some text) left (Some (7 ∷ [])) (Some (7 ∷ []))
+      → EndsRun Script (output_text (Report query)) run_fault.Read settings (Some text) left (Some (7 ∷ [])) (Some (7 ∷ []))
   pub read_written : (query : Query) (settings : List ℕ) (text left : Option (List ℕ))
-      → EndsRun Script (Report query) run_fault.Read settings text left (Some (7 ∷ [])) (Some (7 ∷ 8 ∷ [])) → ⊥
+      → EndsRun Script (output_text (Report query)) run_fault.Read settings text left (Some (7 ∷ [])) (Some (7 ∷ 8 ∷ [])) → ⊥
   pub write : (query : Query) (settings text : List ℕ) (left : Option (List ℕ)) → settings_of settings ≡ Some (form_row Decimal ∷ [])
       → IsScript text (Plain (Advance 5) ∷ [])
-      → EndsRun Script (Report query) run_fault.Write settings (Some text) left (Some (7 ∷ [])) (Some (7 ∷ take 2 (known_report query)))
+      → EndsRun Script (output_text (Report query)) run_fault.Write settings (Some text) left (Some (7 ∷ [])) (Some (7 ∷ take 2 (known_report query)))
   pub write_unread : (query : Query) (settings text : List ℕ) (left old new : Option (List ℕ)) → ((rows : List Row) → IsScript text rows → ⊥)
-      → EndsRun Script (Report query) run_fault.Write settings (Some text) left old new → ⊥
+      → EndsRun Script (output_text (Report query)) run_fault.Write settings (Some text) left old new → ⊥
   pub memory_lost : (query : Query) (settings text : List ℕ) (left : Option (List ℕ))
-      → EndsRun Script (Report query) run_fault.Memory settings (Some text) left (Some (7 ∷ [])) (Some []) → ⊥
+      → EndsRun Script (output_text (Report query)) run_fault.Memory settings (Some text) left (Some (7 ∷ [])) (Some []) → ⊥
   pub check_read : (settings text : List ℕ) (left : Option (List ℕ))
       → EndsCheck run_fault.Read settings (Some text) left (Some (7 ∷ [])) (Some (7 ∷ []))
   pub check_written : (settings : List ℕ) (text left : Option (List ℕ))

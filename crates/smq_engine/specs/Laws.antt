@@ -9,7 +9,7 @@ use Rattle.smq_report.specs.declared.pick.Pick.{Pick}
 use Rattle.smq_report.specs.Report.{report_text}
 use Rattle.smq_report.specs.declared.pick.Output.{Output}
 use Rattle.smq_engine.specs.declared.runs.Limit.TheVariants.{Script, Unlimited}
-use Rattle.smq_engine.specs.IsRun.{IsRun, SaysNoRow}
+use Rattle.smq_engine.specs.IsRun.{IsRun, SaysNoRow, output_text}
 use Rattle.smq_engine.specs.Play.{present_of}
 use Rattle.smq_engine.specs.declared.record.Record.{Record}
 use Rattle.smq_engine.specs.declared.record.Record.TheVariants.{Ask}
@@ -38,9 +38,9 @@ EachIsAsked = (pick : Pick) → pick_of (ask_name pick) ≡ Some pick
 -- other way round. Among as many records as a script may have, its first bad one is the first that says no row.
 pub record TotalsAreRuns : Type 0 where
   pub run : (output : Output) (settings : List ℕ) (refused : List (ℕ × Refusal)) (old new : Option (List ℕ)) (text : List ℕ)
-      → IsRun Script output settings refused old new text → IsRun Unlimited output settings refused old new text
+      → IsRun Script (output_text output) settings refused old new text → IsRun Unlimited (output_text output) settings refused old new text
   pub total : (output : Output) (settings : List ℕ) (refused : List (ℕ × Refusal)) (old new : Option (List ℕ)) (text : List ℕ)
-      → (all : IsRun Unlimited output settings refused old new text) → length all.rows ≤ most_records
-      → IsRun Script output settings refused old new text
+      → (all : IsRun Unlimited (output_text output) settings refused old new text) → length all.rows ≤ most_records
+      → IsRun Script (output_text output) settings refused old new text
   pub no_row : (text : List ℕ) (number : ℕ) → IsFirstBad text number → number ≤ most_records → SaysNoRow text number
   pub first_bad : (text : List ℕ) (number : ℕ) → SaysNoRow text number → number ≤ most_records → IsFirstBad text number

@@ -28,5 +28,5 @@ pub use laws::{
 pub use play::{PlayedBook, play_next, play_row, play_rows};
 pub use record::Record;
 pub use run_fault::RunFault;
-pub use runs::{Limit, Ran, run, total};
+pub use runs::{Limit, Ran, count, run, total};
 pub use workers::WORKERS;

@@ -1,10 +1,11 @@
-//! The outputs that are written of what is present: each is a text by its definition.
+//! The texts that are written of what is present: each by its definition.
 ghost use Rattle.std.specs.Prelude.{◌≡◌, ◌⊎◌, IfErr, OnOk};
 ghost use Rattle.std.specs.Io.KnownBytes.{Appends};
 ghost use Rattle.smq_report.specs.Beginnings.{AppendsBeginning};
-ghost use Rattle.smq_engine.specs.IsRun.{output_text};
+ghost use Rattle.smq_engine.specs.IsRun.{count_text, output_text};
 
 use crate::RunFault;
+use smq_count::{Counting, write_counts};
 use smq_present::{PlainBook, Present};
 use smq_report::{Output, Query, write_messages, write_receipts, write_report};
 use smq_scratch::{message_lines, receipt_lines, tables_from_nothing};
@@ -12,43 +13,81 @@ use std::alloc::Global;
 use std::io::Write;
 use std::mem::forget;
 
-/// Writes an output of what is present in a book, and leaves the book to the system: its memory isn't given back before the process
-/// ends. Errors: `Write` where the writer fails; `Memory`. A beginning of the text may have gone out then.
-pub(crate) fn write_output<W: Write>(
-    alloc: Global,
-    book: Box<PlainBook>,
-    output: Output,
-    writer: &mut W,
-) -> Result<(), RunFault>
-    ensures ok { OnOk result (Appends (W.contents writer.old) (W.contents writer.new)
-        (output_text output book.value.present)) }
-    ensures begun { IfErr result (λ fault. AppendsBeginning (W.contents writer.old) (W.contents writer.new)
-        (output_text output book.value.present)) }
-    ensures fault { IfErr result (λ fault. (fault ≡ RunFault.Write) ⊎ (fault ≡ RunFault.Memory)) }
-{
-    let written = write_of(alloc, book.present(), output, writer);
-    forget(book);
-    written
+/// What is written of what is present, as a text.
+pub(crate) trait Text {
+    ghost use Rattle.std.specs.Prelude.{◌≡◌, ◌⊎◌, ℕ, IfErr, List, OnOk};
+    ghost use Rattle.std.specs.Io.KnownBytes.{Appends};
+    ghost use Rattle.smq_present.specs.present.Present.{PresentValue};
+    ghost use Rattle.smq_report.specs.Beginnings.{AppendsBeginning};
+
+    /// The text of what is present.
+    ghost made: { Self → PresentValue → List ℕ };
+
+    /// Writes the text of what is present.
+    fn write<W: Write>(
+        &self,
+        alloc: Global,
+        present: &Present,
+        writer: &mut W,
+    ) -> Result<(), RunFault>
+        ensures ok { OnOk result
+            (Appends (W.contents writer.old) (W.contents writer.new) (made self.now present.now)) }
+        ensures begun { IfErr result (λ fault.
+            AppendsBeginning (W.contents writer.old) (W.contents writer.new) (made self.now present.now)) }
+        ensures fault { IfErr result (λ fault. (fault ≡ RunFault.Write) ⊎ (fault ≡ RunFault.Memory)) };
 }
 
-/// Writes an output of what is present.
-fn write_of<W: Write>(
+impl Text for Output {
+    ghost made = { output_text };
+
+    fn write<W: Write>(
+        &self,
+        alloc: Global,
+        present: &Present,
+        writer: &mut W,
+    ) -> Result<(), RunFault> {
+        match *self {
+            Output::Report(query) => write_query(alloc, present, query, writer),
+            Output::Messages => put_messages(alloc, present, writer),
+            Output::Receipts => put_receipts(alloc, present, writer),
+        }
+    }
+}
+
+impl Text for Counting {
+    ghost made = { count_text };
+
+    fn write<W: Write>(
+        &self,
+        alloc: Global,
+        present: &Present,
+        writer: &mut W,
+    ) -> Result<(), RunFault> {
+        let Ok(lines) = message_lines(alloc, present) else {
+            return Err(RunFault::Memory);
+        };
+        write_counts(alloc, self, lines.as_slice(), writer)?;
+        Ok(())
+    }
+}
+
+/// Writes a text of what is present in a book, and leaves the book to the system: its memory isn't given back before the process
+/// ends. Errors: `Write` where the writer fails; `Memory`. A beginning of the text may have gone out then.
+pub(crate) fn write_text<T: Text, W: Write>(
     alloc: Global,
-    present: &Present,
-    output: Output,
+    book: Box<PlainBook>,
+    text: &T,
     writer: &mut W,
 ) -> Result<(), RunFault>
     ensures ok { OnOk result (Appends (W.contents writer.old) (W.contents writer.new)
-        (output_text output present.now)) }
+        (T.made text.now book.value.present)) }
     ensures begun { IfErr result (λ fault. AppendsBeginning (W.contents writer.old) (W.contents writer.new)
-        (output_text output present.now)) }
+        (T.made text.now book.value.present)) }
     ensures fault { IfErr result (λ fault. (fault ≡ RunFault.Write) ⊎ (fault ≡ RunFault.Memory)) }
 {
-    match output {
-        Output::Report(query) => write_query(alloc, present, query, writer),
-        Output::Messages => put_messages(alloc, present, writer),
-        Output::Receipts => put_receipts(alloc, present, writer),
-    }
+    let written = text.write(alloc, book.present(), writer);
+    forget(book);
+    written
 }
 
 /// Writes what a query asks of the report, whose tables are counted here.

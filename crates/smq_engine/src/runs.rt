@@ -1,13 +1,14 @@
-//! Runs: settings and rows are read, checked and played, and an output of what they leave is written. Nothing is written before all
+//! Runs: settings and rows are read, checked and played, and a text of what they leave is written. Nothing is written before all
 //! rows were read and played.
 ghost use Rattle.std.specs.Prelude.{◌≡◌, ◌≢◌, ◌⊎◌, IfOk, IfErr, IfSome, IsErrAnd, None};
 ghost use Rattle.smq_load.specs.Settings.{settings_of};
-ghost use Rattle.smq_engine.specs.IsRun.{EndsRun, IsRun, TellsRead, WerePlayed};
+ghost use Rattle.smq_engine.specs.IsRun.{EndsRun, IsRun, TellsRead, WerePlayed, count_text, output_text};
 
 use crate::RunFault;
-use crate::output::write_output;
+use crate::output::{Text, write_text};
 use crate::row_stream::play_stream;
 use crate::scripts::play_script;
+use smq_count::Counting;
 use smq_kit::Refusal;
 use smq_present::PlainBook;
 use smq_report::{Output, Query};
@@ -41,22 +42,15 @@ pub fn run<RT: AllocGlobal, R: Read, W: Write>(
     query: Query,
     writer: &mut W,
 ) -> Result<Ran, RunFault>
-    ensures ok { IfOk result (λ ran. IfSome (R.remaining reader.old) (IsRun Limit.Script (Output.Report query)
+    ensures ok { IfOk result (λ ran. IfSome (R.remaining reader.old) (IsRun Limit.Script (output_text (Output.Report query))
         settings.now ran.refused.items (W.contents writer.old) (W.contents writer.new))) }
-    ensures fault { IfErr result (λ fault. EndsRun Limit.Script (Output.Report query) fault settings.now
+    ensures fault { IfErr result (λ fault. EndsRun Limit.Script (output_text (Output.Report query)) fault settings.now
         (R.remaining reader.old) (R.remaining reader.new) (W.contents writer.old) (W.contents writer.new)) }
     ensures no_settings { settings_of settings.now ≡ None → IsErrAnd result (λ fault.
         (fault ≡ RunFault.BadSettings) ⊎ (fault ≡ RunFault.Memory)) }
 {
-    let limit = Limit::Script;
-    write_played(
-        rt.alloc(),
-        reader,
-        settings,
-        limit,
-        Output::Report(query),
-        writer,
-    )
+    let output = Output::Report(query);
+    write_played(rt.alloc(), reader, settings, Limit::Script, &output, writer)
 }
 
 /// Checks settings and plays them on a new book, then reads rows, one by one, of which each is played before the next is read and none
@@ -72,35 +66,55 @@ pub fn total<RT: AllocGlobal, R: Read, W: Write>(
     output: Output,
     writer: &mut W,
 ) -> Result<Ran, RunFault>
-    ensures ok { IfOk result (λ ran. IfSome (R.remaining reader.old) (IsRun Limit.Unlimited output
+    ensures ok { IfOk result (λ ran. IfSome (R.remaining reader.old) (IsRun Limit.Unlimited (output_text output)
         settings.now ran.refused.items (W.contents writer.old) (W.contents writer.new))) }
-    ensures fault { IfErr result (λ fault. EndsRun Limit.Unlimited output fault settings.now
+    ensures fault { IfErr result (λ fault. EndsRun Limit.Unlimited (output_text output) fault settings.now
         (R.remaining reader.old) (R.remaining reader.new) (W.contents writer.old) (W.contents writer.new)) }
     ensures no_settings { settings_of settings.now ≡ None → IsErrAnd result (λ fault.
         (fault ≡ RunFault.BadSettings) ⊎ (fault ≡ RunFault.Memory)) }
 {
     let limit = Limit::Unlimited;
-    write_played(rt.alloc(), reader, settings, limit, output, writer)
+    write_played(rt.alloc(), reader, settings, limit, &output, writer)
 }
 
-/// Plays settings and rows within a limit, and writes an output of what they leave.
-fn write_played<R: Read, W: Write>(
+/// Plays settings and rows as `total` does, and writes how many of the messages that they leave have the same in the columns of a
+/// counting, as CSV. Errors as those of `total`.
+pub fn count<RT: AllocGlobal, R: Read, W: Write>(
+    rt: &RT,
+    reader: &mut R,
+    settings: &[u8],
+    counting: &Counting,
+    writer: &mut W,
+) -> Result<Ran, RunFault>
+    ensures ok { IfOk result (λ ran. IfSome (R.remaining reader.old) (IsRun Limit.Unlimited (count_text counting.now)
+        settings.now ran.refused.items (W.contents writer.old) (W.contents writer.new))) }
+    ensures fault { IfErr result (λ fault. EndsRun Limit.Unlimited (count_text counting.now) fault settings.now
+        (R.remaining reader.old) (R.remaining reader.new) (W.contents writer.old) (W.contents writer.new)) }
+    ensures no_settings { settings_of settings.now ≡ None → IsErrAnd result (λ fault.
+        (fault ≡ RunFault.BadSettings) ⊎ (fault ≡ RunFault.Memory)) }
+{
+    let limit = Limit::Unlimited;
+    write_played(rt.alloc(), reader, settings, limit, counting, writer)
+}
+
+/// Plays settings and rows within a limit, and writes a text of what they leave.
+fn write_played<R: Read, T: Text, W: Write>(
     alloc: Global,
     reader: &mut R,
     settings: &[u8],
     limit: Limit,
-    output: Output,
+    text: &T,
     writer: &mut W,
 ) -> Result<Ran, RunFault>
-    ensures ok { IfOk result (λ ran. IfSome (R.remaining reader.old) (IsRun limit output
+    ensures ok { IfOk result (λ ran. IfSome (R.remaining reader.old) (IsRun limit (T.made text.now)
         settings.now ran.refused.items (W.contents writer.old) (W.contents writer.new))) }
-    ensures fault { IfErr result (λ fault. EndsRun limit output fault settings.now
+    ensures fault { IfErr result (λ fault. EndsRun limit (T.made text.now) fault settings.now
         (R.remaining reader.old) (R.remaining reader.new) (W.contents writer.old) (W.contents writer.new)) }
     ensures no_settings { settings_of settings.now ≡ None → IsErrAnd result (λ fault.
         (fault ≡ RunFault.BadSettings) ⊎ (fault ≡ RunFault.Memory)) }
 {
     let (book, refused) = play_within(alloc, reader, settings, limit)?;
-    write_output(alloc, book, output, writer)?;
+    write_text(alloc, book, text, writer)?;
     Ok(Ran { refused })
 }
 

@@ -1,7 +1,8 @@
 //! Readers that fail, are interrupted or give too much, and writers that fail or are interrupted: a run, a total, lines and a check tell it,
 //! and nothing is written that isn't wanted. A total takes what is too much for a run.
 use crate::tests::*;
-use smq_engine::{run, total};
+use smq_count::Counting;
+use smq_engine::{count, run, total};
 use smq_report::{Format, Output, Pick, Query};
 use smq_tally::View;
 use std::io::Read;
@@ -17,6 +18,7 @@ pub(crate) enum Work {
     Total(Query),
     Messages,
     Receipts,
+    Counts,
     Check,
 }
 
@@ -36,10 +38,12 @@ const WHOLE_TEXT: &[u8] =
 const LINKS_TEXT: &[u8] = b"view link\n  1                        open                1\n";
 
 const MESSAGES_TEXT: &[u8] =
-    b"link,session,offset,moment,number,route,network,outcome,error,id,response_offset,receipt_session,receipt_offset,receipt_moment,centre_delay\n1,10,0,1000,447700900123,none,none,open,,1,0,,,,\n";
+    b"link,session,offset,moment,number,route,network,outcome,error,id,response_offset,receipt_session,receipt_offset,receipt_moment,centre_delay,key,command\n1,10,0,1000,447700900123,none,none,open,,1,0,,,,,1,submit_sm\n";
 
 const RECEIPTS_TEXT: &[u8] =
-    b"link,session,offset,moment,id,state,interim,error,standing,message_session,message_offset\n";
+    b"link,session,offset,moment,id,state,interim,error,standing,message_session,message_offset,key,command\n";
+
+const COUNTS_TEXT: &[u8] = b"link,day,prefix:3,outcome,messages\n1,1970-01-01,447,open,1\n";
 
 /// Works, and what each writes of `SCRIPT`.
 pub(crate) const WORKS: &[(Work, &[u8])] = &[
@@ -49,6 +53,7 @@ pub(crate) const WORKS: &[(Work, &[u8])] = &[
     (Work::Total(LINKS), LINKS_TEXT),
     (Work::Messages, MESSAGES_TEXT),
     (Work::Receipts, RECEIPTS_TEXT),
+    (Work::Counts, COUNTS_TEXT),
     (Work::Check, b"same entries 2 refused 0\n"),
 ];
 
@@ -152,7 +157,20 @@ pub(crate) fn fault_of<RT: AllocGlobal + Threads + Wait + Sync, R: Read, W: Writ
         Work::Total(query) => total(rt, reader, b"", Output::Report(query), writer).err(),
         Work::Messages => total(rt, reader, b"", Output::Messages, writer).err(),
         Work::Receipts => total(rt, reader, b"", Output::Receipts, writer).err(),
+        Work::Counts => counts_fault(rt, reader, writer),
         Work::Check => check(rt, reader, b"", writer, &NoGate).err(),
+    }
+}
+
+/// How counts by link, day, prefix and outcome end, if they aren't done.
+fn counts_fault<RT: AllocGlobal, R: Read, W: Write>(
+    rt: &RT,
+    reader: &mut R,
+    writer: &mut W,
+) -> Option<RunFault> {
+    match Counting::parse(rt.alloc(), b"link,day,prefix:3,outcome", &[]) {
+        Ok(counting) => count(rt, reader, b"", &counting?, writer).err(),
+        Err(_) => Some(RunFault::Memory),
     }
 }
 

@@ -9,7 +9,7 @@ use smq_marks::Call;
 fn call_of(work: Work) -> Call {
     match work {
         Work::Report(_) => Call::Run,
-        Work::Total(_) | Work::Messages | Work::Receipts => Call::Total,
+        Work::Total(_) | Work::Messages | Work::Receipts | Work::Counts => Call::Total,
         Work::Check => Call::Check,
     }
 }
