@@ -1,0 +1,122 @@
+"""Tables of CSV that are read by the names of their columns, line by line, and what tools do with faults of them."""
+import csv
+import datetime
+import re
+import sys
+
+LONGEST_LINE = 1_048_576
+LAST_MOMENT = 4_102_444_800_000
+DECIMAL = re.compile(r"0|[1-9][0-9]{0,19}", re.A)
+EPOCH = datetime.datetime(1970, 1, 1)
+# How the octets of ids are read, whatever they are, and written again
+OCTETS = {"encoding": "utf-8", "errors": "surrogateescape", "newline": ""}
+
+
+class Unfit(Exception):
+    """Why words or a table can't be read."""
+
+
+def opened(path):
+    """Returns a file to read, or standard input for 0, without a byte order mark."""
+    return open(path, closefd=path != 0, **{**OCTETS, "encoding": "utf-8-sig"})
+
+
+def lines_of(file, name, longest):
+    at = 0
+    while line := file.readline(longest + 1):
+        at += 1
+        if len(line) > longest:
+            raise Unfit(f"{name}line {at}: it has more than {longest} characters")
+        yield line
+
+
+def records_of(file, name="", longest=LONGEST_LINE):
+    """Yields the line on which each record begins, from 1, and its fields; empty lines are none. The name of the file stands before what is
+    told of a line."""
+    reader, first = csv.reader(lines_of(file, name, longest), strict=True), 1
+    try:
+        for fields in reader:
+            if fields:
+                yield first, fields
+            first = reader.line_num + 1
+    except csv.Error as fault:
+        raise Unfit(f"{name}line {first}: {fault}") from None
+
+
+def table_of(file, wanted, optional=(), name=""):
+    """Returns the names of a table's columns, and what yields the line and the fields by name of each record below. Of the optional columns
+    those that aren't there are empty; others are passed over."""
+    records = records_of(file, name)
+    first, names = next(records, (1, []))
+    for column in (*wanted, *optional):
+        if names.count(column) != 1 and (column in wanted or column in names):
+            raise Unfit(f"{name}line {first}: column {column} is there {names.count(column)} times")
+    places = [(it, names.index(it)) for it in (*wanted, *optional) if it in names]
+
+    def rows():
+        absent = dict.fromkeys(optional, "")
+        for line, fields in records:
+            if len(fields) != len(names):
+                raise Unfit(f"{name}line {line}: it has {len(fields)} fields, and the columns are {len(names)}")
+            yield line, {**absent, **{it: fields[at] for it, at in places}}
+
+    return names, rows()
+
+
+def fitting(form, row, column, line, name=""):
+    """Returns the field of a column, which has the form."""
+    if not form.fullmatch(row[column]):
+        raise Unfit(f"{name}line {line}: column {column} is {row[column][:40]!a}")
+    return row[column]
+
+
+def date_of(text):
+    """Returns a date of the calendar in the form YYYY-MM-DD as it is, or None."""
+    try:
+        return text if re.fullmatch(r"[0-9]{4}-[0-9]{2}-[0-9]{2}", text, re.A) and datetime.date.fromisoformat(text) else None
+    except ValueError:
+        return None
+
+
+def moment_of(text):
+    """Returns the ms since 1970 in UTC of a moment in ms, an instant YYYY-MM-DDTHH:MM:SSZ or the beginning of a date."""
+    try:
+        if re.fullmatch(r"[0-9]{1,20}", text, re.A):
+            moment = int(text)
+        else:
+            found = re.fullmatch(r"([0-9]{4}-[0-9]{2}-[0-9]{2})(?:T([0-9]{2}:[0-9]{2}:[0-9]{2})Z)?", text, re.A)
+            instant = datetime.datetime.fromisoformat(f"{found[1]} {found[2] or '00:00:00'}") if found else None
+            moment = (instant - EPOCH) // datetime.timedelta(milliseconds=1) if found else -1
+    except ValueError:
+        moment = -1
+    if not 0 <= moment <= LAST_MOMENT:
+        raise ValueError(f"'{text}' is no moment in ms since 1970 or as YYYY-MM-DDTHH:MM:SSZ, and no date as YYYY-MM-DD")
+    return moment
+
+
+def day_of(moment):
+    return f"{EPOCH + datetime.timedelta(milliseconds=moment):%Y-%m-%d}"
+
+
+def quoted(value):
+    """Returns a field as smq writes it. (The module csv leaves CR without quotes.)"""
+    text = str(value)
+    return '"' + text.replace('"', '""') + '"' if re.search('[",\r\n]', text) else text
+
+
+def write(rows):
+    """Writes records to standard output."""
+    with open(1, "w", closefd=False, **OCTETS) as file:
+        file.writelines(",".join(map(quoted, it)) + "\n" for it in rows)
+
+
+def ended(name, play):
+    """Plays what a tool does, and tells its fault; returns the status."""
+    try:
+        return play()
+    except Unfit as fault:
+        status, told = 2, fault
+    except OSError as fault:
+        status, told = 3, fault
+    print(f"{name}: {told}", file=sys.stderr)
+    return status
