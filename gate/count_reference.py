@@ -1,0 +1,65 @@
+"""What `smq count --by COLUMNS --where COLUMN=VALUE ..` writes for the lines of `smq messages`, by plain searches over all of them."""
+import collections
+import csv
+import datetime
+import io
+import re
+
+from lib.report_names import BANDS, OUTCOMES
+
+PLAIN = ("link", "session", "route", "network", "outcome", "error")
+# How the beginning of a minute, hour, day or month is written, in UTC
+MOMENTS = {"minute": "%Y-%m-%dT%H:%MZ", "hour": "%Y-%m-%dT%HZ", "day": "%Y-%m-%d", "month": "%Y-%m"}
+DELAYS = ("link-delay", "centre-delay")
+# Columns, but for prefix:N
+COLUMNS = (*PLAIN, *DELAYS, *MOMENTS)
+EPOCH = datetime.datetime(1970, 1, 1)
+
+
+def band(delay):
+    return next(name for end, name in BANDS if end is None or delay < end)
+
+
+def cell(column, line):
+    """Returns the text that a line for a message has in a column."""
+    if column in PLAIN:
+        return line[column]
+    if column in MOMENTS:
+        return (EPOCH + datetime.timedelta(milliseconds=int(line["moment"]))).strftime(MOMENTS[column])
+    if column == "link-delay":
+        return band(int(line["receipt_moment"]) - int(line["moment"])) if line["receipt_moment"] else ""
+    if column == "centre-delay":
+        return band(int(line["centre_delay"])) if line["centre_delay"] else ""
+    return line["number"][: int(re.fullmatch(r"prefix:([1-9][0-9]*)", column)[1])]
+
+
+def error_order(text):
+    """Returns what an error is ordered by: statuses, codes of networks, texts, unstated."""
+    kind, _, rest = text.partition(":")
+    value = [int(it) for it in rest.split(":")] if kind in ("status", "net") else rest
+    return {"status": 0, "net": 1, "text": 2, "unstated": 3}[kind], value
+
+
+def order(column, text):
+    """Returns what a cell is ordered by: an empty one comes last."""
+    if text == "":
+        return (1,)
+    if column in ("link", "session", "route"):
+        return (0, text == "none", 0 if text == "none" else int(text))
+    if column == "outcome":
+        return 0, OUTCOMES.index(text)
+    if column == "error":
+        return 0, error_order(text)
+    if column in DELAYS:
+        return 0, [name for _, name in BANDS].index(text)
+    return (0, text == "none", text)
+
+
+def count(lines, columns, conditions=()):
+    """Returns what is written for the lines, as octets."""
+    wanted, counts = [it.split("=", 1) for it in conditions], collections.Counter()
+    for line in csv.DictReader(io.StringIO(lines.decode("latin-1"), newline="")):
+        if all(cell(column, line) == value for column, value in wanted):
+            counts[tuple(cell(it, line) for it in columns)] += 1
+    rows = sorted(counts, key=lambda it: [order(*pair) for pair in zip(columns, it)])
+    return "".join(",".join(it) + "\n" for it in [(*columns, "messages"), *((*it, str(counts[it])) for it in rows)]).encode("latin-1")
