@@ -1,0 +1,65 @@
+"""Words and files that tools/statement and tools/dispute refuse, for gate/check-bills: what is told, and the status."""
+COUNTS = b"link,network,day,outcome,messages\n1,23410,2026-11-05,delivered,3\n"
+PRICES = b"link,route,network,from,for,price,currency\n1,,23410,2026-11-01,delivered,0.045,EUR\n"
+NAMES = b"link,1,North\n# a comment\n"
+MESSAGES = b"link,session,offset,moment,route,network,outcome,key\n1,10,0,1000,12,23410,delivered,26\n"
+BILLED = b"id,price\n1a,0.06\n"
+LONG = b"9" * 1_048_577
+
+
+def priced(line):
+    return PRICES + line + b"\n"
+
+
+# Of a statement: standard input, prices, what is told; the status is 2
+STATEMENTS = (
+    (b"", PRICES, "line 1: column link is there 0 times"),
+    (COUNTS.replace(b"network", b"link", 1), PRICES, "line 1: column link is there 2 times"),
+    (b"link,day,outcome,messages\n", PRICES, "line 1: there is no column network, and no column route"),
+    (b"link,route,day,outcome,messages\n", PRICES, "line 1: there is no column network, and there are prices by it"),
+    (COUNTS, priced(b",12,,2026-11-01,delivered,1,EUR"), "line 1: there is no column route, and there are prices by it"),
+    (COUNTS + b"1,23410,2026-11-05,delivered\n", PRICES, "line 3: it has 4 fields, and the columns are 5"),
+    (COUNTS + b"\n1,23410,2026-02-30,delivered,1\n", PRICES, "line 4: column day is '2026-02-30'"),
+    (COUNTS + b"1,23410,2026-11-5,delivered,1\n", PRICES, "line 3: column day is '2026-11-5'"),
+    (COUNTS + b"1,23410,2026-11-05,Delivered,1\n", PRICES, "line 3: column outcome is 'Delivered'"),
+    (COUNTS + b"1,23410,2026-11-05,open,-1\n", PRICES, "line 3: column messages is '-1'"),
+    (COUNTS + b"1,23410,2026-11-05,open,1e9\n", PRICES, "line 3: column messages is '1e9'"),
+    (COUNTS + "1,23410,2026-11-05,open,\u0663\n".encode(), PRICES, "line 3: column messages is '\\u0663'"),
+    (COUNTS + b"1,23410,2026-11-05,open,\xff\n", PRICES, "line 3: column messages is '\\udcff'"),
+    (COUNTS + b"01,23410,2026-11-05,open,1\n", PRICES, "line 3: column link is '01'"),
+    (COUNTS + b"1,,2026-11-05,open,1\n", PRICES, "line 3: column network is ''"),
+    (COUNTS + LONG, PRICES, "line 3: it has more than 1048576 characters"),
+    (COUNTS + b'"1,23410', PRICES, "line 3: unexpected end of data"),
+    (COUNTS, b"", "prices.csv: line 1: column link is there 0 times"),
+    (COUNTS, priced(b"1,,23410,2026-11-01,accepted,1,USD"), "prices.csv: line 3: it overlaps line 2, of the same link, network and date"),
+    (COUNTS, priced(b"1,,23410,2026-11-02,delivered,,EUR"), "prices.csv: line 3: column price is empty: a hole of prices"),
+    (COUNTS, priced(b"1,,23410,,delivered,1,EUR"), "prices.csv: line 3: column from is empty: a hole of prices"),
+    (COUNTS, priced(b"1,,23410,2026-11-02,,1,EUR"), "prices.csv: line 3: column for is empty: a hole of prices"),
+    (COUNTS, priced(b"1,,23410,2026-11-02,delivered,1,"), "prices.csv: line 3: column currency is empty: a hole of prices"),
+    (COUNTS, priced(b"1,12,,2026-11-02,delivered,1,EUR"), "prices.csv: line 3: it has to have either a link or a route"),
+    (COUNTS, priced(b",,,2026-11-02,delivered,1,EUR"), "prices.csv: line 3: it has to have either a link or a route"),
+    (COUNTS, priced(b"1,,101,2026-11-02,delivered,1,EUR"), "prices.csv: line 3: column network is '101'"),
+    (COUNTS, priced(b"1,,,2026-13-01,delivered,1,EUR"), "prices.csv: line 3: column from is '2026-13-01'"),
+    (COUNTS, priced(b"1,,,2026-11-02,all,1,EUR"), "prices.csv: line 3: column for is 'all'"),
+    *((COUNTS, priced(b"1,,,2026-11-02,delivered,%s,EUR" % it), f"prices.csv: line 3: column price is '{it.decode()}'")
+      for it in (b"-1", b"1e999999999", b".5", b"NaN", b"0.0123456789")),
+    (COUNTS, priced(b"1,,,2026-11-02,delivered,1,eur"), "prices.csv: line 3: column currency is 'eur'"),
+)
+# Of a dispute: standard input, what is billed, more words, what is told
+DISPUTES = (
+    (b"", BILLED, [], "line 1: column link is there 0 times"),
+    (MESSAGES.replace(b",key", b",id"), BILLED, [], "line 1: column key is there 0 times"),
+    (MESSAGES + b"1,10,x,1000,12,23410,open,\n", BILLED, [], "line 3: column offset is 'x'"),
+    (MESSAGES + b"1,10,9,1000,12,23410,opened,\n", BILLED, [], "line 3: its outcome or its moment can't be: 'opened', 1000"),
+    (MESSAGES + b"1,10,9,9999999999999,12,23410,open,\n", BILLED, [], "line 3: its outcome or its moment can't be: 'open', 9999999999999"),
+    (MESSAGES, BILLED + b"1b\n", [], "billed.csv: line 3: it has 1 fields, and column 2 is wanted"),
+    (MESSAGES, BILLED + b"\n1b,0.0x\n", [], "billed.csv: line 4: column price is '0.0x'"),
+    (MESSAGES, b"Id,price\n", [], "billed.csv: line 1: column id is there 0 times"),
+    (MESSAGES, b"id,price,id\n", [], "billed.csv: line 1: column id is there 2 times"),
+    (MESSAGES, BILLED + b'1b,"1', [], "billed.csv: line 3: unexpected end of data"),
+    (MESSAGES, BILLED + LONG, [], "billed.csv: line 3: it has more than 1048576 characters"),
+    *((MESSAGES, BILLED, words, None) for words in (
+        ["--columns", "price=1"], ["--columns", "id=1,id=2"], ["--columns", "id=0"], ["--columns", "id"], ["--form", "hex"],
+        ["--link", "-1"],
+        ["--from", "2026-02-30"], ["--until", "2026-1-1"], ["--until", "99999999999999999999"])),
+)
