@@ -12,8 +12,12 @@ VENDOR, BROADCAST_SM = 0x00010201, 0x111
 # (which tcpdump.org numbers, and how a packet is put into a frame of them)
 FRAMES = ((1, ethernet), (1, lambda it: ethernet(it, [0x8100])), (113, linux_cooked), (276, None), (101, bytes))
 
-# A connection that was made: its ends, and the octets and the places of PDUs of its client and of its centre
-Sent = collections.namedtuple("Sent", "client centre streams begins")
+# A connection that was made: its ends, and of its client and of its centre the octets, the places of PDUs, and what a capture lost
+Sent = collections.namedtuple("Sent", "client centre streams begins lost")
+# Of a direction: how many octets no packet of the capture has among those that it has; how many it hasn't at all, or behind later ones,
+# when they may be given up; whether they end with a FIN that it hasn't, behind an octet that it hasn't, though a packet has a number behind
+# it; and the octets with those of probes that can't be told from others
+Lost = collections.namedtuple("Lost", "among all has_end doubtful")
 # A capture: its octets, the connections in their order, the words, and whether packets of it are lost
 Made = collections.namedtuple("Made", "capture sent words is_lossy status")
 
@@ -142,6 +146,40 @@ def disturbed(draw, connection, is_lossy):
     return packets
 
 
+def lost_of(connection, packets, sender):
+    """Returns what of a direction isn't in packets of its connection."""
+    stream, other = connection.sent[sender], "centre" if sender == "client" else "client"
+    size, acknowledged = len(stream), 0
+    captured, late, probes = bytearray(size), bytearray(size), {}
+    for who, place, octets, flags, number in packets:
+        if who == other:
+            acknowledged = max(acknowledged, number or 0)
+        elif octets and not is_probe(flags, octets):
+            end, top = place + len(octets), captured.rfind(1) + 1
+            late[place:end] = bytes(captured[it] == 0 and it < top or late[it] for it in range(place, end))
+            captured[place:end] = b"\1" * len(octets)
+        elif octets and place >= 0 and not captured[place]:
+            probes[place] = probes.get(place, True) and captured.rfind(1) + 1 < place < acknowledged
+    seen, doubtful = bytearray(captured), bytearray(stream)
+    # RFC 9293, 3.8.4: a probe comes when all was acknowledged, and its octet is garbage; it can't be told from others where no packet
+    # before it acknowledges it, or where the octets right before it come
+    for place, is_known in probes.items():
+        if not is_known or (captured[place - 1] if place else 1):
+            seen[place] = 1
+            doubtful[place] = doubtful[place] if is_known and captured[place] else 0
+    has_answer = any(flags & SYN and flags & ACK for _, _, _, flags, _ in packets)
+    # (a connection whose SYN isn't answered begins once packets of it are acknowledged, which are passed over)
+    among, least_seen = (seen[: seen.rfind(1) + 1].count(0), captured.count(1) - sum(late)) if has_answer else (0, 0)
+    # RFC 9293, 3.4: a FIN has the number behind the last octet, and is acknowledged as octets are
+    has_fin = any(who == sender and flags & FIN for who, _, _, flags, _ in packets)
+    is_behind = acknowledged > size or any(who == sender and place is not None and place > size for who, place, *_ in packets)
+    return Lost(among, size - least_seen, captured[-1:] == b"\0" and is_behind and not has_fin, bytes(doubtful))
+
+
+def is_probe(flags, octets):
+    return flags & PSH and octets == b"\0"
+
+
 def made(seed, is_lossy, is_plain=False):
     """Returns a capture, what was sent, and the words; with PDUs of SMPP 3.4 alone where it is to be plain."""
     draw = random.Random(seed)
@@ -163,11 +201,13 @@ def made(seed, is_lossy, is_plain=False):
         if any(it[0].client == client for it in flows):
             continue
         flows.append(flow)
-    queues = []
+    queues, lost = [], {}
     for flow in flows:
         queue = []
         for one in flow:
-            queue += [(one, it) for it in disturbed(draw, one, is_lossy)]
+            packets = disturbed(draw, one, is_lossy)
+            lost[one] = {it: lost_of(one, packets, it) for it in ("client", "centre")}
+            queue += [(one, it) for it in packets]
         queues.append(queue)
     moment, frames, order = 1_000_000, [], []
     while any(queues):
@@ -184,5 +224,5 @@ def made(seed, is_lossy, is_plain=False):
         capture = pcap(frames, link_type, order=draw.choice("<>"), magic=draw.choice((0xA1B2C3D4, 0xA1B23C4D)))
     # (where that may be lost, it is enough that those of the same ends stand in their order)
     order = [one for flow in flows for one in flow] if is_lossy else order
-    sent = [Sent(it.client, it.centre, {k: bytes(v) for k, v in it.sent.items()}, it.begins) for it in order]
+    sent = [Sent(it.client, it.centre, {k: bytes(v) for k, v in it.sent.items()}, it.begins, lost[it]) for it in order]
     return Made(capture, sent, ["capture", "--link", "2775=7"], is_lossy, None)
