@@ -101,6 +101,15 @@ def loss_cases():
     frames = [*begin, client(0, b"ab"), centre(0, b"x", acknowledged=18)]
     yield "octets that the centre has and the capture hasn't", pcap(frames), [
         row("client", 1020, b"ab"), row("centre", 1030, b"x")], [missing(2, 17), gaps(1, 16)], 1
+    # (RFC 9293, 3.4: the FIN has the number behind the last octet, here 18, and is acknowledged by 19)
+    ends = [centre(0, b"x", acknowledged=19), client(18, b"", FIN | ACK)]
+    rows = row("client", 1020, b"ab"), *(row("centre", it, b"x") for it in (1030, 1040))
+    yield "a FIN behind octets that the capture hasn't", pcap([*begin, client(0, b"ab"), *ends]), rows[:2], [missing(2, 17), gaps(1, 16)], 1
+    yield "the same, before it is acknowledged", pcap([*begin, client(0, b"ab"), *ends[::-1]]), rows[::2], [missing(2, 17), gaps(1, 16)], 1
+    frames = [*begin, client(0, b"ab"), centre(0, b"x", acknowledged=3)]
+    yield "a number behind the last octet, which may be that of a FIN", pcap(frames), rows[:2]
+    frames = [*begin, centre(0, b"x", acknowledged=5), client(0, b"abcd")]
+    yield "the same, before the octets", pcap(frames), [row("centre", 1020, b"x"), row("client", 1030, b"abcd")]
     frames = [client(0, b"ab"), centre(0, b"x", acknowledged=2), client(2, b"c")]
     yield "a capture that begins within a connection", pcap(frames), [
         row("client", 1000, b"ab"), row("centre", 1010, b"x"), row("client", 1020, b"c")], [

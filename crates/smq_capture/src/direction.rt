@@ -93,7 +93,6 @@ impl Direction {
 
     /// Takes note of a FIN behind octets.
     pub fn note_fin(&mut self, sequence: u32) {
-        self.stream.note_end(sequence);
         if self.fin.is_none() {
             self.fin = self.stream.place(sequence);
         }

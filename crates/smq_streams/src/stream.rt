@@ -70,9 +70,11 @@ pub struct Stream {
     /// The sequence number of the first octet.
     first: Option<u32>,
     order: Reassembly,
-    /// The place behind the last octet that was sent, as far as was seen, and behind the last one that was captured.
+    /// The place behind the last octet of a segment, and behind the last one that was captured.
     end: u64,
     top: u64,
+    /// The place behind the last number that the other end acknowledged or the sender went past; it may be that of a FIN.
+    reached: u64,
     /// Since when something waits; and, while it does, what the other end acknowledges.
     opened: Option<u64>,
     acknowledged: Acknowledged,
@@ -111,6 +113,7 @@ impl Stream {
             order: Reassembly::new(alloc),
             end: 0,
             top: 0,
+            reached: 0,
             opened: None,
             acknowledged: Acknowledged::new(alloc),
             is_searching: false,
@@ -140,9 +143,14 @@ impl Stream {
         self.order.next()
     }
 
-    /// The place behind the last octet that was sent, as far as was seen.
+    /// The place behind the last octet that was sent, as far as was seen: one number alone behind those of segments is taken for a FIN's
+    /// (RFC 9293, 3.4).
     pub fn end(&self) -> u64 {
-        self.end
+        if self.end.saturating_add(1) < self.reached {
+            self.reached
+        } else {
+            self.end
+        }
     }
 
     /// The place behind the last octet that was captured.
@@ -223,22 +231,24 @@ impl Stream {
     /// Takes note that all octets before a sequence number were sent; where that is no segment's that has octets or a FIN, the last
     /// number before it may be that of a FIN.
     pub fn note_sent(&mut self, sequence: u32, is_exact: bool) {
-        let slack = u64::from(!is_exact);
         if let Some(place) = self.place(sequence) {
-            if self.end.saturating_add(slack) < place
-                && place.saturating_sub(self.order.next()) <= WINDOW
-            {
-                self.end = place;
+            if place.saturating_sub(self.order.next()) > WINDOW {
+                return;
+            }
+            if is_exact {
+                self.end = self.end.max(place);
+            } else {
+                self.note_reached(place);
             }
         }
     }
 
-    /// Takes note that the octets end before a sequence number, which is that of a FIN.
-    pub fn note_end(&mut self, sequence: u32) {
-        if let Some(place) = self.place(sequence) {
-            if place.saturating_add(1) == self.end {
-                self.end = place;
-            }
+    /// Takes note of a place up to which numbers were sent. One more than was known is the number of a FIN.
+    fn note_reached(&mut self, place: u64)
+        ensures { self.new ≡ self.old }
+    {
+        if self.end().saturating_add(1) < place {
+            self.reached = place;
         }
     }
 
@@ -250,10 +260,7 @@ impl Stream {
         if place.saturating_sub(self.order.next()) > WINDOW {
             return Ok(());
         }
-        // (one more than the octets is the number of a FIN)
-        if place > self.end.saturating_add(1) {
-            self.end = place;
-        }
+        self.note_reached(place);
         if !self.has_gap() {
             return Ok(());
         }
@@ -512,7 +519,7 @@ impl Stream {
         if self.is_stopped {
             return None;
         }
-        let until = self.order.first_waiting().unwrap_or(self.end);
+        let until = self.order.first_waiting().unwrap_or(self.end());
         if from < until {
             Some(Missing { from, until })
         } else {
