@@ -7,7 +7,9 @@ import sys
 
 sys.dont_write_bytecode = True
 
+import collections
 import contextlib
+import csv
 import glob
 import os
 import shutil
@@ -95,10 +97,25 @@ def sum_of(room):
         return file.read()
 
 
+def see_bills(count, room):
+    """Checks the counts of a month against the lines of its messages that were settled, and that a statement is made of them."""
+    count.see("month: messages, counts and a statement", 0, made(count, room, "-j2", "messages", "count", "statement")[0])
+    with open(f"{room}/count.csv", encoding="ascii", newline="") as file:
+        counts = collections.Counter()
+        for it in csv.DictReader(file):
+            counts[it["link"], it["network"], it["outcome"]] += int(it["messages"])
+    lines = collections.Counter()
+    for path in glob.glob(f"{room}/work/*/[0-9]*.messages"):
+        with open(path, encoding="utf-8", newline="") as file:
+            lines.update((it["link"], it["network"], it["outcome"]) for it in csv.DictReader(file))
+    count.see("month: each settled message is counted once", dict(lines), dict(counts))
+
+
 def see_make(count, whole):
     with month(count) as room:
         count.see("month: make", 0, made(count, room, "-j2")[0])
         count.see("month: it is the report of the whole", whole, sum_of(room))
+        see_bills(count, room)
         count.see("month: a second time nothing is made", (0, "make: 'month.csv' is up to date.\n"), made(count, room))
         known = written(room)
         os.utime(f"{room}/days/3/link-2.csv")

@@ -9,7 +9,8 @@ from cases.capture_runs import Pipe, differs, run, written
 from cases.gap_cases import response, submit
 from oracle.made_captures import ACK, WORDS, centre, client, handshake, pcap
 
-COMMANDS = (["report", "--format", "table"], ["query", "link"], ["total"], ["messages"], ["receipts"], ["check"])
+COMMANDS = (["report", "--format", "table"], ["query", "link"], ["total"], ["count", "--by", "link,hour,outcome"], ["messages"], ["receipts"],
+            ["check"])
 ROUTES = b"route,447,0,12,23410\nroute,45,0,13,23410\n"
 LINK = WORDS.split()
 
