@@ -64,6 +64,15 @@ def one_gap_cases():
         row("client", 1040, PDUS[0]), row("client", 1060, PDUS[3], 2), row("centre", 1080, RESPONSES[1], 2),
         row("centre", 1070, RESPONSES[0], 3), row("client", 1050, PDUS[2], 3)], [
         it.replace("session 2 goes", "session 3 goes") for it in SECOND]
+    frames = [*begin, client(0, PDUS[0]), centre(0, RESPONSES[0], acknowledged=2 * SIZE), client(2 * SIZE - 1, b"\0"),
+              client(2 * SIZE, PDUS[2])]
+    yield "the octet of a probe is none behind a gap", pcap(frames), [
+        row("client", 1020, PDUS[0]), row("centre", 1030, RESPONSES[0]), row("client", 1050, PDUS[2], 2)], SECOND
+    frames = [*begin, client(0, PDUS[0]), client(2 * SIZE, PDUS[2][:-1]), centre(0, RESPONSES[0], acknowledged=3 * SIZE),
+              client(3 * SIZE - 1, PDUS[2][-1:])]
+    yield "an octet that comes behind its acknowledgement, and is that of no probe", pcap(frames), [
+        row("client", 1020, PDUS[0]), row("centre", 1040, RESPONSES[0], 2), row("client", 1030, PDUS[2][:-1], 2),
+        row("client", 1050, PDUS[2][-1:], 2)], SECOND
     told_behind = [lost(SIZE, SIZE + 19, AFTER), passed(SIZE - 20), gaps(1, 20, SIZE - 20)]
     frames = [*begin, client(0, PDUS[0]), client(SIZE + 20, PDUS[1][20:]), client(2 * SIZE, PDUS[2])]
     yield "octets before the first PDU behind a gap", pcap(frames), [

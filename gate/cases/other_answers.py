@@ -18,6 +18,7 @@ DIFFERENT = {
     "fragments of IPv6": "it puts no fragments together",
     "gaps in both directions, and a segment behind one that comes again":
         "it takes gaps in the order of the segments behind them, not of the PDUs",
+    "1000061": "it takes the octet of a probe for one behind a gap, so the gap waits since then",
 }
 # Captures of which it wrote other moments: of octets behind others that came later and aren't written
 OTHER_MOMENTS = {"1000081"}

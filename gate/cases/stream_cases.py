@@ -27,6 +27,13 @@ def order_cases():
     yield "a probe of one octet that keeps the connection alive", pcap(frames), [
         row("client", 1020, b"ab"), row("client", 1040, b"c")]
     yield "a probe before any octet", pcap([*begin, client(-1, b"\0"), client(0, b"ab")]), [row("client", 1030, b"ab")]
+    # (RFC 9293, 3.8.4: it is sent when all was acknowledged, has the number before the next, and its octet is garbage)
+    behind = [*begin, client(0, b"ab"), centre(0, b"x", acknowledged=6)]
+    rows = [row("client", 1020, b"ab"), row("centre", 1030, b"x")]
+    yield "a probe behind octets that are missing", pcap([*behind, client(5, b"\0"), client(2, b"cdef"), client(6, b"g")]), [
+        *rows, row("client", 1050, b"cdef"), row("client", 1060, b"g")]
+    yield "an octet that comes behind its acknowledgement", pcap([*behind, client(5, b"f"), client(2, b"cde"), client(6, b"g")]), [
+        *rows, row("client", 1050, b"cde"), row("client", 1050, b"f"), row("client", 1060, b"g")]
     first = 2**32 - 3
     wrapped = [client(it, octets, flags, first=first) for it, octets, flags in (
         (-1, b"", SYN), (0, b"ab", ACK), (4, b"ef", ACK), (2, b"cd", ACK), (4, b"XXg", ACK))]

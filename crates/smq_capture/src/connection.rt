@@ -319,7 +319,19 @@ impl Connection {
             self.both.of_mut(sender).cut.add(number);
         }
         self.is_reset = false;
-        self.take_octets(output, sender, sequence, number, moment, segment.octets)
+        if self
+            .both
+            .of_mut(sender)
+            .sets_aside(sequence, segment.octets)
+        {
+            return Ok(());
+        }
+        self.take_octets(output, sender, sequence, number, moment, segment.octets)?;
+        if let Some(aside) = self.both.of_mut(sender).take_aside() {
+            let octets = [aside.octet];
+            self.take_octets(output, sender, aside.sequence, number, moment, &octets)?;
+        }
+        Ok(())
     }
 
     /// Takes note of what the numbers of a segment tell of both directions.
@@ -334,7 +346,6 @@ impl Connection {
         if segment.has(ACK) && !is_reset {
             self.both
                 .of_mut(sender.other())
-                .stream
                 .note_acknowledged(segment.acknowledged, moment)?;
         }
         let direction = self.both.of_mut(sender);

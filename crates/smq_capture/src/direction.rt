@@ -26,6 +26,14 @@ pub struct Sought {
     pub session: u64,
 }
 
+/// A segment of one octet that may be garbage.
+#[derive(Clone, Copy)]
+pub struct Probe {
+    pub place: u64,
+    pub sequence: u32,
+    pub octet: u8,
+}
+
 /// One direction of a connection.
 #[derive(Drop)]
 pub struct Direction {
@@ -43,6 +51,9 @@ pub struct Direction {
     pub sought: Option<Sought>,
     /// The place of a FIN.
     fin: Option<u64>,
+    /// The place behind the last octet that the other end acknowledged.
+    acknowledged: u64,
+    probe: Option<Probe>,
     pub outside: Noted,
     pub cut: Noted,
     pub raised: Noted,
@@ -69,6 +80,8 @@ impl Direction {
             tops: VecDeque::new(alloc),
             sought: None,
             fin: None,
+            acknowledged: 0,
+            probe: None,
             outside: Noted::none(),
             cut: Noted::none(),
             raised: Noted::none(),
@@ -89,6 +102,49 @@ impl Direction {
     /// Whether the other end may acknowledge a number of this direction.
     pub fn fits_acknowledged(&self, acknowledged: u32) -> bool {
         self.stream.fit(acknowledged, 0) == Fit::Within
+    }
+
+    /// Takes note that the other end has all octets before a sequence number.
+    pub fn note_acknowledged(&mut self, sequence: u32, moment: u64) -> Result<(), AllocError> {
+        if self.fits_acknowledged(sequence) {
+            let place = self.stream.place(sequence).unwrap_or(0);
+            self.acknowledged = self.acknowledged.max(place);
+        }
+        self.stream.note_acknowledged(sequence, moment)
+    }
+
+    /// Sets a segment aside that may be a probe which keeps the connection alive: it has one octet, which the other end acknowledged
+    /// before, and octets between it and all captured ones are missing. The octet of a probe is garbage (RFC 9293, 3.8.4).
+    pub fn sets_aside(&mut self, sequence: u32, octets: &[u8]) -> bool {
+        let [octet] = octets else {
+            return false;
+        };
+        let Some(place) = self.stream.place(sequence) else {
+            return false;
+        };
+        let is_probe = self.stream.top() < place && place < self.acknowledged;
+        if is_probe {
+            self.probe = Some(Probe {
+                place,
+                sequence,
+                octet: *octet,
+            });
+        }
+        is_probe
+    }
+
+    /// The segment that was set aside, once its octet is the next; none where another segment had the octet.
+    pub fn take_aside(&mut self) -> Option<Probe> {
+        let probe = self.probe?;
+        if self.stream.next() < probe.place {
+            return None;
+        }
+        self.probe = None;
+        if self.stream.next() == probe.place {
+            Some(probe)
+        } else {
+            None
+        }
     }
 
     /// Takes note of a FIN behind octets.
