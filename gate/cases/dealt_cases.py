@@ -5,7 +5,7 @@ sys.dont_write_bytecode = True
 
 import collections
 
-from cases.dealt_periods import DELIVER_SM, LINK_TEST, RESPONSE, TESTED, pdu, piece, receipt, response, submit
+from cases.window_cases import DELIVER_SM, LINK_TEST, RESPONSE, TESTED, pdu, piece, receipt, response, submit
 from lib.report_names import WINDOW
 
 # Of a random feed: how long a window is, in ms, how long a receipt and a response take at most, and how long all of it is

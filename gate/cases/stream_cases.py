@@ -58,6 +58,17 @@ def session_cases():
             client(0, b"fg", **of_client), centre(0, b"h", **of_centre)]
     yield "a pair of ports that is used anew", pcap([*conversation(), *anew]), [
         *CONVERSATION, row("client", 1060, b"fg", 2), row("centre", 1070, b"h", 2)]
+    # (RFC 9293, 3.10.7.4: the old connection's end would acknowledge none of it, so what is acknowledged is the new one's)
+    syn, f, g = (client(it, octets, flags, 1 - CENTRE_FIRST + 2**28 * (it >= 0), first=2**29) for it, octets, flags in (
+        (-1, b"", SYN), (0, b"f", ACK), (1, b"g", ACK)))
+    h, answered = (centre(0, b"h", first=2**28, acknowledged=2**29 - CLIENT_FIRST + it) for it in (0, 1))
+    rows = row("client", 1050, b"f", 2), row("centre", 1060, b"h", 2), row("client", 1070, b"g", 2)
+    yield "the same, without the SYN's answer", pcap([*conversation(), syn, f, answered, g]), [*CONVERSATION, *rows], [
+        no_syn("centre", 2)], 1, STRICT
+    yield "the same, both ends at once", pcap([*conversation(), syn, f, h, g]), [*CONVERSATION, *rows], [no_syn("centre", 2)], 1, STRICT
+    frames = [*conversation(), syn, f, centre(3, b"h", acknowledged=2), client(2, b"c")]
+    yield "a forged SYN, and octets behind it", pcap(frames), [*CONVERSATION, row("centre", 1060, b"h"), row("client", 1070, b"c")], [
+        told("packets outside the connection's window, not written: 1 from the client, the first is packet 6"), UNANSWERED], 1
     others = {"ends": (("192.0.2.1", 40001), CENTRE)}, {"ends": (CENTRE, ("192.0.2.1", 40001))}
     other = [client(-1, b"", SYN, **others[0]), centre(-1, b"", SYN | ACK, **others[1]),
              client(0, b"ij", **others[0]), centre(0, b"k", **others[1])]

@@ -2,6 +2,7 @@
 import time
 
 from cases.capture_runs import Pipe, differs
+from cases.gap_cases import PDUS, SECOND, SIZE
 from oracle.made_captures import CONVERSATION, PDU, WORDS, centre, client, conversation, handshake, pcap, row, told
 
 QUESTIONS = ["ask,link", "ask,report"]
@@ -22,6 +23,10 @@ def tick_cases():
     yield "rows of the clock and questions", capture, [
         rows[0], "clock,10000", *QUESTIONS, rows[1], "clock,40000", *QUESTIONS, rows[2], *QUESTIONS, rows[3], *QUESTIONS, rows[4],
         "clock,50000", *QUESTIONS, rows[5], *QUESTIONS], raised, 0, words + " --ask link --ask report"
+    frames = [*handshake(), client(0, PDUS[0]), client(2 * SIZE, PDUS[2])]
+    yield "a gap, which questions make a row", pcap(frames), [
+        row("client", 1020, PDUS[0]), f"lost,1,client,{SIZE}", row("client", 1030, PDUS[2], 2), "ask,report"], SECOND, 1, \
+        WORDS + " --every 1000 --ask report"
     frames = [*zip((1_000, 1_500), handshake()), (1_999, client(0, b"ab")), (2_000, client(4, b"ef")), (2_001, client(2, b"cd"))]
     yield "a clock each half of a second, before rows that wait", pcap(frames), [
         "clock,1500", row("client", 1_999, b"ab"), "clock,2000", row("client", 2_001, b"cd"), row("client", 2_001, b"ef")], [], 0, \

@@ -167,9 +167,9 @@ def lost_of(connection, packets, sender):
         if not is_known or (captured[place - 1] if place else 1):
             seen[place] = 1
             doubtful[place] = doubtful[place] if is_known and captured[place] else 0
+    # (where no answer to the SYN was captured, it isn't known where both streams begin)
     has_answer = any(flags & SYN and flags & ACK for _, _, _, flags, _ in packets)
-    # (a connection whose SYN isn't answered begins once packets of it are acknowledged, which are passed over)
-    among, least_seen = (seen[: seen.rfind(1) + 1].count(0), captured.count(1) - sum(late)) if has_answer else (0, 0)
+    among, least_seen = seen[: seen.rfind(1) + 1].count(0) if has_answer else 0, captured.count(1) - sum(late)
     # RFC 9293, 3.4: a FIN has the number behind the last octet, and is acknowledged as octets are
     has_fin = any(who == sender and flags & FIN for who, _, _, flags, _ in packets)
     is_behind = acknowledged > size or any(who == sender and place is not None and place > size for who, place, *_ in packets)

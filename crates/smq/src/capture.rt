@@ -2,12 +2,13 @@
 use crate::capture_rows::{CaptureRows, RowTexts};
 use crate::capture_words::options_of;
 use crate::error_lines::ErrorLines;
+use crate::progress::{Progress, StandardOutput};
+use crate::questions::questions_of;
 use crate::sources::Sources;
 use crate::status::{BAD_INPUT, DONE, FAULT, NO_MEMORY, REFUSED};
 use crate::timed_input::{Blocks, TimedInput};
-use crate::{print_words_error, run_task};
+use crate::{Wanted, print_words_error, run_task};
 use smq_capture::{Capture, Fault, Options, Sink, Texts};
-use smq_count::Counting;
 use smq_report::Output;
 use smq_words::{Captures, Task};
 use std::io::{ErrorKind, IsTerminal, Read, Write};
@@ -21,9 +22,8 @@ use std::{fs, io};
 /// nothing comes, `start` starts what reads it.
 pub fn run_with_captures<R, F>(
     rt: &R,
-    task: Task,
+    wanted: Wanted,
     settings: &[u8],
-    counting: &Counting,
     captures: Captures,
     start: F,
 ) -> u8
@@ -33,7 +33,7 @@ where
     F: FnOnce() -> io::Result<Blocks>,
     requires { F.IsAlwaysCallable start }
 {
-    let is_script = task == Task::Capture;
+    let is_script = wanted.task == Task::Capture;
     let options = match options_of(
         rt.alloc(),
         &captures,
@@ -42,13 +42,18 @@ where
         Ok(options) => options,
         Err(error) => return print_words_error(rt, &error),
     };
+    let mut captures = captures;
+    captures.questions = match questions_of(rt.alloc(), captures.questions.as_slice()) {
+        Ok(questions) => questions,
+        Err(error) => return print_words_error(rt, &error),
+    };
     if options.every.is_none() || !reads_input(captures.paths.as_slice()) {
-        return run_reading(rt, task, settings, counting, captures, options, rt.reader());
+        return run_reading(rt, wanted, settings, captures, options, rt.reader());
     }
     match start() {
         Ok(blocks) => {
             let input = TimedInput::new(rt, blocks);
-            run_reading(rt, task, settings, counting, captures, options, input)
+            run_reading(rt, wanted, settings, captures, options, input)
         }
         Err(_) => print_fault(rt, None, &Fault::Memory),
     }
@@ -62,9 +67,8 @@ fn reads_input(paths: &[String]) -> bool {
 /// The same, where standard input is read by this, if it is a capture.
 fn run_reading<R, I>(
     rt: &R,
-    task: Task,
+    wanted: Wanted,
     settings: &[u8],
-    counting: &Counting,
     captures: Captures,
     options: Options,
     input: I,
@@ -91,15 +95,40 @@ where
     };
     let sources = Sources::new(rt, input, paths.as_slice());
     let alloc = rt.alloc();
-    let notices = ErrorLines::new(rt);
-    if task == Task::Capture {
-        let texts = Texts::new(alloc, questions, io::writer(rt), notices, index, losses);
-        return write_script(rt, sources, Capture::new(alloc, options, texts));
+    let progress = wanted.progress;
+    let notices = ErrorLines::new(rt, progress);
+    // (only what is followed has records of what is missing)
+    let tells_losses = matches!(wanted.task, Task::Follow(_)) || !questions.is_empty();
+    if wanted.task == Task::Capture {
+        let writer = StandardOutput::new(rt, progress);
+        let texts = Texts::new(
+            alloc,
+            questions,
+            tells_losses,
+            writer,
+            notices,
+            index,
+            losses,
+        );
+        return write_script(rt, progress, sources, Capture::new(alloc, options, texts));
     }
-    let texts = Texts::new(alloc, questions, Vec::new(alloc), notices, index, losses);
+    let writer = Vec::new(alloc);
+    let texts = Texts::new(
+        alloc,
+        questions,
+        tells_losses,
+        writer,
+        notices,
+        index,
+        losses,
+    );
     let rows = CaptureRows::new(sources, Capture::new(alloc, options, texts));
     let is_alone = reads_input(paths.as_slice()) || rt.reader().is_terminal();
-    run_with_rows(rt, played(task), settings, counting, rows, is_alone)
+    let wanted = Wanted {
+        task: played(wanted.task),
+        ..wanted
+    };
+    run_with_rows(rt, &wanted, settings, rows, is_alone)
 }
 
 /// The task that does the same with rows as they are read, however many there are.
@@ -113,9 +142,8 @@ fn played(task: Task) -> Task {
 /// Does a task with rows of captures, behind those of standard input unless they are alone, and gives the status.
 fn run_with_rows<R, I>(
     rt: &R,
-    task: Task,
+    wanted: &Wanted,
     settings: &[u8],
-    counting: &Counting,
     rows: CaptureRows<'_, R, I>,
     is_alone: bool,
 ) -> u8
@@ -126,11 +154,11 @@ where
     let mut rows = rows;
     let mut status = DONE;
     if is_alone {
-        status = run_task(rt, task, settings, counting, &mut rows);
+        status = run_task(rt, wanted, settings, &mut rows);
     } else {
         // (the last row of standard input may have no end of line)
         let mut all = rt.reader().chain(b"\n".as_slice()).chain(rows);
-        status = run_task(rt, task, settings, counting, &mut all);
+        status = run_task(rt, wanted, settings, &mut all);
         rows = all.into_inner().1;
     }
     match rows.fault() {
@@ -143,6 +171,7 @@ where
 /// Writes the script of captures, and gives the status.
 fn write_script<R, I, W>(
     rt: &R,
+    progress: Progress,
     sources: Sources<'_, R, I>,
     capture: Capture<Texts<W, ErrorLines<'_, R>, R::File, R::File>>,
 ) -> u8
@@ -153,17 +182,20 @@ where
 {
     let mut sources = sources;
     let mut capture = capture;
+    let mut meter = progress.meter();
     for _ in 0..u64::MAX {
         match sources.read_on(&mut capture) {
-            Ok(true) => {}
+            Ok(true) => meter.tell(rt, capture.packets(), "packets"),
             Ok(false) => break,
             Err(fault) => {
+                progress.take_away(rt);
                 let status = print_fault(rt, path_of(sources.path(), &fault), &fault);
                 let _ = capture.break_off();
                 return status;
             }
         }
     }
+    progress.take_away(rt);
     match capture.end() {
         Ok(true) => REFUSED,
         Ok(false) => DONE,

@@ -14,24 +14,31 @@ mod capture_words;
 mod error_lines;
 mod first_octets;
 mod laws;
+mod live;
+mod progress;
+mod questions;
 mod sources;
 mod status;
 mod timed_input;
+mod window_length;
+mod window_rows;
 
 use capture::run_with_captures;
 use capture_words::has_words;
 use clap::error::ErrorKind;
-use error_lines::ErrorLines;
 use first_octets::{FirstOctets, Mark};
+use live::{run_follow, run_window};
+use progress::{CountedRows, Progress, StandardOutput, Terminals};
 use smq_count::Counting;
 use smq_desk::NoGate;
-use smq_engine::{Checked, Followed, Ran, RunFault, check, count, follow, run, total};
+use smq_engine::{Checked, Ran, RunFault, check, count, run, total};
 use smq_kit::Refusal;
 use smq_load::MOST_SETTINGS;
-use smq_report::{Format, Output, Query};
+use smq_report::{Output, Query};
+use smq_window::Length;
 use smq_words::{Captures, Order, Task, bad_words, order, own_words};
-use status::{BAD_INPUT, DONE, FAULT, check_status, fault_status, followed_status, ran_status};
-use std::io::{IsTerminal, Read};
+use status::{BAD_INPUT, DONE, FAULT, check_status, fault_status, ran_status};
+use std::io::{IsTerminal, Read, Write};
 use std::process::ExitCode;
 use std::rt::{Env, Files};
 use std::sync::Wait;
@@ -39,14 +46,22 @@ use std::thread::Threads;
 use std::time::Clock;
 use std::{fs, io, thread};
 use timed_input::{Blocks, blocks, send_all};
+use window_length::length_of;
 
 /// What is said of words that name no column.
 const BAD_COLUMNS: &str =
     "--by and --where want columns: link, session, route, network, outcome, error, link-delay, centre-delay, minute, hour, day, month, prefix:N (N from 1 to 15)";
 
+/// What is said of a window that is none.
+const BAD_LENGTH: &str = "a window is as long as 90s, 15m or 6h: from 1s to 999999h";
+
 fn main(rt: HostRuntime) -> ExitCode {
     // (a thread takes the runtime by value, which no other function can name)
-    ExitCode::from(obey(&rt, || -> io::Result<Blocks> {
+    let terminals = Terminals {
+        errors: rt.stderr().is_terminal(),
+        output: rt.stdout().is_terminal(),
+    };
+    ExitCode::from(obey(&rt, terminals, || -> io::Result<Blocks> {
         let (to, from) = blocks(rt.alloc())?;
         let handle = rt;
         let _thread = thread::spawn(&rt, move || send_all(&handle, &to))?;
@@ -54,8 +69,9 @@ fn main(rt: HostRuntime) -> ExitCode {
     }))
 }
 
-/// Does what the program's words ask for, and gives the status. A message that can't be told changes no status.
-fn obey<R, F>(rt: &R, start: F) -> u8
+/// Does what the program's words ask for, and gives the status. Where a terminal shows standard error, it tells how far it is. A message that
+/// can't be told changes no status.
+fn obey<R, F>(rt: &R, terminals: Terminals, start: F) -> u8
 where
     R: Env + Files + Input + Print + Eprint + AllocGlobal + Threads + Wait + Clock + Sync,
     R::Reader: IsTerminal,
@@ -67,7 +83,7 @@ where
         Err(error) => return words_unreadable(rt, &error),
     };
     match order(rt.alloc(), words.as_slice()) {
-        Ok(order) => run_order(rt, order, start),
+        Ok(order) => run_order(rt, order, terminals, start),
         Err(error) => print_words_error(rt, &error),
     }
 }
@@ -111,7 +127,7 @@ fn print_words_error<R: Print + Eprint>(rt: &R, error: &clap::Error) -> u8
 }
 
 /// Reads the settings that an order names, does its task, and gives the status.
-fn run_order<R, F>(rt: &R, order: Order, start: F) -> u8
+fn run_order<R, F>(rt: &R, order: Order, terminals: Terminals, start: F) -> u8
 where
     R: Files + Input + Print + Eprint + AllocGlobal + Threads + Wait + Clock + Sync,
     R::Reader: IsTerminal,
@@ -122,19 +138,65 @@ where
         task,
         settings,
         counting,
+        window,
         captures,
     } = order;
-    let counting = match counting_of(rt, &counting) {
-        Ok(counting) => counting,
+    let progress = if terminals.errors && tells_progress(task) && !captures.is_quiet {
+        Progress::begin(rt, terminals.output)
+    } else {
+        Progress::none()
+    };
+    let wanted = match wanted_of(rt, task, &counting, &window, progress) {
+        Ok(wanted) => wanted,
         Err(status) => return status,
     };
     let Some(path) = settings else {
-        return run_reading(rt, task, &[], &counting, captures, start);
+        return run_reading(rt, wanted, &[], captures, start);
     };
     match read_start(rt, path.as_str()) {
-        Ok(octets) => run_reading(rt, task, octets.as_slice(), &counting, captures, start),
+        Ok(octets) => run_reading(rt, wanted, octets.as_slice(), captures, start),
         Err(error) => print_unread_settings(rt, path.as_str(), &error),
     }
+}
+
+/// What is to be done: a task, what is counted by, and how long what came is kept.
+#[derive(Drop)]
+struct Wanted {
+    task: Task,
+    /// Nothing where the task doesn't count.
+    counting: Counting,
+    /// None: for ever.
+    length: Option<Length>,
+    progress: Progress,
+}
+
+/// Whether it is told how far a task is: what is asked among rows, and windows of them, tell that by what they write.
+fn tells_progress(task: Task) -> bool {
+    !matches!(task, Task::Follow(_) | Task::Window)
+}
+
+/// What is to be done, by its words. The status where they name no column, or no length.
+fn wanted_of<R: Print + Eprint + AllocGlobal>(
+    rt: &R,
+    task: Task,
+    counting: &smq_words::Counting,
+    window: &Option<String>,
+    progress: Progress,
+) -> Result<Wanted, u8> {
+    let counting = counting_of(rt, counting)?;
+    let length = match window {
+        Some(text) => match length_of(text.as_str()) {
+            Some(length) => Some(length),
+            None => return Err(print_bad_words(rt, BAD_LENGTH)),
+        },
+        None => None,
+    };
+    Ok(Wanted {
+        task,
+        counting,
+        length,
+        progress,
+    })
 }
 
 /// What is counted, by the words for it; nothing where these are of another task. The status where they name no column.
@@ -157,26 +219,19 @@ fn counting_of<R: Print + Eprint + AllocGlobal>(
 }
 
 /// Does a task with settings, and with captures where some are named, and gives the status.
-fn run_reading<R, F>(
-    rt: &R,
-    task: Task,
-    settings: &[u8],
-    counting: &Counting,
-    captures: Captures,
-    start: F,
-) -> u8
+fn run_reading<R, F>(rt: &R, wanted: Wanted, settings: &[u8], captures: Captures, start: F) -> u8
 where
     R: Files + Input + Print + Eprint + AllocGlobal + Threads + Wait + Clock + Sync,
     R::Reader: IsTerminal,
     F: FnOnce() -> io::Result<Blocks>,
     requires { F.IsAlwaysCallable start }
 {
-    if task == Task::Capture || !captures.paths.is_empty() {
-        return run_with_captures(rt, task, settings, counting, captures, start);
+    if wanted.task == Task::Capture || !captures.paths.is_empty() {
+        return run_with_captures(rt, wanted, settings, captures, start);
     }
     if !has_words(&captures) {
         let mut rows = FirstOctets::new(rt.reader());
-        let status = run_task(rt, task, settings, counting, &mut rows);
+        let status = run_task(rt, &wanted, settings, &mut rows);
         return print_mark(rt, status, rows.mark());
     }
     print_bad_words(
@@ -236,82 +291,83 @@ fn print_mark<R: Eprint>(rt: &R, status: u8, mark: Mark) -> u8
 }
 
 /// Does a task with settings and rows, and gives the status. Rows that are refused, and a fault, are told on standard error.
-fn run_task<R, I>(rt: &R, task: Task, settings: &[u8], counting: &Counting, rows: &mut I) -> u8
+fn run_task<R, I>(rt: &R, wanted: &Wanted, settings: &[u8], rows: &mut I) -> u8
 where
-    R: Print + Eprint + AllocGlobal + Threads + Wait + Sync,
+    R: Print + Eprint + AllocGlobal + Threads + Wait + Clock + Sync,
     I: Read,
 {
-    match task {
-        Task::Run(query) => print_ran(rt, write_run(rt, query, settings, rows)),
-        Task::Total(output) => print_ran(rt, write_total(rt, output, settings, rows)),
-        Task::Count => print_ran(rt, write_counts(rt, counting, settings, rows)),
-        Task::Check => match write_check(rt, settings, rows) {
-            Ok(checked) => check_status(checked),
-            Err(fault) => print_fault(rt, fault),
-        },
-        Task::Follow(format) => match write_answers(rt, format, settings, rows) {
-            Ok(followed) => followed_status(followed),
-            Err(fault) => print_fault(rt, fault),
-        },
-        Task::Capture => BAD_INPUT,
-    }
+    let progress = wanted.progress;
+    let mut counted = CountedRows::new(rt, progress, rows);
+    let mut writer = StandardOutput::new(rt, progress);
+    let ran = match wanted.task {
+        Task::Follow(format) => {
+            return run_follow(rt, format, wanted.length, settings, &mut counted);
+        }
+        Task::Window => {
+            return match wanted.length {
+                Some(length) => run_window(rt, length, &mut counted),
+                None => BAD_INPUT,
+            };
+        }
+        Task::Capture => return BAD_INPUT,
+        Task::Check => {
+            let checked = write_check(rt, settings, &mut counted, &mut writer);
+            progress.take_away(rt);
+            return match checked {
+                Ok(checked) => check_status(checked),
+                Err(fault) => print_fault(rt, fault),
+            };
+        }
+        Task::Run(query) => write_run(rt, query, settings, &mut counted, &mut writer),
+        Task::Total(output) => write_total(rt, output, settings, &mut counted, &mut writer),
+        Task::Count => write_counts(rt, &wanted.counting, settings, &mut counted, &mut writer),
+    };
+    progress.take_away(rt);
+    print_ran(rt, ran)
 }
 
 /// Plays the script after the settings, and writes what the query asks for. What `run` promises ends here, so that the callers are
 /// proved over little; and so do the promises of the four below.
-fn write_run<R: Print + AllocGlobal, I: Read>(
+fn write_run<R: AllocGlobal, I: Read, W: Write>(
     rt: &R,
     query: Query,
     settings: &[u8],
     rows: &mut I,
+    writer: &mut W,
 ) -> Result<Ran, RunFault> {
-    run(rt, rows, settings, query, &mut io::writer(rt))
+    run(rt, rows, settings, query, writer)
 }
 
 /// Plays rows after the settings as they are read, and writes an output of what they leave.
-fn write_total<R: Print + AllocGlobal, I: Read>(
+fn write_total<R: AllocGlobal, I: Read, W: Write>(
     rt: &R,
     output: Output,
     settings: &[u8],
     rows: &mut I,
+    writer: &mut W,
 ) -> Result<Ran, RunFault> {
-    total(rt, rows, settings, output, &mut io::writer(rt))
+    total(rt, rows, settings, output, writer)
 }
 
 /// Plays rows after the settings as they are read, and writes counts of the messages that they leave.
-fn write_counts<R: Print + AllocGlobal, I: Read>(
+fn write_counts<R: AllocGlobal, I: Read, W: Write>(
     rt: &R,
     counting: &Counting,
     settings: &[u8],
     rows: &mut I,
+    writer: &mut W,
 ) -> Result<Ran, RunFault> {
-    count(rt, rows, settings, counting, &mut io::writer(rt))
+    count(rt, rows, settings, counting, writer)
 }
 
 /// Checks the script after the settings, and writes what was found.
-fn write_check<R: Print + AllocGlobal + Threads + Wait + Sync, I: Read>(
+fn write_check<R: AllocGlobal + Threads + Wait + Sync, I: Read, W: Write>(
     rt: &R,
     settings: &[u8],
     rows: &mut I,
+    writer: &mut W,
 ) -> Result<Checked, RunFault> {
-    check(rt, rows, settings, &mut io::writer(rt), &NoGate)
-}
-
-/// Plays rows after the settings as they come, and writes the answers to what is asked among them. A refused row is told at once.
-fn write_answers<R: Print + Eprint + AllocGlobal, I: Read>(
-    rt: &R,
-    format: Format,
-    settings: &[u8],
-    rows: &mut I,
-) -> Result<Followed, RunFault> {
-    follow(
-        rt,
-        rows,
-        settings,
-        format,
-        &mut io::writer(rt),
-        &mut ErrorLines::new(rt),
-    )
+    check(rt, rows, settings, writer, &NoGate)
 }
 
 /// Prints the rows that were refused, or the fault, and gives the status.

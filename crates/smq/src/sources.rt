@@ -1,4 +1,5 @@
 //! Captures that are read one after the other.
+use crate::progress::now;
 use smq_capture::{Capture, Fault, Reading, Sink, Step};
 use std::alloc::Global;
 use std::fs;
@@ -55,14 +56,10 @@ impl<'a, R: Files + Clock + AllocGlobal, I: Read> Sources<'a, R, I> {
         match step {
             Step::GoesOn => Ok(true),
             Step::Waits => {
-                let now = match self.rt.monotonic() {
-                    Ok(now) => now
-                        .as_secs()
-                        .saturating_mul(1_000)
-                        .saturating_add(u64::from(now.subsec_millis())),
+                match now(self.rt) {
+                    Ok(now) => capture.pass_time(now)?,
                     Err(error) => return Err(Fault::Read(error)),
-                };
-                capture.pass_time(now)?;
+                }
                 Ok(true)
             }
             Step::Ended => Ok(self.pass()),

@@ -1,3 +1,9 @@
 pub mod Row
 pub mod Clock
+pub mod Numbers
+pub mod Moments
+pub mod Probe
+pub mod Beginning
+pub mod Ending
+pub mod Ended
 pub mod Known

@@ -1,19 +1,18 @@
 //! Captures, read one after the other as one.
-use crate::clock::{Clock, Doubted};
+use crate::clock::Clock;
 use crate::fault::Fault;
 use crate::links::Link;
 use crate::notice::{Noted, Notice};
 use crate::output::Output;
-use crate::room::Room;
+use crate::reading::{Format, LONGEST_HEAD, Reading, Step};
 use crate::sessions::Sessions;
 use crate::sink::Sink;
 use crate::ticks::Ticks;
-use smq_packets::{
-    Block, FileHead, Fragments, LinkType, MOST_INTERFACES, NoBlock, Section, Unread,
-    read_file_head, read_record, read_record_head, read_segment,
-};
+use smq_packets::{Block, Fragments, MOST_INTERFACES, NoBlock};
 use std::alloc::{AllocError, Global};
 use std::io::{ErrorKind, Read};
+
+mod packets;
 
 /// The most rows and octets of a script that a report takes.
 const MOST_ROWS: u64 = 1_000_000;
@@ -51,84 +50,6 @@ pub struct Capture<S> {
     headers: Noted,
     malformed: Noted,
     not_read: Noted,
-}
-
-/// The most octets of what stands before the first packet's head of a pcap file.
-const LONGEST_HEAD: usize = 24;
-
-/// What became of a read.
-#[derive(Clone, Copy, Debug, PartialEq, Eq)]
-pub enum Step {
-    /// More may follow.
-    GoesOn,
-    /// Nothing came within the reader's time (`TimedOut`).
-    Waits,
-    /// The file ended, or can't be read on.
-    Ended,
-}
-
-/// A file of packets that is being read.
-#[derive(Drop)]
-pub struct Reading {
-    room: Room,
-    format: Option<Format>,
-    /// How many octets of a packet that was taken are still to come.
-    skipped: u64,
-}
-
-impl Reading {
-    /// Nothing of it was read yet.
-    pub fn new(alloc: Global) -> Reading {
-        Reading {
-            room: Room::new(alloc),
-            format: None,
-            skipped: 0,
-        }
-    }
-
-    /// Learns from its first octets which file it is.
-    fn begin(&mut self, alloc: Global) -> Result<(), Fault> {
-        let format = match self.room.unused() {
-            [0x1F, 0x8B, ..] => return Err(Fault::Packed),
-            [0x0A, 0x0D, 0x0D, 0x0A, ..] => Format::Blocks(Section::new(alloc)),
-            octets => {
-                let head = read_file_head(octets)?;
-                self.room.use_up(LONGEST_HEAD);
-                Format::Records(head)
-            }
-        };
-        self.format = Some(format);
-        Ok(())
-    }
-}
-
-/// How the packets of a file follow one another.
-#[derive(Drop)]
-enum Format {
-    Records(FileHead),
-    Blocks(Section),
-}
-
-impl Format {
-    /// Whether all octets of the packet at the front were captured, where one is there.
-    fn is_whole(&self, octets: &[u8]) -> bool {
-        match self {
-            Format::Records(head) => match read_record_head(*head, octets) {
-                Some(record) => record.captured >= record.length,
-                None => true,
-            },
-            // (the length that was captured, and that of the packet)
-            Format::Blocks(_) => octets.get(20..24) == octets.get(24..28),
-        }
-    }
-
-    /// What stands at the front of octets.
-    fn read<'a>(&mut self, octets: &'a [u8]) -> Result<Block<'a>, NoBlock> {
-        match self {
-            Format::Records(head) => read_record(*head, octets),
-            Format::Blocks(section) => section.read_block(octets),
-        }
-    }
 }
 
 /// What was taken of octets: how many of them, how many to skip behind them, and whether more may follow.
@@ -169,6 +90,11 @@ impl<S: Sink + Drop> Capture<S> {
     /// Where what is read of the captures goes.
     pub fn sink(&mut self) -> &mut S {
         &mut self.sessions.output.sink
+    }
+
+    /// How many packets were read.
+    pub fn packets(&self) -> u64 {
+        self.packets
     }
 
     /// Reads a pcap or pcapng file to its end.
@@ -372,85 +298,6 @@ impl<S: Sink + Drop> Capture<S> {
             self.lost_before = self.lost_before.saturating_add(*lost);
         }
         self.lost.clear();
-    }
-
-    /// Takes the next packet.
-    fn take_packet(
-        &mut self,
-        link_type: LinkType,
-        moment: u64,
-        is_whole: bool,
-        frame: &[u8],
-    ) -> Result<(), Fault> {
-        self.packets = self.packets.saturating_add(1);
-        let number = self.packets;
-        self.take_doubted(Some(moment))?;
-        if self.clock.believes(moment) {
-            self.tick(moment)?;
-            self.take_frame(link_type, number, moment, is_whole, frame)
-        } else {
-            Ok(
-                self.clock
-                    .doubt(self.alloc, link_type, number, moment, is_whole, frame)?,
-            )
-        }
-    }
-
-    /// Takes the packet whose moment wasn't believed yet, where the next one's is this, if there is one.
-    fn take_doubted(&mut self, next: Option<u64>) -> Result<(), Fault> {
-        let Some(doubted) = self.clock.take_doubted() else {
-            return Ok(());
-        };
-        let Doubted {
-            link_type,
-            number,
-            moment,
-            is_whole,
-            frame,
-        } = doubted;
-        let before = self.clock.newest();
-        let Some(given) = self.clock.settle(moment, next) else {
-            return Err(Fault::Late(number));
-        };
-        if given != moment {
-            let ahead = moment.saturating_sub(before.unwrap_or(given));
-            self.sessions.output.tell(Notice::Moment { number, ahead })?;
-        }
-        self.tick(given)?;
-        self.take_frame(link_type, number, given, is_whole, frame.as_slice())
-    }
-
-    /// Takes the frame of a packet. A segment whose datagram came in fragments is taken with the last of them.
-    fn take_frame(
-        &mut self,
-        link_type: LinkType,
-        number: u64,
-        moment: u64,
-        is_whole: bool,
-        frame: &[u8],
-    ) -> Result<(), Fault> {
-        match read_segment(link_type, frame) {
-            Ok(segment) => self.sessions.take(number, moment, &segment),
-            Err(Unread::Fragment(fragment)) => {
-                match self.fragments.take(self.alloc, moment, fragment, frame)? {
-                    Some(whole) => match whole.read_segment() {
-                        Ok(segment) => self.sessions.take(number, moment, &segment),
-                        Err(why) => Ok(self.note_unread(number, is_whole, why)),
-                    },
-                    None => Ok(()),
-                }
-            }
-            Err(why) => Ok(self.note_unread(number, is_whole, why)),
-        }
-    }
-
-    /// Takes note of why a packet gives no segment.
-    fn note_unread(&mut self, number: u64, is_whole: bool, why: Unread) {
-        match why {
-            Unread::CutOff if !is_whole => self.headers.add(number),
-            Unread::Malformed | Unread::TooDeep => self.malformed.add(number),
-            Unread::CutOff | Unread::OtherProtocol | Unread::Fragment(_) => {}
-        }
     }
 
     /// Tells how much is missing, and whether the script is too long for a report where that is wanted.

@@ -6,14 +6,14 @@ use smq_packets::LinkType;
 use std::alloc::{AllocError, Global};
 
 /// The last moment that a packet may have, in ms since 1970: the end of 2099.
-pub const LAST_MOMENT: u64 = 4_102_444_800_000;
+pub(crate) const LAST_MOMENT: u64 = 4_102_444_800_000;
 
 /// A moment that is further ahead of all before, in ms, is believed once the next packet's isn't as far before it.
-pub const AHEAD: u64 = 3_600_000;
+pub(crate) const AHEAD: u64 = 3_600_000;
 
 /// A packet whose moment isn't believed yet.
 #[derive(Drop)]
-pub struct Doubted {
+pub(crate) struct Doubted {
     pub link_type: LinkType,
     pub number: u64,
     pub moment: u64,
@@ -23,14 +23,14 @@ pub struct Doubted {
 
 /// The clock of a capture.
 #[derive(Drop)]
-pub struct Clock {
+pub(crate) struct Clock {
     newest: Option<u64>,
     doubted: Option<Doubted>,
 }
 
 impl Clock {
     /// Before the first packet.
-    pub fn new() -> Clock
+    pub(crate) fn new() -> Clock
         ensures { result.newest ≡ None }
     {
         Clock {
@@ -40,21 +40,21 @@ impl Clock {
     }
 
     /// The newest moment that is believed, or 0.
-    pub fn now(&self) -> u64
+    pub(crate) fn now(&self) -> u64
         ensures { result ≡ unwrap_or self.now.newest 0 }
     {
         self.newest.unwrap_or(0)
     }
 
     /// The newest moment that is believed.
-    pub fn newest(&self) -> Option<u64>
+    pub(crate) fn newest(&self) -> Option<u64>
         ensures { result ≡ self.now.newest }
     {
         self.newest
     }
 
     /// Whether a moment is believed at once, which then is the newest if it is later.
-    pub fn believes(&mut self, moment: u64) -> bool
+    pub(crate) fn believes(&mut self, moment: u64) -> bool
         ensures believed { result ≡ is_believed self.old.newest moment }
         ensures newest { self.new.newest ≡ if is_believed self.old.newest moment
             then newest_with self.old.newest moment else self.old.newest }
@@ -72,7 +72,7 @@ impl Clock {
     }
 
     /// Keeps a packet whose moment isn't believed yet.
-    pub fn doubt(
+    pub(crate) fn doubt(
         &mut self,
         alloc: Global,
         link_type: LinkType,
@@ -93,13 +93,13 @@ impl Clock {
     }
 
     /// The packet whose moment isn't believed yet, if there is one.
-    pub fn take_doubted(&mut self) -> Option<Doubted> {
+    pub(crate) fn take_doubted(&mut self) -> Option<Doubted> {
         self.doubted.take()
     }
 
     /// The moment that a packet has whose own isn't believed at once, where the next one's is this, if there is one: its own where that
     /// isn't far behind; else the newest, or the next one's. None where there is none of these.
-    pub fn settle(&mut self, moment: u64, next: Option<u64>) -> Option<u64>
+    pub(crate) fn settle(&mut self, moment: u64, next: Option<u64>) -> Option<u64>
         ensures settled { result ≡ settled self.old.newest moment next }
         ensures newest { self.new.newest ≡ newest_settled self.old.newest moment next }
         ensures doubted { self.new.doubted ≡ self.old.doubted }

@@ -7,18 +7,23 @@ use crate::direction::{Both, Direction};
 use crate::ended::{Span, Spans};
 use crate::ends::Ends;
 use crate::fault::Fault;
-use crate::notice::{About, Behind, Noted, Notice, Sender};
+use crate::least::least;
+use crate::notice::{Notice, Sender};
+use crate::numbers::{Heard, behind};
 use crate::output::Output;
 use crate::side::Side;
 use crate::sink::{Piece, SessionLine, Sink};
+use crate::strays::Strays;
 use smq_packets::{ACK, End, FIN, RST, SYN, Segment};
-use smq_reassembly::{Packet, WINDOW};
-use smq_streams::{Missing, Stream, Why};
+use smq_reassembly::Packet;
+use smq_streams::Stream;
 use std::alloc::{AllocError, Global};
 use std::collections::VecDeque;
 
+mod another;
 mod gaps;
 mod rows;
+mod told;
 
 /// What a row that waits takes besides its octets.
 const ROW: u64 = 160;
@@ -42,17 +47,16 @@ struct Row {
     cuts: Vec<Cut>,
 }
 
-/// A segment that isn't within the window of its direction: who sent it, the number behind it, and what it acknowledges.
+/// A segment that isn't within the window of its direction: who sent it, and what it told.
 #[derive(Clone, Copy)]
 struct Stray {
     sender: Side,
-    behind: u32,
-    acknowledged: u32,
+    heard: Heard,
 }
 
 /// One connection.
 #[derive(Drop)]
-pub struct Connection {
+pub(crate) struct Connection {
     link: u32,
     client: End,
     centre: End,
@@ -71,6 +75,7 @@ pub struct Connection {
     /// The sessions that weren't told.
     lines: VecDeque<SessionLine>,
     stray: Option<Stray>,
+    strays: Strays,
     is_reset: bool,
     /// The last packet.
     seen: u64,
@@ -83,7 +88,7 @@ pub struct Connection {
 
 impl Connection {
     /// A connection that begins with a packet.
-    pub fn new(
+    pub(crate) fn new(
         alloc: Global,
         link: u32,
         client: End,
@@ -120,6 +125,7 @@ impl Connection {
             centre_row: 0,
             lines,
             stray: None,
+            strays: Strays::new(alloc),
             is_reset: false,
             seen: number,
             due: None,
@@ -130,12 +136,12 @@ impl Connection {
     }
 
     /// Its first session.
-    pub fn first(&self) -> u64 {
+    pub(crate) fn first(&self) -> u64 {
         self.first
     }
 
     /// The last packet of it.
-    pub fn seen(&self) -> u64 {
+    pub(crate) fn seen(&self) -> u64 {
         self.seen
     }
 
@@ -163,13 +169,13 @@ impl Connection {
     }
 
     /// Whether it ended, and nothing waits.
-    pub fn is_done(&self) -> bool {
+    pub(crate) fn is_done(&self) -> bool {
         let is_finished = self.both.client.is_finished() && self.both.centre.is_finished();
         (self.is_reset || is_finished) && !self.is_open() && self.rows.is_empty()
     }
 
     /// How much memory what waits takes, at most.
-    pub fn weight(&self) -> u64 {
+    pub(crate) fn weight(&self) -> u64 {
         self.both
             .client
             .weight()
@@ -178,7 +184,7 @@ impl Connection {
     }
 
     /// When what waits is given up, if anything does.
-    pub fn deadline(&mut self) -> Option<u64> {
+    pub(crate) fn deadline(&mut self) -> Option<u64> {
         least(
             self.both.client.stream.deadline(),
             self.both.centre.stream.deadline(),
@@ -186,7 +192,7 @@ impl Connection {
     }
 
     /// Since when something waits.
-    pub fn waits_since(&self) -> Option<u64> {
+    pub(crate) fn waits_since(&self) -> Option<u64> {
         least(
             self.both.client.stream.opened(),
             self.both.centre.stream.opened(),
@@ -194,7 +200,7 @@ impl Connection {
     }
 
     /// The octets of its directions.
-    pub fn spans(&self, ends: &Ends) -> Spans {
+    pub(crate) fn spans(&self, ends: &Ends) -> Spans {
         let client = span_of(&self.both.client.stream);
         let centre = span_of(&self.both.centre.stream);
         if self.client == ends.low {
@@ -210,53 +216,8 @@ impl Connection {
         }
     }
 
-    /// Whether a SYN is that of the direction of its sender.
-    pub fn has_syn(&self, segment: &Segment) -> bool {
-        let sender = self.sender(segment);
-        let stream = &self.both.of(sender).stream;
-        let other = &self.both.of(sender.other()).stream;
-        match stream.first() {
-            Some(first) => segment.sequence.wrapping_add(1) == first,
-            None => segment.has(ACK) && other.first() == Some(segment.acknowledged),
-        }
-    }
-
-    /// Whether a segment is of this connection, by its numbers.
-    pub fn fits(&self, segment: &Segment) -> bool {
-        self.both.of(self.sender(segment)).fits(segment)
-    }
-
-    /// Whether a segment shows that another connection has these ends: it acknowledges what stands outside of this one and was seen.
-    pub fn is_another(&self, segment: &Segment) -> bool {
-        let Some(stray) = self.stray else {
-            return false;
-        };
-        let sender = self.sender(segment);
-        segment.has(ACK)
-            && stray.sender != sender
-            && !self
-                .both
-                .of(stray.sender)
-                .fits_acknowledged(segment.acknowledged)
-            && segment.acknowledged.wrapping_sub(stray.behind) as u64 <= WINDOW
-            && is_near(segment.sequence, stray.acknowledged)
-    }
-
-    /// Takes note of a segment that isn't within its window.
-    pub fn note_stray(&mut self, number: u64, segment: &Segment) {
-        let sender = self.sender(segment);
-        if segment.length > 0 {
-            self.both.of_mut(sender).outside.add(number);
-        }
-        self.stray = Some(Stray {
-            sender,
-            behind: segment.sequence.wrapping_add(length_of(segment)),
-            acknowledged: segment.acknowledged,
-        });
-    }
-
     /// Begins the direction of an end by a SYN of this number.
-    pub fn begin_by_syn(&mut self, side: Side, sequence: u32) {
+    pub(crate) fn begin_by_syn(&mut self, side: Side, sequence: u32) {
         self.both.of_mut(side).begin_by_syn(sequence);
         let has_syn = self.both.client.has_syn && self.both.centre.has_syn;
         if let Some(line) = self.lines.front_mut() {
@@ -267,7 +228,7 @@ impl Connection {
     }
 
     /// Takes the octets that came with the SYN of an end.
-    pub fn take_syn_octets<S: Sink>(
+    pub(crate) fn take_syn_octets<S: Sink>(
         &mut self,
         output: &mut Output<S>,
         side: Side,
@@ -291,7 +252,7 @@ impl Connection {
     }
 
     /// Takes a segment: its octets become rows as far as nothing is missing before them.
-    pub fn take<S: Sink>(
+    pub(crate) fn take<S: Sink>(
         &mut self,
         output: &mut Output<S>,
         number: u64,
@@ -350,16 +311,14 @@ impl Connection {
         }
         let direction = self.both.of_mut(sender);
         if is_reset {
-            if direction.stream.place(sequence) == Some(direction.stream.next()) {
-                self.is_reset = true;
-            }
+            self.is_reset = self.is_reset || direction.is_reset_by(sequence);
             return Ok(());
         }
-        let behind = sequence.wrapping_add(length_of(segment));
+        let end = behind(sequence, segment.length);
         let is_exact = segment.length > 0 || segment.has(FIN);
-        direction.stream.note_sent(behind, is_exact);
+        direction.stream.note_sent(end, is_exact);
         if segment.has(FIN) {
-            direction.note_fin(behind);
+            direction.note_fin(end);
         }
         Ok(())
     }
@@ -422,79 +381,6 @@ impl Connection {
         self.both.of_mut(sender).stream.watch(moment);
         self.write(output)
     }
-
-    /// Gives up all that waits, writes all rows, and tells what is missing and was changed.
-    pub fn finish<S: Sink>(
-        &mut self,
-        output: &mut Output<S>,
-        moment: u64,
-        why: Why,
-    ) -> Result<(), Fault> {
-        if !output.is_strict {
-            self.give_up(output, moment, Some(why))?;
-            self.end_search(output, Side::Client)?;
-            self.end_search(output, Side::Centre)?;
-        }
-        self.write(output)?;
-        self.tell_side(output, Side::Client, moment, why)?;
-        self.tell_side(output, Side::Centre, moment, why)?;
-        self.tell_sessions(output, true)
-    }
-
-    /// Tells what is missing and was changed in a direction.
-    fn tell_side<S: Sink>(
-        &mut self,
-        output: &mut Output<S>,
-        side: Side,
-        moment: u64,
-        why: Why,
-    ) -> Result<(), Fault> {
-        let sender = self.label(side);
-        if self.both.of(side).stream.first().is_none()
-            && self.both.of(side.other()).stream.end() > 0
-        {
-            output.tell(Notice::NoPacket(sender))?;
-        }
-        if let Some(missing) = self.both.of(side).stream.missing_tail() {
-            let sender = self.note_missing(output, side, missing, moment, why)?;
-            tell_gap(output, sender, missing, Behind::Nothing)?;
-        }
-        self.tell_passed(output, side)?;
-        let direction = self.both.of(side);
-        let outside = direction.outside;
-        let cut = direction.cut;
-        let raised = direction.raised;
-        tell_packets(output, sender, About::Outside, outside)?;
-        tell_packets(output, sender, About::Cut, cut)?;
-        tell_packets(output, sender, About::Raised, raised)
-    }
-
-    /// Tells that it is forgotten, as it was quiet for long.
-    pub fn tell_quiet<S: Sink>(&self, output: &mut Output<S>) -> Result<(), Fault> {
-        output.tell(Notice::Quiet {
-            session: self.last,
-            link: self.link,
-        })
-    }
-}
-
-/// The lesser of two numbers, where there is one.
-fn least(one: Option<u64>, other: Option<u64>) -> Option<u64> {
-    match (one, other) {
-        (Some(one), Some(other)) if other < one => Some(other),
-        (Some(one), _) => Some(one),
-        (None, other) => other,
-    }
-}
-
-/// How many octets a segment had, as a part of sequence numbers.
-fn length_of(segment: &Segment) -> u32 {
-    (segment.length as u64 % 0x1_0000_0000) as u32
-}
-
-/// Whether two sequence numbers are within a window of each other.
-fn is_near(one: u32, other: u32) -> bool {
-    one.wrapping_sub(other) as u64 <= WINDOW || other.wrapping_sub(one) as u64 <= WINDOW
 }
 
 /// The octets of a direction, if its first is known.
@@ -507,37 +393,5 @@ fn span_of(stream: &Stream) -> Option<Span> {
     Some(Span {
         first: stream.first()?,
         length,
-    })
-}
-
-/// Tells something of packets, where there are any.
-fn tell_packets<S: Sink>(
-    output: &mut Output<S>,
-    sender: Sender,
-    about: About,
-    noted: Noted,
-) -> Result<(), Fault> {
-    if noted.count > 0 {
-        output.tell(Notice::Packets {
-            sender,
-            about,
-            noted,
-        })?;
-    }
-    Ok(())
-}
-
-/// Tells of octets that are missing.
-fn tell_gap<S: Sink>(
-    output: &mut Output<S>,
-    sender: Sender,
-    missing: Missing,
-    behind: Behind,
-) -> Result<(), Fault> {
-    output.tell(Notice::Gap {
-        sender,
-        first: missing.from,
-        last: missing.until.saturating_sub(1),
-        behind,
     })
 }

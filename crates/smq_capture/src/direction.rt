@@ -1,5 +1,9 @@
 //! One direction of a connection, and its sessions.
+ghost use Rattle.std.specs.Prelude.{◌≡◌, ◌<◌, ℕ, IfSome, IsSome, IsTrue, [], ◌∷◌, max, Some, None, false};
+
+use crate::ending::{fin_with, is_ended, is_reset};
 use crate::notice::Noted;
+use crate::probe::{Probe, may_be_probe};
 use crate::side::Side;
 use smq_packets::Segment;
 use smq_streams::{Fit, Framer, Stream};
@@ -8,7 +12,7 @@ use std::collections::VecDeque;
 
 /// A session that begins with the first PDU that begins at a place or behind it.
 #[derive(Clone, Copy)]
-pub struct Following {
+pub(crate) struct Following {
     pub session: u64,
     pub place: u64,
 }
@@ -22,21 +26,13 @@ struct Top {
 
 /// A gap that was given up, behind which no PDU was seen to begin yet.
 #[derive(Clone, Copy)]
-pub struct Sought {
+pub(crate) struct Sought {
     pub session: u64,
-}
-
-/// A segment of one octet that may be garbage.
-#[derive(Clone, Copy)]
-pub struct Probe {
-    pub place: u64,
-    pub sequence: u32,
-    pub octet: u8,
 }
 
 /// One direction of a connection.
 #[derive(Drop)]
-pub struct Direction {
+pub(crate) struct Direction {
     pub stream: Stream,
     /// Whether a SYN, or the answer to one, told the first octet.
     pub has_syn: bool,
@@ -61,7 +57,7 @@ pub struct Direction {
 
 /// A place of a row where sessions change: so many octets are of a session, the others of another.
 #[derive(Clone, Copy)]
-pub struct Settled {
+pub(crate) struct Settled {
     pub before: u64,
     pub place: usize,
     pub after: u64,
@@ -69,7 +65,7 @@ pub struct Settled {
 
 impl Direction {
     /// A direction of a session, of which nothing is known.
-    pub fn new(alloc: Global, session: u64) -> Direction {
+    pub(crate) fn new(alloc: Global, session: u64) -> Direction {
         Direction {
             stream: Stream::new(alloc),
             has_syn: false,
@@ -89,23 +85,27 @@ impl Direction {
     }
 
     /// Begins with a SYN of this number.
-    pub fn begin_by_syn(&mut self, sequence: u32) {
+    pub(crate) fn begin_by_syn(&mut self, sequence: u32) {
         self.stream.begin(sequence.wrapping_add(1), false);
         self.has_syn = true;
     }
 
     /// Whether a segment is of this direction, by its sequence number.
-    pub fn fits(&self, segment: &Segment) -> bool {
+    pub(crate) fn fits(&self, segment: &Segment) -> bool {
         self.stream.fit(segment.sequence, segment.length as u64) == Fit::Within
     }
 
     /// Whether the other end may acknowledge a number of this direction.
-    pub fn fits_acknowledged(&self, acknowledged: u32) -> bool {
+    pub(crate) fn fits_acknowledged(&self, acknowledged: u32) -> bool {
         self.stream.fit(acknowledged, 0) == Fit::Within
     }
 
     /// Takes note that the other end has all octets before a sequence number.
-    pub fn note_acknowledged(&mut self, sequence: u32, moment: u64) -> Result<(), AllocError> {
+    pub(crate) fn note_acknowledged(
+        &mut self,
+        sequence: u32,
+        moment: u64,
+    ) -> Result<(), AllocError> {
         if self.fits_acknowledged(sequence) {
             let place = self.stream.place(sequence).unwrap_or(0);
             self.acknowledged = self.acknowledged.max(place);
@@ -115,14 +115,19 @@ impl Direction {
 
     /// Sets a segment aside that may be a probe which keeps the connection alive: it has one octet, which the other end acknowledged
     /// before, and octets between it and all captured ones are missing. The octet of a probe is garbage (RFC 9293, 3.8.4).
-    pub fn sets_aside(&mut self, sequence: u32, octets: &[u8]) -> bool {
+    pub(crate) fn sets_aside(&mut self, sequence: u32, octets: &[u8]) -> bool
+        ensures aside { IsTrue result → IsSome self.new.probe }
+        ensures octet { IsTrue result → IfSome self.new.probe (λ p. (octets.now ≡ p.octet ∷ []) × (p.sequence ≡ sequence)
+            × (p.place < self.old.acknowledged)) }
+        ensures same { result ≡ false → self.new ≡ self.old }
+    {
         let [octet] = octets else {
             return false;
         };
         let Some(place) = self.stream.place(sequence) else {
             return false;
         };
-        let is_probe = self.stream.top() < place && place < self.acknowledged;
+        let is_probe = may_be_probe(place, self.stream.top(), self.acknowledged);
         if is_probe {
             self.probe = Some(Probe {
                 place,
@@ -134,7 +139,11 @@ impl Direction {
     }
 
     /// The segment that was set aside, once its octet is the next; none where another segment had the octet.
-    pub fn take_aside(&mut self) -> Option<Probe> {
+    pub(crate) fn take_aside(&mut self) -> Option<Probe>
+        ensures due { IfSome result (λ p. (self.old.probe ≡ Some p) × (p.place ≡ self.old.stream.order.next)
+            × (self.new.probe ≡ None)) }
+        ensures early { (p : Probe) → self.old.probe ≡ Some p → self.old.stream.order.next < p.place → self.new ≡ self.old }
+    {
         let probe = self.probe?;
         if self.stream.next() < probe.place {
             return None;
@@ -148,19 +157,31 @@ impl Direction {
     }
 
     /// Takes note of a FIN behind octets.
-    pub fn note_fin(&mut self, sequence: u32) {
-        if self.fin.is_none() {
-            self.fin = self.stream.place(sequence);
-        }
+    pub(crate) fn note_fin(&mut self, sequence: u32)
+        ensures { (place : ℕ) → self.old.fin ≡ Some place → self.new ≡ self.old }
+    {
+        self.fin = fin_with(self.fin, self.stream.place(sequence));
     }
 
     /// Whether all octets up to a FIN came.
-    pub fn is_finished(&self) -> bool {
-        self.fin == Some(self.stream.next()) && !self.stream.has_gap()
+    pub(crate) fn is_finished(&self) -> bool
+        ensures { IsTrue result → (self.now.fin ≡ Some self.now.stream.order.next) × (self.now.stream.order.waiting ≡ []) }
+    {
+        is_ended(self.fin, self.stream.next(), self.stream.has_gap())
+    }
+
+    /// Whether a reset with this number ends the connection.
+    pub(crate) fn is_reset_by(&self, sequence: u32) -> bool {
+        is_reset(self.stream.place(sequence), self.stream.next())
     }
 
     /// Takes note of what a packet brought while the other direction waits, or forgets that.
-    pub fn note_top(&mut self, number: u64, before: u64, waits: bool) -> Result<(), AllocError> {
+    pub(crate) fn note_top(
+        &mut self,
+        number: u64,
+        before: u64,
+        waits: bool,
+    ) -> Result<(), AllocError> {
         if !waits {
             self.tops.clear();
             return Ok(());
@@ -172,7 +193,7 @@ impl Direction {
     }
 
     /// The place behind all octets that packets before one have; it isn't before the other direction waits.
-    pub fn top_before(&self, number: u64) -> u64 {
+    pub(crate) fn top_before(&self, number: u64) -> u64 {
         let mut low: usize = 0;
         let mut high = self.tops.len();
         for _ in 0..64 {
@@ -192,14 +213,17 @@ impl Direction {
     }
 
     /// How much memory what waits takes, at most.
-    pub fn weight(&self) -> u64 {
+    pub(crate) fn weight(&self) -> u64 {
         self.stream
             .weight()
             .saturating_add((self.tops.len() as u64).saturating_mul(16))
     }
 
     /// The moment of a packet, or the last one where that is later.
-    pub fn raise_moment(&mut self, number: u64, moment: u64) -> u64 {
+    pub(crate) fn raise_moment(&mut self, number: u64, moment: u64) -> u64
+        ensures value { result ≡ max self.old.moment moment }
+        ensures kept { self.new.moment ≡ max self.old.moment moment }
+    {
         if moment < self.moment {
             self.raised.add(number);
         } else {
@@ -209,7 +233,7 @@ impl Direction {
     }
 
     /// Tells octets at a place, which follow those settled before, their sessions: all are of one, or the last ones of the next.
-    pub fn settle(&mut self, place: u64, octets: &[u8]) -> Settled {
+    pub(crate) fn settle(&mut self, place: u64, octets: &[u8]) -> Settled {
         let before = self.session;
         if let Some(following) = self.following {
             let skipped = following.place.saturating_sub(place);
@@ -246,7 +270,7 @@ impl Direction {
     }
 
     /// Begins a session with the next octets.
-    pub fn begin_session(&mut self, session: u64) {
+    pub(crate) fn begin_session(&mut self, session: u64) {
         self.session = session;
         self.following = None;
         self.framer = Framer::new();
@@ -255,14 +279,14 @@ impl Direction {
 
 /// A direction of two, by the end that sends it.
 #[derive(Drop)]
-pub struct Both {
+pub(crate) struct Both {
     pub client: Direction,
     pub centre: Direction,
 }
 
 impl Both {
     /// The direction of an end.
-    pub fn of(&self, side: Side) -> &Direction {
+    pub(crate) fn of(&self, side: Side) -> &Direction {
         match side {
             Side::Client => &self.client,
             Side::Centre => &self.centre,
@@ -270,7 +294,7 @@ impl Both {
     }
 
     /// The direction of an end, to be changed.
-    pub fn of_mut(&mut self, side: Side) -> &mut Direction {
+    pub(crate) fn of_mut(&mut self, side: Side) -> &mut Direction {
         match side {
             Side::Client => &mut self.client,
             Side::Centre => &mut self.centre,

@@ -1,5 +1,9 @@
 //! Connections that ended: what comes of them again is no new connection.
+ghost use Rattle.std.specs.Prelude.{◌≡◌, ◌↔◌, IsTrue};
+ghost use Rattle.smq_capture.specs.Ended.{IsOf};
+
 use crate::ends::{Ends, Recent};
+use crate::numbers::behind;
 use smq_packets::{SYN, Segment};
 use std::alloc::{AllocError, Global};
 
@@ -10,34 +14,39 @@ const OF_A_PAIR: usize = 32;
 
 /// The octets of a direction: the number of the first, and how many they are.
 #[derive(Clone, Copy, Debug, PartialEq, Eq)]
-pub struct Span {
+pub(crate) struct Span {
     pub first: u32,
     pub length: u64,
 }
 
 /// The directions of a connection that ended: of the lesser end, and of the other.
 #[derive(Clone, Copy, Debug, PartialEq, Eq)]
-pub struct Spans {
+pub(crate) struct Spans {
     pub low: Option<Span>,
     pub high: Option<Span>,
 }
 
 /// The connections that ended last.
 #[derive(Drop)]
-pub struct Ended {
+pub(crate) struct Ended {
     recent: Recent<Vec<Spans>>,
 }
 
 impl Ended {
     /// No connection ended.
-    pub fn new(alloc: Global) -> Ended {
+    pub(crate) fn new(alloc: Global) -> Ended {
         Ended {
             recent: Recent::new(alloc, PAIRS),
         }
     }
 
     /// Takes a connection that ended.
-    pub fn put(&mut self, alloc: Global, ends: Ends, spans: Spans) -> Result<(), AllocError> {
+    pub(crate) fn put(
+        &mut self,
+        alloc: Global,
+        ends: Ends,
+        spans: Spans,
+    ) -> Result<(), AllocError> {
         let mut all = match self.recent.remove(&ends) {
             Some(all) => all,
             None => Vec::new(alloc),
@@ -51,7 +60,7 @@ impl Ended {
     }
 
     /// Whether a segment is of a connection that ended.
-    pub fn has(&self, ends: &Ends, segment: &Segment) -> bool {
+    pub(crate) fn has(&self, ends: &Ends, segment: &Segment) -> bool {
         let Some(all) = self.recent.get(ends) else {
             return false;
         };
@@ -62,7 +71,7 @@ impl Ended {
                 it.high
             };
             if let Some(span) = span {
-                if is_within(span, segment) {
+                if is_of(span, segment.sequence, segment.length, segment.has(SYN)) {
                     return true;
                 }
             }
@@ -71,12 +80,14 @@ impl Ended {
     }
 }
 
-/// Whether a segment is among the octets of a direction. A SYN has the number before them, a FIN the one behind, and a probe of one
-/// octet the one before.
-fn is_within(span: Span, segment: &Segment) -> bool {
-    if segment.has(SYN) {
-        return segment.sequence.wrapping_add(1) == span.first;
+/// Whether a segment with a number and so many octets, or a SYN, is of a direction.
+fn is_of(span: Span, sequence: u32, length: usize, is_syn: bool) -> bool
+    ensures { IsTrue result ↔ IsOf span sequence length is_syn }
+{
+    let second = behind(sequence, 1);
+    if is_syn {
+        return second == span.first;
     }
-    let far = segment.sequence.wrapping_sub(span.first).wrapping_add(1) as u64;
-    far.saturating_add(segment.length as u64) <= span.length.saturating_add(2)
+    let far = second.wrapping_sub(span.first);
+    far as u128 + length as u128 <= span.length as u128 + 2
 }

@@ -1,18 +1,23 @@
 //! The two ends of a connection, and what is kept of so many of them.
+ghost use Rattle.std.specs.Prelude.{◌≡◌, ◌⊎◌};
+
 use smq_packets::{End, Segment};
 use std::alloc::{AllocError, Global};
 use std::collections::HashMap;
 
 /// The two ends of a connection, the lesser first.
 #[derive(Clone, Copy, Debug, PartialEq, Eq, PartialOrd, Ord, Hash)]
-pub struct Ends {
+pub(crate) struct Ends {
     pub low: End,
     pub high: End,
 }
 
 impl Ends {
     /// The ends of a segment.
-    pub fn of(segment: &Segment) -> Ends {
+    pub(crate) fn of(segment: &Segment) -> Ends
+        ensures { ((result.low ≡ segment.now.source) × (result.high ≡ segment.now.destination))
+            ⊎ ((result.low ≡ segment.now.destination) × (result.high ≡ segment.now.source)) }
+    {
         if segment.source <= segment.destination {
             Ends {
                 low: segment.source,
@@ -29,7 +34,7 @@ impl Ends {
 
 /// What is kept of pairs of ends: of at least the last `room` that came, and at most of twice as many. The others are forgotten.
 #[derive(Drop)]
-pub struct Recent<V> {
+pub(crate) struct Recent<V> {
     room: usize,
     newer: HashMap<Ends, V>,
     older: HashMap<Ends, V>,
@@ -37,7 +42,7 @@ pub struct Recent<V> {
 
 impl<V: Drop> Recent<V> {
     /// Nothing is kept yet.
-    pub fn new(alloc: Global, room: usize) -> Recent<V> {
+    pub(crate) fn new(alloc: Global, room: usize) -> Recent<V> {
         Recent {
             room,
             newer: HashMap::new(alloc),
@@ -46,7 +51,7 @@ impl<V: Drop> Recent<V> {
     }
 
     /// What is kept of ends.
-    pub fn get(&self, ends: &Ends) -> Option<&V> {
+    pub(crate) fn get(&self, ends: &Ends) -> Option<&V> {
         match self.newer.get(ends) {
             Some(value) => Some(value),
             None => self.older.get(ends),
@@ -54,7 +59,7 @@ impl<V: Drop> Recent<V> {
     }
 
     /// Takes what is kept of ends.
-    pub fn remove(&mut self, ends: &Ends) -> Option<V> {
+    pub(crate) fn remove(&mut self, ends: &Ends) -> Option<V> {
         match self.newer.remove(ends) {
             Some(value) => Some(value),
             None => self.older.remove(ends),
@@ -62,7 +67,7 @@ impl<V: Drop> Recent<V> {
     }
 
     /// Keeps something of ends; how many others are forgotten by it.
-    pub fn put(&mut self, alloc: Global, ends: Ends, value: V) -> Result<usize, AllocError> {
+    pub(crate) fn put(&mut self, alloc: Global, ends: Ends, value: V) -> Result<usize, AllocError> {
         let mut forgotten = 0;
         if self.newer.len() >= self.room {
             forgotten = self.older.len();
@@ -74,7 +79,7 @@ impl<V: Drop> Recent<V> {
     }
 
     /// How many are kept.
-    pub fn len(&self) -> usize {
+    pub(crate) fn len(&self) -> usize {
         self.newer.len().saturating_add(self.older.len())
     }
 }

@@ -1,4 +1,8 @@
 //! Connections that are about to begin: a SYN that wasn't answered yet, or the answer to one that wasn't captured.
+ghost use Rattle.std.specs.Prelude.{◌≡◌, ◌↔◌, ◌⊎◌, IfSome, IsTrue, length, Some};
+ghost use Rattle.smq_capture.specs.Beginning.{Answers, IsConfirmed};
+
+use crate::numbers::{is_ahead, reaches};
 use smq_packets::End;
 use std::alloc::{AllocError, Global};
 
@@ -7,7 +11,7 @@ const MOST_OF_SYN: usize = 2_048;
 
 /// A SYN: its packet, its number, and the octets that came with it.
 #[derive(Drop)]
-pub struct Syn {
+pub(crate) struct Syn {
     pub number: u64,
     pub moment: u64,
     pub sequence: u32,
@@ -16,7 +20,7 @@ pub struct Syn {
 
 /// An answer to a SYN: its packet, its number, and what it acknowledges.
 #[derive(Clone, Copy)]
-pub struct Answer {
+pub(crate) struct Answer {
     pub number: u64,
     pub sequence: u32,
     pub acknowledged: u32,
@@ -24,7 +28,7 @@ pub struct Answer {
 
 /// What is known of a connection that is about to begin: the end that calls, its first SYN and its newest, and the newest answer.
 #[derive(Drop)]
-pub struct HalfOpen {
+pub(crate) struct HalfOpen {
     pub caller: End,
     pub first: Option<Syn>,
     pub newest: Option<Syn>,
@@ -33,7 +37,7 @@ pub struct HalfOpen {
 
 impl Syn {
     /// A SYN of a packet. Of more octets than 2,048 none are kept.
-    pub fn new(
+    pub(crate) fn new(
         alloc: Global,
         number: u64,
         moment: u64,
@@ -54,15 +58,30 @@ impl Syn {
     }
 
     /// Whether an answer that acknowledges a number answers it: its number, and all or a part of its octets.
-    pub fn is_answered(&self, acknowledged: u32) -> bool {
-        let far = acknowledged.wrapping_sub(self.sequence.wrapping_add(1));
-        far as u64 <= self.octets.len() as u64
+    pub(crate) fn is_answered(&self, acknowledged: u32) -> bool
+        ensures { IsTrue result ↔ Answers self.now.sequence (length self.now.octets.items) acknowledged }
+    {
+        reaches(
+            self.sequence.wrapping_add(1),
+            acknowledged,
+            self.octets.len() as u64,
+        )
+    }
+}
+
+impl Answer {
+    /// Whether a segment of the end that called, with these numbers, shows that it had this answer.
+    pub(crate) fn is_confirmed(&self, sequence: u32, acknowledged: u32) -> bool
+        ensures { IsTrue result ↔ IsConfirmed self.now sequence acknowledged }
+    {
+        is_ahead(self.acknowledged, sequence)
+            && is_ahead(self.sequence.wrapping_add(1), acknowledged)
     }
 }
 
 impl HalfOpen {
     /// Of an end that calls nothing is known.
-    pub fn new(caller: End) -> HalfOpen {
+    pub(crate) fn new(caller: End) -> HalfOpen {
         HalfOpen {
             caller,
             first: None,
@@ -72,7 +91,7 @@ impl HalfOpen {
     }
 
     /// Takes a SYN of the end that calls.
-    pub fn take_syn(&mut self, syn: Syn) {
+    pub(crate) fn take_syn(&mut self, syn: Syn) {
         match &self.first {
             None => self.first = Some(syn),
             Some(first) if first.sequence == syn.sequence => {}
@@ -81,7 +100,10 @@ impl HalfOpen {
     }
 
     /// The SYN that an answer with this acknowledged number answers, if it came.
-    pub fn answered(self, acknowledged: u32) -> Option<Syn> {
+    pub(crate) fn answered(self, acknowledged: u32) -> Option<Syn>
+        ensures answers { IfSome result (λ syn. Answers syn.sequence (length syn.octets.items) acknowledged) }
+        ensures came { IfSome result (λ syn. (self.first ≡ Some syn) ⊎ (self.newest ≡ Some syn)) }
+    {
         let HalfOpen {
             caller: _,
             first,
@@ -100,7 +122,7 @@ impl HalfOpen {
     }
 
     /// Whether a SYN that came is answered by this acknowledged number.
-    pub fn is_answered(&self, acknowledged: u32) -> bool {
+    pub(crate) fn is_answered(&self, acknowledged: u32) -> bool {
         is_answered(&self.first, acknowledged) || is_answered(&self.newest, acknowledged)
     }
 }

@@ -10,7 +10,7 @@ pub struct Link {
 }
 
 /// The link of an end, if it has one: one that names its address comes before one that names its port alone.
-pub fn link_of(links: &[Link], end: End) -> Option<u32> {
+pub(crate) fn link_of(links: &[Link], end: End) -> Option<u32> {
     let mut found = None;
     for it in links {
         if it.port == end.port {
@@ -32,7 +32,7 @@ pub fn link_of(links: &[Link], end: End) -> Option<u32> {
 }
 
 /// The end that is the centre, and its link; where both have a link, the one that was called.
-pub fn centre_of(links: &[Link], segment: &Segment) -> Option<(End, u32)> {
+pub(crate) fn centre_of(links: &[Link], segment: &Segment) -> Option<(End, u32)> {
     let is_called = segment.has(SYN) && segment.has(ACK);
     let (one, other) = if is_called {
         (segment.source, segment.destination)

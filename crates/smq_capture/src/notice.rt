@@ -1,8 +1,10 @@
 //! What is told of a capture, a line each.
+ghost use Rattle.std.specs.Prelude.{◌≡◌, ◌==◌, ◌+◌, ◌<◌, ◌^◌, if◌then◌else◌, min};
+
 use crate::side::Side;
 use std::fmt;
 
-/// Packets that something is told of: how many, and the number of the first.
+/// Packets that something is told of: how many, and the least of their numbers.
 #[derive(Clone, Copy, Debug, PartialEq, Eq)]
 pub struct Noted {
     pub count: u64,
@@ -16,8 +18,11 @@ impl Noted {
     }
 
     /// Adds a packet.
-    pub fn add(&mut self, number: u64) {
-        if self.count == 0 {
+    pub fn add(&mut self, number: u64)
+        ensures first { self.new.first ≡ if self.old.count == 0 then number else min self.old.first number }
+        ensures count { self.old.count + 1 < 2 ^ 64 → self.new.count ≡ self.old.count + 1 }
+    {
+        if self.count == 0 || number < self.first {
             self.first = number;
         }
         self.count = self.count.saturating_add(1);

@@ -1,4 +1,6 @@
 //! What a capture gives, and how much it was.
+ghost use Rattle.std.specs.Prelude.{◌≡◌, ◌+◌, ◌<◌, ◌^◌};
+
 use crate::fault::Fault;
 use crate::notice::Notice;
 use crate::sink::{Loss, Piece, SessionLine, Sink};
@@ -6,7 +8,7 @@ use std::alloc::Global;
 
 /// A sink, the number of the next session, and how much was given.
 #[derive(Drop)]
-pub struct Output<S> {
+pub(crate) struct Output<S> {
     pub alloc: Global,
     pub sink: S,
     pub is_strict: bool,
@@ -22,7 +24,7 @@ pub struct Output<S> {
 
 impl<S: Sink> Output<S> {
     /// Nothing was given yet.
-    pub fn new(alloc: Global, sink: S, first: u64, is_strict: bool) -> Output<S> {
+    pub(crate) fn new(alloc: Global, sink: S, first: u64, is_strict: bool) -> Output<S> {
         Output {
             alloc,
             sink,
@@ -39,7 +41,10 @@ impl<S: Sink> Output<S> {
     }
 
     /// The number of a session that begins.
-    pub fn next_session(&mut self) -> u64 {
+    pub(crate) fn next_session(&mut self) -> u64
+        ensures number { result ≡ self.old.following }
+        ensures next { result + 1 < 2 ^ 64 → self.new.following ≡ result + 1 }
+    {
         let number = self.following;
         self.following = number.saturating_add(1);
         self.sessions = self.sessions.saturating_add(1);
@@ -47,17 +52,17 @@ impl<S: Sink> Output<S> {
     }
 
     /// How many sessions began.
-    pub fn sessions(&self) -> u64 {
+    pub(crate) fn sessions(&self) -> u64 {
         self.sessions
     }
 
     /// Whether something is missing.
-    pub fn has_loss(&self) -> bool {
+    pub(crate) fn has_loss(&self) -> bool {
         self.has_loss
     }
 
     /// Gives a piece.
-    pub fn put(&mut self, piece: &Piece<'_>) -> Result<(), Fault> {
+    pub(crate) fn put(&mut self, piece: &Piece<'_>) -> Result<(), Fault> {
         let octets = self.sink.put(piece)?;
         self.rows = self.rows.saturating_add(1);
         self.octets = self.octets.saturating_add(octets as u64);
@@ -65,7 +70,7 @@ impl<S: Sink> Output<S> {
     }
 
     /// Tells something.
-    pub fn tell(&mut self, notice: Notice) -> Result<(), Fault> {
+    pub(crate) fn tell(&mut self, notice: Notice) -> Result<(), Fault> {
         self.has_loss = self.has_loss || notice.is_loss();
         if let Notice::Passed { count, .. } = &notice {
             self.passed = self.passed.saturating_add(*count);
@@ -74,19 +79,19 @@ impl<S: Sink> Output<S> {
     }
 
     /// Gives a session that ended.
-    pub fn note_session(&mut self, line: &SessionLine) -> Result<(), Fault> {
+    pub(crate) fn note_session(&mut self, line: &SessionLine) -> Result<(), Fault> {
         self.sink.note_session(line)
     }
 
     /// Gives a gap that was given up.
-    pub fn note_loss(&mut self, loss: &Loss) -> Result<(), Fault> {
+    pub(crate) fn note_loss(&mut self, loss: &Loss) -> Result<(), Fault> {
         self.gaps = self.gaps.saturating_add(1);
         self.missing = self.missing.saturating_add(loss.missing);
         self.sink.note_loss(loss)
     }
 
     /// Tells how much is missing.
-    pub fn tell_gaps(&mut self) -> Result<(), Fault> {
+    pub(crate) fn tell_gaps(&mut self) -> Result<(), Fault> {
         if self.gaps > 0 {
             let notice = Notice::Gaps {
                 gaps: self.gaps,
@@ -99,7 +104,7 @@ impl<S: Sink> Output<S> {
     }
 
     /// Tells whether there are more rows or octets than these.
-    pub fn tell_length(&mut self, most_rows: u64, most_octets: u64) -> Result<(), Fault> {
+    pub(crate) fn tell_length(&mut self, most_rows: u64, most_octets: u64) -> Result<(), Fault> {
         if self.rows > most_rows || self.octets > most_octets {
             let notice = Notice::Long {
                 rows: self.rows,

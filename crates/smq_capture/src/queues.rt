@@ -13,7 +13,7 @@ struct Due {
 
 /// The connections in which something waits: by when it is given up, and by since when it waits; and how much memory it takes.
 #[derive(Drop)]
-pub struct Queues {
+pub(crate) struct Queues {
     due: BTreeSet<Due>,
     oldest: BTreeSet<Due>,
     waiting: u64,
@@ -21,7 +21,7 @@ pub struct Queues {
 
 impl Queues {
     /// Nothing waits.
-    pub fn new(alloc: Global) -> Queues {
+    pub(crate) fn new(alloc: Global) -> Queues {
         Queues {
             due: BTreeSet::new(alloc),
             oldest: BTreeSet::new(alloc),
@@ -30,12 +30,12 @@ impl Queues {
     }
 
     /// How much memory what waits takes.
-    pub fn waiting(&self) -> u64 {
+    pub(crate) fn waiting(&self) -> u64 {
         self.waiting
     }
 
     /// The connection in which something is given up at a moment or before, the first of all.
-    pub fn due_by(&self, moment: u64) -> Option<Ends> {
+    pub(crate) fn due_by(&self, moment: u64) -> Option<Ends> {
         match self.due.first() {
             Some(due) if due.moment <= moment => Some(due.ends),
             _ => None,
@@ -43,12 +43,16 @@ impl Queues {
     }
 
     /// The connection in which something waits longest.
-    pub fn oldest(&self) -> Option<Ends> {
+    pub(crate) fn oldest(&self) -> Option<Ends> {
         Some(self.oldest.first()?.ends)
     }
 
     /// Puts a connection where it stands now.
-    pub fn take(&mut self, ends: Ends, connection: &mut Connection) -> Result<(), AllocError> {
+    pub(crate) fn take(
+        &mut self,
+        ends: Ends,
+        connection: &mut Connection,
+    ) -> Result<(), AllocError> {
         let weight = connection.weight();
         self.waiting = self
             .waiting
@@ -71,7 +75,7 @@ impl Queues {
     }
 
     /// Forgets a connection.
-    pub fn forget(&mut self, ends: Ends, connection: &Connection) {
+    pub(crate) fn forget(&mut self, ends: Ends, connection: &Connection) {
         remove(&mut self.due, connection.due, ends);
         remove(&mut self.oldest, connection.opened, ends);
         self.waiting = self.waiting.saturating_sub(connection.counted);

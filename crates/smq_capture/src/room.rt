@@ -8,7 +8,7 @@ const CHUNK: usize = 262_144;
 
 /// Octets that were read, of which those from a place on aren't used yet.
 #[derive(Drop)]
-pub struct Room {
+pub(crate) struct Room {
     octets: Vec<u8>,
     from: usize,
     until: usize,
@@ -18,7 +18,7 @@ pub struct Room {
 
 impl Room {
     /// No octets.
-    pub fn new(alloc: Global) -> Room {
+    pub(crate) fn new(alloc: Global) -> Room {
         Room {
             octets: Vec::new(alloc),
             from: 0,
@@ -28,7 +28,7 @@ impl Room {
     }
 
     /// The octets that aren't used yet.
-    pub fn unused(&self) -> &[u8] {
+    pub(crate) fn unused(&self) -> &[u8] {
         match self.octets.as_slice().get(self.from..self.until) {
             Some(octets) => octets,
             None => self.octets.as_slice().get(..0).unwrap_or_default(),
@@ -36,25 +36,25 @@ impl Room {
     }
 
     /// How many octets were used.
-    pub fn used(&self) -> u64 {
+    pub(crate) fn used(&self) -> u64 {
         self.used
     }
 
     /// Uses so many octets.
-    pub fn use_up(&mut self, count: usize) {
+    pub(crate) fn use_up(&mut self, count: usize) {
         self.from = self.from.saturating_add(count);
         self.used = self.used.saturating_add(count as u64);
     }
 
     /// Uses so many octets, as far as they are there, and gives how many those are.
-    pub fn skip(&mut self, count: u64) -> u64 {
+    pub(crate) fn skip(&mut self, count: u64) -> u64 {
         let there = count.min(self.unused().len() as u64);
         self.use_up(there as usize);
         there
     }
 
     /// Reads more behind what isn't used, which is moved to the front. How many; 0 at the end.
-    pub fn fill<R: Read>(&mut self, alloc: Global, reader: &mut R) -> Result<usize, Fault> {
+    pub(crate) fn fill<R: Read>(&mut self, alloc: Global, reader: &mut R) -> Result<usize, Fault> {
         let left = self.move_to_front(alloc)?;
         for _ in 0..u64::MAX {
             let Some((_, back)) = self.octets.as_mut_slice().split_at_mut_checked(left) else {

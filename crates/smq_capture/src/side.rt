@@ -1,4 +1,6 @@
 //! The ends of a connection.
+ghost use Rattle.std.specs.Prelude.{◌≢◌};
+
 use std::fmt;
 
 /// An end of a connection: the client (ESME) or the centre (SMSC).
@@ -10,7 +12,9 @@ pub enum Side {
 
 impl Side {
     /// The other end.
-    pub fn other(self) -> Side {
+    pub fn other(self) -> Side
+        ensures { result ≢ self }
+    {
         match self {
             Side::Client => Side::Centre,
             Side::Centre => Side::Client,

@@ -72,12 +72,13 @@ pub trait Sink {
 }
 
 /// Writes pieces as rows of a script, and the rest as lines, where there are writers for them. At each tick come a row of the clock and
-/// rows of questions.
+/// rows of questions; of what is missing come rows, too, where these are wanted.
 #[derive(Drop)]
 pub struct Texts<W, N, I, L> {
     alloc: Global,
     text: Vec<u8>,
     questions: Vec<String>,
+    tells_losses: bool,
     rows: W,
     notices: N,
     index: Option<I>,
@@ -85,10 +86,11 @@ pub struct Texts<W, N, I, L> {
 }
 
 impl<W: Write, N: Write, I: Write, L: Write> Texts<W, N, I, L> {
-    /// Writes to these, and asks these questions.
+    /// Writes to these, and asks these questions; each is what a row `ask` has behind its first field.
     pub fn new(
         alloc: Global,
         questions: Vec<String>,
+        tells_losses: bool,
         rows: W,
         notices: N,
         index: Option<I>,
@@ -98,6 +100,7 @@ impl<W: Write, N: Write, I: Write, L: Write> Texts<W, N, I, L> {
             alloc,
             text: Vec::new(alloc),
             questions,
+            tells_losses,
             rows,
             notices,
             index,
@@ -165,6 +168,13 @@ impl<W: Write, N: Write, I: Write, L: Write> Sink for Texts<W, N, I, L> {
     }
 
     fn note_loss(&mut self, loss: &Loss) -> Result<(), Fault> {
+        if self.tells_losses {
+            let session = loss.session;
+            let sender = loss.sender;
+            let missing = loss.missing;
+            let row = format!(in self.alloc; "lost,{session},{sender},{missing}\n")?;
+            self.text.extend_from_slice(row.as_bytes())?;
+        }
         match &mut self.losses {
             Some(losses) => {
                 let line = format!(in self.alloc; "{loss}\n")?;

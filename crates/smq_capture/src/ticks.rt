@@ -1,15 +1,17 @@
 //! When a sink is told of the capture's clock.
+ghost use Rattle.std.specs.Prelude.{◌≡◌, ◌<◌, ◌≤◌, IfSome};
+
 use std::cmp::max;
 
 /// A multiple of so many ms that the clock has passed, if it is past the one before.
 #[derive(Clone, Copy, Debug, PartialEq, Eq)]
-pub struct Tick {
+pub(crate) struct Tick {
     pub clock: Option<u64>,
 }
 
 /// When the capture's clock passes multiples of so many ms since 1970.
 #[derive(Drop)]
-pub struct Ticks {
+pub(crate) struct Ticks {
     every: Option<u64>,
     /// The moments between which none is due, once a packet came.
     quiet: Option<(u64, u64)>,
@@ -22,7 +24,7 @@ pub struct Ticks {
 
 impl Ticks {
     /// Before the first packet.
-    pub fn new(every: Option<u64>) -> Ticks {
+    pub(crate) fn new(every: Option<u64>) -> Ticks {
         Ticks {
             every,
             quiet: None,
@@ -33,12 +35,15 @@ impl Ticks {
     }
 
     /// Whether any is.
-    pub fn is_wanted(&self) -> bool {
+    pub(crate) fn is_wanted(&self) -> bool {
         self.every.is_some()
     }
 
     /// What is due before a moment: where that is past the next multiple, or the clock was set back by more than one.
-    pub fn pass_to(&mut self, moment: u64) -> Option<Tick> {
+    pub(crate) fn pass_to(&mut self, moment: u64) -> Option<Tick>
+        ensures { IfSome result (λ t. IfSome t.clock (λ clock. (clock ≤ moment) × (self.old.told < clock)
+            × (self.new.told ≡ clock))) }
+    {
         let every = max(self.every?, 1);
         if let Some((from, until)) = self.quiet {
             if from <= moment && moment < until {
@@ -61,7 +66,7 @@ impl Ticks {
     }
 
     /// For how many ms no packet came after so many, at a moment of the host's clock.
-    pub fn passed(&mut self, packets: u64, now: u64) -> u64 {
+    pub(crate) fn passed(&mut self, packets: u64, now: u64) -> u64 {
         match self.since {
             Some(since) if self.packets == packets => now.saturating_sub(since),
             _ => {
@@ -73,7 +78,7 @@ impl Ticks {
     }
 
     /// Whether questions are due where no packet came yet, so that the capture's clock isn't known: each so many ms of the host's.
-    pub fn is_due_unknown(&mut self, passed: u64, now: u64) -> bool {
+    pub(crate) fn is_due_unknown(&mut self, passed: u64, now: u64) -> bool {
         match self.every {
             Some(every) if passed >= every => {
                 self.since = Some(now);

@@ -15,6 +15,7 @@ use Rattle.smq_engine.specs.declared.run_fault.RunFault.{RunFault}
 use Rattle.smq_engine.specs.declared.run_fault.RunFault.TheVariants as fault
 use Rattle.smq_engine.specs.declared.feed.Followed.{Followed}
 use Rattle.smq_engine.specs.declared.record.Record.{Record}
+use Rattle.smq_engine.specs.declared.totals.Totals.{Totals}
 use Rattle.smq_engine.specs.Answers.{answer_to, refusal_to, said_of}
 use Rattle.smq_engine.specs.Followed.{AreAllOf, AreWritten, EndsBy, IsFollowed, Written, held}
 use Rattle.smq_engine.specs.within.Steps.{ArePlayed, EndsPlay, EndsReading, EndsStep, HasGivenRecords, HasPlayed, IsPlayed}
@@ -25,14 +26,14 @@ use Rattle.smq_engine.proofs.ReadingLemmas.{given-first}
 pub played-none : {R : Type 0} (remaining : R → Option (List ℕ)) (reader : Reader R) (text : List ℕ) (format : Format)
     (settings_rows : List rows.Row) (present : PresentValue) (w e : Option (List ℕ))
     → HasGiven remaining reader text [] → present ≡ after_rows empty settings_rows
-    → HasPlayed remaining reader text format settings_rows present 0 1 (held w w e e)
+    → HasPlayed remaining reader text format settings_rows present (record { refused = 0; gaps = 0; octets = 0 }) 1 (held w w e e)
 played-none remaining reader text format settings_rows present w e given is = record {
   records = [];
   given = record { fields = []; given = given; say_records = refl };
   numbered = refl;
   played = record {
     is_present = is ∙ ap (after_rows empty) (sym (append-nil settings_rows));
-    are_refused = refl;
+    are_totals = refl;
   };
   written = (Appends-nil w, Appends-nil e);
 }
@@ -45,13 +46,13 @@ said-then say records r old mid new first then =
 
 -- one record more is played and said
 pub played-more : {R : Type 0} (remaining : R → Option (List ℕ)) (reader after : Reader R) (text : List ℕ) (format : Format)
-    (settings_rows : List rows.Row) (present new : PresentValue) (refused count number : ℕ) (w0 w1 w2 e0 e1 e2 : Option (List ℕ)) (r : Record)
-    → (h : HasPlayed remaining reader text format settings_rows present refused number (held w0 w1 e0 e1))
+    (settings_rows : List rows.Row) (present new : PresentValue) (totals counted : Totals) (number : ℕ) (w0 w1 w2 e0 e1 e2 : Option (List ℕ)) (r : Record)
+    → (h : HasPlayed remaining reader text format settings_rows present totals number (held w0 w1 e0 e1))
     → HasGivenRecords remaining after text (h.records ++ r ∷ [])
-    → ArePlayed settings_rows (h.records ++ r ∷ []) new count
+    → ArePlayed settings_rows (h.records ++ r ∷ []) new counted
     → AreWritten (held w1 w2 e1 e2) (answer_to format settings_rows h.records r) (refusal_to settings_rows h.records r)
-    → HasPlayed remaining after text format settings_rows new count (number + 1) (held w0 w2 e0 e2)
-played-more remaining reader after text format settings_rows present new refused count number w0 w1 w2 e0 e1 e2 r h given played said = record {
+    → HasPlayed remaining after text format settings_rows new counted (number + 1) (held w0 w2 e0 e2)
+played-more remaining reader after text format settings_rows present new totals counted number w0 w1 w2 e0 e1 e2 r h given played said = record {
   records = h.records ++ r ∷ [];
   given = given;
   numbered = let n = h.numbered in omega (arith, n, length-append h.records (r ∷ []));
@@ -64,46 +65,46 @@ played-more remaining reader after text format settings_rows present new refused
 
 -- there is no record more
 pub played-all : {R : Type 0} (remaining : R → Option (List ℕ)) (reader : Reader R) (text : List ℕ) (format : Format)
-    (settings_rows : List rows.Row) (present : PresentValue) (refused number : ℕ) (w0 w1 e0 e1 : Option (List ℕ))
-    → (h : HasPlayed remaining reader text format settings_rows present refused number (held w0 w1 e0 e1))
-    → AreAllOf text h.records → IsPlayed format settings_rows refused (held w0 w1 e0 e1) text
-played-all remaining reader text format settings_rows present refused number w0 w1 e0 e1 h all = record {
+    (settings_rows : List rows.Row) (present : PresentValue) (totals : Totals) (number : ℕ) (w0 w1 e0 e1 : Option (List ℕ))
+    → (h : HasPlayed remaining reader text format settings_rows present totals number (held w0 w1 e0 e1))
+    → AreAllOf text h.records → IsPlayed format settings_rows totals.refused (held w0 w1 e0 e1) text
+played-all remaining reader text format settings_rows present totals number w0 w1 e0 e1 h all = record {
   records = h.records;
   are_records = all;
-  refused_are = h.played.are_refused;
+  refused_are = ap (λ (t : Totals). t.refused) h.played.are_totals;
   written = h.written;
 }
 
 -- a fault of reading ends it after the records so far
 pub ends-reading : {R : Type 0} (remaining : R → Option (List ℕ)) (reader : Reader R) (text : List ℕ) (format : Format)
-    (settings_rows : List rows.Row) (present : PresentValue) (refused number : ℕ) (w0 w1 e0 e1 : Option (List ℕ)) (why : RunFault)
-    → (h : HasPlayed remaining reader text format settings_rows present refused number (held w0 w1 e0 e1))
+    (settings_rows : List rows.Row) (present : PresentValue) (totals : Totals) (number : ℕ) (w0 w1 e0 e1 : Option (List ℕ)) (why : RunFault)
+    → (h : HasPlayed remaining reader text format settings_rows present totals number (held w0 w1 e0 e1))
     → EndsReading why h.records text → EndsPlay why format settings_rows (held w0 w1 e0 e1) text
-ends-reading remaining reader text format settings_rows present refused number w0 w1 e0 e1 (fault.BadRow row) h told =
+ends-reading remaining reader text format settings_rows present totals number w0 w1 e0 e1 (fault.BadRow row) h told =
     (h.records, told.0, told.1, h.written)
-ends-reading remaining reader text format settings_rows present refused number w0 w1 e0 e1 fault.BadSettings h told = told
-ends-reading remaining reader text format settings_rows present refused number w0 w1 e0 e1 fault.Read h told =
+ends-reading remaining reader text format settings_rows present totals number w0 w1 e0 e1 fault.BadSettings h told = told
+ends-reading remaining reader text format settings_rows present totals number w0 w1 e0 e1 fault.Read h told =
     (h.records, given-first remaining reader text h.records h.given, h.written)
-ends-reading remaining reader text format settings_rows present refused number w0 w1 e0 e1 fault.Write h told = absurd told
-ends-reading remaining reader text format settings_rows present refused number w0 w1 e0 e1 fault.Memory h told =
+ends-reading remaining reader text format settings_rows present totals number w0 w1 e0 e1 fault.Write h told = absurd told
+ends-reading remaining reader text format settings_rows present totals number w0 w1 e0 e1 fault.Memory h told =
     (h.records, given-first remaining reader text h.records h.given, h.written)
-ends-reading remaining reader text format settings_rows present refused number w0 w1 e0 e1 fault.NoThread h told = told
-ends-reading remaining reader text format settings_rows present refused number w0 w1 e0 e1 fault.Desk h told = told
+ends-reading remaining reader text format settings_rows present totals number w0 w1 e0 e1 fault.NoThread h told = told
+ends-reading remaining reader text format settings_rows present totals number w0 w1 e0 e1 fault.Desk h told = told
 
 kept-then : (old mid new : Option (List ℕ)) (text : List ℕ) → Appends old mid text → Keeps mid new → Appends old new text
 kept-then old mid new text p q = Appends-kept old mid new text p q
 
 -- a fault at one record more ends it there
 pub ends-step : {R : Type 0} (remaining : R → Option (List ℕ)) (reader after : Reader R) (text : List ℕ) (format : Format)
-    (settings_rows : List rows.Row) (present : PresentValue) (refused number : ℕ) (w0 w1 w2 e0 e1 e2 : Option (List ℕ)) (r : Record)
+    (settings_rows : List rows.Row) (present : PresentValue) (totals : Totals) (number : ℕ) (w0 w1 w2 e0 e1 e2 : Option (List ℕ)) (r : Record)
     (why : RunFault)
-    → (h : HasPlayed remaining reader text format settings_rows present refused number (held w0 w1 e0 e1))
+    → (h : HasPlayed remaining reader text format settings_rows present totals number (held w0 w1 e0 e1))
     → HasGivenRecords remaining after text (h.records ++ r ∷ [])
     → EndsStep why format settings_rows h.records r (held w1 w2 e1 e2) → EndsPlay why format settings_rows (held w0 w2 e0 e2) text
-ends-step remaining reader after text format settings_rows present refused number w0 w1 w2 e0 e1 e2 r (fault.BadRow row) h given told = absurd told
-ends-step remaining reader after text format settings_rows present refused number w0 w1 w2 e0 e1 e2 r fault.BadSettings h given told = told
-ends-step remaining reader after text format settings_rows present refused number w0 w1 w2 e0 e1 e2 r fault.Read h given told = absurd told
-ends-step remaining reader after text format settings_rows present refused number w0 w1 w2 e0 e1 e2 r fault.Write h given told = (
+ends-step remaining reader after text format settings_rows present totals number w0 w1 w2 e0 e1 e2 r (fault.BadRow row) h given told = absurd told
+ends-step remaining reader after text format settings_rows present totals number w0 w1 w2 e0 e1 e2 r fault.BadSettings h given told = told
+ends-step remaining reader after text format settings_rows present totals number w0 w1 w2 e0 e1 e2 r fault.Read h given told = absurd told
+ends-step remaining reader after text format settings_rows present totals number w0 w1 w2 e0 e1 e2 r fault.Write h given told = (
   h.records,
   r,
   given-first remaining after text (h.records ++ r ∷ []) given,
@@ -113,20 +114,20 @@ ends-step remaining reader after text format settings_rows present refused numbe
     written = (Appends-trans w0 w1 w2 _ _ h.written.0 told.2.0, Appends-trans e0 e1 e2 _ _ h.written.1 told.2.1);
   },
 )
-ends-step remaining reader after text format settings_rows present refused number w0 w1 w2 e0 e1 e2 r fault.Memory h given told = (
+ends-step remaining reader after text format settings_rows present totals number w0 w1 w2 e0 e1 e2 r fault.Memory h given told = (
   h.records,
   given-first remaining reader text h.records h.given,
   (kept-then w0 w1 w2 _ h.written.0 told.0, kept-then e0 e1 e2 _ h.written.1 told.1),
 )
-ends-step remaining reader after text format settings_rows present refused number w0 w1 w2 e0 e1 e2 r fault.NoThread h given told = told
-ends-step remaining reader after text format settings_rows present refused number w0 w1 w2 e0 e1 e2 r fault.Desk h given told = told
+ends-step remaining reader after text format settings_rows present totals number w0 w1 w2 e0 e1 e2 r fault.NoThread h given told = told
+ends-step remaining reader after text format settings_rows present totals number w0 w1 w2 e0 e1 e2 r fault.Desk h given told = told
 
 -- the loop ends
 pub ends-full : {R : Type 0} (remaining : R → Option (List ℕ)) (reader : Reader R) (text : List ℕ) (format : Format)
-    (settings_rows : List rows.Row) (present : PresentValue) (refused number : ℕ) (w0 w1 e0 e1 : Option (List ℕ))
-    → HasPlayed remaining reader text format settings_rows present refused number (held w0 w1 e0 e1)
+    (settings_rows : List rows.Row) (present : PresentValue) (totals : Totals) (number : ℕ) (w0 w1 e0 e1 : Option (List ℕ))
+    → HasPlayed remaining reader text format settings_rows present totals number (held w0 w1 e0 e1)
     → EndsPlay fault.Read format settings_rows (held w0 w1 e0 e1) text
-ends-full remaining reader text format settings_rows present refused number w0 w1 e0 e1 h =
+ends-full remaining reader text format settings_rows present totals number w0 w1 e0 e1 h =
     (h.records, given-first remaining reader text h.records h.given, h.written)
 
 -- the settings, and then all records, are played

@@ -4,6 +4,7 @@ pub mod WorkerLemmas
 pub mod DeskLemmas
 pub mod KnownChecks
 pub mod SessionLemmas
+pub mod QuestionLemmas
 pub mod RecordLemmas
 pub mod AnswerLemmas
 pub mod ReadingLemmas
@@ -12,3 +13,4 @@ pub mod KnownEndings
 pub mod LawLemmas
 pub mod StreamLemmas
 pub mod TotalLemmas
+pub mod ViewLemmas

@@ -5,20 +5,20 @@ use Rattle.csv.specs.declared.reader.Reader.{Reader}
 use Rattle.smq_load.specs.NextRecord.{HasGiven}
 use Rattle.smq_load.proofs.NextRecordLemmas.{AreRecords-around, rest_of_given}
 use Rattle.smq_engine.specs.declared.record.Record.{Record}
-use Rattle.smq_engine.specs.Record.{record_of}
+use Rattle.smq_engine.specs.Record.{Said, record_of, said_by}
 use Rattle.smq_engine.specs.Followed.{AreBeforeBadOf, AreFirstOf, SayRecords}
 use Rattle.smq_engine.specs.within.Steps.{HasGivenRecords}
 
 SayRecords-more : (fields : List (List (List ℕ))) (records : List Record) (more : List (List ℕ)) (r : Record) → SayRecords fields records
-    → record_of more ≡ Some r → SayRecords (fields ++ more ∷ []) (records ++ r ∷ [])
+    → record_of more ≡ Some (said_by r) → SayRecords (fields ++ more ∷ []) (records ++ r ∷ [])
 SayRecords-more fields records more r h says =
-    let some : Record → Option Record = λ r. Some r in
+    let some : Record → Option Said = λ r. Some (said_by r) in
     rw (map-append record_of fields (more ∷ []), map-append some records (r ∷ []), h, says) refl
 
 -- one record more
 pub given-more : {R : Type 0} (remaining : R → Option (List ℕ)) (reader after : Reader R) (text : List ℕ) (records : List Record)
     (more : List (List ℕ)) (r : Record) → (h : HasGivenRecords remaining reader text records)
-    → HasGiven remaining after text (h.fields ++ more ∷ []) → record_of more ≡ Some r
+    → HasGiven remaining after text (h.fields ++ more ∷ []) → record_of more ≡ Some (said_by r)
     → HasGivenRecords remaining after text (records ++ r ∷ [])
 given-more remaining reader after text records more r h given says = record {
   fields = h.fields ++ more ∷ [];

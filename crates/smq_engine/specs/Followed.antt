@@ -8,12 +8,12 @@ use Rattle.smq_report.specs.declared.pick.Format.{Format}
 use Rattle.smq_engine.specs.declared.run_fault.RunFault.{RunFault}
 use Rattle.smq_engine.specs.declared.run_fault.RunFault.TheVariants.{BadRow, BadSettings, Read, Write, Memory, NoThread, Desk}
 use Rattle.smq_engine.specs.declared.record.Record.{Record}
-use Rattle.smq_engine.specs.Record.{record_of}
+use Rattle.smq_engine.specs.Record.{record_of, said_by}
 use Rattle.smq_engine.specs.Answers.{answer_to, answers, refusal_to, refusals, refused_after}
 
 -- each of these lists of fields says the record of the same place
 abbrev pub SayRecords : List (List (List ℕ)) → List Record → Type 0
-SayRecords fields records = map record_of fields ≡ map Some records
+SayRecords fields records = map record_of fields ≡ map (λ r. Some (said_by r)) records
 
 -- these are all the records of a text
 pub record AreAllOf (text : List ℕ) (records : List Record) : Type 0 where

@@ -11,21 +11,38 @@ use Rattle.smq_tally.specs.declared.list.List.TheVariants as list
 use Rattle.smq_tally.specs.declared.view.View.TheVariants as view
 use Rattle.smq_report.specs.declared.pick.Pick.TheVariants as pick
 use Rattle.smq_engine.specs.declared.record.Record.{Record}
-use Rattle.smq_engine.specs.declared.record.Record.TheVariants.{Ask, Row}
-use Rattle.smq_engine.specs.Record.{record_of}
-use Rattle.smq_engine.specs.Answers.{present_after, refusals, refused_after, rows_of, said_of, told_line}
+use Rattle.smq_engine.specs.declared.record.Record.TheVariants.{Ask, Lost, Row}
+use Rattle.smq_engine.specs.declared.record.Loss.{Loss}
+use Rattle.smq_engine.specs.declared.question.Question.TheVariants.{Report}
+use Rattle.smq_kit.specs.declared.place.Dir.TheVariants.{FromCentre}
+use Rattle.smq_count.specs.declared.column.Column.TheVariants as column
+use Rattle.smq_count.specs.declared.column.Period.TheVariants as period
+use Rattle.smq_engine.specs.Record.{AsksCount, AsksReport, SaysLost, SaysRow, count_name, record_of}
+use Rattle.smq_engine.specs.Answers.{present_after, refusals, rows_of, said_of, told_line, totals_after}
 use Rattle.smq_engine.specs.Followed.{AreAllOf, AreBeforeBadOf, AreFirstOf, EndsAtBadRow, EndsBy, IsFollowed, Written, held}
 use Rattle.smq_scratch.specs.Lines.{message_lines, receipt_lines}
 use Rattle.smq_report.specs.declared.pick.Output.TheVariants.{Messages, Receipts}
 use Rattle.smq_engine.specs.IsRun.{output_text}
 
+-- 1,460 octets of the centre's are missing in session 10
+abbrev pub loss : Loss
+loss = record { session = record { 0 = 10 }; dir = FromCentre; octets = 1460 }
+
 -- what known records say
 pub record KnowsRecords : Type 0 where
-  pub view : record_of (codes "ask" ∷ codes "link-delay" ∷ []) ≡ Some (Ask (pick.View view.LinkDelay))
-  pub list : record_of (codes "ask" ∷ codes "open" ∷ []) ≡ Some (Ask (pick.List list.Open))
-  pub whole : record_of (codes "ask" ∷ codes "report" ∷ []) ≡ Some (Ask pick.All)
-  pub row : record_of (codes "clock" ∷ codes "5" ∷ []) ≡ Some (Row (Plain (Advance 5)))
+  pub of_view : record_of (codes "ask" ∷ codes "link-delay" ∷ []) ≡ Some (AsksReport (pick.View view.LinkDelay))
+  pub of_list : record_of (codes "ask" ∷ codes "open" ∷ []) ≡ Some (AsksReport (pick.List list.Open))
+  pub whole : record_of (codes "ask" ∷ codes "report" ∷ []) ≡ Some (AsksReport pick.All)
+  pub row : record_of (codes "clock" ∷ codes "5" ∷ []) ≡ Some (SaysRow (Plain (Advance 5)))
+  pub count : record_of (codes "ask" ∷ codes "count" ∷ codes "link" ∷ codes "prefix:3" ∷ [])
+      ≡ Some (AsksCount (column.View view.Link ∷ column.Prefix 3 ∷ []))
+  pub lost : record_of (codes "lost" ∷ codes "10" ∷ codes "centre" ∷ codes "1460" ∷ []) ≡ Some (SaysLost loss)
   pub no_name : record_of (codes "ask" ∷ []) ≡ None
+  pub no_column : record_of (codes "ask" ∷ codes "count" ∷ []) ≡ None
+  pub another_column : record_of (codes "ask" ∷ codes "count" ∷ codes "link" ∷ codes "links" ∷ []) ≡ None
+  pub no_count : record_of (codes "ask" ∷ codes "counts" ∷ codes "link" ∷ codes "day" ∷ []) ≡ None
+  pub no_octets : record_of (codes "lost" ∷ codes "10" ∷ codes "centre" ∷ []) ≡ None
+  pub another_end : record_of (codes "lost" ∷ codes "10" ∷ codes "server" ∷ codes "1" ∷ []) ≡ None
   pub two_names : record_of (codes "ask" ∷ codes "link" ∷ codes "open" ∷ []) ≡ None
   pub another_name : record_of (codes "ask" ∷ codes "links" ∷ []) ≡ None
   pub another_word : record_of (codes "asks" ∷ codes "link" ∷ []) ≡ None
@@ -34,21 +51,27 @@ pub record KnowsRecords : Type 0 where
 abbrev pub clock : ℕ → rows.Row
 clock moment = Plain (Advance moment)
 
--- a clock and a question, and then an earlier clock, a later one and another question
+-- a clock and a question, and then an earlier clock, a later one, two gaps and another question
 abbrev pub asked : List Record
-asked = Row (clock 5) ∷ Ask (pick.View view.Route) ∷ Row (clock 4) ∷ Row (clock 6) ∷ Ask pick.All ∷ []
+asked =
+    Row (clock 5) ∷ Ask (Report (pick.View view.Route)) ∷ Row (clock 4) ∷ Row (clock 6) ∷ Lost loss ∷ Lost loss
+    ∷ Ask (Report pick.All) ∷ []
 
--- Each record is answered by those before it. The line of an answer tells the number of its question, what is asked, the clock and the
--- number of refused rows; a refused row is told with its number among the records.
+-- Each record is answered by those before it. The line of an answer tells the number of its question, what is asked, the clock, the
+-- number of refused rows, and those of gaps and their octets; a refused row is told with its number among the records.
 pub record KnowsAnswers : Type 0 where
   pub each : (say : List Record → Record → List ℕ) (a b c : Record)
       → said_of say [] (a ∷ b ∷ c ∷ []) ≡ say [] a ++ (say (a ∷ []) b ++ (say (a ∷ b ∷ []) c ++ []))
-  pub of_view : told_line 6 (pick.View view.Route) 5 1 ≡ codes "told,6,route,5,1" ++ 10 ∷ []
-  pub of_report : told_line 2 pick.All 4102444800000 0 ≡ codes "told,2,report,4102444800000,0" ++ 10 ∷ []
+  pub of_view : told_line 6 (Report (pick.View view.Route)) 5 (record { refused = 1; gaps = 2; octets = 2920 })
+      ≡ codes "told,6,route,5,1,2,2920" ++ 10 ∷ []
+  pub of_report : told_line 2 (Report pick.All) 4102444800000 (record { refused = 0; gaps = 0; octets = 0 })
+      ≡ codes "told,2,report,4102444800000,0,0,0" ++ 10 ∷ []
+  pub of_count : count_name (column.View view.Link ∷ column.View view.Network ∷ column.Period period.Day ∷ [])
+      ≡ codes "count link network day"
   pub played : rows_of asked ≡ clock 5 ∷ clock 4 ∷ clock 6 ∷ []
   pub first : (present_after [] (Row (clock 5) ∷ [])).settings.clock ≡ 5
   pub last : (present_after [] asked).settings.clock ≡ 6
-  pub refused : refused_after [] asked ≡ 1
+  pub totals : totals_after [] asked ≡ (record { refused = 1; gaps = 2; octets = 2920 })
   pub told : refusals [] asked ≡ codes "row 3: 11 ClockBack 5" ++ 10 ∷ []
 
 -- two clocks that are earlier than that of the settings, which is 7

@@ -1,5 +1,5 @@
 -- What only private clauses cite.
 pub mod Jobs
-pub mod Asks
+pub mod Words
 pub mod Plays
 pub mod Steps

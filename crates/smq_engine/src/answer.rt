@@ -1,52 +1,136 @@
 //! The answer to a question, and the line of a refusal. Each is made whole in memory before the first octet of it is written.
-ghost use Rattle.std.specs.Prelude.{◌≡◌, IfErr, IfOk, OnOk, Some, string_bytes};
+ghost use Rattle.std.specs.Prelude.{◌≡◌, [], IfErr, IfOk, OnOk, Some, string_bytes};
 ghost use Rattle.std.specs.Io.KnownBytes.{Appends};
-ghost use Rattle.smq_engine.specs.Answers.{answer_text, refusal_line, told_line};
+ghost use Rattle.smq_present.specs.whole.Scratch.{scratch};
+ghost use Rattle.smq_report.specs.Report.{report_text};
+ghost use Rattle.smq_scratch.specs.Lines.{message_lines};
+ghost use Rattle.smq_count.specs.Counts.{counts_text};
+ghost use Rattle.smq_engine.specs.Answers.{answer_text, asked_text, columns_text, refusal_line, told_line, totals_text};
 ghost use Rattle.smq_engine.specs.within.Steps.{EndsSaying};
 
 use crate::RunFault;
-use crate::record::name_of;
+use crate::question::Question;
+use crate::totals::Totals;
 use smq_book::Book;
+use smq_count::{Column, Counting, write_counts};
 use smq_kit::{Moment, Refusal};
+use smq_present::MessageLine;
 use smq_report::{Format, Pick, write_octets, write_report};
+use smq_scratch::message_lines;
 use std::alloc::{AllocError, Global};
 use std::io::Write;
 
-/// The answer to the question of a number, where so many rows were refused.
+/// The answer to the question of a number, where the records before came to these totals.
 pub fn answer(
     alloc: Global,
     book: &Book,
     format: Format,
     number: u64,
-    pick: Pick,
-    refused: u64,
+    question: &Question,
+    totals: Totals,
 ) -> Result<Vec<u8>, RunFault>
     ensures ok { IfOk result (λ text.
-        text.items ≡ answer_text format number pick book.now.present refused) }
+        text.items ≡ answer_text format number question.now book.now.present totals) }
+    ensures memory { IfErr result (λ fault. fault ≡ RunFault.Memory) }
+{
+    let mut text = asked(alloc, book, format, question)?;
+    let line = told_line(alloc, number, question, book.present().clock(), totals)?;
+    text.extend_from_slice(line.as_bytes())?;
+    Ok(text)
+}
+
+/// What is asked.
+fn asked(
+    alloc: Global,
+    book: &Book,
+    format: Format,
+    question: &Question,
+) -> Result<Vec<u8>, RunFault>
+    ensures ok { IfOk result (λ text. text.items ≡ asked_text format question.now book.now.present) }
+    ensures memory { IfErr result (λ fault. fault ≡ RunFault.Memory) }
+{
+    match question {
+        Question::Report(pick) => report_of(alloc, book, format, *pick),
+        Question::Count(columns) => counts_of(alloc, book, columns.as_slice()),
+    }
+}
+
+/// What is picked of the report.
+fn report_of(alloc: Global, book: &Book, format: Format, pick: Pick) -> Result<Vec<u8>, RunFault>
+    ensures ok { IfOk result (λ text. text.items ≡ report_text pick format (scratch book.now.present)) }
     ensures memory { IfErr result (λ fault. fault ≡ RunFault.Memory) }
 {
     let mut text = Vec::new(alloc);
     if write_report(alloc, book.tables(), pick, format, &mut text).is_err() {
         return Err(RunFault::Memory);
     }
-    let line = told_line(alloc, number, pick, book.present().clock(), refused)?;
-    text.extend_from_slice(line.as_bytes())?;
     Ok(text)
+}
+
+/// How many of the messages that are present have the same in columns.
+fn counts_of(alloc: Global, book: &Book, columns: &[Column]) -> Result<Vec<u8>, RunFault>
+    ensures ok { IfOk result (λ text. text.items ≡ columns_text columns.now (message_lines book.now.present)) }
+    ensures memory { IfErr result (λ fault. fault ≡ RunFault.Memory) }
+{
+    let lines = message_lines(alloc, book.present())?;
+    let counting = counting_by(alloc, columns)?;
+    let text = counted(alloc, &counting, lines.as_slice())?;
+    Ok(text)
+}
+
+/// How many messages have the same in the columns of a counting.
+fn counted(
+    alloc: Global,
+    counting: &Counting,
+    lines: &[MessageLine<'_>],
+) -> Result<Vec<u8>, RunFault>
+    ensures ok { IfOk result (λ text. text.items ≡ counts_text counting.now lines.now) }
+    ensures memory { IfErr result (λ fault. fault ≡ RunFault.Memory) }
+{
+    let mut text = Vec::new(alloc);
+    if write_counts(alloc, counting, lines, &mut text).is_err() {
+        return Err(RunFault::Memory);
+    }
+    Ok(text)
+}
+
+/// Counts of all messages by columns.
+fn counting_by(alloc: Global, columns: &[Column]) -> Result<Counting, AllocError>
+    ensures columns { IfOk result (λ counting. counting.columns.items ≡ columns.now) }
+    ensures all { IfOk result (λ counting. counting.conditions.items ≡ []) }
+{
+    let mut copies = Vec::new(alloc);
+    copies.extend_from_slice(columns)?;
+    Ok(Counting {
+        columns: copies,
+        conditions: Vec::new(alloc),
+    })
 }
 
 /// The line that ends an answer.
 fn told_line(
     alloc: Global,
     number: u64,
-    pick: Pick,
+    question: &Question,
     clock: Moment,
-    refused: u64,
+    totals: Totals,
 ) -> Result<String, AllocError>
-    ensures { IfOk result (λ line. string_bytes line ≡ told_line number pick clock refused) }
+    ensures { IfOk result (λ line. string_bytes line ≡ told_line number question.now clock totals) }
 {
-    let name = name_of(pick);
+    let name = question.name(alloc)?;
     let clock = clock.milliseconds();
-    format!(in alloc; "told,{number},{name},{clock},{refused}\n")
+    let totals = totals_text(alloc, totals)?;
+    format!(in alloc; "told,{number},{name},{clock},{totals}\n")
+}
+
+/// Totals as a line has them.
+fn totals_text(alloc: Global, totals: Totals) -> Result<String, AllocError>
+    ensures { IfOk result (λ text. string_bytes text ≡ totals_text totals) }
+{
+    let refused = totals.refused;
+    let gaps = totals.gaps;
+    let octets = totals.octets;
+    format!(in alloc; "{refused},{gaps},{octets}")
 }
 
 /// The line that tells a refusal of the row of a number.

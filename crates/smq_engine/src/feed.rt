@@ -8,19 +8,21 @@ ghost use Rattle.smq_load.specs.Settings.{settings_of};
 ghost use Rattle.smq_engine.specs.Play.{after_rows};
 ghost use Rattle.smq_engine.specs.Answers.{answer_text, answer_to, refusal_line, refusal_to};
 ghost use Rattle.smq_engine.specs.Followed.{AreWritten, EndsBy, IsFollowed, held};
-ghost use Rattle.smq_engine.specs.within.Steps.{ArePlayed, EndsPlay, EndsSaying, EndsStep, IsPlayed, count_of};
+ghost use Rattle.smq_engine.specs.within.Steps.{AreBelow, ArePlayed, EndsPlay, EndsSaying, EndsStep, IsPlayed};
 
 use crate::RunFault;
 use crate::answer::{answer, line_of, send};
 use crate::play::{play_row, play_rows};
+use crate::question::Question;
 use crate::record::Record;
 use crate::record_stream::read_next;
 use crate::retrying_reader::RetryingReader;
+use crate::totals::Totals;
 use csv::{ByteRecord, Reader};
 use smq_book::Book;
 use smq_kit::Refusal;
 use smq_load::{read_settings, record_reader};
-use smq_report::{Format, Pick};
+use smq_report::Format;
 use std::alloc::{AllocError, Global};
 use std::io::{Read, Write};
 use std::mem::forget;
@@ -33,10 +35,11 @@ pub struct Followed {
 }
 
 /// Checks settings and plays them on a new book, and then reads records, one by one: a row is played before the next record is
-/// read, and a question answered. The answer is what is asked of the report of what is present, and a line that ends it. A refused
-/// row is told on `errors`, and skipped. Whatever ends it, all was said of the records before; only where a writer failed, the last
-/// of them may have part of its answer or line. A read or a write that is interrupted is tried again. Errors: `BadSettings`; `BadRow`
-/// at the first record that says neither a row nor a question, with its number from 1; `Read` where the reader fails, or gives
+/// read, and a question answered. The answer is what is asked of the report of what is present, or counts of its messages, and a
+/// line that ends it, which also has how much is missing by the records so far. A refused row is told on `errors`, and skipped.
+/// Whatever ends it, all was said of the records before; only where a writer failed, the last of them may have part of its answer
+/// or line. A read or a write that is interrupted is tried again. Errors: `BadSettings`; `BadRow` at the first record that says
+/// neither a row nor a question nor a gap, with its number from 1; `Read` where the reader fails, or gives
 /// 18,446,744,073,709,551,614 records; `Write` where a writer fails; `Memory`. The process ends after it, which gives the book's
 /// memory back: it isn't taken apart piece by piece.
 pub fn follow<RT: AllocGlobal, R: Read, W: Write, E: Write>(
@@ -91,41 +94,44 @@ fn follow_records<R: Read, W: Write, E: Write>(
     ensures set { IfErr result (λ fault. fault ≢ RunFault.BadSettings) }
 {
     let mut fields = ByteRecord::new(alloc);
-    let mut refused = 0u64;
+    let mut totals = Totals::none();
     for number in 1..u64::MAX {
         match read_next(alloc, reader, &mut fields, number)? {
             Some(said) => {
-                refused = obey(alloc, format, book, number, refused, said, writer, errors)?
+                totals = obey(alloc, format, book, number, totals, said, writer, errors)?
             }
-            None => return Ok(Followed { refused }),
+            None => {
+                let refused = totals.refused;
+                return Ok(Followed { refused });
+            }
         }
     }
     Err(RunFault::Read)
 }
 
-/// Plays or answers the record of a number, where so many rows before it were refused, and gives how many are then.
+/// Plays, answers or counts the record of a number, where those before it came to these totals, and gives the totals then.
 fn obey<W: Write, E: Write>(
     alloc: Global,
     format: Format,
     book: &mut Book,
     number: u64,
-    refused: u64,
+    totals: Totals,
     said: Record,
     writer: &mut W,
     errors: &mut E,
-) -> Result<u64, RunFault>
-    requires { refused < number }
-    ensures counted { IfOk result (λ count. count ≤ number) }
+) -> Result<Totals, RunFault>
+    requires { AreBelow number totals }
+    ensures counted { IfOk result (AreBelow (number + 1)) }
     ensures played { (settings_rows : List rows.Row) → (before : List Record)
-        → number ≡ length before + 1 → ArePlayed settings_rows before book.old.present refused
+        → number ≡ length before + 1 → ArePlayed settings_rows before book.old.present totals
         → IfOk result (ArePlayed settings_rows (before ++ said ∷ []) book.new.present) }
     ensures said { (settings_rows : List rows.Row) → (before : List Record)
-        → number ≡ length before + 1 → ArePlayed settings_rows before book.old.present refused
+        → number ≡ length before + 1 → ArePlayed settings_rows before book.old.present totals
         → OnOk result (AreWritten
         (held (W.contents writer.old) (W.contents writer.new) (E.contents errors.old) (E.contents errors.new))
         (answer_to format settings_rows before said) (refusal_to settings_rows before said)) }
     ensures fault { (settings_rows : List rows.Row) → (before : List Record)
-        → number ≡ length before + 1 → ArePlayed settings_rows before book.old.present refused
+        → number ≡ length before + 1 → ArePlayed settings_rows before book.old.present totals
         → IfErr result (λ fault. EndsStep fault format settings_rows before said
         (held (W.contents writer.old) (W.contents writer.new) (E.contents errors.old) (E.contents errors.new))) }
     ensures set { IfErr result (λ fault. fault ≢ RunFault.BadSettings) }
@@ -133,45 +139,35 @@ fn obey<W: Write, E: Write>(
     match said {
         Record::Row(row) => {
             let refusal = play_row(alloc, book, row)?;
-            let count = counted(refused, &refusal);
+            let totals = totals.with_row(&refusal);
             tell(alloc, number, refusal, errors)?;
-            Ok(count)
+            Ok(totals)
         }
-        Record::Ask(pick) => {
-            say(alloc, format, book, number, pick, refused, writer)?;
-            Ok(refused)
+        Record::Ask(question) => {
+            say(alloc, format, book, number, &question, totals, writer)?;
+            Ok(totals)
         }
+        Record::Lost(loss) => Ok(totals.with_loss(loss)),
     }
 }
 
-/// How many rows are refused with one more that may be.
-fn counted(refused: u64, refusal: &Option<Refusal>) -> u64
-    requires { refused < 2 ^ 64 - 1 }
-    ensures { result ≡ refused + count_of refusal.now }
-{
-    match refusal {
-        Some(_) => refused + 1,
-        None => refused,
-    }
-}
-
-/// Answers the question of a number, where so many rows were refused.
+/// Answers the question of a number, where the records before came to these totals.
 fn say<W: Write>(
     alloc: Global,
     format: Format,
     book: &Book,
     number: u64,
-    pick: Pick,
-    refused: u64,
+    question: &Question,
+    totals: Totals,
     writer: &mut W,
 ) -> Result<(), RunFault>
     ensures ok { OnOk result (Appends (W.contents writer.old) (W.contents writer.new)
-        (answer_text format number pick book.now.present refused)) }
+        (answer_text format number question.now book.now.present totals)) }
     ensures fault { IfErr result (λ fault.
         EndsSaying fault (W.contents writer.old) (W.contents writer.new)
-        (answer_text format number pick book.now.present refused)) }
+        (answer_text format number question.now book.now.present totals)) }
 {
-    let text = answer(alloc, book, format, number, pick, refused)?;
+    let text = answer(alloc, book, format, number, question, totals)?;
     send(writer, text.as_slice())
 }
 

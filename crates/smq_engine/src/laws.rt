@@ -7,7 +7,7 @@ ghost use Rattle.smq_engine.specs.Known.{KnowsChecks, KnowsFailures, KnowsFaults
 ghost use Rattle.smq_engine.specs.Sessions.{IsLoadedInOrder};
 ghost use Rattle.smq_engine.specs.Workers.{AreMadeOf};
 ghost use Rattle.smq_engine.specs.KnownFollow.{KnowsAnswers, KnowsEndings, KnowsLines, KnowsRecords};
-ghost use Rattle.smq_engine.specs.Laws.{AnswersStand, EachIsAsked, TotalsAreRuns};
+ghost use Rattle.smq_engine.specs.Laws.{AnswersStand, CountsAreTheView, EachIsAsked, TotalsAreRuns};
 
 /// Where a history is made of rows, the edits by which its workers put octets into a session are what became of the session's pieces,
 /// in the order of the rows.
@@ -58,6 +58,11 @@ pub fn known_answers()
 /// What is written of a script is written of as many rows without a limit, and the first bad row is the same, as far as a script may go.
 pub fn totals_are_runs()
     ensures { TotalsAreRuns }
+{}
+
+/// Counts by a view's column and outcome are that view: each value and outcome has as many messages as the tables count.
+pub fn counts_by_a_views_column_are_the_view()
+    ensures { CountsAreTheView }
 {}
 
 /// The lines where no message or no delivery receipt is present.

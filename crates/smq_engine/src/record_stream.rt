@@ -4,7 +4,7 @@ ghost use Rattle.smq_engine.specs.Followed.{AreAllOf};
 ghost use Rattle.smq_engine.specs.within.Steps.{EndsReading, HasGivenRecords};
 
 use crate::RunFault;
-use crate::record::{Record, read_said};
+use crate::record::Record;
 use csv::{ByteRecord, Reader};
 use smq_load::read_record;
 use std::alloc::Global;
@@ -32,7 +32,7 @@ pub(crate) fn read_next<R: Read>(
     if !read_record(reader, fields)? {
         return Ok(None);
     }
-    match read_said(alloc, fields)? {
+    match Record::read(alloc, fields)? {
         Some(next) => Ok(Some(next)),
         None => Err(RunFault::BadRow { row: number }),
     }

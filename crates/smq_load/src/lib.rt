@@ -11,7 +11,7 @@ mod script;
 mod settings;
 mod table;
 
-pub use field::is_word;
+pub use field::{is_word, read_decimal, read_dir, read_session};
 pub use input::MOST_OCTETS;
 pub use laws::{
     fault_eq_is_equality, known_decimals, known_fields, known_instants, known_limits,

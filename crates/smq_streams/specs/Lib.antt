@@ -7,3 +7,5 @@ pub mod Acknowledged
 pub mod Direction
 pub mod within
 pub mod Known
+pub mod Extent
+pub mod Fit

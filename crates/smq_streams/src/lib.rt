@@ -2,6 +2,8 @@
 #![tactic(auto)]
 
 mod acknowledged;
+mod extent;
+mod fit;
 mod framer;
 mod given;
 mod headers;
@@ -9,9 +11,10 @@ mod laws;
 mod seeker;
 mod stream;
 
+pub use fit::Fit;
 pub use framer::Framer;
 pub use given::Given;
 pub use headers::{LONGEST_PDU, SHORTEST_PDU};
 pub use laws::{known_octets, one_framer};
 pub use seeker::Seeker;
-pub use stream::{Fit, Found, Missing, Stream, Why};
+pub use stream::{Found, Missing, Stream, Why};

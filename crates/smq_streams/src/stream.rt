@@ -5,35 +5,23 @@ ghost use Rattle.smq_reassembly.specs.Moment.{IsGiven, Start};
 ghost use Rattle.smq_reassembly.specs.Piece.{Piece, octets_in};
 ghost use Rattle.smq_reassembly.specs.Segment.{piece_of};
 ghost use Rattle.smq_reassembly.specs.Sequence.{IsPlace};
-ghost use Rattle.smq_streams.specs.Direction.{Adds, Direction, Gives, IsLost, Searches, Skips, acknowledged_since, given_up_at};
+ghost use Rattle.smq_streams.specs.Direction.{Adds, Direction, Gives, Searches, Skips};
 ghost use Rattle.smq_streams.specs.Search.{octets_given, with_given};
 ghost use Rattle.std.specs.Option.{is_some};
 
 use crate::acknowledged::Acknowledged;
+use crate::extent::Extent;
 use crate::given::Given;
 use crate::seeker::Seeker;
-use smq_reassembly::{Next, Packet, Part, Place, Reassembly, Taken, WINDOW, place_of};
+use smq_reassembly::{Next, Packet, Part, Place, Reassembly, Taken, place_of};
 use std::alloc::{AllocError, Global};
 use std::marker::Model;
 
-/// A gap is given up so many ms after the other end acknowledged what is missing, or after it opened where that isn't seen.
-const ACKNOWLEDGED_FOR: u64 = 2_000;
-
-const OPEN_FOR: u64 = 300_000;
+mod lost;
+mod numbers;
 
 /// What a piece that waits takes besides its octets.
 const PIECE: u64 = 128;
-
-/// Where a segment stands by its sequence number.
-#[derive(Clone, Copy, Debug, PartialEq, Eq)]
-pub enum Fit {
-    /// Before the first octet.
-    Before,
-    /// Among the octets, or within a window ahead of them.
-    Within,
-    /// Further ahead.
-    Ahead,
-}
 
 /// A PDU that is seen to begin behind a gap: its place, the packet of its first octet, and how many octets before it were passed over.
 #[derive(Clone, Copy)]
@@ -70,11 +58,7 @@ pub struct Stream {
     /// The sequence number of the first octet.
     first: Option<u32>,
     order: Reassembly,
-    /// The place behind the last octet of a segment, and behind the last one that was captured.
-    end: u64,
-    top: u64,
-    /// The place behind the last number that the other end acknowledged or the sender went past; it may be that of a FIN.
-    reached: u64,
+    extent: Extent,
     /// Since when something waits; and, while it does, what the other end acknowledges.
     opened: Option<u64>,
     acknowledged: Acknowledged,
@@ -111,9 +95,7 @@ impl Stream {
         Stream {
             first: None,
             order: Reassembly::new(alloc),
-            end: 0,
-            top: 0,
-            reached: 0,
+            extent: Extent::new(),
             opened: None,
             acknowledged: Acknowledged::new(alloc),
             is_searching: false,
@@ -124,7 +106,11 @@ impl Stream {
     }
 
     /// Learns the sequence number of the first octet, where none is known; whether the first PDU has to be looked for.
-    pub fn begin(&mut self, first: u32, is_searching: bool) {
+    pub fn begin(&mut self, first: u32, is_searching: bool)
+        ensures begins { self.old.first ≡ None
+            → self.new ≡ record self.old { first = Some first; is_searching = is_searching } }
+        ensures same { (f : ℕ) → self.old.first ≡ Some f → self.new ≡ self.old }
+    {
         if self.first.is_none() {
             self.first = Some(first);
             self.is_searching = is_searching;
@@ -132,7 +118,9 @@ impl Stream {
     }
 
     /// The sequence number of the first octet, if it is known.
-    pub fn first(&self) -> Option<u32> {
+    pub fn first(&self) -> Option<u32>
+        ensures { result ≡ self.now.first }
+    {
         self.first
     }
 
@@ -141,21 +129,6 @@ impl Stream {
         ensures { result ≡ self.now.order.next }
     {
         self.order.next()
-    }
-
-    /// The place behind the last octet that was sent, as far as was seen: one number alone behind those of segments is taken for a FIN's
-    /// (RFC 9293, 3.4).
-    pub fn end(&self) -> u64 {
-        if self.end.saturating_add(1) < self.reached {
-            self.reached
-        } else {
-            self.end
-        }
-    }
-
-    /// The place behind the last octet that was captured.
-    pub fn top(&self) -> u64 {
-        self.top
     }
 
     /// Whether octets are passed over until a PDU begins.
@@ -171,7 +144,11 @@ impl Stream {
     }
 
     /// Takes nothing more: what waits is let go.
-    pub fn stop(&mut self) {
+    pub fn stop(&mut self)
+        ensures stopped { self.new.is_stopped ≡ true }
+        ensures waiting { self.new.order.waiting ≡ [] }
+        ensures given { (self.new.order.next ≡ self.old.order.next) × (self.new.held ≡ self.old.held) }
+    {
         self.is_stopped = true;
         self.order.let_go();
         self.opened = None;
@@ -186,7 +163,9 @@ impl Stream {
     }
 
     /// Whether octets wait behind a gap, or behind one that was given up until it is seen where a PDU begins.
-    pub fn is_open(&self) -> bool {
+    pub fn is_open(&self) -> bool
+        ensures { result ≡ false → self.now.order.waiting ≡ [] }
+    {
         self.has_gap() || self.is_unclear()
     }
 
@@ -202,69 +181,6 @@ impl Stream {
             .saturating_add(self.order.waiting_octets())
             .saturating_add(self.seeker.len() as u64)
             .saturating_add((self.acknowledged.len() as u64).saturating_mul(16))
-    }
-
-    /// Where an octet with a sequence number stands: the nearest place to what was given. None before the first octet.
-    pub fn place(&self, sequence: u32) -> Option<u64> {
-        match place_of(self.first?, self.order.next(), sequence) {
-            Place::Ahead(far) => Some(self.order.next().saturating_add(far as u64)),
-            Place::Behind(far) => self.order.next().checked_sub(far as u64),
-        }
-    }
-
-    /// Where a segment of so many octets stands. One octet before the first is a probe that keeps the connection alive.
-    pub fn fit(&self, sequence: u32, length: u64) -> Fit {
-        let Some(first) = self.first else {
-            return Fit::Within;
-        };
-        match place_of(first, self.order.next(), sequence) {
-            Place::Ahead(far) if far as u64 > WINDOW => Fit::Ahead,
-            Place::Behind(far)
-                if self.order.next().saturating_add(length).saturating_add(1) < far as u64
-                    || (length > 0 && self.order.next().saturating_add(length) < far as u64) => {
-                Fit::Before
-            }
-            _ => Fit::Within,
-        }
-    }
-
-    /// Takes note that all octets before a sequence number were sent; where that is no segment's that has octets or a FIN, the last
-    /// number before it may be that of a FIN.
-    pub fn note_sent(&mut self, sequence: u32, is_exact: bool) {
-        if let Some(place) = self.place(sequence) {
-            if place.saturating_sub(self.order.next()) > WINDOW {
-                return;
-            }
-            if is_exact {
-                self.end = self.end.max(place);
-            } else {
-                self.note_reached(place);
-            }
-        }
-    }
-
-    /// Takes note of a place up to which numbers were sent. One more than was known is the number of a FIN.
-    fn note_reached(&mut self, place: u64)
-        ensures { self.new ≡ self.old }
-    {
-        if self.end().saturating_add(1) < place {
-            self.reached = place;
-        }
-    }
-
-    /// Takes note that the other end has all octets before a sequence number.
-    pub fn note_acknowledged(&mut self, sequence: u32, moment: u64) -> Result<(), AllocError> {
-        let Some(place) = self.place(sequence) else {
-            return Ok(());
-        };
-        if place.saturating_sub(self.order.next()) > WINDOW {
-            return Ok(());
-        }
-        self.note_reached(place);
-        if !self.has_gap() {
-            return Ok(());
-        }
-        self.acknowledged.note(place, moment)
     }
 
     /// Takes the octets of a segment where they are the next and none wait, and lends them: they count as given then.
@@ -376,8 +292,7 @@ impl Stream {
     fn note_captured(&mut self, end: u64)
         ensures { self.new ≡ self.old }
     {
-        self.top = self.top.max(end);
-        self.end = self.end.max(end);
+        self.extent.note_captured(end);
     }
 
     /// The next octets that follow what was given, as one segment brought them; none while a PDU is looked for.
@@ -426,77 +341,6 @@ impl Stream {
             begins,
             octets,
         })
-    }
-
-    /// Takes note of when something begins and ceases to wait.
-    pub fn watch(&mut self, moment: u64) {
-        if !self.has_gap() {
-            self.acknowledged.clear();
-        }
-        if !self.is_open() {
-            self.opened = None;
-        } else if self.opened.is_none() {
-            self.opened = Some(moment);
-        }
-    }
-
-    /// Lets the time of what waits begin anew.
-    pub fn watch_anew(&mut self, moment: u64) {
-        self.opened = None;
-        self.watch(moment);
-    }
-
-    /// Since when something waits.
-    pub fn opened(&self) -> Option<u64>
-        ensures { result ≡ self.now.opened }
-    {
-        self.opened
-    }
-
-    /// When what waits is given up.
-    pub fn deadline(&mut self) -> Option<u64>
-        ensures value { result ≡ given_up_at self.old.opened (acknowledged_since self.old) }
-    {
-        let old = self.opened?.saturating_add(OPEN_FOR);
-        match self.acknowledged_since() {
-            Some(moment) if moment.saturating_add(ACKNOWLEDGED_FOR) < old => {
-                Some(moment.saturating_add(ACKNOWLEDGED_FOR))
-            }
-            _ => Some(old),
-        }
-    }
-
-    /// Since when the other end acknowledges what is missing.
-    fn acknowledged_since(&mut self) -> Option<u64>
-        ensures value { result ≡ acknowledged_since self.old }
-        ensures same { self.new ≡ record self.old { notes = self.new.notes } }
-    {
-        let least = self.order.first_waiting()?;
-        self.acknowledged.since(least)
-    }
-
-    /// Why what waits is given up at a moment, if it is.
-    pub fn is_lost(&mut self, moment: u64) -> Option<Why>
-        ensures { IsLost self.old.opened (acknowledged_since self.old) moment result }
-    {
-        let opened = self.opened?;
-        if let Some(since) = self.acknowledged_since() {
-            if moment >= since.saturating_add(ACKNOWLEDGED_FOR) {
-                return Some(Why::Acknowledged);
-            }
-        }
-        if moment >= opened.saturating_add(OPEN_FOR) {
-            return Some(Why::Old);
-        }
-        None
-    }
-
-    /// The packet that brought the first octets behind a gap, or behind one that was given up.
-    pub fn first_packet(&self) -> Option<u64> {
-        if self.is_unclear() {
-            return Some(self.seeker.number());
-        }
-        Some(self.order.first_waiting_packet()?.number)
     }
 
     /// Gives the gap before what waits up: the stream goes on behind it, where a PDU begins. What is missing.

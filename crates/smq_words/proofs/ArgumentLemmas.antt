@@ -24,7 +24,7 @@ use Rattle.smq_report.specs.declared.pick.Format.{Format}
 use Rattle.smq_report.specs.declared.pick.Format.TheVariants as format
 use Rattle.smq_report.specs.declared.pick.Pick.{Pick}
 use Rattle.smq_report.specs.declared.pick.Pick.TheVariants as pick
-use Rattle.smq_words.specs.Words.{TakesNames, ask_rule, file_rule, format_name, format_names, format_rule, link_rule, name_rule, option_rule, optional_rule, repeated_rule, settings_rule, strict_rule}
+use Rattle.smq_words.specs.Words.{TakesNames, file_rule, flag_rule, format_name, format_names, format_rule, link_rule, name_rule, option_rule, optional_rule, quiet_rule, repeated_rule, settings_rule, strict_rule}
 use Rattle.smq_words.proofs.LevelLemmas.{AllKeep, DefaultsFit, IfHas, Keeps, append_keeps, flag_keeps, flagged, help_keeps, set_keeps, set_once, some_kind}
 
 -- ---- names
@@ -98,21 +98,33 @@ taken_format parser takes v h = named_among format_name (format.Csv ∷ format.T
 abbrev pub IsFlagText : Text → Type 0
 IsFlagText v = (b : Bool) × (bool_text b ≡ v)
 
+-- whether an argument is `--strict` or `--quiet`
+abbrev pub is_flag : Text → Bool
+is_flag id = bytes_eq id (codes "strict") || bytes_eq id (codes "quiet")
+
 -- what is known of the value of an argument: NAME's has N, a format is named, and a flag is given or not
 abbrev pub Known : (Text → Type 0) → Text → Text → Type 0
-Known N id v = (id ≡ codes "NAME" → N v) × (id ≡ codes "format" → IsFormatName v) × (id ≡ codes "strict" → IsFlagText v)
+Known N id v = (id ≡ codes "NAME" → N v) × (id ≡ codes "format" → IsFormatName v) × (is_flag id ≡ true → IsFlagText v)
 
 pub apart : (a b : Text) → bytes_eq a b ≡ false → a ≡ b → ⊥
 apart a b h e = let same : bytes_eq a b ≡ true = (bytes_eq-Decides a b).1 e in cc
 
--- an argument of another id
-pub other_known : (N : Text → Type 0) (id v : Text) → bytes_eq id (codes "NAME") ≡ false → bytes_eq id (codes "format") ≡ false
-    → bytes_eq id (codes "strict") ≡ false → Known N id v
-other_known N id v name shape strict = (
+no_flag : (id v : Text) → is_flag id ≡ false → is_flag id ≡ true → IsFlagText v
+no_flag id v none e = cc
+
+-- an argument of another id, where a flag's value is known
+flag_text_known : (N : Text → Type 0) (id v : Text) → bytes_eq id (codes "NAME") ≡ false → bytes_eq id (codes "format") ≡ false
+    → (is_flag id ≡ true → IsFlagText v) → Known N id v
+flag_text_known N id v name shape given = (
   λ e. absurd (apart id (codes "NAME") name e),
   λ e. absurd (apart id (codes "format") shape e),
-  λ e. absurd (apart id (codes "strict") strict e),
+  given,
 )
+
+-- an argument of another id
+pub other_known : (N : Text → Type 0) (id v : Text) → bytes_eq id (codes "NAME") ≡ false → bytes_eq id (codes "format") ≡ false
+    → is_flag id ≡ false → Known N id v
+other_known N id v name shape none = flag_text_known N id v name shape (no_flag id v none)
 
 taken_flag : (v : Text) → value_kinds false vp.Bool v ≡ [] → IsFlagText v
 taken_flag v h = by_tests (bytes_eq v (codes "true")) (bytes_eq v (codes "false")) refl refl (accepted vp.Bool v h)
@@ -139,7 +151,7 @@ pub format_keeps : (N : Text → Type 0) (formats : ValueParser) → TakesNames 
 format_keeps N formats takes = set_keeps (Known N) (format_built formats) (λ v h. (
   λ e. absurd (apart (codes "format") (codes "NAME") refl e),
   λ e. taken_format formats takes v h,
-  λ e. absurd (apart (codes "format") (codes "strict") refl e),
+  no_flag (codes "format") v refl,
 ))
 
 pub settings_keeps : (N : Text → Type 0) → Keeps (Known N) (set_once (filled settings_rule))
@@ -149,7 +161,7 @@ name_known : (names : ValueParser) → TakesNames pick_names names → (v : Text
 name_known names takes v h = (
   λ e. taken_pick names takes v h,
   λ e. absurd (apart (codes "NAME") (codes "format") refl e),
-  λ e. absurd (apart (codes "NAME") (codes "strict") refl e),
+  no_flag (codes "NAME") v refl,
 )
 
 pub name_keeps : (names : ValueParser) → TakesNames pick_names names → Keeps (Known IsPickName) (set_once (name_built names))
@@ -158,40 +170,38 @@ name_keeps names takes = set_keeps (Known IsPickName) (name_built names) (name_k
 pub optional_keeps : (names : ValueParser) → TakesNames pick_names names → Keeps (Known IsPickName) (set_once (optional_built names))
 optional_keeps names takes = set_keeps (Known IsPickName) (optional_built names) (name_known names takes)
 
-strict_keeps : (N : Text → Type 0) → Keeps (Known N) (flagged (filled strict_rule))
-strict_keeps N = flag_keeps (Known N) (filled strict_rule) (λ v h. (
-  λ e. absurd (apart (codes "strict") (codes "NAME") refl e),
-  λ e. absurd (apart (codes "strict") (codes "format") refl e),
-  λ e. taken_flag v h,
-))
+known_flag_keeps : (N : Text → Type 0) (id : Text) → bytes_eq id (codes "NAME") ≡ false → bytes_eq id (codes "format") ≡ false
+    → Keeps (Known N) (flagged (filled (flag_rule id)))
+known_flag_keeps N id name shape =
+    flag_keeps (Known N) (filled (flag_rule id)) (λ v h. flag_text_known N id v name shape (λ e. taken_flag v h))
 
 -- the rules of how captures are read, before others
 abbrev reading_built : List Rule → List Rule
 reading_built rest =
-    filled (option_rule (codes "first-session")) ∷ filled strict_rule ∷ filled (option_rule (codes "index"))
+    filled (option_rule (codes "first-session")) ∷ filled strict_rule ∷ filled quiet_rule ∷ filled (option_rule (codes "index"))
     ∷ filled (option_rule (codes "losses")) ∷ rest
 
 pub reading_keep : (N : Text → Type 0) (rest : List Rule) → AllKeep (Known N) rest → AllKeep (Known N) (reading_built rest)
 reading_keep N rest keep = (
   set_keeps (Known N) (filled (option_rule (codes "first-session"))) (λ v h. other_known N (codes "first-session") v refl refl refl),
   (
-    strict_keeps N,
+    known_flag_keeps N (codes "strict") refl refl,
     (
-      set_keeps (Known N) (filled (option_rule (codes "index"))) (λ v h. other_known N (codes "index") v refl refl refl),
-      (set_keeps (Known N) (filled (option_rule (codes "losses"))) (λ v h. other_known N (codes "losses") v refl refl refl), keep),
+      known_flag_keeps N (codes "quiet") refl refl,
+      (
+        set_keeps (Known N) (filled (option_rule (codes "index"))) (λ v h. other_known N (codes "index") v refl refl refl),
+        (set_keeps (Known N) (filled (option_rule (codes "losses"))) (λ v h. other_known N (codes "losses") v refl refl refl), keep),
+      ),
     ),
   ),
 )
 
 pub reading_default : (N : Text → Type 0) (rest : List Rule) → DefaultsFit (Known N) rest → DefaultsFit (Known N) (reading_built rest)
-reading_default N rest fit = (tt, ((strict_default, tt), (tt, (tt, fit))))
+reading_default N rest fit =
+    (tt, ((not_given (codes "strict") refl refl, tt), ((not_given (codes "quiet") refl refl, tt), (tt, (tt, fit)))))
   where
-    strict_default : Known N (codes "strict") (codes "false")
-    strict_default = (
-      λ e. absurd (apart (codes "strict") (codes "NAME") refl e),
-      λ e. absurd (apart (codes "strict") (codes "format") refl e),
-      λ e. (false, refl),
-    )
+    not_given : (id : Text) → bytes_eq id (codes "NAME") ≡ false → bytes_eq id (codes "format") ≡ false → Known N id (codes "false")
+    not_given id name shape = flag_text_known N id (codes "false") name shape (λ e. (false, refl))
 
 -- the rules of captures that are read behind rows, before others
 abbrev captures_built : List Rule → List Rule
@@ -210,14 +220,22 @@ pub captures_default : (N : Text → Type 0) (rest : List Rule) → DefaultsFit 
 captures_default N rest fit = (tt, (tt, reading_default N rest fit))
 
 -- the rules of what is asked while packets come, before others
-abbrev pub live_built : ValueParser → List Rule → List Rule
-live_built questions rest = filled (option_rule (codes "every")) ∷ filled (ask_rule questions) ∷ rest
+abbrev pub live_built : List Rule → List Rule
+live_built rest = filled (option_rule (codes "every")) ∷ filled (repeated_rule (codes "ask")) ∷ rest
 
-pub live_keep : (N : Text → Type 0) (questions : ValueParser) (rest : List Rule) → AllKeep (Known N) rest → AllKeep (Known N) (live_built questions rest)
-live_keep N questions rest keep = (
+pub live_keep : (N : Text → Type 0) (rest : List Rule) → AllKeep (Known N) rest → AllKeep (Known N) (live_built rest)
+live_keep N rest keep = (
   set_keeps (Known N) (filled (option_rule (codes "every"))) (λ v h. other_known N (codes "every") v refl refl refl),
-  (append_keeps (Known N) (filled (ask_rule questions)) (λ v h. other_known N (codes "ask") v refl refl refl), keep),
+  (append_keeps (Known N) (filled (repeated_rule (codes "ask"))) (λ v h. other_known N (codes "ask") v refl refl refl), keep),
 )
+
+-- the length of a window, an option before others
+abbrev pub window_built : List Rule → List Rule
+window_built rest = filled (option_rule (codes "window")) ∷ rest
+
+pub window_keep : (N : Text → Type 0) (rest : List Rule) → AllKeep (Known N) rest → AllKeep (Known N) (window_built rest)
+window_keep N rest keep =
+    (set_keeps (Known N) (filled (option_rule (codes "window"))) (λ v h. other_known N (codes "window") v refl refl refl), keep)
 
 abbrev pub help_built : List Rule
 help_built = filled help_rule ∷ []
@@ -264,9 +282,9 @@ flag_read reading.Boolish false = refl
 flag_read reading.Falsey true = refl
 flag_read reading.Falsey false = refl
 
-pub strict_read : (N : Text → Type 0) (how : Reading) (v : Text) → Known N (codes "strict") v → IsFlagText (read_as how v)
-strict_read N how v known =
-    let is = known.2 refl in
+pub known_read : (N : Text → Type 0) (id : Text) → is_flag id ≡ true → (how : Reading) (v : Text) → Known N id v → IsFlagText (read_as how v)
+known_read N id flag how v known =
+    let is = known.2 flag in
     (is.0, flag_read how is.0 ∙ ap (read_as how) is.1)
 
 -- what `get_flag` says of the text of a flag

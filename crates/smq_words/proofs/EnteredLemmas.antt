@@ -3,7 +3,7 @@ use Rattle.std.proofs.Common.{◌≡◌, ◌∙◌, ◌||◌, ◌&&◌, Bool, tr
 use Rattle.std.specs.Prelude.{not}
 use Rattle.clap.specs.Faults.{level_fault}
 use Rattle.clap.specs.Kinds.{check_kinds}
-use Rattle.clap.specs.Simple.{Shape, built_leaf, entered, filled, rows_at}
+use Rattle.clap.specs.Simple.{Shape, built_leaf, entered, filled, rows_at, with_index}
 use Rattle.clap.specs.Takes.{is_given}
 use Rattle.clap.specs.Walk.{Row, Text, first_of, nothing_held, one_of, rows_after}
 use Rattle.clap.specs.Walk.{subcommand}
@@ -14,10 +14,10 @@ use Rattle.smq_report.specs.declared.pick.Output.TheVariants as output
 use Rattle.smq_report.specs.declared.pick.Pick.{Pick}
 use Rattle.smq_report.specs.declared.pick.Pick.TheVariants as pick
 use Rattle.smq_words.specs.declared.orders.Task.{Task}
-use Rattle.smq_words.specs.declared.orders.Task.TheVariants.{Capture, Count, Follow, Run, Total}
-use Rattle.smq_words.specs.Words.{Asks, CaptureTexts, CountingTexts, HasCaptures, IsQueried, Say, TakesNames, capture_app, columns_rule, count_app, counting_in, follow_app, format_names, name_rule, named_app, optional_rule, options_app, repeated_rule, required_link_rule, settings_app, subcommand_name, values_of}
+use Rattle.smq_words.specs.declared.orders.Task.TheVariants.{Capture, Count, Follow, Run, Total, Window}
+use Rattle.smq_words.specs.Words.{Asks, CaptureTexts, CountingTexts, HasCaptures, HasFlag, IsQueried, Say, TakesNames, capture_app, columns_rule, count_app, counting_in, follow_app, format_names, length_rule, name_rule, named_app, optional_rule, options_app, repeated_rule, required_link_rule, settings_app, subcommand_name, values_of, window_app}
 use Rattle.smq_words.proofs.LevelLemmas.{Fit, IfHas, append_keeps, first_fit, given_fit, level_fit, read_fit, set_keeps, some_kind}
-use Rattle.smq_words.proofs.ArgumentLemmas.{IsFlagText, IsFormatName, IsPickName, Known, Nameless, captures_default, captures_keep, file_built, flag_known, format_keeps, format_known, help_built, help_default, help_keep, live_built, live_keep, name_keeps, none_known, of_known, optional_keeps, other_known, pick_known, reading_default, reading_keep, settings_keeps, strict_read}
+use Rattle.smq_words.proofs.ArgumentLemmas.{IsFlagText, IsFormatName, IsPickName, Known, Nameless, captures_default, captures_keep, file_built, flag_known, format_keeps, format_known, help_built, help_default, help_keep, is_flag, known_read, live_built, live_keep, name_keeps, none_known, of_known, optional_keeps, other_known, pick_known, reading_default, reading_keep, settings_keeps, window_built, window_keep}
 
 abbrev pub settings_built : Text → Shape
 settings_built name = built_leaf (record (settings_app name).top { no_binary_name = true })
@@ -25,8 +25,8 @@ settings_built name = built_leaf (record (settings_app name).top { no_binary_nam
 abbrev pub options_built : Text → ValueParser → Shape
 options_built name formats = built_leaf (record (options_app name formats).top { no_binary_name = true })
 
-abbrev pub follow_built : ValueParser → ValueParser → Shape
-follow_built formats questions = built_leaf (record (follow_app formats questions).top { no_binary_name = true })
+abbrev pub follow_built : ValueParser → Shape
+follow_built formats = built_leaf (record (follow_app formats).top { no_binary_name = true })
 
 abbrev pub query_built : ValueParser → ValueParser → Shape
 query_built names formats = built_leaf (record (named_app (codes "query") (name_rule names) formats).top { no_binary_name = true })
@@ -34,21 +34,30 @@ query_built names formats = built_leaf (record (named_app (codes "query") (name_
 abbrev pub total_built : ValueParser → ValueParser → Shape
 total_built names formats = built_leaf (record (named_app (codes "total") (optional_rule names) formats).top { no_binary_name = true })
 
-abbrev pub capture_built : ValueParser → Shape
-capture_built questions = built_leaf (record (capture_app questions).top { no_binary_name = true })
+abbrev pub capture_built : Shape
+capture_built = built_leaf (record capture_app.top { no_binary_name = true })
 
 abbrev pub count_built : Shape
 count_built = built_leaf (record count_app.top { no_binary_name = true })
 
+abbrev pub length_built : Shape
+length_built = built_leaf (record window_app.top { no_binary_name = true })
+
 -- words ask for a task
 abbrev pub Asked : Option (Text × List Row) → Type 0
 Asked entered =
-    (task : Task) × (path : Option Text) × (counting : CountingTexts) × (captures : CaptureTexts) × Asks entered task path counting captures
+    (task : Task) × (path : Option Text) × (window : Option Text) × (counting : CountingTexts) × (captures : CaptureTexts)
+    × Asks entered task path window counting captures
+
+-- what the arguments say of a flag
+flag_said : (N : Text → Type 0) (id : Text) → is_flag id ≡ true → (rows : List Row) → Fit (Known N) rows → (given : Bool) × HasFlag id rows given
+flag_said N id flag rows fit = flag_known (one_of id rows) (read_fit (Known N) IsFlagText id (known_read N id flag) rows fit)
 
 -- what the arguments say of captures
 captures_said : (N : Text → Type 0) (rows : List Row) → Fit (Known N) rows → (captures : CaptureTexts) × HasCaptures rows captures
 captures_said N rows fit =
-    let given = flag_known (one_of (codes "strict") rows) (read_fit (Known N) IsFlagText (codes "strict") (strict_read N) rows fit) in (
+    let strictly = flag_said N (codes "strict") refl rows fit in
+    let quietly = flag_said N (codes "quiet") refl rows fit in (
       record {
         paths = values_of (codes "FILE") rows ++ values_of (codes "capture") rows;
         links = values_of (codes "link") rows;
@@ -57,7 +66,8 @@ captures_said N rows fit =
         losses = first_of (codes "losses") rows;
         every = first_of (codes "every") rows;
         questions = values_of (codes "ask") rows;
-        is_strict = given.0;
+        is_strict = strictly.0;
+        is_quiet = quietly.0;
       },
       record {
         paths = refl;
@@ -67,7 +77,8 @@ captures_said N rows fit =
         losses = refl;
         every = refl;
         questions = refl;
-        strict = given.1;
+        strict = strictly.1;
+        quiet = quietly.1;
       },
     )
 
@@ -77,9 +88,10 @@ task_asked N task rows fit say =
     let said = captures_said N rows fit in (
       task,
       first_of (codes "settings") rows,
+      first_of (codes "window") rows,
       counting_in rows task,
       said.0,
-      record { rows = rows; enters = refl; say = say; has_path = refl; has_counting = refl; has_captures = said.1 },
+      record { rows = rows; enters = refl; say = say; has_path = refl; has_window = refl; has_counting = refl; has_captures = said.1 },
     )
 
 -- of a subcommand with no format and no name
@@ -92,17 +104,17 @@ settings_asked task say words clean =
     (settings_keeps Nameless, captures_keep Nameless help_built (help_keep Nameless)) (tt, captures_default Nameless help_built (help_default Nameless)) words clean).0 in
     task_asked Nameless task (rows_after s.rules [] words) fit (say (rows_after s.rules [] words))
 
-pub capture_asked : (questions : ValueParser) (words : List Text) → level_fault (capture_built questions) [] nothing_held words false [] ≡ []
-    → Asked (Some (rows_at (capture_built questions) words))
-capture_asked questions words clean =
-    let s = capture_built questions in
+pub capture_asked : (words : List Text) → level_fault capture_built [] nothing_held words false [] ≡ []
+    → Asked (Some (rows_at capture_built words))
+capture_asked words clean =
+    let s = capture_built in
     let fit = (level_fit (Known Nameless) s (
       append_keeps (Known Nameless) (filled required_link_rule) (λ v h. other_known Nameless (codes "link") v refl refl refl),
-      reading_keep Nameless (live_built questions (file_built ∷ help_built)) (live_keep Nameless questions (file_built ∷ help_built) (
+      reading_keep Nameless (live_built (file_built ∷ help_built)) (live_keep Nameless (file_built ∷ help_built) (
         append_keeps (Known Nameless) file_built (λ v h. other_known Nameless (codes "FILE") v refl refl refl),
         help_keep Nameless,
       )),
-    ) (tt, reading_default Nameless (live_built questions (file_built ∷ help_built)) (tt, (tt, (tt, help_default Nameless)))) words clean).0 in
+    ) (tt, reading_default Nameless (live_built (file_built ∷ help_built)) (tt, (tt, (tt, help_default Nameless)))) words clean).0 in
     task_asked Nameless Capture (rows_after s.rules [] words) fit tt
 
 -- rows in which a format is known, and no name is given
@@ -127,19 +139,20 @@ report_asked formats takes words clean =
     let said = format_said rows fit in
     task_asked Nameless (Run (record { pick = pick.All; format = said.0 })) rows fit said.1
 
-pub follow_asked : (formats questions : ValueParser) → TakesNames format_names formats → (words : List Text)
-    → level_fault (follow_built formats questions) [] nothing_held words false [] ≡ []
-    → Asked (Some (rows_at (follow_built formats questions) words))
-follow_asked formats questions takes words clean =
-    let s = follow_built formats questions in
+pub follow_asked : (formats : ValueParser) → TakesNames format_names formats → (words : List Text)
+    → level_fault (follow_built formats) [] nothing_held words false [] ≡ []
+    → Asked (Some (rows_at (follow_built formats) words))
+follow_asked formats takes words clean =
+    let s = follow_built formats in
     let rows = rows_after s.rules [] words in
     let fit = (level_fit (Known Nameless) s (
       format_keeps Nameless formats takes,
       (
         settings_keeps Nameless,
-        captures_keep Nameless (live_built questions help_built) (live_keep Nameless questions help_built (help_keep Nameless)),
+        captures_keep Nameless (live_built (window_built help_built))
+            (live_keep Nameless (window_built help_built) (window_keep Nameless help_built (help_keep Nameless))),
       ),
-    ) (tt, (tt, captures_default Nameless (live_built questions help_built) (tt, (tt, help_default Nameless)))) words clean).0 in
+    ) (tt, (tt, captures_default Nameless (live_built (window_built help_built)) (tt, (tt, (tt, help_default Nameless))))) words clean).0 in
     let said = format_said rows fit in
     task_asked Nameless (Follow said.0) rows fit said.1.1
 
@@ -205,3 +218,15 @@ count_asked words clean =
     ) (tt, (tt, (tt, captures_default Nameless help_built (help_default Nameless)))) words clean in
     let given = given_fit (Known Nameless) (codes "by") rows level.0 (is_required (is_given (codes "by") rows) level.1) in
     task_asked Nameless Count rows level.0 (given.0, given.1)
+
+pub window_asked : (words : List Text) → level_fault length_built [] nothing_held words false [] ≡ []
+    → Asked (Some (rows_at length_built words))
+window_asked words clean =
+    let s = length_built in
+    let rows = rows_after s.rules [] words in
+    let level = level_fit (Known Nameless) s (
+      set_keeps (Known Nameless) (with_index 1 (filled length_rule)) (λ v h. other_known Nameless (codes "window") v refl refl refl),
+      help_keep Nameless,
+    ) (tt, help_default Nameless) words clean in
+    let given = given_fit (Known Nameless) (codes "window") rows level.0 (is_required (is_given (codes "window") rows) level.1) in
+    task_asked Nameless Window rows level.0 (given.0, given.1)

@@ -14,6 +14,10 @@ given id values = record { id = id; values = values; count = None; source = Some
 abbrev pub named : ValueParser → Text → List Text → Row
 named names id values = record (given id values) { reading = reading_of names }
 
--- `--strict`, where it isn't given
-abbrev pub lenient : Row
-lenient = record { id = codes "strict"; values = codes "false" ∷ []; count = None; source = Some DefaultValue; reading = AsWritten }
+-- a flag that isn't given
+abbrev pub not_given : Text → Row
+not_given id = record { id = id; values = codes "false" ∷ []; count = None; source = Some DefaultValue; reading = AsWritten }
+
+-- the flags of captures, where none is given
+abbrev pub no_flags : List Row
+no_flags = not_given (codes "strict") ∷ not_given (codes "quiet") ∷ []

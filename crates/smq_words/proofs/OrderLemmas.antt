@@ -20,20 +20,20 @@ use Rattle.smq_report.specs.declared.pick.Pick.TheVariants as pick
 use Rattle.smq_report.specs.declared.pick.Query.{Query}
 use Rattle.smq_words.specs.declared.orders.Order.{Order}
 use Rattle.smq_words.specs.declared.orders.Task.{Task}
-use Rattle.smq_words.specs.declared.orders.Task.TheVariants.{Capture, Check, Count, Follow, Run, Total}
+use Rattle.smq_words.specs.declared.orders.Task.TheVariants.{Capture, Check, Count, Follow, Run, Total, Window}
 use Rattle.smq_words.specs.Words.{Asks, CaptureTexts, CountingTexts, HasCaptures, HasFormat, IsAsked, Say, TakesNames, counting_in, format_names, no_counting, program, run_name, subcommand_name, texts_of_captures, texts_of_counting}
 use Rattle.smq_words.specs.within.Tasks.{counting_named, task_named}
 use Rattle.smq_words.proofs.LevelLemmas.{neither, some_kind}
 use Rattle.smq_words.proofs.ArgumentLemmas.{apart}
-use Rattle.smq_words.proofs.EnteredLemmas.{Asked, capture_asked, capture_built, count_asked, count_built, follow_asked, follow_built, options_built, query_asked, query_built, report_asked, settings_asked, settings_built, total_asked, total_built}
+use Rattle.smq_words.proofs.EnteredLemmas.{Asked, capture_asked, capture_built, count_asked, count_built, follow_asked, follow_built, length_built, options_built, query_asked, query_built, report_asked, settings_asked, settings_built, total_asked, total_built, window_asked}
 
 -- ---- the subcommand: it is no `help`, which is refused with help
 
-abbrev app_built : ValueParser → ValueParser → ValueParser → App
-app_built names formats questions = built (program names formats questions)
+abbrev app_built : ValueParser → ValueParser → App
+app_built names formats = built (program names formats)
 
-abbrev top_built : ValueParser → ValueParser → ValueParser → Shape
-top_built names formats questions = (app_built names formats questions).top
+abbrev top_built : ValueParser → ValueParser → Shape
+top_built names formats = (app_built names formats).top
 
 abbrev NoHelp : Option (Text × List Text) → Type 0
 NoHelp None = Unit {0}
@@ -64,25 +64,25 @@ long_enters : (c : List Rule) (w : Waiting) (word : Text) (o : Option (Text × O
 long_enters c w word (Some p) h = after_enters c w word _ _
 long_enters c w word None h = short_enters c w word (short_of word) h
 
-other_enters : (names formats questions : ValueParser) (o : Option Text) (w : Waiting) (position : ℕ) (word : Text) (h : Held)
-    → other_fault (top_built names formats questions) o word h ≡ []
-    → EntersNoHelp (subcommand_or_other (top_built names formats questions).rules o w position word h).1
-other_enters names formats questions (Some name) w position word h clean = no_help (bytes_eq name (codes "help")) clean
+other_enters : (names formats : ValueParser) (o : Option Text) (w : Waiting) (position : ℕ) (word : Text) (h : Held)
+    → other_fault (top_built names formats) o word h ≡ []
+    → EntersNoHelp (subcommand_or_other (top_built names formats).rules o w position word h).1
+other_enters names formats (Some name) w position word h clean = no_help (bytes_eq name (codes "help")) clean
   where
     no_help : (b : Bool) → cond (b && true) (kind.DisplayHelp ∷ kind.InvalidSubcommand ∷ []) [] ≡ [] → b ≡ false
     no_help true clean = absurd (some_kind clean)
     no_help false clean = refl
-other_enters names formats questions None w position word h clean = by_dashes (bytes_eq word (45 ∷ 45 ∷ []))
+other_enters names formats None w position word h clean = by_dashes (bytes_eq word (45 ∷ 45 ∷ []))
   where
-    by_dashes : (b : Bool) → EntersNoHelp (cond b (h, trailing position) (long_or_other (top_built names formats questions).rules w word (long_of word) h)).1
+    by_dashes : (b : Bool) → EntersNoHelp (cond b (h, trailing position) (long_or_other (top_built names formats).rules w word (long_of word) h)).1
     by_dashes true = tt
-    by_dashes false = long_enters (top_built names formats questions).rules w word (long_of word) h
+    by_dashes false = long_enters (top_built names formats).rules w word (long_of word) h
 
-met_enters : (names formats questions : ValueParser) (ns : Names) (t : Bool) (w : Waiting) (position : ℕ) (word : Text) (h : Held)
-    → word_fault (top_built names formats questions) ns t w word h ≡ []
-    → EntersNoHelp (word_met (top_built names formats questions).rules ns t w position word h).1
-met_enters names formats questions ns true w position word h clean = tt
-met_enters names formats questions ns false w position word h clean = other_enters names formats questions (subcommand_met ns w word) w position word h clean
+met_enters : (names formats : ValueParser) (ns : Names) (t : Bool) (w : Waiting) (position : ℕ) (word : Text) (h : Held)
+    → word_fault (top_built names formats) ns t w word h ≡ []
+    → EntersNoHelp (word_met (top_built names formats).rules ns t w position word h).1
+met_enters names formats ns true w position word h clean = tt
+met_enters names formats ns false w position word h clean = other_enters names formats (subcommand_met ns w word) w position word h clean
 
 step_stops : (c : List Rule) (w : Walk) (word : Text) (h : Held) (x : Step) → EntersNoHelp x → NoHelp w.stopped
     → NoHelp (after_step c word w h x).stopped
@@ -95,48 +95,49 @@ step_stops c w word h value enters stops = by_rule (arg_by_index c w.position)
     by_rule None = stops
     by_rule (Some a) = tt
 
-turn_stops : (names formats questions : ValueParser) (ns : Names) (w : Walk) (word : Text) → turn_fault (top_built names formats questions) ns w word
+turn_stops : (names formats : ValueParser) (ns : Names) (w : Walk) (word : Text) → turn_fault (top_built names formats) ns w word
     ≡ [] → NoHelp w.stopped
-    → NoHelp (walked (top_built names formats questions).rules ns w word).stopped
+    → NoHelp (walked (top_built names formats).rules ns w word).stopped
 unfolding walked
-turn_stops names formats questions ns w word clean stops = by_stop w.stopped clean stops
+turn_stops names formats ns w word clean stops = by_stop w.stopped clean stops
   where
     by_stop : (o : Option (Text × List Text))
-        → cond (is_some o) [] (or_else (word_fault (top_built names formats questions) ns w.is_trailing w.waiting word w.held)
-        (step_fault (top_built names formats questions) w.position (word_met (top_built names formats questions).rules ns w.is_trailing w.waiting
-        w.position word w.held).0 (word_met (top_built names formats questions).rules ns w.is_trailing w.waiting w.position word
+        → cond (is_some o) [] (or_else (word_fault (top_built names formats) ns w.is_trailing w.waiting word w.held)
+        (step_fault (top_built names formats) w.position (word_met (top_built names formats).rules ns w.is_trailing w.waiting
+        w.position word w.held).0 (word_met (top_built names formats).rules ns w.is_trailing w.waiting w.position word
         w.held).1)) ≡ []
-        → NoHelp o → NoHelp (walked_from (top_built names formats questions).rules ns o w word).stopped
+        → NoHelp o → NoHelp (walked_from (top_built names formats).rules ns o w word).stopped
     by_stop (Some p) clean enters = enters
     by_stop None clean enters =
-        step_stops (top_built names formats questions).rules w word _ _
-        (met_enters names formats questions ns w.is_trailing w.waiting w.position word w.held
-        (neither (word_fault (top_built names formats questions) ns w.is_trailing w.waiting word w.held) _ clean).0)
+        step_stops (top_built names formats).rules w word _ _
+        (met_enters names formats ns w.is_trailing w.waiting w.position word w.held
+        (neither (word_fault (top_built names formats) ns w.is_trailing w.waiting word w.held) _ clean).0)
         stops
 
-walk_stops : (names formats questions : ValueParser) (ns : Names) (words : List Text) (w : Walk)
-    → walk_fault (top_built names formats questions) ns w words ≡ [] → NoHelp w.stopped
-    → NoHelp (fold (walked (top_built names formats questions).rules ns) w words).stopped
+walk_stops : (names formats : ValueParser) (ns : Names) (words : List Text) (w : Walk)
+    → walk_fault (top_built names formats) ns w words ≡ [] → NoHelp w.stopped
+    → NoHelp (fold (walked (top_built names formats).rules ns) w words).stopped
 unfolding walk_fault
-walk_stops names formats questions ns [] w clean stops = stops
-walk_stops names formats questions ns (word ∷ words) w clean stops =
-    let parts = neither (turn_fault (top_built names formats questions) ns w word) _ clean in
-    walk_stops names formats questions ns words (walked (top_built names formats questions).rules ns w word) parts.1 (turn_stops names formats questions ns w word parts.0 stops)
+walk_stops names formats ns [] w clean stops = stops
+walk_stops names formats ns (word ∷ words) w clean stops =
+    let parts = neither (turn_fault (top_built names formats) ns w word) _ clean in
+    walk_stops names formats ns words (walked (top_built names formats).rules ns w word) parts.1 (turn_stops names formats ns w word parts.0 stops)
 
 -- ---- the words of the program
 
 -- the subcommand that a word names, by a test of each
-abbrev named_by : ValueParser → ValueParser → ValueParser → Bool → Bool → Bool → Bool → Bool → Bool → Bool → Bool → Bool → Bool → Option Shape
-named_by names formats questions capture report query check follow total count messages receipts help =
-    cond (capture || false) (Some (capture_built questions))
+abbrev named_by : ValueParser → ValueParser → Bool → Bool → Bool → Bool → Bool → Bool → Bool → Bool → Bool → Bool → Bool → Option Shape
+named_by names formats capture report query check follow total count messages receipts window help =
+    cond (capture || false) (Some capture_built)
     (cond (report || false) (Some (options_built (codes "report") formats))
     (cond (query || false) (Some (query_built names formats))
     (cond (check || false) (Some (settings_built (codes "check")))
-    (cond (follow || false) (Some (follow_built formats questions))
+    (cond (follow || false) (Some (follow_built formats))
     (cond (total || false) (Some (total_built names formats))
     (cond (count || false) (Some count_built)
     (cond (messages || false) (Some (settings_built (codes "messages")))
-    (cond (receipts || false) (Some (settings_built (codes "receipts"))) (cond (help || false) (Some (built_leaf help_shape)) None)))))))))
+    (cond (receipts || false) (Some (settings_built (codes "receipts")))
+    (cond (window || false) (Some length_built) (cond (help || false) (Some (built_leaf help_shape)) None))))))))))
 
 -- what a subcommand makes of the words after its name
 abbrev entered_at : List Text → Option Shape → Option (Text × List Row)
@@ -145,48 +146,50 @@ entered_at words = option_map (λ s. rows_at s words)
 abbrev below_fault : List Text → Option Shape → Kinds
 below_fault words o = option_map_or (λ s. level_fault s [] nothing_held words false []) o []
 
-missing : (names formats questions : ValueParser) (rows : List Row) → check_fault (top_built names formats questions) rows false ≡ [] → ⊥
-missing names formats questions rows clean = some_kind {k = kind.MissingSubcommand} {ks = []} clean
+missing : (names formats : ValueParser) (rows : List Row) → check_fault (top_built names formats) rows false ≡ [] → ⊥
+missing names formats rows clean = some_kind {k = kind.MissingSubcommand} {ks = []} clean
 
-by_name : (names formats questions : ValueParser) → TakesNames pick_names names → TakesNames format_names formats
-    → (words : List Text) (rows : List Row) (capture report query check follow total count messages receipts help : Bool)
-    → help ≡ false → below_fault words (named_by names formats questions capture report query check follow total count messages receipts help) ≡ []
-    → check_fault (top_built names formats questions) rows
-    (is_some (entered_at words (named_by names formats questions capture report query check follow total count messages receipts help))) ≡ []
-    → Asked (entered_at words (named_by names formats questions capture report query check follow total count messages receipts help))
-by_name names formats questions takes_names takes_formats words rows true report query check follow total count messages receipts help h clean checks =
-    capture_asked questions words clean
-by_name names formats questions takes_names takes_formats words rows false true query check follow total count messages receipts help h clean checks =
+by_name : (names formats : ValueParser) → TakesNames pick_names names → TakesNames format_names formats
+    → (words : List Text) (rows : List Row) (capture report query check follow total count messages receipts window help : Bool)
+    → help ≡ false → below_fault words (named_by names formats capture report query check follow total count messages receipts window help) ≡ []
+    → check_fault (top_built names formats) rows
+    (is_some (entered_at words (named_by names formats capture report query check follow total count messages receipts window help))) ≡ []
+    → Asked (entered_at words (named_by names formats capture report query check follow total count messages receipts window help))
+by_name names formats takes_names takes_formats words rows true report query check follow total count messages receipts window help h clean checks =
+    capture_asked words clean
+by_name names formats takes_names takes_formats words rows false true query check follow total count messages receipts window help h clean checks =
     report_asked formats takes_formats words clean
-by_name names formats questions takes_names takes_formats words rows false false true check follow total count messages receipts help h clean checks =
+by_name names formats takes_names takes_formats words rows false false true check follow total count messages receipts window help h clean checks =
     query_asked names formats takes_names takes_formats words clean
-by_name names formats questions takes_names takes_formats words rows false false false true follow total count messages receipts help h clean checks =
+by_name names formats takes_names takes_formats words rows false false false true follow total count messages receipts window help h clean checks =
     settings_asked Check (λ rows. tt) words clean
-by_name names formats questions takes_names takes_formats words rows false false false false true total count messages receipts help h clean checks =
-    follow_asked formats questions takes_formats words clean
-by_name names formats questions takes_names takes_formats words rows false false false false false true count messages receipts help h clean checks =
+by_name names formats takes_names takes_formats words rows false false false false true total count messages receipts window help h clean checks =
+    follow_asked formats takes_formats words clean
+by_name names formats takes_names takes_formats words rows false false false false false true count messages receipts window help h clean checks =
     total_asked names formats takes_names takes_formats words clean
-by_name names formats questions takes_names takes_formats words rows false false false false false false true messages receipts help h clean checks =
+by_name names formats takes_names takes_formats words rows false false false false false false true messages receipts window help h clean checks =
     count_asked words clean
-by_name names formats questions takes_names takes_formats words rows false false false false false false false true receipts help h clean checks =
+by_name names formats takes_names takes_formats words rows false false false false false false false true receipts window help h clean checks =
     settings_asked (Total output.Messages) (λ rows. tt) words clean
-by_name names formats questions takes_names takes_formats words rows false false false false false false false false true help h clean checks =
+by_name names formats takes_names takes_formats words rows false false false false false false false false true window help h clean checks =
     settings_asked (Total output.Receipts) (λ rows. tt) words clean
-by_name names formats questions takes_names takes_formats words rows false false false false false false false false false true h clean checks = cc
-by_name names formats questions takes_names takes_formats words rows false false false false false false false false false false h clean checks =
-    absurd (missing names formats questions rows checks)
+by_name names formats takes_names takes_formats words rows false false false false false false false false false true help h clean checks =
+    window_asked words clean
+by_name names formats takes_names takes_formats words rows false false false false false false false false false false true h clean checks = cc
+by_name names formats takes_names takes_formats words rows false false false false false false false false false false false h clean checks =
+    absurd (missing names formats rows checks)
 
-by_stop : (names formats questions : ValueParser) → TakesNames pick_names names → TakesNames format_names formats
+by_stop : (names formats : ValueParser) → TakesNames pick_names names → TakesNames format_names formats
     → (rows : List Row) (o : Option (Text × List Text)) → NoHelp o
-    → entered_fault (app_built names formats questions) o ≡ [] → check_fault (top_built names formats questions) rows (is_some (entered (app_built names formats questions) o)) ≡ []
-    → Asked (entered (app_built names formats questions) o)
-by_stop names formats questions takes_names takes_formats rows None no_help clean checks = absurd (missing names formats questions rows checks)
-by_stop names formats questions takes_names takes_formats rows (Some p) no_help clean checks =
-    by_name names formats questions takes_names takes_formats p.1 rows (bytes_eq (codes "capture") p.0)
+    → entered_fault (app_built names formats) o ≡ [] → check_fault (top_built names formats) rows (is_some (entered (app_built names formats) o)) ≡ []
+    → Asked (entered (app_built names formats) o)
+by_stop names formats takes_names takes_formats rows None no_help clean checks = absurd (missing names formats rows checks)
+by_stop names formats takes_names takes_formats rows (Some p) no_help clean checks =
+    by_name names formats takes_names takes_formats p.1 rows (bytes_eq (codes "capture") p.0)
     (bytes_eq (codes "report") p.0) (bytes_eq (codes "query") p.0)
     (bytes_eq (codes "check") p.0) (bytes_eq (codes "follow") p.0) (bytes_eq (codes "total") p.0) (bytes_eq (codes "count") p.0)
     (bytes_eq (codes "messages") p.0)
-    (bytes_eq (codes "receipts") p.0) (bytes_eq (codes "help") p.0)
+    (bytes_eq (codes "receipts") p.0) (bytes_eq (codes "window") p.0) (bytes_eq (codes "help") p.0)
     (not_named (bytes_eq (codes "help") p.0) refl) clean checks
   where
     not_named : (b : Bool) → bytes_eq (codes "help") p.0 ≡ b → b ≡ false
@@ -197,18 +200,18 @@ by_stop names formats questions takes_names takes_formats rows (Some p) no_help 
         absurd (apart (codes "help") (codes "help") asks refl)
 
 -- words in which `clap` finds no fault ask for something
-pub words_ask : (names formats questions : ValueParser) → TakesNames pick_names names → TakesNames format_names formats → (words : List Text)
-    → fault_of (program names formats questions) words ≡ [] → Asked (subcommand_of (program names formats questions) words)
-words_ask names formats questions takes_names takes_formats words clean =
-    let s = top_built names formats questions in
-    let ns = names_of (app_built names formats questions) in
+pub words_ask : (names formats : ValueParser) → TakesNames pick_names names → TakesNames format_names formats → (words : List Text)
+    → fault_of (program names formats) words ≡ [] → Asked (subcommand_of (program names formats) words)
+words_ask names formats takes_names takes_formats words clean =
+    let s = top_built names formats in
+    let ns = names_of (app_built names formats) in
     let end = fold (walked s.rules ns) (walk_from nothing_held) words in
     let walks = neither (walk_fault s ns (walk_from nothing_held) words) _ clean in
-    let below = neither (entered_fault (app_built names formats questions) end.stopped) _ walks.1 in
+    let below = neither (entered_fault (app_built names formats) end.stopped) _ walks.1 in
     let settles = neither (settle_fault s.rules s.args_override_self end.held) _ below.1 in
     let checks = neither (defaults_fault (settled s.rules end.held).rows s.rules) _ settles.1 in
-    by_stop names formats questions takes_names takes_formats (finished s.rules end.held) end.stopped
-    (walk_stops names formats questions ns words (walk_from nothing_held) walks.0 tt) below.0 checks.1
+    by_stop names formats takes_names takes_formats (finished s.rules end.held) end.stopped
+    (walk_stops names formats ns words (walk_from nothing_held) walks.0 tt) below.0 checks.1
 
 -- ---- the task of a subcommand
 
@@ -234,6 +237,7 @@ task_is (Total output.Messages) rows query picked formed say = refl
 task_is (Total output.Receipts) rows query picked formed say = refl
 task_is Count rows query picked formed say = refl
 task_is Capture rows query picked formed say = refl
+task_is Window rows query picked formed say = refl
 
 -- what the name of a task's subcommand and its arguments say of counting
 counting_is : (task : Task) (rows : List Row) → counting_named (subcommand_name task) rows ≡ counting_in rows task
@@ -250,6 +254,7 @@ counting_is (Total output.Messages) rows = refl
 counting_is (Total output.Receipts) rows = refl
 counting_is Count rows = refl
 counting_is Capture rows = refl
+counting_is Window rows = refl
 
 abbrev rows_in : Option (Text × List Row) → List Row
 rows_in None = []
@@ -276,35 +281,37 @@ second_is (Some x) name_of matched = refl
 pub asked_task : (name : Text) (rows : List Row) (query : Query)
     → ((x : Pick) → first_of (codes "NAME") rows ≡ pick_name x → query.pick ≡ x)
     → ((f : Format) → HasFormat rows f → query.format ≡ f)
-    → (task : Task) (path : Option Text) (counting : CountingTexts) (captures : CaptureTexts)
-    → Asks (Some (name, rows)) task path counting captures → task_named name query ≡ task
-asked_task name rows query picked formed task path counting captures asks =
+    → (task : Task) (path window : Option Text) (counting : CountingTexts) (captures : CaptureTexts)
+    → Asks (Some (name, rows)) task path window counting captures → task_named name query ≡ task
+asked_task name rows query picked formed task path window counting captures asks =
     let here : rows ≡ asks.rows = ap rows_in asks.enters in
     ap (λ n. task_named n query) (ap name_in asks.enters)
     ∙ task_is task rows query picked formed (subst (λ rs. Say rs task) (sym here) asks.say)
 
 -- what they say of captures
-pub asked_captures : (name : Text) (rows : List Row) (task : Task) (path : Option Text) (counting : CountingTexts)
-    (captures : CaptureTexts) → Asks (Some (name, rows)) task path counting captures → HasCaptures rows captures
-asked_captures name rows task path counting captures asks =
+pub asked_captures : (name : Text) (rows : List Row) (task : Task) (path window : Option Text) (counting : CountingTexts)
+    (captures : CaptureTexts) → Asks (Some (name, rows)) task path window counting captures → HasCaptures rows captures
+asked_captures name rows task path window counting captures asks =
     subst (λ rs. HasCaptures rs captures) (sym (ap rows_in asks.enters)) asks.has_captures
 
 -- what they say of counting
-asked_counting : (name : Text) (rows : List Row) (task : Task) (path : Option Text) (counting : CountingTexts) (captures : CaptureTexts)
-    → Asks (Some (name, rows)) task path counting captures → counting_named name rows ≡ counting_in rows task
-asked_counting name rows task path counting captures asks = ap (λ n. counting_named n rows) (ap name_in asks.enters) ∙ counting_is task rows
+asked_counting : (name : Text) (rows : List Row) (task : Task) (path window : Option Text) (counting : CountingTexts) (captures : CaptureTexts)
+    → Asks (Some (name, rows)) task path window counting captures → counting_named name rows ≡ counting_in rows task
+asked_counting name rows task path window counting captures asks = ap (λ n. counting_named n rows) (ap name_in asks.enters) ∙ counting_is task rows
 
--- an order with that task, the path of `--settings`, what the arguments say of counting, and those captures is asked for
-pub order_asked : (name : Text) (rows : List Row) (task : Task) (path : Option Text) (counting : CountingTexts)
-    (captures : CaptureTexts) → Asks (Some (name, rows)) task path counting captures → (order : Order) → order.task ≡ task
+-- an order with that task, the path of `--settings`, the length of a window, what the arguments say of counting, and those captures is asked for
+pub order_asked : (name : Text) (rows : List Row) (task : Task) (path window : Option Text) (counting : CountingTexts)
+    (captures : CaptureTexts) → Asks (Some (name, rows)) task path window counting captures → (order : Order) → order.task ≡ task
     → option_map string_bytes order.settings ≡ first_of (codes "settings") rows
+    → option_map string_bytes order.window ≡ first_of (codes "window") rows
     → texts_of_counting order.counting ≡ counting_named name rows → HasCaptures rows (texts_of_captures order.captures)
     → IsAsked (Some (name, rows)) order
-order_asked name rows task path counting captures asks order same_task same_path same_counting has = record {
+order_asked name rows task path window counting captures asks order same_task same_path same_window same_counting has = record {
   rows = rows;
   enters = ap (λ (n : Text). Some (n, rows)) (ap name_in asks.enters ∙ ap subcommand_name (sym same_task));
   say = subst (λ t. Say rows t) (sym same_task) (subst (λ rs. Say rs task) (sym (ap rows_in asks.enters)) asks.say);
   has_path = sym same_path;
-  has_counting = ap (counting_in rows) same_task ∙ sym (same_counting ∙ asked_counting name rows task path counting captures asks);
+  has_window = sym same_window;
+  has_counting = ap (counting_in rows) same_task ∙ sym (same_counting ∙ asked_counting name rows task path window counting captures asks);
   has_captures = has;
 }

@@ -1,5 +1,5 @@
 -- The words of orders, at known values.
-use Rattle.std.specs.Prelude.{◌≡◌, ◌++◌, [], ◌∷◌, List, codes, false, true, Option, Some, None}
+use Rattle.std.specs.Prelude.{◌≡◌, [], ◌∷◌, List, codes, false, true, Option, Some, None}
 use Rattle.clap.specs.Words.{Kinds, Text, fault_of, subcommand_of}
 use Rattle.clap.specs.declared.builder.value_parser.ValueParser.{ValueParser}
 use Rattle.clap.specs.declared.error.kind.ErrorKind.TheVariants.{ArgumentConflict, MissingRequiredArgument, UnknownArgument}
@@ -13,8 +13,8 @@ use Rattle.smq_report.specs.declared.pick.Output.TheVariants.{Messages, Receipts
 use Rattle.smq_report.specs.declared.pick.Query.{Query}
 use Rattle.smq_report.specs.Picks.{pick_names}
 use Rattle.smq_words.specs.declared.orders.Task.{Task}
-use Rattle.smq_words.specs.declared.orders.Task.TheVariants.{Capture, Check, Count, Follow, Run, Total}
-use Rattle.smq_words.specs.Words.{Asks, CaptureTexts, CountingTexts, format_names, format_rule, link_rule, no_counting, program, question_names, settings_rule, subcommand_name, version_text}
+use Rattle.smq_words.specs.declared.orders.Task.TheVariants.{Capture, Check, Count, Follow, Run, Total, Window}
+use Rattle.smq_words.specs.Words.{Asks, CaptureTexts, CountingTexts, format_names, format_rule, link_rule, no_counting, program, settings_rule, subcommand_name, version_text}
 
 -- what is asked of a report, and in which format
 abbrev pub of_query : Pick → Format → Query
@@ -31,6 +31,7 @@ no_captures = record {
   every = None;
   questions = [];
   is_strict = false;
+  is_quiet = false;
 }
 
 -- the captures at these paths, with these links
@@ -51,22 +52,29 @@ pub record KnowsWords : Type 0 where
   pub format_option : (formats : ValueParser) → (format_rule formats).long ≡ Some (codes "format")
   pub settings_option : settings_rule.long ≡ Some (codes "settings")
   pub link_option : link_rule.long ≡ Some (codes "link")
-  pub questions : question_names ≡ pick_names ++ codes "report" ∷ []
   pub version : version_text ≡ codes "0.23.0"
-  pub plain : Asks (Some (codes "report", [])) (Run (of_query pick.All format.Csv)) None no_counting no_captures
+  pub plain : Asks (Some (codes "report", [])) (Run (of_query pick.All format.Csv)) None None no_counting no_captures
 
--- the fault that `clap` finds in words, whatever names, formats and questions its parsers take
+-- the fault that `clap` finds in words, whatever names and formats its parsers take
 abbrev pub HasFault : List Text → Kinds → Type 0
-HasFault words fault = (names formats questions : ValueParser) → fault_of (program names formats questions) words ≡ fault
+HasFault words fault = (names formats : ValueParser) → fault_of (program names formats) words ≡ fault
 
--- the task, the path of settings, what is counted by, and the captures for which words ask
-abbrev pub AskAll : List Text → Task → Option Text → CountingTexts → CaptureTexts → Type 0
-AskAll words task path counting captures =
-    (names formats questions : ValueParser) → Asks (subcommand_of (program names formats questions) words) task path counting captures
+-- the task, the path of settings, the window's length, what is counted by, and the captures for which words ask
+abbrev pub AskAll : List Text → Task → Option Text → Option Text → CountingTexts → CaptureTexts → Type 0
+AskAll words task path window counting captures =
+    (names formats : ValueParser) → Asks (subcommand_of (program names formats) words) task path window counting captures
 
--- the same where nothing is counted by
+-- they ask for counts
+abbrev pub AskCount : List Text → Option Text → CountingTexts → CaptureTexts → Type 0
+AskCount words path counting captures = AskAll words Count path None counting captures
+
+-- they ask for a window of this length, and neither for settings nor for captures
+abbrev pub AskWithin : List Text → Task → Text → Type 0
+AskWithin words task length = AskAll words task None (Some length) no_counting no_captures
+
+-- they ask for no window, and nothing is counted by
 abbrev pub AskWith : List Text → Task → Option Text → CaptureTexts → Type 0
-AskWith words task path captures = AskAll words task path no_counting captures
+AskWith words task path captures = AskAll words task path None no_counting captures
 
 -- the same where they ask for no captures, either
 abbrev pub AskFor : List Text → Task → Option Text → Type 0
@@ -81,12 +89,14 @@ pub record KnowsCheck : Type 0 where
   pub format : HasFault (codes "check" ∷ codes "--format" ∷ codes "csv" ∷ []) (UnknownArgument ∷ [])
   pub name : HasFault (codes "check" ∷ codes "link" ∷ []) (UnknownArgument ∷ [])
 
--- words of `follow`: it takes a format and a path of settings, and no name
+-- words of `follow`: it takes a format, a path of settings and a window's length, and no name
 pub record KnowsFollow : Type 0 where
   pub alone : HasFault (codes "follow" ∷ []) []
   pub alone_follows : AskFor (codes "follow" ∷ []) (Follow format.Csv) None
   pub settings_follows : AskFor (codes "follow" ∷ codes "--settings" ∷ codes "p" ∷ []) (Follow format.Csv) (Some (codes "p"))
   pub table_follows : AskFor (codes "follow" ∷ codes "--format" ∷ codes "table" ∷ []) (Follow format.Table) None
+  pub window_follows : AskWithin (codes "follow" ∷ codes "--window" ∷ codes "15m" ∷ []) (Follow format.Csv) (codes "15m")
+  pub window_twice : HasFault (codes "follow" ∷ codes "--window" ∷ codes "15m" ∷ codes "--window" ∷ codes "6h" ∷ []) (ArgumentConflict ∷ [])
   pub name : HasFault (codes "follow" ∷ codes "link" ∷ []) (UnknownArgument ∷ [])
 
 -- words of `total`: it takes a name, a format and a path of settings, and asks for the whole report where it has no name
@@ -106,7 +116,7 @@ pub record KnowsLines : Type 0 where
   pub format : HasFault (codes "messages" ∷ codes "--format" ∷ codes "csv" ∷ []) (UnknownArgument ∷ [])
   pub name : HasFault (codes "receipts" ∷ codes "link" ∷ []) (UnknownArgument ∷ [])
 
--- words of `capture`: it takes a link or more, captures and how they are read, and no path of settings
+-- words of `capture`: it takes a link or more, captures, how they are read and whether nothing is told meanwhile, and no path of settings
 pub record KnowsCapture : Type 0 where
   pub captures : AskWith (codes "capture" ∷ codes "--link" ∷ codes "2775=1" ∷ codes "a.pcap" ∷ []) Capture None
       (captures_at (codes "a.pcap" ∷ []) (codes "2775=1" ∷ []))
@@ -117,12 +127,15 @@ pub record KnowsCapture : Type 0 where
       ∷ codes "--first-session" ∷ codes "7" ∷ []) Capture None
       (record (captures_at [] (codes "1=1" ∷ [])) { first_session = Some (codes "7"); index = Some (codes "i"); losses = Some (codes "l"); is_strict = true })
   pub live : AskWith (codes "capture" ∷ codes "--link" ∷ codes "1=1" ∷ codes "--every" ∷ codes "60" ∷ codes "--ask" ∷ codes "link" ∷ codes "--ask"
-      ∷ codes "report" ∷ []) Capture None
-      (record (captures_at [] (codes "1=1" ∷ [])) { every = Some (codes "60"); questions = codes "link" ∷ codes "report" ∷ [] })
+      ∷ codes "count link,network" ∷ []) Capture None
+      (record (captures_at [] (codes "1=1" ∷ [])) { every = Some (codes "60"); questions = codes "link" ∷ codes "count link,network" ∷ [] })
+  pub quiet : AskWith (codes "capture" ∷ codes "--link" ∷ codes "1=1" ∷ codes "--quiet" ∷ []) Capture None
+      (record (captures_at [] (codes "1=1" ∷ [])) { is_quiet = true })
   pub no_link : HasFault (codes "capture" ∷ codes "a.pcap" ∷ []) (MissingRequiredArgument ∷ [])
   pub settings : HasFault (codes "capture" ∷ codes "--link" ∷ codes "1=1" ∷ codes "--settings" ∷ codes "p" ∷ []) (UnknownArgument ∷ [])
 
--- words of captures behind the other subcommands: each takes captures and how they are read, and `follow` alone what is asked meanwhile
+-- words of captures behind the other subcommands: each takes captures, how they are read and whether nothing is told meanwhile, and `follow`
+-- alone what is asked meanwhile
 pub record KnowsCaptures : Type 0 where
   pub report : AskWith (codes "report" ∷ codes "--capture" ∷ codes "f" ∷ codes "--link" ∷ codes "2775=1" ∷ []) (Run (of_query pick.All format.Csv))
       None (captures_at (codes "f" ∷ []) (codes "2775=1" ∷ []))
@@ -133,6 +146,8 @@ pub record KnowsCaptures : Type 0 where
       (record no_captures { index = Some (codes "i"); losses = Some (codes "l") })
   pub follow : AskWith (codes "follow" ∷ codes "--every" ∷ codes "5" ∷ codes "--first-session" ∷ codes "2" ∷ []) (Follow format.Csv) None
       (record no_captures { every = Some (codes "5"); first_session = Some (codes "2") })
+  pub quiet : AskWith (codes "report" ∷ codes "--quiet" ∷ []) (Run (of_query pick.All format.Csv)) None (record no_captures { is_quiet = true })
+  pub quiet_twice : HasFault (codes "report" ∷ codes "--quiet" ∷ codes "--quiet" ∷ []) (ArgumentConflict ∷ [])
   pub every : HasFault (codes "report" ∷ codes "--every" ∷ codes "5" ∷ []) (UnknownArgument ∷ [])
   pub ask : HasFault (codes "total" ∷ codes "--ask" ∷ codes "link" ∷ []) (UnknownArgument ∷ [])
   pub file : HasFault (codes "report" ∷ codes "a.pcap" ∷ []) (UnknownArgument ∷ [])
@@ -145,18 +160,18 @@ counted_by columns conditions = record { columns = Some columns; conditions = co
 -- condition, and `total` no columns
 pub record KnowsCount : Type 0 where
   pub columns : HasFault (codes "count" ∷ codes "--by" ∷ codes "link,day" ∷ []) []
-  pub columns_count : AskAll (codes "count" ∷ codes "--by" ∷ codes "link,day" ∷ []) Count None (counted_by (codes "link,day") []) no_captures
+  pub columns_count : AskCount (codes "count" ∷ codes "--by" ∷ codes "link,day" ∷ []) None (counted_by (codes "link,day") []) no_captures
   pub conditions : HasFault
       (codes "count" ∷ codes "--where" ∷ codes "link=1" ∷ codes "--by" ∷ codes "day" ∷ codes "--where" ∷ codes "outcome=open" ∷ []) []
-  pub conditions_count : AskAll
-      (codes "count" ∷ codes "--where" ∷ codes "link=1" ∷ codes "--by" ∷ codes "day" ∷ codes "--where" ∷ codes "outcome=open" ∷ []) Count None
+  pub conditions_count : AskCount
+      (codes "count" ∷ codes "--where" ∷ codes "link=1" ∷ codes "--by" ∷ codes "day" ∷ codes "--where" ∷ codes "outcome=open" ∷ []) None
       (counted_by (codes "day") (codes "link=1" ∷ codes "outcome=open" ∷ [])) no_captures
-  pub joined : AskAll (codes "count" ∷ codes "--by=day" ∷ codes "--where=error=" ∷ []) Count None
+  pub joined : AskCount (codes "count" ∷ codes "--by=day" ∷ codes "--where=error=" ∷ []) None
       (counted_by (codes "day") (codes "error=" ∷ [])) no_captures
-  pub settings : AskAll (codes "count" ∷ codes "--settings" ∷ codes "p" ∷ codes "--by" ∷ codes "hour" ∷ []) Count (Some (codes "p"))
+  pub settings : AskCount (codes "count" ∷ codes "--settings" ∷ codes "p" ∷ codes "--by" ∷ codes "hour" ∷ []) (Some (codes "p"))
       (counted_by (codes "hour") []) no_captures
-  pub captures : AskAll
-      (codes "count" ∷ codes "--by" ∷ codes "route" ∷ codes "--capture" ∷ codes "f" ∷ codes "--link" ∷ codes "2775=1" ∷ codes "--strict" ∷ []) Count
+  pub captures : AskCount
+      (codes "count" ∷ codes "--by" ∷ codes "route" ∷ codes "--capture" ∷ codes "f" ∷ codes "--link" ∷ codes "2775=1" ∷ codes "--strict" ∷ [])
       None (counted_by (codes "route") []) (record (captures_at (codes "f" ∷ []) (codes "2775=1" ∷ [])) { is_strict = true })
   pub no_columns : HasFault (codes "count" ∷ []) (MissingRequiredArgument ∷ [])
   pub conditions_alone : HasFault (codes "count" ∷ codes "--where" ∷ codes "link=1" ∷ []) (MissingRequiredArgument ∷ [])
@@ -165,3 +180,14 @@ pub record KnowsCount : Type 0 where
   pub name : HasFault (codes "count" ∷ codes "link" ∷ []) (UnknownArgument ∷ [])
   pub messages : HasFault (codes "messages" ∷ codes "--where" ∷ codes "link=1" ∷ []) (UnknownArgument ∷ [])
   pub total : HasFault (codes "total" ∷ codes "--by" ∷ codes "link" ∷ []) (UnknownArgument ∷ [])
+
+-- words of `window`: it takes its length, once, and nothing else; of the other subcommands only `follow` takes one
+pub record KnowsWindow : Type 0 where
+  pub length : HasFault (codes "window" ∷ codes "15m" ∷ []) []
+  pub length_asked : AskWithin (codes "window" ∷ codes "15m" ∷ []) Window (codes "15m")
+  pub no_length : HasFault (codes "window" ∷ []) (MissingRequiredArgument ∷ [])
+  pub two : HasFault (codes "window" ∷ codes "15m" ∷ codes "6h" ∷ []) (UnknownArgument ∷ [])
+  pub option : HasFault (codes "window" ∷ codes "--window" ∷ codes "15m" ∷ []) (UnknownArgument ∷ [])
+  pub settings : HasFault (codes "window" ∷ codes "15m" ∷ codes "--settings" ∷ codes "p" ∷ []) (UnknownArgument ∷ [])
+  pub quiet : HasFault (codes "window" ∷ codes "15m" ∷ codes "--quiet" ∷ []) (UnknownArgument ∷ [])
+  pub check : HasFault (codes "check" ∷ codes "--window" ∷ codes "5m" ∷ []) (UnknownArgument ∷ [])

@@ -22,7 +22,7 @@ use Rattle.smq_words.specs.declared.orders.Captures.{Captures}
 use Rattle.smq_words.specs.declared.orders.Counting.{Counting}
 use Rattle.smq_words.specs.declared.orders.Order.{Order}
 use Rattle.smq_words.specs.declared.orders.Task.{Task}
-use Rattle.smq_words.specs.declared.orders.Task.TheVariants.{Capture, Check, Count, Follow, Run, Total}
+use Rattle.smq_words.specs.declared.orders.Task.TheVariants.{Capture, Check, Count, Follow, Run, Total, Window}
 
 -- ---- the subcommands
 
@@ -46,6 +46,7 @@ subcommand_name (Follow format) = codes "follow"
 subcommand_name (Total asked) = total_name asked
 subcommand_name Count = codes "count"
 subcommand_name Capture = codes "capture"
+subcommand_name Window = codes "window"
 
 -- the name of a format
 abbrev pub format_name : Format → Text
@@ -55,10 +56,6 @@ format_name format.Table = codes "table"
 -- the names of formats
 abbrev pub format_names : List Text
 format_names = map format_name (format.Csv ∷ format.Table ∷ [])
-
--- the names of questions: those of views and lists, and the whole report's
-abbrev pub question_names : List Text
-question_names = pick_names ++ codes "report" ∷ []
 
 -- ---- the program's words, without its own name
 
@@ -118,17 +115,25 @@ link_rule = repeated_rule (codes "link")
 abbrev pub required_link_rule : Rule
 required_link_rule = record link_rule { required = true }
 
+-- a flag
+abbrev pub flag_rule : Text → Rule
+flag_rule name = record (new_rule name) { long = Some name; action = Some SetTrue }
+
 -- `--strict`, a flag
 abbrev pub strict_rule : Rule
-strict_rule = record (new_rule (codes "strict")) { long = Some (codes "strict"); action = Some SetTrue }
+strict_rule = flag_rule (codes "strict")
 
--- `--ask`, which may come again, with the name of a question
-abbrev pub ask_rule : ValueParser → Rule
-ask_rule questions = record (repeated_rule (codes "ask")) { parser = Some questions }
+-- `--quiet`, a flag
+abbrev pub quiet_rule : Rule
+quiet_rule = flag_rule (codes "quiet")
 
 -- FILE, which may be left out and may come again
 abbrev pub file_rule : Rule
 file_rule = record (new_rule (codes "FILE")) { action = Some Append }
+
+-- LENGTH, which is required and has one value, any text; its id is `window`
+abbrev pub length_rule : Rule
+length_rule = record (new_rule (codes "window")) { action = Some Set; value_names = 1; required = true }
 
 -- an argument that its own subcommand alone has, with this rule
 abbrev pub IsArgument : Rule → Arg → Type 0
@@ -138,18 +143,18 @@ IsArgument rule argument = (rule_of argument ≡ rule) × (argument.global ≡ f
 abbrev pub with_rules : App → List Rule → App
 with_rules app rules = fold with_rule app rules
 
--- how captures are read, beside their links
+-- how captures are read, beside their links, and whether nothing is told meanwhile
 abbrev pub reading_rules : List Rule
 reading_rules =
-    option_rule (codes "first-session") ∷ strict_rule ∷ option_rule (codes "index") ∷ option_rule (codes "losses") ∷ []
+    option_rule (codes "first-session") ∷ strict_rule ∷ quiet_rule ∷ option_rule (codes "index") ∷ option_rule (codes "losses") ∷ []
 
 -- the captures that are read behind rows, and how
 abbrev pub captures_rules : List Rule
 captures_rules = repeated_rule (codes "capture") ∷ link_rule ∷ reading_rules
 
 -- what is asked while packets come
-abbrev pub live_rules : ValueParser → List Rule
-live_rules questions = option_rule (codes "every") ∷ ask_rule questions ∷ []
+abbrev pub live_rules : List Rule
+live_rules = option_rule (codes "every") ∷ repeated_rule (codes "ask") ∷ []
 
 -- a subcommand with `--settings` and the options of captures, as `check`, `messages` and `receipts` are
 abbrev pub settings_app : Text → App
@@ -165,9 +170,9 @@ abbrev pub named_app : Text → Rule → ValueParser → App
 named_app name rule formats =
     with_rules (with_rule (with_rule (with_rule (new_app name) rule) (format_rule formats)) settings_rule) captures_rules
 
--- `follow`: the options of `report`, and what is asked while packets come
-abbrev pub follow_app : ValueParser → ValueParser → App
-follow_app formats questions = with_rules (options_app (codes "follow") formats) (live_rules questions)
+-- `follow`: the options of `report`, what is asked while packets come, and how long what came is kept
+abbrev pub follow_app : ValueParser → App
+follow_app formats = with_rule (with_rules (options_app (codes "follow") formats) live_rules) (option_rule (codes "window"))
 
 -- `count`: by which columns, the conditions, `--settings` and the options of captures
 abbrev pub count_app : App
@@ -177,9 +182,13 @@ count_app =
     captures_rules
 
 -- `capture`: its links, how captures are read, what is asked while packets come, and the captures
-abbrev pub capture_app : ValueParser → App
-capture_app questions =
-    with_rule (with_rules (with_rules (with_rule (new_app (codes "capture")) required_link_rule) reading_rules) (live_rules questions)) file_rule
+abbrev pub capture_app : App
+capture_app =
+    with_rule (with_rules (with_rules (with_rule (new_app (codes "capture")) required_link_rule) reading_rules) live_rules) file_rule
+
+-- `window`: its length alone
+abbrev pub window_app : App
+window_app = with_rule (new_app (codes "window")) length_rule
 
 -- the program's version
 abbrev pub version_text : Text
@@ -191,37 +200,35 @@ bare_program = on_top (λ shape. record shape { no_binary_name = true; subcomman
     (new_app (codes "smq"))
 
 -- the program with its subcommands up to `follow`
-abbrev pub first_program : ValueParser → ValueParser → ValueParser → App
-first_program names formats questions =
+abbrev pub first_program : ValueParser → ValueParser → App
+first_program names formats =
     with_subcommand
     (with_subcommand
     (with_subcommand
-    (with_subcommand (with_subcommand bare_program (capture_app questions).top) (options_app (codes "report") formats).top)
+    (with_subcommand (with_subcommand bare_program capture_app.top) (options_app (codes "report") formats).top)
     (named_app (codes "query") (name_rule names) formats).top) (settings_app (codes "check")).top)
-    (follow_app formats questions).top
+    (follow_app formats).top
 
--- a program, and then the subcommands that take a script of any length
+-- a program, and then the subcommands that take any number of rows
 abbrev pub with_any_length : ValueParser → ValueParser → App → App
 with_any_length names formats app =
     with_subcommand
     (with_subcommand
+    (with_subcommand
     (with_subcommand (with_subcommand app (named_app (codes "total") (optional_rule names) formats).top) count_app.top)
-    (settings_app (codes "messages")).top) (settings_app (codes "receipts")).top
+    (settings_app (codes "messages")).top) (settings_app (codes "receipts")).top) window_app.top
 
 -- the program, with all its subcommands
-abbrev pub program : ValueParser → ValueParser → ValueParser → App
-program names formats questions = with_any_length names formats (first_program names formats questions)
+abbrev pub program : ValueParser → ValueParser → App
+program names formats = with_any_length names formats (first_program names formats)
 
--- the program's words, where NAME is the name of a view or a list, a format is `csv` or `table`, and a question is the name of a view or a
--- list, or `report`
+-- the program's words, where NAME is the name of a view or a list, and a format is `csv` or `table`
 pub record IsProgram (app : App) : Type 0 where
   pub names : ValueParser
   pub formats : ValueParser
-  pub questions : ValueParser
   pub takes_names : TakesNames pick_names names
   pub takes_formats : TakesNames format_names formats
-  pub takes_questions : TakesNames question_names questions
-  pub is_program : app ≡ program names formats questions
+  pub is_program : app ≡ program names formats
 
 -- ---- what the words ask for
 
@@ -248,6 +255,7 @@ Say rows (Total output.Messages) = ⊤
 Say rows (Total output.Receipts) = ⊤
 Say rows Count = (columns : Text) × (first_of (codes "by") rows ≡ Some columns)
 Say rows Capture = ⊤
+Say rows Window = (length : Text) × (first_of (codes "window") rows ≡ Some length)
 
 -- what `count` counts by, as texts
 pub record CountingTexts : Type 0 where
@@ -275,6 +283,7 @@ pub record CaptureTexts : Type 0 where
   pub every : Option Text
   pub questions : List Text
   pub is_strict : Bool
+  pub is_quiet : Bool
 
 -- the texts of an order's captures
 abbrev pub texts_of_captures : Captures → CaptureTexts
@@ -287,6 +296,7 @@ texts_of_captures captures = record {
   every = option_map string_bytes captures.every;
   questions = map string_bytes captures.questions.items;
   is_strict = captures.is_strict;
+  is_quiet = captures.is_quiet;
 }
 
 -- all values of an argument, in the order of the words
@@ -313,22 +323,26 @@ pub record HasCaptures (rows : List Row) (texts : CaptureTexts) : Type 0 where
   pub every : first_of (codes "every") rows ≡ texts.every
   pub questions : values_of (codes "ask") rows ≡ texts.questions
   pub strict : HasFlag (codes "strict") rows texts.is_strict
+  pub quiet : HasFlag (codes "quiet") rows texts.is_quiet
 
--- The matches of the subcommand that words enter ask for a task, a path, what is counted by, and captures: the subcommand is the task's,
--- its arguments ask for what the task says, the path is that of `--settings`, and the rest is what the arguments say of it.
-pub record Asks (entered : Option (Text × List Row)) (task : Task) (path : Option Text) (counting : CountingTexts) (captures : CaptureTexts)
-    : Type 0 where
+-- The matches of the subcommand that words enter ask for a task, a path, a window's length, what is counted by, and captures: the subcommand
+-- is the task's, its arguments ask for what the task says, the path is that of `--settings`, the length that of LENGTH, which `window` has, or
+-- of `--window`, and the rest is what the arguments say of it.
+pub record Asks (entered : Option (Text × List Row)) (task : Task) (path window : Option Text) (counting : CountingTexts)
+    (captures : CaptureTexts) : Type 0 where
   pub rows : List Row
   pub enters : entered ≡ Some (subcommand_name task, rows)
   pub say : Say rows task
   pub has_path : first_of (codes "settings") rows ≡ path
+  pub has_window : first_of (codes "window") rows ≡ window
   pub has_counting : counting_in rows task ≡ counting
   pub has_captures : HasCaptures rows captures
 
 -- an order is one for which the matches of the subcommand ask
 abbrev pub IsAsked : Option (Text × List Row) → Order → Type 0
 IsAsked entered order =
-    Asks entered order.task (option_map string_bytes order.settings) (texts_of_counting order.counting) (texts_of_captures order.captures)
+    Asks entered order.task (option_map string_bytes order.settings) (option_map string_bytes order.window) (texts_of_counting order.counting)
+    (texts_of_captures order.captures)
 
 -- an order is the one for which `clap`'s matches of the words ask
 abbrev pub HasOrder : List Text → Order → Type 0

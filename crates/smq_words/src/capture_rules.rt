@@ -2,8 +2,7 @@
 ghost use Rattle.std.specs.Prelude.{◌≡◌, IfOk, codes};
 ghost use Rattle.clap.specs.Words.{app_of};
 ghost use Rattle.clap.specs.declared.builder.command.Command.TheViews.{out-Command as fields_of};
-ghost use Rattle.clap.specs.declared.builder.value_parser.ValueParser.TheVariants.{Names};
-ghost use Rattle.smq_words.specs.Words.{IsArgument, ask_rule, captures_rules, file_rule, link_rule, live_rules, option_rule};
+ghost use Rattle.smq_words.specs.Words.{IsArgument, captures_rules, file_rule, link_rule, live_rules, option_rule, quiet_rule};
 ghost use Rattle.smq_words.specs.Words.{reading_rules, repeated_rule, required_link_rule, strict_rule, with_rules};
 
 use clap::{Arg, ArgAction, Command};
@@ -20,7 +19,7 @@ pub fn with_captures<'a>(alloc: Global, command: Command<'a>) -> Result<Command<
     with_reading(alloc, named)
 }
 
-/// The subcommand, and how it reads captures.
+/// The subcommand, how it reads captures, and whether it tells nothing meanwhile.
 pub fn with_reading<'a>(alloc: Global, command: Command<'a>) -> Result<Command<'a>, AllocError>
     ensures rules { IfOk result (λ made.
         app_of made ≡ with_rules (app_of command.entry) reading_rules) }
@@ -30,24 +29,19 @@ pub fn with_reading<'a>(alloc: Global, command: Command<'a>) -> Result<Command<'
     command
         .arg(first_session_option(alloc))?
         .arg(strict_flag(alloc))?
+        .arg(quiet_flag(alloc))?
         .arg(index_option(alloc))?
         .arg(losses_option(alloc))
 }
 
 /// The subcommand, and what it is asked while packets come.
-pub fn with_live<'a>(
-    alloc: Global,
-    command: Command<'a>,
-    questions: &'a [&'a str],
-) -> Result<Command<'a>, AllocError>
+pub fn with_live<'a>(alloc: Global, command: Command<'a>) -> Result<Command<'a>, AllocError>
     ensures rules { IfOk result (λ made.
-        app_of made ≡ with_rules (app_of command.entry) (live_rules (Names questions.entry))) }
+        app_of made ≡ with_rules (app_of command.entry) live_rules) }
     ensures local { IfOk result (λ made.
         (fields_of made).has_globals ≡ (fields_of command.entry).has_globals) }
 {
-    command
-        .arg(every_option(alloc))?
-        .arg(ask_option(alloc, questions))
+    command.arg(every_option(alloc))?.arg(ask_option(alloc))
 }
 
 fn capture_option<'a>(alloc: Global) -> Arg<'a>
@@ -101,6 +95,15 @@ fn strict_flag<'a>(alloc: Global) -> Arg<'a>
         .action(ArgAction::SetTrue)
 }
 
+fn quiet_flag<'a>(alloc: Global) -> Arg<'a>
+    ensures { IsArgument quiet_rule result }
+{
+    Arg::new(alloc, "quiet")
+        .long("quiet")
+        .help("Tell nothing on a terminal of how far it is")
+        .action(ArgAction::SetTrue)
+}
+
 fn index_option<'a>(alloc: Global) -> Arg<'a>
     ensures { IsArgument (option_rule (codes "index")) result }
 {
@@ -135,17 +138,16 @@ fn every_option<'a>(alloc: Global) -> Arg<'a>
         .action(ArgAction::Set)
 }
 
-fn ask_option<'a>(alloc: Global, questions: &'a [&'a str]) -> Arg<'a>
-    ensures { IsArgument (ask_rule (Names questions.entry)) result }
+fn ask_option<'a>(alloc: Global) -> Arg<'a>
+    ensures { IsArgument (repeated_rule (codes "ask")) result }
 {
     Arg::new(alloc, "ask")
         .long("ask")
-        .value_name("NAME")
+        .value_name("QUESTION")
         .help(
-            "What is asked every so many seconds and at the end: a view, a list, or report; may come again",
+            "What is asked every so many seconds and at the end: a view, a list, report, or count and columns, as 'count link,network'; may come again",
         )
         .action(ArgAction::Append)
-        .value_parser(questions)
 }
 
 pub fn file_argument<'a>(alloc: Global) -> Arg<'a>

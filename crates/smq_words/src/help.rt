@@ -7,7 +7,7 @@ pub const ABOUT: &str =
     "Tells what became of SMPP 3.4 messages, from captured sessions in a script on standard input";
 
 pub const USAGE: &str =
-    "smq capture [OPTIONS] --link <[HOST:]PORT=LINK> [FILE]... > SCRIPT\n       smq report [OPTIONS] < SCRIPT\n       smq query [OPTIONS] <NAME> < SCRIPT\n       smq check [OPTIONS] < SCRIPT\n       smq follow [OPTIONS] < ROWS\n       smq total [OPTIONS] [NAME] < SCRIPT\n       smq count [OPTIONS] --by <COLUMNS> < SCRIPT\n       smq messages [OPTIONS] < SCRIPT\n       smq receipts [OPTIONS] < SCRIPT";
+    "smq capture [OPTIONS] --link <[HOST:]PORT=LINK> [FILE]... > SCRIPT\n       smq report [OPTIONS] < SCRIPT\n       smq query [OPTIONS] <NAME> < SCRIPT\n       smq check [OPTIONS] < SCRIPT\n       smq follow [OPTIONS] < ROWS\n       smq total [OPTIONS] [NAME] < SCRIPT\n       smq count [OPTIONS] --by <COLUMNS> < SCRIPT\n       smq messages [OPTIONS] < SCRIPT\n       smq receipts [OPTIONS] < SCRIPT\n       smq window <LENGTH> < ROWS";
 
 /// The help of a subcommand: what it does, and how it is called.
 #[derive(Clone, Copy)]
@@ -61,12 +61,19 @@ pub const RECEIPTS: Help<'static> = Help {
     usage: "smq receipts [OPTIONS] < SCRIPT",
 };
 
+pub const WINDOW: Help<'static> = Help {
+    about: "Writes the rows of the last so many minutes, each session in parts, and withdraws what is older",
+    usage: "smq window <LENGTH> < ROWS",
+};
+
 /// The first part of what stands below each help, before the names of views and lists.
 const SCRIPT: &str = "\
 SCRIPT is CSV records, one a line, as `piece,LINK,SESSION,DIR,MOMENT,HEX`, where DIR is client or centre and
 MOMENT is in ms since 1970 or YYYY-MM-DDTHH:MM:SSZ. It has at most 1,000,000 records and 268,435,456 octets
 (total, count, messages, receipts: any number). ROWS are the same, with `ask,NAME` or `ask,report` among them,
-and without a limit. A message takes some 2 KB of memory (follow: 5). docs/FORMATS.md tells all records, the
+and without a limit; for follow also `ask,count,COLUMN,..`, and `lost,SESSION,DIRECTION,OCTETS` where octets are
+missing. `smq window 15m` writes ROWS again, and withdraws what is older than 15 minutes; `smq follow --window 15m`
+counts the rest alone. A message takes some 2 KB of memory (follow: 5). docs/FORMATS.md tells all records, the
 settings, the report and the lines; tools/check-script says what is wrong with a script.
 `--capture FILE` with `--link` reads a packet capture behind the rows of standard input (-: from standard
 input, which has no rows then); smq capture --help tells how.
@@ -100,7 +107,7 @@ other direction with the first PDU behind all that was captured before.
 
 `--every SECONDS` writes a row `clock,MOMENT` before the first packet of each so many seconds (multiples of them since
 1970), and while no packet comes one as the host's clock goes on from the newest packet. After each, and once more at
-the end, comes a row `ask,NAME` for each --ask, a question to smq follow.
+the end, comes a row for each --ask, a question to smq follow: `ask,NAME`, or `ask,count,COLUMN,..`.
 
 Status:
   0  all that was sent was captured, as far as is seen

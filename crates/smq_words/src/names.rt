@@ -2,7 +2,7 @@
 ghost use Rattle.std.specs.Prelude.{◌++◌, ◌≡◌, IfOk, map};
 ghost use Rattle.smq_tally.specs.Names.{list_name, view_name};
 ghost use Rattle.smq_report.specs.Picks.{pick_names};
-ghost use Rattle.smq_words.specs.Words.{question_names, texts_of};
+ghost use Rattle.smq_words.specs.Words.{texts_of};
 
 use smq_tally::{List, View};
 use std::alloc::{AllocError, Global};
@@ -16,15 +16,6 @@ pub fn pick_names(alloc: Global) -> Result<Vec<&'static str>, AllocError>
 {
     let names = with_views(Vec::new(alloc), View::all())?;
     with_lists(names, List::all())
-}
-
-/// The names of questions: those of views and lists, and `report`.
-pub fn question_names(alloc: Global) -> Result<Vec<&'static str>, AllocError>
-    ensures { IfOk result (λ names. texts_of names.items ≡ question_names) }
-{
-    let mut names = pick_names(alloc)?;
-    names.push("report")?;
-    Ok(names)
 }
 
 /// The names, and then those of views.

@@ -20,6 +20,8 @@ pub enum Task {
     Count,
     /// To write the script of packet captures.
     Capture,
+    /// To write the rows of the last so many minutes, and to withdraw what is older.
+    Window,
 }
 
 /// What the words ask for.
@@ -29,6 +31,8 @@ pub struct Order {
     pub task: Task,
     /// The path of settings, if one is named.
     pub settings: Option<String>,
+    /// How long what came is kept; none: for ever.
+    pub window: Option<String>,
     /// What `count` counts by; nothing where the task is another.
     pub counting: Counting,
     /// Which captures are read, and how.
@@ -75,6 +79,8 @@ pub struct Captures {
     pub questions: Vec<String>,
     /// Whether --strict is given.
     pub is_strict: bool,
+    /// Whether --quiet is given: nothing is told of how far it is.
+    pub is_quiet: bool,
 }
 
 impl Captures {
@@ -89,6 +95,7 @@ impl Captures {
             every: None,
             questions: Vec::new(alloc),
             is_strict: false,
+            is_quiet: false,
         }
     }
 }

@@ -5,36 +5,34 @@ ghost use Rattle.clap.specs.Words.{app_of, new_app, rule_of};
 ghost use Rattle.clap.specs.declared.builder.command.Command.TheViews.{out-Command as fields_of};
 ghost use Rattle.clap.specs.declared.builder.value_parser.ValueParser.TheVariants.{Names};
 ghost use Rattle.smq_report.specs.Picks.{pick_names};
-ghost use Rattle.smq_words.specs.Words.{IsArgument, IsProgram, bare_program, capture_app, count_app, first_program, format_names, format_rule};
-ghost use Rattle.smq_words.specs.Words.{name_rule, named_app, optional_rule, options_app, question_names, settings_app, settings_rule};
-ghost use Rattle.smq_words.specs.Words.{texts_of, version_text, with_any_length};
+ghost use Rattle.smq_words.specs.Words.{IsArgument, IsProgram, bare_program, capture_app, count_app, first_program, follow_app, format_names};
+ghost use Rattle.smq_words.specs.Words.{format_rule, name_rule, named_app, optional_rule, options_app, settings_app, settings_rule};
+ghost use Rattle.smq_words.specs.Words.{texts_of, version_text, window_app, with_any_length};
 
 use crate::capture_rules::{file_argument, required_link, with_captures, with_live, with_reading};
 use crate::count_rules::{columns_option, condition_option};
 use crate::help::{
     ABOUT, CAPTURE, CAPTURE_MORE, CHECK, COUNT, FOLLOW, Help, MESSAGES, QUERY, RECEIPTS, REPORT,
-    TOTAL, USAGE,
+    TOTAL, USAGE, WINDOW,
 };
 use crate::names::FORMATS;
+use crate::window_rules::{length_argument, window_option};
 use clap::{Arg, ArgAction, Command};
 use std::alloc::{AllocError, Global};
 
 /// The version that `--version` prints.
 const VERSION: &str = "0.23.0";
 
-/// The rules of the program's words, where `names` are those of views and lists, `questions` those of questions, and `more` stands below
-/// each help but that of `capture`.
+/// The rules of the program's words, where `names` are those of views and lists, and `more` stands below each help but that of `capture`.
 pub fn command<'a>(
     alloc: Global,
     names: &'a [&'a str],
-    questions: &'a [&'a str],
     more: &'a str,
 ) -> Result<Command<'a>, AllocError>
     requires names { texts_of names.now ≡ pick_names }
-    requires questions { texts_of questions.now ≡ question_names }
     ensures { IfOk result (λ command. IsProgram (app_of command)) }
 {
-    command_with(alloc, names, FORMATS.as_slice(), questions, more)
+    command_with(alloc, names, FORMATS.as_slice(), more)
 }
 
 /// The same, where `formats` are the names of formats.
@@ -42,15 +40,13 @@ fn command_with<'a>(
     alloc: Global,
     names: &'a [&'a str],
     formats: &'a [&'a str],
-    questions: &'a [&'a str],
     more: &'a str,
 ) -> Result<Command<'a>, AllocError>
     requires names { texts_of names.now ≡ pick_names }
     requires formats { texts_of formats.now ≡ format_names }
-    requires questions { texts_of questions.now ≡ question_names }
     ensures { IfOk result (λ command. IsProgram (app_of command)) }
 {
-    let first = first_subcommands(alloc, names, formats, questions, more)?;
+    let first = first_subcommands(alloc, names, formats, more)?;
     with_any_length(alloc, first, names, formats, more)
 }
 
@@ -59,13 +55,12 @@ fn first_subcommands<'a>(
     alloc: Global,
     names: &'a [&'a str],
     formats: &'a [&'a str],
-    questions: &'a [&'a str],
     more: &'a str,
 ) -> Result<Command<'a>, AllocError>
     ensures { IfOk result (λ command. app_of command
-        ≡ first_program (Names names.entry) (Names formats.entry) (Names questions.entry)) }
+        ≡ first_program (Names names.entry) (Names formats.entry)) }
 {
-    let capture = capture_command(alloc, questions)?;
+    let capture = capture_command(alloc)?;
     let report = options_command(alloc, "report", REPORT, formats, more)?;
     let query = named_command(
         alloc,
@@ -76,8 +71,7 @@ fn first_subcommands<'a>(
         more,
     )?;
     let check = settings_command(alloc, "check", CHECK, more)?;
-    let rows = options_command(alloc, "follow", FOLLOW, formats, more)?;
-    let follow = with_live(alloc, rows, questions)?;
+    let follow = follow_command(alloc, formats, more)?;
     bare_command(alloc, more)?
         .subcommand(capture)?
         .subcommand(report)?
@@ -86,7 +80,7 @@ fn first_subcommands<'a>(
         .subcommand(follow)
 }
 
-/// The program, and its subcommands that take a script of any length.
+/// The program, and its subcommands that take any number of rows.
 fn with_any_length<'a>(
     alloc: Global,
     command: Command<'a>,
@@ -108,11 +102,13 @@ fn with_any_length<'a>(
     let count = count_command(alloc, more)?;
     let messages = settings_command(alloc, "messages", MESSAGES, more)?;
     let receipts = settings_command(alloc, "receipts", RECEIPTS, more)?;
+    let window = window_command(alloc, more)?;
     command
         .subcommand(total)?
         .subcommand(count)?
         .subcommand(messages)?
-        .subcommand(receipts)
+        .subcommand(receipts)?
+        .subcommand(window)
 }
 
 /// The program without its subcommands.
@@ -185,6 +181,19 @@ fn named_command<'a>(
     with_captures(alloc, command)
 }
 
+/// The subcommand that plays rows as they come, and its help.
+fn follow_command<'a>(
+    alloc: Global,
+    formats: &'a [&'a str],
+    more: &'a str,
+) -> Result<Command<'a>, AllocError>
+    ensures rules { IfOk result (λ command. app_of command ≡ follow_app (Names formats.entry)) }
+    ensures local { IfOk result (λ command. (fields_of command).has_globals ≡ false) }
+{
+    let rows = options_command(alloc, "follow", FOLLOW, formats, more)?;
+    with_live(alloc, rows)?.arg(window_option(alloc))
+}
+
 /// The subcommand that counts messages by columns, and its help.
 fn count_command<'a>(alloc: Global, more: &'a str) -> Result<Command<'a>, AllocError>
     ensures rules { IfOk result (λ command. app_of command ≡ count_app) }
@@ -198,14 +207,21 @@ fn count_command<'a>(alloc: Global, more: &'a str) -> Result<Command<'a>, AllocE
 }
 
 /// The subcommand that writes the script of captures, and its help.
-fn capture_command<'a>(alloc: Global, questions: &'a [&'a str]) -> Result<Command<'a>, AllocError>
-    ensures rules { IfOk result (λ command.
-        app_of command ≡ capture_app (Names questions.entry)) }
+fn capture_command<'a>(alloc: Global) -> Result<Command<'a>, AllocError>
+    ensures rules { IfOk result (λ command. app_of command ≡ capture_app) }
     ensures local { IfOk result (λ command. (fields_of command).has_globals ≡ false) }
 {
     let linked = subcommand(alloc, "capture", CAPTURE, CAPTURE_MORE).arg(required_link(alloc))?;
     let read = with_reading(alloc, linked)?;
-    with_live(alloc, read, questions)?.arg(file_argument(alloc))
+    with_live(alloc, read)?.arg(file_argument(alloc))
+}
+
+/// The subcommand that writes the rows of the last so many minutes, and its help.
+fn window_command<'a>(alloc: Global, more: &'a str) -> Result<Command<'a>, AllocError>
+    ensures rules { IfOk result (λ command. app_of command ≡ window_app) }
+    ensures local { IfOk result (λ command. (fields_of command).has_globals ≡ false) }
+{
+    subcommand(alloc, "window", WINDOW, more).arg(length_argument(alloc))
 }
 
 /// A subcommand with no argument yet, and its help.

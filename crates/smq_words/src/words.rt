@@ -7,7 +7,7 @@ ghost use Rattle.smq_words.specs.Words.{texts_of, texts_of_captures, texts_of_co
 ghost use Rattle.smq_words.specs.within.Tasks.{counting_named, task_named};
 
 use crate::help::more_help;
-use crate::names::{pick_names, question_names};
+use crate::names::pick_names;
 use crate::orders::{Captures, Counting, Order, Task};
 use crate::rules::{bare_command, command};
 use clap::error::ErrorKind;
@@ -25,18 +25,17 @@ pub fn order<S: AsStr>(alloc: Global, words: &[S]) -> Result<Order, Error>
     ensures order { IfOk result (HasOrder (map S.text words.now)) }
 {
     let names = pick_names(alloc)?;
-    let questions = question_names(alloc)?;
     let more = more_help(alloc)?;
-    let command = command(alloc, names.as_slice(), questions.as_slice(), more.as_str())?;
+    let command = command(alloc, names.as_slice(), more.as_str())?;
     let matches = command.try_get_matches_from(words)?;
     Ok(order_in(alloc, &matches)?)
 }
 
 /// What the matches of the words ask for. `clap` takes no words without a subcommand.
 fn order_in(alloc: Global, matches: &ArgMatches) -> Result<Order, AllocError>
-    ensures { (task : Task) → (path : Option Text)
+    ensures { (task : Task) → (path window : Option Text)
         → (counting : CountingTexts) → (captures : CaptureTexts)
-        → Asks (subcommand_rows_of matches.now) task path counting captures
+        → Asks (subcommand_rows_of matches.now) task path window counting captures
         → IfOk result (IsAsked (subcommand_rows_of matches.now)) }
 {
     match matches.subcommand() {
@@ -44,6 +43,7 @@ fn order_in(alloc: Global, matches: &ArgMatches) -> Result<Order, AllocError>
         None => Ok(Order {
             task: Task::Check,
             settings: None,
+            window: None,
             counting: Counting::none(alloc),
             captures: Captures::none(alloc),
         }),
@@ -52,18 +52,20 @@ fn order_in(alloc: Global, matches: &ArgMatches) -> Result<Order, AllocError>
 
 /// What the matches of the subcommand of a name ask for.
 fn order_of(alloc: Global, name: &str, entered: &ArgMatches) -> Result<Order, AllocError>
-    ensures { (task : Task) → (path : Option Text)
+    ensures { (task : Task) → (path window : Option Text)
         → (counting : CountingTexts) → (captures : CaptureTexts)
-        → Asks (Some (name.now, rows_of (found_of entered.now))) task path counting captures
+        → Asks (Some (name.now, rows_of (found_of entered.now))) task path window counting captures
         → IfOk result (IsAsked (Some (name.now, rows_of (found_of entered.now)))) }
 {
     let settings = given_text(alloc, entered, "settings")?;
+    let window = given_text(alloc, entered, "window")?;
     let counting = counting_of(alloc, name, entered)?;
     let captures = captures_of(alloc, entered)?;
     let task = task_of(name, entered);
     Ok(Order {
         task,
         settings,
+        window,
         counting,
         captures,
     })
@@ -71,9 +73,9 @@ fn order_of(alloc: Global, name: &str, entered: &ArgMatches) -> Result<Order, Al
 
 /// The task for which the matches of the subcommand of a name ask.
 fn task_of(name: &str, entered: &ArgMatches) -> Task
-    ensures { (task : Task) → (path : Option Text)
+    ensures { (task : Task) → (path window : Option Text)
         → (counting : CountingTexts) → (captures : CaptureTexts)
-        → Asks (Some (name.now, rows_of (found_of entered.now))) task path counting captures
+        → Asks (Some (name.now, rows_of (found_of entered.now))) task path window counting captures
         → result ≡ task }
 {
     task_named(name, query_in(entered))
@@ -103,6 +105,9 @@ fn task_named(name: &str, query: Query) -> Task
     }
     if name == "capture" {
         return Task::Capture;
+    }
+    if name == "window" {
+        return Task::Window;
     }
     Task::Run(query)
 }
@@ -152,6 +157,7 @@ fn captures_of(alloc: Global, entered: &ArgMatches) -> Result<Captures, AllocErr
         every: given_text(alloc, entered, "every")?,
         questions: given_texts(alloc, entered, "ask")?,
         is_strict: is_given(entered, "strict"),
+        is_quiet: is_given(entered, "quiet"),
     })
 }
 

@@ -1,5 +1,6 @@
 //! Gaps of a connection that are given up, and the sessions that begin behind them.
-use crate::connection::{Connection, tell_gap};
+use crate::connection::Connection;
+use crate::connection::told::tell_gap;
 use crate::direction::{Following, Sought};
 use crate::fault::Fault;
 use crate::notice::{Behind, Notice, Sender};
@@ -12,7 +13,7 @@ use std::alloc::AllocError;
 
 impl Connection {
     /// Goes on behind gaps that won't fill any more by a moment, or behind all where the connection ends.
-    pub fn give_up<S: Sink>(
+    pub(crate) fn give_up<S: Sink>(
         &mut self,
         output: &mut Output<S>,
         moment: u64,
@@ -28,7 +29,7 @@ impl Connection {
     }
 
     /// Goes on behind what has waited longest, as too much waits.
-    pub fn give_up_oldest<S: Sink>(
+    pub(crate) fn give_up_oldest<S: Sink>(
         &mut self,
         output: &mut Output<S>,
         moment: u64,

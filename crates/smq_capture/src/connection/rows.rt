@@ -1,4 +1,6 @@
 //! The rows of a connection: which session each octet is of, and when it is written.
+ghost use Rattle.std.specs.Prelude.{◌≡◌, min};
+
 use crate::connection::{Connection, Cut, ROW, Row};
 use crate::direction::Direction;
 use crate::fault::Fault;
@@ -220,7 +222,9 @@ fn settle_row(
 }
 
 /// A length, or a number where that is less.
-fn shorter(number: u64, length: usize) -> usize {
+fn shorter(number: u64, length: usize) -> usize
+    ensures { result ≡ min number length }
+{
     if number < length as u64 {
         number as usize
     } else {

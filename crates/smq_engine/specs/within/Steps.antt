@@ -1,5 +1,5 @@
 -- What one record adds, and what was done with the records so far.
-use Rattle.std.specs.Prelude.{◌≡◌, ◌+◌, ⊤, ℕ, List, [], ◌∷◌, ◌++◌, length, take, Option, None, Some}
+use Rattle.std.specs.Prelude.{◌≡◌, ◌+◌, ◌*◌, ◌^◌, ◌<◌, ⊤, ℕ, List, [], ◌∷◌, ◌++◌, length, take, Option, None, Some}
 use Rattle.std.specs.Io.KnownBytes.{Keeps}
 use Rattle.csv.specs.declared.reader.Reader.{Reader}
 use Rattle.smq_kit.specs.declared.refusal.Refusal.{Refusal}
@@ -11,13 +11,20 @@ use Rattle.smq_report.specs.declared.pick.Format.{Format}
 use Rattle.smq_engine.specs.declared.run_fault.RunFault.{RunFault}
 use Rattle.smq_engine.specs.declared.run_fault.RunFault.TheVariants.{BadRow, BadSettings, Read, Write, Memory, NoThread, Desk}
 use Rattle.smq_engine.specs.declared.record.Record.{Record}
-use Rattle.smq_engine.specs.Answers.{answer_to, present_after, refusal_to, refused_after}
+use Rattle.smq_engine.specs.declared.totals.Totals.{Totals}
+use Rattle.smq_engine.specs.Answers.{answer_to, present_after, refusal_to, refused_after, totals_after}
 use Rattle.smq_engine.specs.Followed.{AreAllOf, AreBeforeBadOf, AreFirstOf, AreWritten, IsCutAt, IsSaidOf, NothingIsWritten, SayRecords, Written}
 
--- these records are played: this is present, and so many rows were refused
-pub record ArePlayed (settings_rows : List rows.Row) (records : List Record) (present : PresentValue) (refused : ℕ) : Type 0 where
+-- these records are played: this is present, and they came to these totals
+pub record ArePlayed (settings_rows : List rows.Row) (records : List Record) (present : PresentValue) (totals : Totals) : Type 0 where
   pub is_present : present ≡ present_after settings_rows records
-  pub are_refused : refused ≡ refused_after settings_rows records
+  pub are_totals : totals ≡ totals_after settings_rows records
+
+-- before the record of a number totals are this low: so they fit
+pub record AreBelow (number : ℕ) (totals : Totals) : Type 0 where
+  pub refused : totals.refused < number
+  pub gaps : totals.gaps < number
+  pub octets : totals.octets < number * 2 ^ 64
 
 -- one where there is a refusal
 abbrev pub count_of : Option Refusal → ℕ
@@ -83,9 +90,9 @@ pub record IsPlayed (format : Format) (settings_rows : List rows.Row) (refused :
 
 -- so far these records were given and played, and all is said of them
 pub record HasPlayed {R : Type 0} (remaining : R → Option (List ℕ)) (reader : Reader R) (text : List ℕ) (format : Format)
-    (settings_rows : List rows.Row) (present : PresentValue) (refused number : ℕ) (w : Written) : Type 0 where
+    (settings_rows : List rows.Row) (present : PresentValue) (totals : Totals) (number : ℕ) (w : Written) : Type 0 where
   pub records : List Record
   pub given : HasGivenRecords remaining reader text records
   pub numbered : number ≡ length records + 1
-  pub played : ArePlayed settings_rows records present refused
+  pub played : ArePlayed settings_rows records present totals
   pub written : IsSaidOf format settings_rows records w

@@ -6,29 +6,30 @@ use smq_engine::{Followed, follow};
 use smq_report::Format;
 use std::io::Read;
 
-/// A submit_sm, a question, its submit_sm_resp, a row that is refused, and a question.
+/// A submit_sm, a question, its submit_sm_resp, a row that is refused, a gap, and a question about counts.
 const RECORDS: &[&[u8]] = &[
     b"piece,1,10,client,1000,00000031000000040000000000000001000000313030300001013434373730303930303132330000000000000100000000\n",
     b"ask,link\n",
     b"piece,1,10,centre,1200,000000128000000400000000000000013100\n",
     b"withdraw,11\n",
-    b"ask,report\n",
+    b"lost,10,centre,1460\n",
+    b"ask,count,link,outcome\n",
 ];
 
 /// The records in one text.
 const TEXT: &[u8] =
-    b"piece,1,10,client,1000,00000031000000040000000000000001000000313030300001013434373730303930303132330000000000000100000000\nask,link\npiece,1,10,centre,1200,000000128000000400000000000000013100\nwithdraw,11\nask,report\n";
+    b"piece,1,10,client,1000,00000031000000040000000000000001000000313030300001013434373730303930303132330000000000000100000000\nask,link\npiece,1,10,centre,1200,000000128000000400000000000000013100\nwithdraw,11\nlost,10,centre,1460\nask,count,link,outcome\n";
 
 /// The two answers in one text, the length of the first, and the line of the refused row.
 const ANSWERS: &[u8] =
-    b"view,link,1,waiting,1\ntold,2,link,0,0\nview,link,1,open,1\nview,route,none,open,1\nview,network,none,open,1\nlist,open,10,client,0\ntold,5,report,0,1\n";
+    b"view,link,1,waiting,1\ntold,2,link,0,0,0,0\nlink,outcome,messages\n1,open,1\ntold,6,count link outcome,0,1,1,1460\n";
 
-const FIRST: usize = 38;
+const FIRST: usize = 42;
 
 const REFUSALS: &[u8] = b"row 4: 6 NoSession\n";
 
 /// How many octets are to be written before each record is read, and before the end is found.
-const BEFORE: &[u64] = &[0, 0, 38, 38, 38, 145];
+const BEFORE: &[u64] = &[0, 0, 42, 42, 42, 42, 110];
 
 /// Gives the records one after the other, and fails where other octets than these were written before one, or before the end.
 #[derive(Drop)]
@@ -176,7 +177,7 @@ fn tells_bad_row<RT: AllocGlobal>(rt: &RT, records: &'static [u8]) -> bool {
     let mut refusals = Vec::new(rt.alloc());
     answer_all(rt, &mut reader, &mut answers, &mut refusals) == Err(RunFault::BadRow { row: 3 })
         && reader.failing == 3
-        && answers.as_slice() == b"told,1,link,0,0\n".as_slice()
+        && answers.as_slice() == b"told,1,link,0,0,0,0\n".as_slice()
         && refusals.as_slice() == b"row 2: 6 NoSession\n".as_slice()
 }
 

@@ -5,7 +5,7 @@ use Rattle.clap.specs.Words.{Row, Text, first_of}
 use Rattle.smq_report.specs.declared.pick.Output.TheVariants as output
 use Rattle.smq_report.specs.declared.pick.Query.{Query}
 use Rattle.smq_words.specs.declared.orders.Task.{Task}
-use Rattle.smq_words.specs.declared.orders.Task.TheVariants.{Capture, Check, Count, Follow, Run, Total}
+use Rattle.smq_words.specs.declared.orders.Task.TheVariants.{Capture, Check, Count, Follow, Run, Total, Window}
 use Rattle.smq_words.specs.Words.{CountingTexts, no_counting, values_of}
 
 -- the task of the subcommand of this name, whose arguments ask for this
@@ -18,6 +18,7 @@ task_named name query =
     else if bytes_eq name (codes "receipts") then Total output.Receipts
     else if bytes_eq name (codes "total") then Total (output.Report query)
     else if bytes_eq name (codes "capture") then Capture
+    else if bytes_eq name (codes "window") then Window
     else Run query
 
 -- what the arguments of the subcommand of this name say of counting

@@ -9,5 +9,5 @@ pub returns : goal.returns
 returns c = record {
   answered = λ format settings_rows first more. said-append (answer_to format settings_rows) [] first more;
   told = λ settings_rows first more. said-append (refusal_to settings_rows) [] first more;
-  last = λ format settings_rows first pick. said-more (answer_to format settings_rows) [] first (Ask pick);
+  last = λ format settings_rows first question. said-more (answer_to format settings_rows) [] first (Ask question);
 }

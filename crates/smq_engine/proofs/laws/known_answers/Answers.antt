@@ -9,10 +9,11 @@ returns-clause-answers c = record {
   each = λ say a b c. refl;
   of_view = refl;
   of_report = refl;
+  of_count = refl;
   played = refl;
   first = refl;
   last = refl;
-  refused = refl;
+  totals = refl;
   told = refl;
 }
 

@@ -1,61 +1,66 @@
 use Rattle.std.proofs.Common.{[], ◌∷◌, codes, refl}
 use Rattle.clap.proofs.OnLiterals.{clap_on_literals}
 use Rattle.smq_words.specs.Known.{KnowsCount}
-use Rattle.smq_words.proofs.KnownLemmas.{given, lenient}
+use Rattle.smq_words.proofs.KnownLemmas.{given, no_flags, not_given}
 use Rattle.smq_words.proofs.laws.known_words_of_count.Goals as goal
 
 known : KnowsCount
 unfolding clap_on_literals
 known = record {
-  columns = λ names formats questions. refl;
-  columns_count = λ names formats questions. record {
-    rows = given (codes "by") (codes "link,day" ∷ []) ∷ lenient ∷ [];
+  columns = λ names formats. refl;
+  columns_count = λ names formats. record {
+    rows = given (codes "by") (codes "link,day" ∷ []) ∷ no_flags;
     enters = refl;
     say = (_, refl);
     has_path = refl;
+    has_window = refl;
     has_counting = refl;
-    has_captures = record { paths = refl; links = refl; first_session = refl; index = refl; losses = refl; every = refl; questions = refl; strict = refl };
+    has_captures = record { paths = refl; links = refl; first_session = refl; index = refl; losses = refl; every = refl; questions = refl; strict = refl; quiet = refl };
   };
-  conditions = λ names formats questions. refl;
-  conditions_count = λ names formats questions. record {
-    rows = given (codes "where") (codes "link=1" ∷ codes "outcome=open" ∷ []) ∷ given (codes "by") (codes "day" ∷ []) ∷ lenient ∷ [];
+  conditions = λ names formats. refl;
+  conditions_count = λ names formats. record {
+    rows = given (codes "where") (codes "link=1" ∷ codes "outcome=open" ∷ []) ∷ given (codes "by") (codes "day" ∷ []) ∷ no_flags;
     enters = refl;
     say = (_, refl);
     has_path = refl;
+    has_window = refl;
     has_counting = refl;
-    has_captures = record { paths = refl; links = refl; first_session = refl; index = refl; losses = refl; every = refl; questions = refl; strict = refl };
+    has_captures = record { paths = refl; links = refl; first_session = refl; index = refl; losses = refl; every = refl; questions = refl; strict = refl; quiet = refl };
   };
-  joined = λ names formats questions. record {
-    rows = given (codes "by") (codes "day" ∷ []) ∷ given (codes "where") (codes "error=" ∷ []) ∷ lenient ∷ [];
+  joined = λ names formats. record {
+    rows = given (codes "by") (codes "day" ∷ []) ∷ given (codes "where") (codes "error=" ∷ []) ∷ no_flags;
     enters = refl;
     say = (_, refl);
     has_path = refl;
+    has_window = refl;
     has_counting = refl;
-    has_captures = record { paths = refl; links = refl; first_session = refl; index = refl; losses = refl; every = refl; questions = refl; strict = refl };
+    has_captures = record { paths = refl; links = refl; first_session = refl; index = refl; losses = refl; every = refl; questions = refl; strict = refl; quiet = refl };
   };
-  settings = λ names formats questions. record {
-    rows = given (codes "settings") (codes "p" ∷ []) ∷ given (codes "by") (codes "hour" ∷ []) ∷ lenient ∷ [];
+  settings = λ names formats. record {
+    rows = given (codes "settings") (codes "p" ∷ []) ∷ given (codes "by") (codes "hour" ∷ []) ∷ no_flags;
     enters = refl;
     say = (_, refl);
     has_path = refl;
+    has_window = refl;
     has_counting = refl;
-    has_captures = record { paths = refl; links = refl; first_session = refl; index = refl; losses = refl; every = refl; questions = refl; strict = refl };
+    has_captures = record { paths = refl; links = refl; first_session = refl; index = refl; losses = refl; every = refl; questions = refl; strict = refl; quiet = refl };
   };
-  captures = λ names formats questions. record {
-    rows = given (codes "by") (codes "route" ∷ []) ∷ given (codes "capture") (codes "f" ∷ []) ∷ given (codes "link") (codes "2775=1" ∷ []) ∷ given (codes "strict") (codes "true" ∷ []) ∷ [];
+  captures = λ names formats. record {
+    rows = given (codes "by") (codes "route" ∷ []) ∷ given (codes "capture") (codes "f" ∷ []) ∷ given (codes "link") (codes "2775=1" ∷ []) ∷ given (codes "strict") (codes "true" ∷ []) ∷ not_given (codes "quiet") ∷ [];
     enters = refl;
     say = (_, refl);
     has_path = refl;
+    has_window = refl;
     has_counting = refl;
-    has_captures = record { paths = refl; links = refl; first_session = refl; index = refl; losses = refl; every = refl; questions = refl; strict = refl };
+    has_captures = record { paths = refl; links = refl; first_session = refl; index = refl; losses = refl; every = refl; questions = refl; strict = refl; quiet = refl };
   };
-  no_columns = λ names formats questions. refl;
-  conditions_alone = λ names formats questions. refl;
-  twice = λ names formats questions. refl;
-  format = λ names formats questions. refl;
-  name = λ names formats questions. refl;
-  messages = λ names formats questions. refl;
-  total = λ names formats questions. refl;
+  no_columns = λ names formats. refl;
+  conditions_alone = λ names formats. refl;
+  twice = λ names formats. refl;
+  format = λ names formats. refl;
+  name = λ names formats. refl;
+  messages = λ names formats. refl;
+  total = λ names formats. refl;
 }
 
 pub returns : goal.returns

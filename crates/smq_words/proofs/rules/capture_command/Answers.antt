@@ -2,7 +2,6 @@ use Rattle.std.proofs.Common.{◌∙◌, ap, ap₂}
 use Rattle.std.proofs.lemmas.Result.{IfOk-weaker}
 use Rattle.clap.specs.Simple.{App}
 use Rattle.clap.specs.Words.{with_rule}
-use Rattle.clap.specs.declared.builder.value_parser.ValueParser.TheVariants.{Names}
 use Rattle.smq_words.specs.Words.{live_rules, reading_rules, with_rules}
 use Rattle.smq_words.proofs.RuleLemmas.{or_none}
 use Rattle.smq_words.proofs.rules.capture_command.Goals as goal
@@ -14,7 +13,7 @@ returns-clause-rules c =
     IfOk-weaker c.arg-2.result _ _
     (λ made h. h.shape file_local
     ∙ ap₂ with_rule (c.in_ok-with_live.ensures.rules
-    ∙ ap (λ (app : App). with_rules app (live_rules (Names c.args.questions))) (c.in_ok-read.ensures.rules
+    ∙ ap (λ (app : App). with_rules app live_rules) (c.in_ok-read.ensures.rules
     ∙ ap (λ (app : App). with_rules app reading_rules) (c.in_ok-linked.ensures.shape link_local
     ∙ ap₂ with_rule c.subcommand.ensures.rules link_is))) file_is) c.arg-2.ensures
 

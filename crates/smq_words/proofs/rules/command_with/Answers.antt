@@ -12,9 +12,7 @@ returns c =
     (λ m h. record {
       names = names;
       formats = formats;
-      questions = Names c.args.questions;
       takes_names = c.requires.names;
       takes_formats = c.requires.formats;
-      takes_questions = c.requires.questions;
       is_program = h ∙ ap (with_any_length names formats) c.in_ok-first.ensures;
     }) c.with_any_length.ensures

@@ -1,0 +1,11 @@
+use Rattle.std.proofs.Common.{◌∙◌, ap}
+use Rattle.smq_scratch.specs.Lines.{message_lines}
+use Rattle.smq_engine.specs.Answers.{columns_text}
+use Rattle.smq_engine.proofs.AnswerLemmas.{counts-all}
+use Rattle.smq_engine.proofs.answer.counts_of.Goals as goal
+
+pub returns-clause-ok : goal.returns-clause-ok
+returns-clause-ok c =
+    c.in_ok-text.ensures.ok
+    ∙ counts-all c.in_ok-counting.counting c.args.columns.now c.as_slice.result.now c.in_ok-counting.ensures.columns c.in_ok-counting.ensures.all
+    ∙ ap (columns_text c.args.columns.now) (c.as_slice.ensures.value ∙ c.in_ok-lines.ensures ∙ ap message_lines c.present.ensures)

@@ -1,0 +1,15 @@
+-- How far a direction was sent (RFC 9293, 3.4: a FIN has the number behind the last octet, and is acknowledged as octets are).
+use Rattle.std.specs.Prelude.{ℕ, ◌+◌, nat_le, if◌then◌else◌}
+use Rattle.smq_streams.specs.declared.extent.Extent.{Extent}
+
+-- of two places behind numbers that were sent the later one, unless it is one number behind the other, which may be that of a FIN
+abbrev pub later_but_fin : ℕ → ℕ → ℕ
+later_but_fin place other = if nat_le other (place + 1) then place else other
+
+-- the place behind the last octet that was sent
+abbrev pub sent_until : Extent → ℕ
+sent_until e = later_but_fin e.end e.reached
+
+-- the place behind the last number, with one more place
+abbrev pub reached_with : ℕ → Extent → ℕ
+reached_with place e = if nat_le place (sent_until e + 1) then e.reached else place

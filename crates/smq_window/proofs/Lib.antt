@@ -1,0 +1,11 @@
+pub mod Homes
+pub mod Sums
+pub mod Keeps
+pub mod Results
+pub mod Deals
+pub mod Firsts
+pub mod Windows
+pub mod Standing
+pub mod Conserved
+pub mod Recent
+pub mod KnownWindows

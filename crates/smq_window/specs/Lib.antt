@@ -1,0 +1,10 @@
+pub mod Exchange
+pub mod Homes
+pub mod Session
+pub mod Direction
+pub mod Connection
+pub mod Belief
+pub mod Window
+pub mod Laws
+pub mod Known
+pub mod within
