@@ -1,6 +1,9 @@
 """Words and files that tools/statement and tools/dispute refuse, for gate/check-bills: what is told, and the status."""
 COUNTS = b"link,network,day,outcome,messages\n1,23410,2026-11-05,delivered,3\n"
+UNPAID = b"link,network,day,outcome,messages\n1,23410,2026-11-05,open,3\n1,23410,2026-11-06,failed,1\n"
 PRICES = b"link,route,network,from,for,price,currency\n1,,23410,2026-11-01,delivered,0.045,EUR\n"
+# The same with lines that have no price, before the columns, too, and with a quote that doesn't end
+REMARKED = b'# prices, "of" the link\n' + PRICES.replace(b"EUR\n", b'EUR\n# 1,,,2026-11-01,delivered,1,EUR\n#,"\n')
 NAMES = b"link,1,North\n# a comment\n"
 MESSAGES = b"link,session,offset,moment,route,network,outcome,key\n1,10,0,1000,12,23410,delivered,26\n"
 BILLED = b"id,price\n1a,0.06\n"
@@ -31,7 +34,10 @@ STATEMENTS = (
     (COUNTS + LONG, PRICES, "line 3: it has more than 1048576 characters"),
     (COUNTS + b'"1,23410', PRICES, "line 3: unexpected end of data"),
     (COUNTS, b"", "prices.csv: line 1: column link is there 0 times"),
+    (COUNTS, PRICES.replace(b",", b";"), "prices.csv: line 1: its fields stand between semicolons, and have to stand between commas"),
+    (COUNTS.replace(b",", b"\t"), PRICES, "line 1: its fields stand between tabs, and have to stand between commas"),
     (COUNTS, priced(b"1,,23410,2026-11-01,accepted,1,USD"), "prices.csv: line 3: it overlaps line 2, of the same link, network and date"),
+    (COUNTS, REMARKED + b"1,,23410,2026-11-01,accepted,1,USD\n", "prices.csv: line 6: it overlaps line 3, of the same link, network and date"),
     (COUNTS, priced(b"1,,23410,2026-11-02,delivered,,EUR"), "prices.csv: line 3: column price is empty: a hole of prices"),
     (COUNTS, priced(b"1,,23410,,delivered,1,EUR"), "prices.csv: line 3: column from is empty: a hole of prices"),
     (COUNTS, priced(b"1,,23410,2026-11-02,,1,EUR"), "prices.csv: line 3: column for is empty: a hole of prices"),

@@ -36,10 +36,11 @@ class Prices:
 
 
 def read_prices(path):
-    """Returns the prices of a file. Two of one link or route, network and date are bad, and so is a field that is left out."""
+    """Returns the prices of a file. Two of one link or route, network and date are bad, and so is a field that is left out. A line that begins
+    with # has none."""
     found, lines, name = Prices(), {}, f"{path}: "
     with opened(path) as file:
-        for line, row in table_of(file, COLUMNS, name=name)[1]:
+        for line, row in table_of(file, COLUMNS, name=name, remark="#")[1]:
             if (row["link"] == "") == (row["route"] == ""):
                 raise Unfit(f"{name}line {line}: it has to have either a link or a route")
             kind = "link" if row["link"] else "route"

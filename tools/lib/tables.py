@@ -21,19 +21,19 @@ def opened(path):
     return open(path, closefd=path != 0, **{**OCTETS, "encoding": "utf-8-sig"})
 
 
-def lines_of(file, name, longest):
+def lines_of(file, name, longest, remark):
     at = 0
     while line := file.readline(longest + 1):
         at += 1
         if len(line) > longest:
             raise Unfit(f"{name}line {at}: it has more than {longest} characters")
-        yield line
+        yield "\n" if remark and line.startswith(remark) else line
 
 
-def records_of(file, name="", longest=LONGEST_LINE):
-    """Yields the line on which each record begins, from 1, and its fields; empty lines are none. The name of the file stands before what is
-    told of a line."""
-    reader, first = csv.reader(lines_of(file, name, longest), strict=True), 1
+def records_of(file, name="", longest=LONGEST_LINE, remark=""):
+    """Yields the line on which each record begins, from 1, and its fields; empty lines are none, nor lines that begin with remark, where that is
+    given. The name of the file stands before what is told of a line."""
+    reader, first = csv.reader(lines_of(file, name, longest, remark), strict=True), 1
     try:
         for fields in reader:
             if fields:
@@ -43,11 +43,13 @@ def records_of(file, name="", longest=LONGEST_LINE):
         raise Unfit(f"{name}line {first}: {fault}") from None
 
 
-def table_of(file, wanted, optional=(), name=""):
+def table_of(file, wanted, optional=(), name="", remark=""):
     """Returns the names of a table's columns, and what yields the line and the fields by name of each record below. Of the optional columns
     those that aren't there are empty; others are passed over."""
-    records = records_of(file, name)
+    records = records_of(file, name, remark=remark)
     first, names = next(records, (1, []))
+    if len(names) == 1 and len(wanted) > 1 and (mark := next((it for it in ";\t" if it in names[0]), None)):
+        raise Unfit(f"{name}line {first}: its fields stand between {'semicolons' if mark == ';' else 'tabs'}, and have to stand between commas")
     for column in (*wanted, *optional):
         if names.count(column) != 1 and (column in wanted or column in names):
             raise Unfit(f"{name}line {first}: column {column} is there {names.count(column)} times")
