@@ -4,7 +4,7 @@
   gate/installed.py documents|words|readme|guide ROOT
 
 documents: each document, manual page, unit and file of settings names commands that are installed or of the system, commands of smq that it has,
-and paths that are there; names that nothing has are put into a text in memory, and each has to be told. words: the program takes each word
+and paths that are there, in commands from / on; names that nothing has are put into a text in memory, and each has to be told. words: the program takes each word
 that the completions offer, bash's, and fish's and zsh's where these are there, and they offer each word of its help. readme: the README's
 blocks of sh print what it shows. guide: each command of the GUIDE answers its --help. What is wrong is printed, and the status is 1 then.
 """
@@ -25,12 +25,13 @@ from lib.loader import load
 
 README = load("../gate/check-readme")
 # Commands of the system that documents name, with the shell's own words
-SYSTEM = {*"awk bash cat cd cp done echo export find for grep hostname ls make mkdir seq sh sleep sort sqlite3 tail head tcpdump tee xargs".split(),
+SYSTEM = {*"apt-get awk bash cat cd cp done echo export find for grep hostname journalctl ln ls make mkdir sed seq sh sleep sort sqlite3 ss systemctl tail head tcpdump tee xargs".split(),
           *"slurmctld slurmd srun END ./make-days".split()}
 # What is of the repository alone
 OTHERS = re.compile(r"(?<![\w/.-])(?:\.\.?/)*(?:(?:tools/(?!lib/)|crates/|gate/|bench/)[\w-]+|\.\.?/(?:run|try|test)\b)|`rt\b")
 SLIPS = ("see tools/places", "`./run report`", "../../run report", "`rt check`", "crates/smq/out/smq", "`smq nothing`", "smq-nothing", "docs/NOTHING.md",
-         "/etc/smq/nothing.csv", "```sh\nnothing | smq report\n```\n", "```sh\nsh -c 'nothing'\n```\n")
+         "/etc/smq/nothing.csv", "```sh\nnothing | smq report\n```\n", "```sh\nsh -c 'nothing'\n```\n",
+         "```sh\nsqlite3 month.db '.read docs/schema.sql'\n```\n")
 # Where completions are asked: the words before, and the one that is begun
 BASH = """. "$1"; shift; COMP_WORDS=("$@"); COMP_CWORD=$(($# - 1)); _smq; printf '%s\\n' "${COMPREPLY[@]}" """
 FISH = "source $argv[1]; complete -C (string join ' ' -- $argv[2..-1]) | string split -f 1 \\t"
@@ -61,7 +62,7 @@ class Root:
         for at, _, names in os.walk(self.folder):
             for path in (f"{at}/{it}" for it in sorted(names)):
                 name = path[len(self.folder):]
-                if not re.match(r"/usr/share/(?:doc|man)/|/etc/|/lib/", name) or name.endswith((".pcap", "changelog.Debian.gz")):
+                if not re.match(r"/usr/share/(?:doc|man)/|/etc/|/lib/", name) or name.endswith((".pcap", ".png", "changelog.Debian.gz")):
                     continue
                 with gzip.open(path) if name.endswith(".gz") else open(path, "rb") as file:
                     yield name, file.read().decode().replace("\\-", "-")
@@ -76,6 +77,8 @@ class Root:
         for code in (*blocks, *re.findall(r"`([^`\n]+)`", text)):
             yield from (f"smq {it}" for it in re.findall(r"(?<![\w./-])smq ([a-z]+)\b", code) if it not in self.commands)
         for code in blocks:
+            # (a reader is in any folder)
+            yield from re.findall(r"(?<![\w./-])(?:docs|examples)/[\w./-]*\w", code)
             yield from (it for it in commands_of(code) if it not in SYSTEM | self.names)
 
 

@@ -10,8 +10,8 @@ PARTS = {
     "README.md": ((r"You need `rt`, [^.]*\. ", ""), (r"^- `\./try` (?:.*\n  )*.*\n- `\./run` (?:.*\n  )*.*\n- `\./test` (?:.*\n  )*.*\n\n", ""),
                   (r"^## Where things are\n[^\0]*\Z", """## Where things are
 
-Each command has a manual page, as smq(1). /etc/smq has settings, names, routes and alerts to begin with. The unit `smq-live`
-shows figures of the last hours, once it is enabled (examples/live). docs/FORMATS.md has each format. No licence has been
+Each command has a manual page, as smq(1). /etc/smq has settings, names, routes, prices and alerts to begin with. The unit `smq-live`
+writes a page of the last minutes, once it is enabled (examples/live). docs/FORMATS.md has each format. No licence has been
 chosen yet (copyright).
 """)),
     "docs/GUIDE.md": ((r" Commands are given at the top [^.]*\.", ""),),
@@ -28,10 +28,10 @@ def for_archive(path, text):
 
 def for_debian(path, text, tools):
     """Returns the text of a document, or of a tool, for a host that has the program and the tools on its path. What is at the top, or in docs/,
-    may be followed in any folder."""
+    may be followed in any folder: examples and the schema have their paths there."""
     text = PROGRAM.sub("smq", without_parts(path, text, lambda there: there))
     text = re.sub(rf"(?<![\w/])(?:tools|\$\(TOOLS\)|\"\$tools)/({'|'.join(tools)})(?![\w-])\"?", r"smq-\1", text)
-    return text if path.startswith("examples/") else re.sub(r"(?<![\w./])(?=examples/\w)", f"{DOCUMENTS}/", text)
+    return text if path.startswith("examples/") else re.sub(r"(?<![\w./])(?=examples/\w|docs/schema\.sql)", f"{DOCUMENTS}/", text)
 
 
 def without_parts(path, text, put):
