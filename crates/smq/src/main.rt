@@ -56,11 +56,11 @@ const BAD_COLUMNS: &str =
 const BAD_LENGTH: &str = "a window is as long as 90s, 15m or 6h: from 1s to 999999h";
 
 fn main(rt: HostRuntime) -> ExitCode {
-    // (a thread takes the runtime by value, which no other function can name)
     let terminals = Terminals {
         errors: rt.stderr().is_terminal(),
         output: rt.stdout().is_terminal(),
     };
+    // (a thread takes the runtime by value, which no other function can name)
     ExitCode::from(obey(&rt, terminals, || -> io::Result<Blocks> {
         let (to, from) = blocks(rt.alloc())?;
         let handle = rt;

@@ -9,6 +9,9 @@ pub const ABOUT: &str =
 pub const USAGE: &str =
     "smq capture [OPTIONS] --link <[HOST:]PORT=LINK> [FILE]... > SCRIPT\n       smq report [OPTIONS] < SCRIPT\n       smq query [OPTIONS] <NAME> < SCRIPT\n       smq check [OPTIONS] < SCRIPT\n       smq follow [OPTIONS] < ROWS\n       smq total [OPTIONS] [NAME] < SCRIPT\n       smq count [OPTIONS] --by <COLUMNS> < SCRIPT\n       smq messages [OPTIONS] < SCRIPT\n       smq receipts [OPTIONS] < SCRIPT\n       smq window <LENGTH> < ROWS";
 
+/// What is said of usage where words are refused for what they name.
+pub const SHORT_USAGE: &str = "smq <SUBCOMMAND> [OPTIONS]";
+
 /// The help of a subcommand: what it does, and how it is called.
 #[derive(Clone, Copy)]
 pub struct Help<'a> {
@@ -73,8 +76,8 @@ MOMENT is in ms since 1970 or YYYY-MM-DDTHH:MM:SSZ. It has at most 1,000,000 rec
 (total, count, messages, receipts: any number). ROWS are the same, with `ask,NAME` or `ask,report` among them,
 and without a limit; for follow also `ask,count,COLUMN,..`, and `lost,SESSION,DIRECTION,OCTETS` where octets are
 missing. `smq window 15m` writes ROWS again, and withdraws what is older than 15 minutes; `smq follow --window 15m`
-counts the rest alone. A message takes some 2 KB of memory (follow: 5). docs/FORMATS.md tells all records, the
-settings, the report and the lines; tools/check-script says what is wrong with a script.
+counts the rest alone. A message takes some 2 KB of memory (follow: 5). FORMATS.md among the documents tells all
+records, the settings, the report and the lines; the tool check-script says what is wrong with a script.
 `--capture FILE` with `--link` reads a packet capture behind the rows of standard input (-: from standard
 input, which has no rows then); smq capture --help tells how.
 ";

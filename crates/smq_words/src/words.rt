@@ -6,7 +6,7 @@ ghost use Rattle.smq_words.specs.Words.{Asks, CaptureTexts, CountingTexts, HasCa
 ghost use Rattle.smq_words.specs.Words.{texts_of, texts_of_captures, texts_of_counting, values_of};
 ghost use Rattle.smq_words.specs.within.Tasks.{counting_named, task_named};
 
-use crate::help::more_help;
+use crate::help::{SHORT_USAGE, more_help};
 use crate::names::pick_names;
 use crate::orders::{Captures, Counting, Order, Task};
 use crate::rules::{bare_command, command};
@@ -271,7 +271,7 @@ pub fn bad_words(alloc: Global, message: &str) -> Result<Error, Error>
     ensures kind { IfOk result (λ error. kind_of error ≡ ErrorKind.ValueValidation) }
     ensures memory { IfErr result (λ error. kind_of error ≡ ErrorKind.OutOfMemory) }
 {
-    let mut command = bare_command(alloc, "")?;
+    let mut command = bare_command(alloc, "")?.override_usage(SHORT_USAGE);
     Ok(command.error(ErrorKind::ValueValidation, message)?)
 }
 
