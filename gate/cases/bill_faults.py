@@ -9,6 +9,24 @@ MESSAGES = b"link,session,offset,moment,route,network,outcome,key\n1,10,0,1000,1
 BILLED = b"id,price\n1a,0.06\n"
 LONG = b"9" * 1_048_577
 
+# What is owed and billed in two currencies, worked by hand: messages, what is billed, prices, and what is told at the end
+SEVERAL = b"link,session,offset,moment,route,network,outcome,id,key\n" + b"".join(
+    b"1,10,%d,1793577600000,12,%s,%s,%s,%s\n" % (at, network, outcome, key, key) for at, (key, network, outcome) in enumerate((
+        (b"a", b"23410", b"delivered"), (b"b", b"23410", b"delivered"), (b"c", b"23410", b"delivered"), (b"d", b"23410", b"failed"),
+        (b"e", b"23415", b"open"), (b"f", b"00101", b"delivered"), (b"g", b"00101", b"delivered"))))
+SEVERAL_BILLED = b"a,\nb,0.0150\nd,\ne,3\nf,\ng,0.5\nx,0.07\na,\n"
+SEVERAL_PRICES = PRICES.replace(b"0.045", b"0.015") + b"1,,23415,2026-11-01,accepted,2,JPY\n"
+# (three of 0.015 are owed and four billed; halves go to the even cent)
+SEVERAL_TOLD = [
+    "not-delivered: 1 lines, 1 messages", "unknown: 1 lines, 0 messages", "twice: 1 lines, 0 messages", "not-billed: 0 lines, 1 messages",
+    "other-price: 1 lines, 1 messages", "agreed: 4 lines, 4 messages", "all: 8 lines, 7 messages; 0 lines are passed over by their status",
+    "no currency: owed 0.00, billed 0.57, difference 0.57: unknown 0.07, agreed 0.50",
+    "EUR: owed 0.04, billed 0.06, difference 0.02: not-delivered 0.02, twice 0.02, not-billed -0.02",
+    "JPY: owed 2, billed 3, difference 1: other-price 1", "no price: 1 lines, 2 messages"]
+# (without prices `e` isn't paid for)
+UNPRICED_TOLD = [
+    "not-delivered: 2 lines, 2 messages", *SEVERAL_TOLD[1:4], "other-price: 0 lines, 0 messages", *SEVERAL_TOLD[5:7]]
+
 
 def priced(line):
     return PRICES + line + b"\n"

@@ -86,13 +86,17 @@ def sums_of(prices, counts, kinds, size):
     base.execute("CREATE TABLE prices (link, route, network, begin, paid_for, units INTEGER, currency)")
     base.execute("CREATE TABLE counts (link, network, route, day, outcome, messages INTEGER)")
     for *values, amount, currency in prices:
-        whole, _, part = amount.partition(".")
-        base.execute("INSERT INTO prices VALUES (?, ?, ?, ?, ?, ?, ?)", (*values, int(whole + part.ljust(UNITS, "0")), currency))
+        base.execute("INSERT INTO prices VALUES (?, ?, ?, ?, ?, ?, ?)", (*values, units_of(amount), currency))
     for link, *values, day, outcome, messages in counts:
         by = dict(zip(kinds, values))
         row = link, by.get("network", ""), by.get("route", ""), day, outcome, int(messages)
         base.execute("INSERT INTO counts VALUES (?, ?, ?, ?, ?, ?)", row)
     return base.execute(SUMS, (size,)).fetchall()
+
+
+def units_of(amount):
+    whole, _, part = amount.partition(".")
+    return int(whole + part.ljust(UNITS, "0"))
 
 
 def half_even(units, digits):
@@ -101,7 +105,16 @@ def half_even(units, digits):
 
 
 def shown(amount, digits):
-    return f"{amount // 10**digits}.{amount % 10**digits:0{digits}d}" if digits else str(amount)
+    sign, amount = "-" * (amount < 0), abs(amount)
+    return f"{sign}{amount // 10**digits}.{amount % 10**digits:0{digits}d}" if digits else f"{sign}{amount}"
+
+
+def told_of(sums):
+    """Returns what is told of sums of owed and billed units by class."""
+    owed, billed = (half_even(sum(it), 2) for it in zip(*sums.values()))
+    parts = [(name, half_even(it[1], 2) - half_even(it[0], 2)) for name, it in sums.items()]
+    return (f"EUR: owed {shown(owed, 2)}, billed {shown(billed, 2)}, difference {shown(billed - owed, 2)}: "
+            + ", ".join(f"{name} {shown(it, 2)}" for name, it in parts if it))
 
 
 class Month:
@@ -161,6 +174,7 @@ class Month:
         billed += [("over", it) for it in others if draw.random() < 0.5]
         draw.shuffle(billed)
         rows, wanted, line, seen, known = [BILLED_COLUMNS], [], 2, set(), set(inside)
+        sums = {it: [0, 0] for it in (*PLANTED, "agreed")}
         away = [it for it in its if it not in known and it.key]
         for name, it in billed:
             if name in ("agreed", ""):
@@ -168,18 +182,22 @@ class Month:
                 seen.add(it)
             row, place, price = self.row_of(link, name, it, away)
             rows.append(row)
+            if name != "over":
+                sums[name][0] += units_of(price) if name in ("agreed", "other-price") else 0
+                sums[name][1] += units_of(row[4] or price)
             if name not in ("agreed", "over"):
                 wanted.append((name, *place, price, str(line), row[0], row[4]))
             line += len(re.findall("\r\n|\r|\n", row[0])) + 1
         wanted += [("not-billed", it.session, it.offset, it.outcome, self.price(link, int(it.moment)), "", "", "")
                    for it in inside if it in left_out]
+        sums["not-billed"][0] = sum(units_of(self.price(link, int(it.moment))) for it in left_out)
         self.billed[link], self.wanted[link] = rows, wanted
         over = sum(name == "over" for name, _ in billed)
         lines, messages = dict(planted, **{"not-billed": 0}), dict(planted, unknown=0, twice=0)
         told = [f"{it}: {lines.get(it, 0)} lines, {messages.get(it, 0)} messages" for it in PLANTED]
         sizes = len(billed) - over - sum(lines.values()), len(inside) - sum(messages.values())
         self.told[link] = [*told, f"agreed: {sizes[0]} lines, {sizes[1]} messages",
-                           f"all: {len(billed) - over} lines, {len(inside)} messages; {over} lines are passed over by their status"]
+                           f"all: {len(billed) - over} lines, {len(inside)} messages; {over} lines are passed over by their status", told_of(sums)]
 
     def row_of(self, link, name, it, away):
         """Returns a line of the supplier's file, where our message is with its outcome, and our price."""

@@ -1,4 +1,5 @@
 """Prices of messages by link or route, network and date (docs/FORMATS.md, Prices and statements), for tools/statement and tools/dispute."""
+import argparse
 import bisect
 import collections
 import decimal
@@ -15,6 +16,8 @@ NETWORK, ROUTE = re.compile(r"[0-9]{5,6}|none", re.A), re.compile(rf"{DECIMAL.pa
 AMOUNT, CURRENCY = re.compile(r"[0-9]{1,9}(\.[0-9]{1,9})?", re.A), re.compile(r"[A-Z]{3}", re.A)
 # What isn't exact in it is a fault: so many digits hold any sum of counts by prices
 EXACT = decimal.Context(prec=120, traps=[decimal.Inexact, decimal.InvalidOperation])
+
+MOST_DIGITS = 9
 
 Price = collections.namedtuple("Price", "amount currency paid")
 
@@ -63,3 +66,16 @@ def read_prices(path):
     for dates in found.dates.values():
         dates.sort()
     return found
+
+
+def rounded(amount, digits):
+    """Returns an amount with so many digits, half to even."""
+    return amount.quantize(decimal.Decimal(1).scaleb(-digits), decimal.ROUND_HALF_EVEN, decimal.Context(prec=120))
+
+
+def digits_of(text):
+    """Returns digits by currency, of words as JPY=0,KWD=3."""
+    pairs = re.findall(r"([A-Z]{3})=([0-9])(?:,|$)", text, re.A)
+    if ",".join(map("=".join, pairs)) != text or len(dict(pairs)) != len(pairs):
+        raise argparse.ArgumentTypeError(f"'{text}' isn't as JPY=0,KWD=3, of 0 to {MOST_DIGITS} digits")
+    return {it: int(digits) for it, digits in pairs}
