@@ -5,7 +5,7 @@ PRICES = b"link,route,network,from,for,price,currency\n1,,23410,2026-11-01,deliv
 # The same with lines that have no price, before the columns, too, and with a quote that doesn't end
 REMARKED = b'# prices, "of" the link\n' + PRICES.replace(b"EUR\n", b'EUR\n# 1,,,2026-11-01,delivered,1,EUR\n#,"\n')
 NAMES = b"link,1,North\n# a comment\n"
-MESSAGES = b"link,session,offset,moment,route,network,outcome,key\n1,10,0,1000,12,23410,delivered,26\n"
+MESSAGES = b"link,session,offset,moment,route,network,outcome,id,key\n1,10,0,1000,12,23410,delivered,1A,26\n"
 BILLED = b"id,price\n1a,0.06\n"
 LONG = b"9" * 1_048_577
 
@@ -72,10 +72,11 @@ STATEMENTS = (
 # Of a dispute: standard input, what is billed, more words, what is told
 DISPUTES = (
     (b"", BILLED, [], "line 1: column link is there 0 times"),
-    (MESSAGES.replace(b",key", b",id"), BILLED, [], "line 1: column key is there 0 times"),
-    (MESSAGES + b"1,10,x,1000,12,23410,open,\n", BILLED, [], "line 3: column offset is 'x'"),
-    (MESSAGES + b"1,10,9,1000,12,23410,opened,\n", BILLED, [], "line 3: its outcome or its moment can't be: 'opened', 1000"),
-    (MESSAGES + b"1,10,9,9999999999999,12,23410,open,\n", BILLED, [], "line 3: its outcome or its moment can't be: 'open', 9999999999999"),
+    (MESSAGES.replace(b",key", b",keys"), BILLED, [], "line 1: column key is there 0 times"),
+    (MESSAGES.replace(b",id", b",ids"), BILLED, [], "line 1: column id is there 0 times"),
+    (MESSAGES + b"1,10,x,1000,12,23410,open,,\n", BILLED, [], "line 3: column offset is 'x'"),
+    (MESSAGES + b"1,10,9,1000,12,23410,opened,,\n", BILLED, [], "line 3: its outcome or its moment can't be: 'opened', 1000"),
+    (MESSAGES + b"1,10,9,9999999999999,12,23410,open,,\n", BILLED, [], "line 3: its outcome or its moment can't be: 'open', 9999999999999"),
     (MESSAGES, BILLED + b"1b\n", [], "billed.csv: line 3: it has 1 fields, and column 2 is wanted"),
     (MESSAGES, BILLED + b"\n1b,0.0x\n", [], "billed.csv: line 4: column price is '0.0x'"),
     (MESSAGES, b"Id,price\n", [], "billed.csv: line 1: column id is there 0 times"),

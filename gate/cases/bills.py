@@ -29,6 +29,7 @@ DAY, DAYS = 86_400_000, 30
 FORMS = dict(zip(range(1, 9), ("hexadecimal", "decimal", "decimal", "verbatim", "hexadecimal", "decimal", "hexadecimal", "verbatim")))
 MESSAGE_COLUMNS = ("link session offset moment number route network outcome error id response_offset receipt_session receipt_offset "
                    "receipt_moment centre_delay key command").split()
+DIFFERENCE_COLUMNS = "class session offset outcome price line id billed_price moment message_id key".split()
 BILLED_COLUMNS = ("id", "date", "number", "status", "price")
 
 Message = collections.namedtuple("Message", MESSAGE_COLUMNS)
@@ -180,15 +181,15 @@ class Month:
             if name in ("agreed", ""):
                 name = "twice" if it in seen else "other-price" if it in dearer else "agreed"
                 seen.add(it)
-            row, place, price = self.row_of(link, name, it, away)
+            row, place, price, ours = self.row_of(link, name, it, away)
             rows.append(row)
             if name != "over":
                 sums[name][0] += units_of(price) if name in ("agreed", "other-price") else 0
                 sums[name][1] += units_of(row[4] or price)
             if name not in ("agreed", "over"):
-                wanted.append((name, *place, price, str(line), row[0], row[4]))
+                wanted.append((name, *place, price, str(line), row[0], row[4], *ours))
             line += len(re.findall("\r\n|\r|\n", row[0])) + 1
-        wanted += [("not-billed", it.session, it.offset, it.outcome, self.price(link, int(it.moment)), "", "", "")
+        wanted += [("not-billed", it.session, it.offset, it.outcome, self.price(link, int(it.moment)), "", "", "", it.moment, it.id, it.key)
                    for it in inside if it in left_out]
         sums["not-billed"][0] = sum(units_of(self.price(link, int(it.moment))) for it in left_out)
         self.billed[link], self.wanted[link] = rows, wanted
@@ -200,7 +201,7 @@ class Month:
                            f"all: {len(billed) - over} lines, {len(inside)} messages; {over} lines are passed over by their status", told_of(sums)]
 
     def row_of(self, link, name, it, away):
-        """Returns a line of the supplier's file, where our message is with its outcome, and our price."""
+        """Returns a line of the supplier's file, where our message is with its outcome, our price, and by what we know it."""
         draw = self.draw
         status = draw.choice(("UNDELIV", "REJECTD", "")) if name == "over" else draw.choice(("DELIVRD", "delivered", "Delivered"))
         kind = draw.choice(("new", "away", "empty")) if name == "unknown" else ""
@@ -208,7 +209,7 @@ class Month:
             it = away.pop()
         if it is None:
             fresh = "" if kind == "empty" else self.written(link, str(10**12 + draw.randrange(10**12)))
-            return (fresh, "2026-11-03", "", status, "0.09"), ("", "", ""), ""
+            return (fresh, "2026-11-03", "", status, "0.09"), ("", "", ""), "", ("", "", "")
         price = self.price(link, int(it.moment))
         theirs = draw.choice((price, f"{price}0", f"0{price}", "")) if name != "other-price" else draw.choice((f"{price}1", "0.09"))
-        return (self.written(link, it.key), "2026-11-03", it.number, status, theirs), (it.session, it.offset, it.outcome), price
+        return (self.written(link, it.key), "2026-11-03", it.number, status, theirs), (it.session, it.offset, it.outcome), price, (it.moment, it.id, it.key)
