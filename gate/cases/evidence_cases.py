@@ -158,6 +158,28 @@ def script_of(sizes):
     return (ROUTES + given).encode(), (ROUTES + wanted).encode()
 
 
+def script_of_links(links):
+    """Returns a script of links 1 to 3 as it is, and as it is wanted of some."""
+    given, wanted = (it.decode().splitlines(True) for it in script_of((3, 40, 1, 7, 200)))
+    # (the links of which each row has to be; what is wanted of none is of link 0)
+    ours = [(set() if one.startswith("route") else {1, 2} if one.startswith("piece,2,") else {1}, one, other) for one, other in zip(given, wanted)]
+    ours[-1] = ({0}, *ours[-1][1:])
+
+    def piece(needed, link, session, direction, octets):
+        return (needed, *(f"piece,{link},{session},{direction},{MOMENT},{it.hex()}\n" for it in octets))
+
+    texts = {it: message(SUBMIT_SM, 99, addressed(ACME, ended(b"447911%d" % it, b"5678")), stars(b"a text of link %d" % it)) for it in (1, 2, 3)}
+    plain = (({2}, "form,2,decimal,decimal\n"), ({2}, "window,2,60000\n"), ({1}, "window,1,86400000\n"), ({2}, "withdraw,20\n"))
+    first, second, third, leave = ((needed, text, text) for needed, text in plain)
+    head = [first, second, third, piece({2}, 2, 14, "client", (b"", b"")), piece({2}, 2, 20, "client", texts[2]),
+            piece({2}, 2, 21, "client", texts[2]), piece({3}, 3, 30, "client", texts[3]),
+            piece({1, 2}, 1, 20, "client", stars(b"of link 1 in a session of link 2"))]
+    tail = [piece({2}, 2, 20, "centre", accepted(SUBMIT_SM, 99)), piece({3}, 3, 30, "centre", accepted(SUBMIT_SM, 99)), leave,
+            piece({1}, 1, 20, "client", texts[1]), piece({1}, 1, 20, "centre", accepted(SUBMIT_SM, 99)), piece({1}, 1, 14, "client", texts[1])]
+    rows = [*head, *ours, *tail]
+    return tuple("".join(it).encode() for it in ([one for _, one, _ in rows], [it for needed, _, it in rows if needed <= links]))
+
+
 def sums_changed(manifest, name, octets):
     """Returns a manifest in which a file has the sum of other octets."""
     head, _, behind = manifest.partition(f'name = "{name}"\nsha256 = "'.encode())

@@ -41,6 +41,26 @@ def rows_of(file):
         yield values, fields
 
 
+def rows_of_links(file, links):
+    """Yields the fields of a script's rows that are of some links, or of no link. Those of a session are of the link under which it is present,
+    and a row of another link in it, which smq refuses, of both."""
+    present, found = {}, set()
+    for values, fields in rows_of(file):
+        needed = set(values[1:2]) if values[0] in ("form", "window") else set()
+        if values[0] == "withdraw":
+            needed = {present.pop(values[1], None)}
+        elif values[0] == "piece":
+            _, link, session, _, _, octets = values
+            needed = {link, present.get(session, link)}
+            found.add(link)
+            if octets:
+                present.setdefault(session, link)
+        if needed <= links:
+            yield fields
+    if links - found:
+        raise Unfit(f"the script has no piece of link {min(links - found)}")
+
+
 def text_of(octets, command, at):
     """Returns where short_message begins and ends, of a message whose esm_class is at a place; None where the fields don't fit. A data_sm
     has no octets there."""

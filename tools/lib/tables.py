@@ -1,4 +1,5 @@
 """Tables of CSV that are read by the names of their columns, line by line, and what tools do with faults of them."""
+import argparse
 import csv
 import datetime
 import re
@@ -70,6 +71,13 @@ def fitting(form, row, column, line, name=""):
     if not form.fullmatch(row[column]):
         raise Unfit(f"{name}line {line}: column {column} is {row[column][:40]!a}")
     return row[column]
+
+
+def link_of(text):
+    """Returns the number of a link, of a word."""
+    if not DECIMAL.fullmatch(text):
+        raise argparse.ArgumentTypeError(f"'{text}' is no link")
+    return int(text)
 
 
 def date_of(text):
