@@ -25,12 +25,12 @@ from lib.loader import load
 
 README = load("../gate/check-readme")
 # Commands of the system that documents name, with the shell's own words
-SYSTEM = {*"apt-get awk bash cat cd cp done echo export find for grep hostname journalctl ln ls make mkdir sed seq sh sleep sort sqlite3 ss systemctl tail head tcpdump tee xargs".split(),
+SYSTEM = {*"apt-get awk bash cat cd cp done echo editor export find for grep hostname journalctl ln ls make mkdir sed seq sh sleep sort sqlite3 ss systemctl tail head tcpdump tee xargs".split(),
           *"slurmctld slurmd srun END ./make-days".split()}
 # What is of the repository alone
 OTHERS = re.compile(r"(?<![\w/.-])(?:\.\.?/)*(?:(?:tools/(?!lib/)|crates/|gate/|bench/)[\w-]+|\.\.?/(?:run|try|test)\b)|`rt\b")
 SLIPS = ("see tools/places", "`./run report`", "../../run report", "`rt check`", "crates/smq/out/smq", "`smq nothing`", "smq-nothing", "docs/NOTHING.md",
-         "/etc/smq/nothing.csv", "```sh\nnothing | smq report\n```\n", "```sh\nsh -c 'nothing'\n```\n",
+         "/etc/smq/nothing.csv", "/etc/default/nothing", "```sh\nnothing | smq report\n```\n", "```sh\nsh -c 'nothing'\n```\n",
          "```sh\nsqlite3 month.db '.read docs/schema.sql'\n```\n")
 # Where completions are asked: the words before, and the one that is begun
 BASH = """. "$1"; shift; COMP_WORDS=("$@"); COMP_CWORD=$(($# - 1)); _smq; printf '%s\\n' "${COMPREPLY[@]}" """
@@ -71,7 +71,7 @@ class Root:
         """Yields what a text names that isn't there."""
         yield from (it[0] for it in OTHERS.finditer(text))
         yield from (it for it in re.findall(r"(?<![\w/.-])smq-[a-z][a-z-]*\b(?!\.csv)(?:\.service)?", text) if not {it, f"{it}.service"} & self.names)
-        yield from (it for it in re.findall(r"(?:/usr/share/doc/smq|/etc/smq)/[\w./-]*\w", text) if not self.has(it))
+        yield from (it for it in re.findall(r"(?:/usr/share/doc/smq|/etc/smq|/etc/default)/[\w./-]*\w", text) if not self.has(it))
         yield from (it for it in re.findall(r"(?<![\w/])docs/\w+\.md(?! of the repository)", text) if not self.has(f"/usr/share/doc/smq/{it}"))
         blocks = re.findall(r"^```sh\n(.*?)^```", text, re.M | re.S)
         for code in (*blocks, *re.findall(r"`([^`\n]+)`", text)):

@@ -1,6 +1,11 @@
-"""Slips that `gate/check-live --slips` has to see: a name, a tool or module, what stands there, and what is put in its place."""
+"""Slips that `gate/check-live --slips` has to see: a name, a tool, module or unit, what stands there, and what is put in its place."""
 
 SLIPS = (
+    ("takes a filter apart", "../examples/live/smq-live.service", '\\"$$FILTER\\"', "$$FILTER"),
+    ("takes all links for one word", "../examples/live/smq-live.service", "$$LINKS", '\\"$$LINKS\\"'),
+    ("reads no values", "../examples/live/smq-live.service", "EnvironmentFile=/etc/default/smq\n", ""),
+    ("keeps packets of another interface", "../examples/live/smq-packets.service", '\\"$$INTERFACE\\"', "eth0"),
+    ("sets another filter", "../examples/live/smq.default", " or (vlan and tcp port 2775)", ""),
     ("writes over the file that is read", "page", 'os.open(f"{self.path}/.{name}.new", flags, 0o644)', 'os.open(f"{self.path}/{name}", flags, 0o644)'),
     ("leaves CSV out", "page", "self.csv = {name: text for name, text in self.csv.items() if not self.put(name, text)}", "self.csv = {}"),
     ("gives the CSV of an answer those of the next, too", "page", "        self.lines, self.size, self.file, self.is_broken = [], 0, None, False\n",

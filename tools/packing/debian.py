@@ -29,7 +29,8 @@ Description: what became of submitted SMPP 3.4 messages
 """
 # Where files of examples/live go, too
 INSTALLED = {"smq-live.service": "lib/systemd/system/smq-live.service", "smq-packets.service": "lib/systemd/system/smq-packets.service",
-             "smq.sysusers": "usr/lib/sysusers.d/smq.conf", **{it: f"etc/smq/{it}" for it in ("alerts.yml", "settings.toml", "names.csv", "routes.csv", "prices.csv")}}
+             "smq.sysusers": "usr/lib/sysusers.d/smq.conf", "smq.default": "etc/default/smq",
+             **{it: f"etc/smq/{it}" for it in ("alerts.yml", "settings.toml", "names.csv", "routes.csv", "prices.csv")}}
 # The user of the units is made. (Nothing is enabled or started.)
 AFTER_INSTALLATION = """#!/bin/sh
 set -e
@@ -44,7 +45,8 @@ if [ "$1" = remove ] && [ -d /run/systemd/system ]; then
   deb-systemd-invoke stop smq-live.service smq-packets.service
 fi
 """
-FILES = """  /etc/smq/settings.toml    settings, for --settings
+FILES = """  /etc/default/smq          interface, filter and links of the units
+  /etc/smq/settings.toml    settings, for --settings
   /etc/smq/routes.csv       rows of routes, which come in front of a script
   /etc/smq/names.csv        names of links and routes, for smq-page and smq-statement
   /etc/smq/prices.csv       prices, for smq-statement and smq-dispute
