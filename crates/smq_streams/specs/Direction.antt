@@ -1,7 +1,8 @@
 -- A direction of a connection: what came of it, what was given, and what waits.
-use Rattle.std.specs.Prelude.{◌≡◌, ℕ, ◌+◌, ◌<◌, ◌≤◌, ◌⊎◌, ◌^◌, min, Bool, true, false, List, [], ◌∷◌, ◌++◌, length, take, drop, Option, Some, None}
+use Rattle.std.specs.Prelude.{◌≡◌, ℕ, ◌<◌, ◌≤◌, nat_lt, min, Bool, true, false, ◌&&◌, ◌||◌, List, [], ◌∷◌, ◌++◌, length, take, drop, Option, Some, None}
 use Rattle.smq_reassembly.specs.declared.packet.Packet.{Packet}
 use Rattle.smq_reassembly.specs.declared.sequence.Place.{Place}
+use Rattle.smq_reassembly.specs.declared.sequence.Place.TheVariants.{Ahead}
 use Rattle.smq_reassembly.specs.Octet.{Octet}
 use Rattle.smq_reassembly.specs.Moment.{IsGiven, Start}
 use Rattle.smq_reassembly.specs.Piece.{Piece, first_place}
@@ -9,21 +10,25 @@ use Rattle.smq_reassembly.specs.Segment.{IsTooFarAhead, piece_of}
 use Rattle.smq_reassembly.specs.State.{Follows, State}
 use Rattle.smq_reassembly.specs.Stream.{IsGap}
 use Rattle.smq_streams.specs.declared.acknowledged.Note.{Note}
+use Rattle.smq_streams.specs.declared.extent.Extent.{Extent}
 use Rattle.smq_streams.specs.declared.stream.Missing.{Missing}
 use Rattle.smq_streams.specs.declared.stream.Why.{Why}
 use Rattle.smq_streams.specs.declared.stream.Why.TheVariants.{Acknowledged, Old, Full, Ended, End}
 use Rattle.smq_streams.specs.Acknowledged.{since}
 use Rattle.smq_streams.specs.Search.{BeginNone, Search, Stops, counted}
 
--- a direction: the sequence number of its first octet; its octets in order; those of them that weren't given yet; since when something
--- waits, and what the other end acknowledged since
+-- a direction: the sequence number of its first octet; its octets in order, and how far they were sent; those of them that weren't given
+-- yet; since when something waits, and what the other end acknowledged since; whether octets are passed over until a PDU begins, a gap
+-- before them was given up, and nothing more is taken
 pub record Direction : Type 0 where
   pub first : Option ℕ
   pub order : State
+  pub extent : Extent
   pub held : Search
   pub opened : Option ℕ
   pub notes : List Note
   pub is_searching : Bool
+  pub is_behind_gap : Bool
   pub is_stopped : Bool
 
 -- what was given of a part and what is held behind it is the stream so far of the pieces that came, from the part's start on
@@ -36,6 +41,26 @@ Adds pieces start given piece before after true =
     (IsTooFarAhead before.order.next piece → ⊥) × Gives (pieces ++ piece ∷ []) start given after
 Adds pieces start given piece before after false =
     IsTooFarAhead before.order.next piece × Gives pieces start given after
+
+-- the octets of a segment are lent where they are the next, none wait or are held, no PDU is looked for and more is taken
+pub record IsLent (d : Direction) (place : Place) (packet : Packet) (octets : List ℕ) : Type 0 where
+  pub next : place ≡ Ahead 0
+  pub some : 0 < length octets
+  pub near : IsTooFarAhead d.order.next (piece_of place d.order.next packet octets) → ⊥
+  pub closed : d.order.waiting ≡ []
+  pub none : d.held.octets ≡ []
+  pub searches : d.is_searching ≡ false
+  pub stopped : d.is_stopped ≡ false
+
+-- whether octets wait behind a gap; and whether others are held behind one that was given up, of which it isn't seen yet where a PDU begins
+abbrev pub has_gap : Direction → Bool
+has_gap d = nat_lt 0 (length d.order.waiting)
+
+abbrev pub is_unclear : Direction → Bool
+is_unclear d = d.is_searching && d.is_behind_gap && nat_lt 0 (length d.held.octets)
+
+abbrev pub is_open : Direction → Bool
+is_open d = has_gap d || is_unclear d
 
 -- of what follows in a part octets that begin no PDU were passed over, and the search stopped behind them
 pub record Searches (is_end : Bool) (pieces : List Piece) (start : Start) (given : List Octet) (after : Direction) (is_found : Bool) : Type 0 where

@@ -16,3 +16,17 @@ fit_at next (Behind far) length = if nat_le far (next + max length 1) then fit.W
 abbrev pub octet_at : ℕ → Place → Option ℕ
 octet_at next (Ahead far) = Some (counted next far)
 octet_at next (Behind far) = if nat_le far next then Some (next - far) else None
+
+-- the place behind so many octets of which the first stands there
+abbrev pub end_at : ℕ → Place → ℕ → ℕ
+end_at next (Ahead far) length = counted (counted next far) length
+end_at next (Behind far) length = counted next (length - far)
+
+-- a place that isn't more than a window ahead of the next octet
+abbrev pub in_window : ℕ → Option ℕ → Option ℕ
+in_window next None = None
+in_window next (Some place) = if nat_le (place - next) 16777216 then Some place else None
+
+-- the place that a number of a segment tells of, in the same way
+abbrev pub told_at : ℕ → Place → Option ℕ
+told_at next place = in_window next (octet_at next place)

@@ -1,11 +1,13 @@
 //! One direction of a connection.
-ghost use Rattle.std.specs.Prelude.{◌≡◌, ℕ, ◌+◌, ◌<◌, ◌≤◌, ◌++◌, ◌∷◌, [], List, IfOk, OnOk, IfSome, IsSome, MatchOption, IsTrue, ◌↔◌, length, None, Some, true, false};
+ghost use Rattle.std.specs.Prelude.{◌≡◌, ℕ, ◌+◌, ◌<◌, ◌≤◌, ◌++◌, ◌∷◌, [], List, IfOk, OnOk, OnErr, IfSome, IsSome, MatchOption, IsTrue, ◌↔◌, ◌⊎◌, length, None, Some, Ok, true, false, if◌then◌else◌, nat_lt};
 ghost use Rattle.smq_reassembly.specs.Octet.{Octet, octets_of};
 ghost use Rattle.smq_reassembly.specs.Moment.{IsGiven, Start};
 ghost use Rattle.smq_reassembly.specs.Piece.{Piece, octets_in};
 ghost use Rattle.smq_reassembly.specs.Segment.{piece_of};
 ghost use Rattle.smq_reassembly.specs.Sequence.{IsPlace};
-ghost use Rattle.smq_streams.specs.Direction.{Adds, Direction, Gives, Searches, Skips};
+ghost use Rattle.smq_streams.specs.Direction.{Adds, Direction, Gives, IsLent, Searches, Skips, has_gap, is_open, is_unclear};
+ghost use Rattle.smq_streams.specs.Extent.{with_captured};
+ghost use Rattle.smq_streams.specs.Fit.{end_at};
 ghost use Rattle.smq_streams.specs.Search.{octets_given, with_given};
 ghost use Rattle.std.specs.Option.{is_some};
 
@@ -79,10 +81,12 @@ impl Model for Stream {
     ghost view = { λ s. record {
       first = s.first;
       order = s.order;
+      extent = s.extent;
       held = s.seeker;
       opened = s.opened;
       notes = s.acknowledged;
       is_searching = s.is_searching;
+      is_behind_gap = s.is_behind_gap;
       is_stopped = s.is_stopped;
     } };
 }
@@ -90,7 +94,18 @@ impl Model for Stream {
 impl Stream {
     /// A direction of which nothing is known.
     pub fn new(alloc: Global) -> Stream
-        ensures { Gives [] (record { place = 0; moment = 0 }) [] result }
+        ensures gives { Gives [] (record { place = 0; moment = 0 }) [] result }
+        ensures nothing { result ≡ record {
+          first = None;
+          order = result.order;
+          extent = record { end = 0; top = 0; reached = 0 };
+          held = record { place = 0; octets = []; passed = 0 };
+          opened = None;
+          notes = [];
+          is_searching = false;
+          is_behind_gap = false;
+          is_stopped = false;
+        } }
     {
         Stream {
             first: None,
@@ -139,7 +154,9 @@ impl Stream {
     }
 
     /// Whether a gap was given up.
-    pub fn is_behind_gap(&self) -> bool {
+    pub fn is_behind_gap(&self) -> bool
+        ensures { result ≡ self.now.is_behind_gap }
+    {
         self.is_behind_gap
     }
 
@@ -148,6 +165,12 @@ impl Stream {
         ensures stopped { self.new.is_stopped ≡ true }
         ensures waiting { self.new.order.waiting ≡ [] }
         ensures given { (self.new.order.next ≡ self.old.order.next) × (self.new.held ≡ self.old.held) }
+        ensures same { self.new ≡ record self.old {
+          order = record self.old.order { waiting = [] };
+          opened = None;
+          notes = [];
+          is_stopped = true;
+        } }
     {
         self.is_stopped = true;
         self.order.let_go();
@@ -157,20 +180,24 @@ impl Stream {
 
     /// Whether octets wait behind a gap.
     pub fn has_gap(&self) -> bool
-        ensures { result ≡ false → self.now.order.waiting ≡ [] }
+        ensures none { result ≡ false → self.now.order.waiting ≡ [] }
+        ensures value { result ≡ has_gap self.now }
     {
         self.order.waiting_pieces() > 0
     }
 
     /// Whether octets wait behind a gap, or behind one that was given up until it is seen where a PDU begins.
     pub fn is_open(&self) -> bool
-        ensures { result ≡ false → self.now.order.waiting ≡ [] }
+        ensures none { result ≡ false → self.now.order.waiting ≡ [] }
+        ensures value { result ≡ is_open self.now }
     {
         self.has_gap() || self.is_unclear()
     }
 
     /// Whether a PDU may begin behind a gap, which what follows will show.
-    fn is_unclear(&self) -> bool {
+    fn is_unclear(&self) -> bool
+        ensures { result ≡ is_unclear self.now }
+    {
         self.is_searching && self.is_behind_gap && !self.seeker.is_through()
     }
 
@@ -197,6 +224,20 @@ impl Stream {
             → IfOk result (λ r. IfSome r (λ next.
             Gives (pieces ++ piece_of place self.old.order.next packet octets.now ∷ []) start
             (given ++ octets_of next.packet next.begins next.octets.now) self.new)) }
+        ensures lends { (pieces : List Piece) (start : Start) (given : List Octet) (f : ℕ) (place : Place)
+            → Gives pieces start given self.old → self.old.first ≡ Some f
+            → IsPlace f self.old.order.next sequence place
+            → IfOk result (λ r. IsSome r ↔ IsLent self.old place packet octets.now) }
+        ensures none { (pieces : List Piece) (start : Start) (given : List Octet) (f : ℕ) (place : Place)
+            → Gives pieces start given self.old → self.old.first ≡ Some f
+            → IsPlace f self.old.order.next sequence place
+            → IfOk result (λ r. r ≡ None → self.new ≡ self.old) }
+        ensures captured { IfOk result (λ r. IfSome r (λ next.
+            self.new.extent ≡ with_captured self.new.order.next self.old.extent)) }
+        ensures same { self.new ≡ record self.old { order = self.new.order; extent = self.new.extent } }
+        ensures unknown { self.old.first ≡ None → (result ≡ Ok None) × (self.new ≡ self.old) }
+        ensures err { OnErr result ((self.new.extent ≡ self.old.extent)
+            × (self.new.order.next ≡ self.old.order.next)) }
     {
         let Some(first) = self.first else {
             return Ok(None);
@@ -220,7 +261,9 @@ impl Stream {
 
     /// Whether octets are held or wait, behind which the next ones have to stand.
     fn is_held(&self) -> bool
-        ensures { result ≡ false → self.now.held.octets ≡ [] }
+        ensures none { result ≡ false → self.now.held.octets ≡ [] }
+        ensures closed { result ≡ false → self.now.order.waiting ≡ [] }
+        ensures some { result ≡ true → self.now.order.waiting ≡ [] → self.now.held.octets ≡ [] → ⊥ }
     {
         self.has_gap() || !self.seeker.is_through()
     }
@@ -239,6 +282,21 @@ impl Stream {
             → IsPlace f self.old.order.next sequence place
             → IfOk result (λ taken. Adds pieces start given
             (piece_of place self.old.order.next packet octets.now) self.old self.new taken) }
+        ensures captured { (f : ℕ) (place : Place) → self.old.first ≡ Some f
+            → IsPlace f self.old.order.next sequence place
+            → OnOk result ((self.new ≡ self.old) ⊎ (self.new.extent
+            ≡ with_captured (end_at self.old.order.next place (length octets.now)) self.old.extent)) }
+        ensures same { self.new ≡ record self.old {
+          order = self.new.order;
+          extent = self.new.extent;
+          held = self.new.held;
+        } }
+        ensures still { OnOk result (self.new.order ≡ self.old.order → self.new ≡ self.old) }
+        ensures stopped { self.old.is_stopped ≡ true → (result ≡ Ok true) × (self.new ≡ self.old) }
+        ensures unknown { self.old.first ≡ None → (result ≡ Ok true) × (self.new ≡ self.old) }
+        ensures empty { octets.now ≡ [] → (result ≡ Ok true) × (self.new ≡ self.old) }
+        ensures err { OnErr result ((self.new.extent ≡ self.old.extent)
+            × (self.new.held.octets ≡ self.old.held.octets)) }
     {
         let Some(first) = self.first else {
             return Ok(true);
@@ -267,8 +325,10 @@ impl Stream {
 
     /// Holds octets that were lent until they are given.
     fn hold(&mut self, alloc: Global, place: u64, next: Next<'_>) -> Result<(), AllocError>
-        ensures { OnOk result ((self.new.order ≡ self.old.order) × (self.new.held.octets
+        ensures ok { OnOk result ((self.new.order ≡ self.old.order) × (self.new.held.octets
             ≡ self.old.held.octets ++ octets_of next.entry.packet next.entry.begins next.entry.octets.now)) }
+        ensures same { self.new ≡ record self.old { held = self.new.held } }
+        ensures err { OnErr result (self.new ≡ self.old) }
     {
         let given = Given {
             place,
@@ -283,14 +343,16 @@ impl Stream {
 
     /// Holds octets until they are given.
     fn hold_given(&mut self, alloc: Global, given: &Given) -> Result<(), AllocError>
-        ensures { OnOk result (self.new ≡ record self.old { held = with_given given.now self.old.held }) }
+        ensures ok { OnOk result (self.new ≡ record self.old { held = with_given given.now self.old.held }) }
+        ensures same { self.new ≡ record self.old { held = self.new.held } }
+        ensures err { OnErr result (self.new ≡ self.old) }
     {
         self.seeker.push(alloc, given)
     }
 
     /// Takes note that octets up to a place were captured.
     fn note_captured(&mut self, end: u64)
-        ensures { self.new ≡ self.old }
+        ensures { self.new ≡ record self.old { extent = with_captured end self.old.extent } }
     {
         self.extent.note_captured(end);
     }
@@ -303,6 +365,11 @@ impl Stream {
         ensures none { (pieces : List Piece) (start : Start) (given : List Octet)
             → Gives pieces start given self.old → self.old.is_searching ≡ false
             → IfOk result (λ r. r ≡ None → IsGiven pieces start given) }
+        ensures octets { IfOk result (λ r. IfSome r (λ part. 0 < length part.octets.items)) }
+        ensures searches { self.old.is_searching ≡ true → result ≡ Ok None }
+        ensures same { self.new ≡ record self.old { order = self.new.order; held = self.new.held } }
+        ensures still { IfOk result (λ r. r ≡ None → self.new ≡ self.old) }
+        ensures err { OnErr result (self.new ≡ self.old) }
     {
         if self.is_searching {
             return Ok(None);
@@ -317,6 +384,9 @@ impl Stream {
     fn next_in_order(&mut self) -> Option<Given>
         ensures same { (self.new.held ≡ self.old.held) × (self.new.is_searching ≡ self.old.is_searching) }
         ensures fewer { IsSome result → octets_in self.new.order.waiting < octets_in self.old.order.waiting }
+        ensures octets { IfSome result (λ part. 0 < length part.octets.items) }
+        ensures frame { self.new ≡ record self.old { order = self.new.order } }
+        ensures still { result ≡ None → self.new ≡ self.old }
         ensures some { (pieces : List Piece) (start : Start) (given : List Octet)
             → Gives pieces start given self.old → IfSome result (λ part.
             Gives pieces start given (record self.new {
@@ -348,7 +418,11 @@ impl Stream {
         ensures skips { (pieces : List Piece) (start : Start) (given : List Octet)
             → Gives pieces start given self.old → self.old.held.octets ≡ []
             → IfSome result (λ missing. Skips pieces self.old self.new missing) }
+        ensures some { IfSome result (λ missing. (missing.from ≡ self.old.order.next)
+            × (missing.until ≡ self.new.order.next) × (self.new.order.waiting ≡ self.old.order.waiting)
+            × (self.new ≡ record self.old { order = self.new.order; is_searching = true; is_behind_gap = true })) }
         ensures none { result ≡ None → self.old.order.waiting ≡ [] }
+        ensures still { result ≡ None → self.new ≡ self.old }
     {
         let from = self.order.next();
         let until = self.order.skip_gap()?;
@@ -374,9 +448,17 @@ impl Stream {
     /// Passes over what follows, up to the first PDU that begins in it. Where no more octets come before a gap or the end, what isn't
     /// clear is no PDU.
     pub fn search(&mut self, alloc: Global, is_end: bool) -> Result<Option<Found>, AllocError>
-        ensures { (pieces : List Piece) (start : Start) (given : List Octet)
+        ensures searches { (pieces : List Piece) (start : Start) (given : List Octet)
             → Gives pieces start given self.old
             → IfOk result (λ found. Searches is_end pieces start given self.new (is_some found)) }
+        ensures found { IfOk result (λ r. MatchOption r (self.new.is_searching ≡ self.old.is_searching)
+            (λ found. (self.new.is_searching ≡ false) × (found.place ≡ self.new.held.place))) }
+        ensures same { self.new ≡ record self.old {
+          order = self.new.order;
+          held = self.new.held;
+          is_searching = self.new.is_searching;
+        } }
+        ensures err { OnErr result (self.new.is_searching ≡ self.old.is_searching) }
     {
         self.hold_all(alloc)?;
         if !self.seeker.find(is_end) {
@@ -391,9 +473,10 @@ impl Stream {
 
     /// Holds all octets that are the next.
     fn hold_all(&mut self, alloc: Global) -> Result<(), AllocError>
-        ensures { (pieces : List Piece) (start : Start) (given : List Octet)
+        ensures holds { (pieces : List Piece) (start : Start) (given : List Octet)
             → Gives pieces start given self.old → OnOk result (Gives pieces start given self.new
             × IsGiven pieces start (given ++ self.new.held.octets)) }
+        ensures same { self.new ≡ record self.old { order = self.new.order; held = self.new.held } }
     {
         'parts: while let Some(given) = self.next_in_order() {
             self.hold_given(alloc, &given)?;
@@ -402,7 +485,10 @@ impl Stream {
     }
 
     /// How many octets were passed over since it was last asked.
-    pub fn take_passed(&mut self) -> u64 {
+    pub fn take_passed(&mut self) -> u64
+        ensures count { result ≡ self.old.held.passed }
+        ensures anew { self.new ≡ record self.old { held = record self.old.held { passed = 0 } } }
+    {
         self.seeker.take_passed()
     }
 }

@@ -1,6 +1,6 @@
 //! Since when something waits in a direction, and when it is given up.
-ghost use Rattle.std.specs.Prelude.{◌≡◌, IfSome, [], None, unwrap_or};
-ghost use Rattle.smq_streams.specs.Direction.{IsLost, acknowledged_since, given_up_at};
+ghost use Rattle.std.specs.Prelude.{◌≡◌, ℕ, ◌≤◌, IfSome, [], None, Some, unwrap_or, if◌then◌else◌};
+ghost use Rattle.smq_streams.specs.Direction.{IsLost, acknowledged_since, given_up_at, has_gap, is_open};
 
 use crate::stream::{Stream, Why};
 
@@ -15,6 +15,9 @@ impl Stream {
         ensures since { IfSome self.new.opened (λ m. m ≡ unwrap_or self.old.opened moment) }
         ensures closed { self.new.opened ≡ None → self.new.order.waiting ≡ [] }
         ensures same { self.new ≡ record self.old { opened = self.new.opened; notes = self.new.notes } }
+        ensures opened { self.new.opened
+            ≡ (if is_open self.old then Some (unwrap_or self.old.opened moment) else None) }
+        ensures notes { self.new.notes ≡ (if has_gap self.old then self.old.notes else []) }
     {
         if !self.has_gap() {
             self.acknowledged.clear();
@@ -31,6 +34,8 @@ impl Stream {
         ensures since { IfSome self.new.opened (λ m. m ≡ moment) }
         ensures closed { self.new.opened ≡ None → self.new.order.waiting ≡ [] }
         ensures same { self.new ≡ record self.old { opened = self.new.opened; notes = self.new.notes } }
+        ensures opened { self.new.opened ≡ (if is_open self.old then Some moment else None) }
+        ensures notes { self.new.notes ≡ (if has_gap self.old then self.old.notes else []) }
     {
         self.opened = None;
         self.watch(moment);
@@ -46,6 +51,8 @@ impl Stream {
     /// When what waits is given up.
     pub fn deadline(&mut self) -> Option<u64>
         ensures value { result ≡ given_up_at self.old.opened (acknowledged_since self.old) }
+        ensures same { self.new ≡ record self.old { notes = self.new.notes } }
+        ensures keeps { acknowledged_since self.new ≡ acknowledged_since self.old }
     {
         let old = self.opened?.saturating_add(OPEN_FOR);
         match self.acknowledged_since() {
@@ -60,6 +67,7 @@ impl Stream {
     fn acknowledged_since(&mut self) -> Option<u64>
         ensures value { result ≡ acknowledged_since self.old }
         ensures same { self.new ≡ record self.old { notes = self.new.notes } }
+        ensures keeps { acknowledged_since self.new ≡ acknowledged_since self.old }
     {
         let least = self.order.first_waiting()?;
         self.acknowledged.since(least)
@@ -67,7 +75,9 @@ impl Stream {
 
     /// Why what waits is given up at a moment, if it is.
     pub fn is_lost(&mut self, moment: u64) -> Option<Why>
-        ensures { IsLost self.old.opened (acknowledged_since self.old) moment result }
+        ensures lost { IsLost self.old.opened (acknowledged_since self.old) moment result }
+        ensures same { self.new ≡ record self.old { notes = self.new.notes } }
+        ensures keeps { acknowledged_since self.new ≡ acknowledged_since self.old }
     {
         let opened = self.opened?;
         if let Some(since) = self.acknowledged_since() {

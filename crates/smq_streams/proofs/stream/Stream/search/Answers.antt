@@ -7,9 +7,9 @@ use Rattle.smq_streams.specs.Search.{Search}
 use Rattle.smq_streams.proofs.Directions.{splits}
 use Rattle.smq_streams.proofs.stream.Stream.search.Goals as goal
 
-pub returns-then-not-find : goal.returns-then-not-find
-returns-then-not-find c pieces start given g =
-    let h = c.in_ok-hold_all.ensures pieces start given g in
+pub returns-then-not-find-clause-searches : goal.returns-then-not-find-clause-searches
+returns-then-not-find-clause-searches c pieces start given g =
+    let h = c.in_ok-hold_all.ensures.holds pieces start given g in
     let f = subst (λ (x : Direction). Gives pieces start given x × IsGiven pieces start (given ++ x.held.octets)) (sym c.self.view_is) h in
     let held : List Octet = c.self.inside.seeker.octets in
     let e = c.find.ensures in
@@ -25,9 +25,9 @@ returns-then-not-find c pieces start given g =
       stops = c.if-not-find.ensures.stops;
     }
 
-pub returns : goal.returns
-returns c pieces start given g =
-    let h = c.in_ok-hold_all.ensures pieces start given g in
+pub returns-clause-searches : goal.returns-clause-searches
+returns-clause-searches c pieces start given g =
+    let h = c.in_ok-hold_all.ensures.holds pieces start given g in
     let f = subst (λ (x : Direction). Gives pieces start given x × IsGiven pieces start (given ++ x.held.octets)) (sym c.self.view_is) h in
     let held : List Octet = c.self.inside.seeker.octets in
     let e = c.find.ensures in
