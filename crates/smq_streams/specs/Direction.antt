@@ -1,11 +1,11 @@
 -- A direction of a connection: what came of it, what was given, and what waits.
-use Rattle.std.specs.Prelude.{◌≡◌, ℕ, ◌<◌, ◌≤◌, nat_lt, min, Bool, true, false, ◌&&◌, ◌||◌, List, [], ◌∷◌, ◌++◌, length, take, drop, Option, Some, None}
+use Rattle.std.specs.Prelude.{◌≡◌, ℕ, ◌<◌, ◌≤◌, nat_lt, min, Bool, true, false, ◌&&◌, ◌||◌, if◌then◌else◌, List, [], ◌∷◌, ◌++◌, length, take, drop, slice_get, Option, Some, None, option_map, unwrap_or}
 use Rattle.smq_reassembly.specs.declared.packet.Packet.{Packet}
 use Rattle.smq_reassembly.specs.declared.sequence.Place.{Place}
 use Rattle.smq_reassembly.specs.declared.sequence.Place.TheVariants.{Ahead}
 use Rattle.smq_reassembly.specs.Octet.{Octet}
 use Rattle.smq_reassembly.specs.Moment.{IsGiven, Start}
-use Rattle.smq_reassembly.specs.Piece.{Piece, first_place}
+use Rattle.smq_reassembly.specs.Piece.{Piece, first_packet, first_place}
 use Rattle.smq_reassembly.specs.Segment.{IsTooFarAhead, piece_of}
 use Rattle.smq_reassembly.specs.State.{Follows, State}
 use Rattle.smq_reassembly.specs.Stream.{IsGap}
@@ -15,6 +15,7 @@ use Rattle.smq_streams.specs.declared.stream.Missing.{Missing}
 use Rattle.smq_streams.specs.declared.stream.Why.{Why}
 use Rattle.smq_streams.specs.declared.stream.Why.TheVariants.{Acknowledged, Old, Full, Ended, End}
 use Rattle.smq_streams.specs.Acknowledged.{since}
+use Rattle.smq_streams.specs.Extent.{sent_until}
 use Rattle.smq_streams.specs.Search.{BeginNone, Search, Stops, counted}
 
 -- a direction: the sequence number of its first octet; its octets in order, and how far they were sent; those of them that weren't given
@@ -61,6 +62,25 @@ is_unclear d = d.is_searching && d.is_behind_gap && nat_lt 0 (length d.held.octe
 
 abbrev pub is_open : Direction → Bool
 is_open d = has_gap d || is_unclear d
+
+-- the packet of the first octet that is held behind a gap that was given up, or else of the first that waits
+abbrev pub packet_at : Bool → List Octet → List Piece → Option ℕ
+packet_at true held waiting = option_map (λ (o : Octet). o.packet.number) (slice_get held 0)
+packet_at false held waiting = option_map (λ (p : Packet). p.number) (first_packet waiting)
+
+abbrev pub packet_of : Direction → Option ℕ
+packet_of d = packet_at (is_unclear d) d.held.octets d.order.waiting
+
+-- what is missing from a place up to another, if that is behind it
+abbrev pub missing_between : ℕ → ℕ → Option Missing
+missing_between from until = if nat_lt from until then Some (record { from = from; until = until }) else None
+
+-- what is missing where the capture ends: up to what waits first, or else to the last octet that was sent; nothing where no more is taken
+abbrev pub missing_tail : Direction → Option Missing
+missing_tail d =
+    if d.is_stopped
+    then None
+    else missing_between d.order.next (unwrap_or (first_place d.order.waiting) (sent_until d.extent))
 
 -- of what follows in a part octets that begin no PDU were passed over, and the search stopped behind them
 pub record Searches (is_end : Bool) (pieces : List Piece) (start : Start) (given : List Octet) (after : Direction) (is_found : Bool) : Type 0 where

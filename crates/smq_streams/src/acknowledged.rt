@@ -1,5 +1,5 @@
 //! What the other end acknowledges while octets wait behind a gap.
-ghost use Rattle.std.specs.Prelude.{◌≡◌, ℕ, ◌<◌, ◌≤◌, OnOk, OnErr, [], true};
+ghost use Rattle.std.specs.Prelude.{◌≡◌, ℕ, ◌<◌, ◌≤◌, OnOk, OnErr, [], length, true};
 ghost use Rattle.std.specs.Option.{option_or};
 ghost use Rattle.smq_streams.specs.Acknowledged.{StandsBehind, noted, since};
 
@@ -40,7 +40,9 @@ impl Acknowledged {
     }
 
     /// How many places it keeps.
-    pub(crate) fn len(&self) -> usize {
+    pub(crate) fn len(&self) -> usize
+        ensures { result ≡ length self.now }
+    {
         self.notes.len()
     }
 

@@ -1,11 +1,11 @@
 //! One direction of a connection.
-ghost use Rattle.std.specs.Prelude.{◌≡◌, ℕ, ◌+◌, ◌<◌, ◌≤◌, ◌++◌, ◌∷◌, [], List, IfOk, OnOk, OnErr, IfSome, IsSome, MatchOption, IsTrue, ◌↔◌, ◌⊎◌, length, None, Some, Ok, true, false, if◌then◌else◌, nat_lt};
+ghost use Rattle.std.specs.Prelude.{◌≡◌, ℕ, ◌+◌, ◌-◌, ◌*◌, ◌^◌, ◌<◌, ◌≤◌, min, ◌++◌, ◌∷◌, [], List, IfOk, OnOk, OnErr, IfSome, IsSome, MatchOption, IsTrue, ◌↔◌, ◌⊎◌, length, slice_get, None, Some, Ok, true, false};
 ghost use Rattle.smq_reassembly.specs.Octet.{Octet, octets_of};
 ghost use Rattle.smq_reassembly.specs.Moment.{IsGiven, Start};
 ghost use Rattle.smq_reassembly.specs.Piece.{Piece, octets_in};
 ghost use Rattle.smq_reassembly.specs.Segment.{piece_of};
 ghost use Rattle.smq_reassembly.specs.Sequence.{IsPlace};
-ghost use Rattle.smq_streams.specs.Direction.{Adds, Direction, Gives, IsLent, Searches, Skips, has_gap, is_open, is_unclear};
+ghost use Rattle.smq_streams.specs.Direction.{Adds, Direction, Gives, IsLent, Searches, Skips, has_gap, is_open, is_unclear, missing_tail};
 ghost use Rattle.smq_streams.specs.Extent.{with_captured};
 ghost use Rattle.smq_streams.specs.Fit.{end_at};
 ghost use Rattle.smq_streams.specs.Search.{octets_given, with_given};
@@ -202,7 +202,10 @@ impl Stream {
     }
 
     /// How much memory what waits takes, at most.
-    pub fn weight(&self) -> u64 {
+    pub fn weight(&self) -> u64
+        ensures { min (128 * length self.now.order.waiting + octets_in self.now.order.waiting
+            + 16 * length self.now.notes) (2 ^ 64 - 1) ≤ result }
+    {
         (self.order.waiting_pieces() as u64)
             .saturating_mul(PIECE)
             .saturating_add(self.order.waiting_octets())
@@ -292,6 +295,7 @@ impl Stream {
           held = self.new.held;
         } }
         ensures still { OnOk result (self.new.order ≡ self.old.order → self.new ≡ self.old) }
+        ensures far { IfOk result (λ taken. taken ≡ false → self.new ≡ self.old) }
         ensures stopped { self.old.is_stopped ≡ true → (result ≡ Ok true) × (self.new ≡ self.old) }
         ensures unknown { self.old.first ≡ None → (result ≡ Ok true) × (self.new ≡ self.old) }
         ensures empty { octets.now ≡ [] → (result ≡ Ok true) × (self.new ≡ self.old) }
@@ -432,7 +436,9 @@ impl Stream {
     }
 
     /// What is missing where the capture of this direction ends.
-    pub fn missing_tail(&self) -> Option<Missing> {
+    pub fn missing_tail(&self) -> Option<Missing>
+        ensures { result ≡ missing_tail self.now }
+    {
         let from = self.order.next();
         if self.is_stopped {
             return None;
@@ -453,6 +459,8 @@ impl Stream {
             → IfOk result (λ found. Searches is_end pieces start given self.new (is_some found)) }
         ensures found { IfOk result (λ r. MatchOption r (self.new.is_searching ≡ self.old.is_searching)
             (λ found. (self.new.is_searching ≡ false) × (found.place ≡ self.new.held.place))) }
+        ensures number { IfOk result (λ r. IfSome r (λ found. MatchOption (slice_get self.new.held.octets 0)
+            (found.number ≡ 0) (λ (o : Octet). found.number ≡ o.packet.number))) }
         ensures same { self.new ≡ record self.old {
           order = self.new.order;
           held = self.new.held;

@@ -1,6 +1,8 @@
 //! Since when something waits in a direction, and when it is given up.
 ghost use Rattle.std.specs.Prelude.{◌≡◌, ℕ, ◌≤◌, IfSome, [], None, Some, unwrap_or, if◌then◌else◌};
-ghost use Rattle.smq_streams.specs.Direction.{IsLost, acknowledged_since, given_up_at, has_gap, is_open};
+ghost use Rattle.smq_reassembly.specs.Piece.{first_place};
+ghost use Rattle.smq_streams.specs.Acknowledged.{since};
+ghost use Rattle.smq_streams.specs.Direction.{IsLost, acknowledged_since, given_up_at, has_gap, is_open, packet_of};
 
 use crate::stream::{Stream, Why};
 
@@ -52,7 +54,9 @@ impl Stream {
     pub fn deadline(&mut self) -> Option<u64>
         ensures value { result ≡ given_up_at self.old.opened (acknowledged_since self.old) }
         ensures same { self.new ≡ record self.old { notes = self.new.notes } }
-        ensures keeps { acknowledged_since self.new ≡ acknowledged_since self.old }
+        ensures keeps { (least n : ℕ) → first_place self.old.order.waiting ≡ Some least → least ≤ n
+            → since self.new.notes n ≡ since self.old.notes n }
+        ensures idle { self.old.order.waiting ≡ [] → self.new ≡ self.old }
     {
         let old = self.opened?.saturating_add(OPEN_FOR);
         match self.acknowledged_since() {
@@ -67,7 +71,9 @@ impl Stream {
     fn acknowledged_since(&mut self) -> Option<u64>
         ensures value { result ≡ acknowledged_since self.old }
         ensures same { self.new ≡ record self.old { notes = self.new.notes } }
-        ensures keeps { acknowledged_since self.new ≡ acknowledged_since self.old }
+        ensures keeps { (least n : ℕ) → first_place self.old.order.waiting ≡ Some least → least ≤ n
+            → since self.new.notes n ≡ since self.old.notes n }
+        ensures idle { self.old.order.waiting ≡ [] → self.new ≡ self.old }
     {
         let least = self.order.first_waiting()?;
         self.acknowledged.since(least)
@@ -77,7 +83,9 @@ impl Stream {
     pub fn is_lost(&mut self, moment: u64) -> Option<Why>
         ensures lost { IsLost self.old.opened (acknowledged_since self.old) moment result }
         ensures same { self.new ≡ record self.old { notes = self.new.notes } }
-        ensures keeps { acknowledged_since self.new ≡ acknowledged_since self.old }
+        ensures keeps { (least n : ℕ) → first_place self.old.order.waiting ≡ Some least → least ≤ n
+            → since self.new.notes n ≡ since self.old.notes n }
+        ensures idle { self.old.order.waiting ≡ [] → self.new ≡ self.old }
     {
         let opened = self.opened?;
         if let Some(since) = self.acknowledged_since() {
@@ -92,7 +100,9 @@ impl Stream {
     }
 
     /// The packet that brought the first octets behind a gap, or behind one that was given up.
-    pub fn first_packet(&self) -> Option<u64> {
+    pub fn first_packet(&self) -> Option<u64>
+        ensures { result ≡ packet_of self.now }
+    {
         if self.is_unclear() {
             return Some(self.seeker.number());
         }
