@@ -17,7 +17,7 @@ use Rattle.smq_pdu.specs.Pairing.{is_request, is_response}
 use Rattle.smq_pair.specs.declared.pairing.Pair.{Pair}
 use Rattle.smq_pair.specs.within.Turns.{Turn}
 use Rattle.smq_pair.specs.Pairing.{PlacedHeader, PairingValue, pdus_from, opposite, pair_of, pair_at, places_of, waiting, strays, with_earlier}
-use Rattle.smq_pair.specs.Growth.{AreInOrder, IsNext, pushed, pushed_in, touched, is_among, made_by, is_request_in, is_response_in, is_alone_at, StandsWith, GrowsByOne, GrowsByOnePair, OrderIsIdle}
+use Rattle.smq_pair.specs.Growth.{AreInOrder, IsNext, pushed, pushed_in, touched, is_among, made_by, is_request_in, is_response_in, is_alone_at, StandsWith, GrowsByOne, GrowsByOnePair}
 use Rattle.smq_pair.specs.within.Turns.{index_at, partner, partner_of, turn_of}
 use Rattle.smq_pair.proofs.Lists.{some-is, get-either, one_of}
 use Rattle.smq_pair.proofs.Turned.{by_dir, opposite-back, partner-back, pushed-apart, pushed-by, turn-found, next_turn, next-dir, not-request}
@@ -291,11 +291,3 @@ pub grows : GrowsByOnePair
 grows v p o n = grows-by-one v p o n
 
 -- ---- the order of directions
-
-idle_in : (d e : Dir) (v : PairingValue) (p q : PlacedHeader) → d ≢ e → pushed_in e (pushed_in d v p) q ≡ pushed_in d (pushed_in e v q) p
-idle_in FromClient FromClient v p q h = absurd (h refl)
-idle_in FromCentre FromCentre v p q h = absurd (h refl)
-idle_in _ _ v p q h = refl
-
-pub order-is-idle : OrderIsIdle
-order-is-idle v p q h = idle_in p.place.dir q.place.dir v p q h

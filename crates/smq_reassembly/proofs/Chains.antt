@@ -207,11 +207,6 @@ head-before from (e ∷ es) place n c is h =
     let same : e.0 - length e.1.octets.items ≡ place = same_Some (e.0 - length e.1.octets.items) place is in
     rw (octet-before (piece_of_entry e) n (omega (arith, same))) (chain-before e.0 es n c.3 (omega (arith, same)))
 
--- none where there is no first piece
-pub head-none : (es : List Entry) (n : ℕ) → first_place (pieces_of es) ≡ None → first_octet (pieces_of es) n ≡ None
-head-none [] n is = refl
-head-none (e ∷ es) n is = absurd (none-some (e.0 - length e.1.octets.items) (sym is))
-
 -- the first piece begins at its place, and has the octet there
 pub head-at : (from : ℕ) (es : List Entry) (place : ℕ) → IsChain from es → first_place (pieces_of es) ≡ Some place
     → (from ≤ place) × (place ≤ 2 ^ 60) × IsChain place es × ((o : Octet) × (first_octet (pieces_of es) place ≡ Some o))

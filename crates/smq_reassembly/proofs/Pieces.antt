@@ -1,6 +1,6 @@
 -- The octets of pieces, by their places.
 use Rattle.std.proofs.Common.{◌≡◌, ℕ, ◌+◌, ◌-◌, ◌<◌, ◌≤◌, List, [], ◌∷◌, ◌++◌, length, take, drop, refl, sym, ap, ◌∙◌, arith, ◌⊎◌, inl, inr, false, length-take}
-use Rattle.std.specs.Prelude.{nat_le, slice_get, Option, Some, None, IsSome}
+use Rattle.std.specs.Prelude.{nat_le, slice_get, Option, Some, None}
 use Rattle.std.specs.Option.{option_or}
 use Rattle.std.proofs.lemmas.Bool.{cases_lt, le-leb}
 use Rattle.std.proofs.lemmas.Bool.Decides.{leb_tells}
@@ -143,22 +143,5 @@ front-waits p old now from until n low order is all =
             | inr past ↦
                 let f : p.at + (until - p.at) ≤ n = omega arith in
                 was ∙ sym (ap (λ (o : Option Octet). option_or old o) (front-after (until - p.at) p n f) ∙ or-none old)
-          ]
-    ]
-
-pub or-is-some : (a b : Option Octet) → IsSome a → option_or a b ≡ a
-or-is-some None b h = absurd (cc)
-or-is-some (Some x) b h = refl
-
--- a piece brings no octet to a place where one waits, or before which it begins not, or behind its end
-pub or-stays : (a : Option Octet) (p : Piece) (n : ℕ) → (p.at ≡ n → 0 < length p.octets → IsSome a) → n ≤ p.at → option_or a (octet_in p n) ≡ a
-or-stays a p n some low =
-    elim (cases_lt n p.at) [
-      | inl less ↦ ap (λ (o : Option Octet). option_or a o) (octet-before p n less) ∙ or-none a
-      | inr more ↦
-          let same : p.at ≡ n = omega arith in
-          elim (cases_lt 0 (length p.octets)) [
-            | inl any ↦ or-is-some a (octet_in p n) (some same any)
-            | inr none ↦ ap (λ (o : Option Octet). option_or a o) (octet-after p n (omega arith)) ∙ or-none a
           ]
     ]

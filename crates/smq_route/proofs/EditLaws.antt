@@ -1,9 +1,8 @@
 -- What edits that are accepted leave: versions that are apart, hold up to their ends, keep their dates, and are one set
 -- in whatever order they were added.
-use Rattle.std.proofs.Common.{◌≡◌, ◌≢◌, ◌<◌, ◌≤◌, ℕ, Bool, true, false, cond, inl, inr, List, [], ◌∷◌, Option, Some, None, subst, refl, sym, ap, ◌∙◌, arith}
-use Rattle.std.proofs.lemmas.Bool.Decides.{nat_tests}
+use Rattle.std.proofs.Common.{◌≡◌, ◌≢◌, ◌<◌, ◌≤◌, ℕ, Bool, true, false, cond, inl, inr, List, [], ◌∷◌, Option, Some, None, subst, refl, sym, ap, ◌∙◌}
 use Rattle.std.proofs.lemmas.Bool.{false≢true}
-use Rattle.std.specs.Prelude.{◌&&◌, nat_lt, nat_le, option_map}
+use Rattle.std.specs.Prelude.{◌&&◌, option_map}
 use Rattle.std.specs.Ordering.{eq_by_cmp}
 use Rattle.std.specs.FinMap.{get, insert, get-insert, same_map}
 use Rattle.smq_kit.proofs.Comparisons.{is_equal}
@@ -13,13 +12,13 @@ use Rattle.smq_kit.specs.declared.names.RouteId.{RouteId}
 use Rattle.smq_kit.specs.declared.refusal.Refusal.TheVariants.{Overlap}
 use Rattle.smq_route.specs.declared.version.VersionKey.{VersionKey}
 use Rattle.smq_route.specs.declared.version.Version.{Version}
-use Rattle.smq_route.specs.Versions.{Versions, version_cmp, key_at, version_of, lasts_past, holds, overlap, AreApart}
-use Rattle.smq_route.specs.Edits.{add_refusals, end_refusals, added, changed, changed_where, ending, corrected}
+use Rattle.smq_route.specs.Versions.{Versions, version_cmp, key_at, version_of, lasts_past, overlap, AreApart}
+use Rattle.smq_route.specs.Edits.{add_refusals, added, changed, changed_where, corrected}
 use Rattle.smq_route.specs.Laws.{IsAccepted}
 use Rattle.smq_route.proofs.VersionOrders.{versions_total, versions_exact}
 use Rattle.smq_route.proofs.Lookups.{at-insert}
 use Rattle.smq_route.proofs.Edited.{put-there}
-use Rattle.smq_route.proofs.Apart.{added-apart, all-ended, no-overlap, open-then-after, overlap-none}
+use Rattle.smq_route.proofs.Apart.{added-apart, all-ended, no-overlap, overlap-none}
 
 accepted : (o : Option ℕ) → o ≡ None → IsAccepted (option_map Overlap o ∷ [])
 accepted o e = ap (λ (x : Option ℕ). first_of (option_map Overlap x ∷ [])) e
@@ -31,28 +30,6 @@ pub adds-apart : (m : Versions) (p : List ℕ) (f : ℕ) (r : RouteId) (n : List
 adds-apart m p f r n a digits accept = added-apart m p f r n a digits (no-overlap (overlap m p f) accept)
 
 -- ---- ends
-
-pub ends-first : (k : VersionKey) (v : Version) (until : ℕ) → IsAccepted (end_refusals (Some v) k.from until)
-    → holds k.from (k, ending until v) ≡ true
-ends-first k v until a =
-    let late = (open-then-after v.until (nat_le until k.from) a).1 in
-    let starts : nat_le k.from k.from ≡ true = grind (arith, nat_tests) in
-    let lasts : nat_lt k.from until ≡ true = grind (arith, nat_tests, late) in
-    rw (starts, lasts) refl
-
-pub ends-before : (k : VersionKey) (v : Version) (until t : ℕ) → IsAccepted (end_refusals (Some v) k.from until) → t < until
-    → holds t (k, ending until v) ≡ holds t (k, v)
-ends-before k v until t a less =
-    let is_open = (open-then-after v.until (nat_le until k.from) a).0 in
-    let lasts : nat_lt t until ≡ true = grind (arith, nat_tests, less) in
-    ap (λ (b : Bool). nat_le k.from t && b) (lasts ∙ ap (lasts_past t) (sym is_open))
-
-last-fails : (a b : Bool) → b ≡ false → (a && b) ≡ false
-last-fails true b e = e
-last-fails false b e = refl
-
-pub ends-after : (k : VersionKey) (v : Version) (until t : ℕ) → until ≤ t → holds t (k, ending until v) ≡ false
-ends-after k v until t above = last-fails (nat_le k.from t) (nat_lt t until) (grind (arith, nat_tests, above))
 
 -- ---- dates
 

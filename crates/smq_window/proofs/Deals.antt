@@ -1,9 +1,8 @@
 -- PDUs that come one after the other, and a piece of them.
-use Rattle.std.proofs.Common.{◌≡◌, ℕ, ◌≤◌, Bool, true, false, cond, List, [], ◌∷◌, ◌++◌, map, Option, Some, None, refl, sym, ap, subst, ◌∙◌, append_assoc, append-nil}
+use Rattle.std.proofs.Common.{◌≡◌, ℕ, ◌≤◌, Bool, false, cond, List, [], ◌∷◌, ◌++◌, map, Option, Some, None, refl, sym, ap, subst, ◌∙◌, append_assoc, append-nil}
 use Rattle.std.proofs.lemmas.List.{map-append}
 use Rattle.std.specs.Option.{option_to_list}
 use Rattle.smq_kit.specs.declared.place.Dir.{Dir}
-use Rattle.smq_kit.specs.declared.place.Dir.TheVariants.{FromClient, FromCentre}
 use Rattle.smq_frame.specs.Frame.{FrameValue}
 use Rattle.smq_frame.specs.Stream.{frames_after}
 use Rattle.smq_window.specs.declared.connection.Connection.{Connection}
@@ -14,10 +13,10 @@ use Rattle.smq_window.specs.declared.row.Row.{Row}
 use Rattle.smq_window.specs.Direction.{after_piece}
 use Rattle.smq_window.specs.Exchange.{exchange_of}
 use Rattle.smq_window.specs.Homes.{Homed, home_of, with_period}
-use Rattle.smq_window.specs.Connection.{ConnectionValue, at_home, connection_after, dealt, direction_with, due, due_after, home_rows, homed, is_written, direction_by, octets_of, periods_by, periods_with, rows_by, piece_row, rows_of_piece, with_homes}
+use Rattle.smq_window.specs.Connection.{ConnectionValue, at_home, connection_after, dealt, direction_with, due, due_after, home_rows, homed, is_written, octets_of, periods_with, piece_row, rows_of_piece, with_homes}
 use Rattle.smq_window.specs.within.Kept.{IsKept, Opens, numbers}
 use Rattle.smq_window.specs.within.Shown.{Deals, Shows, Takes, Writes}
-use Rattle.smq_window.proofs.Keeps.{kept-nothing, kept-open}
+use Rattle.smq_window.proofs.Keeps.{kept-open}
 
 -- ---- PDUs with their homes
 
@@ -89,16 +88,6 @@ deals-more pdus oldest present at xs ys a b c r s t front back =
 
 -- ---- octets that are due
 
-pub writes-none : (pdus : List Homed) (oldest present : ℕ) (at : Origin) (d : Direction) (ps : List Period) (rows : List Row)
-    → due d (numbers ps) ≡ None → IsKept pdus oldest present ps → Writes pdus oldest present at d ps rows d ps rows
-writes-none pdus oldest present at d ps rows none kept =
-    record {
-      adds = sym (append-nil rows) ∙ ap (λ (o : Option (List ℕ)). rows ++ map (piece_row at present) (option_to_list o)) (sym none);
-      kept = kept;
-      direction = ap (λ (o : Option (List ℕ)). direction_with o present d) (sym none);
-      numbers = ap (λ (o : Option (List ℕ)). periods_with o present (numbers ps)) (sym none);
-    }
-
 pub writes-some : (pdus : List Homed) (oldest present : ℕ) (at : Origin) (d : Direction) (before after : List Period) (index : ℕ)
     (rows made : List Row) (octets : List ℕ) → due d (numbers before) ≡ Some octets → made ≡ rows ++ piece_row at present octets ∷ []
     → Opens present before after index → IsKept pdus oldest present before
@@ -111,9 +100,6 @@ writes-some pdus oldest present at d before after index rows made octets some rs
       numbers = opens.numbers kept.ascend kept.within
           ∙ ap (λ (o : Option (List ℕ)). periods_with o present (numbers before)) (sym some);
     }
-
-pub due-written : (d : Direction) (ns : List ℕ) → is_written d.written ns ≡ true → due d ns ≡ None
-due-written d ns is = ap (λ (b : Bool). cond b None d.broken) is
 
 pub due-broken : (d : Direction) (ns : List ℕ) (o : Option (List ℕ)) → is_written d.written ns ≡ false → d.broken ≡ o → due d ns ≡ o
 due-broken d ns o is e = ap (λ (b : Bool). cond b None d.broken) is ∙ e
@@ -155,77 +141,7 @@ Taken at oldest present octets c after rows made =
 from : Dir → Origin → Origin
 from sender at = record at { sender = sender }
 
-client-taken : (at : Origin) (oldest present : ℕ) (octets : List ℕ) (c : ConnectionValue) (kept after : Connection) (rows made : List Row)
-    → Shows c oldest present kept
-    → Takes c.pdus oldest present (record at { sender = FromClient }) octets kept.client kept.periods.items rows after.client after.periods.items made
-    → after.link ≡ kept.link → after.centre ≡ kept.centre
-    → Taken (record at { sender = FromClient }) oldest present octets c after rows made
-client-taken at oldest present octets c kept after rows made shows t link centre =
-    let here : Origin = record at { sender = FromClient } in (
-      record {
-        link = link ∙ shows.link;
-        client = t.direction ∙ (λ i. direction_by c.pdus oldest present here octets (shows.client i) (shows.periods i));
-        centre = centre ∙ shows.centre;
-        periods = t.numbers ∙ (λ i. periods_by c.pdus oldest present here octets (shows.client i) (shows.periods i));
-        balances = subst (λ (d : Direction). IsKept (c.pdus ++ dealt c.pdus oldest present here octets d) oldest present after.periods.items)
-            shows.client t.kept;
-      },
-      t.adds ∙ (λ i. rows ++ rows_by c.pdus oldest present here octets (shows.client i) (shows.periods i)),
-    )
-
-centre-taken : (at : Origin) (oldest present : ℕ) (octets : List ℕ) (c : ConnectionValue) (kept after : Connection) (rows made : List Row)
-    → Shows c oldest present kept
-    → Takes c.pdus oldest present (record at { sender = FromCentre }) octets kept.centre kept.periods.items rows after.centre after.periods.items made
-    → after.link ≡ kept.link → after.client ≡ kept.client
-    → Taken (record at { sender = FromCentre }) oldest present octets c after rows made
-centre-taken at oldest present octets c kept after rows made shows t link client =
-    let here : Origin = record at { sender = FromCentre } in (
-      record {
-        link = link ∙ shows.link;
-        client = client ∙ shows.client;
-        centre = t.direction ∙ (λ i. direction_by c.pdus oldest present here octets (shows.centre i) (shows.periods i));
-        periods = t.numbers ∙ (λ i. periods_by c.pdus oldest present here octets (shows.centre i) (shows.periods i));
-        balances = subst (λ (d : Direction). IsKept (c.pdus ++ dealt c.pdus oldest present here octets d) oldest present after.periods.items)
-            shows.centre t.kept;
-      },
-      t.adds ∙ (λ i. rows ++ rows_by c.pdus oldest present here octets (shows.centre i) (shows.periods i)),
-    )
-
 pub origin-at : (at : Origin) (s : Dir) → at.sender ≡ s → at ≡ record at { sender = s }
 origin-at at s e = λ i. record at { sender = e i }
 
-pub taken-client : (at : Origin) → at.sender ≡ FromClient → (oldest present : ℕ) (octets : List ℕ) (c : ConnectionValue) (kept after : Connection)
-    (rows made : List Row) → Shows c oldest present kept
-    → Takes c.pdus oldest present at octets kept.client kept.periods.items rows after.client after.periods.items made
-    → after.link ≡ kept.link → after.centre ≡ kept.centre → Taken at oldest present octets c after rows made
-taken-client at e oldest present octets c kept after rows made shows t link centre =
-    let same : at ≡ record at { sender = FromClient } = origin-at at FromClient e in
-    subst (λ (a : Origin). Taken a oldest present octets c after rows made) (sym same)
-    (client-taken at oldest present octets c kept after rows made shows
-    (subst (λ (a : Origin). Takes c.pdus oldest present a octets kept.client kept.periods.items rows after.client after.periods.items made) same t)
-    link centre)
-
-pub taken-centre : (at : Origin) → at.sender ≡ FromCentre → (oldest present : ℕ) (octets : List ℕ) (c : ConnectionValue) (kept after : Connection)
-    (rows made : List Row) → Shows c oldest present kept
-    → Takes c.pdus oldest present at octets kept.centre kept.periods.items rows after.centre after.periods.items made
-    → after.link ≡ kept.link → after.client ≡ kept.client → Taken at oldest present octets c after rows made
-taken-centre at e oldest present octets c kept after rows made shows t link client =
-    let same : at ≡ record at { sender = FromCentre } = origin-at at FromCentre e in
-    subst (λ (a : Origin). Taken a oldest present octets c after rows made) (sym same)
-    (centre-taken at oldest present octets c kept after rows made shows
-    (subst (λ (a : Origin). Takes c.pdus oldest present a octets kept.centre kept.periods.items rows after.centre after.periods.items made) same t)
-    link client)
-
 -- ---- a connection at first
-
-pub shows-new : (c : ConnectionValue) (oldest present : ℕ) (kept : Connection) → oldest ≤ present → kept.link ≡ c.link → kept.client ≡ c.client
-    → kept.centre ≡ c.centre → kept.periods.items ≡ [] → c.periods ≡ [] → c.pdus ≡ [] → Shows c oldest present kept
-shows-new c oldest present kept order link client centre items none pdus =
-    record {
-      link = link;
-      client = client;
-      centre = centre;
-      periods = ap numbers items ∙ sym none;
-      balances = subst (λ (ps : List Period). IsKept c.pdus oldest present ps) (sym items)
-          (subst (λ (hs : List Homed). IsKept hs oldest present []) (sym pdus) (kept-nothing oldest present order));
-    }

@@ -1,13 +1,12 @@
 -- The oldest period of a connection, and what is left without it.
-use Rattle.std.proofs.Common.{◌≡◌, ℕ, suc, ◌<◌, ◌&&◌, true, false, List, [], ◌∷◌, length, get_or, drop, refl, sym, ap, subst, ◌∙◌, arith, eqb}
+use Rattle.std.proofs.Common.{◌≡◌, ℕ, suc, ◌<◌, ◌&&◌, true, false, List, [], ◌∷◌, length, get_or, drop, refl, sym, ap, subst, ◌∙◌, arith}
 use Rattle.std.proofs.lemmas.Bool.{eqb-true, eq-eqb, ne_eqb}
-use Rattle.std.proofs.lemmas.List.{length-map}
 use Rattle.std.proofs.lemmas.List.Sums.{sum_by-cons}
 use Rattle.smq_window.specs.declared.connection.Connection.{Connection}
 use Rattle.smq_window.specs.declared.exchange.Half.TheVariants.{Request, Response}
 use Rattle.smq_window.specs.declared.periods.Period.{Period}
 use Rattle.smq_window.specs.Connection.{ConnectionValue}
-use Rattle.smq_window.specs.Window.{is_first, is_over, is_quiet, without_first}
+use Rattle.smq_window.specs.Window.{is_first, without_first}
 use Rattle.smq_window.specs.within.Kept.{IsKept, numbers, share_of}
 use Rattle.smq_window.specs.within.Shown.{Shows}
 use Rattle.smq_window.proofs.Sums.{share-other}
@@ -19,14 +18,6 @@ first-is (p ∷ ps) q some is = eq-eqb p.number q (is p)
 pub first-other : (ps : List Period) (q : ℕ) → (0 < length ps → (d : Period) → (get_or ps 0 d).number ≡ q → ⊥) → is_first q (numbers ps) ≡ false
 first-other [] q other = refl
 first-other (p ∷ ps) q other = ne_eqb p.number q (λ e. other (omega arith) p e)
-
--- whether nothing is left, by what is kept
-pub over-shown : (c : ConnectionValue) (oldest present : ℕ) (kept : Connection) (n : ℕ) → n ≡ length kept.periods.items → Shows c oldest present kept
-    → (eqb n 0 && is_quiet kept.client && is_quiet kept.centre) ≡ is_over c
-over-shown c oldest present kept n count shows =
-    let size : n ≡ length c.periods =
-    count ∙ sym (length-map kept.periods.items (λ (p : Period). p.number)) ∙ ap (λ (ns : List ℕ). length ns) shows.periods in
-    λ i. (eqb (size i) 0 && is_quiet (shows.client i) && is_quiet (shows.centre i))
 
 -- ---- a period that leaves
 

@@ -1,5 +1,5 @@
 -- What the periods of a connection have of an exchange.
-use Rattle.std.proofs.Common.{◌≡◌, ℕ, ◌+◌, ◌<◌, ◌≤◌, ◌&&◌, ◌⊎◌, inl, inr, Bool, true, false, cond, List, [], ◌∷◌, ◌++◌, length, get_or, set, Some, None, sym, ap, subst, ◌∙◌, arith, ⊎_elim, get_or-set_other, get_or-set_same, nat_eq}
+use Rattle.std.proofs.Common.{◌≡◌, ℕ, ◌+◌, ◌<◌, ◌≤◌, ◌&&◌, ◌⊎◌, inl, inr, List, [], ◌∷◌, ◌++◌, length, get_or, set, None, sym, ap, ◌∙◌, arith, ⊎_elim, get_or-set_other, get_or-set_same}
 use Rattle.std.proofs.lemmas.Bool.{cases_eq, cases_lt}
 use Rattle.std.proofs.lemmas.List.{get_or_default, get_or-map, map-set, set-get_or}
 use Rattle.std.proofs.lemmas.Bool.Decides.{nat_tests}
@@ -8,13 +8,10 @@ use Rattle.std.proofs.Math.ListN.{length-set}
 use Rattle.std.specs.List.{All, AllPairs}
 use Rattle.smq_kit.specs.declared.place.Dir.{Dir}
 use Rattle.smq_window.specs.declared.balance.Balance.{Balance}
-use Rattle.smq_window.specs.declared.exchange.Exchange.{Exchange}
 use Rattle.smq_window.specs.declared.exchange.Half.{Half}
-use Rattle.smq_window.specs.declared.exchange.Half.TheVariants.{Request, Response}
 use Rattle.smq_window.specs.declared.periods.Period.{Period}
-use Rattle.smq_window.specs.Exchange.{same_dir, same_half}
-use Rattle.smq_window.specs.within.Waiting.{Moves, number_of, one_if, waiting_of}
-use Rattle.smq_window.specs.within.Kept.{MovesAt, numbers, share_of, waiting_at, waiting_in}
+use Rattle.smq_window.specs.within.Waiting.{number_of, waiting_of}
+use Rattle.smq_window.specs.within.Kept.{numbers, share_of, waiting_at, waiting_in}
 
 -- what a period adds where it has the number, and where not
 share-same : (q : ℕ) (asker : Dir) (number : ℕ) (half : Half) (p : Period) → p.number ≡ q
@@ -69,47 +66,6 @@ sum-one q asker number half ps i d ascend low same =
         (λ (below : k < i). omega (arith, ascend k i e below low, kept, mine))
         (λ (above : i ≤ k). omega (arith, ascend i k e (omega arith) within, kept, mine))
         (cases_lt k i)
-
--- two sums that change at one place, which counts or not
-mixed : (b x y : Bool) (a1 a0 r1 r0 w1 w0 v1 v0 : ℕ) → a1 + cond b w0 0 ≡ a0 + cond b w1 0 → r1 + cond b v0 0 ≡ r0 + cond b v1 0
-    → w1 + v0 + one_if x ≡ v1 + w0 + one_if y → a1 + r0 + one_if (b && x) ≡ r1 + a0 + one_if (b && y)
-mixed true x y a1 a0 r1 r0 w1 w0 v1 v0 e f g = omega (arith, e, f, g)
-mixed false x y a1 a0 r1 r0 w1 w0 v1 v0 e f g = omega (arith, e, f)
-
--- a PDU that comes into the period at an index
-pub set-moves : (ps : List Period) (i : ℕ) (e : Exchange) (balance : Balance) (p : Period) → i < length ps → p ≡ get_or ps i p
-    → ((asker : Dir) (number : ℕ) → Moves (same_dir asker e.asker && nat_eq number e.sequence_number) e.half
-    (waiting_of p.balance asker number) (waiting_of balance asker number))
-    → MovesAt p.number (Some e) ps (set ps i (record { number = p.number; balance = balance }))
-set-moves ps i e balance p low is moves q asker number =
-    let r : Period = record { number = p.number; balance = balance } in
-    mixed (nat_eq p.number q)
-    (same_dir asker e.asker && nat_eq number e.sequence_number && same_half e.half Response)
-    (same_dir asker e.asker && nat_eq number e.sequence_number && same_half e.half Request)
-    (waiting_at (set ps i r) q asker number Request) (waiting_at ps q asker number Request)
-    (waiting_at (set ps i r) q asker number Response) (waiting_at ps q asker number Response)
-    (waiting_in balance asker number Request) (waiting_in p.balance asker number Request)
-    (waiting_in balance asker number Response) (waiting_in p.balance asker number Response)
-    (changed Request)
-    (changed Response)
-    (moves asker number)
-  where
-    changed : (half : Half)
-        → waiting_at (set ps i (record { number = p.number; balance = balance })) q asker number half + share_of q asker number half p
-        ≡ waiting_at ps q asker number half + share_of q asker number half (record { number = p.number; balance = balance })
-    changed half =
-        subst (λ (x : Period). waiting_at (set ps i (record { number = p.number; balance = balance })) q asker number half + share_of q asker number half x
-        ≡ waiting_at ps q asker number half + share_of q asker number half (record { number = p.number; balance = balance }))
-        (sym is) (sum_by-set (share_of q asker number half) ps i (record { number = p.number; balance = balance }) p low)
-
--- a PDU that is no half of an exchange changes nothing
-pub none-moves : (home : ℕ) (ps : List Period) → MovesAt home None ps ps
-none-moves home ps q asker number =
-    elim (nat_eq home q) as (λ b. waiting_at ps q asker number Request + waiting_at ps q asker number Response + one_if (b && false)
-    ≡ waiting_at ps q asker number Response + waiting_at ps q asker number Request + one_if (b && false)) [
-      | true ↦ omega arith
-      | false ↦ omega arith
-    ]
 
 -- the number of the period at an index
 pub number-here : (ps : List Period) (i : ℕ) (p : Period) → i < length ps → p ≡ get_or ps i p → get_or (numbers ps) i 0 ≡ p.number

@@ -130,11 +130,6 @@ shown-some (Some c) oldest present kept m = (c, refl, m)
 
 -- ---- sessions that leave one after the other
 
-pub passes-none : (known : Known) (oldest present : ℕ) (made : List Made) (rows : List Row) (kept : BTreeMap ℕ Connection)
-    → AllShown known oldest present kept → Passes known oldest present made rows kept made rows
-passes-none known oldest present made rows kept all =
-    record { now = known; shown = all; adds = refl; passed = refl; stays = refl }
-
 pub passes-more : (known : Known) (oldest present : ℕ) (made ms : List Made) (rows some more : List Row) (m : Made) (kept after : BTreeMap ℕ Connection)
     → m.period < oldest → (p : Passes known oldest present made rows kept (m ∷ ms) some)
     → AllShown (known_without m p.now) oldest present after → more ≡ some ++ rows_without m p.now
@@ -191,21 +186,6 @@ pub set-twice : (n : ℕ) (v w : Option Connection) (before mid after : BTreeMap
 set-twice n v w before mid after first second q =
     second q ∙ ap (λ (x : Option Connection). cond (is_eq (nat_cmp n q)) v x) (first q) ∙ twice (is_eq (nat_cmp n q)) v w (get nat_cmp before q)
 
-pub withdraw-none : (m : Made) (known : Known) (oldest present n : ℕ) (before after : BTreeMap ℕ Connection) (rows : List Row) → n ≡ m.session
-    → None ≡ get nat_cmp before n
-    → ((q : ℕ) → get nat_cmp after q ≡ cond (is_eq (nat_cmp n q)) None (get nat_cmp before q))
-    → AllShown known oldest present before
-    → AllShown (known_without m known) oldest present after × (rows ≡ rows ++ rows_without m known)
-withdraw-none m known oldest present n before after rows same none updates all =
-    let unknown : known m.session ≡ None =
-    ap known (sym same) ∙ shown-none (known n) oldest present (subst (λ (v : Option Connection). MayShow (known n) oldest present v) (sym none) (all.each n)) in
-    let left : left_of m.period (known m.session) ≡ None = ap (λ (c : Option ConnectionValue). left_of m.period c) unknown in (
-      subst (λ (k : ℕ). AllShown (with_known known k (left_of m.period (known m.session))) oldest present after) same
-          (all-set known n (left_of m.period (known m.session)) None oldest present before after updates (λ q apart. all.each q)
-          (subst (λ (c : Option ConnectionValue). MayShow c oldest present None) (sym left) tt)),
-      sym (append-nil rows) ∙ ap (λ (c : Option ConnectionValue). rows ++ rows_of_left m c) (sym unknown),
-    )
-
 pub withdraw-some : (m : Made) (known : Known) (oldest present n : ℕ) (before after : BTreeMap ℕ Connection) (rows made : List Row)
     (kept : Connection) (left : Option Connection) → n ≡ m.session
     → Some kept ≡ get nat_cmp before n
@@ -259,19 +239,6 @@ out-none at known oldest present n before after kept same none updates all new =
     let unknown : known at.session ≡ None =
     ap known (sym same) ∙ shown-none (known n) oldest present (subst (λ (v : Option Connection). MayShow (known n) oldest present v) (sym none) (all.each n)) in (
       subst (λ (c : Option ConnectionValue). Shows (unwrap_or c (new_connection at.link)) oldest present kept) (sym unknown) new,
-      subst (λ (k : ℕ). AllShown (with_known known k None) oldest present after) same
-          (all-set known n None None oldest present before after updates (λ q apart. all.each q) tt),
-    )
-
-pub out-some : (at : Origin) (known : Known) (oldest present n : ℕ) (before after : BTreeMap ℕ Connection) (kept : Connection) → n ≡ at.session
-    → Some kept ≡ get nat_cmp before n
-    → ((q : ℕ) → get nat_cmp after q ≡ cond (is_eq (nat_cmp n q)) None (get nat_cmp before q))
-    → AllShown known oldest present before
-    → Shows (connection_of at known) oldest present kept × AllShown (with_known known at.session None) oldest present after
-out-some at known oldest present n before after kept same some updates all =
-    let s = shown-some (known n) oldest present kept (subst (λ (v : Option Connection). MayShow (known n) oldest present v) (sym some) (all.each n)) in
-    let there : known at.session ≡ Some s.0 = ap known (sym same) ∙ s.1 in (
-      subst (λ (c : Option ConnectionValue). Shows (unwrap_or c (new_connection at.link)) oldest present kept) (sym there) s.2,
       subst (λ (k : ℕ). AllShown (with_known known k None) oldest present after) same
           (all-set known n None None oldest present before after updates (λ q apart. all.each q) tt),
     )

@@ -1,22 +1,18 @@
-use Rattle.std.proofs.Common.{◌≡◌, true, sym, ap, ◌∙◌, arith, find, subst}
-use Rattle.std.specs.Prelude.{IfSome}
+use Rattle.std.proofs.Common.{◌≡◌, sym, ap, ◌∙◌, arith, find}
 use Rattle.smq_kit.specs.declared.link_key.LinkKey.{LinkKey}
 use Rattle.smq_kit.specs.LinkKeys.{same_key}
-use Rattle.smq_shelf.specs.Walks.{left_above, stands_after}
+use Rattle.smq_shelf.specs.Walks.{stands_after}
 use Rattle.smq_shelf.proofs.Changes.{content_ordered}
 use Rattle.smq_shelf.proofs.Walks.{after-rises, step-length}
 use Rattle.smq_group.specs.within.Orders.{kept_candidate_cmp}
-use Rattle.smq_group.specs.within.Walked.{candidate_at, first_candidate_after, first_there, of_candidate}
-use Rattle.smq_group.proofs.CandidateWalks.{candidates_total, left-start, left-more, left-there, left-vacant, left-bound}
+use Rattle.smq_group.specs.within.Walked.{candidate_at, first_candidate_after, of_candidate}
+use Rattle.smq_group.proofs.CandidateWalks.{candidates_total, left-start, left-more, left-vacant, left-bound}
 use Rattle.smq_group.proofs.Earliest.{own_key}
 use Rattle.smq_group.proofs.Finding.{found-of}
 use Rattle.smq_group.proofs.candidates.next_candidate.Goals as goal
 
 pub place_after-next-requires : goal.place_after-next-requires
 place_after-next-requires c = ap (λ (k : LinkKey). same_key c.args.key.now k) c.copy.ensures ∙ own_key c.args.key.now
-
-pub place_after-next-requires-in-Some : goal.place_after-next-requires-in-Some
-place_after-next-requires-in-Some c = subst (λ o. IfSome o (λ e. same_key c.args.key.now e.0.key ≡ true)) c.in-Some.is c.loop-next.invariant.own
 
 pub loop-next-init : goal.loop-next-init
 loop-next-init c =
@@ -64,11 +60,6 @@ loop-next-smaller c =
     let left = step-length candidates_total (of_candidate c.args.key.now) c.args.candidates.now.places c.place_after-next.ensures.ordered (c.in-Some.candidate, c.in-Some.value) c.loop-next.next c.place_after-next-in-Some.result c.in-Some.is value in
     omega (arith, left)
 
-pub returns-then-is_some-clause-value : goal.returns-then-is_some-clause-value
-returns-then-is_some-clause-value c =
-    sym (left-there c.args.key.now c.args.candidates.now.places c.place_after-next.ensures.ordered (first_candidate_after c.args.key.now c.args.from c.args.candidates.now.content)
-    c.in-Some.candidate c.in-Some.value c.loop-next.next c.loop-next.invariant.left c.in-Some.is (sym c.is_some.ensures ∙ c.if-is_some.true))
-
 pub returns-then-is_some-clause-ordered : goal.returns-then-is_some-clause-ordered
 returns-then-is_some-clause-ordered c =
     rw c.place_after-next.ensures.content (content_ordered candidates_total c.args.candidates.now.places c.place_after-next.ensures.ordered)
@@ -76,7 +67,3 @@ returns-then-is_some-clause-ordered c =
 pub returns-clause-ordered : goal.returns-clause-ordered
 returns-clause-ordered c =
     rw c.place_after-next.ensures.content (content_ordered candidates_total c.args.candidates.now.places c.place_after-next.ensures.ordered)
-
-pub returns-clause-value : goal.returns-clause-value
-returns-clause-value c =
-    sym (c.loop-next.invariant.left ∙ ap (λ n. first_there (left_above kept_candidate_cmp (of_candidate c.args.key.now) c.args.candidates.now.places n)) c.in_default.is)

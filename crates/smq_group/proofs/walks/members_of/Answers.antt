@@ -1,10 +1,9 @@
-use Rattle.std.proofs.Common.{◌+◌, filter, ◌≡◌, true, ap, ◌∙◌, arith, find, map, length, subst}
-use Rattle.std.specs.Prelude.{IfSome}
+use Rattle.std.proofs.Common.{◌+◌, filter, ◌≡◌, true, ap, ◌∙◌, arith, find, map, length}
 use Rattle.smq_shelf.specs.Places.{content_of}
 use Rattle.smq_shelf.specs.Walks.{stands_after}
 use Rattle.smq_shelf.proofs.Walks.{after-rises, left-found, of-rises, step-length, walked-more, walked-on}
 use Rattle.smq_group.specs.within.Orders.{kept_member_cmp}
-use Rattle.smq_group.specs.within.Walked.{is_like, of_part, placed}
+use Rattle.smq_group.specs.within.Walked.{of_part, placed}
 use Rattle.smq_group.proofs.Finding.{found-of}
 use Rattle.smq_group.proofs.Placing.{members_total, sorted_none}
 use Rattle.smq_group.proofs.Walking.{members-by_place, step-gathered, end-gathered, full-gathered, places-parted}
@@ -25,9 +24,6 @@ loop-next-init g c =
       gathered = rw c.new-members.ensures.items (ap (λ xs. map placed (content_of xs)) first);
       like = found-of members_total (of_part c.args.by_link c.args.key.now) (of_part c.args.by_link c.args.key.now) c.args.kept.now.places c.first_of-next.result (of-rises members_total (of_part c.args.by_link c.args.key.now)) c.first_of-next.ensures.value;
     }
-
-pub next_of-next-requires : goal.next_of-next-requires
-next_of-next-requires g c = subst (λ o. IfSome o (λ e. is_like c.args.by_link c.args.key.now e.0.key ≡ true)) c.in-Some.is c.loop-next.invariant.like
 
 pub loop-next-smaller : goal.loop-next-smaller
 loop-next-smaller g c =

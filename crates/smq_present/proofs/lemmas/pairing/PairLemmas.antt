@@ -7,10 +7,9 @@ use Rattle.smq_frame.specs.Stream.{Octet}
 use Rattle.smq_pdu.specs.Header.{Header}
 use Rattle.smq_pdu.specs.declared.body.Submit.{Submit}
 use Rattle.smq_pair.specs.Pairing.{pair_at, pair_of}
-use Rattle.smq_pdu.specs.Pairing.{IsPair, is_response_of, is_request_of, is_request, is_response, request_rank, response_index}
+use Rattle.smq_pdu.specs.Pairing.{IsPair, is_response_of, is_request, is_response, request_rank, response_index}
 use Rattle.smq_pdu.proofs.Pairs.{finds_pairs, finds_each}
 use Rattle.smq_present.specs.declared.present.kept.StoredPdu.{StoredPdu}
-use Rattle.smq_present.specs.known.Pairing.{InTurn}
 use Rattle.smq_present.specs.present.Kept.{header_of, headers_of, kept_pdus, submit_in}
 use Rattle.smq_present.specs.pairing.Traffic.{Origin, place_of, placed, pairing_among, response_to}
 use Rattle.smq_present.specs.within.Pairs.{Rises}
@@ -91,19 +90,3 @@ both a b p q = rw (p, q) refl
 
 of_number : (p : StoredPdu) (seq : ℕ) → is_response (header_of p) ≡ true → p.seq ≡ seq → is_response_of seq (header_of p) ≡ true
 of_number p seq response same = both (is_response (header_of p)) (p.seq == seq) response (eq-eqb p.seq seq same)
-
-asks_itself : (p : StoredPdu) → is_request (header_of p) ≡ true → is_request_of p.seq (header_of p) ≡ true
-asks_itself p request = both (is_request (header_of p)) (p.seq == p.seq) request (eq-eqb p.seq p.seq refl)
-
-pub first-response : (one two response later : StoredPdu) → InTurn one two response later → response_to (response ∷ later ∷ []) [] one ≡ Some response
-first-response one two response later turn =
-    let here : is_response_of one.seq (header_of response) ≡ true = of_number response one.seq turn.first_response turn.first_response_seq in
-    rw here refl
-
-pub second-response : (one two response later : StoredPdu) → InTurn one two response later
-    → response_to (response ∷ later ∷ []) (one ∷ []) two ≡ Some later
-second-response one two response later turn =
-    let before : is_request_of one.seq (header_of one) ≡ true = asks_itself one turn.request in
-    let here : is_response_of one.seq (header_of response) ≡ true = of_number response one.seq turn.first_response turn.first_response_seq in
-    let there : is_response_of one.seq (header_of later) ≡ true = of_number later one.seq turn.next_response turn.next_response_seq in
-    rw (turn.next_seq, before, here, there) refl

@@ -28,15 +28,6 @@ pub updated : (m n : BTreeMap ℕ (Option ℕ)) (k q : ℕ) (w : Option ℕ) →
     → first_in n q ≡ cond (k == q) w (first_in m q)
 updated m n k q w h = grind (arith, common_steps, h.0 q, h.1, h.2 q)
 
--- where a number has no first, none is put
-pub none-put : (next : List (Option ℕ)) (m : BTreeMap ℕ (Option ℕ)) (k q : ℕ) (first : Option ℕ) → first ≡ None → first_in m k ≡ None
-    → first_in m q ≡ cond (k == q) (advanced next first) (first_in m q)
-none-put next m k q first is none = by_number (k == q) refl
-  where
-    by_number : (b : Bool) → (k == q) ≡ b → first_in m q ≡ cond b (advanced next first) (first_in m q)
-    by_number true e = ap (first_in m) (sym (eqb-true k q e)) ∙ none ∙ sym (ap (advanced next) is)
-    by_number false e = refl
-
 -- what is kept of one index is put
 pub next-put : (next : List (Option ℕ)) (i : ℕ) (first : Option ℕ) → i < length next → next_at (slice_set next i first) i ≡ first
 next-put next i first h = unwrap_or-slice_get (slice_set next i first) i None ∙ get_or-set_same next i first None h

@@ -6,7 +6,7 @@ use Rattle.smq_kit.specs.declared.place.Dir.{Dir}
 use Rattle.smq_kit.specs.declared.place.Dir.TheVariants.{FromClient, FromCentre}
 use Rattle.smq_kit.specs.declared.refusal.Refusal.{Refusal}
 use Rattle.smq_kit.specs.declared.refusal.Refusal.TheVariants.{Memory}
-use Rattle.smq_frame.specs.Stream.{Octet, handed_in, values}
+use Rattle.smq_frame.specs.Stream.{Octet, values}
 use Rattle.smq_frame.specs.Tail.{TailValue, tail_of, tails_equal}
 use Rattle.smq_present.specs.declared.present.session.Session.{Session}
 use Rattle.smq_present.specs.present.Batch.{BatchValue}
@@ -30,19 +30,6 @@ made-or-wanting P Q o (Err e) none a = rw none a
 
 pub told : (T P Q : Type 0) (o : Option Refusal) (e : Refusal) → o ≡ Some e → Q → IsReply {T = T} o (Err e) P Q
 told T P Q o e is same = rw is (refl, same)
-
--- a batch goes after its direction
-pub put-client : {T : Type 0} (s : Session) (b : BatchValue) (r : Result T Refusal) (new : List Octet) → b.dir ≡ FromClient
-    → MatchResult r (λ _. new ≡ s.client ++ handed_in b.moment b.octets) (λ e. (e ≡ Memory) × (new ≡ s.client))
-    → MatchResult r (λ _. (record s { client = new }) ≡ session_after (Some s) b) (λ e. (e ≡ Memory) × ((record s { client = new }) ≡ s))
-put-client s b (Ok x) new dir a = rw dir (ap (λ (o : List Octet). record s { client = o }) a)
-put-client s b (Err e) new dir a = (a.0, ap (λ (o : List Octet). record s { client = o }) a.1)
-
-pub put-centre : {T : Type 0} (s : Session) (b : BatchValue) (r : Result T Refusal) (new : List Octet) → b.dir ≡ FromCentre
-    → MatchResult r (λ _. new ≡ s.centre ++ handed_in b.moment b.octets) (λ e. (e ≡ Memory) × (new ≡ s.centre))
-    → MatchResult r (λ _. (record s { centre = new }) ≡ session_after (Some s) b) (λ e. (e ≡ Memory) × ((record s { centre = new }) ≡ s))
-put-centre s b (Ok x) new dir a = rw dir (ap (λ (o : List Octet). record s { centre = o }) a)
-put-centre s b (Err e) new dir a = (a.0, ap (λ (o : List Octet). record s { centre = o }) a.1)
 
 -- where its link and its tail fit, its moment alone can refuse it
 alone : (o : Option Refusal) → first_of (o ∷ []) ≡ o

@@ -1,12 +1,8 @@
 use Rattle.std.proofs.Common.{List, ◌∷◌, sym, subst}
 use Rattle.smq_window.specs.declared.made.Made.{Made}
 use Rattle.smq_window.specs.within.Standing.{IsFrom, Passes}
-use Rattle.smq_window.proofs.Windows.{passes-all, passes-more, passes-none}
+use Rattle.smq_window.proofs.Windows.{passes-all, passes-more}
 use Rattle.smq_window.proofs.window.pass.Goals as goal
-
-pub loop-first-init : goal.loop-first-init
-loop-first-init c known present all =
-    passes-none known c.args.oldest present c.args.made.now.items c.args.rows.now.items c.args.connections.now all
 
 pub loop-first-preserved : goal.loop-first-preserved
 loop-first-preserved c known present all =

@@ -2,13 +2,8 @@ use Rattle.std.proofs.Common.{Option, Some, None, cond, sym, ap, ◌∙◌}
 use Rattle.std.specs.BTreeMap.{get}
 use Rattle.std.specs.Ordering.{is_eq, nat_cmp}
 use Rattle.smq_window.specs.declared.connection.Connection.{Connection}
-use Rattle.smq_window.proofs.Windows.{set-twice, withdraw-none, withdraw-some}
+use Rattle.smq_window.proofs.Windows.{set-twice, withdraw-some}
 use Rattle.smq_window.proofs.window.withdraw_one.Goals as goal
-
-pub returns-in_default : goal.returns-in_default
-returns-in_default c known present all =
-    withdraw-none c.args.made.now known c.args.oldest present c.number-number.result c.args.connections.now c.remove.new.self
-    c.args.rows.now.items c.number-number.ensures.value c.in_default.ensures.value c.in_default.ensures.updates.0 all
 
 pub returns-in_ok-insert-in-Some-2 : goal.returns-in_ok-insert-in-Some-2
 returns-in_ok-insert-in-Some-2 c known present all =

@@ -23,10 +23,6 @@ use Rattle.smq_group.proofs.Vacating.{at_most_one, candidate-put, counted-vacant
 use Rattle.smq_kit.specs.declared.link_key.LinkKey.{LinkKey}
 use Rattle.smq_group.proofs.groups.Groups.remove_receipt.Goals as goal
 
-pub take_out_receipt-requires-clause-there : goal.take_out_receipt-requires-clause-there
-take_out_receipt-requires-clause-there c =
-    rw c.receipt_facts_at-found.ensures.read.content (ap is_some (sym c.receipt_facts_at-found.ensures.value ∙ c.in-Some.is))
-
 if-some : {A : Type 0} (x : Option A) (P : A → Type 0) → ((e : A) → x ≡ Some e → P e) → IfSome x P
 if-some None P f = tt
 if-some (Some e) P f = f e refl

@@ -1,7 +1,5 @@
-use Rattle.std.proofs.Common.{◌≡◌, ◌≤◌, ◌<◌, ◌+◌, ◌^◌, ◌∙◌, length, arith, sym, subst, refl, ℕ, ◌-◌, ap, false, length-drop}
-use Rattle.std.specs.Prelude.{None, IsSome}
-use Rattle.smq_reassembly.proofs.Lists.{length-octets}
-use Rattle.smq_reassembly.proofs.Pieces.{or-stays}
+use Rattle.std.proofs.Common.{◌≡◌, ◌≤◌, ◌<◌, ◌+◌, ◌^◌, length, arith, sym, subst, refl, ℕ}
+use Rattle.std.specs.Prelude.{None}
 use Rattle.smq_reassembly.specs.Octet.{octets_of}
 use Rattle.smq_reassembly.specs.Piece.{first_octet, octet_in}
 use Rattle.smq_reassembly.specs.State.{State, Follows}
@@ -35,21 +33,3 @@ returns-clause-takes c pieces start given piece same f =
     (gives-front pieces piece start given _ _ c.args.packet c.args.begins c.args.octets.now c.args.count alike g c.requires.some c.requires.whole
     (missing (goal.at.returns-clause-takes c).In_ok-keep) refl refl
     (rw c.split_at.ensures.back at c.in_ok-keep.ensures.brings))
-
-pub returns-clause-next : goal.returns-clause-next
-returns-clause-next c =
-    let full = subst (λ (s : State). c.args.count < length c.args.octets.now → IsSome (first_octet s.waiting (s.next + c.args.count)))
-    (sym c.self.view_is) c.requires.full in
-    let size : length c.split_at.result.1.now ≡ length c.args.octets.now - c.args.count =
-    ap length c.split_at.ensures.back ∙ length-drop c.args.count c.args.octets.now in
-    rw (← c.self.view_is)
-    (c.in_ok-keep.ensures.brings (c.self.inside.next + c.args.count)
-    ∙ or-stays (first_octet (pieces_of c.self.inside.waiting) (c.self.inside.next + c.args.count))
-    (record { at = c.self.inside.next + c.args.count; octets = octets_of c.args.packet false c.split_at.result.1.now })
-    (c.self.inside.next + c.args.count)
-    (λ e any. full (omega (arith, size, any, length-octets c.args.packet false c.split_at.result.1.now))) (omega arith))
-
-pub returns-clause-changes : goal.returns-clause-changes
-returns-clause-changes c =
-    rw (← c.self.view_is)
-    (omega (arith, c.split_at.ensures.front_len, c.requires.some), omega (arith, c.split_at.ensures.front_len))

@@ -1,6 +1,6 @@
 use Rattle.std.proofs.Common.{◌≡◌, ◌≤◌, arith, sym, subst, refl}
 use Rattle.smq_reassembly.specs.State.{State}
-use Rattle.smq_reassembly.proofs.Chains.{head-at, head-before, head-none}
+use Rattle.smq_reassembly.proofs.Chains.{head-at, head-before}
 use Rattle.smq_reassembly.proofs.reassembly.Reassembly.missing_until.Goals as goal
 
 pub returns-clause-low : goal.returns-clause-low
@@ -12,9 +12,6 @@ returns-clause-low c =
 pub returns-clause-none : goal.returns-clause-none
 returns-clause-none c n low high =
     rw (← c.self.view_is) (head-before _ _ _ n c.self.invariant.1 (sym c.in-Some.ensures) (omega (arith, c.min.ensures)))
-
-pub returns-in_default-clause-none : goal.returns-in_default-clause-none
-returns-in_default-clause-none c n low high = rw (← c.self.view_is) (head-none _ n (sym c.in_default.ensures))
 
 pub returns-clause-full : goal.returns-clause-full
 returns-clause-full c less =

@@ -1,11 +1,7 @@
-use Rattle.std.proofs.Common.{◌≡◌, ◌≤◌, [], sym, subst, refl, ℕ, ◌<◌, arith, length, ◌∙◌}
+use Rattle.std.proofs.Common.{◌≡◌, ◌≤◌, [], sym, subst, refl, ℕ}
 use Rattle.std.proofs.lemmas.List.{append-nil}
-use Rattle.std.specs.Prelude.{IsSome}
-use Rattle.smq_reassembly.proofs.Lists.{length-octets}
-use Rattle.smq_reassembly.proofs.Pieces.{or-stays}
-use Rattle.smq_reassembly.specs.within.Chain.{pieces_of}
 use Rattle.smq_reassembly.specs.Octet.{octets_of}
-use Rattle.smq_reassembly.specs.Piece.{Piece, first_octet, octet_in}
+use Rattle.smq_reassembly.specs.Piece.{Piece, octet_in}
 use Rattle.smq_reassembly.specs.Segment.{octets_given}
 use Rattle.smq_reassembly.specs.State.{State, Follows}
 use Rattle.smq_reassembly.proofs.States.{waits-whole}
@@ -20,14 +16,3 @@ returns-clause-takes c pieces start given piece same f =
     let none : octets_given c.if-any.result ≡ [] =
     elim c.if-any.branch [ then-any w ↦ rw w.result-is refl | else-any w ↦ rw w.result-is refl ] in
     rw (none, append-nil) (waits-whole pieces piece whole start given _ _ alike g refl refl c.in_ok-any.ensures.brings)
-
-pub returns-clause-next : goal.returns-clause-next
-returns-clause-next c =
-    let full = subst (λ (s : State). c.args.at ≡ s.next → 0 < length c.args.octets.now → IsSome (first_octet s.waiting s.next))
-    (sym c.self.view_is) c.requires.full in
-    let ahead = subst (λ (s : State). s.next ≤ c.args.at) (sym c.self.view_is) c.requires.ahead in
-    rw (← c.self.view_is)
-    (c.in_ok-any.ensures.brings c.self.inside.next
-    ∙ or-stays (first_octet (pieces_of c.self.inside.waiting) c.self.inside.next)
-    (record { at = c.args.at; octets = octets_of c.args.packet c.args.begins c.args.octets.now }) c.self.inside.next
-    (λ e any. full e (omega (arith, any, length-octets c.args.packet c.args.begins c.args.octets.now))) ahead)

@@ -6,7 +6,7 @@ use Rattle.smq_reassembly.specs.Octet.{Octet, octets_of}
 use Rattle.smq_reassembly.specs.Piece.{Piece, first_octet, octet_in}
 use Rattle.smq_reassembly.specs.within.Chain.{pieces_of}
 use Rattle.smq_reassembly.proofs.Lists.{length-octets, octets-part}
-use Rattle.smq_reassembly.proofs.Pieces.{front, middle, front-all, front-middle, front-waits, or-assoc, or-some}
+use Rattle.smq_reassembly.proofs.Pieces.{front, middle, front-all, front-middle, front-waits, or-assoc}
 use Rattle.smq_reassembly.proofs.waiting.Waiting.keep.Goals.{then-begins, else-begins, In_ok-put-in-Misses}
 use Rattle.smq_reassembly.proofs.waiting.Waiting.keep.Goals as goal
 
@@ -78,10 +78,3 @@ returns-clause-brings c n =
     omega (arith, length-octets c.args.packet c.args.begins c.args.octets.now, c.runs-test.false, c.runs.invariant.low) in
     c.runs.invariant.brings n
     ∙ ap (λ (p : Piece). option_or (first_octet (pieces_of c.args.self.now) n) (octet_in p n)) (front-all (c.runs.place - c.args.at) whole all)
-
-pub returns-clause-stays : goal.returns-clause-stays
-returns-clause-stays c n o is = c.runs.invariant.brings n ∙ or-some (first_octet (pieces_of c.args.self.now) n) _ o is
-
-pub returns-in_err-put-in-Misses-clause-stays : goal.returns-in_err-put-in-Misses-clause-stays
-returns-in_err-put-in-Misses-clause-stays c n o is =
-    rw c.in_err-put-in-Misses.ensures.err (c.runs.invariant.brings n ∙ or-some (first_octet (pieces_of c.args.self.now) n) _ o is)

@@ -2,7 +2,7 @@ use Rattle.std.proofs.Common.{◌≡◌, arith, length, sym, ◌∙◌, ◌-◌,
 use Rattle.std.specs.Prelude.{Some, Option}
 use Rattle.smq_reassembly.specs.declared.waiting.Held.{Held}
 use Rattle.smq_reassembly.proofs.Chains.{Tells, tells}
-use Rattle.smq_reassembly.proofs.waiting.Waiting.run_at.Goals.{In-Some, In_default, After-len}
+use Rattle.smq_reassembly.proofs.waiting.Waiting.run_at.Goals.{In-Some, After-len}
 use Rattle.smq_reassembly.proofs.waiting.Waiting.run_at.Goals as goal
 
 told : (c : In-Some) → Tells c.args.self.now c.args.place (Some (c.in-Some.until.now, c.in-Some.held.now))

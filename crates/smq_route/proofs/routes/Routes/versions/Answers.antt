@@ -4,7 +4,6 @@ use Rattle.std.specs.List.Sorted.{IsStrictlySortedBy}
 use Rattle.std.specs.Map.{keys_of}
 use Rattle.smq_route.specs.within.Kept.{kept_version_cmp}
 use Rattle.smq_route.specs.Routes.{RoutesValue}
-use Rattle.smq_route.specs.Versions.{AreApart}
 use Rattle.smq_route.proofs.Lookups.{entries-seen}
 use Rattle.smq_route.proofs.routes.Routes.versions.Goals as goal
 
@@ -13,6 +12,3 @@ returns-clause-entries c =
     c.iter.ensures.entries
     ∙ sym (entries-seen c.self.inside.versions.content (subst (λ es. IsStrictlySortedBy kept_version_cmp (keys_of es)) c.iter.ensures.entries c.iter.ensures.ordered))
     ∙ ap (λ (r : RoutesValue). entries r.versions) c.self.view_is
-
-pub returns-clause-apart : goal.returns-clause-apart
-returns-clause-apart c = subst AreApart (ap (λ (r : RoutesValue). r.versions) c.self.view_is) c.self.invariant.0

@@ -9,12 +9,6 @@ returns-then-not-begins_with-clause-test c d oldest present shows =
     sym (ap (λ (ns : List ℕ). is_first c.args.period ns) (sym shows.periods)
     ∙ first-other c.args.self.now.periods.items c.args.period other)
 
-pub returns-clause-test : goal.returns-clause-test
-returns-clause-test c d oldest present shows =
-    let first = rw c.as_slice.ensures.value at (c.begins_with.ensures.first c.if-not-begins_with.false) in
-    sym (ap (λ (ns : List ℕ). is_first c.args.period ns) (sym shows.periods)
-    ∙ first-is c.args.self.now.periods.items c.args.period first.0 first.1)
-
 pub returns-clause-shown : goal.returns-clause-shown
 returns-clause-shown c d oldest present older shows =
     let first = rw c.as_slice.ensures.value at (c.begins_with.ensures.first c.if-not-begins_with.false) in

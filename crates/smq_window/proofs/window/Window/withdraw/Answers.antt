@@ -1,8 +1,8 @@
-use Rattle.std.proofs.Common.{List, inl, inr, map, refl, ap, ◌∙◌}
+use Rattle.std.proofs.Common.{List, map, refl, ap, ◌∙◌}
 use Rattle.smq_window.specs.declared.periods.Period.{Period}
 use Rattle.smq_window.specs.Window.{withdraw_row}
 use Rattle.smq_window.specs.within.Kept.{numbers}
-use Rattle.smq_window.proofs.Standing.{session-none, session-some}
+use Rattle.smq_window.proofs.Standing.{session-some}
 use Rattle.smq_window.proofs.window.Window.withdraw.Goals as goal
 
 pub returns-in-Ok : goal.returns-in-Ok
@@ -11,12 +11,3 @@ returns-in-Ok c l w is =
     c.in-Some.ensures.value is c.in-Some.ensures.updates.0
     (c.in-Ok.ensures ∙ ap (λ (ps : List Period). map (withdraw_row c.args.session.now) (numbers ps)) c.as_slice.ensures.value)
     refl refl refl
-
-pub returns-in-Some : goal.returns-in-Some
-returns-in-Some c l w is = inr refl
-
-pub returns : goal.returns
-returns c l w is =
-    let k = session-none l w c.args.self.now (record { length = c.args.self.now.length; belief = c.args.self.now.belief; connections = c.remove.new.self; made = c.args.self.now.made }) c.args.session.now c.number.result c.number.ensures.value c.in-None.ensures.value is
-    c.in-None.ensures.updates.0 refl refl refl in
-    inl (k.0, refl, k.1)
