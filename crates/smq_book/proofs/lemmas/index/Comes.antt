@@ -1,5 +1,5 @@
 -- Members that come, and what PDUs more cost against the members of their keys.
-use Rattle.std.proofs.Common.{◌≡◌, ℕ, ◌+◌, ◌*◌, ◌≤◌, Bool, true, false, cond, Option, Some, None, refl, sym, ap, subst, ◌∙◌, arith}
+use Rattle.std.proofs.Common.{◌≡◌, ℕ, ◌+◌, ◌*◌, ◌≤◌, Bool, true, false, cond, Option, Some, None, refl, sym, ap, ◌∙◌, arith}
 use Rattle.std.specs.Prelude.{option_map}
 use Rattle.std.specs.Ordering.{eq_by_cmp, is_eq}
 use Rattle.std.specs.Cmp.{tied_itself}
@@ -41,14 +41,6 @@ came-stays m q p v w none there =
 
 put-there : {X : Type 0} (m : FinMap place_cmp X) (q : Place) (v : X) → get (insert m q v) q ≡ Some v
 put-there m q v = maps.get-set_at places_total places_exact m q (Some v) q ∙ ap (λ b. cond b (Some v) (get m q)) (itself q)
-
-pub none-come : (g h : GroupsValue) → h ≡ g → MembersCome g h
-none-come g h same = subst (λ (x : GroupsValue). MembersCome g x) (sym same) (record {
-  submits = λ q k there. there;
-  receipts = λ q r there. there;
-  more = λ k. omega arith;
-  vacant = λ k. omega arith;
-})
 
 pub both-come : (g h i : GroupsValue) → MembersCome g h → MembersCome h i → MembersCome g i
 both-come g h i a b = record {

@@ -1,14 +1,7 @@
 -- Touches don't fall, and where a fact changes they rise, whatever comes in turn.
-use Rattle.std.proofs.Common.{◌≡◌, ◌≤◌, refl, ◌∙◌, arith}
+use Rattle.std.proofs.Common.{◌≡◌, ◌≤◌, ◌∙◌, arith}
 use Rattle.smq_book.specs.declared.index.index.Index.{Index}
-use Rattle.smq_book.specs.index.Touches.{RisesWithFacts, touches_in}
-
--- where facts stay
-pub stay-rise : (i j : Index) → touches_in i ≤ touches_in j → j.tally.facts ≡ i.tally.facts → RisesWithFacts i j
-stay-rise i j counted same = record { counted = counted; facts = λ touches low. same }
-
-pub none-rise : (i : Index) → RisesWithFacts i i
-none-rise i = record { counted = omega arith; facts = λ touches low. refl }
+use Rattle.smq_book.specs.index.Touches.{RisesWithFacts}
 
 pub both-rise : (i j k : Index) → RisesWithFacts i j → RisesWithFacts j k → RisesWithFacts i k
 both-rise i j k a b =

@@ -320,14 +320,6 @@ module _ (g h : GroupsValue) (q : Place) where
           let same = ap (λ (x : Grouping). members x k) is in
           omega (arith, all, same)
 
-pub none-go : (g h : GroupsValue) → h ≡ g → MembersGo g h
-none-go g h same = subst (λ (x : GroupsValue). MembersGo g x) (sym same) (record {
-  submits = λ p k there. there;
-  receipts = λ p r there. there;
-  fewer = λ k. omega arith;
-  vacant = λ k. omega arith;
-})
-
 pub both-go : (g h i : GroupsValue) → MembersGo g h → MembersGo h i → MembersGo g i
 both-go g h i a b = record {
   submits = λ p k there. a.submits p k (b.submits p k there);

@@ -7,7 +7,7 @@ use Rattle.smq_book.specs.declared.index.stored.Item.{Item}
 use Rattle.smq_present.specs.declared.present.edit.Edit.TheVariants.{SetForm}
 use Rattle.smq_book.specs.edits.Reach.{groups}
 use Rattle.smq_book.specs.index.Coming.{AreNew}
-use Rattle.smq_book.specs.index.Held.{Holding, IsHeld, KeepsTraffic, held_now, traffic_held}
+use Rattle.smq_book.specs.index.Held.{Holding, KeepsTraffic, held_now, traffic_held}
 use Rattle.smq_book.specs.index.LinkOut.{keyed_on, keyed_places, put_of}
 use Rattle.smq_book.specs.index.Touches.{index_cost, put_load, taken_load}
 use Rattle.smq_present.specs.join.Keyed.{grouping_of}
@@ -23,9 +23,6 @@ use Rattle.smq_book.proofs.lemmas.index.KeptPairs.{settled-again, undone}
 use Rattle.smq_book.proofs.lemmas.index.LinkOut.{in-again, keyed-new, keyed-stand}
 use Rattle.smq_present.proofs.lemmas.present.NumberMaps.{insert-same}
 use Rattle.smq_book.proofs.edits.forms.set_forms.Goals as goal
-
-pub take_link-requires : goal.take_link-requires
-take_link-requires c = subst (λ (p : PresentValue). IsHeld p.settings (held_now c.args.index.now)) (sym c.present.view_is) c.requires.indexed.held
 
 pub put_link-requires-clause-held : goal.put_link-requires-clause-held
 put_link-requires-clause-held c =
@@ -48,17 +45,6 @@ pub restore_forms-requires : goal.restore_forms-requires
 restore_forms-requires c =
     forms-there c.present.inside.settings c.args.link c.args.forms c.set_forms.new.self c.in-Ok-set_forms.ensures.reply
 
-pub returns-in_default-clause-indexed : goal.returns-in_default-clause-indexed
-returns-in_default-clause-indexed c =
-    undone refl (c.undo.ensures.held ∙ c.take_link.ensures.settled) (c.undo.ensures.settled ∙ c.take_link.ensures.settled) c.undo.ensures.pending
-    c.requires.indexed
-
-pub returns-in_default-set_forms-clause-indexed : goal.returns-in_default-set_forms-clause-indexed
-returns-in_default-set_forms-clause-indexed c =
-    undone (ap (λ (s : SettingsValue). record { sessions = sessions_in c.present.inside.sessions; settings = s }) c.in_default-set_forms.ensures.reply.1
-    ∙ c.present.view_is) (c.undo-in_default-set_forms.ensures.held ∙ c.take_link.ensures.settled)
-    (c.undo-in_default-set_forms.ensures.settled ∙ c.take_link.ensures.settled) c.undo-in_default-set_forms.ensures.pending c.requires.indexed
-
 pub returns-in_default-put_link-clause-reply : goal.returns-in_default-put_link-clause-reply
 returns-in_default-put_link-clause-reply c = (
   refl,
@@ -72,11 +58,6 @@ returns-in_default-put_link-clause-indexed c =
     let settled = c.put_link.ensures.settled ∙ c.take_link.ensures.settled in
     undone ((returns-in_default-put_link-clause-reply c).1) (c.undo-in_default-put_link.ensures.held ∙ settled)
     (c.undo-in_default-put_link.ensures.settled ∙ settled) c.undo-in_default-put_link.ensures.pending c.requires.indexed
-
-pub returns-clause-reply : goal.returns-clause-reply
-returns-clause-reply c =
-    ap (λ (s : SettingsValue). record { sessions = sessions_in c.present.inside.sessions; settings = s }) c.in-Ok-set_forms.ensures.reply
-    ∙ ap (λ (p : PresentValue). record p { settings = with_forms p.settings c.args.link c.args.forms }) c.present.view_is
 
 pub returns-clause-indexed : goal.returns-clause-indexed
 returns-clause-indexed c =

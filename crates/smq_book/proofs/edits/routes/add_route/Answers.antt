@@ -1,12 +1,8 @@
 use Rattle.std.proofs.Common.{◌≡◌, ◌≤◌, ◌+◌, ◌*◌, ℕ, List, refl, sym, ap, subst, ◌∙◌}
-use Rattle.std.specs.FinMap.{len}
-use Rattle.std.specs.Prelude.{OnOk}
 use Rattle.smq_kit.specs.Replies.{first_of}
 use Rattle.smq_route.specs.Edits.{add_refusals}
 use Rattle.smq_book.specs.index.Kept.{IsIndexed}
-use Rattle.smq_book.specs.edits.Reached.{messages_under}
 use Rattle.smq_book.specs.index.Recomputed.{LeaveOthers}
-use Rattle.smq_book.specs.index.Touches.{index_cost}
 use Rattle.smq_present.specs.pairing.Traffic.{traffic_of}
 use Rattle.smq_present.specs.present.Present.{PresentValue}
 use Rattle.smq_present.specs.present.Settings.{SettingsValue}
@@ -24,9 +20,3 @@ returns-clause-indexed c =
     c.follow.ensures.indexed p refl refl (sym (c.add.ensures.settled ∙ c.settings.invariant))
     (subst (λ (q : PresentValue). IsIndexed q c.args.index.now) (sym was) c.requires.indexed)
     (subst (λ (d : List ℕ). LeaveOthers s (traffic_of p.sessions) d c.add.new.self.versions) (sym c.copy-under.ensures.value) others)
-
-pub returns-clause-touches : goal.returns-clause-touches
-returns-clause-touches c =
-    subst (λ (d : List ℕ). OnOk c.follow.result (index_cost c.follow.new.index ≤ index_cost c.args.index.now
-    + 64 * (1 + len (messages_under d (traffic_of c.args.present.now.sessions))))) c.copy-under.ensures.value
-    (c.follow.ensures.touches c.args.present.now c.requires.indexed)

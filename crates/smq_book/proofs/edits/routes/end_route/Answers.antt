@@ -21,7 +21,3 @@ returns-clause-indexed c =
     c.follow.ensures.indexed p refl refl (sym (c.end.ensures.settled ∙ c.settings.invariant))
     (subst (λ (q : PresentValue). IsIndexed q c.args.index.now) (sym was) c.requires.indexed)
     others
-
-pub returns-clause-touches : goal.returns-clause-touches
-returns-clause-touches c =
-    c.follow.ensures.touches c.args.present.now c.requires.indexed

@@ -1,4 +1,4 @@
-use Rattle.std.proofs.Common.{◌≡◌, refl, sym, subst, arith}
+use Rattle.std.proofs.Common.{◌≡◌, sym, subst, arith}
 use Rattle.std.specs.FinMap.{get}
 use Rattle.smq_present.specs.declared.present.edit.Edit.TheVariants.{Withdraw}
 use Rattle.smq_book.specs.index.Held.{held_now}
@@ -7,22 +7,8 @@ use Rattle.smq_book.specs.index.Pairs.{pairs_now, pairs_pending, pairs_settled}
 use Rattle.smq_present.specs.present.Present.{PresentValue}
 use Rattle.smq_present.specs.present.Steps.{change}
 use Rattle.smq_book.proofs.lemmas.index.Bounds.{withdraw-bound}
-use Rattle.smq_book.proofs.lemmas.index.KeptPairs.{absent-reply, kept-settled, made-there, none-pending, not-refused, pairs-removed, wanting-reply}
+use Rattle.smq_book.proofs.lemmas.index.KeptPairs.{kept-settled, made-there, none-pending, pairs-removed}
 use Rattle.smq_book.proofs.edits.withdraw.withdraw.Goals as goal
-
-pub withdraw-requires-clause-there : goal.withdraw-requires-clause-there
-withdraw-requires-clause-there c = sym c.in-Some.ensures
-
-pub returns-in-None-clause-reply : goal.returns-in-None-clause-reply
-returns-in-None-clause-reply c = absent-reply _ (get c.args.present.now.sessions c.args.session.0) _ _ (sym c.in-None.ensures) refl
-
-pub returns-in_default-clause-reply : goal.returns-in_default-clause-reply
-returns-in_default-clause-reply c =
-    wanting-reply _ (get c.args.present.now.sessions c.args.session.0) _ _ c.in-Some.found.now (sym c.in-Some.ensures) refl
-
-pub returns-in_err-take_session-clause-kept : goal.returns-in_err-take_session-clause-kept
-returns-in_err-take_session-clause-kept c =
-    absurd (not-refused _ (get c.args.present.now.sessions c.args.session.0) _ _ c.in-Some.found.now (sym c.in-Some.ensures) _ c.in_err-take_session.ensures)
 
 pub returns-clause-kept : goal.returns-clause-kept
 returns-clause-kept c =

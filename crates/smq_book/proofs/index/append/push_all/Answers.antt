@@ -1,6 +1,4 @@
 use Rattle.std.proofs.Common.{◌≡◌, List, take, Some, sym, ap, subst, ◌∙◌, arith}
-use Rattle.std.specs.List.{sum_by}
-use Rattle.std.proofs.lemmas.List.{take_all}
 use Rattle.std.proofs.lemmas.List.Sums.{sum_by-le-sum_by, sum_by_more}
 use Rattle.smq_kit.specs.declared.place.Place.{Place}
 use Rattle.smq_pair.specs.Growth.{IsNext, made_by, pushed}
@@ -94,10 +92,3 @@ loop-pdu-preserved c =
       pairs_counted = omega (arith, c.push_pdu.ensures.pairs_counted, was.pairs_counted);
       rises = both-rise c.args.index.now c.loop-pdu.index c.push_pdu.new.index was.rises c.in_ok-push_pdu.ensures.rises;
     }
-
-pub returns-clause-touches : goal.returns-clause-touches
-returns-clause-touches c = λ full.
-    let was = c.loop-pdu.invariant.touches full in
-    let all = ap (sum_by (pdu_load c.loop-pdu.index.groups.members c.loop-pdu.pairing.pdus (from_session c.args.number) c.args.dir))
-    (take_all c.loop-pdu.pdu-index c.args.pdus.now (omega arith)) in
-    omega (arith, was, all)

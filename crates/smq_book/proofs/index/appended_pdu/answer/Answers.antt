@@ -1,4 +1,4 @@
-use Rattle.std.proofs.Common.{◌≡◌, [], ◌∷◌, Option, Some, None, ap, refl, sym, ◌∙◌, rules, arith}
+use Rattle.std.proofs.Common.{◌≡◌, [], ◌∷◌, Option, Some, None, ap, sym, ◌∙◌, rules, arith}
 use Rattle.std.specs.FinMap.{get}
 use Rattle.std.specs.Option.{option_copied}
 use Rattle.smq_group.specs.Matching.{Grouping}
@@ -6,8 +6,7 @@ use Rattle.smq_book.specs.index.Held.{Holding, held_now, traffic_held}
 use Rattle.smq_book.specs.index.Pushed.{answer_moves, with_response, without_response}
 use Rattle.smq_present.specs.join.Moves.{PutMessage, TakeMessage}
 use Rattle.smq_present.specs.pairing.Traffic.{Message}
-use Rattle.smq_book.proofs.lemmas.index.Comes.{message-comes, message-weighed, none-come}
-use Rattle.smq_book.proofs.lemmas.index.Followed.{are-held}
+use Rattle.smq_book.proofs.lemmas.index.Comes.{message-comes, message-weighed}
 use Rattle.smq_book.proofs.lemmas.index.Members.{submit-there}
 use Rattle.smq_book.proofs.lemmas.index.Pushed.{after-none, after-one, after-over, after-same, answer-none, answer-one}
 use Rattle.smq_book.proofs.lemmas.index.Stored.{stored-at}
@@ -22,16 +21,6 @@ returns-in_default-clause-held c =
     let none : get g.messages q ≡ None = sym (gone ∙ c.get.ensures ∙ stored-at c.args.index.now.messages.content q) in
     after-same s g g [] (answer_moves g.messages (Some c.args.pair) c.args.response.now)
     (answer-none g.messages c.args.response.now c.args.pair none) (after-none s g c.requires.held)
-
-pub returns-in_default-clause-came : goal.returns-in_default-clause-came
-returns-in_default-clause-came c = none-come c.args.index.now.groups c.args.index.now.groups refl
-
-pub returns-in_default-clause-touches : goal.returns-in_default-clause-touches
-returns-in_default-clause-touches c = λ full. omega arith
-
-pub answer_message-requires-clause-are : goal.answer_message-requires-clause-are
-answer_message-requires-clause-are c =
-    are-held c.args.settings.now (traffic_held (held_now c.args.index.now)) c.args.index.now c.requires.held.traffic c.requires.held.held
 
 -- the message that is stored there is the answered one without its response
 pub answer_message-requires-clause-unanswered : goal.answer_message-requires-clause-unanswered

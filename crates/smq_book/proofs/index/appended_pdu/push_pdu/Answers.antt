@@ -2,7 +2,7 @@ use Rattle.std.proofs.Common.{◌≡◌, Option, ap, sym, subst, ◌∙◌, arit
 use Rattle.std.specs.FinMap.{FinMap, get}
 use Rattle.smq_kit.specs.Orders.{place_cmp}
 use Rattle.smq_kit.specs.declared.place.Dir.{Dir}
-use Rattle.smq_kit.specs.declared.place.Dir.TheVariants.{FromClient, FromCentre}
+use Rattle.smq_kit.specs.declared.place.Dir.TheVariants.{FromCentre}
 use Rattle.smq_pair.specs.Growth.{made_by, pushed}
 use Rattle.smq_pair.specs.Pairing.{PairingValue, pair_at, placed_header}
 use Rattle.smq_pair.specs.declared.pairing.Pair.{Pair}
@@ -10,44 +10,11 @@ use Rattle.smq_group.specs.Groups.{GroupsValue}
 use Rattle.smq_book.specs.index.Held.{held_now, traffic_held}
 use Rattle.smq_book.specs.index.Touches.{HasNoneVacant, MembersCome, answered_key, members_at, pdu_load}
 use Rattle.smq_book.specs.index.Pushed.{IsUnsaid}
-use Rattle.smq_present.specs.pairing.Traffic.{Message, ReceivedReceipt, TrafficValue, place_of, placed}
+use Rattle.smq_present.specs.pairing.Traffic.{Message, place_of, placed}
 use Rattle.smq_present.specs.within.Pairs.{from_session}
 use Rattle.smq_book.proofs.lemmas.index.Comes.{answered-heavier, both-come, still-none}
-use Rattle.smq_book.proofs.lemmas.index.Pushed.{messages-noted, receipts-answered, receipts-noted}
+use Rattle.smq_book.proofs.lemmas.index.Pushed.{messages-noted}
 use Rattle.smq_book.proofs.index.appended_pdu.push_pdu.Goals as goal
-
--- ---- of the client
-
-pub put_submit-requires-clause-absent : goal.put_submit-requires-clause-absent
-put_submit-requires-clause-absent c =
-    let s = c.args.settings.now in
-    let origin = from_session c.args.session in
-    let next = c.args.pdu.now in
-    let g = held_now c.args.index.now in
-    let made : Option Pair = c.in_ok-made.made in
-    let first = c.in_ok-note_of_client-in-FromClient.ensures.ok.held s c.requires.held in
-    ap (λ (m : FinMap place_cmp Message). get m (place_of origin FromClient next))
-    (messages-noted origin s g (held_now c.note_of_client.new.index) FromClient next made first)
-    ∙ subst (λ (dir : Dir). IsUnsaid (traffic_held g) origin dir next (made_by c.args.pairing.now.pdus (placed origin dir next)))
-    c.in-FromClient.is c.requires.unsaid
-
--- ---- of the centre
-
-pub put_received-requires-clause-absent : goal.put_received-requires-clause-absent
-put_received-requires-clause-absent c =
-    let s = c.args.settings.now in
-    let origin = from_session c.args.session in
-    let next = c.args.pdu.now in
-    let g = held_now c.args.index.now in
-    let noted = held_now c.note_of_centre.new.index in
-    let made : Option Pair = c.in_ok-made.made in
-    let first = c.in_ok-note_of_centre-in-FromCentre.ensures.ok.held s c.requires.held in
-    ap (λ (m : FinMap place_cmp ReceivedReceipt). get m (place_of origin FromCentre next))
-    (ap (λ (t : TrafficValue). t.receipts) c.in_ok-answer_made-in-FromCentre.ensures.held.traffic
-    ∙ receipts-answered noted.messages next (traffic_held noted) made
-    ∙ receipts-noted origin s g noted FromCentre next made first)
-    ∙ (subst (λ (dir : Dir). IsUnsaid (traffic_held g) origin dir next (made_by c.args.pairing.now.pdus (placed origin dir next)))
-    c.in-FromCentre.is c.requires.unsaid).0
 
 -- the pair that is made is that of the PDU, and the messages are as they were
 pub answer_made-requires-clause-waits : goal.answer_made-requires-clause-waits

@@ -10,13 +10,10 @@ use Rattle.smq_book.specs.index.Pushed.{origin_at, receipt_moves}
 use Rattle.smq_book.specs.index.Touches.{members_at, receipt_key_at}
 use Rattle.smq_present.specs.join.Moves.{PutReceipt}
 use Rattle.smq_present.specs.pairing.Traffic.{ReceivedReceipt, received}
-use Rattle.smq_book.proofs.lemmas.index.Comes.{none-come, received-comes, received-weighed}
+use Rattle.smq_book.proofs.lemmas.index.Comes.{received-comes, received-weighed}
 use Rattle.smq_book.proofs.lemmas.index.Members.{receipt-absent}
 use Rattle.smq_book.proofs.lemmas.index.Pushed.{after-one, after-same, receipt-one}
 use Rattle.smq_book.proofs.index.appended_pdu.put_received.Goals as goal
-
-pub put_receipt-requires-clause-dir : goal.put_receipt-requires-clause-dir
-put_receipt-requires-clause-dir c = ap (λ (q : Place). q.dir) c.place_of.ensures
 
 pub returns-clause-held : goal.returns-clause-held
 returns-clause-held c =
@@ -33,12 +30,6 @@ returns-clause-held c =
     (receipt-one origin next receipt q r c.place_of.ensures refl (some ∙ c.in_ok-receipt.ensures))
     (after-one s g h (PutReceipt (q, r)) c.requires.held (ap (λ (q : Place). q.dir) c.place_of.ensures)
     (c.in_ok-put_receipt.ensures.held (traffic_held g) c.requires.held.traffic c.requires.held.held))
-
-pub returns-in_default-clause-came : goal.returns-in_default-clause-came
-returns-in_default-clause-came c = none-come c.args.index.now.groups c.args.index.now.groups refl
-
-pub returns-in_default-clause-touches : goal.returns-in_default-clause-touches
-returns-in_default-clause-touches c = λ full. omega arith
 
 pub returns-clause-came : goal.returns-clause-came
 returns-clause-came c =

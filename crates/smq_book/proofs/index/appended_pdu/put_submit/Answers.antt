@@ -1,4 +1,4 @@
-use Rattle.std.proofs.Common.{◌≡◌, [], ◌∷◌, Option, Some, None, refl, ap, ◌∙◌, rules, arith}
+use Rattle.std.proofs.Common.{◌≡◌, [], ◌∷◌, Option, Some, None, ap, ◌∙◌, rules, arith}
 use Rattle.std.specs.FinMap.{get}
 use Rattle.std.specs.Option.{option_map}
 use Rattle.std.specs.Arc.{arc_value}
@@ -9,14 +9,11 @@ use Rattle.smq_book.specs.index.Held.{Holding, held_now, traffic_held}
 use Rattle.smq_book.specs.index.Pushed.{origin_at, submit_moves}
 use Rattle.smq_book.specs.index.Touches.{members_at}
 use Rattle.smq_present.specs.join.Moves.{PutMessage}
-use Rattle.smq_book.proofs.lemmas.index.Comes.{message-comes, message-weighed, none-come}
+use Rattle.smq_book.proofs.lemmas.index.Comes.{message-comes, message-weighed}
 use Rattle.smq_book.proofs.lemmas.index.Followed.{unknown-before}
 use Rattle.smq_book.proofs.lemmas.index.Members.{submit-absent}
 use Rattle.smq_book.proofs.lemmas.index.Pushed.{after-one, after-same, submit-one}
 use Rattle.smq_book.proofs.index.appended_pdu.put_submit.Goals as goal
-
-pub put_message-requires-clause-dir : goal.put_message-requires-clause-dir
-put_message-requires-clause-dir c = ap (λ (q : Place). q.dir) c.place_of.ensures
 
 pub put_message-requires-clause-unknown : goal.put_message-requires-clause-unknown
 put_message-requires-clause-unknown c =
@@ -39,12 +36,6 @@ returns-clause-held c =
     (some ∙ c.in_ok-submit.ensures))
     (after-one s g h (PutMessage (q, m)) c.requires.held (ap (λ (q : Place). q.dir) c.place_of.ensures)
     (c.in_ok-put_message.ensures.held (traffic_held g) c.requires.held.traffic c.requires.held.held))
-
-pub returns-in_default-clause-came : goal.returns-in_default-clause-came
-returns-in_default-clause-came c = none-come c.args.index.now.groups c.args.index.now.groups refl
-
-pub returns-in_default-clause-touches : goal.returns-in_default-clause-touches
-returns-in_default-clause-touches c = λ full. omega arith
 
 pub returns-clause-came : goal.returns-clause-came
 returns-clause-came c =

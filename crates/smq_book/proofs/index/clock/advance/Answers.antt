@@ -1,4 +1,4 @@
-use Rattle.std.proofs.Common.{length, ap, refl, sym, ◌∙◌, arith}
+use Rattle.std.proofs.Common.{ap, refl, sym, ◌∙◌}
 use Rattle.std.specs.Prelude.{is_ok}
 use Rattle.std.proofs.lemmas.Bool.{false≢true}
 use Rattle.smq_present.specs.present.Settings.{with_clock}
@@ -36,11 +36,3 @@ returns-in_err-refresh_at-clause-none c = λ s windows from is none.
     ∙ ap (λ (h : Holding). places_ending s.clock c.args.clock h.ends) is.held
     ∙ none-ending s (traffic_held g) c.args.clock none in
     absurd (false≢true (ap is_ok (c.in_err-refresh_at.ensures.none (c.as_slice.ensures.value ∙ c.in_ok-places.ensures.value ∙ empty))))
-
-pub returns-clause-touches : goal.returns-clause-touches
-returns-clause-touches c = λ pending.
-    let walked = c.in_ok-places.ensures.touches pending.places_ends in
-    let many = ap length (c.as_slice.ensures.value ∙ c.in_ok-places.ensures.value) in
-    let all = ap length c.in_ok-places.ensures.value in
-    let same = c.ending_places.ensures.walked.pending in
-    omega (arith, walked, many, all, same, c.in_ok-refresh_at.ensures.touches)

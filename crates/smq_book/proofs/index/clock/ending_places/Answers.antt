@@ -1,14 +1,8 @@
 use Rattle.std.proofs.Common.{◌≡◌, List, [], ◌∷◌, ap, map, refl, ◌∙◌}
 use Rattle.std.proofs.lemmas.Bool.{false≢true}
 use Rattle.smq_book.specs.declared.index.end_at.EndAt.{EndAt}
-use Rattle.smq_book.proofs.lemmas.index.EndWalks.{end-beside, end-from, filled-between}
+use Rattle.smq_book.proofs.lemmas.index.EndWalks.{filled-between}
 use Rattle.smq_book.proofs.index.clock.ending_places.Goals as goal
-
-pub keys_in-requires-clause-from : goal.keys_in-requires-clause-from
-keys_in-requires-clause-from c = end-from c.args.from c.args.clock c.first_after-first.result c.first_after-first.ensures
-
-pub keys_in-requires-clause-beside : goal.keys_in-requires-clause-beside
-keys_in-requires-clause-beside c = end-beside c.args.from c.args.clock c.first_after-first.result c.first_after-first.ensures
 
 pub returns-clause-value : goal.returns-clause-value
 returns-clause-value c =

@@ -1,8 +1,7 @@
-use Rattle.std.proofs.Common.{◌≡◌, ◌≤◌, ◌∷◌, List, length, sym, ap, subst, ◌∙◌, rules, arith}
+use Rattle.std.proofs.Common.{◌≡◌, ◌≤◌, ◌∷◌, List, sym, ap, subst, ◌∙◌, arith}
 use Rattle.std.specs.List.{AllByRecursion, sum_by}
 use Rattle.std.specs.Prelude.{map}
 use Rattle.std.specs.Vec.Iter.{into_iter_items}
-use Rattle.std.proofs.lemmas.List.{nil_from_length}
 use Rattle.std.proofs.lemmas.List.Sums.{sum_by-cons}
 use Rattle.smq_kit.specs.declared.link_key.LinkKey.{LinkKey}
 use Rattle.smq_kit.specs.declared.place.Place.{Place}
@@ -19,15 +18,6 @@ use Rattle.smq_book.proofs.lemmas.index.FormCosts.{walks-more}
 use Rattle.smq_book.proofs.lemmas.index.LinkOut.{moves-more}
 use Rattle.smq_book.proofs.lemmas.index.Rises.{both-rise}
 use Rattle.smq_book.proofs.index.forms.put_link.Goals as goal
-
-pub put-requires-clause-stands : goal.put-requires-clause-stands
-put-requires-clause-stands c =
-    let stand = subst (AllByRecursion (λ (e : Place × Item). KeepsTraffic (put_of e))) c.in-Some.ensures.steps.0 c.loop-place.invariant.stand in stand.0
-
-pub put-requires-clause-new : goal.put-requires-clause-new
-put-requires-clause-new c =
-    let new = subst (λ (es : List (Place × Item)). AreNew (traffic_held (held_now c.loop-place.index)) (map put_of es)) c.in-Some.ensures.steps.0
-    c.loop-place.invariant.new in new.0
 
 pub loop-place-preserved : goal.loop-place-preserved
 loop-place-preserved c =
@@ -60,18 +50,3 @@ loop-place-preserved c =
           omega (arith, before, sums, walked, c.in_ok-put.ensures.touches);
       rises = both-rise c.args.index.now c.loop-place.index c.put.new.self c.loop-place.invariant.rises c.in_ok-put.ensures.rises;
     }
-
-pub returns-clause-held : goal.returns-clause-held
-returns-clause-held c =
-    let none : length (into_iter_items c.loop-place.place-iterator) ≡ 0 = search rules in
-    record {
-      held = c.loop-place.invariant.held;
-      traffic = ap (λ (es : List (Place × Item)). moved_by (traffic_held (held_now c.loop-place.index)) (map put_of es))
-          (sym (nil_from_length (into_iter_items c.loop-place.place-iterator) none))
-          ∙ c.loop-place.invariant.traffic;
-    }
-
-pub returns-clause-touches : goal.returns-clause-touches
-returns-clause-touches c =
-    let all = c.loop-place.invariant.touches c.loop-place.index.groups.members (λ k. omega arith) in
-    omega (arith, all)

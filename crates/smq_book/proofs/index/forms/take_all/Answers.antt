@@ -1,7 +1,6 @@
 use Rattle.std.proofs.Common.{◌≡◌, ◌+◌, ◌++◌, List, ◌∷◌, drop, get_or, sym, ap, ◌∙◌, arith}
-use Rattle.std.specs.List.{sum_by}
 use Rattle.std.specs.Prelude.{map}
-use Rattle.std.proofs.lemmas.List.{append-nil, append_assoc, at_drop_all, drop_more, take_all}
+use Rattle.std.proofs.lemmas.List.{append_assoc, drop_more}
 use Rattle.std.proofs.lemmas.List.Sums.{sum_by_more}
 use Rattle.smq_kit.specs.declared.place.Dir.TheVariants.{FromClient}
 use Rattle.smq_kit.specs.declared.place.Place.{Place}
@@ -48,15 +47,3 @@ loop-place-preserved c =
           omega (arith, more, less, c.loop-place.invariant.touches, c.in_ok-take_one.ensures.touches));
       rises = both-rise c.args.index.now c.loop-place.index c.take_one.new.index c.loop-place.invariant.rises c.in_ok-take_one.ensures.rises;
     }
-
-pub returns-clause-taken : goal.returns-clause-taken
-returns-clause-taken c =
-    sym (append-nil c.loop-place.taken.items)
-    ∙ sym (at_drop_all (λ (qs : List Place). c.loop-place.taken.items ++ found_in_turn (traffic_held (held_now c.loop-place.index)) qs)
-    c.args.places.now c.loop-place.place-index (omega arith))
-    ∙ c.loop-place.invariant.taken
-
-pub returns-clause-touches : goal.returns-clause-touches
-returns-clause-touches c =
-    let all = ap (sum_by (taken_load c.args.index.now.groups)) (take_all c.loop-place.place-index c.args.places.now (omega arith)) in
-    omega (arith, all, c.loop-place.invariant.touches)

@@ -1,6 +1,5 @@
 use Rattle.std.proofs.Common.{ap, ◌∙◌}
 use Rattle.smq_book.specs.index.Following.{with_note}
-use Rattle.smq_book.specs.index.Held.{with_listing}
 use Rattle.smq_book.proofs.lemmas.index.Newcomers.{noted-alone}
 use Rattle.smq_book.proofs.index.index.list_receipt.Goals as goal
 
@@ -11,7 +10,3 @@ returns-then-is_new-clause-notes c = λ alone.
     c.in_ok-note_in.ensures.notes
     ∙ ap (with_note n q) c.list_of-list.ensures
     ∙ noted-alone n q c.args.standing (alone (c.is_new.ensures c.if-is_new.true))
-
-pub returns-clause-notes : goal.returns-clause-notes
-returns-clause-notes c = λ alone.
-    c.in_ok-set_listing.ensures.notes ∙ ap (with_listing c.args.tally.now.notes c.args.place) c.list_of-list.ensures

@@ -3,7 +3,7 @@ use Rattle.smq_kit.specs.declared.place.Dir.TheVariants.{FromClient}
 use Rattle.smq_kit.specs.declared.place.Place.{Place}
 use Rattle.smq_book.specs.index.Held.{held_now}
 use Rattle.smq_book.specs.index.Recomputed.{refreshed}
-use Rattle.smq_book.proofs.lemmas.index.Recomputed.{refreshed-all, refreshed-next}
+use Rattle.smq_book.proofs.lemmas.index.Recomputed.{refreshed-next}
 use Rattle.smq_book.proofs.lemmas.index.Restated.{restates-all}
 use Rattle.smq_book.proofs.lemmas.index.Rises.{both-rise}
 use Rattle.smq_book.proofs.index.routes.refresh_at.Goals as goal
@@ -26,8 +26,3 @@ loop-place-preserved c = record {
   rises = both-rise c.args.index.now c.loop-place.index c.restate_at.new.self c.loop-place.invariant.rises
       c.in_ok-restate_at.ensures.rises;
 }
-
-pub returns-clause-held : goal.returns-clause-held
-returns-clause-held c = λ z t facts traffic routes windows clock may held.
-    refreshed-all z t facts c.args.places.now c.loop-place.place-index (held_now c.loop-place.index) (omega arith)
-    (c.loop-place.invariant.held z t facts traffic routes windows clock may held)

@@ -1,11 +1,10 @@
-use Rattle.std.proofs.Common.{◌≡◌, length, map, ap, refl, sym, ◌∙◌, arith}
-use Rattle.std.proofs.lemmas.List.{length-map}
+use Rattle.std.proofs.Common.{◌≡◌, map, ap, refl, sym, ◌∙◌}
 use Rattle.smq_book.specs.declared.index.due_at.DueAt.{DueAt}
 use Rattle.smq_present.specs.present.Settings.{window_in, with_windows}
 use Rattle.smq_present.specs.join.Facts.{facts_of}
 use Rattle.smq_book.specs.index.Due.{keys_on}
 use Rattle.smq_book.specs.index.Ends.{ends_by, ends_put, ends_taken}
-use Rattle.smq_book.specs.index.Held.{dues_in, ends_in, held_now, held_settled, traffic_held}
+use Rattle.smq_book.specs.index.Held.{dues_in, held_now, traffic_held}
 use Rattle.smq_book.proofs.lemmas.index.Ends.{ends-moved}
 use Rattle.smq_book.proofs.lemmas.index.Restated.{restates}
 use Rattle.smq_book.proofs.lemmas.index.Recomputed.{window-held}
@@ -31,23 +30,3 @@ returns-clause-held c = λ s routes clock is waited others same.
     (restates s t s.versions windows s.clock)
     ((λ i. record g { due = dues_in (c.due_on.ensures.walked.content i); ends = ends i })
     ∙ (λ i. record (is.held i) { ends = ends_by windows t.messages (facts_of s t) })))
-
-pub returns-clause-settled : goal.returns-clause-settled
-returns-clause-settled c =
-    c.refresh_at.ensures.settled
-    ∙ (λ i. record (held_settled c.args.index.now) {
-      due = dues_in (c.due_on.ensures.walked.settled i);
-      ends = ends_in ((c.put_ends.ensures.settled ∙ c.take_ends.ensures.settled) i);
-    })
-
-pub returns-clause-touches : goal.returns-clause-touches
-returns-clause-touches c = λ pending.
-    let walked = c.in_ok-keys.ensures.touches pending.places_due in
-    let told = length-map (keys_on c.args.link (dues_in c.args.index.now.due.content)) (λ (k : DueAt). k.place) in
-    let pushed = length-map c.in_ok-keys.keys.items (λ (k : DueAt). k.place) in
-    let same = c.due_on.ensures.walked.pending in
-    let all = ap length c.in_ok-keys.ensures.value in
-    let one = ap length c.as_slice.ensures.value in
-    let two = ap length c.as_slice-2.ensures.value in
-    let many = ap length (c.as_slice-4.ensures.value ∙ c.in_ok-places.ensures ∙ ap (map (λ (k : DueAt). k.place)) c.as_slice-3.ensures.value) in
-    omega (arith, walked, told, pushed, same, all, one, two, many, c.in_ok-take_ends.ensures.touches, c.in_ok-put_ends.ensures.touches, c.in_ok-refresh_at.ensures.touches)

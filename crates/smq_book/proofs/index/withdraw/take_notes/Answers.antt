@@ -1,26 +1,18 @@
-use Rattle.std.proofs.Common.{get_or, refl, ◌∙◌, arith}
+use Rattle.std.proofs.Common.{get_or, ◌∙◌, arith}
 use Rattle.smq_kit.specs.declared.place.Dir.TheVariants.{FromClient}
 use Rattle.smq_tally.specs.Lists.{listed}
 use Rattle.smq_tally.specs.declared.list.List.TheVariants.{Waiting}
 use Rattle.smq_tally.specs.declared.list.Listed.{Listed}
 use Rattle.smq_book.specs.index.Held.{held_now, traffic_held}
 use Rattle.smq_present.specs.join.Moves.{TakeNote}
-use Rattle.smq_book.proofs.lemmas.index.Pushed.{after-none, after-one}
-use Rattle.smq_book.proofs.lemmas.index.Taken.{all-notes, next-note, traffic-at}
-use Rattle.smq_book.proofs.lemmas.index.Rises.{both-rise, none-rise}
+use Rattle.smq_book.proofs.lemmas.index.Pushed.{after-one}
+use Rattle.smq_book.proofs.lemmas.index.Taken.{next-note, traffic-at}
+use Rattle.smq_book.proofs.lemmas.index.Rises.{both-rise}
 use Rattle.smq_book.proofs.index.withdraw.take_notes.Goals as goal
 
 -- the note that is read past the end of a list
 abbrev none : Listed
 none = listed Waiting (record { session = record { 0 = 0 }; dir = FromClient; offset = 0 })
-
-pub loop-note-init : goal.loop-note-init
-loop-note-init c = record {
-  held = λ s is. after-none s (held_now c.args.index.now) is;
-  settled = refl;
-  touches = omega arith;
-  rises = none-rise c.args.index.now;
-}
 
 pub loop-note-preserved : goal.loop-note-preserved
 loop-note-preserved c = record {
@@ -38,8 +30,3 @@ loop-note-preserved c = record {
   rises = both-rise c.args.index.now c.loop-note.index c.take_note.new.self c.loop-note.invariant.rises
       c.in_ok-take_note.ensures.rises;
 }
-
-pub returns-clause-held : goal.returns-clause-held
-returns-clause-held c = λ s is.
-    all-notes s (held_now c.args.index.now) c.args.notes.now c.loop-note.note-index (held_now c.loop-note.index) (omega arith)
-    (c.loop-note.invariant.held s is)

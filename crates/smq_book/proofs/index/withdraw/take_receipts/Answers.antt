@@ -1,6 +1,4 @@
-use Rattle.std.proofs.Common.{refl, ap, ◌∙◌, arith}
-use Rattle.std.specs.List.{sum_by}
-use Rattle.std.proofs.lemmas.List.{take_all}
+use Rattle.std.proofs.Common.{ap, ◌∙◌, arith}
 use Rattle.std.proofs.lemmas.List.Sums.{sum_by_more}
 use Rattle.smq_kit.specs.declared.place.Dir.TheVariants.{FromCentre}
 use Rattle.smq_book.specs.index.Held.{held_now}
@@ -8,23 +6,10 @@ use Rattle.smq_book.specs.index.Taken.{receipt_take}
 use Rattle.smq_book.specs.index.Touches.{receipt_load}
 use Rattle.smq_present.specs.pairing.Traffic.{place_of}
 use Rattle.smq_present.specs.within.Pairs.{from_session}
-use Rattle.smq_book.proofs.lemmas.index.Pushed.{after-none}
-use Rattle.smq_book.proofs.lemmas.index.Taken.{all-taken, next-taken}
-use Rattle.smq_book.proofs.lemmas.index.Weights.{both-go, receipt-lighter, none-go}
-use Rattle.smq_book.proofs.lemmas.index.Rises.{both-rise, none-rise}
+use Rattle.smq_book.proofs.lemmas.index.Taken.{next-taken}
+use Rattle.smq_book.proofs.lemmas.index.Weights.{both-go, receipt-lighter}
+use Rattle.smq_book.proofs.lemmas.index.Rises.{both-rise}
 use Rattle.smq_book.proofs.index.withdraw.take_receipts.Goals as goal
-
-pub loop-pdu-init : goal.loop-pdu-init
-loop-pdu-init c = record {
-  held = after-none c.args.settings.now (held_now c.args.index.now) c.requires;
-  settled = refl;
-  went = none-go c.args.index.now.groups c.args.index.now.groups refl;
-  touches = omega arith;
-  rises = none-rise c.args.index.now;
-}
-
-pub take_received-requires : goal.take_received-requires
-take_received-requires c = c.loop-pdu.invariant.held.held
 
 pub loop-pdu-preserved : goal.loop-pdu-preserved
 loop-pdu-preserved c = record {
@@ -43,14 +28,3 @@ loop-pdu-preserved c = record {
   rises = both-rise c.args.index.now c.loop-pdu.index c.take_received.new.index c.loop-pdu.invariant.rises
       c.in_ok-take_received.ensures.rises;
 }
-
-pub returns-clause-held : goal.returns-clause-held
-returns-clause-held c =
-    all-taken c.args.settings.now (held_now c.args.index.now) (receipt_take (from_session c.args.number)) c.args.centre.now
-    c.loop-pdu.pdu-index (held_now c.loop-pdu.index) (omega arith) c.loop-pdu.invariant.held
-
-pub returns-clause-touches : goal.returns-clause-touches
-returns-clause-touches c =
-    let all = ap (sum_by (receipt_load c.args.index.now.groups (from_session c.args.number)))
-    (take_all c.loop-pdu.pdu-index c.args.centre.now (omega arith)) in
-    omega (arith, all, c.loop-pdu.invariant.touches)

@@ -4,33 +4,21 @@ use Rattle.std.proofs.lemmas.List.Sums.{sum_by-le-sum_by}
 use Rattle.smq_kit.specs.declared.place.Dir.TheVariants.{FromCentre}
 use Rattle.smq_tally.specs.declared.list.Listed.{Listed}
 use Rattle.smq_present.specs.join.Listings.{AllTraffic}
-use Rattle.smq_present.specs.present.Settings.{SettingsValue}
 use Rattle.smq_present.specs.pairing.Traffic.{place_of, session_notes}
 use Rattle.smq_present.specs.within.Pairs.{from_session}
 use Rattle.smq_book.specs.index.Touches.{message_load, receipt_load}
-use Rattle.smq_book.specs.index.Held.{IsHeld, held_now}
+use Rattle.smq_book.specs.index.Held.{held_now}
 use Rattle.smq_book.proofs.lemmas.index.Pushed.{after-both}
 use Rattle.smq_present.proofs.lemmas.join.SessionLists.{session-lists}
 use Rattle.smq_book.proofs.lemmas.index.Taken.{withdrawn-after}
 use Rattle.smq_book.proofs.lemmas.index.Weights.{receipt-lighter}
 use Rattle.smq_book.proofs.index.withdraw.withdraw.Goals as goal
 
-pub take_messages-requires : goal.take_messages-requires
-take_messages-requires c = subst (λ (s : SettingsValue). IsHeld s (held_now c.args.index.now)) (sym c.settings-settings.ensures) c.requires.held
-
-pub take_receipts-requires : goal.take_receipts-requires
-take_receipts-requires c = c.in_ok-take_messages.ensures.held.held
-
 pub take_notes-requires : goal.take_notes-requires
 take_notes-requires c =
     let noted : c.as_slice.result.now ≡ session_notes (c.args.number.0, c.args.session.now) =
     c.as_slice.ensures.value ∙ c.in_ok-notes.ensures in
     subst AllTraffic (sym noted) (session-lists (c.args.number.0, c.args.session.now))
-
-pub returns-clause-held : goal.returns-clause-held
-returns-clause-held c =
-    let last = c.in_ok-take_notes.ensures.held c.settings-settings.result.now c.in_ok-take_receipts.ensures.held.held in
-    subst (λ (s : SettingsValue). IsHeld s (held_now c.take_notes.new.index)) c.settings-settings.ensures last.held
 
 pub returns-clause-traffic : goal.returns-clause-traffic
 returns-clause-traffic c =

@@ -91,9 +91,6 @@ returns-clause-vacant c = λ k.
     subst (λ (v : GroupsValue). vacancies v k ≤ vacancies c.args.self.now.groups k) (sym c.follow.ensures.said.groups)
     (c.in_ok-changes.ensures.vacant k)
 
-pub returns-in_default-clause-weighs : goal.returns-in_default-clause-weighs
-returns-in_default-clause-weighs c = omega (arith, c.in_ok-recompute_at.ensures.touches)
-
 pub returns-clause-weighs : goal.returns-clause-weighs
 returns-clause-weighs c =
     let i = c.args.self.now in

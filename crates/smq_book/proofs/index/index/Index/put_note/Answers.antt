@@ -1,10 +1,9 @@
-use Rattle.std.proofs.Common.{ap, sym, ◌∙◌, arith}
+use Rattle.std.proofs.Common.{ap, sym, ◌∙◌}
 use Rattle.std.specs.FinMap.{insert}
 use Rattle.smq_tally.specs.Lists.{listed}
 use Rattle.smq_tally.specs.Tally.{TallyValue}
 use Rattle.smq_book.specs.index.Held.{Holding}
 use Rattle.smq_book.proofs.lemmas.index.Moves.{note-put}
-use Rattle.smq_book.specs.index.Touches.{tally_cost}
 use Rattle.smq_book.proofs.index.index.Index.put_note.Goals as goal
 
 pub returns-clause-held : goal.returns-clause-held
@@ -21,8 +20,3 @@ returns-clause-held c = λ s t held.
       ends = (held i).ends;
       numbers = (held i).numbers;
     }
-
-pub returns-clause-touches : goal.returns-clause-touches
-returns-clause-touches c =
-    let cost = ap tally_cost c.in_ok-note.ensures.ok in
-    omega (arith, cost)

@@ -2,7 +2,6 @@ use Rattle.std.proofs.Common.{subst, sym, ap, ◌∙◌}
 use Rattle.smq_book.specs.index.Anew.{stored_in}
 use Rattle.smq_book.specs.index.Following.{IsInNoOther}
 use Rattle.smq_book.specs.index.Held.{with_listing}
-use Rattle.smq_book.proofs.lemmas.index.AreDue.{due-known}
 use Rattle.smq_book.proofs.lemmas.index.Following.{fact-follows, fact-idle, follow-still, listing-follows, listing-idle, listing-told, said-by}
 use Rattle.smq_book.proofs.index.index.Index.recompute_at.Goals as goal
 
@@ -36,6 +35,3 @@ returns-in_ok-list_receipt-in-FromCentre-clause-anew c = λ told may.
       follows = follow-still s c.args.new _ _ (said-by i c.list_receipt.new.tally c.list_receipt.ensures.settled) c.list_receipt.ensures.facts notes
           (listing-follows s (stored_in i) g i.tally.facts i.tally.notes c.args.new may q c.in-FromCentre.is);
     }
-
-pub returns-in_ok-list_receipt-in-FromCentre-clause-due : goal.returns-in_ok-list_receipt-in-FromCentre-clause-due
-returns-in_ok-list_receipt-in-FromCentre-clause-due c = λ same. due-known same c.list_receipt.ensures.facts

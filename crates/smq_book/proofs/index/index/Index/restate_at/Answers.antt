@@ -17,11 +17,6 @@ use Rattle.smq_book.proofs.lemmas.index.Stored.{stored-at}
 use Rattle.smq_present.proofs.lemmas.join.MoveLemmas.{fact-at}
 use Rattle.smq_book.proofs.index.index.Index.restate_at.Goals as goal
 
-pub replace-requires : goal.replace-requires
-replace-requires c = record {
-  before = c.look_up-there.ensures.value ∙ sym (λ j. get (c.look_up-there.ensures.held j).facts (c.restated-fact.ensures j).place);
-}
-
 pub returns-in_default-clause-held : goal.returns-in_default-clause-held
 returns-in_default-clause-held c = λ z t facts traffic versions windows clock may held.
     let i = c.args.self.now in

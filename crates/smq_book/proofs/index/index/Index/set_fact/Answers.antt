@@ -16,11 +16,6 @@ use Rattle.smq_book.proofs.lemmas.index.AreDue.{due-absent, due-set, due-stays}
 use Rattle.smq_book.proofs.lemmas.index.Stored.{fact-absent, stored-at}
 use Rattle.smq_book.proofs.index.index.Index.set_fact.Goals as goal
 
-pub replace-requires : goal.replace-requires
-replace-requires c = record {
-  before = c.look_up-there.ensures.value ∙ sym (λ j. get (c.look_up-there.ensures.held j).facts (c.fact_at-fact.ensures.place j));
-}
-
 pub returns-in_default-clause-facts : goal.returns-in_default-clause-facts
 returns-in_default-clause-facts c = λ new told may.
     let i = c.args.self.now in

@@ -1,26 +1,14 @@
-use Rattle.std.proofs.Common.{◌≡◌, [], ◌∷◌, List, sym, ap, ◌∙◌, arith}
+use Rattle.std.proofs.Common.{◌≡◌, [], ◌∷◌, List, sym, ap, ◌∙◌}
 use Rattle.smq_kit.specs.declared.place.Dir.{Dir}
 use Rattle.smq_group.specs.Groups.{without_receipt, without_submit}
 use Rattle.smq_group.specs.Matching.{Grouping}
 use Rattle.smq_book.specs.index.Held.{Holding, held_now, traffic_held}
 use Rattle.smq_book.specs.index.LinkOut.{take_at, take_in}
-use Rattle.smq_book.specs.index.Touches.{key_in, taken_of}
 use Rattle.smq_present.specs.join.Moves.{Move, TakeMessage, TakeReceipt}
-use Rattle.smq_book.proofs.lemmas.index.Followed.{are-held}
 use Rattle.smq_book.proofs.lemmas.index.Members.{members-taken, received-taken}
 use Rattle.smq_book.proofs.lemmas.index.Pushed.{after-one, after-same}
 use Rattle.smq_book.proofs.lemmas.index.Weights.{receipt-goes, submit-goes}
 use Rattle.smq_book.proofs.index.index.Index.take.Goals as goal
-
-pub take_message-requires : goal.take_message-requires
-take_message-requires c = record {
-  are = are-held c.args.settings.now (traffic_held (held_now c.args.self.now)) c.args.self.now c.requires.traffic c.requires.held;
-}
-
-pub take_receipt-requires : goal.take_receipt-requires
-take_receipt-requires c = record {
-  are = are-held c.args.settings.now (traffic_held (held_now c.args.self.now)) c.args.self.now c.requires.traffic c.requires.held;
-}
 
 pub returns-in_ok-take_message-in-FromClient-clause-held : goal.returns-in_ok-take_message-in-FromClient-clause-held
 returns-in_ok-take_message-in-FromClient-clause-held c =
@@ -43,12 +31,6 @@ returns-in_ok-take_message-in-FromClient-clause-went c =
     ∙ ap (λ (x : Grouping). without_submit x q) (sym (ap (λ (h : Holding). h.members) c.requires.held)) in
     submit-goes c.args.self.now.groups c.take_message.new.self.groups q is c.in_ok-take_message-in-FromClient.ensures.vacant
 
-pub returns-in_ok-take_message-in-FromClient-clause-touches : goal.returns-in_ok-take_message-in-FromClient-clause-touches
-returns-in_ok-take_message-in-FromClient-clause-touches c =
-    let g = c.args.self.now.groups in
-    let key = ap (λ (d : Dir). taken_of g (key_in d g.members c.args.place)) c.in-FromClient.is in
-    omega (arith, key, c.in_ok-take_message-in-FromClient.ensures.weighs)
-
 pub returns-in_ok-take_receipt-in-FromCentre-clause-held : goal.returns-in_ok-take_receipt-in-FromCentre-clause-held
 returns-in_ok-take_receipt-in-FromCentre-clause-held c =
     let s = c.args.settings.now in
@@ -69,9 +51,3 @@ returns-in_ok-take_receipt-in-FromCentre-clause-went c =
     ∙ received-taken s q t
     ∙ ap (λ (x : Grouping). without_receipt x q) (sym (ap (λ (h : Holding). h.members) c.requires.held)) in
     receipt-goes c.args.self.now.groups c.take_receipt.new.self.groups q is c.in_ok-take_receipt-in-FromCentre.ensures.vacant
-
-pub returns-in_ok-take_receipt-in-FromCentre-clause-touches : goal.returns-in_ok-take_receipt-in-FromCentre-clause-touches
-returns-in_ok-take_receipt-in-FromCentre-clause-touches c =
-    let g = c.args.self.now.groups in
-    let key = ap (λ (d : Dir). taken_of g (key_in d g.members c.args.place)) c.in-FromCentre.is in
-    omega (arith, key, c.in_ok-take_receipt-in-FromCentre.ensures.weighs)

@@ -142,9 +142,6 @@ returns-clause-vacant c = λ k.
     let same = ap (λ (v : GroupsValue). vacancies v k) c.follow.ensures.said.groups in
     omega (arith, taken, same, c.in_ok-changes.ensures.vacant k)
 
-pub returns-in_default-key-clause-weighs : goal.returns-in_default-key-clause-weighs
-returns-in_default-key-clause-weighs c = omega (arith, c.take_number.ensures.touches, c.in_ok-set_due.ensures.touches, c.in_ok-set_end.ensures.touches, c.in_ok-take_fact.ensures.touches)
-
 pub returns-clause-weighs : goal.returns-clause-weighs
 returns-clause-weighs c =
     let i = c.args.self.now in
