@@ -1,5 +1,5 @@
 -- The commands of lines: a message is a submit_sm or a data_sm, and a delivery receipt a deliver_sm or a data_sm.
-use Rattle.std.proofs.Common.{◌≡◌, ◌+◌, ◌⊎◌, ℕ, List, [], ◌∷◌, drop, Option, Some, None, refl, sym, ap, ◌∙◌, subst}
+use Rattle.std.proofs.Common.{◌≡◌, ◌+◌, ◌⊎◌, ℕ, List, [], ◌∷◌, drop, Option, Some, None, refl, ap, ◌∙◌, subst}
 use Rattle.std.specs.Prelude.{◌==◌, Contains, map}
 use Rattle.std.specs.FinMap.{entries}
 use Rattle.std.specs.List.{enumerate_from}

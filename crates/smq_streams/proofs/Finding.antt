@@ -1,5 +1,5 @@
 -- The search, octet by octet.
-use Rattle.std.proofs.Common.{◌≡◌, ℕ, zero, suc, ◌+◌, ◌-◌, ◌<◌, ◌≤◌, ◌⊎◌, inl, inr, Bool, true, false, List, [], ◌∷◌, ◌++◌, length, take, drop, refl, sym, ap, subst, ◌∙◌, arith, length-drop}
+use Rattle.std.proofs.Common.{◌≡◌, ℕ, zero, suc, ◌+◌, ◌-◌, ◌<◌, ◌≤◌, ◌⊎◌, inl, inr, Bool, List, [], ◌∷◌, ◌++◌, length, drop, refl, sym, ap, subst, ◌∙◌, arith}
 use Rattle.std.specs.Prelude.{◌^◌, min, slice_get, Option, Some, None}
 use Rattle.std.specs.Option.{option_map}
 use Rattle.std.proofs.lemmas.Bool.{cases_lt}
@@ -7,15 +7,11 @@ use Rattle.std.proofs.lemmas.List.{drop-append-le}
 use Rattle.smq_reassembly.specs.Octet.{Octet}
 use Rattle.smq_reassembly.specs.Moment.{values}
 use Rattle.smq_streams.specs.declared.headers.Sight.TheVariants.{Other}
-use Rattle.smq_streams.specs.Sight.{IsSeen, IsUnclear}
+use Rattle.smq_streams.specs.Sight.{IsSeen}
 use Rattle.smq_streams.specs.Search.{BeginNone, IsSeenAt, Search, Shows, beyond, counted, is_begin}
-use Rattle.smq_streams.proofs.Octets.{begin_is, drop-drop, get-drop, get-front, values-append, values-drop, values-length, within}
+use Rattle.smq_streams.proofs.Octets.{begin_is, drop-drop, get-drop, get-front, values-append, values-drop, within}
 use Rattle.smq_streams.proofs.Marks.{same_search}
 use Rattle.smq_streams.proofs.Sights.{not-later, seen-drop}
-
-pub begin-none : (is_end : Bool) (octets : List Octet) → BeginNone is_end octets 0
-begin-none is_end octets =
-    record { within = omega arith; none = λ m l. absurd (omega arith); never = λ e m l. absurd (omega arith) }
 
 -- the octet at a place, seen at the front of those from there on
 front : (octets : List Octet) (n : ℕ) (b : Bool) → is_begin (slice_get octets n) ≡ b → IsSeenAt octets n → IsSeen (values (drop n octets)) 0 b

@@ -6,7 +6,7 @@ use Rattle.smq_streams.specs.declared.framer.Framer.TheVariants.{Length, Left, B
 use Rattle.smq_streams.specs.Header.{IsLength, number_at}
 use Rattle.smq_streams.specs.Framing.{Cuts, EndsBefore, IsFramed, IsNextPdu, IsPdu, IsUnderWay, number_with}
 use Rattle.std.specs.Prelude.{Option, Some, None, MatchOption}
-use Rattle.std.proofs.lemmas.List.{take-append-drop, take_all}
+use Rattle.std.proofs.lemmas.List.{take-append-drop}
 use Rattle.std.proofs.Common.{length-take}
 
 -- ---- numbers
@@ -161,19 +161,3 @@ pub broken-next : (rest octets : List ℕ) (i : ℕ) → 0 < length rest → IsU
 broken-next rest octets i some w =
     λ place e.
     let end = ends rest octets place some e in absurd (w.1 (subst IsLength (stays rest octets i w.0) end.1))
-
--- where the octets end before it there is none
-pub none-next : (rest octets : List ℕ) (framer : Framer) (i : ℕ) → 0 < length rest → length octets ≤ i
-    → IsUnderWay (rest ++ take i octets) framer → IsNextPdu rest octets None
-none-next rest octets (Length count number) i some all w =
-    λ place e.
-    let end = ends rest octets place some e in
-    let same : length (rest ++ octets) ≡ length (rest ++ take i octets) = ap (λ (o : List ℕ). length (rest ++ o)) (sym (take_all i octets all)) in
-    absurd (omega (arith, end.0, same, w.0, w.1))
-none-next rest octets (Left left) i some all w =
-    λ place e.
-    let end = ends rest octets place some e in
-    let same = stays rest octets i w.0 in
-    let whole : length (rest ++ take i octets) ≡ length (rest ++ octets) = ap (λ (o : List ℕ). length (rest ++ o)) (take_all i octets all) in
-    omega (arith, end.2, same, w.2, length-append rest octets, whole)
-none-next rest octets Broken i some all w = broken-next rest octets i some w

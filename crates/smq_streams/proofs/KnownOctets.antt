@@ -1,11 +1,9 @@
 -- What the definitions say of known numbers and octets.
-use Rattle.std.proofs.Common.{◌≡◌, ℕ, zero, suc, ◌+◌, ◌<◌, ◌≤◌, List, [], ◌∷◌, ◌++◌, length, take, refl, subst, true, false, arith, inl, inr, lit<, lit≤}
+use Rattle.std.proofs.Common.{◌≡◌, ℕ, ◌+◌, ◌<◌, ◌≤◌, List, [], ◌∷◌, ◌++◌, length, refl, subst, true, false, arith, inl, inr, lit<, lit≤}
 use Rattle.std.proofs.lemmas.Bool.{cases_lt}
 use Rattle.std.specs.Prelude.{◌==◌}
-use Rattle.smq_streams.specs.Command.{IsCommand}
-use Rattle.smq_streams.specs.Header.{AreHeader, IsHeaderAt, IsPartAt, MayBeHeaderAt, number_at}
-use Rattle.smq_streams.specs.Sight.{IsFirstPdu, IsSeen, IsUnclear}
-use Rattle.smq_streams.specs.Framing.{EndsBefore, IsFramed}
+use Rattle.smq_streams.specs.Header.{AreHeader, IsHeaderAt, IsPartAt, number_at}
+use Rattle.smq_streams.specs.Sight.{IsSeen}
 use Rattle.smq_streams.specs.Known.{KnownCommands, KnownHeaders, KnownSights, KnownFrames, enquire_link, request, response}
 
 pub known_commands : KnownCommands

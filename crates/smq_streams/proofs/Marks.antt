@@ -1,5 +1,5 @@
 -- Octets by their marks.
-use Rattle.std.proofs.Common.{◌≡◌, ℕ, zero, suc, ◌+◌, ◌-◌, ◌<◌, ◌≤◌, Bool, true, false, List, [], ◌∷◌, ◌++◌, length, take, drop, refl, sym, ap, subst, ◌∙◌, append_assoc, append-nil, arith, length-append, length-take, length-drop}
+use Rattle.std.proofs.Common.{◌≡◌, ℕ, zero, suc, ◌+◌, ◌-◌, ◌<◌, ◌≤◌, Bool, false, List, [], ◌∷◌, ◌++◌, length, take, drop, refl, sym, ap, subst, ◌∙◌, append_assoc, append-nil, arith, length-append, length-take, length-drop}
 use Rattle.std.proofs.lemmas.List.{take-append-drop, drop-append-le, take-append-le, take_all}
 use Rattle.smq_reassembly.specs.declared.packet.Packet.{Packet}
 use Rattle.smq_reassembly.specs.Octet.{Octet, octets_of}
@@ -7,8 +7,7 @@ use Rattle.smq_reassembly.specs.Moment.{values}
 use Rattle.smq_streams.specs.declared.seeker.Mark.{Mark}
 use Rattle.std.specs.Prelude.{Option, Some, None}
 use Rattle.std.specs.Option.{option_to_list}
-use Rattle.smq_streams.specs.declared.given.Given.{Given}
-use Rattle.smq_streams.specs.Search.{Search, place_with}
+use Rattle.smq_streams.specs.Search.{Search}
 use Rattle.smq_streams.specs.within.Marks.{AreMarked, IsKept, marks_of, octets_by}
 use Rattle.smq_streams.proofs.Octets.{drop-drop, length-octets, values-octets, values-append}
 
@@ -33,22 +32,12 @@ length-by (m ∷ ms) os h =
       h.1,
     )
 
--- no octets have no marks
-pub no-marks : (ms : List Mark) → AreMarked ms [] → ms ≡ []
-no-marks [] h = refl
-no-marks (m ∷ ms) h = absurd (omega (arith, h.0, h.1))
-
 -- the first octet is passed over
 pub passes : (p : Packet) (b : Bool) (left less : ℕ) (ms : List Mark) (os : List ℕ) → left ≡ suc less → left ≤ length os
     → octets_of p false (take less (drop 1 os)) ++ octets_by ms (drop less (drop 1 os))
     ≡ drop 1 (octets_of p b (take left os) ++ octets_by ms (drop left os))
 passes p b left less ms [] e l = absurd (omega arith)
 passes p b left less ms (o ∷ os) e l = rw e refl
-
--- the first mark is taken out with its octets
-pub takes_first : (p : Packet) (b : Bool) (k : ℕ) (ms : List Mark) (os : List ℕ)
-    → octets_by (record { packet = p; begins = b; left = k } ∷ ms) os ≡ octets_of p b (take k os) ++ octets_by ms (drop k os)
-takes_first p b k ms os = refl
 
 -- behind all octets there is none
 all_gone : (k : ℕ) (os : List ℕ) → length os ≤ k → drop k os ≡ []
@@ -95,11 +84,6 @@ empty [] os h e = refl
 empty (m ∷ ms) os h e =
     absurd (omega (arith, length-by (m ∷ ms) os h, ap (λ (x : List Octet). length x) e, h.0, h.1))
 
-pub some_left : (first : Option Mark) (m : Mark) (others : List Mark) (os : List ℕ) → first ≡ Some m
-    → AreMarked (marks_of first others) os → octets_by (marks_of first others) os ≡ [] → ⊥
-some_left None m others os e h f = absurd (cc)
-some_left (Some n) m others os e h f = let none : n ∷ others ≡ [] = empty (n ∷ others) os h f in cc
-
 pub first_left : (first : Option Mark) (m : Mark) (others : List Mark) (os : List ℕ) → first ≡ Some m
     → AreMarked (marks_of first others) os → 0 < m.left
 first_left None m others os e h = absurd (cc)
@@ -111,10 +95,6 @@ pub none_left : (first : Option Mark) (others : List Mark) (os : List ℕ) → f
     → octets_by (marks_of first others) os ≡ []
 none_left None others os e f = rw f refl
 none_left (Some m) others os e f = absurd (cc)
-
-pub no_first : (first : Option Mark) (others : List Mark) → marks_of first others ≡ [] → first ≡ None
-no_first None others h = refl
-no_first (Some m) others h = absurd (cc)
 
 -- where no octets are left nothing is kept
 pub kept-none : (items : List ℕ) (looked : ℕ) (first : Option Mark) (others : List Mark) → IsKept items looked first others
@@ -166,10 +146,3 @@ by-push items new looked None others m some k e = absurd (some refl)
 by-push items new looked (Some n) others m some k e =
     ap (λ (x : List ℕ). octets_by (n ∷ (others ++ m ∷ [])) x) (drop-append-le looked items new k.within)
     ∙ by-more (n ∷ others) m (drop looked items) new k.marked e
-
-pub place-first : (g : Given) (os : List Octet) (p : ℕ) → os ≡ [] → place_with g os p ≡ g.place
-place-first g os p e = rw e refl
-
-pub place-later : (g : Given) (os : List Octet) (p : ℕ) → (os ≡ [] → ⊥) → place_with g os p ≡ p
-place-later g [] p h = absurd (h refl)
-place-later g (o ∷ os) p h = refl

@@ -1,8 +1,8 @@
 -- Octets of packets, their values and their places.
-use Rattle.std.proofs.Common.{◌≡◌, ℕ, zero, suc, ◌+◌, ◌-◌, ◌<◌, ◌≤◌, Bool, true, false, List, [], ◌∷◌, ◌++◌, length, take, drop, refl, sym, ap, ◌∙◌, arith}
-use Rattle.std.specs.Prelude.{map, slice_get, Option, Some, None}
+use Rattle.std.proofs.Common.{◌≡◌, ℕ, zero, suc, ◌+◌, ◌-◌, ◌<◌, ◌≤◌, Bool, false, List, [], ◌∷◌, ◌++◌, length, drop, refl, sym, ap, ◌∙◌, arith}
+use Rattle.std.specs.Prelude.{slice_get, Option, Some, None}
 use Rattle.std.specs.Option.{option_map}
-use Rattle.std.proofs.lemmas.List.{drop-map, map-append, length-map}
+use Rattle.std.proofs.lemmas.List.{drop-map, map-append}
 use Rattle.smq_reassembly.specs.declared.packet.Packet.{Packet}
 use Rattle.smq_reassembly.specs.Octet.{Octet, octets_of}
 use Rattle.smq_reassembly.specs.Moment.{values}
@@ -46,9 +46,6 @@ values-drop n os = sym (drop-map (λ (o : Octet). o.value) n os)
 
 pub values-append : (a b : List Octet) → values (a ++ b) ≡ values a ++ values b
 values-append a b = map-append (λ (o : Octet). o.value) a b
-
-pub values-length : (os : List Octet) → length (values os) ≡ length os
-values-length os = length-map os (λ (o : Octet). o.value)
 
 -- the flag of an octet that is there
 pub begin_is : (o : Option Octet) (b : Bool) → option_map (λ (x : Octet). x.begins) o ≡ Some b → is_begin o ≡ b

@@ -5,7 +5,7 @@ use Rattle.std.proofs.lemmas.List.{take_at, drop_at}
 use Rattle.smq_streams.specs.declared.framer.Framer.{Framer}
 use Rattle.smq_streams.specs.declared.framer.Framer.TheVariants.{Length, Left, Broken}
 use Rattle.smq_streams.specs.Header.{IsLength, number_at}
-use Rattle.smq_streams.specs.Framing.{IsFramed, IsOneFramer, IsPdu, IsUnderWay, number_with}
+use Rattle.smq_streams.specs.Framing.{IsOneFramer, IsPdu, IsUnderWay}
 use Rattle.smq_streams.proofs.Framing.{number-front}
 
 same_rest : (rest : List ℕ) (framer other : Framer) → IsUnderWay rest framer → IsUnderWay rest other → framer ≡ other

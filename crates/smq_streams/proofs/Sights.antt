@@ -1,8 +1,8 @@
 -- What is seen among octets, as others are passed over or follow.
-use Rattle.std.proofs.Common.{◌≡◌, ℕ, zero, suc, ◌+◌, ◌-◌, ◌<◌, ◌≤◌, ◌⊎◌, inl, inr, Bool, true, false, List, [], ◌∷◌, ◌++◌, length, take, drop, refl, sym, ap, subst, ◌∙◌, arith, length-append, length-drop}
+use Rattle.std.proofs.Common.{◌≡◌, ℕ, ◌+◌, ◌-◌, ◌<◌, ◌≤◌, ◌⊎◌, inl, inr, Bool, true, false, List, [], ◌∷◌, ◌++◌, length, drop, refl, sym, ap, subst, ◌∙◌, arith, length-append, length-drop}
 use Rattle.std.proofs.lemmas.Bool.{cases_lt}
 use Rattle.std.proofs.lemmas.List.{drop-append-le}
-use Rattle.smq_streams.specs.Header.{AreHeader, IsHeaderAt, IsPartAt, MayBeHeaderAt, number_at}
+use Rattle.smq_streams.specs.Header.{AreHeader, IsHeaderAt, IsPartAt, number_at}
 use Rattle.smq_streams.specs.Sight.{IsSeen, IsUnclear, behind}
 use Rattle.smq_streams.proofs.Framing.{number-front}
 use Rattle.smq_streams.proofs.Octets.{drop-drop}

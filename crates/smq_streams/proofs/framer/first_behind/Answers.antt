@@ -1,8 +1,8 @@
-use Rattle.std.proofs.Common.{◌≡◌, ◌<◌, ◌++◌, ℕ, [], List, arith, subst, take, length}
+use Rattle.std.proofs.Common.{◌≡◌, ◌<◌, ◌++◌, ℕ, [], arith, subst, take, length}
 use Rattle.smq_streams.specs.declared.framer.Framer.{Framer}
 use Rattle.smq_streams.specs.declared.framer.Framer.TheVariants.{Left, Broken}
 use Rattle.smq_streams.specs.Framing.{IsUnderWay}
-use Rattle.smq_streams.proofs.Framing.{left-next, broken-next, none-next}
+use Rattle.smq_streams.proofs.Framing.{left-next, broken-next}
 use Rattle.smq_streams.proofs.framer.first_behind.Goals as goal
 
 pub returns-in-Left : goal.returns-in-Left

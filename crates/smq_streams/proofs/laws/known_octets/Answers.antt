@@ -1,8 +1,5 @@
-use Rattle.smq_streams.proofs.KnownOctets.{known_commands, known_headers, known_sights, known_frames}
+use Rattle.smq_streams.proofs.KnownOctets.{known_headers, known_sights, known_frames}
 use Rattle.smq_streams.proofs.laws.known_octets.Goals as goal
-
-pub returns-clause-commands : goal.returns-clause-commands
-returns-clause-commands c = known_commands
 
 pub returns-clause-headers : goal.returns-clause-headers
 returns-clause-headers c = known_headers

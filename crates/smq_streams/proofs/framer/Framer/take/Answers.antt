@@ -1,8 +1,8 @@
-use Rattle.std.proofs.Common.{◌≡◌, ◌+◌, ◌-◌, ◌++◌, ◌≤◌, ℕ, length, take, arith, length-take, subst, List, sym, refl}
+use Rattle.std.proofs.Common.{◌≡◌, ◌+◌, ◌-◌, ◌++◌, ◌≤◌, ℕ, length, take, arith, length-take, subst, List, sym}
 use Rattle.std.proofs.lemmas.List.{take_all}
 use Rattle.smq_streams.specs.declared.framer.Framer.{Framer}
 use Rattle.smq_streams.specs.declared.framer.Framer.TheVariants.{Broken, Left}
-use Rattle.smq_streams.specs.Framing.{IsFramed, IsUnderWay}
+use Rattle.smq_streams.specs.Framing.{IsFramed}
 use Rattle.smq_streams.proofs.Framing.{framed-more, broken-more, left-more, framed-end}
 use Rattle.smq_streams.proofs.framer.Framer.take.Goals as goal
 

@@ -3,7 +3,6 @@ use Rattle.std.proofs.lemmas.Bool.Decides.{nat_tests}
 use Rattle.std.specs.Prelude.{Option, None}
 use Rattle.std.specs.Option.{is_some}
 use Rattle.smq_streams.specs.declared.seeker.Mark.{Mark}
-use Rattle.smq_streams.specs.within.Marks.{IsKept}
 use Rattle.smq_streams.proofs.Marks.{by-push, kept-more, same_search}
 use Rattle.smq_streams.proofs.seeker.Seeker.append.Goals.{After-push_back_reserved}
 use Rattle.smq_streams.proofs.seeker.Seeker.append.Goals as goal

@@ -1,6 +1,5 @@
-use Rattle.std.proofs.Common.{◌≡◌, ◌∙◌, [], List, ℕ, ap, sym, subst, refl}
+use Rattle.std.proofs.Common.{◌≡◌, ◌∙◌, [], ℕ, sym, subst, refl}
 use Rattle.smq_streams.specs.Search.{Search}
-use Rattle.smq_streams.specs.within.Marks.{IsKept, octets_by, marks_of}
 use Rattle.smq_streams.proofs.Marks.{by-none, kept-none, same_search}
 use Rattle.smq_streams.proofs.seeker.Seeker.clear.Goals as goal
 

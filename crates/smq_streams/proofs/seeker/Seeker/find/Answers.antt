@@ -1,15 +1,12 @@
-use Rattle.std.proofs.Common.{◌≡◌, inl, ◌+◌, ◌∙◌, Bool, ℕ, List, [], drop, refl, sym, subst, ap}
-use Rattle.std.specs.Prelude.{slice_get, Option, Some, None}
+use Rattle.std.proofs.Common.{◌≡◌, inl, ◌+◌, ◌∙◌, ℕ, List, [], drop, sym, subst, ap}
+use Rattle.std.specs.Prelude.{slice_get, Some}
 use Rattle.std.specs.Option.{option_map}
 use Rattle.smq_reassembly.specs.Octet.{Octet}
 use Rattle.smq_reassembly.specs.Moment.{values}
 use Rattle.smq_streams.specs.declared.headers.Sight.TheVariants.{Other}
 use Rattle.smq_streams.specs.Search.{Search, Shows}
-use Rattle.smq_streams.proofs.Finding.{begin-none, beyond-more, none-left, one-more}
+use Rattle.smq_streams.proofs.Finding.{beyond-more, none-left, one-more}
 use Rattle.smq_streams.proofs.seeker.Seeker.find.Goals as goal
-
-pub octets-init : goal.octets-init
-octets-init c = (0, begin-none c.args.is_end c.args.self.now.octets, refl)
 
 pub octets-preserved : goal.octets-preserved
 octets-preserved c =

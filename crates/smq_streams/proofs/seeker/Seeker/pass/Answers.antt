@@ -1,5 +1,4 @@
 use Rattle.std.proofs.Common.{◌≡◌, ◌∙◌, ◌+◌, ◌-◌, ◌++◌, suc, zero, ℕ, List, drop, arith, ap, sym}
-use Rattle.std.specs.Option.{option_to_list}
 use Rattle.smq_streams.specs.declared.seeker.Mark.{Mark}
 use Rattle.smq_streams.specs.within.Marks.{octets_by}
 use Rattle.smq_streams.proofs.Marks.{first_left, pass-mark, popped, same_search}
