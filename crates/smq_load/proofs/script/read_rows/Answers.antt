@@ -3,11 +3,6 @@ use Rattle.smq_load.proofs.NextRecordLemmas.{passed_on}
 use Rattle.smq_load.specs.Script.{Tells}
 use Rattle.smq_load.proofs.script.read_rows.Goals as goal
 
-pub returns-in_err-read_next-clause-bad_row : goal.returns-in_err-read_next-clause-bad_row
-returns-in_err-read_next-clause-bad_row g c text begins =
-    let told = c.in_err-read_next.ensures.err text (c.loop.invariant.read text begins) in
-    passed_on (λ fault. Tells fault text) c.from_residual.result c.in_err-read_next.field-0.0 c.from_residual.ensures.1 told
-
 pub returns-then-not-branch-clause-ok : goal.returns-then-not-branch-clause-ok
 returns-then-not-branch-clause-ok g c text begins =
     c.in_ok-read_next.ensures.none text (c.loop.invariant.read text begins) (search rules)

@@ -11,9 +11,3 @@ returns-in-Ok-table_from_str-clause-ok c =
     let same = settings_of-document c.args.octets.now c.in-Ok.text.now (table_view c.in-Ok-table_from_str.table) (omega arith)
     c.in-Ok.ensures.cases c.in-Ok-table_from_str.ensures.ok in
     rw same c.read_document.ensures.ok
-
-pub returns-in-Ok-table_from_str-clause-bad_settings : goal.returns-in-Ok-table_from_str-clause-bad_settings
-returns-in-Ok-table_from_str-clause-bad_settings c =
-    let same = settings_of-document c.args.octets.now c.in-Ok.text.now (table_view c.in-Ok-table_from_str.table) (omega arith)
-    c.in-Ok.ensures.cases c.in-Ok-table_from_str.ensures.ok in
-    rw same c.read_document.ensures.bad_settings
