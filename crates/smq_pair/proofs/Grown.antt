@@ -289,5 +289,3 @@ module _ (v : PairingValue) (p : PlacedHeader) (o : AreInOrder v) (n : IsNext v 
 
 pub grows : GrowsByOnePair
 grows v p o n = grows-by-one v p o n
-
--- ---- the order of directions

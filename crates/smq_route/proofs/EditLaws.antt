@@ -29,8 +29,6 @@ pub adds-apart : (m : Versions) (p : List ℕ) (f : ℕ) (r : RouteId) (n : List
     → IsAccepted (add_refusals m p f) → AreApart (added m p f r n)
 adds-apart m p f r n a digits accept = added-apart m p f r n a digits (no-overlap (overlap m p f) accept)
 
--- ---- ends
-
 -- ---- dates
 
 pub dates-stay : (m : Versions) (p : List ℕ) (f : ℕ) (r : RouteId) (n : List ℕ) (k : VersionKey)

@@ -1,4 +1,4 @@
-//! One direction of a connection.
+//! One direction of a connection. (One file of calls, since each says what becomes of the whole value.)
 ghost use Rattle.std.specs.Prelude.{◌≡◌, ℕ, ◌+◌, ◌-◌, ◌*◌, ◌^◌, ◌<◌, ◌≤◌, min, ◌++◌, ◌∷◌, [], List, IfOk, OnOk, OnErr, IfSome, IsSome, MatchOption, IsTrue, ◌↔◌, ◌⊎◌, length, slice_get, None, Some, Ok, true, false};
 ghost use Rattle.smq_reassembly.specs.Octet.{Octet, octets_of};
 ghost use Rattle.smq_reassembly.specs.Moment.{IsGiven, Start};

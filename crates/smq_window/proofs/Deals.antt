@@ -143,5 +143,3 @@ from sender at = record at { sender = sender }
 
 pub origin-at : (at : Origin) (s : Dir) → at.sender ≡ s → at ≡ record at { sender = s }
 origin-at at s e = λ i. record at { sender = e i }
-
--- ---- a connection at first
