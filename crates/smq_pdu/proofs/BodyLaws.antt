@@ -6,6 +6,7 @@ use Rattle.std.proofs.lemmas.Bool.{cases_Bool, eqb-true, eqb-false, ne_eqb}
 use Rattle.smq_pdu.specs.Commands.{submit_sm, submit_sm_resp, deliver_sm, data_sm, data_sm_resp}
 use Rattle.smq_pdu.specs.Fields.{Mandatory, DataSmFields, spelling, data_sm_spelling}
 use Rattle.smq_pdu.specs.Numbers.{number_of}
+use Rattle.smq_pdu.specs.Sources.{source_in}
 use Rattle.smq_pdu.specs.Parameters.{Tlv, tlv_spelling}
 use Rattle.smq_pdu.specs.Bodies.{SubmitValue, DeliverValue, DataSmValue, SubmitBody, SubmitAnswerBody, DeliverBody, DataSmBody, OtherBody, UndecodableBody, IsBody, IsDataSmBody, IsMessageId, submit_said, deliver_said, data_sm_said}
 use Rattle.smq_pdu.specs.Readers.{mandatory_at, data_sm_fields_at, tlvs_of, rest_of}
@@ -212,8 +213,9 @@ no_data_sm_body b e m tlvs rest h = let differ = sym e ∙ data_sm_reads b rest 
 submit_is : (v w : SubmitValue) → SubmitBody v ≡ SubmitBody w → v ≡ w
 submit_is v w e = cc
 
-both : (v : SubmitValue) (m : Mandatory) → v.registered_delivery ≡ m.registered_delivery → number_of m.destination ≡ v.number → submit_said m ≡ v
-both v m e k = λ i. record { registered_delivery = sym e i; number = k i }
+both : (v : SubmitValue) (m : Mandatory) → v.registered_delivery ≡ m.registered_delivery → number_of m.destination ≡ v.number
+    → v.source_ton ≡ m.source.ton → v.source ≡ source_in m.source.text → submit_said m ≡ v
+both v m e k t s = λ i. record { registered_delivery = sym e i; number = k i; source_ton = sym t i; source = sym s i }
 
 pub says_submit : (o : List ℕ) (v : SubmitValue) → AreOctets o → said o ≡ SubmitBody v → IsSubmit o v
 says_submit o v h s =
@@ -226,6 +228,8 @@ says_submit o v h s =
         body = body_stands (body_at o) r m (body_octets o h) found;
         registered_delivery = ap (λ (x : SubmitValue). x.registered_delivery) (submit_is v (submit_said m) (sym s ∙ is));
         number = has_found m.destination v.number (sym (ap (λ (x : SubmitValue). x.number) (submit_is v (submit_said m) (sym s ∙ is))));
+        source_ton = ap (λ (x : SubmitValue). x.source_ton) (submit_is v (submit_said m) (sym s ∙ is));
+        source = ap (λ (x : SubmitValue). x.source) (submit_is v (submit_said m) (sym s ∙ is));
       }
       | a_deliver e m r found is ↦ absurd (let differ = sym s ∙ is in cc)
       | undecodable e none is ↦ absurd (let differ = sym s ∙ is in cc)
@@ -239,7 +243,7 @@ pub submit_says : (o : List ℕ) (v : SubmitValue) → IsSubmit o v → said o �
 submit_says o v h =
     of_submit (command_at o) (body_at o) h.command
     ∙ submit_some (body_at o) (after h.tlvs h.rest) h.fields (body_reads (body_at o) h.rest h.fields h.tlvs h.body)
-    ∙ ap SubmitBody (both v h.fields h.registered_delivery (has_again h.fields.destination v.number h.number))
+    ∙ ap SubmitBody (both v h.fields h.registered_delivery (has_again h.fields.destination v.number h.number) h.source_ton h.source)
 
 pub says_deliver : (o : List ℕ) (v : DeliverValue) → AreOctets o → said o ≡ DeliverBody v → IsDeliver o v
 says_deliver o v h s =

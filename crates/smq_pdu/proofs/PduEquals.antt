@@ -12,6 +12,8 @@ use Rattle.smq_kit.specs.contracts.message_id.MessageIdPartialEq.TheImpl as id_e
 use Rattle.smq_kit.specs.declared.message_id.MessageId.{MessageId}
 use Rattle.smq_kit.specs.contracts.number.DigitsPartialEq.TheImpl as digits_eq
 use Rattle.smq_kit.specs.declared.number.Digits.{Digits}
+use Rattle.smq_pdu.specs.contracts.source.SourceAddressPartialEq.TheImpl as source_eq
+use Rattle.smq_pdu.specs.declared.source.SourceAddress.{SourceAddress}
 use Rattle.smq_pdu.specs.Bodies.{SubmitValue, DeliverValue, DataSmValue, DeliverBody, DataSmBody, SubmitBody, SubmitAnswerBody}
 use Rattle.smq_pdu.specs.Decoded.{seen, submit_view, deliver_view, data_sm_view, body_view, pdu_view}
 use Rattle.smq_pdu.specs.Equalities.{is_same_submit, is_same_deliver, is_same_data_sm, is_same_body, is_same_pdu}
@@ -91,19 +93,33 @@ number_given (Some x) None = (λ h. absurd cc, λ e. absurd cc)
 number_given (Some x) (Some y) =
     Decides-like (digits_eq.ghosts.eq x y) (λ h. ap (λ (z : Digits). Some z) h) (λ e. let same : x ≡ y = cc in same) (numbers x y)
 
--- both parts of what two submit_sm say are one
+sources : (a b : SourceAddress) → Decides (source_eq.ghosts.eq a b) (a ≡ b)
+sources a b = search rules
+
+source_given : (a b : Option SourceAddress) → Decides (option_eq source_eq.ghosts.eq a b) (a ≡ b)
+source_given None None = (λ h. refl, λ e. refl)
+source_given None (Some y) = (λ h. absurd cc, λ e. absurd cc)
+source_given (Some x) None = (λ h. absurd cc, λ e. absurd cc)
+source_given (Some x) (Some y) =
+    Decides-like (source_eq.ghosts.eq x y) (λ h. ap (λ (z : SourceAddress). Some z) h) (λ e. let same : x ≡ y = cc in same) (sources x y)
+
+-- each part of what two submit_sm say is one
 abbrev SubmitParts : SubmitValue → SubmitValue → Type 0
-SubmitParts a b = (a.registered_delivery ≡ b.registered_delivery) × (a.number ≡ b.number)
+SubmitParts a b =
+    (a.registered_delivery ≡ b.registered_delivery) × ((a.number ≡ b.number) × ((a.source_ton ≡ b.source_ton) × (a.source ≡ b.source)))
 
 submit_parts_decide : (a b : Submit) → Decides (is_same_submit a b) (SubmitParts (submit_view a) (submit_view b))
 submit_parts_decide a b =
-    Decides-and _ _ (unsigned_Decides a.registered_delivery b.registered_delivery) (number_given a.number b.number)
+    Decides-and _ _ (unsigned_Decides a.registered_delivery b.registered_delivery)
+    (Decides-and _ _ (number_given a.number b.number)
+    (Decides-and _ _ (unsigned_Decides a.source_ton b.source_ton) (source_given a.source b.source)))
 
 one_submit : (a b : SubmitValue) → SubmitParts a b → a ≡ b
-one_submit a b p = λ i. record { registered_delivery = p.0 i; number = p.1 i }
+one_submit a b p = λ i. record { registered_delivery = p.0 i; number = p.1.0 i; source_ton = p.1.1.0 i; source = p.1.1.1 i }
 
 submit_parts : (a b : SubmitValue) → a ≡ b → SubmitParts a b
-submit_parts a b e = (ap (λ d. d.registered_delivery) e, ap (λ d. d.number) e)
+submit_parts a b e =
+    (ap (λ d. d.registered_delivery) e, (ap (λ d. d.number) e, (ap (λ d. d.source_ton) e, ap (λ d. d.source) e)))
 
 pub submits_decide : (a b : Submit) → Decides (is_same_submit a b) (submit_view a ≡ submit_view b)
 submits_decide a b =
@@ -116,27 +132,32 @@ submits_decide a b =
 abbrev DataSmParts : DataSmValue → DataSmValue → Type 0
 DataSmParts a b =
     (a.esm_class ≡ b.esm_class) × ((a.registered_delivery ≡ b.registered_delivery) × ((a.number ≡ b.number)
+    × ((a.source_ton ≡ b.source_ton) × ((a.source ≡ b.source)
     × ((a.receipted_message_id ≡ b.receipted_message_id) × ((a.network_error_code ≡ b.network_error_code)
-    × ((a.message_payload ≡ b.message_payload) × (a.message_state ≡ b.message_state))))))
+    × ((a.message_payload ≡ b.message_payload) × (a.message_state ≡ b.message_state))))))))
 
 data_sm_parts_decide : (a b : DataSm) → Decides (is_same_data_sm a b) (DataSmParts (data_sm_view a) (data_sm_view b))
 data_sm_parts_decide a b =
     Decides-and _ _ (unsigned_Decides a.esm_class b.esm_class)
     (Decides-and _ _ (unsigned_Decides a.registered_delivery b.registered_delivery)
     (Decides-and _ _ (number_given a.number b.number)
+    (Decides-and _ _ (unsigned_Decides a.source_ton b.source_ton)
+    (Decides-and _ _ (source_given a.source b.source)
     (Decides-and _ _ (values a.receipted_message_id b.receipted_message_id)
     (Decides-and _ _ (values a.network_error_code b.network_error_code)
-    (Decides-and _ _ (values a.message_payload b.message_payload) (values a.message_state b.message_state))))))
+    (Decides-and _ _ (values a.message_payload b.message_payload) (values a.message_state b.message_state))))))))
 
 one_data_sm : (a b : DataSmValue) → DataSmParts a b → a ≡ b
 one_data_sm a b p = λ i. record {
   esm_class = p.0 i;
   registered_delivery = p.1.0 i;
   number = p.1.1.0 i;
-  receipted_message_id = p.1.1.1.0 i;
-  network_error_code = p.1.1.1.1.0 i;
-  message_payload = p.1.1.1.1.1.0 i;
-  message_state = p.1.1.1.1.1.1 i;
+  source_ton = p.1.1.1.0 i;
+  source = p.1.1.1.1.0 i;
+  receipted_message_id = p.1.1.1.1.1.0 i;
+  network_error_code = p.1.1.1.1.1.1.0 i;
+  message_payload = p.1.1.1.1.1.1.1.0 i;
+  message_state = p.1.1.1.1.1.1.1.1 i;
 }
 
 data_sm_parts : (a b : DataSmValue) → a ≡ b → DataSmParts a b
@@ -147,8 +168,14 @@ data_sm_parts a b e = (
     (
       ap (λ d. d.number) e,
       (
-        ap (λ d. d.receipted_message_id) e,
-        (ap (λ d. d.network_error_code) e, (ap (λ d. d.message_payload) e, ap (λ d. d.message_state) e)),
+        ap (λ d. d.source_ton) e,
+        (
+          ap (λ d. d.source) e,
+          (
+            ap (λ d. d.receipted_message_id) e,
+            (ap (λ d. d.network_error_code) e, (ap (λ d. d.message_payload) e, ap (λ d. d.message_state) e)),
+          ),
+        ),
       ),
     ),
   ),

@@ -3,6 +3,7 @@ use Rattle.std.specs.Prelude.{◌≡◌, ◌≤◌, ◌⊎◌, ℕ, List, [], �
 use Rattle.std.specs.List.{AllByRecursion, flat_map}
 use Rattle.smq_pdu.specs.Fields.{Mandatory, DataSmFields, spelling, data_sm_spelling, IsText, AreTexts, AreDataSmTexts}
 use Rattle.smq_pdu.specs.Numbers.{number_of}
+use Rattle.smq_pdu.specs.Sources.{source_in}
 use Rattle.smq_pdu.specs.Parameters.{Tlv, tlv_spelling, IsTlv, BeginsWithNoTlv, first_value, receipted_message_id_tag, network_error_code_tag, message_payload_tag, message_state_tag}
 
 -- what is read of a submit_sm
@@ -10,6 +11,9 @@ pub record SubmitValue : Type 0 where
   pub registered_delivery : ℕ
   -- the number of destination_addr, where it is one
   pub number : Option (List ℕ)
+  -- the type and the text of the source address, where this has 1 to 20 octets
+  pub source_ton : ℕ
+  pub source : Option (List ℕ)
 
 -- what is read of a deliver_sm: of each optional parameter the first value, usable or not
 pub record DeliverValue : Type 0 where
@@ -26,6 +30,9 @@ pub record DataSmValue : Type 0 where
   pub registered_delivery : ℕ
   -- the number of destination_addr, where it is one
   pub number : Option (List ℕ)
+  -- the type and the text of the source address, where this has 1 to 20 octets
+  pub source_ton : ℕ
+  pub source : Option (List ℕ)
   pub receipted_message_id : Option (List ℕ)
   pub network_error_code : Option (List ℕ)
   pub message_payload : Option (List ℕ)
@@ -33,7 +40,12 @@ pub record DataSmValue : Type 0 where
 
 -- what a data_sm says as a submit_sm does
 abbrev pub submit_of_data_sm : DataSmValue → SubmitValue
-submit_of_data_sm d = record { registered_delivery = d.registered_delivery; number = d.number }
+submit_of_data_sm d = record {
+  registered_delivery = d.registered_delivery;
+  number = d.number;
+  source_ton = d.source_ton;
+  source = d.source;
+}
 
 -- what a data_sm says as a deliver_sm does, whose short_message is empty
 abbrev pub deliver_of_data_sm : DataSmValue → DeliverValue
@@ -72,6 +84,8 @@ abbrev pub submit_said : Mandatory → SubmitValue
 submit_said fields = record {
   registered_delivery = fields.registered_delivery;
   number = number_of fields.destination;
+  source_ton = fields.source.ton;
+  source = source_in fields.source.text;
 }
 
 -- what is read of a deliver_sm with these fields and parameters
@@ -100,6 +114,8 @@ data_sm_said fields number tlvs = record {
   esm_class = fields.esm_class;
   registered_delivery = fields.registered_delivery;
   number = number;
+  source_ton = fields.source.ton;
+  source = source_in fields.source.text;
   receipted_message_id = first_value receipted_message_id_tag tlvs;
   network_error_code = first_value network_error_code_tag tlvs;
   message_payload = first_value message_payload_tag tlvs;

@@ -17,7 +17,12 @@ seen value = option_map (λ v. v.now) value
 
 -- what a submit_sm says
 abbrev pub submit_view : Submit → SubmitValue
-submit_view s = record { registered_delivery = s.registered_delivery; number = s.number }
+submit_view s = record {
+  registered_delivery = s.registered_delivery;
+  number = s.number;
+  source_ton = s.source_ton;
+  source = s.source;
+}
 
 -- what a deliver_sm says
 abbrev pub deliver_view : Deliver → DeliverValue
@@ -36,6 +41,8 @@ data_sm_view d = record {
   esm_class = d.esm_class;
   registered_delivery = d.registered_delivery;
   number = d.number;
+  source_ton = d.source_ton;
+  source = d.source;
   receipted_message_id = seen d.receipted_message_id;
   network_error_code = seen d.network_error_code;
   message_payload = seen d.message_payload;

@@ -21,7 +21,12 @@ submit_octets =
 abbrev pub submit_pdu : PduValue
 submit_pdu = record {
   header = record { command = 4; status = 0; seq = 1 };
-  body = SubmitBody (record { registered_delivery = 1; number = Some (codes "447700900123") });
+  body = SubmitBody (record {
+    registered_delivery = 1;
+    number = Some (codes "447700900123");
+    source_ton = 0;
+    source = Some (codes "1000");
+  });
 }
 
 -- a submit_sm to +447700900123 of international type
@@ -36,7 +41,12 @@ plus_octets =
 abbrev pub plus_pdu : PduValue
 plus_pdu = record {
   header = record { command = 4; status = 0; seq = 1 };
-  body = SubmitBody (record { registered_delivery = 1; number = Some (codes "447700900123") });
+  body = SubmitBody (record {
+    registered_delivery = 1;
+    number = Some (codes "447700900123");
+    source_ton = 0;
+    source = Some (codes "1000");
+  });
 }
 
 -- a submit_sm to 447700900123 of national type
@@ -51,7 +61,12 @@ national_octets =
 abbrev pub national_pdu : PduValue
 national_pdu = record {
   header = record { command = 4; status = 0; seq = 1 };
-  body = SubmitBody (record { registered_delivery = 1; number = None });
+  body = SubmitBody (record {
+    registered_delivery = 1;
+    number = None;
+    source_ton = 0;
+    source = Some (codes "1000");
+  });
 }
 
 -- a submit_sm to 16 digits
@@ -66,7 +81,32 @@ too_long_octets =
 abbrev pub too_long_pdu : PduValue
 too_long_pdu = record {
   header = record { command = 4; status = 0; seq = 1 };
-  body = SubmitBody (record { registered_delivery = 1; number = None });
+  body = SubmitBody (record {
+    registered_delivery = 1;
+    number = None;
+    source_ton = 0;
+    source = Some (codes "1000");
+  });
+}
+
+-- a submit_sm from ACME of alphanumeric type
+abbrev pub alphanumeric_octets : List ℕ
+alphanumeric_octets =
+    0x00 ∷ 0x00 ∷ 0x00 ∷ 0x31 ∷ 0x00 ∷ 0x00 ∷ 0x00 ∷ 0x04 ∷ 0x00 ∷ 0x00 ∷ 0x00 ∷ 0x00 ∷ 0x00 ∷ 0x00 ∷ 0x00 ∷ 0x01 ∷
+    0x00 ∷ 0x05 ∷ 0x00 ∷ 0x41 ∷ 0x43 ∷ 0x4d ∷ 0x45 ∷ 0x00 ∷ 0x01 ∷ 0x01 ∷ 0x34 ∷ 0x34 ∷ 0x37 ∷ 0x37 ∷ 0x30 ∷ 0x30 ∷
+    0x39 ∷ 0x30 ∷ 0x30 ∷ 0x31 ∷ 0x32 ∷ 0x33 ∷ 0x00 ∷ 0x00 ∷ 0x00 ∷ 0x00 ∷ 0x00 ∷ 0x00 ∷ 0x01 ∷ 0x00 ∷ 0x00 ∷ 0x00 ∷
+    0x00 ∷ []
+
+-- what these octets say
+abbrev pub alphanumeric_pdu : PduValue
+alphanumeric_pdu = record {
+  header = record { command = 4; status = 0; seq = 1 };
+  body = SubmitBody (record {
+    registered_delivery = 1;
+    number = Some (codes "447700900123");
+    source_ton = 5;
+    source = Some (codes "ACME");
+  });
 }
 
 -- a submit_sm to 447700900124

@@ -18,6 +18,8 @@ data_sm_pdu = record {
     esm_class = 0;
     registered_delivery = 1;
     number = Some (codes "447700900123");
+    source_ton = 0;
+    source = Some (codes "1000");
     receipted_message_id = None;
     network_error_code = None;
     message_payload = None;
@@ -51,6 +53,8 @@ data_sm_receipt = record {
   esm_class = 4;
   registered_delivery = 0;
   number = None;
+  source_ton = 0;
+  source = None;
   receipted_message_id = None;
   network_error_code = None;
   message_payload = Some (codes "id:1 stat:DELIVRD");
@@ -90,6 +94,8 @@ full_data_sm = record {
   esm_class = 0x24;
   registered_delivery = 1;
   number = Some (codes "42");
+  source_ton = 2;
+  source = Some (codes "41");
   receipted_message_id = Some (0x41 ∷ 0x31 ∷ 0 ∷ []);
   network_error_code = Some (3 ∷ 0 ∷ 27 ∷ []);
   message_payload = Some (codes "ab");
@@ -102,7 +108,12 @@ full_data_sm_pdu = record { header = record { command = 0x0103; status = 2; seq 
 
 -- what it says as a message
 abbrev pub full_submit : SubmitValue
-full_submit = record { registered_delivery = 1; number = Some (codes "42") }
+full_submit = record {
+  registered_delivery = 1;
+  number = Some (codes "42");
+  source_ton = 2;
+  source = Some (codes "41");
+}
 
 -- what it says as what a centre hands to a client
 abbrev pub full_deliver : DeliverValue

@@ -4,6 +4,7 @@ use Rattle.smq_pdu.specs.Commands.{submit_sm, submit_sm_resp, deliver_sm, data_s
 use Rattle.smq_pdu.specs.Header.{header_at}
 use Rattle.smq_pdu.specs.Fields.{Mandatory, DataSmFields}
 use Rattle.smq_pdu.specs.Numbers.{HasNumber}
+use Rattle.smq_pdu.specs.Sources.{source_in}
 use Rattle.smq_pdu.specs.Parameters.{Tlv}
 use Rattle.smq_pdu.specs.Bodies.{SubmitValue, DeliverValue, DataSmValue, BodyValue, IsBody, IsDataSmBody, IsMessageId, deliver_said, data_sm_said}
 use Rattle.smq_pdu.specs.Pdu.{pdu_of}
@@ -29,6 +30,8 @@ pub record IsSubmit (octets : List ℕ) (submit : SubmitValue) : Type 0 where
   pub body : IsBody (body_at octets) fields tlvs rest
   pub registered_delivery : submit.registered_delivery ≡ fields.registered_delivery
   pub number : HasNumber fields.destination submit.number
+  pub source_ton : submit.source_ton ≡ fields.source.ton
+  pub source : submit.source ≡ source_in fields.source.text
 
 -- The PDU is a deliver_sm whose body is some fields, parameters and a rest, and they say this.
 pub record IsDeliver (octets : List ℕ) (deliver : DeliverValue) : Type 0 where

@@ -3,6 +3,7 @@ pub mod Header
 pub mod Pairing
 pub mod Fields
 pub mod Numbers
+pub mod Sources
 pub mod Parameters
 pub mod Bodies
 pub mod Readers

@@ -11,6 +11,7 @@ use crate::fields::{
     read_mandatory, zero_place,
 };
 use crate::pdu::{DATA_SM, DATA_SM_RESP, DELIVER_SM, SUBMIT_SM, SUBMIT_SM_RESP};
+use crate::source::SourceAddress;
 use smq_kit::{Digits, MessageId};
 
 /// The type of an international number; the unknown type is 0 (SMPP 3.4, 5.2.5).
@@ -25,6 +26,10 @@ pub struct Submit {
     /// None where dest_addr_ton is neither unknown nor international (SMPP 3.4, 5.2.5), or where
     /// anything but 1 to 15 decimal digits remains (E.164, section 6).
     pub number: Option<Digits>,
+    /// The type of the number that it comes from: source_addr_ton (SMPP 3.4, 5.2.5).
+    pub source_ton: u8,
+    /// source_addr (SMPP 3.4, 5.2.8). None where it is empty, or has more octets than a submit_sm may have.
+    pub source: Option<SourceAddress>,
 }
 
 impl Submit {
@@ -37,6 +42,11 @@ impl Submit {
             number: match &self.number {
                 None => None,
                 Some(number) => Some(number.copy()),
+            },
+            source_ton: self.source_ton,
+            source: match &self.source {
+                None => None,
+                Some(source) => Some(source.copy()),
             },
         }
     }
@@ -110,6 +120,8 @@ fn read_submit(octets: &[u8]) -> Body<'_>
         Some((fields, _)) => Body::Submit(Submit {
             registered_delivery: fields.back.registered_delivery,
             number: read_digits(&fields.front.destination),
+            source_ton: fields.front.source.ton,
+            source: SourceAddress::new(fields.front.source.text),
         }),
     }
 }

@@ -12,6 +12,7 @@ use crate::fields::{
     Address, MESSAGE_PAYLOAD, MESSAGE_STATE, NETWORK_ERROR_CODE, RECEIPTED_MESSAGE_ID, first_value,
     read_address, read_octet, read_text,
 };
+use crate::source::SourceAddress;
 use smq_kit::Digits;
 
 /// What is read of a data_sm (SMPP 3.4, 4.7.1). An optional parameter has the value of the first
@@ -24,6 +25,9 @@ pub struct DataSm<'a> {
     pub registered_delivery: u8,
     /// The number that it is sent to, as `Submit` has it.
     pub number: Option<Digits>,
+    /// source_addr_ton and source_addr, as `Submit` has them.
+    pub source_ton: u8,
+    pub source: Option<SourceAddress>,
     /// Tag 0x001E (SMPP 3.4, 5.3.2.12).
     pub receipted_message_id: Option<&'a [u8]>,
     /// Tag 0x0423 (SMPP 3.4, 5.3.2.31).
@@ -44,6 +48,11 @@ impl<'a> DataSm<'a> {
             number: match &self.number {
                 None => None,
                 Some(number) => Some(number.copy()),
+            },
+            source_ton: self.source_ton,
+            source: match &self.source {
+                None => None,
+                Some(source) => Some(source.copy()),
             },
         }
     }
@@ -85,6 +94,8 @@ pub(crate) fn read_data_sm(octets: &[u8]) -> Body<'_>
             esm_class: fields.esm_class,
             registered_delivery: fields.registered_delivery,
             number: read_digits(&fields.destination),
+            source_ton: fields.source.ton,
+            source: SourceAddress::new(fields.source.text),
             receipted_message_id: first_value(RECEIPTED_MESSAGE_ID, rest),
             network_error_code: first_value(NETWORK_ERROR_CODE, rest),
             message_payload: first_value(MESSAGE_PAYLOAD, rest),

@@ -3,6 +3,7 @@ ghost use Rattle.std.specs.Prelude.{◌≡◌, ◌≢◌, ◌↔◌, ◌⊎◌, 
 ghost use Rattle.smq_kit.specs.Known.{numbers_from};
 ghost use Rattle.smq_pdu.specs.Fields.{Address, Mandatory, DataSmFields, BeginsWith, BeginsWithDataSm};
 ghost use Rattle.smq_pdu.specs.Numbers.{IsNumberOf, number_of};
+ghost use Rattle.smq_pdu.specs.Sources.{source_in};
 ghost use Rattle.smq_pdu.specs.Parameters.{Tlv, AreParameters, BeginsWithNoTlv, IsTlv, tlv_spelling, first_value, receipted_message_id_tag, network_error_code_tag, message_payload_tag, message_state_tag};
 ghost use Rattle.smq_pdu.specs.Bodies.{SubmitValue, DeliverValue, DataSmValue, SubmitBody, SubmitAnswerBody, DeliverBody, DataSmBody, OtherBody, UndecodableBody, IsBody, IsDataSmBody, IsFirstText, submit_of_data_sm, deliver_of_data_sm};
 ghost use Rattle.smq_pdu.specs.Readers.{mandatory_at, data_sm_fields_at, tlvs_of, rest_of};
@@ -10,7 +11,7 @@ ghost use Rattle.smq_pdu.specs.Pdu.{before_zero, id_of, pdu_of};
 ghost use Rattle.smq_pdu.specs.Laws.{said, IsSubmit, IsDeliver, IsDataSm, IsUndecodable, IsSubmitResponse, IsSubmitResponseWithoutId, IsOther};
 ghost use Rattle.smq_pdu.specs.Pairing.{FindsPairs, FindsEachPair, HasOneRequest, FindsInTurn, agrees, is_request, is_response, request_rank, response_rank, response_index};
 ghost use Rattle.smq_pdu.specs.Header.{Header, header_with};
-ghost use Rattle.smq_pdu.specs.Known.{submit_octets, submit_pdu, plus_octets, plus_pdu, national_octets, national_pdu, too_long_octets, too_long_pdu, other_octets, address_with, response_octets, response_pdu, receipt_octets, receipt_pdu, all_parameters_octets, all_parameters_pdu, cut_octets, cut_pdu, nack_octets, nack_pdu, words_octets, words_pdu, id_of_64, parameter_octets, parameter_tlvs, parameter_rest, IsRequestCommand, IsResponseCommand, IsNeitherCommand, short_requests, short_responses};
+ghost use Rattle.smq_pdu.specs.Known.{submit_octets, submit_pdu, plus_octets, plus_pdu, national_octets, national_pdu, too_long_octets, too_long_pdu, alphanumeric_octets, alphanumeric_pdu, other_octets, address_with, response_octets, response_pdu, receipt_octets, receipt_pdu, all_parameters_octets, all_parameters_pdu, cut_octets, cut_pdu, nack_octets, nack_pdu, words_octets, words_pdu, id_of_64, parameter_octets, parameter_tlvs, parameter_rest, IsRequestCommand, IsResponseCommand, IsNeitherCommand, short_requests, short_responses};
 ghost use Rattle.smq_pdu.specs.KnownDataSms.{data_sm_octets, data_sm_pdu, data_sm_resp_octets, data_sm_resp_pdu, data_sm_receipt_octets, data_sm_receipt_pdu, cut_data_sm_octets, cut_data_sm_pdu, full_data_sm_octets, full_data_sm, full_data_sm_pdu, full_submit, full_deliver};
 ghost use Rattle.smq_pdu.specs.Decoded.{submit_view, deliver_view, data_sm_view, pdu_view};
 ghost use Rattle.smq_pdu.specs.Equalities.{is_same_submit, is_same_deliver, is_same_data_sm, is_same_pdu};
@@ -122,6 +123,7 @@ pub fn known_pdus()
     ensures plus { pdu_of plus_octets ≡ plus_pdu }
     ensures national { pdu_of national_octets ≡ national_pdu }
     ensures too_long { pdu_of too_long_octets ≡ too_long_pdu }
+    ensures alphanumeric { pdu_of alphanumeric_octets ≡ alphanumeric_pdu }
 
     // These two differ in the last digit of destination_addr alone.
     ensures apart { pdu_of submit_octets ≢ pdu_of other_octets }
@@ -190,6 +192,14 @@ pub fn known_numbers()
     ensures longest { number_of (address_with 1 (codes "+123456789012345"))
         ≡ Some (codes "123456789012345") }
     ensures too_long { number_of (address_with 1 (codes "1234567890123456")) ≡ None }
+{}
+
+/// The sources of some addresses, at their limits and just past them (SMPP 3.4, 5.2.8).
+pub fn known_sources()
+    ensures shortest { source_in (0 ∷ []) ≡ Some (0 ∷ []) }
+    ensures empty { source_in [] ≡ None }
+    ensures longest { source_in (codes "+1234567890123456789") ≡ Some (codes "+1234567890123456789") }
+    ensures too_long { source_in (codes "+12345678901234567890") ≡ None }
 {}
 
 /// The parameters of octets with one tag twice and an end that cuts a parameter off.

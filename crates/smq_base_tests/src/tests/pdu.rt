@@ -9,7 +9,7 @@ use crate::tests::frame::frames_of;
 use bytes::Bytes;
 use smq_frame::{Frame, Tail};
 use smq_kit::{Digits, MessageId, Moment};
-use smq_pdu::{Body, DataSm, Deliver, Pdu, Submit, SubmitAnswer, decode};
+use smq_pdu::{Body, DataSm, Deliver, Pdu, SourceAddress, Submit, SubmitAnswer, decode};
 use std::alloc::{AllocError, Global};
 use std::process::Abort;
 
@@ -22,20 +22,25 @@ pub const SUBMIT_SM_RESP: u32 = 0x8000_0004;
 /// What a body is to say.
 #[derive(Clone, Copy)]
 pub enum Says {
-    /// A submit_sm with this registered_delivery and this number, or no number where it is empty.
-    Submit(u8, &'static [u8]),
+    /// A submit_sm with this registered_delivery, from this source, with this number, or no number where it is empty.
+    Submit(u8, Source, &'static [u8]),
     /// A submit_sm_resp or data_sm_resp with this id, or none where it is empty.
     Response(&'static [u8]),
     Deliver(Deliver<'static>),
     /// A deliver_sm with esm_class 4, an empty message, and of the parameters receipted_message_id, message_payload and
     /// message_state these.
     Parameters(Option<&'static [u8]>, Option<&'static [u8]>, Option<&'static [u8]>),
-    /// A data_sm with this registered_delivery, this number, or no number where it is empty, this esm_class and these
-    /// parameters.
-    DataSm(u8, &'static [u8], u8, Parameters),
+    /// A data_sm with this registered_delivery, from this source, with this number, or no number where it is empty, this
+    /// esm_class and these parameters.
+    DataSm(u8, Source, &'static [u8], u8, Parameters),
     Other,
     Undecodable,
 }
+
+/// source_addr_ton, and the source that is read, or none where it is empty.
+pub type Source = (u8, &'static [u8]);
+
+pub const NO_SOURCE: Source = (0, b"");
 
 /// The values of receipted_message_id, network_error_code, message_payload and message_state.
 pub type Parameters = (
@@ -55,15 +60,18 @@ pub struct Row {
     says: Says,
 }
 
-fn submit_of(registered_delivery: u8, number: &[u8]) -> Submit {
+fn submit_of(registered_delivery: u8, (ton, source): Source, number: &[u8]) -> Submit {
     Submit {
         registered_delivery,
         number: Digits::parse(number).ok(),
+        source_ton: ton,
+        source: SourceAddress::new(source),
     }
 }
 
 fn data_sm_of(
     registered_delivery: u8,
+    (ton, source): Source,
     number: &[u8],
     esm_class: u8,
     (id, code, payload, state): Parameters,
@@ -72,6 +80,8 @@ fn data_sm_of(
         esm_class,
         registered_delivery,
         number: Digits::parse(number).ok(),
+        source_ton: ton,
+        source: SourceAddress::new(source),
         receipted_message_id: id,
         network_error_code: code,
         message_payload: payload,
@@ -93,8 +103,8 @@ fn handed_of(esm_class: u8, (id, code, payload, state): Parameters) -> Deliver<'
 
 fn body_of(says: &Says) -> Body<'static> {
     match says {
-        Says::Submit(registered_delivery, number) => {
-            Body::Submit(submit_of(*registered_delivery, number))
+        Says::Submit(registered_delivery, source, number) => {
+            Body::Submit(submit_of(*registered_delivery, *source, number))
         }
         Says::Response(id) => Body::SubmitAnswer(SubmitAnswer {
             message_id: MessageId::new(id).ok(),
@@ -108,12 +118,15 @@ fn body_of(says: &Says) -> Body<'static> {
             message_payload: *payload,
             message_state: *state,
         }),
-        Says::DataSm(registered_delivery, number, esm_class, parameters) => Body::DataSm(data_sm_of(
-            *registered_delivery,
-            number,
-            *esm_class,
-            *parameters,
-        )),
+        Says::DataSm(registered_delivery, source, number, esm_class, parameters) => Body::DataSm(
+            data_sm_of(
+                *registered_delivery,
+                *source,
+                number,
+                *esm_class,
+                *parameters,
+            ),
+        ),
         Says::Other => Body::Other,
         Says::Undecodable => Body::Undecodable,
     }
@@ -131,8 +144,8 @@ fn is_copied(body: &Body<'_>) -> bool {
 fn says_both(body: &Body<'_>, says: &Says) -> bool {
     match body {
         Body::DataSm(message) => match says {
-            Says::DataSm(registered_delivery, number, esm_class, parameters) => {
-                message.submit() == submit_of(*registered_delivery, number)
+            Says::DataSm(registered_delivery, source, number, esm_class, parameters) => {
+                message.submit() == submit_of(*registered_delivery, *source, number)
                     && message.deliver() == handed_of(*esm_class, *parameters)
             }
             _ => false,

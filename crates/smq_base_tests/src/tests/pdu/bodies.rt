@@ -1,5 +1,5 @@
 //! Bodies, field by field.
-use crate::tests::pdu::{DELIVER_SM, SUBMIT_SM, SUBMIT_SM_RESP, Says, assert_body};
+use crate::tests::pdu::{DELIVER_SM, NO_SOURCE, SUBMIT_SM, SUBMIT_SM_RESP, Says, assert_body};
 use smq_pdu::Submit;
 
 /// A body: what it is, its command_id and command_status, its octets, and what they say.
@@ -89,7 +89,21 @@ const BODIES: &[BodyRow] = &[
         SUBMIT_SM,
         0,
         b"abcdefghijklmnop\0\0\0\0\0\0\0\0\0\0\0\0\x02\x01\0\0\0",
-        Says::Submit(2, b""),
+        Says::Submit(2, NO_SOURCE, b""),
+    ),
+    (
+        "a source of 20 octets of type 5",
+        SUBMIT_SM,
+        0,
+        b"\0\x05\0ABCDEFGHIJKLMNOPQRST\0\x01\x0142\0\0\0\0\0\0\x01\0\0\0\0",
+        Says::Submit(1, (5, b"ABCDEFGHIJKLMNOPQRST"), b"42"),
+    ),
+    (
+        "a source of 21 octets, of which none is read",
+        SUBMIT_SM,
+        0,
+        b"\0\x05\0ABCDEFGHIJKLMNOPQRSTU\0\x01\x0142\0\0\0\0\0\0\x01\0\0\0\0",
+        Says::Submit(1, (5, b""), b"42"),
     ),
     (
         "a destination without its zero octet",

@@ -1,5 +1,5 @@
 //! Bodies of data_sm and data_sm_resp, by the standard's tables of their fields (SMPP 3.4, 4.7.1 and 4.7.2).
-use crate::tests::pdu::{Parameters, Says, assert_body};
+use crate::tests::pdu::{NO_SOURCE, Parameters, Says, assert_body};
 
 const DATA_SM: u32 = 0x0000_0103;
 
@@ -12,22 +12,28 @@ const DATA_SMS: &[(&str, &[u8], Says)] = &[
     (
         "from 1000 to 447700900123, with a receipt asked",
         b"\x00\x00\x001000\x00\x01\x01447700900123\x00\x00\x01\x00",
-        Says::DataSm(1, b"447700900123", 0, NONE),
+        Says::DataSm(1, (0, b"1000"), b"447700900123", 0, NONE),
     ),
     (
         "to +42 of unknown type, of service type WAP, with other octets in each field",
         b"WAP\x00\x05\x06x\x00\x00\x01+42\x00\x40\x12\x08",
-        Says::DataSm(0x12, b"42", 0x40, NONE),
+        Says::DataSm(0x12, (5, b"x"), b"42", 0x40, NONE),
     ),
     (
         "to a number of national type",
         b"\x00\x00\x00\x00\x02\x01447700900123\x00\x00\x01\x00",
-        Says::DataSm(1, b"", 0, NONE),
+        Says::DataSm(1, NO_SOURCE, b"", 0, NONE),
     ),
     (
         "a delivery receipt",
         b"\x00\x00\x00\x00\x00\x00\x00\x04\x00\x00\x04\x24\x00\x11id:1 stat:DELIVRD",
-        Says::DataSm(0, b"", 4, (None, None, Some(b"id:1 stat:DELIVRD"), None)),
+        Says::DataSm(
+            0,
+            NO_SOURCE,
+            b"",
+            4,
+            (None, None, Some(b"id:1 stat:DELIVRD"), None),
+        ),
     ),
     (
         "with each parameter that is read, of which the first one counts",
@@ -35,6 +41,7 @@ const DATA_SMS: &[(&str, &[u8], Says)] = &[
             \x00\x1e\x00\x03A1\x00\x04\x23\x00\x03\x03\x00\x1b\x04\x24\x00\x01a\x04\x24\x00\x01b\x04\x27\x00\x01\x02",
         Says::DataSm(
             0,
+            NO_SOURCE,
             b"",
             0x20,
             (
@@ -48,7 +55,7 @@ const DATA_SMS: &[(&str, &[u8], Says)] = &[
     (
         "with a message_payload that is cut off",
         b"\x00\x00\x00\x00\x00\x00\x00\x04\x00\x00\x04\x24\x00\x03ab",
-        Says::DataSm(0, b"", 4, NONE),
+        Says::DataSm(0, NO_SOURCE, b"", 4, NONE),
     ),
     (
         "without data_coding",

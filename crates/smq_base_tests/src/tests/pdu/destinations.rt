@@ -1,5 +1,5 @@
 //! Destination addresses, and the numbers that they are.
-use crate::tests::pdu::{SUBMIT_SM, Says, assert_body};
+use crate::tests::pdu::{NO_SOURCE, SUBMIT_SM, Says, assert_body};
 use smq_pdu::Submit;
 
 /// What a destination is; the body of a submit_sm from no address to it; the digits of its number,
@@ -121,7 +121,7 @@ const DESTINATIONS: &[(&str, &[u8], &[u8])] = &[
 #[test]
 fn numbers_of_destinations(rt: HostRuntime) {
     for (message, body, number) in DESTINATIONS {
-        let says = Says::Submit(1, number);
+        let says = Says::Submit(1, NO_SOURCE, number);
         assert_body(&rt, rt.alloc(), (7, SUBMIT_SM, 0), body, &says, message);
     }
 }

@@ -9,7 +9,7 @@ const PDUS: &[Row] = &[
                 \x00\x00\x001000\x00\x01\x01447700900123\x00\
                 \x00\x00\x00\x00\x00\x01\x00\x00\x00\x00",
         header: (1, 0x0000_0004, 0),
-        says: Says::Submit(1, b"447700900123"),
+        says: Says::Submit(1, (0, b"1000"), b"447700900123"),
     },
     Row {
         message: "its response",

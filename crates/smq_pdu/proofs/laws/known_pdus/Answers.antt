@@ -5,6 +5,7 @@ use Rattle.smq_pdu.specs.Header.{word_at}
 use Rattle.smq_pdu.specs.Numbers.{digits_of, number_of}
 use Rattle.smq_pdu.specs.Pdu.{PduValue, body_of, submit_of, deliver_of, id_of}
 use Rattle.smq_pdu.specs.Readers.{mandatory_at, address_at, c_octet_at, octets_at, number_at, tlv_at, tlvs_within, tlvs_of}
+use Rattle.smq_pdu.specs.Sources.{source_in}
 use Rattle.smq_pdu.proofs.laws.known_pdus.Goals as goal
 
 -- the sum of the octets of a submit_sm's number
@@ -17,7 +18,7 @@ octet_sum OtherBody = 0
 octet_sum UndecodableBody = 0
 
 pub returns-clause-submit : goal.returns-clause-submit
-unfolding word_at body_of submit_of deliver_of id_of number_of digits_of mandatory_at address_at c_octet_at octets_at number_at
+unfolding word_at body_of submit_of deliver_of id_of number_of digits_of source_in mandatory_at address_at c_octet_at octets_at number_at
     tlv_at tlvs_within tlvs_of
 returns-clause-submit c = refl
 
@@ -42,19 +43,24 @@ unfolding word_at body_of submit_of deliver_of id_of mandatory_at address_at c_o
 returns-clause-parameters c = refl
 
 pub returns-clause-plus : goal.returns-clause-plus
-unfolding word_at body_of submit_of deliver_of id_of number_of digits_of mandatory_at address_at c_octet_at octets_at number_at
+unfolding word_at body_of submit_of deliver_of id_of number_of digits_of source_in mandatory_at address_at c_octet_at octets_at number_at
     tlv_at tlvs_within tlvs_of
 returns-clause-plus c = refl
 
 pub returns-clause-national : goal.returns-clause-national
-unfolding word_at body_of submit_of deliver_of id_of number_of digits_of mandatory_at address_at c_octet_at octets_at number_at
+unfolding word_at body_of submit_of deliver_of id_of number_of digits_of source_in mandatory_at address_at c_octet_at octets_at number_at
     tlv_at tlvs_within tlvs_of
 returns-clause-national c = refl
 
 pub returns-clause-too_long : goal.returns-clause-too_long
-unfolding word_at body_of submit_of deliver_of id_of number_of digits_of mandatory_at address_at c_octet_at octets_at number_at
+unfolding word_at body_of submit_of deliver_of id_of number_of digits_of source_in mandatory_at address_at c_octet_at octets_at number_at
     tlv_at tlvs_within tlvs_of
 returns-clause-too_long c = refl
+
+pub returns-clause-alphanumeric : goal.returns-clause-alphanumeric
+unfolding word_at body_of submit_of deliver_of id_of number_of digits_of source_in mandatory_at address_at c_octet_at octets_at number_at
+    tlv_at tlvs_within tlvs_of
+returns-clause-alphanumeric c = refl
 
 pub returns-clause-apart : goal.returns-clause-apart
 unfolding word_at body_of submit_of deliver_of id_of number_of digits_of mandatory_at address_at c_octet_at octets_at number_at
