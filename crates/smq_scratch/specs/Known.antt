@@ -1,5 +1,5 @@
 -- The lines for messages and receipts that are written out.
-use Rattle.std.specs.Prelude.{◌≡◌, ℕ, true, false, Bool, List, [], ◌∷◌, map, codes, Option, Some, None, ℤ, pos}
+use Rattle.std.specs.Prelude.{◌≡◌, ℕ, true, false, Bool, List, [], ◌∷◌, map, take, codes, Option, Some, None, ℤ, pos}
 use Rattle.smq_kit.specs.declared.message_id.Form.TheVariants.{Decimal, Hexadecimal}
 use Rattle.smq_kit.specs.declared.message_id.Key.TheVariants.{Number, Text}
 use Rattle.smq_kit.specs.declared.place.Dir.TheVariants.{FromClient, FromCentre}
@@ -14,7 +14,7 @@ use Rattle.smq_present.specs.declared.join.lines.ReceiptStanding.TheVariants.{St
 use Rattle.smq_present.specs.declared.pairing.pairs.SessionForms.{SessionForms}
 use Rattle.smq_present.specs.present.Content as c
 use Rattle.smq_present.specs.declared.present.kept.StoredPdu.{StoredPdu}
-use Rattle.smq_present.specs.known.Pairing.{data_sm, place_at, receipt_pdu, receipt_saying, submit}
+use Rattle.smq_present.specs.known.Pairing.{data_sm, place_at, receipt_pdu, receipt_saying, said, submit}
 use Rattle.smq_present.specs.present.Settings.{SettingsValue, opening_forms}
 use Rattle.smq_present.specs.within.Messages.{SubmittedMessage, message_of}
 use Rattle.smq_present.specs.within.Receipts.{KeyedReceipt, keyed_receipt}
@@ -32,7 +32,7 @@ known_response offset command status id =
 -- a submit_sm of session 10 at an offset that asks for a receipt, with this number and this response
 abbrev pub known_submit : ℕ → Option (List ℕ) → Option StoredPdu → SubmittedMessage
 known_submit offset number response =
-    message_of (known_source 10) (submit offset 1 1) (record { registered_delivery = 1; number = number }) response
+    message_of (known_source 10) (submit offset 1 1) (said 1 number) response
 
 -- six messages: one that is accepted with the id 7, two that are with 8, one without a response, one whose response is that to a
 -- data_sm, and one that is refused
@@ -120,10 +120,10 @@ pub record KnownReceiptLines : Type 0 where
 abbrev pub numbered_source : ℕ → SessionForms
 numbered_source session = record (known_source session) { forms = record { response = Hexadecimal; receipt = Decimal } }
 
--- a PDU of session 10 that asks for a receipt, with this response
+-- a PDU of session 10 from ACME that asks for a receipt, with this response
 abbrev pub numbered_submit : StoredPdu → Option StoredPdu → SubmittedMessage
 numbered_submit request response =
-    message_of (numbered_source 10) request (record { registered_delivery = 1; number = None }) response
+    message_of (numbered_source 10) request (record (said 1 None) { source_ton = 5; source = Some (codes "ACME") }) response
 
 -- four messages: a submit_sm that is accepted with the id 1F, a data_sm that is with 010, one that is with 1G, which is no number, and
 -- a submit_sm without a response
@@ -159,6 +159,9 @@ pub record KnownKeyLines (s : SettingsValue) : Type 0 where
   pub commands :
       map (λ line. line.command) (map (message_line s numbered_submits numbered_receipts) numbered_submits)
       ≡ 0x0000_0004 ∷ 0x0000_0103 ∷ 0x0000_0103 ∷ 0x0000_0004 ∷ []
+  pub sources :
+      map (λ line. (line.source_ton, line.source)) (map (message_line s numbered_submits numbered_receipts) (take 1 numbered_submits))
+      ≡ (5, Some (codes "ACME")) ∷ []
   pub keys_of_receipts :
       map (λ line. line.key) (map (receipt_line numbered_submits numbered_receipts) numbered_receipts)
       ≡ Number 31 ∷ Number 16 ∷ Text (codes "1F") ∷ Text (codes "1G") ∷ []

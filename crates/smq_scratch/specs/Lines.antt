@@ -38,6 +38,8 @@ message_line settings submits receipts m = record {
   receipt = option_map deciding_receipt (decider_of submits receipts m.key);
   key = option_map (λ k. k.key) m.key;
   command = m.header.command;
+  source_ton = m.source_ton;
+  source = m.source;
 }
 
 -- the lines for the submitted messages that are present, in the order of their places

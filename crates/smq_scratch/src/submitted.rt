@@ -71,6 +71,8 @@ fn message_line<'a>(
         },
         form: submit.source.forms.response,
         command: submit.request.command,
+        source_ton: submit.submit.source_ton,
+        source: submit.submit.source.as_ref(),
     }
 }
 

@@ -10,7 +10,7 @@ use Rattle.smq_present.specs.declared.join.lines.ReceiptStanding.{ReceiptStandin
 use Rattle.smq_present.specs.declared.join.lines.ReceiptStanding.TheVariants as r
 
 -- what a line for a message says: what is known of it, when it came in ms, its number, the id with which it is accepted, the
--- offset of its response, the receipt that decides it, the key of its id, and its command_id
+-- offset of its response, the receipt that decides it, the key of its id, its command_id, and the address that it comes from
 pub record MessageLineValue : Type 0 where
   pub fact : Fact
   pub moment : ℕ
@@ -20,6 +20,8 @@ pub record MessageLineValue : Type 0 where
   pub receipt : Option DecidingReceipt
   pub key : Option Key
   pub command : ℕ
+  pub source_ton : ℕ
+  pub source : Option (List ℕ)
 
 -- what a line for a delivery receipt says: its link, its place, when it came in ms, what it says, how it stands to messages,
 -- the message that it matches, the key of its id, and its command_id

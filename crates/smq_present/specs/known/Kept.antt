@@ -7,7 +7,7 @@ use Rattle.smq_pdu.specs.Placed.{PlacedPdu}
 use Rattle.smq_receipt.specs.declared.reading.Reading.TheVariants.{NotReceipt}
 use Rattle.smq_present.specs.present.Content as c
 use Rattle.smq_present.specs.present.Kept.{kept_pdu, submit_in}
-use Rattle.smq_present.specs.known.Pairing.{pdu}
+use Rattle.smq_present.specs.known.Pairing.{pdu, said}
 
 -- a PDU at an offset
 abbrev pub known_at : ℕ → PduValue → PlacedPdu
@@ -29,7 +29,8 @@ pub record KnownKept : Type 0 where
   pub asking :
       kept_pdu (known_at 0 data_sm_pdu)
       ≡ pdu 0 0x0000_0103 0 1
-      (c.DataSm (record { registered_delivery = 1; number = Some (codes "447700900123") }) NotReceipt)
+      (c.DataSm (record { registered_delivery = 1; number = Some (codes "447700900123"); source_ton = 0; source = Some (codes "1000") })
+      NotReceipt)
   pub not_asking :
       submit_in (kept_pdu (known_at 0 data_sm_receipt_pdu)).content
-      ≡ Some (record { registered_delivery = 0; number = None })
+      ≡ Some (said 0 None)

@@ -1,10 +1,11 @@
 -- Known PDUs, as values and as octets, and the notes of sessions that are made of them.
-use Rattle.std.specs.Prelude.{◌≡◌, ◌+◌, ℕ, Bool, true, false, List, [], ◌∷◌, ◌++◌, length, codes, Some, None, ℤ}
+use Rattle.std.specs.Prelude.{◌≡◌, ◌+◌, ℕ, Bool, true, false, List, [], ◌∷◌, ◌++◌, length, codes, Option, Some, None, ℤ}
 use Rattle.smq_kit.specs.declared.place.Dir.{Dir}
 use Rattle.smq_kit.specs.declared.place.Dir.TheVariants.{FromClient, FromCentre}
 use Rattle.smq_kit.specs.declared.place.Place.{Place}
 use Rattle.smq_frame.specs.Stream.{handed_in}
 use Rattle.smq_pdu.specs.Pairing.{is_request, is_response}
+use Rattle.smq_pdu.specs.declared.body.Submit.{Submit}
 use Rattle.smq_kit.specs.declared.error_code.ErrorCode.{ErrorCode}
 use Rattle.smq_kit.specs.declared.error_code.ErrorCode.TheVariants as e
 use Rattle.smq_receipt.specs.declared.message_state.MessageState.{MessageState}
@@ -32,10 +33,15 @@ pdu offset command status seq content = record {
   content = content;
 }
 
+-- what a message says with this registered_delivery and this number, without a source address
+abbrev pub said : ℕ → Option (List ℕ) → Submit
+said registered_delivery number =
+    record { registered_delivery = registered_delivery; number = number; source_ton = 0; source = None }
+
 -- a submit_sm (command_id 0x00000004) with this registered_delivery
 abbrev pub submit : ℕ → ℕ → ℕ → StoredPdu
 submit offset seq registered_delivery = pdu offset 0x0000_0004 0 seq
-    (c.Submit (record { registered_delivery = registered_delivery; number = None }))
+    (c.Submit (said registered_delivery None))
 
 -- a submit_sm_resp (0x80000004) with status 0 and the message id `1`
 abbrev pub accepted : ℕ → StoredPdu
@@ -48,7 +54,7 @@ without_id seq = pdu 0 0x8000_0004 0 seq (c.SubmitAnswer None)
 -- a data_sm (0x00000103) with this registered_delivery that says this as a delivery receipt
 abbrev pub data_sm : ℕ → ℕ → ℕ → Reading → StoredPdu
 data_sm offset seq registered_delivery reading = pdu offset 0x0000_0103 0 seq
-    (c.DataSm (record { registered_delivery = registered_delivery; number = None }) reading)
+    (c.DataSm (said registered_delivery None) reading)
 
 -- a data_sm_resp (0x80000103) with status 0 and the message id `1`
 abbrev pub data_sm_accepted : ℕ → StoredPdu

@@ -15,7 +15,12 @@ use Rattle.smq_present.specs.declared.present.kept.StoredPdu.{StoredPdu}
 
 -- what is kept of what is read of a submit_sm
 abbrev pub kept_submit : SubmitValue → Submit
-kept_submit submit = record { registered_delivery = submit.registered_delivery; number = submit.number }
+kept_submit submit = record {
+  registered_delivery = submit.registered_delivery;
+  number = submit.number;
+  source_ton = submit.source_ton;
+  source = submit.source;
+}
 
 -- what is kept of a body
 abbrev pub content_of_body : BodyValue → Content

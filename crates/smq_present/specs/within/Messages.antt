@@ -15,7 +15,7 @@ use Rattle.smq_present.specs.pairing.Traffic.{asks_receipt}
 use Rattle.smq_kit.specs.LinkKeys.{link_key}
 
 -- a submitted message: a decodable submit_sm or data_sm of the client (SMPP 3.4, 4.4.1 and 4.7.1), with its number and its
--- response, where it has them, and the key of its id where it is accepted
+-- response, where it has them, the key of its id where it is accepted, and the address that it comes from
 pub record SubmittedMessage : Type 0 where
   pub link : LinkId
   pub place : Place
@@ -25,6 +25,8 @@ pub record SubmittedMessage : Type 0 where
   pub asks_receipt : Bool
   pub response : Option StoredPdu
   pub key : Option LinkKey
+  pub source_ton : ℕ
+  pub source : Option (List ℕ)
 
 -- the response to the i-th PDU of the client, by sequence number and rank
 abbrev pub response_of : List StoredPdu → List StoredPdu → ℕ → StoredPdu → Option StoredPdu
@@ -54,6 +56,8 @@ message_of source p submit response = record {
   asks_receipt = asks_receipt submit.registered_delivery;
   response = response;
   key = accepted_key source (header_of p) response;
+  source_ton = submit.source_ton;
+  source = submit.source;
 }
 
 -- a PDU of the client with this response, where it is this decodable submit_sm or data_sm

@@ -2,6 +2,7 @@
 ghost use Rattle.std.specs.Prelude.{◌≡◌};
 
 use smq_kit::{Digits, Form, Key, LinkId, MessageId, Moment, Place, key_of};
+use smq_pdu::SourceAddress;
 use smq_receipt::Receipt;
 use smq_tally::Fact;
 use std::marker::Model;
@@ -25,6 +26,9 @@ pub struct MessageLine<'a> {
     pub form: Form,
     /// The command_id of its submit_sm or data_sm (5.1.2.1).
     pub command: u32,
+    /// The address that it comes from: source_addr_ton (5.2.5) and source_addr (5.2.8), as `Submit` has them.
+    pub source_ton: u8,
+    pub source: Option<&'a SourceAddress>,
 }
 
 impl<'a> Model for MessageLine<'a> {
@@ -43,6 +47,8 @@ impl<'a> Model for MessageLine<'a> {
       receipt = l.receipt;
       key = option_map (key_under l.form) (option_copied l.id);
       command = l.command;
+      source_ton = l.source_ton;
+      source = option_copied l.source;
     } };
 }
 

@@ -8,6 +8,7 @@ use Rattle.smq_frame.specs.Stream as stream
 use Rattle.smq_frame.specs.Tail.{tail_from, tail_after}
 use Rattle.smq_pdu.specs.Header.{word_at}
 use Rattle.smq_pdu.specs.Numbers.{number_of, digits_of}
+use Rattle.smq_pdu.specs.Sources.{source_in}
 use Rattle.smq_pdu.specs.Pdu.{body_of, submit_of, deliver_of, id_of}
 use Rattle.smq_pdu.specs.Readers.{mandatory_at, address_at, c_octet_at, octets_at, number_at, tlv_at, tlvs_within, tlvs_of}
 use Rattle.smq_receipt.specs.Places.{least_below}
@@ -22,7 +23,7 @@ use Rattle.smq_present.specs.present.Content.{Content}
 use Rattle.smq_present.specs.present.Content as c
 use Rattle.smq_present.specs.declared.present.kept.StoredPdu.{StoredPdu}
 use Rattle.smq_book.specs.known.Appended.{first_batch, other_response, answered_session, unread_octets}
-use Rattle.smq_present.specs.known.Pairing.{place_at, known_origin, submit_octets, response_octets}
+use Rattle.smq_present.specs.known.Pairing.{place_at, known_origin, said, submit_octets, response_octets}
 use Rattle.smq_present.specs.known.Present.{waiting}
 use Rattle.smq_book.specs.known.Reach.{submitted_session}
 use Rattle.smq_present.specs.present.Batch.{batch_pdus, next_tail}
@@ -39,10 +40,10 @@ pdu offset moment command seq content =
 -- ---- the PDUs of the batches
 
 abbrev asking : List StoredPdu
-asking = pdu 0 1200 4 1 (c.Submit (record { registered_delivery = 1; number = Some (codes "447700900123") })) ∷ []
+asking = pdu 0 1200 4 1 (c.Submit (said 1 (Some (codes "447700900123")))) ∷ []
 
 asking-pdus : batch_pdus (first_batch FromClient (submit_octets 1 (codes "447700900123"))) ≡ asking
-unfolding stated_length frames_of frames_within stamped word_at body_of submit_of number_of digits_of deliver_of id_of mandatory_at address_at
+unfolding stated_length frames_of frames_within stamped word_at body_of submit_of number_of digits_of source_in deliver_of id_of mandatory_at address_at
     c_octet_at octets_at number_at tlv_at tlvs_within tlvs_of frames_after stream.placed
 asking-pdus = refl
 
@@ -50,12 +51,12 @@ abbrev answering : ℕ → List StoredPdu
 answering seq = pdu 0 1200 0x8000_0004 seq (c.SubmitAnswer (Some (codes "1"))) ∷ []
 
 first-pdus : batch_pdus (first_batch FromCentre (response_octets 1 (codes "1"))) ≡ answering 1
-unfolding stated_length frames_of frames_within stamped word_at body_of submit_of number_of digits_of deliver_of id_of mandatory_at address_at
+unfolding stated_length frames_of frames_within stamped word_at body_of submit_of number_of digits_of source_in deliver_of id_of mandatory_at address_at
     c_octet_at octets_at number_at tlv_at tlvs_within tlvs_of frames_after stream.placed
 first-pdus = refl
 
 second-pdus : batch_pdus (first_batch FromCentre (response_octets 2 (codes "1"))) ≡ answering 2
-unfolding stated_length frames_of frames_within stamped word_at body_of submit_of number_of digits_of deliver_of id_of mandatory_at address_at
+unfolding stated_length frames_of frames_within stamped word_at body_of submit_of number_of digits_of source_in deliver_of id_of mandatory_at address_at
     c_octet_at octets_at number_at tlv_at tlvs_within tlvs_of frames_after stream.placed
 second-pdus = refl
 
@@ -63,12 +64,12 @@ abbrev disagreeing : ℕ → List StoredPdu
 disagreeing moment = pdu 0 moment 0x8000_0015 1 c.Other ∷ []
 
 other-pdus : batch_pdus (first_batch FromCentre other_response) ≡ disagreeing 1200
-unfolding stated_length frames_of frames_within stamped word_at body_of submit_of number_of digits_of deliver_of id_of mandatory_at address_at
+unfolding stated_length frames_of frames_within stamped word_at body_of submit_of number_of digits_of source_in deliver_of id_of mandatory_at address_at
     c_octet_at octets_at number_at tlv_at tlvs_within tlvs_of frames_after stream.placed
 other-pdus = refl
 
 answered-pdus : kept_pdus answered_session.centre ≡ disagreeing 1000
-unfolding stated_length frames_of frames_within stamped word_at body_of submit_of number_of digits_of deliver_of id_of mandatory_at address_at
+unfolding stated_length frames_of frames_within stamped word_at body_of submit_of number_of digits_of source_in deliver_of id_of mandatory_at address_at
     c_octet_at octets_at number_at tlv_at tlvs_within tlvs_of
 answered-pdus = refl
 

@@ -27,6 +27,7 @@ use Rattle.smq_pair.specs.Pairing.{pair_at}
 use Rattle.smq_tally.specs.declared.outcome.Outcome.{Outcome}
 use Rattle.smq_pdu.specs.Header.{word_at}
 use Rattle.smq_pdu.specs.Numbers.{number_of, digits_of}
+use Rattle.smq_pdu.specs.Sources.{source_in}
 use Rattle.smq_pdu.specs.Pairing.{nth_index}
 use Rattle.smq_pdu.specs.Pdu.{body_of, submit_of, deliver_of, id_of}
 use Rattle.smq_pdu.specs.Readers.{mandatory_at, address_at, c_octet_at, octets_at, number_at, tlv_at, tlvs_within, tlvs_of}
@@ -41,7 +42,7 @@ use Rattle.smq_receipt.specs.Texts.{header_of, labels_at, same_letters, stands_a
 use Rattle.smq_present.specs.present.Content as c
 use Rattle.smq_present.specs.declared.present.kept.StoredPdu.{StoredPdu}
 use Rattle.smq_present.specs.declared.present.session.Session.{Session}
-use Rattle.smq_present.specs.known.Pairing.{delivered, place_at, known_origin, submit_octets, response_octets}
+use Rattle.smq_present.specs.known.Pairing.{delivered, place_at, known_origin, said, submit_octets, response_octets}
 use Rattle.smq_present.specs.known.Present.{waiting}
 use Rattle.smq_book.specs.known.Reach.{submitted_session, accepted_session, receipts_session, submitted_book, accepted_book, decided_book, accepted_at, submitting, accepting}
 use Rattle.smq_present.specs.present.Batch.{batch_of}
@@ -67,25 +68,25 @@ use Rattle.smq_present.proofs.lemmas.present.Growth.{kept_pdus-nil}
 -- ---- the PDUs
 
 abbrev known_client : List StoredPdu
-known_client = record { offset = 0; moment = 1000; command = 4; status = 0; seq = 1; content = c.Submit (record { registered_delivery = 1; number = Some (codes "447700900123") }) } ∷ []
+known_client = record { offset = 0; moment = 1000; command = 4; status = 0; seq = 1; content = c.Submit (said 1 (Some (codes "447700900123"))) } ∷ []
 
 abbrev known_centre : List StoredPdu
 known_centre = record { offset = 0; moment = 1200; command = 0x8000_0004; status = 0; seq = 1; content = c.SubmitAnswer (Some (codes "1")) } ∷ []
 
 pub client-is : kept_pdus submitted_session.client ≡ known_client
-unfolding stated_length frames_of frames_within stamped word_at body_of submit_of number_of digits_of deliver_of id_of mandatory_at address_at c_octet_at octets_at number_at tlv_at tlvs_within tlvs_of
+unfolding stated_length frames_of frames_within stamped word_at body_of submit_of number_of digits_of source_in deliver_of id_of mandatory_at address_at c_octet_at octets_at number_at tlv_at tlvs_within tlvs_of
 client-is = refl
 
 centre-is : kept_pdus accepted_session.centre ≡ known_centre
-unfolding stated_length frames_of frames_within stamped word_at body_of submit_of number_of digits_of deliver_of id_of mandatory_at address_at c_octet_at octets_at number_at tlv_at tlvs_within tlvs_of
+unfolding stated_length frames_of frames_within stamped word_at body_of submit_of number_of digits_of source_in deliver_of id_of mandatory_at address_at c_octet_at octets_at number_at tlv_at tlvs_within tlvs_of
 centre-is = refl
 
 submitting-places : batch_places (batch_of (record { 0 = 1 }) (record { 0 = 10 }) FromClient (waiting 0 []) 1000 (submit_octets 1 (codes "447700900123"))) ≡ place_at 10 FromClient 0 ∷ []
-unfolding stated_length frames_of frames_within stamped word_at body_of submit_of number_of digits_of deliver_of id_of mandatory_at address_at c_octet_at octets_at number_at tlv_at tlvs_within tlvs_of frames_after stream.placed
+unfolding stated_length frames_of frames_within stamped word_at body_of submit_of number_of digits_of source_in deliver_of id_of mandatory_at address_at c_octet_at octets_at number_at tlv_at tlvs_within tlvs_of frames_after stream.placed
 submitting-places = refl
 
 accepting-places : batch_places (batch_of (record { 0 = 1 }) (record { 0 = 10 }) FromCentre (waiting 0 []) 1200 (response_octets 1 (codes "1"))) ≡ place_at 10 FromCentre 0 ∷ []
-unfolding stated_length frames_of frames_within stamped word_at body_of submit_of number_of digits_of deliver_of id_of mandatory_at address_at c_octet_at octets_at number_at tlv_at tlvs_within tlvs_of frames_after stream.placed
+unfolding stated_length frames_of frames_within stamped word_at body_of submit_of number_of digits_of source_in deliver_of id_of mandatory_at address_at c_octet_at octets_at number_at tlv_at tlvs_within tlvs_of frames_after stream.placed
 accepting-places = refl
 
 -- ---- weights from lists
@@ -381,7 +382,7 @@ abbrev at_20 : ℕ → Place
 at_20 offset = place_at 20 FromCentre offset
 
 receipts-sent : kept_pdus receipts_session.centre ≡ decided_centre
-unfolding stated_length frames_of frames_within stamped word_at body_of submit_of number_of digits_of deliver_of id_of mandatory_at address_at c_octet_at octets_at number_at tlv_at tlvs_within tlvs_of
+unfolding stated_length frames_of frames_within stamped word_at body_of submit_of number_of digits_of source_in deliver_of id_of mandatory_at address_at c_octet_at octets_at number_at tlv_at tlvs_within tlvs_of
     least_below same_letters stands_at labels_at header_of value_at value_of state_of_number state_of_word network_code_in text_code_in
     centre_delay_of text_of usable_id receipted_id state_in receipt_id_of state_of error_of receipt_of reading_of
 receipts-sent = refl

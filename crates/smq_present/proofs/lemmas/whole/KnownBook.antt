@@ -18,6 +18,7 @@ use Rattle.smq_frame.specs.Stream.{stamped, values as octets_of}
 use Rattle.smq_frame.specs.Tail.{TailValue, tail_of, tail_from}
 use Rattle.smq_pdu.specs.Header.{word_at}
 use Rattle.smq_pdu.specs.Numbers.{number_of, digits_of}
+use Rattle.smq_pdu.specs.Sources.{source_in}
 use Rattle.smq_pdu.specs.Pairing.{nth_index}
 use Rattle.smq_pdu.specs.Pdu.{body_of, submit_of, deliver_of, id_of}
 use Rattle.smq_pdu.specs.Readers.{mandatory_at, address_at, c_octet_at, octets_at, number_at, tlv_at, tlvs_within, tlvs_of}
@@ -51,7 +52,7 @@ use Rattle.smq_present.specs.declared.present.forms.Forms.{Forms}
 use Rattle.smq_present.specs.present.Content.{Content}
 use Rattle.smq_present.specs.present.Content as c
 use Rattle.smq_present.specs.declared.present.kept.StoredPdu.{StoredPdu}
-use Rattle.smq_present.specs.known.Pairing.{place_at}
+use Rattle.smq_present.specs.known.Pairing.{place_at, said}
 use Rattle.smq_present.specs.known.Join.{settings_with}
 use Rattle.smq_present.specs.known.Whole.{known_session, other_session, far_session, known_book, nested_versions, known_fact}
 use Rattle.smq_present.specs.present.Kept.{kept_pdus}
@@ -74,7 +75,7 @@ pdu offset moment command seq content =
     record { offset = offset; moment = moment; command = command; status = 0; seq = seq; content = content }
 
 abbrev submit : ℕ → ℕ → ℕ → Option (List ℕ) → StoredPdu
-submit offset moment seq number = pdu offset moment 4 seq (c.Submit (record { registered_delivery = 1; number = number }))
+submit offset moment seq number = pdu offset moment 4 seq (c.Submit (said 1 number))
 
 abbrev response : ℕ → ℕ → ℕ → List ℕ → StoredPdu
 response offset moment seq id = pdu offset moment 0x8000_0004 seq (c.SubmitAnswer (Some id))
@@ -109,7 +110,7 @@ far_centre = response 0 2100 1 (codes "7") ∷ response 18 2100 2 (codes "7") �
     ∷ receipt 54 3000 90 (codes "7") state.Delivered e.Unstated None ∷ []
 
 known-client : kept_pdus known_session.client ≡ known_client
-unfolding stated_length frames_of frames_within stamped word_at body_of submit_of number_of digits_of deliver_of id_of mandatory_at
+unfolding stated_length frames_of frames_within stamped word_at body_of submit_of number_of digits_of source_in deliver_of id_of mandatory_at
     address_at c_octet_at octets_at number_at tlv_at tlvs_within tlvs_of least_below same_letters stands_at labels_at header_of
     value_at value_of state_of_number state_of_word network_code_in text_code_in two_digits_at is_date day_number_of
     second_of_day_of moment_of centre_delay_of text_of usable_id receipted_id state_in readings.id_of state_of error_of receipt_of
@@ -118,14 +119,14 @@ known-client = refl
 
 -- the receipt's dates are known moments
 known-centre : kept_pdus known_session.centre ≡ known_centre
-unfolding stated_length frames_of frames_within stamped word_at body_of submit_of number_of digits_of deliver_of id_of mandatory_at
+unfolding stated_length frames_of frames_within stamped word_at body_of submit_of number_of digits_of source_in deliver_of id_of mandatory_at
     address_at c_octet_at octets_at number_at tlv_at tlvs_within tlvs_of least_below same_letters stands_at labels_at header_of
     value_at value_of state_of_number state_of_word network_code_in text_code_in centre_delay_of text_of usable_id receipted_id
     state_in readings.id_of state_of error_of receipt_of reading_of
 known-centre = λ i. centre_dated (limits.minutes i) (limits.seconds i)
 
 other-client : kept_pdus other_session.client ≡ other_client
-unfolding stated_length frames_of frames_within stamped word_at body_of submit_of number_of digits_of deliver_of id_of mandatory_at
+unfolding stated_length frames_of frames_within stamped word_at body_of submit_of number_of digits_of source_in deliver_of id_of mandatory_at
     address_at c_octet_at octets_at number_at tlv_at tlvs_within tlvs_of least_below same_letters stands_at labels_at header_of
     value_at value_of state_of_number state_of_word network_code_in text_code_in two_digits_at is_date day_number_of
     second_of_day_of moment_of centre_delay_of text_of usable_id receipted_id state_in readings.id_of state_of error_of receipt_of
@@ -133,7 +134,7 @@ unfolding stated_length frames_of frames_within stamped word_at body_of submit_o
 other-client = refl
 
 other-centre : kept_pdus other_session.centre ≡ other_centre
-unfolding stated_length frames_of frames_within stamped word_at body_of submit_of number_of digits_of deliver_of id_of mandatory_at
+unfolding stated_length frames_of frames_within stamped word_at body_of submit_of number_of digits_of source_in deliver_of id_of mandatory_at
     address_at c_octet_at octets_at number_at tlv_at tlvs_within tlvs_of least_below same_letters stands_at labels_at header_of
     value_at value_of state_of_number state_of_word network_code_in text_code_in two_digits_at is_date day_number_of
     second_of_day_of moment_of centre_delay_of text_of usable_id receipted_id state_in readings.id_of state_of error_of receipt_of
@@ -141,7 +142,7 @@ unfolding stated_length frames_of frames_within stamped word_at body_of submit_o
 other-centre = refl
 
 far-client : kept_pdus far_session.client ≡ far_client
-unfolding stated_length frames_of frames_within stamped word_at body_of submit_of number_of digits_of deliver_of id_of mandatory_at
+unfolding stated_length frames_of frames_within stamped word_at body_of submit_of number_of digits_of source_in deliver_of id_of mandatory_at
     address_at c_octet_at octets_at number_at tlv_at tlvs_within tlvs_of least_below same_letters stands_at labels_at header_of
     value_at value_of state_of_number state_of_word network_code_in text_code_in two_digits_at is_date day_number_of
     second_of_day_of moment_of centre_delay_of text_of usable_id receipted_id state_in readings.id_of state_of error_of receipt_of
@@ -149,7 +150,7 @@ unfolding stated_length frames_of frames_within stamped word_at body_of submit_o
 far-client = refl
 
 far-centre : kept_pdus far_session.centre ≡ far_centre
-unfolding stated_length frames_of frames_within stamped word_at body_of submit_of number_of digits_of deliver_of id_of mandatory_at
+unfolding stated_length frames_of frames_within stamped word_at body_of submit_of number_of digits_of source_in deliver_of id_of mandatory_at
     address_at c_octet_at octets_at number_at tlv_at tlvs_within tlvs_of least_below same_letters stands_at labels_at header_of
     value_at value_of state_of_number state_of_word network_code_in text_code_in two_digits_at is_date day_number_of
     second_of_day_of moment_of centre_delay_of text_of usable_id receipted_id state_in readings.id_of state_of error_of receipt_of
