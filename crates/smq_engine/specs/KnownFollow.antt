@@ -138,6 +138,6 @@ pub record KnowsEndings : Type 0 where
 pub record KnowsLines : Type 0 where
   pub messages : (p : PresentValue) → message_lines p ≡ [] → output_text Messages p
       ≡ codes "link,session,offset,moment,number,route,network,outcome,error,id,response_offset,"
-      ++ (codes "receipt_session,receipt_offset,receipt_moment,centre_delay,key,command" ++ 10 ∷ [])
+      ++ (codes "receipt_session,receipt_offset,receipt_moment,centre_delay,key,command,source,ton" ++ 10 ∷ [])
   pub receipts : (p : PresentValue) → receipt_lines p ≡ [] → output_text Receipts p
       ≡ codes "link,session,offset,moment,id,state,interim,error,standing,message_session,message_offset,key,command" ++ 10 ∷ []

@@ -58,6 +58,10 @@ last_place dir = record { session = record { 0 = 18446744073709551615 }; dir = d
 abbrev pub longest_id : List ℕ
 longest_id = codes "0123456789012345678901234567890123456789012345678901234567890123"
 
+-- a source of 20 octets
+abbrev pub longest_source : List ℕ
+longest_source = codes "0123456789abcdefghij"
+
 -- route 10 and network 23410
 abbrev pub known_route : Option (RouteId × List ℕ)
 known_route = Some (record { 0 = 10 }, codes "23410")
@@ -80,6 +84,8 @@ delivered_line = record {
   receipt = decided_by 230 1700000004000 (Some (neg_ℤ (pos 60000)));
   key = Some (Text (codes "a,b\"" ++ 10 ∷ codes "c"));
   command = 0x0000_0004;
+  source_ton = 5;
+  source = Some (codes "a,\"" ++ 10 ∷ []);
 }
 
 -- a data_sm without a number, a route and a response
@@ -93,6 +99,8 @@ waiting_line = record {
   receipt = None;
   key = None;
   command = 0x0000_0103;
+  source_ton = 0;
+  source = None;
 }
 
 -- a message that was refused by status 88
@@ -106,6 +114,8 @@ refused_line = record {
   receipt = None;
   key = None;
   command = 0x0000_0004;
+  source_ton = 1;
+  source = Some (codes "447700900999");
 }
 
 -- a message with a hexadecimal id that failed, as its receipt says, which has no two dates
@@ -119,6 +129,8 @@ failed_line = record {
   receipt = decided_by 346 1700000005000 None;
   key = Some (Number 31);
   command = 0x0000_0004;
+  source_ton = 5;
+  source = Some (codes "ACME");
 }
 
 -- a data_sm whose receipt was done as long after it was submitted
@@ -132,6 +144,8 @@ late_line = record {
   receipt = decided_by 462 1 (Some (pos 60000));
   key = Some (Text (codes "id 1"));
   command = 0x0000_0103;
+  source_ton = 0;
+  source = Some (codes "1000");
 }
 
 -- a message whose numbers and id are the greatest, and whose receipt was done as long before it was submitted as dates can say
@@ -152,42 +166,44 @@ last_line = record {
   });
   key = Some (Text longest_id);
   command = 0x0000_0103;
+  source_ton = 255;
+  source = Some longest_source;
 }
 
 -- the columns of lines for messages, as they are written
 abbrev pub message_header : List ℕ
-message_header = codes "link,session,offset,moment,number,route,network,outcome,error,id,response_offset,receipt_session,receipt_offset,receipt_moment,centre_delay,key,command"
+message_header = codes "link,session,offset,moment,number,route,network,outcome,error,id,response_offset,receipt_session,receipt_offset,receipt_moment,centre_delay,key,command,source,ton"
 
--- Texts of lines for messages: of none, of one of each, of the greatest numbers, and of two. An id is quoted where it has a comma, a double quote, which
--- is written twice, or an end of a line, and nowhere else.
+-- Texts of lines for messages: of none, of one of each, of the greatest numbers, and of two. An id or a source is quoted where it has a comma, a double
+-- quote, which is written twice, or an end of a line, and nowhere else.
 pub record KnowsMessages : Type 0 where
   pub none : messages_text [] ≡ message_header ++ 10 ∷ []
   pub delivered :
       message_record delivered_line
       ≡ codes "7,20,49,1700000000000,447700900123,10,23410,delivered,,\"a,b\"\""
       ++ 10 ∷ codes "c\",100,30,230,1700000004000,-60000,\"a,b\"\""
-      ++ 10 ∷ codes "c\",submit_sm" ++ 10 ∷ []
-  pub waiting : message_record waiting_line ≡ codes "7,20,98,1,,none,none,waiting,,,,,,,,,data_sm" ++ 10 ∷ []
+      ++ 10 ∷ codes "c\",submit_sm,\"a,\"\"" ++ 10 ∷ codes "\",5" ++ 10 ∷ []
+  pub waiting : message_record waiting_line ≡ codes "7,20,98,1,,none,none,waiting,,,,,,,,,data_sm,,0" ++ 10 ∷ []
   pub refused :
       message_record refused_line
-      ≡ codes "7,20,147,4102444800000,1,10,23410,refused,status:88,,116,,,,,,submit_sm" ++ 10 ∷ []
+      ≡ codes "7,20,147,4102444800000,1,10,23410,refused,status:88,,116,,,,,,submit_sm,447700900999,1" ++ 10 ∷ []
   pub failed :
       message_record failed_line
-      ≡ codes "7,20,196,1700000000000,447700900124,10,23410,failed,net:3:8,1F,132,30,346,1700000005000,,31,submit_sm" ++ 10 ∷ []
+      ≡ codes "7,20,196,1700000000000,447700900124,10,23410,failed,net:3:8,1F,132,30,346,1700000005000,,31,submit_sm,ACME,5" ++ 10 ∷ []
   pub late :
       message_record late_line
-      ≡ codes "7,20,245,0,447700900125,10,23410,failed,text:027,id 1,148,30,462,1,60000,id 1,data_sm" ++ 10 ∷ []
+      ≡ codes "7,20,245,0,447700900125,10,23410,failed,text:027,id 1,148,30,462,1,60000,id 1,data_sm,1000,0" ++ 10 ∷ []
   pub last :
       message_record last_line
       ≡ codes "4294967295,18446744073709551615,281474976710656,4102444800000,999999999999999,4294967295,310026,failed,net:255:65535,"
       ++ longest_id
       ++ codes ",281474976710656,18446744073709551615,281474976710656,4102444800000,-3155759999000,"
       ++ longest_id
-      ++ codes ",data_sm" ++ 10 ∷ []
+      ++ codes ",data_sm," ++ longest_source ++ codes ",255" ++ 10 ∷ []
   pub two :
       messages_text (waiting_line ∷ refused_line ∷ [])
-      ≡ lines_of (message_header ∷ codes "7,20,98,1,,none,none,waiting,,,,,,,,,data_sm"
-      ∷ codes "7,20,147,4102444800000,1,10,23410,refused,status:88,,116,,,,,,submit_sm" ∷ [])
+      ≡ lines_of (message_header ∷ codes "7,20,98,1,,none,none,waiting,,,,,,,,,data_sm,,0"
+      ∷ codes "7,20,147,4102444800000,1,10,23410,refused,status:88,,116,,,,,,submit_sm,447700900999,1" ∷ [])
 
 -- ---- lines for delivery receipts
 

@@ -49,10 +49,12 @@ message_columns =
     ∷ codes "centre_delay"
     ∷ codes "key"
     ∷ codes "command"
+    ∷ codes "source"
+    ∷ codes "ton"
     ∷ []
 
 -- the fields of a line for a message, one for each column: what a report prints of its route, its network and its error, and
--- nothing where it has no number, error, id, response, deciding receipt, centre's delay or key
+-- nothing where it has no number, error, id, response, deciding receipt, centre's delay, key or source
 abbrev pub message_fields : MessageLineValue → List (List ℕ)
 message_fields line =
     decimal line.fact.link.0
@@ -72,6 +74,8 @@ message_fields line =
     ∷ text_or_empty signed_decimal (option_and_then (λ receipt. receipt.centre_delay) line.receipt)
     ∷ text_or_empty key_text line.key
     ∷ command_name line.command
+    ∷ unwrap_or line.source []
+    ∷ decimal line.source_ton
     ∷ []
 
 -- the record of a line for a message

@@ -9,13 +9,14 @@ ghost use Rattle.smq_report.specs.Lines.{key_text, message_fields, receipt_field
 
 use crate::fields::Fields;
 use smq_kit::{Digits, Key, MessageId, Network, Place, RouteId};
+use smq_pdu::SourceAddress;
 use smq_present::{DecidingReceipt, MessageLine, ReceiptLine};
 use smq_receipt::MessageState;
 use smq_tally::SubmitError;
 use std::alloc::AllocError;
 
 /// The columns of lines for messages.
-pub(crate) const MESSAGE_COLUMNS: [&[u8]; 17] = [
+pub(crate) const MESSAGE_COLUMNS: [&[u8]; 19] = [
     b"link",
     b"session",
     b"offset",
@@ -33,6 +34,8 @@ pub(crate) const MESSAGE_COLUMNS: [&[u8]; 17] = [
     b"centre_delay",
     b"key",
     b"command",
+    b"source",
+    b"ton",
 ];
 
 /// The columns of lines for delivery receipts.
@@ -67,7 +70,9 @@ pub(crate) fn put_message(fields: &mut Fields, line: &MessageLine<'_>) -> Result
     put_offset(fields, line.response)?;
     put_deciding(fields, line.receipt)?;
     put_key(fields, line.key().as_ref())?;
-    put_command(fields, line.command)
+    put_command(fields, line.command)?;
+    put_source(fields, line.source)?;
+    fields.put_number(line.source_ton as u64)
 }
 
 /// Puts the fields of a line for a delivery receipt after the others.
@@ -113,6 +118,16 @@ fn put_id(fields: &mut Fields, id: Option<&MessageId>) -> Result<(), AllocError>
 {
     match id {
         Some(id) => fields.put_octets(id.as_slice()),
+        None => fields.put_octets(b""),
+    }
+}
+
+/// Puts the octets of a source address.
+fn put_source(fields: &mut Fields, source: Option<&SourceAddress>) -> Result<(), AllocError>
+    ensures { OnOk result (fields.new ≡ fields.old ++ unwrap_or (option_copied source.entry) [] ∷ []) }
+{
+    match source {
+        Some(source) => fields.put_octets(source.as_slice()),
         None => fields.put_octets(b""),
     }
 }

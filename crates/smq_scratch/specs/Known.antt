@@ -1,5 +1,5 @@
 -- The lines for messages and receipts that are written out.
-use Rattle.std.specs.Prelude.{◌≡◌, ℕ, true, false, Bool, List, [], ◌∷◌, map, take, codes, Option, Some, None, ℤ, pos}
+use Rattle.std.specs.Prelude.{◌≡◌, ℕ, true, false, Bool, List, [], ◌∷◌, map, codes, Option, Some, None, ℤ, pos}
 use Rattle.smq_kit.specs.declared.message_id.Form.TheVariants.{Decimal, Hexadecimal}
 use Rattle.smq_kit.specs.declared.message_id.Key.TheVariants.{Number, Text}
 use Rattle.smq_kit.specs.declared.place.Dir.TheVariants.{FromClient, FromCentre}
@@ -159,9 +159,10 @@ pub record KnownKeyLines (s : SettingsValue) : Type 0 where
   pub commands :
       map (λ line. line.command) (map (message_line s numbered_submits numbered_receipts) numbered_submits)
       ≡ 0x0000_0004 ∷ 0x0000_0103 ∷ 0x0000_0103 ∷ 0x0000_0004 ∷ []
+  pub tons : map (λ line. line.source_ton) (map (message_line s numbered_submits numbered_receipts) numbered_submits) ≡ 5 ∷ 5 ∷ 5 ∷ 5 ∷ []
   pub sources :
-      map (λ line. (line.source_ton, line.source)) (map (message_line s numbered_submits numbered_receipts) (take 1 numbered_submits))
-      ≡ (5, Some (codes "ACME")) ∷ []
+      map (λ line. line.source) (map (message_line s numbered_submits numbered_receipts) numbered_submits)
+      ≡ Some (codes "ACME") ∷ Some (codes "ACME") ∷ Some (codes "ACME") ∷ Some (codes "ACME") ∷ []
   pub keys_of_receipts :
       map (λ line. line.key) (map (receipt_line numbered_submits numbered_receipts) numbered_receipts)
       ≡ Number 31 ∷ Number 16 ∷ Text (codes "1F") ∷ Text (codes "1G") ∷ []

@@ -38,7 +38,7 @@ const WHOLE_TEXT: &[u8] =
 const LINKS_TEXT: &[u8] = b"view link\n  1                        open                1\n";
 
 const MESSAGES_TEXT: &[u8] =
-    b"link,session,offset,moment,number,route,network,outcome,error,id,response_offset,receipt_session,receipt_offset,receipt_moment,centre_delay,key,command\n1,10,0,1000,447700900123,none,none,open,,1,0,,,,,1,submit_sm\n";
+    b"link,session,offset,moment,number,route,network,outcome,error,id,response_offset,receipt_session,receipt_offset,receipt_moment,centre_delay,key,command,source,ton\n1,10,0,1000,447700900123,none,none,open,,1,0,,,,,1,submit_sm,1000,0\n";
 
 const RECEIPTS_TEXT: &[u8] =
     b"link,session,offset,moment,id,state,interim,error,standing,message_session,message_offset,key,command\n";

@@ -38,12 +38,12 @@ const SCRIPT: &[Step] = &[
 /// A submit_sm to `NUMBER` has 49 octets and one to no number 37; a response with an id of one octet has 18.
 const MESSAGES: &[u8] =
     b"link,session,offset,moment,number,route,network,outcome,error,id,response_offset,\
-receipt_session,receipt_offset,receipt_moment,centre_delay,key,command\n\
-1,10,0,1000,447700900123,3,23410,failed,text:027,a,0,11,50,5000,60000,10,submit_sm\n\
-1,10,49,1000,447700900123,3,23410,ambiguous,,b,18,,,,,11,submit_sm\n\
-1,10,98,1100,,none,none,ambiguous,,b,36,,,,,11,submit_sm\n\
-1,10,135,1100,447700900123,3,23410,waiting,,,,,,,,,submit_sm\n\
-1,10,184,1100,447700900123,3,23410,refused,status:8,,54,,,,,,submit_sm\n";
+receipt_session,receipt_offset,receipt_moment,centre_delay,key,command,source,ton\n\
+1,10,0,1000,447700900123,3,23410,failed,text:027,a,0,11,50,5000,60000,10,submit_sm,1000,0\n\
+1,10,49,1000,447700900123,3,23410,ambiguous,,b,18,,,,,11,submit_sm,1000,0\n\
+1,10,98,1100,,none,none,ambiguous,,b,36,,,,,11,submit_sm,1000,0\n\
+1,10,135,1100,447700900123,3,23410,waiting,,,,,,,,,submit_sm,1000,0\n\
+1,10,184,1100,447700900123,3,23410,refused,status:8,,54,,,,,,submit_sm,1000,0\n";
 
 /// A deliver_sm has 33 octets and its text: 17 of it make 50, and 69 make 102.
 const RECEIPTS: &[u8] =

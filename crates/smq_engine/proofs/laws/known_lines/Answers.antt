@@ -5,7 +5,7 @@ use Rattle.smq_engine.proofs.laws.known_lines.Goals as goal
 
 no_message : messages_text []
     ≡ codes "link,session,offset,moment,number,route,network,outcome,error,id,response_offset,"
-    ++ (codes "receipt_session,receipt_offset,receipt_moment,centre_delay,key,command" ++ 10 ∷ [])
+    ++ (codes "receipt_session,receipt_offset,receipt_moment,centre_delay,key,command,source,ton" ++ 10 ∷ [])
 unfolding fields_text is_blank escaped
 no_message = refl
 
