@@ -50,7 +50,7 @@ use window_length::length_of;
 
 /// What is said of words that name no column.
 const BAD_COLUMNS: &str =
-    "--by and --where want columns: link, session, route, network, outcome, error, link-delay, centre-delay, minute, hour, day, month, prefix:N (N from 1 to 15)";
+    "--by and --where want columns: link, session, route, network, outcome, error, link-delay, centre-delay, minute, hour, day, month, source, ton, prefix:N (N from 1 to 15)";
 
 /// What is said of a window that is none.
 const BAD_LENGTH: &str = "a window is as long as 90s, 15m or 6h: from 1s to 999999h";

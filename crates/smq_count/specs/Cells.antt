@@ -37,6 +37,8 @@ cell_in (c.View view) line = option_map_or cell.Value (value_in view line.fact) 
 cell_in c.Session line = cell.Session line.fact.place.session
 cell_in c.Outcome line = cell.Outcome line.fact.outcome
 cell_in (c.Period period) line = cell.Period period (period_of period line.moment)
+cell_in c.Source line = option_map_or cell.Source line.source cell.Nothing
+cell_in c.SourceTon line = cell.Ton line.source_ton
 cell_in (c.Prefix digits) line = option_map_or (λ number. cell.Prefix (record { items = take digits number })) line.number cell.Nothing
 
 -- how it is written, as reports do; nothing where there is nothing
@@ -45,11 +47,13 @@ cell_text (cell.Value value) = value_text value
 cell_text (cell.Session session) = decimal session.0
 cell_text (cell.Outcome outcome) = outcome_name outcome
 cell_text (cell.Period period number) = period_text period number
+cell_text (cell.Source source) = source
+cell_text (cell.Ton ton) = decimal ton
 cell_text (cell.Prefix digits) = digits.items
 cell_text cell.Nothing = []
 
--- the order of what stands in a column: as views have it, sessions by number, outcomes as reports have them, periods by time, prefixes by
--- their octets, and last where there is nothing
+-- the order of what stands in a column: as views have it, sessions and types of number by number, outcomes as reports have them, periods
+-- by time, sources and prefixes by their octets, and last where there is nothing
 abbrev pub cell_cmp : Cell → Cell → Ordering
 cell_cmp = (cell_ord.ghosts).cmp
 

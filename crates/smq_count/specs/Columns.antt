@@ -22,6 +22,8 @@ column_name (c.View view) = view_name view
 column_name c.Session = codes "session"
 column_name c.Outcome = codes "outcome"
 column_name (c.Period period) = period_name period
+column_name c.Source = codes "source"
+column_name c.SourceTon = codes "ton"
 column_name (c.Prefix digits) = codes "prefix:" ++ decimal digits
 
 -- all columns: prefixes have up to 15 digits, as numbers do (E.164, section 6)
@@ -39,6 +41,8 @@ columns =
     ∷ c.Period p.Hour
     ∷ c.Period p.Day
     ∷ c.Period p.Month
+    ∷ c.Source
+    ∷ c.SourceTon
     ∷ map c.Prefix (1 ∷ 2 ∷ 3 ∷ 4 ∷ 5 ∷ 6 ∷ 7 ∷ 8 ∷ 9 ∷ 10 ∷ 11 ∷ 12 ∷ 13 ∷ 14 ∷ 15 ∷ [])
 
 -- whether a column has this name

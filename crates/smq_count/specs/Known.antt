@@ -23,6 +23,8 @@ pub record KnowsColumns : Type 0 where
   pub hour : find (is_named (codes "hour")) columns ≡ Some (c.Period p.Hour)
   pub day : find (is_named (codes "day")) columns ≡ Some (c.Period p.Day)
   pub month : find (is_named (codes "month")) columns ≡ Some (c.Period p.Month)
+  pub source : find (is_named (codes "source")) columns ≡ Some c.Source
+  pub ton : find (is_named (codes "ton")) columns ≡ Some c.SourceTon
   pub least_prefix : find (is_named (codes "prefix:1")) columns ≡ Some (c.Prefix 1)
   pub most_prefix : find (is_named (codes "prefix:15")) columns ≡ Some (c.Prefix 15)
   pub no_prefix : find (is_named (codes "prefix:0")) columns ≡ None
@@ -49,6 +51,8 @@ pub record KnowsCells : Type 0 where
   pub session : cell_text (cell.Session (record { 0 = 10 })) ≡ codes "10"
   pub outcome : cell_text (cell.Outcome o.NoId) ≡ codes "noid"
   pub no_route : cell_text (cell.Value w.NoRoute) ≡ codes "none"
+  pub source : cell_text (cell.Source (codes "ACME")) ≡ codes "ACME"
+  pub ton : cell_text (cell.Ton 5) ≡ codes "5"
   pub prefix : cell_text (cell.Prefix (record { items = codes "447" })) ≡ codes "447"
   pub nothing : cell_text cell.Nothing ≡ []
 
@@ -67,10 +71,15 @@ known_prefixes =
     cell.Prefix (record { items = codes "4" }) ∷ cell.Prefix (record { items = codes "44" }) ∷ cell.Prefix (record { items = codes "447" })
     ∷ cell.Prefix (record { items = codes "5" }) ∷ cell.Nothing ∷ []
 
+abbrev pub known_sources : List Cell
+known_sources = cell.Source (codes "447") ∷ cell.Source (codes "ACME") ∷ cell.Source (codes "acme") ∷ cell.Nothing ∷ []
+
 -- What stands in a column has its order.
 pub record KnowsOrder : Type 0 where
   pub routes : IsStrictlySortedBy cell_cmp known_routes
   pub sessions : IsStrictlySortedBy cell_cmp known_sessions
   pub outcomes : IsStrictlySortedBy cell_cmp known_outcomes
   pub days : IsStrictlySortedBy cell_cmp (cell.Period p.Day 9 ∷ cell.Period p.Day 10 ∷ [])
+  pub sources : IsStrictlySortedBy cell_cmp known_sources
+  pub tons : IsStrictlySortedBy cell_cmp (cell.Ton 2 ∷ cell.Ton 10 ∷ [])
   pub prefixes : IsStrictlySortedBy cell_cmp known_prefixes

@@ -6,6 +6,7 @@ use crate::column::{Column, Period};
 use crate::period::{period_of, push_period};
 use arrayvec::ArrayVec;
 use smq_kit::{Digits, SessionId};
+use smq_pdu::SourceAddress;
 use smq_present::MessageLine;
 use smq_report::push_value;
 use smq_tally::{Outcome, Value};
@@ -20,6 +21,10 @@ pub enum Cell {
     Outcome(Outcome),
     /// A period, by the number of such periods since 1970 in UTC.
     Period(Period, u32),
+    /// The address that it comes from.
+    Source(SourceAddress),
+    /// The type of that address's number.
+    Ton(u8),
     /// The first digits of its number.
     Prefix(ArrayVec<u8, 15>),
     /// It has nothing there.
@@ -39,6 +44,11 @@ impl Cell {
             Column::Session => Cell::Session(line.fact.place.session),
             Column::Outcome => Cell::Outcome(line.fact.outcome),
             Column::Period(period) => Cell::Period(period, period_of(period, line.moment)),
+            Column::Source => match line.source {
+                Some(source) => Cell::Source(source.copy()),
+                None => Cell::Nothing,
+            },
+            Column::SourceTon => Cell::Ton(line.source_ton),
             Column::Prefix(digits) => match line.number {
                 Some(number) => Cell::Prefix(first_digits(number, digits)),
                 None => Cell::Nothing,
@@ -59,6 +69,8 @@ impl Cell {
             }
             Cell::Outcome(outcome) => text.push_str(outcome.name())?,
             Cell::Period(period, number) => push_period(&mut text, *period, *number)?,
+            Cell::Source(source) => return octets_of(alloc, source.as_slice()),
+            Cell::Ton(ton) => write!(text, "{ton}")?,
             Cell::Prefix(digits) => return octets_of(alloc, digits.as_slice()),
             Cell::Nothing => {}
         }

@@ -40,12 +40,16 @@ pub enum Column {
     Outcome,
     /// The period in which that came.
     Period(Period),
+    /// The address that it comes from, as `Submit` has it (5.2.8).
+    Source,
+    /// The type of that address's number (5.2.5).
+    SourceTon,
     /// The first so many digits of the number that it is sent to (5.2.9), or all where it has fewer.
     Prefix(u8),
 }
 
 /// All columns.
-const COLUMNS: [Column; 27] = [
+const COLUMNS: [Column; 29] = [
     Column::View(View::Link),
     Column::Session,
     Column::View(View::Route),
@@ -58,6 +62,8 @@ const COLUMNS: [Column; 27] = [
     Column::Period(Period::Hour),
     Column::Period(Period::Day),
     Column::Period(Period::Month),
+    Column::Source,
+    Column::SourceTon,
     Column::Prefix(1),
     Column::Prefix(2),
     Column::Prefix(3),
@@ -85,6 +91,8 @@ impl Column {
             Column::Session => text.push_str("session"),
             Column::Outcome => text.push_str("outcome"),
             Column::Period(period) => text.push_str(period.name()),
+            Column::Source => text.push_str("source"),
+            Column::SourceTon => text.push_str("ton"),
             Column::Prefix(digits) => write!(text, "prefix:{digits}"),
         }
     }

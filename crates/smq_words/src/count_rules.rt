@@ -12,7 +12,7 @@ pub fn columns_option<'a>(alloc: Global) -> Arg<'a>
         .long("by")
         .value_name("COLUMNS")
         .help(
-            "Columns, with commas between: link, session, route, network, outcome, error, link-delay, centre-delay, minute, hour, day, month (of the message's moment, in UTC), prefix:N (the first N digits of its number)",
+            "Columns, with commas between: link, session, route, network, outcome, error, link-delay, centre-delay, minute, hour, day, month (of the message's moment, in UTC), source, ton (the address that it comes from, and the type of its number), prefix:N (the first N digits of its number)",
         )
         .required(true)
         .action(ArgAction::Set)
