@@ -1,5 +1,5 @@
 -- A row that is written of octets is read as those octets.
-use Rattle.std.proofs.Common.{◌≡◌, ◌∙◌, ◌==◌, ◌||◌, ◌<◌, ◌≤◌, ◌/◌, ◌%◌, ◌^◌, ℕ, Bool, true, false, List, [], ◌∷◌, ◌++◌, length, map, Option, Some, None, Ok, zero, suc, codes, refl, sym, ap, subst, append_assoc, arith}
+use Rattle.std.proofs.Common.{◌≡◌, ◌∙◌, ◌==◌, ◌||◌, ◌<◌, ◌≤◌, ◌/◌, ◌%◌, ◌^◌, ℕ, true, false, List, [], ◌∷◌, ◌++◌, length, map, Some, suc, codes, refl, sym, ap, subst, append_assoc, arith}
 use Rattle.std.specs.Prelude.{nat_le, decimal, slice_index}
 use Rattle.std.specs.Char.{is_ascii_digit}
 use Rattle.std.specs.List.{All, flat_map, list_all, list_any}
@@ -10,13 +10,13 @@ use Rattle.hex.specs.Hex.{IsBytes, encode_lower, encode_with, hex_digit_value, l
 use Rattle.hex.proofs.HexLemmas.{IsDigits-lower_digits, decode_of-encode_lower}
 use Rattle.csv.specs.Machine.{next_record}
 use Rattle.csv.specs.Reading.{AreRecords, Reached, default_config, strip_bom}
-use Rattle.csv.specs.Writing.{default_writer, field_text, fields_text, is_blank, needs_byte}
+use Rattle.csv.specs.Writing.{default_writer, fields_text, is_blank, needs_byte}
 use Rattle.csv.specs.Writing.{row_text as csv_text}
 use Rattle.csv.specs.declared.parser.State.TheVariants as st
 use Rattle.csv.proofs.RoundTrip.{read-write-many}
 use Rattle.smq_capture.specs.declared.side.Side.{Side}
 use Rattle.smq_capture.specs.declared.side.Side.TheVariants.{Client, Centre}
-use Rattle.smq_load.specs.Decimal.{decimal_of, decimal_to, is_decimal, sum_of}
+use Rattle.smq_load.specs.Decimal.{decimal_of, decimal_to}
 use Rattle.smq_load.specs.Row.{row_of}
 use Rattle.smq_load.specs.Script.{IsScript, SayRows, most_records}
 use Rattle.smq_load.proofs.DecimalLemmas.{own}
@@ -50,10 +50,6 @@ plain_hex (x ∷ xs) h =
 abbrev side_name : Side → List ℕ
 side_name Client = codes "client"
 side_name Centre = codes "centre"
-
-plain_side : (side : Side) → list_any (needs_byte default_writer) (side_name side) ≡ false
-plain_side Client = refl
-plain_side Centre = refl
 
 abbrev fields : Captured → List (List ℕ)
 fields c =

@@ -1,5 +1,5 @@
 -- What a record says, by its fields' places and the test of its first.
-use Rattle.std.proofs.Common.{◌≡◌, List, [], ◌∷◌, ℕ, true, false, None, length, arith, refl}
+use Rattle.std.proofs.Common.{◌≡◌, List, [], ◌∷◌, ℕ, true, false, refl}
 use Rattle.std.specs.Prelude.{codes, drop, find, option_map}
 use Rattle.std.specs.Str.{bytes_eq}
 use Rattle.csv.specs.Records.{field_at}
@@ -29,12 +29,3 @@ pub record_of-row : (fields : List (List ℕ)) → begins_with (codes "ask") fie
 unfolding field_at
 record_of-row [] h l = refl
 record_of-row (first ∷ fields) h l = rw (h, l) refl
-
--- there aren't three fields after the first
-pub lost_of-other : (fields : List (List ℕ)) → (length fields ≡ 4 → ⊥) → lost_of (drop 1 fields) ≡ None
-lost_of-other [] h = refl
-lost_of-other (a ∷ []) h = refl
-lost_of-other (a ∷ b ∷ []) h = refl
-lost_of-other (a ∷ b ∷ d ∷ []) h = refl
-lost_of-other (a ∷ b ∷ d ∷ e ∷ []) h = absurd (h refl)
-lost_of-other (a ∷ b ∷ d ∷ e ∷ f ∷ fields) h = refl

@@ -1,6 +1,6 @@
 -- What is known of the values that `clap` reads of an argument: a name is one that is taken, and a flag is given or not.
 use Rattle.std.proofs.Common.{◌≡◌, ◌∙◌, ◌||◌, Bool, true, false, cond, List, [], ◌∷◌, ◌++◌, map, Option, Some, None, ◌⊎◌, inl, inr, refl, sym, ap, subst, codes}
-use Rattle.std.specs.Prelude.{not, unwrap_or}
+use Rattle.std.specs.Prelude.{unwrap_or}
 use Rattle.std.specs.Borrow.{Bor}
 use Rattle.std.specs.List.{list_any}
 use Rattle.std.specs.Str.{bytes_eq}
@@ -10,7 +10,6 @@ use Rattle.clap.specs.Simple.{filled, help_rule, with_index}
 use Rattle.clap.specs.ValueTests.{accepts}
 use Rattle.clap.specs.Values.{bool_text, read_as, refused_kind}
 use Rattle.clap.specs.Walk.{Names, Rule, Text}
-use Rattle.clap.specs.Walk.{value}
 use Rattle.clap.specs.declared.builder.value_parser.Reading.{Reading}
 use Rattle.clap.specs.declared.builder.value_parser.Reading.TheVariants as reading
 use Rattle.clap.specs.declared.builder.value_parser.ValueParser.{ValueParser}

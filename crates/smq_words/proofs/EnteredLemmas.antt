@@ -6,7 +6,6 @@ use Rattle.clap.specs.Kinds.{check_kinds}
 use Rattle.clap.specs.Simple.{Shape, built_leaf, entered, filled, rows_at, with_index}
 use Rattle.clap.specs.Takes.{is_given}
 use Rattle.clap.specs.Walk.{Row, Text, first_of, nothing_held, one_of, rows_after}
-use Rattle.clap.specs.Walk.{subcommand}
 use Rattle.clap.specs.declared.builder.value_parser.ValueParser.{ValueParser}
 use Rattle.smq_report.specs.Picks.{pick_name, pick_names}
 use Rattle.smq_report.specs.declared.pick.Format.{Format}

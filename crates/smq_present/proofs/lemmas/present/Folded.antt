@@ -1,9 +1,9 @@
 -- Edits that are applied one after the other.
-use Rattle.std.proofs.Common.{◌≡◌, Bool, true, false, List, [], ◌∷◌, ◌++◌, length, Option, refl, sym, ap, ◌∙◌, subst, append_assoc, arith}
+use Rattle.std.proofs.Common.{◌≡◌, Bool, true, false, List, [], ◌∷◌, ◌++◌, length, Option, refl, ap, ◌∙◌, subst, arith}
 use Rattle.std.specs.Prelude.{if◌then◌else◌}
 use Rattle.smq_kit.specs.declared.refusal.Refusal.{Refusal}
 use Rattle.smq_present.specs.declared.present.edit.Edit.{Edit}
-use Rattle.smq_present.specs.present.Judged.{is_memory, judged, IsAnswer, AreAnswers}
+use Rattle.smq_present.specs.present.Judged.{judged, IsAnswer, AreAnswers}
 use Rattle.smq_present.specs.present.Present.{PresentValue}
 use Rattle.smq_present.specs.present.Steps.{steps}
 
@@ -20,26 +20,6 @@ one_more : (q : PresentValue) (edit : Edit) (left : List Edit) (answer : Option 
     → steps (steps q (if b then [] else edit ∷ [])) (judged left more) ≡ steps q (if b then judged left more else edit ∷ judged left more)
 one_more q edit left answer more true = refl
 one_more q edit left answer more false = refl
-
-folds-on : (old now : PresentValue) (edits left : List Edit) (edit : Edit) (answers : List (Option Refusal)) (answer : Option Refusal)
-    → IsAnswer now edit answer → Folds old now edits (edit ∷ left) answers
-    → Folds old (steps now (judged (edit ∷ []) (answer ∷ []))) edits left (answers ++ answer ∷ [])
-folds-on old now edits left edit answers answer is folds = record {
-  answered = λ more a. subst (λ (all : List (Option Refusal)). AreAnswers old edits all)
-      (sym (append_assoc answers (answer ∷ []) more)) (folds.answered (answer ∷ more) (is, a));
-  present = λ more a. one_more now edit left answer more (is_memory answer) ∙ folds.present (answer ∷ more) (is, a)
-      ∙ ap (λ (all : List (Option Refusal)). steps old (judged edits all)) (sym (append_assoc answers (answer ∷ []) more));
-}
-
--- one more edit is applied
-pub folds-next : (old now next : PresentValue) (edits before left : List Edit) (edit : Edit) (answers more : List (Option Refusal))
-    (answer : Option Refusal)
-    → before ≡ edit ∷ left → Answers now next edit answer → more ≡ answers ++ answer ∷ [] → Folds old now edits before answers
-    → Folds old next edits left more
-folds-next old now next edits before left edit answers more answer is a grown folds =
-    subst (λ (q : PresentValue). Folds old q edits left more) (sym a.1)
-    (subst (λ (all : List (Option Refusal)). Folds old (steps now (judged (edit ∷ []) (answer ∷ []))) edits left all) (sym grown)
-    (folds-on old now edits left edit answers answer a.0 (subst (λ (es : List Edit). Folds old now edits es answers) is folds)))
 
 -- all are applied
 append-none : (all : List (Option Refusal)) → all ++ [] ≡ all

@@ -1,7 +1,6 @@
-use Rattle.std.proofs.Common.{◌≡◌, ◌∙◌, ◌<◌, List, None, Option, Some, ap, arith, length, sym}
+use Rattle.std.proofs.Common.{◌≡◌, ◌∙◌, ◌<◌, ap, arith, length, sym}
 use Rattle.std.specs.Prelude.{option_map}
 use Rattle.csv.specs.Records.{fields_of}
-use Rattle.smq_count.specs.declared.column.Column.{Column}
 use Rattle.smq_engine.specs.Record.{AsksCount}
 use Rattle.smq_engine.proofs.QuestionLemmas.{question-count, question-other, question-pick}
 use Rattle.smq_engine.proofs.question.Question.read.Goals as goal
