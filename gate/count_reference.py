@@ -6,8 +6,9 @@ import io
 import re
 
 from lib.report_names import BANDS, OUTCOMES
+from oracle.counts_again import csv_of
 
-PLAIN = ("link", "session", "route", "network", "outcome", "error")
+PLAIN = ("link", "session", "route", "network", "outcome", "error", "source", "ton")
 # How the beginning of a minute, hour, day or month is written, in UTC
 MOMENTS = {"minute": "%Y-%m-%dT%H:%MZ", "hour": "%Y-%m-%dT%HZ", "day": "%Y-%m-%d", "month": "%Y-%m"}
 DELAYS = ("link-delay", "centre-delay")
@@ -44,7 +45,7 @@ def order(column, text):
     """Returns what a cell is ordered by: an empty one comes last."""
     if text == "":
         return (1,)
-    if column in ("link", "session", "route"):
+    if column in ("link", "session", "route", "ton"):
         return (0, text == "none", 0 if text == "none" else int(text))
     if column == "outcome":
         return 0, OUTCOMES.index(text)
@@ -52,14 +53,15 @@ def order(column, text):
         return 0, error_order(text)
     if column in DELAYS:
         return 0, [name for _, name in BANDS].index(text)
-    return (0, text == "none", text)
+    return (0, column == "network" and text == "none", text)
 
 
 def count(lines, columns, conditions=()):
     """Returns what is written for the lines, as octets."""
     wanted, counts = [it.split("=", 1) for it in conditions], collections.Counter()
+    # (each octet is a character)
     for line in csv.DictReader(io.StringIO(lines.decode("latin-1"), newline="")):
         if all(cell(column, line) == value for column, value in wanted):
             counts[tuple(cell(it, line) for it in columns)] += 1
     rows = sorted(counts, key=lambda it: [order(*pair) for pair in zip(columns, it)])
-    return "".join(",".join(it) + "\n" for it in [(*columns, "messages"), *((*it, str(counts[it])) for it in rows)]).encode("latin-1")
+    return csv_of((*columns, "messages"), ([*(text.encode("latin-1") for text in it), counts[it]] for it in rows))

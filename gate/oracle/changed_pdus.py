@@ -22,6 +22,11 @@ DATES = (b"2601010000", b"0002282359", b"0002290000", b"260101000004", b"2601010
          b"2512312359", b"2602290000")
 ADDRESSES = (b"447700900123", b"447700900123", b"+447700900123", b"44", b"+", b"", b"++44", b"999999999999999", b"9999999999999999",
              b"12a", b"0", b"\xff")
+# Sources: numbers, names, none, and what no field of a line can have as it is; as long as one may be in a submit_sm and a data_sm, and longer
+SOURCES = (b"1000", b"1000", b"ACME", b"acme", b"447700900999", b"+447700900999", b"12345", b"", b"none", b"zz", b"A,B", b'"', b'say "hi"', b"a\nb",
+           b"\ntold,9,link,0,0,0,0"[:20], b"\r", b"\r\n", b" ", b"=1+1", b"<b>&", b"\\n", b"\xff\x80", "Žluť".encode(), b"\x01", b"0" * 20,
+           b"0" * 21, b"9" * 64, b"x" * 65)
+TONS = (0, 1, 2, 3, 4, 5, 5, 6, 7, 10, 255)
 STATES = (b"DELIVRD", b"DELIVRD", b"EXPIRED", b"undeliv", b"ACCEPTD", b"REJECTD")
 MESSAGE_PAYLOAD = 0x0424
 TAGS = (0x001E, 0x0423, MESSAGE_PAYLOAD, 0x0427, 0x0000, 0xFFFF)
@@ -130,6 +135,17 @@ def with_address(draw, pdu, _):
     return framed(pdu[4:at] + bytes([draw.choice((0, 1, 1, 2, 255)), 1]) + draw.choice(ADDRESSES) + pdu[places[1] - 1 :])
 
 
+def with_source(draw, pdu, _):
+    """A submit_sm or deliver_sm gets another source_addr, its type and its numbering plan."""
+    places = fields_at(pdu)
+    if places is None:
+        return with_octets(draw, pdu, _)
+    begin = pdu.find(b"\0", 16) + 1
+    octets = draw.choice(SOURCES) if draw.random() < 0.9 else bytes(draw.randrange(1, 256) for _ in range(draw.randrange(23)))
+    return framed(pdu[4:begin] + bytes([draw.choice(TONS) if draw.random() < 0.8 else draw.randrange(256), draw.randrange(2)]) + octets
+                  + pdu[places[0] - 1 :])
+
+
 def with_parameter(draw, pdu, _):
     tag, value = draw.choice((
         (0x001E, draw.choice(IDS)), (0x001E, draw.choice(IDS) + b"\0"), (0x0423, draw.choice(CODES)), (0x0427, draw.randbytes(1)),
@@ -156,7 +172,7 @@ def made_long(draw, pdu, _):
 
 
 CHANGES = (with_octets, with_octets, with_length, cut_off, spliced, with_part_twice, with_inserted, with_header, with_header, with_text,
-           with_text, with_address, with_parameter, with_id, with_id, with_data_sm, made_long)
+           with_text, with_address, with_source, with_parameter, with_id, with_id, with_data_sm, made_long)
 
 
 def conversation(draw, submits, receipts, count):
@@ -177,10 +193,10 @@ def conversation(draw, submits, receipts, count):
 
 
 def submit_asking(draw, submit, number):
-    """Returns a submit_sm with that number, which asks for a receipt or doesn't, to any address."""
+    """Returns a submit_sm with that number, which asks for a receipt or doesn't, from any address to any."""
     at = fields_at(submit)[2] - 4
     flags = bytes([draw.choice((1, 1, 1, 1, 0, 2, 3, 16))])
-    return with_address(draw, submit[:12] + number.to_bytes(4, "big") + submit[16:at] + flags + submit[at + 1 :], ())
+    return with_source(draw, with_address(draw, submit[:12] + number.to_bytes(4, "big") + submit[16:at] + flags + submit[at + 1 :], ()), ())
 
 
 def response_with(draw, command, number, identity):

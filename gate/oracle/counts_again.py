@@ -16,13 +16,14 @@ STATES = (b"ENROUTE", b"DELIVRD", b"EXPIRED", b"DELETED", b"UNDELIV", b"ACCEPTD"
 ENROUTE, DELIVERED, ACCEPTED = 1, 2, 6
 STATE_NAMES = "enroute delivered expired deleted undeliverable accepted unknown rejected".split()
 MESSAGE_FIELDS = ("link session offset moment number route network outcome error id response_offset receipt_session receipt_offset "
-                  "receipt_moment centre_delay key command").split()
+                  "receipt_moment centre_delay key command source ton").split()
 RECEIPT_FIELDS = "link session offset moment id state interim error standing message_session message_offset key command".split()
 EPOCH = datetime.datetime(1970, 1, 1)
 
 # at: session, direction (0 for the client) and offset; response: the PDU that it is paired with, or None
 Pdu = collections.namedtuple("Pdu", "at moment octets command status number")
-Fields = collections.namedtuple("Fields", "ton address esm_class registered text parameters")
+# source, source_ton: source_addr and source_addr_ton; address, ton: destination_addr and dest_addr_ton
+Fields = collections.namedtuple("Fields", "source_ton source ton address esm_class registered text parameters")
 Receipt = collections.namedtuple("Receipt", "at moment key decides state error delay identity interim command")
 
 
@@ -65,16 +66,17 @@ def fields_of(pdu):
             return None
         texts.append((octets[at:end], end + 1))
         at = end + 1 + behind
-    (_, ton), (address, flags) = texts[1:3]
+    (_, source_ton), (source, ton), (address, flags) = texts[:3]
+    addresses = octets[source_ton], source, octets[ton], address
     if pdu.command == DATA_SM:
         # esm_class, registered_delivery and data_coding, and no short_message
         if at > len(octets):
             return None
-        return Fields(octets[ton], address, octets[flags], octets[flags + 1], b"", parameters_of(octets, at))
+        return Fields(*addresses, octets[flags], octets[flags + 1], b"", parameters_of(octets, at))
     if at >= len(octets) or at + 1 + octets[at] > len(octets):
         return None
     place = at + 1 + octets[at]
-    return Fields(octets[ton], address, octets[flags], octets[at - 4], octets[at + 1 : place], parameters_of(octets, place))
+    return Fields(*addresses, octets[flags], octets[at - 4], octets[at + 1 : place], parameters_of(octets, place))
 
 
 def parameters_of(octets, place):
@@ -92,6 +94,11 @@ def parameters_of(octets, place):
 def number_of(fields):
     found = re.fullmatch(rb"\+?([0-9]{1,15})", fields.address)
     return found[1].decode() if found and fields.ton in (0, 1) else None
+
+
+def source_of(fields):
+    """Returns source_addr where it has as many octets as in a submit_sm (SMPP 3.4, 4.4.1: 21 with its zero), and some."""
+    return fields.source if 1 <= len(fields.source) <= 20 else None
 
 
 def usable_id(octets):
@@ -267,7 +274,7 @@ class Tables:
                 link, pdu.at[0], pdu.at[2], pdu.moment, number_of(fields), route[1], network[1], outcome, values.get("error", (0, None))[1],
                 ids.get(pdu.at), response and response.at[2],
                 *((receipt.at[0], receipt.at[2], receipt.moment, receipt.delay) if decides else (None,) * 4),
-                None if key is None else key[1], COMMAND_NAMES[pdu.command])
+                None if key is None else key[1], COMMAND_NAMES[pdu.command], source_of(fields), fields.source_ton)
 
     def standing(self, receipt, matches, decider):
         if matches != 1:
