@@ -224,7 +224,11 @@ class Paged:
         self.folder, self.process = folder, tool("page", *words, "--into", folder, **more)
 
     def give(self, text):
-        give(self.process, text.encode())
+        give(self.process, text if isinstance(text, bytes) else text.encode())
+
+    def octets(self, name):
+        with open(f"{self.folder}/{name}", "rb") as file:
+            return file.read()
 
     def text(self, name):
         try:
@@ -657,6 +661,69 @@ def see_hostile(count):
             count.see("by prometheus_client", samples, parsed_by_client(shown.text("metrics.prom")))
 
 
+# Sources that a client may send (SMPP 3.4, 5.2.8: octets up to a zero), some with what ends an answer in them, and how the page shows them
+SOURCES = (
+    (b"ACME", "ACME"), (b"", "none"), (b"told", "told"), (b"view", "view"), (b"source", "source"), (b"+447700900999", "+447700900999"),
+    (b"A,B", "A,B"), (b'"', '"'), (b'a"",b', 'a"",b'), (b"\n", "\ufffd"), (b"\r", "\ufffd"), (b"a\r\nb", "a\ufffd\ufffdb"),
+    (b"\ntold,9,link,0,0,0,0", "\ufffdtold,9,link,0,0,0,0"[:20]), (b'"\ntold,9,link,0,0,0', '"\ufffdtold,9,link,0,0,0'),
+    (b",5,open,1\nlist,open,3", ",5,open,1\ufffdlist,open,3"[:20]), (b"\n" * 20, "\ufffd" * 20), (b"<script>a()</script>", "<script>a()</script>"),
+    (b"<img/src=x onerror=y", "<img/src=x onerror=y"), (b"'onclick='a", "'onclick='a"), (b"&lt;b&gt;", "&lt;b&gt;"), (b"\\", "\\"), (b"\\n", "\\n"),
+    (b'\\"\n}', '\\"\ufffd}'), (b"=1+1", "=1+1"), (b"\xff\xfe", "\u00ff\u00fe"), (b"\x80\x85\xa0\xad", "\ufffd" * 4),
+    ("\u017dlu\u0165".encode(), "\u00c5\u00bdlu\u00c5\u00a5"), (b"\x1b[2J\x7f", "\ufffd[2J\ufffd"), (b"../../etc/passwd", "../../etc/passwd"),
+    (b"{{1}}%s", "{{1}}%s"), (b"# HELP a b", "# HELP a b"))
+
+
+def quoted(octets):
+    """Returns a field of CSV as smq writes it."""
+    return b'"%s"' % octets.replace(b'"', b'""') if re.search(b'[",\r\n]', octets) else octets
+
+
+def see_sources(count):
+    """Sees that sources, whatever octets they have, are cells, rows, labels and text."""
+    sources = [it[:20] for it, _ in SOURCES]
+    texts = [it.decode("latin-1") for it in sources]
+    answer = b"source,ton,outcome,messages\n" + b"".join(b"%s,%d,open,%d\n" % (quoted(it), at % 7, at + 1) for at, it in enumerate(sources))
+    # (with as many cells as the line that ends an answer)
+    others = b"source,ton,link,network,outcome,session,messages\ntold,2,3,none,open,7,4\n", b"source,messages\ntold,3\n"
+    wanted = {("smq_counted", (("by", "source ton outcome"), ("outcome", "open"), *([("source", it)] if it else []), ("ton", str(at % 7)))): at + 1.0
+              for at, it in enumerate(texts)}
+    wanted["smq_counted", (("by", "source ton link network outcome session"), ("link", "3"), ("network", "none"), ("outcome", "open"), ("session", "7"),
+                           ("source", "told"), ("ton", "2"))] = 4.0
+    wanted["smq_counted", (("by", "source"), ("source", "told"))] = 3.0
+    with tempfile.TemporaryDirectory(prefix="check-live-") as room:
+        plain, shown = Paged(f"{room}/plain"), Paged(f"{room}/live")
+        for it, lines in ((plain, b"source,ton,outcome,messages\nACME,5,open,1\n"), (shown, answer)):
+            it.give(lines + b"told,2,count source ton outcome,5,0,0,0\n")
+            it.give(others[0] + b"told,3,count source ton link network outcome session,5,0,0,0\n" + others[1] + b"told,4,count source,5,0,0,0\n")
+            it.row(4)
+        page, usual = shown.tables(), plain.tables()
+        count.see("sources: metrics", wanted, {key: it for key, it in shown.metrics().items() if key[0] == "smq_counted"})
+        if text_string_to_metric_families:
+            count.see("sources: by prometheus_client", shown.metrics(), parsed_by_client(shown.text("metrics.prom")))
+        count.see("sources: their rows", {f"{it} × {at % 7}": str(at + 1) for at, (_, it) in enumerate(SOURCES)},
+                  {key: it["messages"] for key, it in page.tables["count-source-ton-outcome"].items()})
+        count.see("sources: elements and attributes are the page's own", (set(usual.tags), usual.attributes, 1, usual.tags.count("section")), (
+            set(page.tags), page.attributes, page.tags.count("script"), page.tags.count("section")))
+        count.see("sources: the CSV, octet for octet", (answer, *others), tuple(shown.octets(f"count-{it}.csv") for it in (
+            "source-ton-outcome", "source-ton-link-network-outcome-session", "source")))
+        count.see("sources: no other file", sorted([*FILES, "count-source-ton-outcome.csv", "count-source-ton-link-network-outcome-session.csv",
+                                                    "count-source.csv"]), sorted(os.listdir(shown.folder)))
+        count.see("sources: the worst rows", [], [it["values"] for it in shown.status()["worst"] if it["values"][0] not in texts])
+        count.see("sources: the ends", ((0, ""), (0, "")), (plain.end(), shown.end()))
+        # they are remembered, and at 0 when the next answer hasn't them
+        shown = Paged(f"{room}/live")
+        shown.give(b"source,ton,outcome,messages\nACME,0,open,2\ntold,1,count source ton outcome,5,0,0,0\n")
+        shown.row(1)
+        zeros = {key: 2.0 if ("source", "ACME") in key[1] else 0.0 for key in wanted if ("by", "source ton outcome") in key[1]}
+        count.see("sources: they are remembered", zeros, {key: it for key, it in shown.metrics().items() if ("by", "source ton outcome") in key[1]})
+        count.see("sources: the end of that", (0, ""), shown.end())
+        # an answer that is long goes through a file
+        many = b"source,messages\n" + b"".join(b'"\n\xff%d",1\n' % it for it in range(30_000))
+        shown = Paged(f"{room}/many")
+        shown.give(many + b"told,1,count source,5,0,0,0\n")
+        count.see("sources: many", (0, True), (shown.end(MUCH_LATER)[0], shown.octets("count-source.csv") == many))
+
+
 def processor_time():
     """Returns how many s of a processor the tools took that have ended."""
     return resource.getrusage(resource.RUSAGE_CHILDREN).ru_utime
@@ -775,7 +842,7 @@ def see_ends(count):
     """Sees statuses and what is told."""
     def ended(text, *words):
         process = tool("page", *words)
-        _, told = process.communicate(text.encode("utf-8"), timeout=60)
+        _, told = process.communicate(text if isinstance(text, bytes) else text.encode("utf-8"), timeout=60)
         return process.returncode, told.decode().splitlines()[-1:]
 
     with tempfile.TemporaryDirectory(prefix="check-live-") as room:
@@ -812,7 +879,17 @@ def see_ends(count):
                 ("too many cells", "link,messages\n1,2,3\n", into, (2, [bad.format(2)])),
                 ("another outcome of a count", "outcome,messages\nopened,3\n", into, (2, [bad.format(2)])),
                 ("a minute that is none", "minute,messages\n2026-02-30T01:00Z,3\n", into, (2, [bad.format(2)])),
-                ("a quote without an end", 'link,messages\n"1,3\n', into, (2, [bad.format(2)])),
+                ("a quote without an end", 'link,messages\n"1,3\n', into, (1, [cut])),
+                ("a quote within a cell", 'link,messages\n1"2,3\n', into, (2, [bad.format(2)])),
+                ("the same within a second line", 'source,messages\n"a\n"1",3\n', into, (2, [bad.format(2)])),
+                ("two quotes within a cell", 'link,messages\n"1"2"",3\n', into, (2, [bad.format(2)])),
+                ("a source of 21 octets", "source,messages\n" + "1" * 21 + ",3\n", into, (2, [bad.format(2)])),
+                ("a source with a zero", "source,messages\na\0,3\n", into, (2, [bad.format(2)])),
+                ("21 line feeds", 'source,messages\n"' + "\n" * 21 + '",3\n', into, (2, [bad.format(2)])),
+                ("a line feed in another cell", 'source,messages\na,3\ntold,1,count source,0,0\nnetwork,messages\n"a\nb",3\n', into, (2, [bad.format(5)])),
+                ("other octets in another cell", b"network,messages\n\xff,3\n", into, (2, [bad.format(2)])),
+                ("a bad line behind a source of two", 'source,messages\n"a\nb",3\n1\n', into, (2, [bad.format(4)])),
+                ("a source that is told, of another question", "source,messages\ntold,1,count link,0,0\n", into, (2, [bad.format(2)])),
                 ("told of other columns", "link,messages\n1,3\ntold,1,count link outcome,0,0\n", into, (2, [bad.format(3)])),
                 ("told of a count without one", "told,1,count link,0,0\n", into, (2, [bad.format(1)])),
                 ("told of a view behind a count", "link,messages\n1,3\ntold,1,link,0,0\n", into, (2, [bad.format(3)])),

@@ -1,4 +1,5 @@
-"""Answers of `smq follow` as CSV (docs/FORMATS.md, Answers to questions among rows), line by line, for tools/page."""
+"""Answers of `smq follow` as CSV (docs/FORMATS.md, Answers to questions among rows), line by line, for tools/page. An octet is a character: a
+source may have any but zero, line feeds, too."""
 import collections
 import csv
 import datetime
@@ -9,9 +10,14 @@ from lib.tables import LAST_MOMENT, Unfit
 
 REPORT, COUNT = "report", "count"
 TIMES = ("minute", "hour", "day", "month")
-COLUMNS = (*"link session route network outcome error link-delay centre-delay".split(), *TIMES, *(f"prefix:{it}" for it in range(1, 16)))
+COLUMNS = (*"link session route network outcome error link-delay centre-delay".split(), *TIMES, "source", "ton",
+           *(f"prefix:{it}" for it in range(1, 16)))
 DECIMAL = re.compile(r"[0-9]{1,20}", re.A)
-VALUE, CELL = re.compile(r"(?!,)[!-~]{1,64}"), re.compile(r"[ -~]{0,64}")
+VALUE, CELL, SOURCE = re.compile(r"(?!,)[!-~]{1,64}"), re.compile(r"[ -~]{0,64}"), re.compile(r"[\x01-\xff]{0,20}", re.S)
+# A record without its end whose last cell goes on: a double quote that begins it, and of each within it a second one
+UNENDED = re.compile(r'(?:(?:"(?:[^"]|"")*"|[^",]*),)*"(?:[^"]|"")*', re.S)
+# So many line feeds may be in a record: those of a source
+MOST_FEEDS = 20
 MINUTE = re.compile(r"([0-9]{4}-[0-9]{2}-[0-9]{2})T([0-9]{2}:[0-9]{2})Z", re.A)
 EPOCH = datetime.datetime(1970, 1, 1)
 # So many counts are kept of all questions, and so many questions
@@ -45,8 +51,8 @@ class Answers:
     """Answers, whose lines come one by one."""
 
     def __init__(self):
-        # lines that came; how many counts are kept of each question; whether some weren't
-        self.lines, self.sizes, self.is_full = 0, {}, False
+        # lines that came; those of a record that isn't whole, or None; how many counts are kept of each question; whether some weren't
+        self.lines, self.part, self.sizes, self.is_full = 0, None, {}, False
         self.begin()
 
     def begin(self):
@@ -56,7 +62,7 @@ class Answers:
         self.name, self.size, self.room = REPORT, 0, self.room_of(REPORT)
 
     def is_begun(self):
-        return bool(self.columns or self.sections)
+        return bool(self.columns or self.sections) or self.part is not None
 
     def room_of(self, name):
         """Returns how many counts an answer may have beside those of other questions. (All views are one.)"""
@@ -65,17 +71,29 @@ class Answers:
     def take(self, line):
         """Takes a line without its end; the last one of an answer gives it, any other None."""
         self.lines += 1
+        record, self.part = line if self.part is None else f"{self.part}\n{line}", None
         try:
-            if line.startswith("told,"):
-                return self.end(*line.split(",")[1:])
-            if self.columns:
-                self.take_cells(*cells_of(line))
-            elif line.startswith(("view,", "list,")):
-                self.take_section(*line.split(","))
-            else:
-                self.take_columns(cells_of(line))
+            if not self.columns and record.startswith(("view,", "list,")):
+                return self.take_section(*record.split(","))
+            if record.count('"') % 2:
+                if not UNENDED.fullmatch(record) or record.count("\n") == MOST_FEEDS:
+                    raise ValueError
+                self.part = record
+                return None
+            return self.take_record(cells_of(record))
         except (TypeError, ValueError, csv.Error):
-            raise Unfit(f"line {self.lines} is of no answer of smq follow as CSV") from None
+            feeds = record.count("\n")
+            raise Unfit(f"line {self.lines - feeds} is of no answer of smq follow as CSV") from None
+
+    def take_record(self, cells):
+        """Takes the cells of a record."""
+        # (a source that is told may begin a record of a count: no other cell is like a question)
+        if cells[0] == "told" and (not self.columns or cells[2:3] == [self.name]):
+            return self.end(*cells[1:])
+        if self.columns:
+            self.take_cells(*cells)
+        else:
+            self.take_columns(cells)
         return None
 
     def take_section(self, kind, name, first, second, number):
@@ -99,6 +117,7 @@ class Answers:
             raise ValueError
         self.columns, self.name = columns, f"{COUNT} {' '.join(columns)}"
         self.room = self.room_of(self.name)
+        self.forms = [SOURCE if it == "source" else CELL for it in (*columns, last)]
         self.places = [at for at, it in enumerate(columns) if it not in ("outcome", *TIMES)]
         self.outcome = columns.index("outcome") if "outcome" in columns else None
         self.minute = columns.index("minute") if "minute" in columns else None
@@ -108,10 +127,10 @@ class Answers:
 
     def take_cells(self, *cells):
         """Takes a line of a count."""
+        if len(cells) != len(self.forms) or not all(map(re.Pattern.fullmatch, self.forms, cells)):
+            raise ValueError
         *cells, number = cells
         number = decimal(number)
-        if len(cells) != len(self.columns) or not all(map(CELL.fullmatch, cells)):
-            raise ValueError
         outcome = "" if self.outcome is None else cells[self.outcome]
         if self.outcome is not None and outcome not in OUTCOMES:
             raise ValueError
@@ -142,7 +161,7 @@ class Answers:
 
     def end(self, row, name, clock, refused, gaps=None, octets=None):
         """Ends an answer."""
-        is_known = name == self.name if self.columns else name == REPORT or name in SECTIONS and self.sections <= {name}
+        is_known = self.columns or name == REPORT or name in SECTIONS and self.sections <= {name}
         if not is_known or (gaps is None) != (octets is None) or decimal(clock) > LAST_MOMENT:
             raise ValueError
         told = Told(decimal(row), name, decimal(clock), decimal(refused), *(None if it is None else decimal(it) for it in (gaps, octets)))
@@ -160,9 +179,9 @@ class Answers:
         return answer
 
 
-def cells_of(line):
-    """Returns the cells of a line of CSV."""
-    if '"' not in line:
-        return line.split(",")
-    (cells,) = csv.reader([line], strict=True)
+def cells_of(record):
+    """Returns the cells of a record of CSV."""
+    if '"' not in record:
+        return record.split(",")
+    (cells,) = csv.reader([record], strict=True)
     return cells

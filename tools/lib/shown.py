@@ -7,6 +7,7 @@ import array
 import collections
 import heapq
 import json
+import re
 
 from lib.answers import COLUMNS, COUNT, MOST_COUNTS, MOST_QUESTIONS, TIMES
 from lib.report_names import OUTCOMES, VIEWS
@@ -23,6 +24,8 @@ RATES = (1, 5, 15)
 # A row is silent that had so many messages at a time lately, and had no more for a minute, or has none
 MANY = 150
 VERSION, LONGEST_STATE = 1, 2**26
+# A value of a key; each octet of a source is a character
+VALUE = re.compile(r"[\x00-\xff]{0,64}", re.S)
 
 
 class BadState(Exception):
@@ -300,7 +303,7 @@ def restore(shown, text):
 
 
 def restore_row(shown, table, minute, key, outcomes, seen, message, receipt, is_sampled, messages, shares):
-    wanted(type(key) is list and len(key) == len(table.keys) and all(type(it) is str and len(it) <= 64 for it in key))
+    wanted(type(key) is list and len(key) == len(table.keys) and all(VALUE.fullmatch(it) for it in key))
     wanted(tuple(key) not in table.rows and len({*outcomes}) == len(outcomes) and {*outcomes} <= {*OUTCOMES, ""})
     row = table.rows[tuple(key)] = Row(number_of(seen, LAST_MOMENT // 1000, kinds=(int, float)))
     row.counts = dict.fromkeys(outcomes, 0)

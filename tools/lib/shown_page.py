@@ -74,6 +74,11 @@ def safe(text):
     return html.escape(re.sub(r"[\x00-\x1f\x7f-\x9f\u2028-\u202e\u2066-\u2069]", " ", text))
 
 
+def seen(value):
+    """Returns a value with a mark for each of its characters that nobody sees: a source may have any."""
+    return re.sub(r"[\x00-\x1f\x7f-\xa0\xad]", "\ufffd", value)
+
+
 def utc(moment, form="%Y-%m-%d %H:%M:%S"):
     """Returns a moment in s since 1970 in UTC."""
     return time.strftime(form, time.gmtime(moment))
@@ -175,8 +180,9 @@ def error_name(error):
 def name_beside(names, columns, key):
     """Returns the name of a key for the page, or None, and the key's values."""
     found = [names.get((column, it)) or (error_name(it) if column == "error" else None) for column, it in zip(columns, key)]
-    name = TIMES.join(name or it or "none" for name, it in zip(found, key)) if any(found) else None
-    return name, TIMES.join(it or "none" for it in key) or "all"
+    values = [seen(it) or "none" for it in key]
+    name = TIMES.join(name or it for name, it in zip(found, values)) if any(found) else None
+    return name, TIMES.join(values) or "all"
 
 
 def value_name(names, columns, key):
