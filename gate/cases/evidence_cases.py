@@ -17,8 +17,8 @@ if name == "--version":
     print("smq 9.9.9")
 else:
     time.sleep({wait})
-    number = 447700900400 if is_blanked else 447700900456
-    print(f"number,id\\n{{number}},1" if name == "messages" else "a\\nb")
+    number, source = (447700900400, 44700) if is_blanked else (447700900456, 44770)
+    print(f"number,id,source\\n{{number}},1,{{source}}" if name == "messages" else "a\\nb")
     if is_blanked and name == "{name}":
         print("{line}", file=sys.{to})
         sys.stdout.flush()
@@ -84,6 +84,11 @@ CLIENT = [
     message(DATA_SM, 6, addressed(ACME, ended(b"3361234", b"9876")), stars(b"id:7 stat:DELIVRD text:secret"), esm_class=4),
     message(SUBMIT_SM, 7, addressed(ACME, ended(b"0770090", b"0777"), ton=2), stars(b"national")),
     message(SUBMIT_SM, 8, addressed(ACME, ended(b"12a", b"4567")), stars(b"no number")),
+    # (sources: a short number; one with what CSV quotes, and octets of no UTF-8; as long as a line has one; longer, which lines have as empty)
+    message(SUBMIT_SM, 30, addressed(ended(b"+383", b"83"), ended(b"447911", b"0333")), stars(b"short")),
+    message(SUBMIT_SM, 31, addressed(joined(b'1"2\r\n3,', (b"4", b"0"), b"\xff", (b"5", b"0")), ended(b"447911", b"0444")), stars(b"odd")),
+    message(SUBMIT_SM, 32, addressed(joined(b"BANK24 7", (b"9", b"0"), b"hours", (b"123456", b"000000")), ended(b"447911", b"0555")), stars(b"long")),
+    message(DATA_SM, 33, addressed(joined(b"x" * 53, ended(b"447", b"70090077")), ended(b"447911", b"0666")), stars(b"longer")),
     message(DELIVER_SM, 9, addressed(SENDER, ended(b"44", b"5678")), stars(b"id:7 stat:DELIVRD"), esm_class=4),
     pdu(0x21, 10, stars(b"\0\1\1ACME\0\2\1\1\1447700900321\0\0\0\0\0\0\1\0\0\0\5hello")),
     pdu(0x07, 11, stars(b"1\0\1\1ACME\0\0\0\0\0\5hello")),

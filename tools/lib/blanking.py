@@ -1,6 +1,7 @@
 """Blanks what is private in a script, in octets on which no figure of smq rests, for tools/evidence."""
 import collections
 import csv
+import itertools
 import operator
 import os
 import re
@@ -20,7 +21,8 @@ MESSAGE_PAYLOAD, RECEIPTED_MESSAGE_ID = PLACES.MESSAGE_PAYLOAD, PLACES.RECEIPTED
 READ_PARAMETERS = (RECEIPTED_MESSAGE_ID, 0x0423, 0x0427)
 # What of a delivery receipt's text is read: the values of names before ` text:` (docs/FORMATS.md, Delivery receipts)
 TEXT, NAMES = re.compile(rb"(?i) text:"), re.compile(rb"(?i)(?:^|(?<= ))(?:id|sub|dlvrd|submit date|done date|stat|err):[^ ]*")
-NUMBER, DIGIT = re.compile(rb"\+?([0-9]{1,15})"), re.compile(rb"[0-9]")
+NUMBER, DIGIT, DIGIT_OF_TEXT = re.compile(rb"\+?([0-9]{1,15})"), re.compile(rb"[0-9]"), re.compile(r"[0-9]")
+# So many digits of a source stay, whoever's number it is
 SHOWN_OF_SOURCE = 3
 # What is blanked: passwords of binds; texts; digits of destination and source addresses; other parameters, and what is no whole one;
 # bodies of commands that smq doesn't read; octets of refused rows
@@ -115,6 +117,11 @@ class Blanking:
     def number(self, number):
         """Returns an E.164 number with its last digits blanked."""
         return number[: self.stays(number)].ljust(len(number), "0")
+
+    def source(self, source):
+        """Returns a source of a line with its digits blanked, but the first."""
+        digits = itertools.count()
+        return DIGIT_OF_TEXT.sub(lambda it: it[0] if next(digits) < SHOWN_OF_SOURCE else "0", source)
 
     def put(self, out, kind, begin, end, octets=None):
         """Puts octets where others begin and end, `*` unless given."""

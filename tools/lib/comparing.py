@@ -35,14 +35,14 @@ def first_difference(one, other):
     return None
 
 
-def messages_difference(given, blanked, number_of):
-    """Returns what differs first in lines for messages, of which the numbers are to be blanked, or None."""
+def messages_difference(given, blanked, blank):
+    """Returns what differs first in lines for messages, or None. blank: by the columns that are to be blanked what blanks them."""
     given.seek(0)
     blanked.seek(0)
     both, names = [records_of(io.TextIOWrapper(it, **OCTETS)) for it in (given, blanked)], None
     for (line, fields), (other_line, others) in itertools.zip_longest(*both, fillvalue=(0, [])):
         names = names or fields
-        wanted = [number_of(it) if name == "number" and it and fields is not names else it for name, it in zip(names, fields)]
+        wanted = [blank[name](it) if name in blank and it and fields is not names else it for name, it in zip(names, fields)]
         for name, it, other in itertools.zip_longest(names, wanted, others, fillvalue=""):
             if it != other:
                 return f"line {line or other_line}, column {name}: {other[:40]!a}, and {it[:40]!a} is wanted"
