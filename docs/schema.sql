@@ -8,7 +8,7 @@
 --     -c "\copy receipts from 'receipts.csv' with (format csv, header, encoding 'latin1')" \
 --     -c "\copy report from 'report.csv' with (format csv)" -c "\copy counts from 'count.csv' with (format csv, header)"
 --
--- An id may have any octets: by latin1 each is a character in PostgreSQL. sqlite3 keeps a session from 2^63 on as a rounded number.
+-- An id or a source may have any octets: by latin1 each is a character in PostgreSQL. sqlite3 keeps a session from 2^63 on as a rounded number.
 
 CREATE TABLE messages (
   link bigint NOT NULL,
@@ -27,7 +27,9 @@ CREATE TABLE messages (
   receipt_moment bigint,
   centre_delay bigint,
   key text,
-  command text NOT NULL
+  command text NOT NULL,
+  source text,
+  ton smallint NOT NULL
 );
 CREATE INDEX messages_by_place ON messages (session, "offset");
 CREATE INDEX messages_by_key ON messages (link, key);
@@ -74,7 +76,7 @@ CREATE TRIGGER messages_without_empty AFTER INSERT ON messages BEGIN
   UPDATE messages SET number = nullif(number, ''), error = nullif(error, ''), id = nullif(id, ''),
     response_offset = nullif(response_offset, ''), receipt_session = nullif(receipt_session, ''),
     receipt_offset = nullif(receipt_offset, ''), receipt_moment = nullif(receipt_moment, ''),
-    centre_delay = nullif(centre_delay, ''), key = nullif(key, '') WHERE rowid = new.rowid;
+    centre_delay = nullif(centre_delay, ''), key = nullif(key, ''), source = nullif(source, '') WHERE rowid = new.rowid;
 END;
 CREATE TRIGGER receipts_without_empty AFTER INSERT ON receipts BEGIN
   UPDATE receipts SET message_session = nullif(message_session, ''), message_offset = nullif(message_offset, '')

@@ -19,7 +19,7 @@ REPORT = [("view", "link", "1", "open", "1"), ("list", "open", "10", "client", "
 COUNT_COLUMNS, COUNTS = ("link", "network", "day", "outcome", "messages"), [("1", "none", "2026-11-01", "open", "5000000000")]
 # What has to be NULL, and to be a number
 NULLS = """SELECT count(*), count(number), count(error), count(id), count(response_offset), count(receipt_moment), count(centre_delay),
-  count(key), sum(receipt_moment - moment), min("offset"), max("offset") FROM messages"""
+  count(key), count(source), sum(receipt_moment - moment), min("offset"), max("offset"), sum(ton) FROM messages"""
 OTHERS = ("SELECT count(*), count(message_session), sum(message_offset), sum(moment) FROM receipts",
           "SELECT max(count), min(count) FROM report", "SELECT link, network, day, outcome, messages + 1 FROM counts")
 
@@ -41,27 +41,35 @@ def queries():
     return [it for it in (re.sub(r"^--.*\n", "", it.strip(), flags=re.M).strip() for it in block.split(";\n")) if it]
 
 
+def by_octets(text):
+    """Returns a text of any octets, each as a character."""
+    return text.encode("utf-8", "surrogateescape").decode("latin-1")
+
+
 def answers(month):
     """Returns what the queries have to give, each row as texts, without their order."""
     minute = collections.Counter((datetime.datetime.fromtimestamp(int(it.moment) // 60_000 * 60, datetime.timezone.utc)
                                   .strftime("%Y-%m-%d %H:%M:%S"), it.outcome) for it in month.messages)
     network = collections.Counter((it.link, it.network, it.outcome) for it in month.messages)
-    of_count = [(it.session, it.offset, it.number, it.id.encode("utf-8", "surrogateescape").decode("latin-1"), it.receipt_moment)
+    of_count = [(it.session, it.offset, it.number, by_octets(it.id), it.receipt_moment)
                 for it in month.messages if (it.route, it.outcome, it.error) == ("12", "failed", "net:3:8")]
     delays = {link: [int(it.receipt_moment) - int(it.moment) for it in month.messages if it.link == link and it.receipt_moment]
               for link in {it.link for it in month.messages}}
+    senders = collections.Counter(it.source for it in month.messages if it.id)
+    heard = {it.source for it in month.messages if it.id and it.receipt_moment}
     outcomes = {it.key: it.outcome for it in month.messages if it.link == "3"}
     billed = [(row[0], outcomes.get(row[0] or None, "")) for row in month.billed[3][1:]]
     return [[(*key, str(it)) for key, it in minute.items()], [(*key, str(it)) for key, it in network.items()], of_count,
-            [(link, f"{sum(it) / len(it):.3f}") for link, it in delays.items()], [it for it in billed if it[1] != "delivered"]]
+            [(link, f"{sum(it) / len(it):.3f}") for link, it in delays.items()],
+            [(by_octets(it), str(number)) for it, number in senders.items() if it not in heard], [it for it in billed if it[1] != "delivered"]]
 
 
 def nulls(month):
     has = [sum(bool(getattr(it, name)) for it in month.messages)
-           for name in ("link", "number", "error", "id", "response_offset", "receipt_moment", "centre_delay", "key")]
+           for name in ("link", "number", "error", "id", "response_offset", "receipt_moment", "centre_delay", "key", "source")]
     delays = sum(int(it.receipt_moment) - int(it.moment) for it in month.messages if it.receipt_moment)
     offsets = [int(it.offset) for it in month.messages]
-    return [tuple(map(str, (*has, delays, min(offsets), max(offsets))))]
+    return [tuple(map(str, (*has, delays, min(offsets), max(offsets), sum(int(it.ton) for it in month.messages))))]
 
 
 def as_texts(text):
@@ -131,7 +139,7 @@ def see_postgres(see, room, wanted):
 
 def see_databases(see, month):
     asked = queries()
-    see("the GUIDE's queries", 5, len(asked))
+    see("the GUIDE's queries", 6, len(asked))
     wanted = [*zip(asked, answers(month)), (NULLS, nulls(month)), (OTHERS[0], [("2", "1", "49", "3586982400001")]),
               (OTHERS[1], [("281474976710656", "1")]), (OTHERS[2], [("1", "none", "2026-11-01", "open", "5000000001")])]
     for name, programs, look in (("sqlite3", ("sqlite3",), see_sqlite), ("PostgreSQL", ("psql", "initdb", "pg_ctl"), see_postgres)):

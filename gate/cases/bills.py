@@ -28,7 +28,10 @@ MONTH, MESSAGES = 1_793_491_200_000, 10_000
 DAY, DAYS = 86_400_000, 30
 FORMS = dict(zip(range(1, 9), ("hexadecimal", "decimal", "decimal", "verbatim", "hexadecimal", "decimal", "hexadecimal", "verbatim")))
 MESSAGE_COLUMNS = ("link session offset moment number route network outcome error id response_offset receipt_session receipt_offset "
-                   "receipt_moment centre_delay key command").split()
+                   "receipt_moment centre_delay key command source ton").split()
+# Sources that may have receipts, and of messages that have none
+SOURCES = ("ACME", "ACME", "", "447700900999", "A,B", 'q"x', "l\nx", "c\rx", "\udcff", "=1+1", "none", "12345678901234567890")
+QUIET = ("QUIET", 'QU"ET', "QUI\nET", "\udcffQ", "+447700900111")
 DIFFERENCE_COLUMNS = "class session offset outcome price line id billed_price moment message_id key".split()
 BILLED_COLUMNS = ("id", "date", "number", "status", "price")
 
@@ -77,7 +80,9 @@ def statement_case(draw):
             totals[currency] = [totals[currency][0] + messages, totals[currency][1] + owed]
     lines += [f"total,,,,{messages},{shown(owed, digits.get(it, 2))},{it}" for it, (messages, owed) in sorted(totals.items())]
     unpriced = sum(it[3] == "" for it in rows)
-    return (words, shuffled(draw, PRICE_COLUMNS, prices), shuffled(draw, ["link", *kinds, "day", "outcome", "messages"], counts),
+    # (counts by source, too)
+    counts = [(*it, draw.choice(SOURCES)) for it in counts]
+    return (words, shuffled(draw, PRICE_COLUMNS, prices), shuffled(draw, ["link", *kinds, "day", "outcome", "messages", "source"], counts),
             "".join(f"{it}\n" for it in lines), 1 if unpriced else 0, unpriced)
 
 
@@ -149,7 +154,7 @@ class Month:
         self.offset += 49
         response, service = "" if outcome == "waiting" else "7", (draw.choice(("12", "none")), draw.choice(NETWORKS))
         return Message(str(link), str(link), str(self.offset), str(moment), "447700900123", *service, outcome, error, identity, response,
-                       *receipt, "", key, "submit_sm")
+                       *receipt, "", key, "submit_sm", draw.choice((*SOURCES, *(QUIET if outcome == "open" else ()))), draw.choice(("0", "1", "5")))
 
     def written(self, link, key):
         """Returns a key as the link's supplier writes it."""
