@@ -3,6 +3,10 @@
 --   sqlite3 month.db '.read docs/schema.sql' '.import --csv --skip 1 messages.csv messages' \
 --     '.import --csv --skip 1 receipts.csv receipts' '.import --csv report.csv report' '.import --csv --skip 1 count.csv counts'
 --
+-- psql before 18 takes a line \. within an id or a source for the end of the file, and fails: put a blank behind it.
+--
+--   sed -i 's/^\\[.]$/& /' messages.csv receipts.csv
+--
 --   psql -v ON_ERROR_STOP=1 -f docs/schema.sql \
 --     -c "\copy messages from 'messages.csv' with (format csv, header, encoding 'latin1')" \
 --     -c "\copy receipts from 'receipts.csv' with (format csv, header, encoding 'latin1')" \

@@ -126,6 +126,7 @@ def postgres(room):
 def see_postgres(see, room, wanted):
     with postgres(room) as (begun, where):
         see("PostgreSQL begins", (0, ""), (begun[0], begun[2]))
+        see("PostgreSQL: what psql takes for an end", (0, b"", ""), run(room, "bash", "-c", commands("sed")))
         see("PostgreSQL: the schema and its imports", (0, ""), run(room, "bash", "-c", commands("psql"), **where)[::2])
         columns = ", ".join(f"{it} text" for it in bills.BILLED_COLUMNS)
         see("PostgreSQL: the supplier's file", (0, ""), run(room, "psql", "-c", f"CREATE TABLE billed ({columns})", "-c",
@@ -134,6 +135,7 @@ def see_postgres(see, room, wanted):
             query = re.sub(r"datetime\((.*?), 'unixepoch'\)", r"to_timestamp(\1) AT TIME ZONE 'UTC'", query)
             status, out, told = run(room, "psql", "-At", "-F", "\x1f", "-R", "\x1e", "-c", query, PGCLIENTENCODING="UTF8", **where)
             text = out.decode("utf-8").removesuffix("\n")
+            rows = [tuple(re.sub(r"^\\[.]$", r"\\. ", it, flags=re.M) for it in row) for row in rows]
             see(f"PostgreSQL: {query}", (0, sorted(rows), ""), (status, as_texts(text), told))
 
 

@@ -31,7 +31,7 @@ MESSAGE_COLUMNS = ("link session offset moment number route network outcome erro
                    "receipt_moment centre_delay key command source ton").split()
 # Sources that may have receipts, and of messages that have none
 SOURCES = ("ACME", "ACME", "", "447700900999", "A,B", 'q"x', "l\nx", "c\rx", "\udcff", "=1+1", "none", "12345678901234567890")
-QUIET = ("QUIET", 'QU"ET', "QUI\nET", "\udcffQ", "+447700900111")
+QUIET = ("QUIET", 'QU"ET', "QUI\nET", "a\n\\.\nb", "\udcffQ", "+447700900111")
 DIFFERENCE_COLUMNS = "class session offset outcome price line id billed_price moment message_id key".split()
 BILLED_COLUMNS = ("id", "date", "number", "status", "price")
 
