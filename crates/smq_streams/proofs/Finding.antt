@@ -66,7 +66,7 @@ counted-more p (suc n) =
 pub beyond-more : (n : ℕ) (s t : Search) → t ≡ beyond n s → beyond 1 t ≡ beyond (n + 1) s
 beyond-more n s t e =
     ap (λ (x : Search). beyond 1 x) e
-    ∙ same_search _ _ _ _ _ _ (counted-more s.place n) (drop-drop n 1 s.octets) (counted-more s.passed n)
+    ∙ same_search _ _ _ _ _ _ _ _ (counted-more s.place n) (drop-drop n 1 s.octets) (counted-more s.passed n) (omega arith)
 
 -- where no octet is at the front there is none
 pub none-left : (octets : List Octet) → option_map (λ (o : Octet). o.begins) (slice_get octets 0) ≡ None → octets ≡ []

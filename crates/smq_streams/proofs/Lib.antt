@@ -7,3 +7,4 @@ pub mod OneFramer
 pub mod Finding
 pub mod Notes
 pub mod Directions
+pub mod Places

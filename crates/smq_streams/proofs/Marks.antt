@@ -74,9 +74,9 @@ marked-more (n ∷ ms) m os new h e some = (
 
 -- ---- a search
 
-pub same_search : (p q : ℕ) (a b : List Octet) (n m : ℕ) → p ≡ q → a ≡ b → n ≡ m
-    → ◌≡◌ {A = Search} (record { place = p; octets = a; passed = n }) (record { place = q; octets = b; passed = m })
-same_search p q a b n m e f g = rw (e, f, g) refl
+pub same_search : (p q : ℕ) (a b : List Octet) (n m : ℕ) (k l : ℕ) → p ≡ q → a ≡ b → n ≡ m → k ≡ l
+    → ◌≡◌ {A = Search} (record { place = p; octets = a; passed = n; looked = k }) (record { place = q; octets = b; passed = m; looked = l })
+same_search p q a b n m k l e f g h = rw (e, f, g, h) refl
 
 -- no octets are left where there is no mark, and none is there where no octets are
 pub empty : (ms : List Mark) (os : List ℕ) → AreMarked ms os → octets_by ms os ≡ [] → ms ≡ []

@@ -1,5 +1,5 @@
 -- A direction of a connection: what came of it, what was given, and what waits.
-use Rattle.std.specs.Prelude.{◌≡◌, ℕ, ◌<◌, ◌≤◌, nat_lt, min, Bool, true, false, ◌&&◌, ◌||◌, if◌then◌else◌, List, [], ◌∷◌, ◌++◌, length, take, drop, slice_get, Option, Some, None, option_map, unwrap_or}
+use Rattle.std.specs.Prelude.{◌≡◌, ℕ, ◌+◌, ◌<◌, ◌≤◌, nat_lt, min, Bool, true, false, ◌&&◌, ◌||◌, if◌then◌else◌, List, [], ◌∷◌, ◌++◌, length, take, drop, slice_get, Option, Some, None, option_map, unwrap_or}
 use Rattle.smq_reassembly.specs.declared.packet.Packet.{Packet}
 use Rattle.smq_reassembly.specs.declared.sequence.Place.{Place}
 use Rattle.smq_reassembly.specs.declared.sequence.Place.TheVariants.{Ahead}
@@ -32,9 +32,11 @@ pub record Direction : Type 0 where
   pub is_behind_gap : Bool
   pub is_stopped : Bool
 
--- what was given of a part and what is held behind it is the stream so far of the pieces that came, from the part's start on
-abbrev pub Gives : List Piece → Start → List Octet → Direction → Type 0
-Gives pieces start given d = Follows pieces start (given ++ d.held.octets) d.order
+-- what was given of a part and what is held behind it is the stream so far of the pieces that came, from the part's start on; what is
+-- held begins at the place that follows what was given
+pub record Gives (pieces : List Piece) (start : Start) (given : List Octet) (d : Direction) : Type 0 where
+  pub follows : Follows pieces start (given ++ d.held.octets) d.order
+  pub place : 0 < length d.held.octets → d.held.place ≡ start.place + length given
 
 -- a segment was taken, or ends too far ahead and nothing changed
 abbrev pub Adds : List Piece → Start → List Octet → Piece → Direction → Direction → Bool → Type 0
@@ -82,8 +84,9 @@ missing_tail d =
     then None
     else missing_between d.order.next (unwrap_or (first_place d.order.waiting) (sent_until d.extent))
 
--- of what follows in a part octets that begin no PDU were passed over, and the search stopped behind them
-pub record Searches (is_end : Bool) (pieces : List Piece) (start : Start) (given : List Octet) (after : Direction) (is_found : Bool) : Type 0 where
+-- of what follows in a part octets that begin no PDU were passed over and counted, and the search stopped behind them, where a PDU that
+-- is found has its place
+pub record Searches (is_end : Bool) (pieces : List Piece) (start : Start) (given : List Octet) (before after : Direction) (is_found : Bool) : Type 0 where
   pub held : List Octet
   pub count : ℕ
   pub whole : IsGiven pieces start (given ++ held)
@@ -91,6 +94,8 @@ pub record Searches (is_end : Bool) (pieces : List Piece) (start : Start) (given
   pub left : after.held.octets ≡ drop count held
   pub gives : Gives pieces start (given ++ take count held) after
   pub stops : Stops is_end after.held.octets is_found
+  pub place : is_found ≡ true → after.held.place ≡ start.place + length given + count
+  pub counts : after.held.passed ≡ counted before.held.passed count
 
 -- what is missing up to what waits first is a gap of the pieces that came, and the next part begins behind it
 pub record Skips (pieces : List Piece) (before after : Direction) (missing : Missing) : Type 0 where

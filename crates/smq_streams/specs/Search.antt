@@ -1,5 +1,5 @@
 -- The octets of a direction among which the first PDU is looked for.
-use Rattle.std.specs.Prelude.{◌≡◌, ℕ, zero, suc, ◌+◌, ◌-◌, ◌^◌, ◌<◌, ◌≤◌, ◌⊎◌, min, Bool, true, false, List, [], ◌∷◌, ◌++◌, length, drop, map, slice_get, Option, Some, None}
+use Rattle.std.specs.Prelude.{◌≡◌, ℕ, zero, suc, ◌+◌, ◌-◌, ◌^◌, ◌<◌, ◌≤◌, ◌⊎◌, min, nat_le, if◌then◌else◌, Bool, true, false, List, [], ◌∷◌, ◌++◌, length, drop, map, slice_get, Option, Some, None}
 use Rattle.smq_reassembly.specs.declared.packet.Packet.{Packet}
 use Rattle.smq_reassembly.specs.Octet.{Octet, octets_of}
 use Rattle.smq_reassembly.specs.Moment.{values}
@@ -8,11 +8,13 @@ use Rattle.smq_streams.specs.declared.headers.Sight.{Sight}
 use Rattle.smq_streams.specs.declared.headers.Sight.TheVariants.{Begins, Unclear, Other}
 use Rattle.smq_streams.specs.Sight.{IsSeen, IsUnclear}
 
--- octets that follow one another, the place of the first, and how many were passed over since it was last asked
+-- octets that follow one another, the place of the first, how many were passed over since it was last asked, and how many before them,
+-- which were looked at, are still kept
 pub record Search : Type 0 where
   pub place : ℕ
   pub octets : List Octet
   pub passed : ℕ
+  pub looked : ℕ
 
 -- octets that were given, each with its packet
 abbrev pub octets_given : Given → List Octet
@@ -47,7 +49,24 @@ counted count (suc n) = min (count + suc n) (2 ^ 64 - 1)
 -- so many octets are passed over
 abbrev pub beyond : ℕ → Search → Search
 beyond n s =
-    record { place = counted s.place n; octets = drop n s.octets; passed = counted s.passed n }
+    record {
+      place = counted s.place n;
+      octets = drop n s.octets;
+      passed = counted s.passed n;
+      looked = s.looked + n;
+    }
+
+-- of octets that were looked at none are kept where none follow them
+abbrev pub kept_before : List Octet → ℕ → ℕ
+kept_before [] looked = 0
+kept_before (o ∷ os) looked = looked
+
+abbrev pub emptied : Search → Search
+emptied s = record s { looked = kept_before s.octets s.looked }
+
+-- they are let go where they are 65,536 or more
+abbrev pub trimmed : Search → Search
+trimmed s = record s { looked = if nat_le 65536 s.looked then 0 else s.looked }
 
 -- so many octets begin no PDU: as far as the octets go, and, if more may follow, whatever does
 pub record BeginNone (is_end : Bool) (octets : List Octet) (n : ℕ) : Type 0 where
@@ -65,18 +84,18 @@ Stops is_end octets false = (octets ≡ []) ⊎ ((is_end ≡ false) × IsUnclear
 pub record Finds (is_end : Bool) (before after : Search) (is_found : Bool) : Type 0 where
   pub count : ℕ
   pub passed : BeginNone is_end before.octets count
-  pub after_is : after ≡ beyond count before
+  pub after_is : after ≡ emptied (beyond count before)
   pub stops : Stops is_end after.octets is_found
 
 -- the place of the first octet, where others were given: theirs where there was none
-abbrev pub place_with : Given → List Octet → ℕ → ℕ
-place_with given [] place = given.place
+abbrev pub place_with : ℕ → List Octet → ℕ → ℕ
+place_with given [] place = given
 place_with given (o ∷ os) place = place
 
 -- octets are put behind those of a search
 abbrev pub with_given : Given → Search → Search
 with_given given s =
-    record s {
-      place = place_with given s.octets s.place;
+    trimmed (record s {
+      place = place_with given.place s.octets s.place;
       octets = s.octets ++ octets_given given;
-    }
+    })

@@ -3,7 +3,7 @@ ghost use Rattle.std.specs.Prelude.{◌≡◌, ℕ, ◌+◌, ◌<◌, ◌++◌, 
 ghost use Rattle.std.specs.Option.{option_map};
 ghost use Rattle.smq_reassembly.specs.Octet.{Octet};
 ghost use Rattle.smq_reassembly.specs.Moment.{values};
-ghost use Rattle.smq_streams.specs.Search.{Finds, Search, Shows, beyond, counted, octets_given, with_given};
+ghost use Rattle.smq_streams.specs.Search.{Finds, Search, Shows, beyond, counted, emptied, kept_before, octets_given, trimmed, with_given};
 
 use crate::given::Given;
 use crate::headers::{Sight, look_at};
@@ -49,6 +49,7 @@ impl Model for Seeker {
       place = s.place;
       octets = octets_by (marks_of s.first s.others.items) (drop s.looked s.octets.items);
       passed = s.passed;
+      looked = s.looked;
     } };
 
     ghost invariant = { λ s. IsKept s.octets.items s.looked s.first s.others.items };
@@ -57,7 +58,7 @@ impl Model for Seeker {
 impl Seeker {
     /// No octets.
     pub fn new(alloc: Global) -> Seeker
-        ensures { result ≡ (record { place = 0; octets = []; passed = 0 }) }
+        ensures { result ≡ (record { place = 0; octets = []; passed = 0; looked = 0 }) }
     {
         Seeker {
             octets: Vec::new(alloc),
@@ -70,7 +71,9 @@ impl Seeker {
     }
 
     /// How many octets it keeps, which are those that are looked at and some before them.
-    pub fn len(&self) -> usize {
+    pub fn len(&self) -> usize
+        ensures { result ≡ self.now.looked + length self.now.octets }
+    {
         self.octets.len()
     }
 
@@ -102,16 +105,16 @@ impl Seeker {
     }
 
     /// Puts octets behind those before.
-    pub fn push(&mut self, alloc: Global, given: &Given) -> Result<(), AllocError>
+    pub fn push(&mut self, given: &Given) -> Result<(), AllocError>
         ensures ok { OnOk result (self.new ≡ with_given given.now self.old) }
         ensures err { OnErr result (self.new ≡ self.old) }
     {
         let is_first = self.is_through();
-        self.let_go(alloc)?;
         self.append(given)?;
         if is_first {
             self.place = given.place;
         }
+        self.let_go();
         Ok(())
     }
 
@@ -143,14 +146,16 @@ impl Seeker {
     }
 
     /// Lets go of what was looked at, where that is much.
-    fn let_go(&mut self, alloc: Global) -> Result<(), AllocError>
-        ensures { self.new ≡ self.old }
+    fn let_go(&mut self)
+        ensures { self.new ≡ trimmed self.old }
     {
         if self.looked >= LET_GO {
-            self.octets = Vec::from_slice(alloc, &self.octets[self.looked..])?;
+            let left = self.octets.len() - self.looked;
+            self.octets.rotate_left(self.looked);
+            self.octets.truncate(left);
+            self.octets.shrink_to_fit();
             self.looked = 0;
         }
-        Ok(())
     }
 
     /// Looks for a PDU; whether one begins at the octet that is looked at then. Where no more octets come, what isn't clear is no PDU,
@@ -206,11 +211,12 @@ impl Seeker {
 
     /// Lets go of what was looked at, where that is all.
     fn clear(&mut self)
-        requires { self.old.octets ≡ [] }
-        ensures { self.new ≡ self.old }
+        ensures { self.new ≡ emptied self.old }
     {
-        self.octets.clear();
-        self.looked = 0;
+        if self.is_through() {
+            self.octets.clear();
+            self.looked = 0;
+        }
     }
 
     /// The number of the packet that brought the octet that is looked at.
@@ -229,7 +235,8 @@ impl Seeker {
             (λ given. (0 < length given.octets.items) × (given.place ≡ self.old.place)
             × (self.old.octets ≡ octets_given given ++ self.new.octets)
             × (self.new.place ≡ counted self.old.place (length given.octets.items))
-            × (self.new.passed ≡ self.old.passed))) }
+            × (self.new.passed ≡ self.old.passed)
+            × (self.new.looked ≡ kept_before self.new.octets (self.old.looked + length given.octets.items)))) }
         ensures err { OnErr result (self.new ≡ self.old) }
     {
         let Some(mark) = self.first else {
@@ -241,9 +248,7 @@ impl Seeker {
         self.looked = until;
         self.place = place.saturating_add(mark.left as u64);
         self.first = self.others.pop_front();
-        if self.first.is_none() {
-            self.clear();
-        }
+        self.clear();
         Ok(Some(Given {
             place,
             number: mark.packet.number,

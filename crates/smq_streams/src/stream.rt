@@ -8,7 +8,7 @@ ghost use Rattle.smq_reassembly.specs.Sequence.{IsPlace};
 ghost use Rattle.smq_streams.specs.Direction.{Adds, Direction, Gives, IsLent, Searches, Skips, has_gap, is_open, is_unclear, missing_tail};
 ghost use Rattle.smq_streams.specs.Extent.{with_captured};
 ghost use Rattle.smq_streams.specs.Fit.{end_at};
-ghost use Rattle.smq_streams.specs.Search.{octets_given, with_given};
+ghost use Rattle.smq_streams.specs.Search.{octets_given, place_with, with_given};
 ghost use Rattle.std.specs.Option.{is_some};
 
 use crate::acknowledged::Acknowledged;
@@ -25,7 +25,7 @@ mod numbers;
 /// What a piece that waits takes besides its octets.
 const PIECE: u64 = 128;
 
-/// A PDU that is seen to begin behind a gap: its place, the packet of its first octet, and how many octets before it were passed over.
+/// A PDU that is seen to begin behind a gap: its place, and the packet of its first octet.
 #[derive(Clone, Copy)]
 pub struct Found {
     pub place: u64,
@@ -99,7 +99,7 @@ impl Stream {
           first = None;
           order = result.order;
           extent = record { end = 0; top = 0; reached = 0 };
-          held = record { place = 0; octets = []; passed = 0 };
+          held = record { place = 0; octets = []; passed = 0; looked = 0 };
           opened = None;
           notes = [];
           is_searching = false;
@@ -201,10 +201,11 @@ impl Stream {
         self.is_searching && self.is_behind_gap && !self.seeker.is_through()
     }
 
-    /// How much memory what waits takes, at most.
+    /// How much memory what waits and what is held takes: 128 octets a piece that waits, its octets, those that are held and those that
+    /// are kept before them, and 16 a note.
     pub fn weight(&self) -> u64
-        ensures { min (128 * length self.now.order.waiting + octets_in self.now.order.waiting
-            + 16 * length self.now.notes) (2 ^ 64 - 1) ≤ result }
+        ensures { result ≡ min (128 * length self.now.order.waiting + octets_in self.now.order.waiting
+            + (self.now.held.looked + length self.now.held.octets) + 16 * length self.now.notes) (2 ^ 64 - 1) }
     {
         (self.order.waiting_pieces() as u64)
             .saturating_mul(PIECE)
@@ -330,7 +331,8 @@ impl Stream {
     /// Holds octets that were lent until they are given.
     fn hold(&mut self, alloc: Global, place: u64, next: Next<'_>) -> Result<(), AllocError>
         ensures ok { OnOk result ((self.new.order ≡ self.old.order) × (self.new.held.octets
-            ≡ self.old.held.octets ++ octets_of next.entry.packet next.entry.begins next.entry.octets.now)) }
+            ≡ self.old.held.octets ++ octets_of next.entry.packet next.entry.begins next.entry.octets.now)
+            × (self.new.held.place ≡ place_with place self.old.held.octets self.old.held.place)) }
         ensures same { self.new ≡ record self.old { held = self.new.held } }
         ensures err { OnErr result (self.new ≡ self.old) }
     {
@@ -341,17 +343,17 @@ impl Stream {
             begins: next.begins,
             octets: Vec::from_slice(alloc, next.octets)?,
         };
-        self.hold_given(alloc, &given)?;
+        self.hold_given(&given)?;
         Ok(())
     }
 
     /// Holds octets until they are given.
-    fn hold_given(&mut self, alloc: Global, given: &Given) -> Result<(), AllocError>
+    fn hold_given(&mut self, given: &Given) -> Result<(), AllocError>
         ensures ok { OnOk result (self.new ≡ record self.old { held = with_given given.now self.old.held }) }
         ensures same { self.new ≡ record self.old { held = self.new.held } }
         ensures err { OnErr result (self.new ≡ self.old) }
     {
-        self.seeker.push(alloc, given)
+        self.seeker.push(given)
     }
 
     /// Takes note that octets up to a place were captured.
@@ -365,7 +367,7 @@ impl Stream {
     pub fn next_part(&mut self, alloc: Global) -> Result<Option<Given>, AllocError>
         ensures some { (pieces : List Piece) (start : Start) (given : List Octet)
             → Gives pieces start given self.old → IfOk result (λ r. IfSome r (λ part.
-            Gives pieces start (given ++ octets_given part) self.new)) }
+            (part.place ≡ start.place + length given) × Gives pieces start (given ++ octets_given part) self.new)) }
         ensures none { (pieces : List Piece) (start : Start) (given : List Octet)
             → Gives pieces start given self.old → self.old.is_searching ≡ false
             → IfOk result (λ r. r ≡ None → IsGiven pieces start given) }
@@ -378,6 +380,8 @@ impl Stream {
         if self.is_searching {
             return Ok(None);
         }
+        // For the proof: no place is counted up to the greatest.
+        let _ = self.order.next();
         match self.seeker.next_part(alloc)? {
             Some(given) => Ok(Some(given)),
             None => Ok(self.next_in_order()),
@@ -393,11 +397,9 @@ impl Stream {
         ensures still { result ≡ None → self.new ≡ self.old }
         ensures some { (pieces : List Piece) (start : Start) (given : List Octet)
             → Gives pieces start given self.old → IfSome result (λ part.
-            Gives pieces start given (record self.new {
-              held = record self.old.held {
-                octets = self.old.held.octets ++ octets_given part;
-              };
-            })) }
+            Gives pieces start given (record self.new { held = with_given part self.old.held })) }
+        ensures place { IfSome result (λ part. part.place ≡ self.old.order.next) }
+        ensures most { self.old.order.next ≤ 2 ^ 60 }
         ensures none { (pieces : List Piece) (start : Start) (given : List Octet)
             → Gives pieces start given self.old → result ≡ None
             → IsGiven pieces start (given ++ self.old.held.octets) × Gives pieces start given self.new }
@@ -453,10 +455,10 @@ impl Stream {
 
     /// Passes over what follows, up to the first PDU that begins in it. Where no more octets come before a gap or the end, what isn't
     /// clear is no PDU.
-    pub fn search(&mut self, alloc: Global, is_end: bool) -> Result<Option<Found>, AllocError>
+    pub fn search(&mut self, is_end: bool) -> Result<Option<Found>, AllocError>
         ensures searches { (pieces : List Piece) (start : Start) (given : List Octet)
             → Gives pieces start given self.old
-            → IfOk result (λ found. Searches is_end pieces start given self.new (is_some found)) }
+            → IfOk result (λ found. Searches is_end pieces start given self.old self.new (is_some found)) }
         ensures found { IfOk result (λ r. MatchOption r (self.new.is_searching ≡ self.old.is_searching)
             (λ found. (self.new.is_searching ≡ false) × (found.place ≡ self.new.held.place))) }
         ensures number { IfOk result (λ r. IfSome r (λ found. MatchOption (slice_get self.new.held.octets 0)
@@ -468,7 +470,7 @@ impl Stream {
         } }
         ensures err { OnErr result (self.new.is_searching ≡ self.old.is_searching) }
     {
-        self.hold_all(alloc)?;
+        self.hold_all()?;
         if !self.seeker.find(is_end) {
             return Ok(None);
         }
@@ -480,14 +482,16 @@ impl Stream {
     }
 
     /// Holds all octets that are the next.
-    fn hold_all(&mut self, alloc: Global) -> Result<(), AllocError>
+    fn hold_all(&mut self) -> Result<(), AllocError>
         ensures holds { (pieces : List Piece) (start : Start) (given : List Octet)
             → Gives pieces start given self.old → OnOk result (Gives pieces start given self.new
             × IsGiven pieces start (given ++ self.new.held.octets)) }
+        ensures passed { self.new.held.passed ≡ self.old.held.passed }
+        ensures most { OnOk result (self.new.order.next ≤ 2 ^ 60) }
         ensures same { self.new ≡ record self.old { order = self.new.order; held = self.new.held } }
     {
         'parts: while let Some(given) = self.next_in_order() {
-            self.hold_given(alloc, &given)?;
+            self.hold_given(&given)?;
         }
         Ok(())
     }

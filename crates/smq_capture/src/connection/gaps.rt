@@ -160,7 +160,7 @@ impl Connection {
         side: Side,
         is_end: bool,
     ) -> Result<Option<u64>, Fault> {
-        let Some(found) = self.both.of_mut(side).stream.search(output.alloc, is_end)? else {
+        let Some(found) = self.both.of_mut(side).stream.search(is_end)? else {
             return Ok(None);
         };
         self.settle(side, None)?;

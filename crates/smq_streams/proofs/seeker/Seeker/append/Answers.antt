@@ -43,8 +43,8 @@ pub returns-else-is_none-clause-ok : goal.returns-else-is_none-clause-ok
 unfolding mark
 returns-else-is_none-clause-ok c =
     rw (← c.self.view_is)
-    (same_search _ _ _ _ _ _ refl
+    (same_search _ _ _ _ _ _ _ _ refl
     (rw (items c, marks c)
     (by-push c.self.inside.octets.items c.args.given.now.octets.items c.self.inside.looked c.self.inside.first c.self.inside.others.items (mark c)
     (some c) c.self.invariant (size c)))
-    refl)
+    refl refl)

@@ -4,7 +4,7 @@ use Rattle.std.specs.Option.{option_map}
 use Rattle.smq_reassembly.specs.Octet.{Octet}
 use Rattle.smq_reassembly.specs.Moment.{values}
 use Rattle.smq_streams.specs.declared.headers.Sight.TheVariants.{Other}
-use Rattle.smq_streams.specs.Search.{Search, Shows}
+use Rattle.smq_streams.specs.Search.{Search, Shows, emptied}
 use Rattle.smq_streams.proofs.Finding.{beyond-more, none-left, one-more}
 use Rattle.smq_streams.proofs.seeker.Seeker.find.Goals as goal
 
@@ -18,15 +18,12 @@ octets-preserved c =
     subst (λ (o : List ℕ). Shows c.args.is_end o c.in-Some.begins Other) (c.rest.ensures ∙ ap values left) c.in-Other.ensures in
     (i.0 + 1, one-more c.args.is_end c.args.self.now.octets i.0 c.in-Some.begins i.1 begins shows, c.pass.ensures ∙ beyond-more i.0 c.args.self.now c.octets.self i.2)
 
-pub clear-requires : goal.clear-requires
-clear-requires c = none-left c.octets.self.octets (sym c.begins.ensures ∙ c.in_default.is)
-
 pub returns : goal.returns
 returns c =
     let i = c.octets.invariant in
     record {
       count = i.0;
       passed = i.1;
-      after_is = c.clear.ensures ∙ i.2;
+      after_is = c.clear.ensures ∙ ap (λ (s : Search). emptied s) i.2;
       stops = inl (ap (λ (s : Search). s.octets) c.clear.ensures ∙ none-left c.octets.self.octets (sym c.begins.ensures ∙ c.in_default.is));
     }

@@ -8,6 +8,7 @@ use Rattle.smq_streams.proofs.stream.Stream.hold_all.Given as goal
 abbrev pub invariant-parts : goal.invariant-parts
 invariant-parts l = record {
   gives : (pieces : List Piece) (start : Start) (given : List Octet) → Gives pieces start given l.initial.self → Gives pieces start given l.self;
+  passed : l.self.held.passed ≡ l.initial.self.held.passed;
   same : l.self ≡ record l.initial.self { order = l.self.order; held = l.self.held };
 }
 

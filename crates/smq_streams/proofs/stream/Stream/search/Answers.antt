@@ -1,26 +1,19 @@
-use Rattle.std.proofs.Common.{◌≡◌, ◌++◌, List, take, drop, sym, subst, ap}
-use Rattle.smq_reassembly.specs.Moment.{IsGiven}
-use Rattle.smq_reassembly.specs.Octet.{Octet}
-use Rattle.smq_reassembly.specs.State.{Follows}
-use Rattle.smq_streams.specs.Direction.{Direction, Gives}
-use Rattle.smq_streams.specs.Search.{Search}
-use Rattle.smq_streams.proofs.Directions.{splits}
+use Rattle.std.proofs.Common.{◌≡◌, true, false, subst, ap}
+use Rattle.smq_streams.specs.Direction.{Direction}
+use Rattle.smq_streams.specs.Search.{Finds}
+use Rattle.smq_streams.proofs.Places.{searches}
 use Rattle.smq_streams.proofs.stream.Stream.search.Goals as goal
+
+pub returns-then-not-find-clause-searches : goal.returns-then-not-find-clause-searches
+returns-then-not-find-clause-searches c pieces start given g =
+    let h = c.in_ok-hold_all.ensures.holds pieces start given g in
+    searches c.args.is_end false pieces start given c.args.self.now c.hold_all.new.self _
+    (ap (λ (x : Direction). x.order) c.self.view_is) c.in_ok-hold_all.ensures.passed c.in_ok-hold_all.ensures.most h.0 h.1
+    (subst (λ (x : Direction). Finds c.args.is_end x.held c.find.new.self false) c.self.view_is c.if-not-find.ensures)
 
 pub returns-clause-searches : goal.returns-clause-searches
 returns-clause-searches c pieces start given g =
     let h = c.in_ok-hold_all.ensures.holds pieces start given g in
-    let f = subst (λ (x : Direction). Gives pieces start given x × IsGiven pieces start (given ++ x.held.octets)) (sym c.self.view_is) h in
-    let held : List Octet = c.self.inside.seeker.octets in
-    let e = c.find.ensures in
-    let left : c.find.new.self.octets ≡ drop e.count held = ap (λ (x : Search). x.octets) e.after_is in
-    record {
-      held = held;
-      count = e.count;
-      whole = f.1;
-      passed = e.passed;
-      left = left;
-      gives = subst (λ (o : List Octet). Follows pieces start ((given ++ take e.count held) ++ o) c.self.inside.order) (sym left)
-          (splits pieces start given held e.count c.self.inside.order f.0);
-      stops = c.if-not-find.ensures.stops;
-    }
+    searches c.args.is_end true pieces start given c.args.self.now c.hold_all.new.self _
+    (ap (λ (x : Direction). x.order) c.self.view_is) c.in_ok-hold_all.ensures.passed c.in_ok-hold_all.ensures.most h.0 h.1
+    (subst (λ (x : Direction). Finds c.args.is_end x.held c.find.new.self true) c.self.view_is c.if-not-find.ensures)

@@ -1,4 +1,4 @@
-use Rattle.std.proofs.Common.{◌≡◌, ◌++◌, List, [], refl, sym, subst}
+use Rattle.std.proofs.Common.{◌≡◌, ◌++◌, List, [], length, refl, sym, subst, ap, arith}
 use Rattle.smq_reassembly.specs.Octet.{Octet}
 use Rattle.smq_reassembly.specs.State.{Follows}
 use Rattle.smq_streams.specs.Direction.{Direction, Gives}
@@ -8,12 +8,15 @@ pub returns-clause-skips : goal.returns-clause-skips
 returns-clause-skips c pieces start given g e =
     let f = subst (λ (d : Direction). Gives pieces start given d) (sym c.self.view_is) g in
     let none = subst (λ (d : Direction). d.held.octets ≡ []) (sym c.self.view_is) e in
-    let s = c.in_ok-until.ensures.some pieces start (given ++ c.self.inside.seeker.octets) f in
+    let s = c.in_ok-until.ensures.some pieces start (given ++ c.self.inside.seeker.octets) f.follows in
     rw (← c.self.view_is)
     (record {
       from = c.next-from.ensures.value;
       gap = s.0;
-      gives = subst (λ (os : List Octet). Follows pieces (record { place = c.in_ok-until.until; moment = c.self.inside.order.last.moment }) os c.skip_gap.new.self)
-          (sym none) s.1;
+      gives = record {
+        follows = subst (λ (os : List Octet). Follows pieces (record { place = c.in_ok-until.until; moment = c.self.inside.order.last.moment }) os c.skip_gap.new.self)
+            (sym none) s.1;
+        place = λ some. absurd (omega (arith, some, ap (λ (os : List Octet). length os) none));
+      };
       searches = refl;
     })

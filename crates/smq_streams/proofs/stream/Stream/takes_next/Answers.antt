@@ -1,7 +1,8 @@
-use Rattle.std.proofs.Common.{◌≡◌, ◌++◌, ◌∙◌, ◌∷◌, ℕ, [], refl, sym, subst, ap, rules}
+use Rattle.std.proofs.Common.{◌≡◌, ◌++◌, ◌∙◌, ◌∷◌, ℕ, [], List, length, refl, sym, subst, ap, rules, arith}
 use Rattle.std.specs.Prelude.{Some}
 use Rattle.std.proofs.lemmas.Option.{same_Some}
 use Rattle.smq_reassembly.specs.declared.reassembly.Taken.{Taken}
+use Rattle.smq_reassembly.specs.Octet.{Octet}
 use Rattle.smq_reassembly.specs.declared.sequence.Place.TheVariants.{Ahead}
 use Rattle.smq_reassembly.specs.Segment.{IsTooFarAhead, octets_given, piece_of}
 use Rattle.smq_reassembly.specs.Sequence.{IsPlace}
@@ -22,9 +23,12 @@ returns-clause-takes c pieces start given f place g first stands =
     let none : c.self.inside.seeker.octets ≡ [] = cc in
     let piece = piece_of place c.self.inside.order.next c.args.packet c.args.octets.now in
     let l = took_lent c.in_ok-next.field-0 pieces piece start given c.self.inside.seeker.octets _ (λ far. absurd (let is = c.in-Lends.is in cc)) none
-    (c.in_ok-next.ensures.takes pieces start (given ++ c.self.inside.seeker.octets) place at d) in
+    (c.in_ok-next.ensures.takes pieces start (given ++ c.self.inside.seeker.octets) place at d.follows) in
     rw (c.note_captured.ensures, ← c.self.view_is)
-    (subst (λ (t : Taken). Follows (pieces ++ piece ∷ []) start ((given ++ octets_given t) ++ c.self.inside.seeker.octets) c.take_segment.new.self) c.in-Lends.is l)
+    (record {
+      follows = subst (λ (t : Taken). Follows (pieces ++ piece ∷ []) start ((given ++ octets_given t) ++ c.self.inside.seeker.octets) c.take_segment.new.self) c.in-Lends.is l;
+      place = λ some. absurd (omega (arith, some, ap (λ (os : List Octet). length os) none));
+    })
 
 pub returns-in_default-2-clause-lends : goal.returns-in_default-2-clause-lends
 returns-in_default-2-clause-lends c pieces start given f place g first stands =
@@ -38,7 +42,7 @@ returns-in_default-2-clause-lends c pieces start given f place g first stands =
       λ is.
           let far = unlent c.in_ok-next.field-0 pieces piece start ((given ++ c.self.inside.seeker.octets) ++ octets_given c.in_ok-next.field-0) c.self.inside.order c.take_segment.new.self
           c.in_default-2.not-Lends (subst (λ (x : Direction). x.order.waiting ≡ []) (sym c.self.view_is) (c.is_held.ensures.closed c.if-is_held.false)) c.in_ok-next.ensures.changes c.in_ok-next.ensures.next
-          (c.in_ok-next.ensures.takes pieces start (given ++ c.self.inside.seeker.octets) place at d)
+          (c.in_ok-next.ensures.takes pieces start (given ++ c.self.inside.seeker.octets) place at d.follows)
           (has_next place c.self.inside.order.next c.args.packet c.args.octets.now is.next is.some) in
           let near = subst (λ (x : Direction). IsTooFarAhead x.order.next (piece_of place x.order.next c.args.packet c.args.octets.now) → ⊥) (sym c.self.view_is) is.near in
           absurd (near ((c.in_ok-next.ensures.far place at).0 far.0)),
@@ -52,6 +56,6 @@ returns-in_default-2-clause-none c pieces start given f place g first stands e =
     let piece = piece_of c.place_of.result c.self.inside.order.next c.args.packet c.args.octets.now in
     let far = unlent c.in_ok-next.field-0 pieces piece start ((given ++ c.self.inside.seeker.octets) ++ octets_given c.in_ok-next.field-0) c.self.inside.order c.take_segment.new.self
     c.in_default-2.not-Lends (subst (λ (x : Direction). x.order.waiting ≡ []) (sym c.self.view_is) (c.is_held.ensures.closed c.if-is_held.false)) c.in_ok-next.ensures.changes c.in_ok-next.ensures.next
-    (c.in_ok-next.ensures.takes pieces start (given ++ c.self.inside.seeker.octets) c.place_of.result at d)
+    (c.in_ok-next.ensures.takes pieces start (given ++ c.self.inside.seeker.octets) c.place_of.result at d.follows)
     (has_next c.place_of.result c.self.inside.order.next c.args.packet c.args.octets.now here (let h = c.is_empty.ensures in let k = c.if-is_empty.false in search rules)) in
     rw (far.1, ← c.self.view_is) refl
