@@ -1,3 +1,4 @@
+pub mod Berlin
 pub mod MonthLemmas
 pub mod Named
 pub mod Sums

@@ -220,6 +220,34 @@ pub day_20818 : day_text 20818 ≡ codes "2026-12-31"
 unfolding digits
 day_20818 = written 2026 12 31 20818 last_is_civil (day_count-late (pos 2026) 12026 12 31 refl (omega arith) (omega arith) (omega arith)) (omega arith)
 
+pub day_515 : day_text 515 ≡ codes "1971-05-31"
+unfolding digits
+day_515 = written 1971 5 31 515 ((omega (arith, signed_arith), omega (arith, signed_arith)), (omega arith, omega arith), (omega arith, omega arith)) (day_count-late (pos 1971) 11971 5 31 refl (omega arith) (omega arith) (omega arith)) (omega arith)
+
+pub day_20751 : day_text 20751 ≡ codes "2026-10-25"
+unfolding digits
+day_20751 = written 2026 10 25 20751 ((omega (arith, signed_arith), omega (arith, signed_arith)), (omega arith, omega arith), (omega arith, omega arith)) (day_count-late (pos 2026) 12026 10 25 refl (omega arith) (omega arith) (omega arith)) (omega arith)
+
+pub day_20786 : day_text 20786 ≡ codes "2026-11-29"
+unfolding digits
+day_20786 = written 2026 11 29 20786 ((omega (arith, signed_arith), omega (arith, signed_arith)), (omega arith, omega arith), (omega arith, omega arith)) (day_count-late (pos 2026) 12026 11 29 refl (omega arith) (omega arith) (omega arith)) (omega arith)
+
+pub day_20788 : day_text 20788 ≡ codes "2026-12-01"
+unfolding digits
+day_20788 = written 2026 12 1 20788 ((omega (arith, signed_arith), omega (arith, signed_arith)), (omega arith, omega arith), (omega arith, omega arith)) (day_count-late (pos 2026) 12026 12 1 refl (omega arith) (omega arith) (omega arith)) (omega arith)
+
+new_year_is_civil : IsCivilDate (pos 2027) 1 1
+new_year_is_civil = ((omega (arith, signed_arith), omega (arith, signed_arith)), (omega arith, omega arith), (omega arith, omega arith))
+
+pub day_20819 : day_text 20819 ≡ codes "2027-01-01"
+unfolding digits
+day_20819 = written 2027 1 1 20819 new_year_is_civil (day_count-early (pos 2027) 12026 1 1 refl (omega arith) (omega arith) (omega arith)) (omega arith)
+
+pub month_20819 : month_of 20819 ≡ 684
+month_20819 =
+    let date : Date = record { year = pos 2027; month = 1; day = 1; year_in = new_year_is_civil.0; month_in = new_year_is_civil.1; day_in = new_year_is_civil.2 } in
+    sym (month_of_date date 20819 (omega (arith, signed_arith, day_count-early (pos 2027) 12026 1 1 refl (omega arith) (omega arith) (omega arith), days_from_civil-day_count (pos 2027) 1 1)) (omega arith))
+
 pub day_47482 : day_text 47482 ≡ codes "2100-01-01"
 unfolding digits
 day_47482 = written 2100 1 1 47482 (first_is_civil 1560 (omega arith)) end_count (omega arith)

@@ -11,7 +11,8 @@ use Rattle.smq_count.specs.declared.column.Column.{Column}
 use Rattle.smq_count.specs.declared.counted.Counted.{Counted}
 use Rattle.smq_count.specs.declared.counting.Condition.{Condition}
 use Rattle.smq_count.specs.declared.counting.Counting.{Counting}
-use Rattle.smq_count.specs.Cells.{Tuple, cell_in, cell_text, tuple_cmp, tuple_in}
+use Rattle.smq_count.specs.declared.local.Zone.{Zone}
+use Rattle.smq_count.specs.Cells.{Tuple, cell_by, cell_text, tuple_by, tuple_cmp}
 use Rattle.smq_count.specs.Columns.{column_name}
 
 -- ---- what is asked for
@@ -25,12 +26,12 @@ abbrev pub with_commas : List Column → List ℕ
 with_commas columns = flat_map (λ column. column_name column ++ 44 ∷ []) columns
 
 -- whether a message has a condition's text in its column
-abbrev pub has_text : MessageLineValue → Condition → Bool
-has_text line condition = bytes_eq (cell_text (cell_in condition.column line)) condition.value.items
+abbrev pub has_text : Zone → MessageLineValue → Condition → Bool
+has_text zone line condition = bytes_eq (cell_text (cell_by zone condition.column line)) condition.value.items
 
 -- whether a message is counted: where it meets all conditions
 abbrev pub is_counted : Counting → MessageLineValue → Bool
-is_counted counting line = list_all (has_text line) counting.conditions.items
+is_counted counting line = list_all (has_text counting.zone line) counting.conditions.items
 
 -- ---- counts
 
@@ -44,7 +45,7 @@ counts_among tuples = fin.from_entries (map (λ tuple. (tuple, number_among tupl
 
 -- the tuples of the messages that are counted
 abbrev pub counted_tuples : Counting → List MessageLineValue → List Tuple
-counted_tuples counting lines = map (tuple_in counting.columns.items) (filter (is_counted counting) lines)
+counted_tuples counting lines = map (tuple_by counting.zone counting.columns.items) (filter (is_counted counting) lines)
 
 -- each tuple that a counted message has, with the number of these, in order
 abbrev pub counts_of : Counting → List MessageLineValue → List (Tuple × ℕ)

@@ -1,8 +1,9 @@
 //! What messages have in columns.
 ghost use Rattle.std.specs.Prelude.{◌≡◌, IfOk, take};
-ghost use Rattle.smq_count.specs.Cells.{cell_in, cell_text};
+ghost use Rattle.smq_count.specs.Cells.{cell_by, cell_in, cell_text};
 
 use crate::column::{Column, Period};
+use crate::local::{Local, Zone};
 use crate::period::{period_of, push_period};
 use arrayvec::ArrayVec;
 use smq_kit::{Digits, SessionId};
@@ -21,6 +22,8 @@ pub enum Cell {
     Outcome(Outcome),
     /// A period, by the number of such periods since 1970 in UTC.
     Period(Period, u32),
+    /// A period of local time.
+    Local(Local),
     /// The address that it comes from.
     Source(SourceAddress),
     /// The type of that address's number.
@@ -32,8 +35,22 @@ pub enum Cell {
 }
 
 impl Cell {
-    /// What a message has in a column.
-    pub fn of(column: Column, line: &MessageLine<'_>) -> Cell
+    /// What a message has in a column, periods being of the time of a zone.
+    pub fn of(zone: &Zone, column: Column, line: &MessageLine<'_>) -> Cell
+        ensures { result ≡ cell_by zone.now column line.now }
+    {
+        match (zone, column) {
+            (Zone::Local(zone), Column::Period(period)) => Cell::Local(Local::of(
+                period,
+                zone,
+                line.moment,
+            )),
+            _ => Cell::in_utc(column, line),
+        }
+    }
+
+    /// The same where periods are in UTC.
+    fn in_utc(column: Column, line: &MessageLine<'_>) -> Cell
         ensures { result ≡ cell_in column line.now }
     {
         match column {
@@ -69,6 +86,7 @@ impl Cell {
             }
             Cell::Outcome(outcome) => text.push_str(outcome.name())?,
             Cell::Period(period, number) => push_period(&mut text, *period, *number)?,
+            Cell::Local(local) => local.push(&mut text)?,
             Cell::Source(source) => return octets_of(alloc, source.as_slice()),
             Cell::Ton(ton) => write!(text, "{ton}")?,
             Cell::Prefix(digits) => return octets_of(alloc, digits.as_slice()),

@@ -5,7 +5,7 @@ ghost use Rattle.smq_count.specs.Columns.{column_name, columns, is_named, period
 use smq_tally::View;
 use std::alloc::{AllocError, Global};
 
-/// A stretch of time in UTC.
+/// A stretch of time, in UTC or in local time.
 #[derive(Clone, Copy, Debug, PartialEq, Eq, PartialOrd, Ord)]
 pub enum Period {
     Minute,

@@ -1,11 +1,12 @@
 //! What is counted, and by what.
 ghost use Rattle.std.specs.Prelude.{◌≡◌, ◌++◌, ◌∷◌, [], IfOk, IfSome, OnOk, map, string_bytes};
-ghost use Rattle.smq_count.specs.Cells.{tuple_in};
+ghost use Rattle.smq_count.specs.Cells.{tuple_by};
 ghost use Rattle.smq_count.specs.Columns.{column_name};
 ghost use Rattle.smq_count.specs.Counts.{condition_text, has_text, is_counted, with_commas};
 
 use crate::cell::Cell;
 use crate::column::Column;
+use crate::local::Zone;
 use smq_present::MessageLine;
 use std::alloc::{AllocError, Global};
 
@@ -16,16 +17,17 @@ pub struct Condition {
     pub value: Vec<u8>,
 }
 
-/// Columns to count by, and conditions.
+/// Columns to count by, conditions, and the time by which periods are.
 #[derive(Debug, Drop)]
 pub struct Counting {
     pub columns: Vec<Column>,
     pub conditions: Vec<Condition>,
+    pub zone: Zone,
 }
 
 impl Counting {
-    /// The columns whose names stand in a text, with commas between, and conditions, each as COLUMN=VALUE. None where a name is no
-    /// column's.
+    /// The columns whose names stand in a text, with commas between, and conditions, each as COLUMN=VALUE, in UTC. None where a name
+    /// is no column's.
     pub fn parse(
         alloc: Global,
         columns: &[u8],
@@ -35,6 +37,7 @@ impl Counting {
             with_commas counting.columns.items ≡ columns.now ++ 44 ∷ [])) }
         ensures conditions { IfOk result (λ found. IfSome found (λ counting.
             map condition_text counting.conditions.items ≡ map string_bytes conditions.now)) }
+        ensures utc { IfOk result (λ found. IfSome found (λ counting. counting.zone ≡ Zone.Utc)) }
     {
         let Some(columns) = columns_in(alloc, columns)? else {
             return Ok(None);
@@ -45,6 +48,7 @@ impl Counting {
         Ok(Some(Counting {
             columns,
             conditions,
+            zone: Zone::Utc,
         }))
     }
 
@@ -57,7 +61,7 @@ impl Counting {
         ensures { IfOk result (λ is_counted_. is_counted_ ≡ is_counted self.now line.now) }
     {
         for condition in self.conditions.as_slice() {
-            if !condition.is_met(alloc, line)? {
+            if !condition.is_met(alloc, &self.zone, line)? {
                 return Ok(false);
             }
         }
@@ -70,11 +74,11 @@ impl Counting {
         alloc: Global,
         line: &MessageLine<'_>,
     ) -> Result<Vec<Cell>, AllocError>
-        ensures { IfOk result (λ tuple. tuple.items ≡ tuple_in self.now.columns.items line.now) }
+        ensures { IfOk result (λ tuple. tuple.items ≡ tuple_by self.now.zone self.now.columns.items line.now) }
     {
         let mut tuple = Vec::with_capacity(alloc, self.columns.len())?;
         for column in self.columns.as_slice() {
-            tuple.push(Cell::of(*column, line))?;
+            tuple.push(Cell::of(&self.zone, *column, line))?;
         }
         Ok(tuple)
     }
@@ -82,10 +86,10 @@ impl Counting {
 
 impl Condition {
     /// Whether a message has its text in its column.
-    fn is_met(&self, alloc: Global, line: &MessageLine<'_>) -> Result<bool, AllocError>
-        ensures { IfOk result (λ is_met. is_met ≡ has_text line.now self.now) }
+    fn is_met(&self, alloc: Global, zone: &Zone, line: &MessageLine<'_>) -> Result<bool, AllocError>
+        ensures { IfOk result (λ is_met. is_met ≡ has_text zone.now line.now self.now) }
     {
-        let text = Cell::of(self.column, line).text(alloc)?;
+        let text = Cell::of(zone, self.column, line).text(alloc)?;
         Ok(text.as_slice() == self.value.as_slice())
     }
 }

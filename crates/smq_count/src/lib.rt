@@ -6,6 +6,7 @@ mod column;
 mod counted;
 mod counting;
 mod laws;
+mod local;
 mod period;
 
 pub use cell::Cell;
@@ -14,5 +15,6 @@ pub use counted::{Counted, count_lines, write_counts};
 pub use counting::{Condition, Counting};
 pub use laws::{
     counts_add_up, counts_are_numbers, days_are_written_by_their_dates, known_cells, known_columns,
-    known_days,
+    known_days, known_local_times,
 };
+pub use local::{Local, MOST_ZONE, Zone};

@@ -69,7 +69,7 @@ fn push_hour(text: &mut String, hour: u32) -> Result<(), AllocError>
     text.push_str("Z")
 }
 
-fn push_day(text: &mut String, day: u32) -> Result<(), AllocError>
+pub(crate) fn push_day(text: &mut String, day: u32) -> Result<(), AllocError>
     ensures { OnOk result (string_bytes text.new ≡ string_bytes text.old ++ day_text day) }
 {
     push_month(text, month_of(day))?;
@@ -77,7 +77,7 @@ fn push_day(text: &mut String, day: u32) -> Result<(), AllocError>
     push_two(text, day_of_month(day))
 }
 
-fn push_month(text: &mut String, month: u32) -> Result<(), AllocError>
+pub(crate) fn push_month(text: &mut String, month: u32) -> Result<(), AllocError>
     ensures { OnOk result (string_bytes text.new ≡ string_bytes text.old ++ month_text month) }
 {
     let year = 1_970 + month / 12;
@@ -86,7 +86,7 @@ fn push_month(text: &mut String, month: u32) -> Result<(), AllocError>
 }
 
 /// Puts a number below 100 in two digits after the text.
-fn push_two(text: &mut String, number: u64) -> Result<(), AllocError>
+pub(crate) fn push_two(text: &mut String, number: u64) -> Result<(), AllocError>
     ensures { OnOk result (string_bytes text.new ≡ string_bytes text.old ++ two_digits number) }
 {
     let tens = number / 10;
@@ -95,7 +95,7 @@ fn push_two(text: &mut String, number: u64) -> Result<(), AllocError>
 }
 
 /// The month of a day.
-fn month_of(day: u32) -> u32
+pub(crate) fn month_of(day: u32) -> u32
     ensures value { result ≡ month_of day }
     ensures bound { result ≤ LAST_MONTH }
     ensures begun { first_day result ≤ day }

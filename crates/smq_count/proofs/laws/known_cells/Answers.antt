@@ -13,6 +13,8 @@ returns-clause-cells c = record {
   session = refl;
   outcome = refl;
   no_route = refl;
+  source = refl;
+  ton = refl;
   prefix = refl;
   nothing = refl;
 }

@@ -4,4 +4,4 @@ use Rattle.smq_count.specs.Counts.{has_text}
 use Rattle.smq_count.proofs.counting.Counting.is_counted.Given as goal
 
 abbrev pub invariant-loop-condition : goal.invariant-loop-condition
-invariant-loop-condition l = list_all (has_text l.line) l.condition-items ≡ list_all (has_text l.line) (drop l.condition-index l.condition-items)
+invariant-loop-condition l = list_all (has_text l.self.zone l.line) l.condition-items ≡ list_all (has_text l.self.zone l.line) (drop l.condition-index l.condition-items)
