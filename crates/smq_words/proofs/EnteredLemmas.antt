@@ -14,7 +14,7 @@ use Rattle.smq_report.specs.declared.pick.Pick.{Pick}
 use Rattle.smq_report.specs.declared.pick.Pick.TheVariants as pick
 use Rattle.smq_words.specs.declared.orders.Task.{Task}
 use Rattle.smq_words.specs.declared.orders.Task.TheVariants.{Capture, Count, Follow, Run, Total, Window}
-use Rattle.smq_words.specs.Words.{Asks, CaptureTexts, CountingTexts, HasCaptures, HasFlag, IsQueried, Say, TakesNames, capture_app, columns_rule, count_app, counting_in, follow_app, format_names, length_rule, name_rule, named_app, optional_rule, options_app, repeated_rule, required_link_rule, settings_app, subcommand_name, values_of, window_app}
+use Rattle.smq_words.specs.Words.{Asks, CaptureTexts, CountingTexts, HasCaptures, HasFlag, IsQueried, Say, TakesNames, capture_app, columns_rule, count_app, counting_in, follow_app, format_names, length_rule, name_rule, named_app, option_rule, optional_rule, options_app, repeated_rule, required_link_rule, settings_app, subcommand_name, values_of, window_app}
 use Rattle.smq_words.proofs.LevelLemmas.{Fit, IfHas, append_keeps, first_fit, given_fit, level_fit, read_fit, set_keeps, some_kind}
 use Rattle.smq_words.proofs.ArgumentLemmas.{IsFlagText, IsFormatName, IsPickName, Known, Nameless, captures_default, captures_keep, file_built, flag_known, format_keeps, format_known, help_built, help_default, help_keep, is_flag, known_read, live_built, live_keep, name_keeps, none_known, of_known, optional_keeps, other_known, pick_known, reading_default, reading_keep, settings_keeps, window_built, window_keep}
 
@@ -212,9 +212,12 @@ count_asked words clean =
       set_keeps (Known Nameless) (filled columns_rule) (λ v h. other_known Nameless (codes "by") v refl refl refl),
       (
         append_keeps (Known Nameless) (filled (repeated_rule (codes "where"))) (λ v h. other_known Nameless (codes "where") v refl refl refl),
-        (settings_keeps Nameless, captures_keep Nameless help_built (help_keep Nameless)),
+        (
+          set_keeps (Known Nameless) (filled (option_rule (codes "zone"))) (λ v h. other_known Nameless (codes "zone") v refl refl refl),
+          (settings_keeps Nameless, captures_keep Nameless help_built (help_keep Nameless)),
+        ),
       ),
-    ) (tt, (tt, (tt, captures_default Nameless help_built (help_default Nameless)))) words clean in
+    ) (tt, (tt, (tt, (tt, captures_default Nameless help_built (help_default Nameless))))) words clean in
     let given = given_fit (Known Nameless) (codes "by") rows level.0 (is_required (is_given (codes "by") rows) level.1) in
     task_asked Nameless Count rows level.0 (given.0, given.1)
 

@@ -154,10 +154,10 @@ pub record KnowsCaptures : Type 0 where
 
 -- these columns and conditions
 abbrev pub counted_by : Text → List Text → CountingTexts
-counted_by columns conditions = record { columns = Some columns; conditions = conditions }
+counted_by columns conditions = record { columns = Some columns; conditions = conditions; zone = None }
 
--- words of `count`: it takes columns once, conditions, a path of settings and captures, and neither a format nor a name; `messages` takes no
--- condition, and `total` no columns
+-- words of `count`: it takes columns once, conditions, a time zone once, a path of settings and captures, and neither a format nor a name;
+-- `messages` takes no condition and no time zone, and `total` no columns
 pub record KnowsCount : Type 0 where
   pub columns : HasFault (codes "count" ∷ codes "--by" ∷ codes "link,day" ∷ []) []
   pub columns_count : AskCount (codes "count" ∷ codes "--by" ∷ codes "link,day" ∷ []) None (counted_by (codes "link,day") []) no_captures
@@ -168,6 +168,8 @@ pub record KnowsCount : Type 0 where
       (counted_by (codes "day") (codes "link=1" ∷ codes "outcome=open" ∷ [])) no_captures
   pub joined : AskCount (codes "count" ∷ codes "--by=day" ∷ codes "--where=error=" ∷ []) None
       (counted_by (codes "day") (codes "error=" ∷ [])) no_captures
+  pub zone : AskCount (codes "count" ∷ codes "--by" ∷ codes "day" ∷ codes "--zone" ∷ codes "p" ∷ codes "--settings" ∷ codes "q" ∷ [])
+      (Some (codes "q")) (record (counted_by (codes "day") []) { zone = Some (codes "p") }) no_captures
   pub settings : AskCount (codes "count" ∷ codes "--settings" ∷ codes "p" ∷ codes "--by" ∷ codes "hour" ∷ []) (Some (codes "p"))
       (counted_by (codes "hour") []) no_captures
   pub captures : AskCount
@@ -180,6 +182,9 @@ pub record KnowsCount : Type 0 where
   pub name : HasFault (codes "count" ∷ codes "link" ∷ []) (UnknownArgument ∷ [])
   pub messages : HasFault (codes "messages" ∷ codes "--where" ∷ codes "link=1" ∷ []) (UnknownArgument ∷ [])
   pub total : HasFault (codes "total" ∷ codes "--by" ∷ codes "link" ∷ []) (UnknownArgument ∷ [])
+  pub zones : HasFault (codes "count" ∷ codes "--by" ∷ codes "day" ∷ codes "--zone" ∷ codes "p" ∷ codes "--zone" ∷ codes "q" ∷ [])
+      (ArgumentConflict ∷ [])
+  pub zone_of_messages : HasFault (codes "messages" ∷ codes "--zone" ∷ codes "p" ∷ []) (UnknownArgument ∷ [])
 
 -- words of `window`: it takes its length, once, and nothing else; of the other subcommands only `follow` takes one
 pub record KnowsWindow : Type 0 where

@@ -174,11 +174,13 @@ named_app name rule formats =
 abbrev pub follow_app : ValueParser → App
 follow_app formats = with_rule (with_rules (options_app (codes "follow") formats) live_rules) (option_rule (codes "window"))
 
--- `count`: by which columns, the conditions, `--settings` and the options of captures
+-- `count`: by which columns, the conditions, the time zone of periods, `--settings` and the options of captures
 abbrev pub count_app : App
 count_app =
     with_rules
-    (with_rule (with_rule (with_rule (new_app (codes "count")) columns_rule) (repeated_rule (codes "where"))) settings_rule)
+    (with_rule
+    (with_rule (with_rule (with_rule (new_app (codes "count")) columns_rule) (repeated_rule (codes "where"))) (option_rule (codes "zone")))
+    settings_rule)
     captures_rules
 
 -- `capture`: its links, how captures are read, what is asked while packets come, and the captures
@@ -261,16 +263,18 @@ Say rows Window = (length : Text) × (first_of (codes "window") rows ≡ Some le
 pub record CountingTexts : Type 0 where
   pub columns : Option Text
   pub conditions : List Text
+  pub zone : Option Text
 
 -- what the other subcommands count by: nothing
 abbrev pub no_counting : CountingTexts
-no_counting = record { columns = None; conditions = [] }
+no_counting = record { columns = None; conditions = []; zone = None }
 
 -- the texts of what an order counts by
 abbrev pub texts_of_counting : Counting → CountingTexts
 texts_of_counting counting = record {
   columns = option_map string_bytes counting.columns;
   conditions = map string_bytes counting.conditions.items;
+  zone = option_map string_bytes counting.zone;
 }
 
 -- the words of captures, as texts
@@ -303,9 +307,14 @@ texts_of_captures captures = record {
 abbrev pub values_of : Text → List Row → List Text
 values_of id rows = unwrap_or (all_of id rows) []
 
--- what the arguments of a task's subcommand say of counting: those of `count` the value of `--by` and each of `--where`, all others nothing
+-- what the arguments of a task's subcommand say of counting: those of `count` the value of `--by`, each of `--where` and the value of `--zone`,
+-- all others nothing
 abbrev pub counting_in : List Row → Task → CountingTexts
-counting_in rows Count = record { columns = first_of (codes "by") rows; conditions = values_of (codes "where") rows }
+counting_in rows Count = record {
+  columns = first_of (codes "by") rows;
+  conditions = values_of (codes "where") rows;
+  zone = first_of (codes "zone") rows;
+}
 counting_in rows _ = no_counting
 
 -- whether a flag is given

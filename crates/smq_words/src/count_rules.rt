@@ -1,6 +1,6 @@
 //! The options of `count`.
 ghost use Rattle.std.specs.Prelude.{codes};
-ghost use Rattle.smq_words.specs.Words.{IsArgument, columns_rule, repeated_rule};
+ghost use Rattle.smq_words.specs.Words.{IsArgument, columns_rule, option_rule, repeated_rule};
 
 use clap::{Arg, ArgAction};
 use std::alloc::Global;
@@ -12,7 +12,7 @@ pub fn columns_option<'a>(alloc: Global) -> Arg<'a>
         .long("by")
         .value_name("COLUMNS")
         .help(
-            "Columns, with commas between: link, session, route, network, outcome, error, link-delay, centre-delay, minute, hour, day, month (of the message's moment, in UTC), source, ton (the address that it comes from, and the type of its number), prefix:N (the first N digits of its number)",
+            "Columns, with commas between: link, session, route, network, outcome, error, link-delay, centre-delay, minute, hour, day, month (of the message's moment, in UTC or by --zone), source, ton (the address that it comes from, and the type of its number), prefix:N (the first N digits of its number)",
         )
         .required(true)
         .action(ArgAction::Set)
@@ -26,4 +26,16 @@ pub fn condition_option<'a>(alloc: Global) -> Arg<'a>
         .value_name("COLUMN=VALUE")
         .help("Counts only messages that have this value in this column; several: that have all")
         .action(ArgAction::Append)
+}
+
+pub fn zone_option<'a>(alloc: Global) -> Arg<'a>
+    ensures { IsArgument (option_rule (codes "zone")) result }
+{
+    Arg::new(alloc, "zone")
+        .long("zone")
+        .value_name("PATH")
+        .help(
+            "A time zone file (TZif), as /usr/share/zoneinfo/Europe/Berlin: minute, hour, day and month are in its local time",
+        )
+        .action(ArgAction::Set)
 }

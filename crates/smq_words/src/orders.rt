@@ -46,6 +46,8 @@ pub struct Counting {
     pub columns: Option<String>,
     /// Each --where.
     pub conditions: Vec<String>,
+    /// The path of --zone, if given.
+    pub zone: Option<String>,
 }
 
 impl Counting {
@@ -56,6 +58,7 @@ impl Counting {
         Counting {
             columns: None,
             conditions: Vec::new(alloc),
+            zone: None,
         }
     }
 }

@@ -10,7 +10,7 @@ ghost use Rattle.smq_words.specs.Words.{format_rule, name_rule, named_app, optio
 ghost use Rattle.smq_words.specs.Words.{texts_of, version_text, window_app, with_any_length};
 
 use crate::capture_rules::{file_argument, required_link, with_captures, with_live, with_reading};
-use crate::count_rules::{columns_option, condition_option};
+use crate::count_rules::{columns_option, condition_option, zone_option};
 use crate::help::{
     ABOUT, CAPTURE, CAPTURE_MORE, CHECK, COUNT, FOLLOW, Help, MESSAGES, QUERY, RECEIPTS, REPORT,
     TOTAL, USAGE, WINDOW,
@@ -202,6 +202,7 @@ fn count_command<'a>(alloc: Global, more: &'a str) -> Result<Command<'a>, AllocE
     let command = subcommand(alloc, "count", COUNT, more)
         .arg(columns_option(alloc))?
         .arg(condition_option(alloc))?
+        .arg(zone_option(alloc))?
         .arg(settings_option(alloc))?;
     with_captures(alloc, command)
 }

@@ -139,6 +139,7 @@ fn counting_of(alloc: Global, name: &str, entered: &ArgMatches) -> Result<Counti
     Ok(Counting {
         columns: given_text(alloc, entered, "by")?,
         conditions: given_texts(alloc, entered, "where")?,
+        zone: given_text(alloc, entered, "zone")?,
     })
 }
 

@@ -24,5 +24,10 @@ task_named name query =
 -- what the arguments of the subcommand of this name say of counting
 abbrev pub counting_named : Text → List Row → CountingTexts
 counting_named name rows =
-    if bytes_eq name (codes "count") then record { columns = first_of (codes "by") rows; conditions = values_of (codes "where") rows }
+    if bytes_eq name (codes "count")
+    then record {
+      columns = first_of (codes "by") rows;
+      conditions = values_of (codes "where") rows;
+      zone = first_of (codes "zone") rows;
+    }
     else no_counting

@@ -36,6 +36,15 @@ known = record {
     has_counting = refl;
     has_captures = record { paths = refl; links = refl; first_session = refl; index = refl; losses = refl; every = refl; questions = refl; strict = refl; quiet = refl };
   };
+  zone = λ names formats. record {
+    rows = given (codes "by") (codes "day" ∷ []) ∷ given (codes "zone") (codes "p" ∷ []) ∷ given (codes "settings") (codes "q" ∷ []) ∷ no_flags;
+    enters = refl;
+    say = (_, refl);
+    has_path = refl;
+    has_window = refl;
+    has_counting = refl;
+    has_captures = record { paths = refl; links = refl; first_session = refl; index = refl; losses = refl; every = refl; questions = refl; strict = refl; quiet = refl };
+  };
   settings = λ names formats. record {
     rows = given (codes "settings") (codes "p" ∷ []) ∷ given (codes "by") (codes "hour" ∷ []) ∷ no_flags;
     enters = refl;
@@ -61,6 +70,8 @@ known = record {
   name = λ names formats. refl;
   messages = λ names formats. refl;
   total = λ names formats. refl;
+  zones = λ names formats. refl;
+  zone_of_messages = λ names formats. refl;
 }
 
 pub returns : goal.returns
