@@ -27,6 +27,7 @@ use Rattle.smq_present.specs.join.Lines.{MessageLineValue}
 use Rattle.smq_count.specs.declared.column.Column.{Column}
 use Rattle.smq_count.specs.declared.counting.Condition.{Condition}
 use Rattle.smq_count.specs.declared.counting.Counting.{Counting}
+use Rattle.smq_count.specs.declared.local.Zone.TheVariants.{Utc}
 use Rattle.smq_count.specs.Counts.{counts_text, has_text, is_counted}
 use Rattle.smq_engine.specs.Answers.{columns_text, loss_in, losses_of, present_after, refusal_line, refusal_to, refused_after, row_in, rows_of, said_of, told_line, totals_after, totals_text}
 use Rattle.smq_engine.specs.Followed.{held}
@@ -87,13 +88,13 @@ filter-all : (counting : Counting) (lines : List MessageLineValue) → counting.
     → filter (is_counted counting) lines ≡ lines
 filter-all counting [] none = refl
 filter-all counting (line ∷ lines) none =
-    let counts : is_counted counting line ≡ true = ap (λ (conditions : List Condition). list_all (has_text line) conditions) none in
+    let counts : is_counted counting line ≡ true = ap (λ (conditions : List Condition). list_all (has_text counting.zone line) conditions) none in
     rw counts (ap (λ (all : List MessageLineValue). line ∷ all) (filter-all counting lines none))
 
 pub counts-all : (counting : Counting) (columns : List Column) (lines : List MessageLineValue) → counting.columns.items ≡ columns
-    → counting.conditions.items ≡ [] → counts_text counting lines ≡ columns_text columns lines
-counts-all counting columns lines are none =
-    rw (filter-all counting lines none, are) refl
+    → counting.conditions.items ≡ [] → counting.zone ≡ Utc → counts_text counting lines ≡ columns_text columns lines
+counts-all counting columns lines are none utc =
+    rw (filter-all counting lines none, are, utc) refl
 
 -- what is said of one record more
 pub said-more : (say : List Record → Record → List ℕ) (before records : List Record) (r : Record)

@@ -12,7 +12,7 @@ use crate::RunFault;
 use crate::question::Question;
 use crate::totals::Totals;
 use smq_book::Book;
-use smq_count::{Column, Counting, write_counts};
+use smq_count::{Column, Counting, Zone, write_counts};
 use smq_kit::{Moment, Refusal};
 use smq_present::MessageLine;
 use smq_report::{Format, Pick, write_octets, write_report};
@@ -94,16 +94,18 @@ fn counted(
     Ok(text)
 }
 
-/// Counts of all messages by columns.
+/// Counts of all messages by columns, in UTC.
 fn counting_by(alloc: Global, columns: &[Column]) -> Result<Counting, AllocError>
     ensures columns { IfOk result (λ counting. counting.columns.items ≡ columns.now) }
     ensures all { IfOk result (λ counting. counting.conditions.items ≡ []) }
+    ensures utc { IfOk result (λ counting. counting.zone ≡ Zone.Utc) }
 {
     let mut copies = Vec::new(alloc);
     copies.extend_from_slice(columns)?;
     Ok(Counting {
         columns: copies,
         conditions: Vec::new(alloc),
+        zone: Zone::Utc,
     })
 }
 
