@@ -29,7 +29,7 @@ use clap::error::ErrorKind;
 use first_octets::{FirstOctets, Mark};
 use live::{run_follow, run_window};
 use progress::{CountedRows, Progress, StandardOutput, Terminals};
-use smq_count::Counting;
+use smq_count::{Counting, MOST_ZONE, Zone};
 use smq_desk::NoGate;
 use smq_engine::{Checked, Ran, RunFault, check, count, run, total};
 use smq_kit::Refusal;
@@ -153,7 +153,7 @@ where
     let Some(path) = settings else {
         return run_reading(rt, wanted, &[], captures, start);
     };
-    match read_start(rt, path.as_str()) {
+    match read_start(rt, path.as_str(), MOST_SETTINGS) {
         Ok(octets) => run_reading(rt, wanted, octets.as_slice(), captures, start),
         Err(error) => print_unread_settings(rt, path.as_str(), &error),
     }
@@ -175,8 +175,8 @@ fn tells_progress(task: Task) -> bool {
     !matches!(task, Task::Follow(_) | Task::Window)
 }
 
-/// What is to be done, by its words. The status where they name no column, or no length.
-fn wanted_of<R: Print + Eprint + AllocGlobal>(
+/// What is to be done, by its words. The status where they name no column, no time zone, or no length.
+fn wanted_of<R: Files + Print + Eprint + AllocGlobal>(
     rt: &R,
     task: Task,
     counting: &smq_words::Counting,
@@ -199,8 +199,8 @@ fn wanted_of<R: Print + Eprint + AllocGlobal>(
     })
 }
 
-/// What is counted, by the words for it; nothing where these are of another task. The status where they name no column.
-fn counting_of<R: Print + Eprint + AllocGlobal>(
+/// What is counted, by the words for it; nothing where these are of another task. The status where they name no column, or no time zone.
+fn counting_of<R: Files + Print + Eprint + AllocGlobal>(
     rt: &R,
     words: &smq_words::Counting,
 ) -> Result<Counting, u8> {
@@ -209,13 +209,57 @@ fn counting_of<R: Print + Eprint + AllocGlobal>(
         return Ok(Counting {
             columns: Vec::new(alloc),
             conditions: Vec::new(alloc),
+            zone: Zone::Utc,
         });
     };
-    match Counting::parse(alloc, columns.as_bytes(), words.conditions.as_slice()) {
-        Ok(Some(counting)) => Ok(counting),
-        Ok(None) => Err(print_bad_words(rt, BAD_COLUMNS)),
+    let counting = match Counting::parse(alloc, columns.as_bytes(), words.conditions.as_slice()) {
+        Ok(Some(counting)) => counting,
+        Ok(None) => return Err(print_bad_words(rt, BAD_COLUMNS)),
+        Err(_) => return Err(print_fault(rt, RunFault::Memory)),
+    };
+    let Some(path) = &words.zone else {
+        return Ok(counting);
+    };
+    let Counting {
+        columns,
+        conditions,
+        zone: _,
+    } = counting;
+    Ok(Counting {
+        columns,
+        conditions,
+        zone: zone_at(rt, path.as_str())?,
+    })
+}
+
+/// The time zone of a file. The status where it can't be read or is no such file, which is told in a line.
+fn zone_at<R: Files + Eprint + AllocGlobal>(rt: &R, path: &str) -> Result<Zone, u8> {
+    let octets = match read_start(rt, path, MOST_ZONE) {
+        Ok(octets) => octets,
+        Err(error) => return Err(print_unread_zone(rt, path, &error)),
+    };
+    match Zone::read(rt.alloc(), octets.as_slice()) {
+        Ok(Some(zone)) => Ok(zone),
+        Ok(None) => {
+            let _ = eprintln!(rt; "time zone {path}: no TZif file of at most {MOST_ZONE} octets");
+            Err(BAD_INPUT)
+        }
         Err(_) => Err(print_fault(rt, RunFault::Memory)),
     }
+}
+
+/// Prints why a time zone wasn't read, with its path, and gives the status.
+fn print_unread_zone<R: Eprint>(rt: &R, path: &str, error: &io::Error) -> u8
+    ensures memory { error_kind error.now ≡ io_kind.OutOfMemory
+        → result ≡ fault_status RunFault.Memory }
+    ensures unread { error_kind error.now ≢ io_kind.OutOfMemory
+        → result ≡ fault_status RunFault.Read }
+{
+    if error.kind() == io::ErrorKind::OutOfMemory {
+        return print_fault(rt, RunFault::Memory);
+    }
+    let _ = eprintln!(rt; "time zone {path}: {}", RunFault::Read);
+    fault_status(RunFault::Read)
 }
 
 /// Does a task with settings, and with captures where some are named, and gives the status.
@@ -263,11 +307,11 @@ fn print_unread_settings<R: Eprint>(rt: &R, path: &str, error: &io::Error) -> u8
     status
 }
 
-/// The octets of a file, at most one more than settings may have.
-fn read_start<R: Files + AllocGlobal>(rt: &R, path: &str) -> io::Result<Vec<u8>> {
+/// The octets of a file, at most one more than such a file may have.
+fn read_start<R: Files + AllocGlobal>(rt: &R, path: &str, most: usize) -> io::Result<Vec<u8>> {
     let mut octets = Vec::new(rt.alloc());
     let file = fs::open(rt, path)?;
-    file.take(MOST_SETTINGS as u64 + 1)
+    file.take((most as u64).saturating_add(1))
         .read_to_end(&mut octets)?;
     Ok(octets)
 }
