@@ -1,6 +1,6 @@
 //! The options of `count`.
 ghost use Rattle.std.specs.Prelude.{codes};
-ghost use Rattle.smq_words.specs.Words.{IsArgument, columns_rule, option_rule, repeated_rule};
+ghost use Rattle.smq_words.specs.Words.{IsArgument, columns_rule, repeated_rule};
 
 use clap::{Arg, ArgAction};
 use std::alloc::Global;
@@ -26,16 +26,4 @@ pub fn condition_option<'a>(alloc: Global) -> Arg<'a>
         .value_name("COLUMN=VALUE")
         .help("Counts only messages that have this value in this column; several: that have all")
         .action(ArgAction::Append)
-}
-
-pub fn zone_option<'a>(alloc: Global) -> Arg<'a>
-    ensures { IsArgument (option_rule (codes "zone")) result }
-{
-    Arg::new(alloc, "zone")
-        .long("zone")
-        .value_name("PATH")
-        .help(
-            "A time zone file (TZif), as /usr/share/zoneinfo/Europe/Berlin: minute, hour, day and month are in its local time",
-        )
-        .action(ArgAction::Set)
 }

@@ -1,16 +1,16 @@
 //! The rules by which `clap` takes the program's words. Whoever adds a subcommand adds its rules here and in specs/Words.antt, and its help in
 //! src/help.rt.
-ghost use Rattle.std.specs.Prelude.{◌≡◌, IfOk, Some, false, option_map};
+ghost use Rattle.std.specs.Prelude.{◌≡◌, IfOk, Some, codes, false, option_map};
 ghost use Rattle.clap.specs.Words.{app_of, new_app, rule_of};
 ghost use Rattle.clap.specs.declared.builder.command.Command.TheViews.{out-Command as fields_of};
 ghost use Rattle.clap.specs.declared.builder.value_parser.ValueParser.TheVariants.{Names};
 ghost use Rattle.smq_report.specs.Picks.{pick_names};
 ghost use Rattle.smq_words.specs.Words.{IsArgument, IsProgram, bare_program, capture_app, count_app, first_program, follow_app, format_names};
-ghost use Rattle.smq_words.specs.Words.{format_rule, name_rule, named_app, optional_rule, options_app, settings_app, settings_rule};
+ghost use Rattle.smq_words.specs.Words.{format_rule, name_rule, named_app, option_rule, optional_rule, options_app, settings_app, settings_rule};
 ghost use Rattle.smq_words.specs.Words.{texts_of, version_text, window_app, with_any_length};
 
 use crate::capture_rules::{file_argument, required_link, with_captures, with_live, with_reading};
-use crate::count_rules::{columns_option, condition_option, zone_option};
+use crate::count_rules::{columns_option, condition_option};
 use crate::help::{
     ABOUT, CAPTURE, CAPTURE_MORE, CHECK, COUNT, FOLLOW, Help, MESSAGES, QUERY, RECEIPTS, REPORT,
     TOTAL, USAGE, WINDOW,
@@ -273,5 +273,17 @@ fn settings_option<'a>(alloc: Global) -> Arg<'a>
         .long("settings")
         .value_name("PATH")
         .help("A TOML file of settings: the clock, and each link's forms of message ids and window")
+        .action(ArgAction::Set)
+}
+
+fn zone_option<'a>(alloc: Global) -> Arg<'a>
+    ensures { IsArgument (option_rule (codes "zone")) result }
+{
+    Arg::new(alloc, "zone")
+        .long("zone")
+        .value_name("PATH")
+        .help(
+            "A time zone file (TZif), as /usr/share/zoneinfo/Europe/Berlin: minute, hour, day and month are in its local time",
+        )
         .action(ArgAction::Set)
 }
