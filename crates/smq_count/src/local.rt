@@ -1,5 +1,5 @@
 //! Periods of local time: those of moments in a time zone, and how they are written.
-ghost use Rattle.std.specs.Prelude.{◌≡◌, ◌≤◌, ◌<◌, ◌^◌, ◌++◌, ◌∷◌, None, Ok, OnOk, IfOk, IfSome, IsErr, string_bytes};
+ghost use Rattle.std.specs.Prelude.{◌≡◌, ◌≤◌, ◌<◌, ◌^◌, ◌++◌, ◌∷◌, None, Ok, OnOk, IfOk, IfSome, IsErr, length, string_bytes};
 ghost use Rattle.jiff_tz.specs.TzifReader.{read_tzif};
 ghost use Rattle.smq_count.specs.LocalTime.{IfNoZone, IsZoneOf, clock_text, local_day_text, local_hour_text, local_minute_text, local_month, local_month_text, local_of, local_second, local_text, local_time_text, offset_in, offset_text, utc_second};
 ghost use Rattle.smq_count.specs.Months.{two_digits};
@@ -32,6 +32,7 @@ impl Zone {
     pub fn read(alloc: Global, octets: &[u8]) -> Result<Option<Zone>, AllocError>
         ensures read { IfOk result (λ found. IfSome found (IsZoneOf octets.now)) }
         ensures none { IfOk result (IfNoZone octets.now) }
+        ensures long { 1048576 < length octets.now → result ≡ Ok None }
         ensures refused { IsErr (read_tzif octets.now) → result ≡ Ok None }
     {
         if octets.len() > MOST_ZONE {
