@@ -34,7 +34,7 @@ def priced(line):
 
 # Of a statement: standard input, prices, what is told; the status is 2
 STATEMENTS = (
-    (b"", PRICES, "line 1: column link is there 0 times"),
+    (b"", PRICES, "there is no line; wanted: one of names, with link, day, outcome, messages"),
     (COUNTS.replace(b"network", b"link", 1), PRICES, "line 1: column link is there 2 times"),
     (b"link,day,outcome,messages\n", PRICES, "line 1: there is no column network, and no column route"),
     (b"link,route,day,outcome,messages\n", PRICES, "line 1: there is no column network, and there are prices by it"),
@@ -51,7 +51,7 @@ STATEMENTS = (
     (COUNTS + b"1,,2026-11-05,open,1\n", PRICES, "line 3: column network is ''"),
     (COUNTS + LONG, PRICES, "line 3: it has more than 1048576 characters"),
     (COUNTS + b'"1,23410', PRICES, "line 3: unexpected end of data"),
-    (COUNTS, b"", "prices.csv: line 1: column link is there 0 times"),
+    (COUNTS, b"", "prices.csv: there is no line; wanted: one of names, with link, route, network, from, for, price, currency"),
     (COUNTS, PRICES.replace(b",", b";"), "prices.csv: line 1: its fields stand between semicolons, and have to stand between commas"),
     (COUNTS.replace(b",", b"\t"), PRICES, "line 1: its fields stand between tabs, and have to stand between commas"),
     (COUNTS, priced(b"1,,23410,2026-11-01,accepted,1,USD"), "prices.csv: line 3: it overlaps line 2, of the same link, network and date"),
@@ -71,7 +71,7 @@ STATEMENTS = (
 )
 # Of a dispute: standard input, what is billed, more words, what is told
 DISPUTES = (
-    (b"", BILLED, [], "line 1: column link is there 0 times"),
+    (b"", BILLED, [], "there is no line; wanted: one of names, with link, session, offset, moment, route, network, outcome, id, key"),
     (MESSAGES.replace(b",key", b",keys"), BILLED, [], "line 1: column key is there 0 times"),
     (MESSAGES.replace(b",id", b",ids"), BILLED, [], "line 1: column id is there 0 times"),
     (MESSAGES + b"1,10,x,1000,12,23410,open,,\n", BILLED, [], "line 3: column offset is 'x'"),

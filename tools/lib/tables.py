@@ -51,6 +51,8 @@ def table_of(file, wanted, optional=(), name="", remark=""):
     first, names = next(records, (1, []))
     if len(names) == 1 and len(wanted) > 1 and (mark := next((it for it in ";\t" if it in names[0]), None)):
         raise Unfit(f"{name}line {first}: its fields stand between {'semicolons' if mark == ';' else 'tabs'}, and have to stand between commas")
+    if not names:
+        raise Unfit(f"{name}there is no line; wanted: one of names, with {', '.join(wanted)}")
     for column in (*wanted, *optional):
         if names.count(column) != 1 and (column in wanted or column in names):
             raise Unfit(f"{name}line {first}: column {column} is there {names.count(column)} times")
