@@ -1,22 +1,14 @@
 use Rattle.std.proofs.Common.{[], ◌∷◌, codes, refl}
 use Rattle.clap.proofs.OnLiterals.{clap_on_literals}
 use Rattle.smq_words.specs.Known.{KnowsWindow}
-use Rattle.smq_words.proofs.KnownLemmas.{given}
+use Rattle.smq_words.proofs.KnownLemmas.{asks, given}
 use Rattle.smq_words.proofs.laws.known_words_of_window.Goals as goal
 
 known : KnowsWindow
 unfolding clap_on_literals
 known = record {
   length = λ names formats. refl;
-  length_asked = λ names formats. record {
-    rows = given (codes "window") (codes "15m" ∷ []) ∷ [];
-    enters = refl;
-    say = (_, refl);
-    has_path = refl;
-    has_window = refl;
-    has_counting = refl;
-    has_captures = record { paths = refl; links = refl; first_session = refl; index = refl; losses = refl; every = refl; questions = refl; strict = refl; quiet = refl };
-  };
+  length_asked = λ names formats. asks (given (codes "window") (codes "15m" ∷ []) ∷ []) (_, refl) refl refl;
   no_length = λ names formats. refl;
   two = λ names formats. refl;
   option = λ names formats. refl;
