@@ -7,3 +7,7 @@ pub mod NamedLines
 pub mod LineCommands
 pub mod Collected
 pub mod JoinedLemmas
+pub mod BlankedPdus
+pub mod BlankedStreams
+pub mod BlankedPresent
+pub mod KnownBlanked

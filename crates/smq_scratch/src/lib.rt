@@ -3,6 +3,7 @@
 //! tables.
 #![tactic(auto)]
 
+mod blanked;
 mod deciders;
 mod from_nothing;
 mod joined;
@@ -12,6 +13,10 @@ mod received;
 mod submitted;
 
 // laws
+pub use blanked::{
+    figures_of_what_is_read_alike_are_the_same, known_pdus_are_read_alike,
+    known_streams_are_read_alike, pdus_read_alike_keep_the_same, streams_read_alike_keep_the_same,
+};
 pub use laws::{
     lines_are_of_few_commands, lines_name_each_other, lines_name_what_decides,
     lines_of_known_messages, message_lines_are_counted, message_lines_have_the_facts,

@@ -1,0 +1,49 @@
+-- PDUs and streams of which it is known whether they are read alike.
+use Rattle.std.specs.Prelude.{◌≡◌, ◌≢◌, ℕ, List, [], ◌∷◌, ◌++◌, drop, take}
+use Rattle.smq_frame.specs.Stream.{Octet, handed_in}
+use Rattle.smq_scratch.specs.Blanked.{AreReadAlike, kept_at}
+
+-- a submit_sm from 1000 to +447700900123 with this service_type, esm_class and data_coding, an octet each, and this text of two octets
+abbrev pub submit_saying : ℕ → ℕ → ℕ → List ℕ → List ℕ
+submit_saying service_type esm_class data_coding text =
+    0x00 ∷ 0x00 ∷ 0x00 ∷ 0x35 ∷ 0x00 ∷ 0x00 ∷ 0x00 ∷ 0x04 ∷ 0x00 ∷ 0x00 ∷ 0x00 ∷ 0x00 ∷ 0x00 ∷ 0x00 ∷ 0x00 ∷ 0x01 ∷
+    service_type ∷ 0x00 ∷ 0x00 ∷ 0x00 ∷ 0x31 ∷ 0x30 ∷ 0x30 ∷ 0x30 ∷ 0x00 ∷ 0x01 ∷ 0x01 ∷ 0x2b ∷ 0x34 ∷ 0x34 ∷ 0x37 ∷ 0x37 ∷
+    0x30 ∷ 0x30 ∷ 0x39 ∷ 0x30 ∷ 0x30 ∷ 0x31 ∷ 0x32 ∷ 0x33 ∷ 0x00 ∷ esm_class ∷ 0x00 ∷ 0x00 ∷ 0x00 ∷ 0x00 ∷ 0x01 ∷ 0x00 ∷
+    data_coding ∷ 0x00 ∷ 0x02 ∷ text
+
+-- a deliver_sm with this esm_class and this text of 27 octets
+abbrev pub deliver_saying : ℕ → List ℕ → List ℕ
+deliver_saying esm_class text =
+    0x00 ∷ 0x00 ∷ 0x00 ∷ 0x3c ∷ 0x00 ∷ 0x00 ∷ 0x00 ∷ 0x05 ∷ 0x00 ∷ 0x00 ∷ 0x00 ∷ 0x00 ∷ 0x00 ∷ 0x00 ∷ 0x00 ∷ 0x01 ∷
+    0x00 ∷ 0x00 ∷ 0x00 ∷ 0x00 ∷ 0x00 ∷ 0x00 ∷ 0x00 ∷ esm_class ∷ 0x00 ∷ 0x00 ∷ 0x00 ∷ 0x00 ∷ 0x00 ∷ 0x00 ∷ 0x00 ∷ 0x00 ∷
+    0x1b ∷ text
+
+-- a data_sm from 1000 to 447700900123 with this data_coding and this message_payload of two octets
+abbrev pub data_sm_saying : ℕ → List ℕ → List ℕ
+data_sm_saying data_coding text =
+    0x00 ∷ 0x00 ∷ 0x00 ∷ 0x30 ∷ 0x00 ∷ 0x00 ∷ 0x01 ∷ 0x03 ∷ 0x00 ∷ 0x00 ∷ 0x00 ∷ 0x00 ∷ 0x00 ∷ 0x00 ∷ 0x00 ∷ 0x01 ∷
+    0x00 ∷ 0x00 ∷ 0x00 ∷ 0x31 ∷ 0x30 ∷ 0x30 ∷ 0x30 ∷ 0x00 ∷ 0x01 ∷ 0x01 ∷ 0x34 ∷ 0x34 ∷ 0x37 ∷ 0x37 ∷ 0x30 ∷ 0x30 ∷
+    0x39 ∷ 0x30 ∷ 0x30 ∷ 0x31 ∷ 0x32 ∷ 0x33 ∷ 0x00 ∷ 0x00 ∷ 0x01 ∷ data_coding ∷ 0x04 ∷ 0x24 ∷ 0x00 ∷ 0x02 ∷ text
+
+-- a bind_transmitter (4.1.1) of smq with this password of six octets
+abbrev pub bind_with : List ℕ → List ℕ
+bind_with password =
+    0x00 ∷ 0x00 ∷ 0x00 ∷ 0x20 ∷ 0x00 ∷ 0x00 ∷ 0x00 ∷ 0x02 ∷ 0x00 ∷ 0x00 ∷ 0x00 ∷ 0x00 ∷ 0x00 ∷ 0x00 ∷ 0x00 ∷ 0x01 ∷
+    0x73 ∷ 0x6d ∷ 0x71 ∷ 0x00 ∷ (password ++ 0x00 ∷ 0x00 ∷ 0x34 ∷ 0x00 ∷ 0x00 ∷ 0x00 ∷ [])
+
+-- a bind_transmitter with this password, this submit_sm, and three octets more, of which the first 20 came at 1,000 and the others at
+-- this moment
+abbrev pub stream_with : ℕ → List ℕ → List ℕ → List Octet
+stream_with moment password submit =
+    let octets = bind_with password ++ (submit ++ 0 ∷ 0 ∷ 0 ∷ []) in
+    handed_in 1000 (take 20 octets) ++ handed_in moment (drop 20 octets)
+
+-- Two PDUs are read alike, and the same is kept of both.
+pub record StayTheSame (one other : List ℕ) : Type 0 where
+  pub alike : AreReadAlike one other
+  pub kept : kept_at 0 1000 one ≡ kept_at 0 1000 other
+
+-- Two PDUs aren't read alike, and not the same is kept of both.
+pub record AreApart (one other : List ℕ) : Type 0 where
+  pub unlike : AreReadAlike one other → ⊥
+  pub kept : kept_at 0 1000 one ≢ kept_at 0 1000 other
