@@ -1,12 +1,12 @@
 -- PDUs that are read alike keep the same.
-use Rattle.std.proofs.Common.{◌≡◌, ◌≢◌, ℕ, ◌+◌, ◌≤◌, List, Bool, Option, take, drop, refl, sym, ap, ◌∙◌, subst, arith}
-use Rattle.std.specs.Prelude.{◌==◌, ◌||◌, ◌-ℤ◌, bit_and, if◌then◌else◌, is_some, option_and_then, option_map, unwrap_or, ℤ}
+use Rattle.std.proofs.Common.{◌≡◌, ℕ, ◌+◌, ◌≤◌, List, Option, take, drop, refl, sym, ap, ◌∙◌, arith}
+use Rattle.std.specs.Prelude.{◌==◌, ◌||◌, ◌-ℤ◌, bit_and, if◌then◌else◌, is_some, option_and_then, option_map, unwrap_or}
 use Rattle.std.specs.Int.{w32, from_be_bytes}
 use Rattle.std.specs.Option.{option_zip}
 use Rattle.std.proofs.lemmas.Bool.{ne_eqb}
 use Rattle.std.proofs.lemmas.List.{drop-take, take-take}
 use Rattle.smq_pdu.specs.Header.{Header, header_at, word_at}
-use Rattle.smq_pdu.specs.Bodies.{DeliverValue, BodyValue, SubmitBody, DeliverBody, DataSmBody, OtherBody, submit_said, deliver_said, data_sm_said}
+use Rattle.smq_pdu.specs.Bodies.{DeliverValue, SubmitBody, DataSmBody, submit_said, deliver_said, data_sm_said}
 use Rattle.smq_pdu.specs.Commands.{data_sm, deliver_sm, submit_sm}
 use Rattle.smq_pdu.specs.Laws.{IsOther, body_at, command_at, said}
 use Rattle.smq_pdu.specs.Numbers.{number_of}
@@ -18,11 +18,9 @@ use Rattle.smq_kit.specs.declared.error_code.ErrorCode.{ErrorCode}
 use Rattle.smq_kit.specs.declared.error_code.ErrorCode.TheVariants.{Unstated}
 use Rattle.smq_receipt.specs.Dates.{centre_delay_of, moment_of}
 use Rattle.smq_receipt.specs.Errors.{network_code_in, text_code_in}
-use Rattle.smq_receipt.specs.Readings.{error_of, id_of, is_interim, is_receipt, parameter_or_value, reading_of, reading_with, receipt_of, receipted_id, state_in, state_of, text_of, usable_id}
+use Rattle.smq_receipt.specs.Readings.{error_of, id_of, parameter_or_value, reading_of, reading_with, receipt_of, receipted_id, state_in, state_of, text_of, usable_id}
 use Rattle.smq_receipt.specs.States.{state_of_word}
-use Rattle.smq_receipt.specs.Texts.{header_of, value_of}
-use Rattle.smq_receipt.specs.declared.message_state.MessageState.{MessageState}
-use Rattle.smq_receipt.specs.declared.reading.Reading.{Reading}
+use Rattle.smq_receipt.specs.Texts.{header_of}
 use Rattle.smq_receipt.specs.declared.reading.Reading.TheVariants as v
 use Rattle.smq_present.specs.present.Content as c
 use Rattle.smq_present.specs.present.Content.{Content}

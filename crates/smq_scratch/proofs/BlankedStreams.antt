@@ -1,8 +1,8 @@
 -- Streams that are read alike keep the same.
-use Rattle.std.proofs.Common.{◌≡◌, ℕ, ◌+◌, ◌-◌, ◌≤◌, ◌^◌, List, [], ◌∷◌, ◌++◌, length, refl, sym, ap, ◌∙◌, subst}
+use Rattle.std.proofs.Common.{◌≡◌, ℕ, ◌+◌, ◌-◌, ◌≤◌, ◌^◌, List, [], ◌∷◌, length, refl, sym, ap, ◌∙◌, subst}
 use Rattle.std.specs.Prelude.{◌↔◌, map, slice_index}
 use Rattle.std.proofs.lemmas.List.{length-map}
-use Rattle.smq_frame.specs.Framing.{frames_of, rest_of}
+use Rattle.smq_frame.specs.Framing.{rest_of}
 use Rattle.smq_frame.specs.Stream.{Octet, moments, stamped, values}
 use Rattle.smq_frame.specs.Tail.{TailValue, tail_from, tail_of, tail_with}
 use Rattle.smq_frame.proofs.Streams.{has_one_split}

@@ -1,17 +1,13 @@
 -- Known PDUs that are read alike, and those that aren't.
-use Rattle.std.proofs.Common.{◌≡◌, ◌≢◌, ℕ, ◌<◌, ◌≤◌, true, List, [], ◌∷◌, Option, Some, None, length, refl, sym, ap, ◌∙◌, inl, arith}
+use Rattle.std.proofs.Common.{◌≡◌, ℕ, ◌<◌, ◌≤◌, true, List, [], ◌∷◌, Some, None, length, refl, sym, ap, ◌∙◌, inl, arith}
 use Rattle.std.specs.Prelude.{codes, nat_lt, sum}
 use Rattle.std.specs.List.{list_all}
 use Rattle.std.proofs.lemmas.Bool.{and_parts}
 use Rattle.std.proofs.lemmas.Bool.Decides.{nat_tests}
 use Rattle.smq_frame.specs.Framing.{IsFrame, stated_length}
-use Rattle.smq_frame.specs.Stream.{values}
-use Rattle.smq_pdu.specs.Commands.{deliver_sm, submit_sm}
 use Rattle.smq_pdu.specs.Fields.{DataSmFields, IsText, Mandatory}
 use Rattle.smq_pdu.specs.Header.{word_at}
 use Rattle.smq_pdu.specs.Known.{other_octets, submit_octets}
-use Rattle.smq_pdu.specs.Laws.{IsOther, body_at, command_at}
-use Rattle.smq_pdu.specs.Bodies.{IsBody}
 use Rattle.smq_pdu.specs.Numbers.{digits_of, number_of}
 use Rattle.smq_pdu.specs.Parameters.{Tlv}
 use Rattle.smq_pdu.specs.Pdu.{body_of, deliver_of, submit_of}

@@ -1,10 +1,10 @@
 -- Which octets of a captured session may be others, so that what is kept of it stays.
-use Rattle.std.specs.Prelude.{◌≡◌, ◌≢◌, ◌+◌, ◌-◌, ℕ, bit_and, List, [], ◌∷◌, take, length, codes, None}
+use Rattle.std.specs.Prelude.{◌≡◌, ◌≢◌, ℕ, bit_and, List, [], ◌∷◌, take, length, codes, None}
 use Rattle.std.specs.FinMap as map
 use Rattle.smq_frame.specs.Framing.{Splits}
 use Rattle.smq_frame.specs.Stream.{Octet, moments, values}
 use Rattle.smq_pdu.specs.Bodies.{DeliverValue, IsBody, IsDataSmBody, data_sm_said, deliver_of_data_sm, deliver_said}
-use Rattle.smq_pdu.specs.Commands.{data_sm, data_sm_resp, deliver_sm, submit_sm, submit_sm_resp}
+use Rattle.smq_pdu.specs.Commands.{data_sm, deliver_sm, submit_sm}
 use Rattle.smq_pdu.specs.Fields.{DataSmFields, Mandatory}
 use Rattle.smq_pdu.specs.Laws.{IsOther, body_at, command_at}
 use Rattle.smq_pdu.specs.Numbers.{number_of}

@@ -2,13 +2,13 @@
 ghost use Rattle.std.specs.Prelude.{◌≡◌, ◌↔◌, List, ℕ, codes, length};
 ghost use Rattle.smq_frame.specs.Stream.{Octet, values};
 ghost use Rattle.smq_frame.specs.Tail.{TailValue, tail_of};
-ghost use Rattle.smq_present.specs.present.Kept.{kept_pdus};
-ghost use Rattle.smq_present.specs.present.Stream.{Keeps, last_moment};
+ghost use Rattle.smq_pdu.specs.Known.{other_octets, submit_octets};
 ghost use Rattle.smq_present.specs.declared.present.kept.StoredPdu.{StoredPdu};
+ghost use Rattle.smq_present.specs.present.Kept.{kept_pdus};
 ghost use Rattle.smq_present.specs.present.Present.{PresentValue};
+ghost use Rattle.smq_present.specs.present.Stream.{Keeps, last_moment};
 ghost use Rattle.smq_present.specs.whole.Scratch.{scratch};
 ghost use Rattle.smq_scratch.specs.Blanked.{ArePresentAlike, AreReadAlike, AreStreamsAlike, kept_at};
-ghost use Rattle.smq_pdu.specs.Known.{other_octets, submit_octets};
 ghost use Rattle.smq_scratch.specs.KnownBlanked.{AreApart, StayTheSame, bind_with, data_sm_saying, deliver_saying, stream_with, submit_saying};
 ghost use Rattle.smq_scratch.specs.Lines.{message_lines, receipt_lines};
 
