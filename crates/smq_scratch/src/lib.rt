@@ -26,4 +26,4 @@ pub use laws::{
 // calls
 pub use from_nothing::{audit, tables_from_nothing};
 pub use received::receipt_lines;
-pub use submitted::message_lines;
+pub use submitted::{MessageLines, message_lines};

@@ -1,5 +1,6 @@
 //! What is known of each submitted message that is present, and the lines for them.
-ghost use Rattle.std.specs.Prelude.{◌≡◌, option_map, IfOk};
+ghost use Rattle.std.specs.Prelude.{◌≡◌, ◌<◌, ◌^◌, option_map, length, IfOk};
+ghost use Rattle.std.specs.Iterator.{YieldsFirst, item_count};
 ghost use Rattle.std.specs.Option.{option_copied};
 ghost use Rattle.smq_present.specs.join.Outcomes.{is_shared};
 ghost use Rattle.smq_present.specs.within.Accepted.{decider_of};
@@ -14,19 +15,82 @@ use smq_present::{
     Fact, MessageLine, Present, ReceivedReceipt, SubmittedMessage, fact_in_settings,
 };
 use std::alloc::{AllocError, Global};
+use std::marker::Model;
+use std::vec::IntoIter;
 
-/// A line for each submitted message that is present, in the order of their places: what is known of it, as `tables_from_nothing` counts
-/// it, and where its response and the receipt that decides it stand.
+/// The lines for the submitted messages that are present, in the order of their places, each made as it is asked for: what is known of
+/// the message, as `tables_from_nothing` counts it, and where its response and the receipt that decides it stand. A contract sees the
+/// list of those that are left.
+#[derive(Drop)]
+pub struct MessageLines<'a> {
+    present: &'a Present,
+    /// The messages whose lines are left.
+    submits: IntoIter<SubmittedMessage<'a>>,
+    keys: Keys<'a>,
+}
+
+impl<'a> Model for MessageLines<'a> {
+    ghost use Rattle.std.specs.Prelude.{List, map};
+    ghost use Rattle.std.specs.Vec.Iter.{into_iter_items};
+    ghost use Rattle.smq_present.specs.join.Lines.{MessageLineValue};
+    ghost use Rattle.smq_present.specs.within.Lists.{receipts_of, submits_of};
+    ghost use Rattle.smq_scratch.specs.Lines.{message_line};
+    ghost use Rattle.smq_scratch.specs.within.Joined.{HasKeys};
+
+    ghost Value = { List MessageLineValue };
+
+    ghost view = { λ l. map (message_line l.present.now.settings (submits_of l.present.now) (receipts_of l.present.now))
+        (into_iter_items l.submits) };
+
+    ghost invariant = { λ l. HasKeys l.present.now l.keys };
+}
+
+impl<'a> MessageLines<'a> {
+    /// Those for what is present: fewer than 2^63.
+    pub fn of(alloc: Global, present: &'a Present) -> Result<MessageLines<'a>, AllocError>
+        ensures all { IfOk result (λ left. left ≡ lines.message_lines present.now) }
+        ensures few { IfOk result (λ left. length left < 2 ^ 63) }
+    {
+        let Joined { submits, keys, .. } = Joined::of(alloc, present)?;
+        Ok(MessageLines {
+            present,
+            submits: submits.into_iter(),
+            keys,
+        })
+    }
+
+    /// How many are left.
+    fn len(&self) -> usize
+        ensures { result ≡ length self.now }
+    {
+        self.submits.len()
+    }
+}
+
+impl<'a> Iterator for MessageLines<'a> {
+    type Item = MessageLine<'a>;
+
+    ghost next_gives = { YieldsFirst (λ left. left) };
+
+    ghost remaining = { item_count (λ left. left) };
+
+    fn next(&mut self) -> Option<MessageLine<'a>> {
+        let submit = self.submits.next()?;
+        Some(message_line(self.present, &submit, &self.keys))
+    }
+}
+
+/// A line for each submitted message that is present, in the order of their places.
 pub fn message_lines<'a>(
     alloc: Global,
     present: &'a Present,
 ) -> Result<Vec<MessageLine<'a>>, AllocError>
     ensures { IfOk result (λ made. made.items ≡ lines.message_lines present.now) }
 {
-    let joined = Joined::of(alloc, present)?;
-    let mut made = Vec::with_capacity(alloc, joined.submits.len())?;
-    for submit in joined.submits.as_slice() {
-        made.push(message_line(present, submit, &joined.keys))?;
+    let lines = MessageLines::of(alloc, present)?;
+    let mut made = Vec::with_capacity(alloc, lines.len())?;
+    for line in lines {
+        made.push(line)?;
     }
     Ok(made)
 }
