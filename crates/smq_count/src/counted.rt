@@ -1,7 +1,8 @@
 //! Counts of messages by tuples, and their text.
-ghost use Rattle.std.specs.Prelude.{◌≡◌, ◌+◌, ◌<◌, ◌^◌, ◌++◌, ◌∷◌, [], IfErr, IfOk, OnOk, codes, map, string_bytes};
+ghost use Rattle.std.specs.Prelude.{◌≡◌, ◌+◌, ◌<◌, ◌^◌, ◌++◌, ◌∷◌, [], IfErr, IfOk, List, OnErr, OnOk, codes, length, map, string_bytes};
 ghost use Rattle.std.specs.FinMap.{put};
 ghost use Rattle.std.specs.Io.KnownBytes.{Appends};
+ghost use Rattle.smq_present.specs.join.Lines.{MessageLineValue};
 ghost use Rattle.smq_report.specs.Beginnings.{AppendsBeginning};
 ghost use Rattle.smq_count.specs.Cells.{cell_text, tuple_cmp};
 ghost use Rattle.smq_count.specs.Columns.{column_name};
@@ -16,6 +17,7 @@ use smq_report::{Fields, Line, ReportFault, write_lines};
 use std::alloc::{AllocError, Global};
 use std::collections::BTreeMap;
 use std::io::Write;
+use std::marker::Model;
 
 /// A combination of what messages have in columns, as it is written, and how many messages have it.
 #[derive(Drop)]
@@ -35,65 +37,92 @@ impl Line for Counted {
     }
 }
 
-/// Counts messages by tuples, and writes the counts as CSV: a record of columns, and a record for each tuple that a message has, in
-/// order. `Write` comes only where the writer failed in this call. On an error a beginning of the text has gone out, or nothing.
+/// Counts of messages by tuples, as they come to be, a message at a time. A contract sees each tuple that one has, in order, with how many
+/// have it.
+#[derive(Drop)]
+pub struct Counts {
+    numbers: BTreeMap<Vec<Cell>, u64>,
+}
+
+impl Model for Counts {
+    ghost use Rattle.std.specs.Prelude.{ℕ, List};
+    ghost use Rattle.smq_count.specs.Cells.{Tuple};
+    ghost use Rattle.smq_count.specs.within.Kept.{kept};
+
+    ghost Value = { List (Tuple × ℕ) };
+
+    ghost view = { λ c. kept c.numbers.entries };
+}
+
+impl Counts {
+    /// Those of no message.
+    pub fn new(alloc: Global) -> Counts
+        ensures { (counting : Counting) → result ≡ counts_of counting [] }
+    {
+        Counts {
+            numbers: BTreeMap::new(alloc),
+        }
+    }
+
+    /// Counts one more message, by its line. On an error they stay as they are.
+    pub fn add(
+        &mut self,
+        alloc: Global,
+        counting: &Counting,
+        line: &MessageLine<'_>,
+    ) -> Result<(), AllocError>
+        requires few { (lines : List MessageLineValue) × (self.old ≡ counts_of counting.now lines) × (length lines < 2 ^ 63) }
+        ensures ok { (lines : List MessageLineValue) → self.old ≡ counts_of counting.now lines
+            → OnOk result (self.new ≡ counts_of counting.now (lines ++ line.now ∷ [])) }
+        ensures err { OnErr result (self.new ≡ self.old) }
+    {
+        if counting.is_counted(alloc, line)? {
+            let tuple = counting.tuple(alloc, line)?;
+            count_one(&mut self.numbers, tuple)?;
+        }
+        Ok(())
+    }
+
+    /// Each tuple as it is written, in order, with how many messages have it.
+    pub fn counted(self, alloc: Global) -> Result<Vec<Counted>, AllocError>
+        ensures { IfOk result (λ counted. map counted_fields counted.items ≡ map count_fields self) }
+    {
+        let mut counted = Vec::with_capacity(alloc, self.numbers.len())?;
+        for (tuple, messages) in self.numbers {
+            let texts = texts_of(alloc, tuple.as_slice())?;
+            counted.push(Counted { texts, messages })?;
+        }
+        Ok(counted)
+    }
+}
+
+/// Writes counts as CSV: a record of columns, and a record for each tuple that a message has, in order. `Write` comes only where the
+/// writer failed in this call. On an error a beginning of the text has gone out, or nothing.
 pub fn write_counts<W: Write>(
     alloc: Global,
     counting: &Counting,
-    lines: &[MessageLine<'_>],
+    counts: Counts,
     writer: &mut W,
 ) -> Result<(), ReportFault>
-    ensures ok { OnOk result (Appends (W.contents writer.old) (W.contents writer.new)
-        (counts_text counting.now lines.now)) }
-    ensures begun { IfErr result (λ fault. AppendsBeginning (W.contents writer.old) (W.contents writer.new)
-        (counts_text counting.now lines.now)) }
+    ensures ok { (lines : List MessageLineValue) → counts ≡ counts_of counting.now lines
+        → OnOk result (Appends (W.contents writer.old) (W.contents writer.new)
+        (counts_text counting.now lines)) }
+    ensures begun { (lines : List MessageLineValue) → counts ≡ counts_of counting.now lines
+        → IfErr result (λ fault. AppendsBeginning (W.contents writer.old) (W.contents writer.new)
+        (counts_text counting.now lines)) }
 {
     let names = names_of(alloc, counting.columns.as_slice())?;
     let names = octets_of(alloc, names.as_slice())?;
-    let counted = count_lines(alloc, counting, lines)?;
+    let counted = counts.counted(alloc)?;
     write_lines(alloc, names.as_slice(), counted.as_slice(), writer)
-}
-
-/// Counts messages by tuples: each tuple that one has, in order, with how many have it.
-pub fn count_lines(
-    alloc: Global,
-    counting: &Counting,
-    lines: &[MessageLine<'_>],
-) -> Result<Vec<Counted>, AllocError>
-    ensures { IfOk result (λ counted. map counted_fields counted.items ≡ map count_fields (counts_of counting.now lines.now)) }
-{
-    let counts = counts_in(alloc, counting, lines)?;
-    let mut counted = Vec::with_capacity(alloc, counts.len())?;
-    for (tuple, messages) in counts {
-        let texts = texts_of(alloc, tuple.as_slice())?;
-        counted.push(Counted { texts, messages })?;
-    }
-    Ok(counted)
-}
-
-/// How many of the messages that are counted have each tuple.
-fn counts_in(
-    alloc: Global,
-    counting: &Counting,
-    lines: &[MessageLine<'_>],
-) -> Result<BTreeMap<Vec<Cell>, u64>, AllocError>
-    ensures { IfOk result (λ counts. kept counts.entries ≡ counts_of counting.now lines.now) }
-{
-    let mut counts = BTreeMap::new(alloc);
-    for line in lines {
-        if counting.is_counted(alloc, line)? {
-            let tuple = counting.tuple(alloc, line)?;
-            count_one(&mut counts, tuple)?;
-        }
-    }
-    Ok(counts)
 }
 
 /// Counts one more of a tuple.
 fn count_one(counts: &mut BTreeMap<Vec<Cell>, u64>, tuple: Vec<Cell>) -> Result<(), AllocError>
     requires { number_kept counts.old.entries tuple.items < 2 ^ 63 }
-    ensures { OnOk result (kept counts.new.entries
+    ensures ok { OnOk result (kept counts.new.entries
         ≡ put tuple_cmp tuple.items (number_kept counts.old.entries tuple.items + 1) (kept counts.old.entries)) }
+    ensures err { OnErr result (kept counts.new.entries ≡ kept counts.old.entries) }
 {
     let number = counts.get(&tuple).copied().unwrap_or(0);
     counts.insert(tuple, number + 1)?;

@@ -11,7 +11,7 @@ mod period;
 
 pub use cell::Cell;
 pub use column::{Column, Period};
-pub use counted::{Counted, count_lines, write_counts};
+pub use counted::{Counted, Counts, write_counts};
 pub use counting::{Condition, Counting};
 pub use laws::{
     counts_add_up, counts_are_numbers, days_are_written_by_their_dates, known_cells, known_columns,

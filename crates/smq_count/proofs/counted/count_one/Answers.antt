@@ -13,8 +13,8 @@ overflow_add-number c =
     ∙ ap (λ (n : Option ℕ). unwrap_or n 0) (c.copied.ensures ∙ c.get.ensures.value ∙ seen-find (λ v. v.items) _ tuple_cmp (λ a b. refl) c.args.counts.now.entries c.args.tuple) in
     omega (arith, number)
 
-pub returns : goal.returns
-returns c =
+pub returns-clause-ok : goal.returns-clause-ok
+returns-clause-ok c =
     let number : c.unwrap_or-number.result ≡ number_kept c.args.counts.now.entries c.args.tuple.items =
     c.unwrap_or-number.ensures
     ∙ ap (λ (n : Option ℕ). unwrap_or n 0) (c.copied.ensures ∙ c.get.ensures.value ∙ seen-find (λ v. v.items) _ tuple_cmp (λ a b. refl) c.args.counts.now.entries c.args.tuple) in
