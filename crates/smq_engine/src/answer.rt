@@ -9,14 +9,14 @@ ghost use Rattle.smq_engine.specs.Answers.{answer_text, asked_text, columns_text
 ghost use Rattle.smq_engine.specs.within.Steps.{EndsSaying};
 
 use crate::RunFault;
+use crate::output::Text;
 use crate::question::Question;
 use crate::totals::Totals;
 use smq_book::Book;
-use smq_count::{Column, Counting, Zone, write_counts};
+use smq_count::{Column, Counting, Zone};
 use smq_kit::{Moment, Refusal};
-use smq_present::MessageLine;
+use smq_present::Present;
 use smq_report::{Format, Pick, write_octets, write_report};
-use smq_scratch::message_lines;
 use std::alloc::{AllocError, Global};
 use std::io::Write;
 
@@ -72,23 +72,18 @@ fn counts_of(alloc: Global, book: &Book, columns: &[Column]) -> Result<Vec<u8>, 
     ensures ok { IfOk result (λ text. text.items ≡ columns_text columns.now (message_lines book.now.present)) }
     ensures memory { IfErr result (λ fault. fault ≡ RunFault.Memory) }
 {
-    let lines = message_lines(alloc, book.present())?;
     let counting = counting_by(alloc, columns)?;
-    let text = counted(alloc, &counting, lines.as_slice())?;
+    let text = counted(alloc, &counting, book.present())?;
     Ok(text)
 }
 
-/// How many messages have the same in the columns of a counting.
-fn counted(
-    alloc: Global,
-    counting: &Counting,
-    lines: &[MessageLine<'_>],
-) -> Result<Vec<u8>, RunFault>
-    ensures ok { IfOk result (λ text. text.items ≡ counts_text counting.now lines.now) }
+/// How many of the messages that are present have the same in the columns of a counting.
+fn counted(alloc: Global, counting: &Counting, present: &Present) -> Result<Vec<u8>, RunFault>
+    ensures ok { IfOk result (λ text. text.items ≡ counts_text counting.now (message_lines present.now)) }
     ensures memory { IfErr result (λ fault. fault ≡ RunFault.Memory) }
 {
     let mut text = Vec::new(alloc);
-    if write_counts(alloc, counting, lines, &mut text).is_err() {
+    if counting.write(alloc, present, &mut text).is_err() {
         return Err(RunFault::Memory);
     }
     Ok(text)

@@ -1,15 +1,17 @@
 //! The texts that are written of what is present: each by its definition.
-ghost use Rattle.std.specs.Prelude.{◌≡◌, ◌⊎◌, IfErr, OnOk};
+ghost use Rattle.std.specs.Prelude.{◌≡◌, ◌⊎◌, IfErr, IfOk, OnOk};
 ghost use Rattle.std.specs.Io.KnownBytes.{Appends};
 ghost use Rattle.smq_report.specs.Beginnings.{AppendsBeginning};
+ghost use Rattle.smq_scratch.specs.Lines.{message_lines};
+ghost use Rattle.smq_count.specs.Counts.{counts_of};
 ghost use Rattle.smq_engine.specs.IsRun.{count_text, output_text};
 
 use crate::RunFault;
-use smq_count::{Counting, write_counts};
+use smq_count::{Counting, Counts, write_counts};
 use smq_present::{PlainBook, Present};
 use smq_report::{Output, Query, write_messages, write_receipts, write_report};
-use smq_scratch::{message_lines, receipt_lines, tables_from_nothing};
-use std::alloc::Global;
+use smq_scratch::{MessageLines, message_lines, receipt_lines, tables_from_nothing};
+use std::alloc::{AllocError, Global};
 use std::io::Write;
 use std::mem::forget;
 
@@ -63,12 +65,24 @@ impl Text for Counting {
         present: &Present,
         writer: &mut W,
     ) -> Result<(), RunFault> {
-        let Ok(lines) = message_lines(alloc, present) else {
+        let Ok(counts) = counts_of(alloc, present, self) else {
             return Err(RunFault::Memory);
         };
-        write_counts(alloc, self, lines.as_slice(), writer)?;
+        write_counts(alloc, self, counts, writer)?;
         Ok(())
     }
+}
+
+/// Counts of the messages that are present. Each is counted as its line is made, so that the lines take no memory.
+fn counts_of(alloc: Global, present: &Present, counting: &Counting) -> Result<Counts, AllocError>
+    ensures { IfOk result (λ counts. counts ≡ counts_of counting.now (message_lines present.now)) }
+{
+    let lines = MessageLines::of(alloc, present)?;
+    let mut counts = Counts::new(alloc);
+    for line in lines {
+        counts.add(alloc, counting, &line)?;
+    }
+    Ok(counts)
 }
 
 /// Writes a text of what is present in a book, and leaves the book to the system: its memory isn't given back before the process

@@ -7,5 +7,5 @@ use Rattle.smq_engine.proofs.answer.counts_of.Goals as goal
 pub returns-clause-ok : goal.returns-clause-ok
 returns-clause-ok c =
     c.in_ok-text.ensures.ok
-    ∙ counts-all c.in_ok-counting.counting c.args.columns.now c.as_slice.result.now c.in_ok-counting.ensures.columns c.in_ok-counting.ensures.all c.in_ok-counting.ensures.utc
-    ∙ ap (columns_text c.args.columns.now) (c.as_slice.ensures.value ∙ c.in_ok-lines.ensures ∙ ap message_lines c.present.ensures)
+    ∙ counts-all c.in_ok-counting.counting c.args.columns.now (message_lines c.present.result.now) c.in_ok-counting.ensures.columns c.in_ok-counting.ensures.all c.in_ok-counting.ensures.utc
+    ∙ ap (λ p. columns_text c.args.columns.now (message_lines p)) c.present.ensures
