@@ -6,4 +6,9 @@ pub mod Probe
 pub mod Beginning
 pub mod Ending
 pub mod Ended
+pub mod Sessions
+pub mod Rows
+pub mod Calls
+pub mod within
 pub mod Known
+pub mod KnownRows

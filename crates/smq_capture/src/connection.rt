@@ -11,6 +11,7 @@ use crate::least::least;
 use crate::notice::{Notice, Sender};
 use crate::numbers::{Heard, behind};
 use crate::output::Output;
+use crate::rows::Rows;
 use crate::side::Side;
 use crate::sink::{Piece, SessionLine, Sink};
 use crate::strays::Strays;
@@ -24,28 +25,6 @@ mod another;
 mod gaps;
 mod rows;
 mod told;
-
-/// What a row that waits takes besides its octets.
-const ROW: u64 = 160;
-
-/// So many octets of a row, from those before on, are of a session.
-#[derive(Clone, Copy)]
-struct Cut {
-    until: usize,
-    session: u64,
-}
-
-/// Octets of a direction that were handed in at a moment, by a packet; how many of them are settled, and their sessions.
-#[derive(Drop)]
-struct Row {
-    sender: Side,
-    place: u64,
-    number: u64,
-    moment: u64,
-    octets: Vec<u8>,
-    settled: usize,
-    cuts: Vec<Cut>,
-}
 
 /// A segment that isn't within the window of its direction: who sent it, and what it told.
 #[derive(Clone, Copy)]
@@ -65,13 +44,8 @@ pub(crate) struct Connection {
     first: u64,
     last: u64,
     has_rows: bool,
-    /// The rows that weren't written, how much memory they take, how many were written before, and by direction the first that isn't
-    /// settled.
-    rows: VecDeque<Row>,
-    rows_weight: u64,
-    written: u64,
-    client_row: u64,
-    centre_row: u64,
+    /// The rows that weren't written.
+    rows: Rows,
     /// The sessions that weren't told.
     lines: VecDeque<SessionLine>,
     stray: Option<Stray>,
@@ -118,11 +92,7 @@ impl Connection {
             first: session,
             last: session,
             has_rows: false,
-            rows: VecDeque::new(alloc),
-            rows_weight: 0,
-            written: 0,
-            client_row: 0,
-            centre_row: 0,
+            rows: Rows::new(alloc),
             lines,
             stray: None,
             strays: Strays::new(alloc),
@@ -180,7 +150,7 @@ impl Connection {
             .client
             .weight()
             .saturating_add(self.both.centre.weight())
-            .saturating_add(self.rows_weight)
+            .saturating_add(self.rows.weight())
     }
 
     /// When what waits is given up, if anything does.

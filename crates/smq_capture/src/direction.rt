@@ -1,10 +1,13 @@
 //! One direction of a connection, and its sessions.
-ghost use Rattle.std.specs.Prelude.{◌≡◌, ◌<◌, ℕ, IfSome, IsSome, IsTrue, [], ◌∷◌, max, Some, None, false};
+ghost use Rattle.std.specs.Prelude.{◌≡◌, ◌<◌, ◌≤◌, ℕ, List, length, IfSome, IsSome, IsTrue, [], ◌∷◌, max, Some, None, false};
+ghost use Rattle.smq_streams.specs.Framing.{IsFramed};
+ghost use Rattle.smq_capture.specs.Sessions.{BeginsAt, Deals, Goes};
 
 use crate::ending::{fin_with, is_ended, is_reset};
 use crate::notice::Noted;
 use crate::probe::{Probe, may_be_probe};
 use crate::side::Side;
+use crate::waiting::shorter;
 use smq_packets::Segment;
 use smq_streams::{Fit, Framer, Stream};
 use std::alloc::{AllocError, Global};
@@ -233,39 +236,36 @@ impl Direction {
     }
 
     /// Tells octets at a place, which follow those settled before, their sessions: all are of one, or the last ones of the next.
-    pub(crate) fn settle(&mut self, place: u64, octets: &[u8]) -> Settled {
+    pub(crate) fn settle(&mut self, place: u64, octets: &[u8]) -> Settled
+        ensures place { result.place ≤ length octets.now }
+        ensures before { result.before ≡ self.old.session }
+        ensures after { result.after ≡ self.new.session }
+        ensures goes { Goes self.old self.new }
+        ensures deals { Deals self.old self.new place octets.now result.place }
+    {
         let before = self.session;
-        if let Some(following) = self.following {
-            let skipped = following.place.saturating_sub(place);
-            let skipped = if skipped < octets.len() as u64 {
-                skipped as usize
-            } else {
-                octets.len()
-            };
-            if let Some((front, back)) = octets.split_at_checked(skipped) {
-                self.framer.feed(front);
-                if let Some(at) = self.framer.next_pdu(back) {
-                    if let Some((_, rest)) = back.split_at_checked(at) {
-                        self.session = following.session;
-                        self.following = None;
-                        self.framer = Framer::new();
-                        self.framer.feed(rest);
-                        return Settled {
-                            before,
-                            place: skipped.saturating_add(at),
-                            after: following.session,
-                        };
-                    }
-                }
-                self.framer.feed(back);
-            }
-        } else {
+        let Some(following) = self.following else {
             self.framer.feed(octets);
-        }
+            return Settled {
+                before,
+                place: octets.len(),
+                after: before,
+            };
+        };
+        let skipped = shorter(following.place.saturating_sub(place), octets.len());
+        let Some(begin) = find_begin(&mut self.framer, octets, skipped) else {
+            return Settled {
+                before,
+                place: octets.len(),
+                after: before,
+            };
+        };
+        self.session = following.session;
+        self.following = None;
         Settled {
             before,
-            place: octets.len(),
-            after: before,
+            place: begin,
+            after: following.session,
         }
     }
 
@@ -275,6 +275,27 @@ impl Direction {
         self.following = None;
         self.framer = Framer::new();
     }
+}
+
+/// Where a PDU begins in octets behind so many of them, if one does. The framer is at their end, then; those from that PDU on it frames
+/// anew.
+fn find_begin(framer: &mut Framer, octets: &[u8], skipped: usize) -> Option<usize>
+    requires { skipped ≤ length octets.now }
+    ensures within { IfSome result (λ place. place ≤ length octets.now) }
+    ensures begins { (settled : List ℕ) → IsFramed settled framer.old
+        → BeginsAt settled octets.now skipped framer.new result }
+{
+    let (front, back) = octets.split_at(skipped);
+    framer.feed(front);
+    if let Some(behind) = framer.next_pdu(back) {
+        if let Some((_, rest)) = back.split_at_checked(behind) {
+            *framer = Framer::new();
+            framer.feed(rest);
+            return Some(skipped + behind);
+        }
+    }
+    framer.feed(back);
+    None
 }
 
 /// A direction of two, by the end that sends it.

@@ -1,5 +1,11 @@
-//! Known values of the definitions: each is the contract of a function with no body.
+//! Laws and known values of the definitions: each is the contract of a function with no body.
+ghost use Rattle.std.specs.Prelude.{List, []};
+ghost use Rattle.smq_capture.specs.Calls.{Become, Call, ComeOnce, OctetsStay};
 ghost use Rattle.smq_capture.specs.Known.{KnowsConnections, KnowsMoments, KnowsNumbers};
+ghost use Rattle.smq_capture.specs.KnownRows.{KnowsRows};
+ghost use Rattle.smq_capture.specs.Rows.{Row};
+
+use crate::side::Side;
 
 /// Which moments are believed.
 pub fn known_moments()
@@ -10,4 +16,16 @@ pub fn known_moments()
 pub fn known_connections()
     ensures numbers { KnowsNumbers }
     ensures connections { KnowsConnections }
+{}
+
+/// What is settled of known rows, and their parts.
+pub fn known_rows()
+    ensures { KnowsRows }
+{}
+
+/// Whatever is put, settled and taken, of a connection's rows none is lost and none comes twice; and so it is with the octets of each end.
+pub fn rows_come_once()
+    ensures rows { (calls : List Call) (rows : List Row) → Become calls [] rows → ComeOnce calls rows }
+    ensures octets { (side : Side) (calls : List Call) (rows : List Row) → Become calls [] rows
+        → OctetsStay side calls rows }
 {}

@@ -22,15 +22,17 @@ mod queues;
 mod reading;
 mod room;
 mod row;
+mod rows;
 mod sessions;
 mod side;
 mod sink;
 mod strays;
 mod ticks;
+mod waiting;
 
 pub use capture::{Capture, Options};
 pub use fault::Fault;
-pub use laws::{known_connections, known_moments};
+pub use laws::{known_connections, known_moments, known_rows, rows_come_once};
 pub use links::Link;
 pub use notice::{About, Behind, Busy, Noted, Notice, Sender};
 pub use reading::{Reading, Step};

@@ -1,12 +1,10 @@
 //! The rows of a connection: which session each octet is of, and when it is written.
-ghost use Rattle.std.specs.Prelude.{◌≡◌, min};
-
-use crate::connection::{Connection, Cut, ROW, Row};
-use crate::direction::Direction;
+use crate::connection::Connection;
 use crate::fault::Fault;
 use crate::output::Output;
 use crate::side::Side;
 use crate::sink::{Piece, Sink};
+use crate::waiting::Waiting;
 use std::alloc::AllocError;
 
 impl Connection {
@@ -41,19 +39,7 @@ impl Connection {
         moment: u64,
     ) -> Result<(), AllocError> {
         let moment = self.both.of_mut(sender).raise_moment(number, moment);
-        let weight = ROW.saturating_add(octets.len() as u64);
-        let cuts = Vec::new(*octets.allocator());
-        self.rows.push_back(Row {
-            sender,
-            place,
-            number,
-            moment,
-            octets,
-            settled: 0,
-            cuts,
-        })?;
-        self.rows_weight = self.rows_weight.saturating_add(weight);
-        Ok(())
+        self.rows.put(sender, place, number, moment, octets)
     }
 
     /// Writes the rows whose sessions are known: all of them where nothing waits that may begin another.
@@ -63,43 +49,29 @@ impl Connection {
             self.settle(Side::Centre, None)?;
         }
         for _ in 0..u64::MAX {
-            match self.rows.front() {
-                Some(row) if row.settled >= row.octets.len() => {}
-                _ => break,
-            }
-            let Some(row) = self.rows.pop_front() else {
+            let Some(row) = self.rows.take() else {
                 break;
             };
-            self.written = self.written.saturating_add(1);
-            let weight = ROW.saturating_add(row.octets.len() as u64);
-            self.rows_weight = self.rows_weight.saturating_sub(weight);
             self.write_row(output, &row)?;
         }
         self.tell_sessions(output, false)
     }
 
     /// Writes a row, a part of it for each session.
-    fn write_row<S: Sink>(&mut self, output: &mut Output<S>, row: &Row) -> Result<(), Fault> {
-        let mut from: usize = 0;
-        for (index, cut) in row.cuts.as_slice().iter().enumerate() {
-            let goes_on = match row.cuts.get(index.saturating_add(1)) {
-                Some(next) => next.session == cut.session,
-                None => false,
+    fn write_row<S: Sink>(&mut self, output: &mut Output<S>, row: &Waiting) -> Result<(), Fault> {
+        let mut parts = row.parts();
+        for _ in 0..u64::MAX {
+            let Some(part) = parts.next() else {
+                break;
             };
-            if goes_on {
-                continue;
-            }
-            if let Some(octets) = row.octets.as_slice().get(from..cut.until) {
-                self.note_packet(cut.session, row.number);
-                output.put(&Piece {
-                    link: self.link,
-                    session: cut.session,
-                    sender: row.sender,
-                    moment: row.moment,
-                    octets,
-                })?;
-            }
-            from = cut.until;
+            self.note_packet(part.session, row.number());
+            output.put(&Piece {
+                link: self.link,
+                session: part.session,
+                sender: row.sender(),
+                moment: row.moment(),
+                octets: part.octets,
+            })?;
         }
         Ok(())
     }
@@ -154,80 +126,10 @@ impl Connection {
 
     /// Tells the rows of a direction their sessions, in order, up to a place of it.
     pub(crate) fn settle(&mut self, side: Side, until: Option<u64>) -> Result<(), AllocError> {
-        let mut at = match side {
-            Side::Client => self.client_row,
-            Side::Centre => self.centre_row,
-        };
-        if at < self.written {
-            at = self.written;
-        }
-        for _ in 0..u64::MAX {
-            let index = at.saturating_sub(self.written) as usize;
-            let Some(row) = self.rows.get_mut(index) else {
-                break;
-            };
-            if row.sender == side {
-                let limit = match until {
-                    None => row.octets.len(),
-                    Some(place) => shorter(place.saturating_sub(row.place), row.octets.len()),
-                };
-                let direction = self.both.of_mut(side);
-                if settle_row(direction, row, limit, self.last)? {
-                    self.has_rows = true;
-                }
-                if row.settled < row.octets.len() {
-                    break;
-                }
-            }
-            at = at.saturating_add(1);
-        }
-        match side {
-            Side::Client => self.client_row = at,
-            Side::Centre => self.centre_row = at,
+        let direction = self.both.of_mut(side);
+        if self.rows.settle(side, until, direction, self.last)? {
+            self.has_rows = true;
         }
         Ok(())
-    }
-}
-
-/// Tells octets of a row their sessions up to a limit; whether one of them is the last session.
-fn settle_row(
-    direction: &mut Direction,
-    row: &mut Row,
-    limit: usize,
-    last: u64,
-) -> Result<bool, AllocError> {
-    let from = row.settled;
-    let Some(octets) = row.octets.as_slice().get(from..limit) else {
-        return Ok(false);
-    };
-    if octets.is_empty() {
-        return Ok(false);
-    }
-    let settled = direction.settle(row.place.saturating_add(from as u64), octets);
-    let place = from.saturating_add(settled.place);
-    if from < place {
-        row.cuts.push(Cut {
-            until: place,
-            session: settled.before,
-        })?;
-    }
-    if place < limit {
-        row.cuts.push(Cut {
-            until: limit,
-            session: settled.after,
-        })?;
-    }
-    row.settled = limit;
-    Ok(settled.after == last)
-}
-
-/// A length, or a number where that is less.
-fn shorter(number: u64, length: usize) -> usize
-    ensures { result ≡ min number length }
-{
-    if number < length as u64 {
-        number as usize
-    } else {
-        length
     }
 }

@@ -1,0 +1,87 @@
+use Rattle.std.proofs.Common.{◌∙◌, refl, ap, arith}
+use Rattle.std.proofs.lemmas.List.{length-set, take-set-le}
+use Rattle.smq_capture.specs.Rows.{Row}
+use Rattle.smq_capture.proofs.Runs.{goes-none, goes-on}
+use Rattle.smq_capture.proofs.Waits.{all-done, dealt-all, dealt-last, dealt-more, dealt-none, dealt-step, done-more, done-set, rest-more, rest-set, set-same, settle-all-none, settle-step, up-to-step}
+use Rattle.smq_capture.proofs.rows.settle_from.Goals as goal
+use Rattle.smq_capture.proofs.rows.settle_from.Goals.{then-is_of+in_ok-settle+else-not-is_settled, else-is_of}
+
+pub loop-at-init : goal.loop-at-init
+loop-at-init c = record {
+  settles = settle-all-none _ _ _;
+  goes = goes-none _;
+  dealt = dealt-none _ _ _;
+  size = refl;
+  rest = refl;
+  kept = refl;
+  done = c.requires.settled;
+}
+
+pub returns-in_err-settle-clause-settles : goal.returns-in_err-settle-clause-settles
+returns-in_err-settle-clause-settles c =
+    settle-step _ _ c.loop-at.direction _ c.loop-at.rows.items _ c.index_mut-row.result.now _ c.loop-at.invariant.settles
+    c.loop-at.invariant.rest (omega arith) c.index_mut-row.ensures.value (c.is_of.ensures.0 c.if-is_of.true)
+    c.loop-at.invariant.goes c.settle.ensures.settles
+
+pub returns-then-not-is_settled-clause-settles : goal.returns-then-not-is_settled-clause-settles
+returns-then-not-is_settled-clause-settles c =
+    settle-step _ _ c.loop-at.direction _ c.loop-at.rows.items _ c.index_mut-row.result.now _ c.loop-at.invariant.settles
+    c.loop-at.invariant.rest (omega arith) c.index_mut-row.ensures.value (c.is_of.ensures.0 c.if-is_of.true)
+    c.loop-at.invariant.goes c.settle.ensures.settles
+
+pub returns-then-not-is_settled-clause-below : goal.returns-then-not-is_settled-clause-below
+returns-then-not-is_settled-clause-below c =
+    up-to-step _ _ c.loop-at.direction _ c.loop-at.rows.items _ c.index_mut-row.result.now _
+    c.loop-at.invariant.rest (omega arith) (omega arith) c.index_mut-row.ensures.value (c.is_of.ensures.0 c.if-is_of.true)
+    c.settle.ensures.settles c.in_ok-settle.ensures.ok (c.is_settled.ensures.fewer c.if-not-is_settled.true) c.loop-at.invariant.done
+
+pub loop-at-preserved : goal.loop-at-preserved
+loop-at-preserved c =
+    elim c.if-is_of.branch [
+      | then-is_of+in_ok-settle+else-not-is_settled w ↦
+          rw (w.rows-is, w.direction-is)
+          (record {
+            settles = settle-step _ _ c.loop-at.direction _ c.loop-at.rows.items _ c.index_mut-row.result.now _ c.loop-at.invariant.settles
+                c.loop-at.invariant.rest (omega arith) c.index_mut-row.ensures.value (c.is_of.ensures.0 w.if-is_of.true)
+                c.loop-at.invariant.goes w.settle.ensures.settles;
+            goes = goes-on _ _ _ c.loop-at.invariant.goes w.settle.ensures.goes;
+            dealt = dealt-step c.args.side c.args.direction.now c.loop-at.direction w.settle.new.direction c.args.rows.now.items c.loop-at.rows.items c.loop-at.at
+                c.index_mut-row.result.now w.settle.new.self c.loop-at.invariant.dealt c.loop-at.invariant.rest (omega arith) (omega arith)
+                c.index_mut-row.ensures.value (c.is_of.ensures.0 w.if-is_of.true) w.in_ok-settle.ensures.dealt;
+            size = length-set _ _ _ ∙ c.loop-at.invariant.size;
+            kept = take-set-le _ _ _ _ (omega arith) ∙ c.loop-at.invariant.kept;
+            rest = rest-set c.args.rows.now.items c.loop-at.rows.items c.loop-at.at w.settle.new.self c.loop-at.invariant.rest;
+            done = done-set _ _ _ _ (omega arith) c.loop-at.invariant.done (w.is_settled.ensures.settled w.if-not-is_settled.false);
+          })
+      | else-is_of w ↦
+          rw (w.rows-is, w.direction-is, set-same c.loop-at.rows.items c.loop-at.at c.index_mut-row.result.now c.index_mut-row.ensures.value)
+          (record {
+            settles = c.loop-at.invariant.settles;
+            goes = c.loop-at.invariant.goes;
+            dealt = dealt-more c.args.side c.args.direction.now c.loop-at.direction c.args.rows.now.items c.loop-at.rows.items c.loop-at.at
+                c.index_mut-row.result.now c.loop-at.invariant.dealt c.loop-at.invariant.rest (omega arith) (omega arith);
+            size = c.loop-at.invariant.size;
+            kept = c.loop-at.invariant.kept;
+            rest = rest-more c.args.rows.now.items c.loop-at.rows.items c.loop-at.at c.loop-at.invariant.rest;
+            done = done-more _ _ _ c.index_mut-row.result.now (omega arith) c.loop-at.invariant.done
+                (λ s. let i = w.if-is_of.false in
+                let t = c.is_of.ensures.1 (ap (λ (x : Row). x.sender) c.index_mut-row.ensures.value ∙ s) in absurd (cc));
+          })
+    ]
+
+pub returns-clause-all : goal.returns-clause-all
+returns-clause-all c = λ _. all-done _ _ _ _ (omega arith) c.loop-at.invariant.done
+
+pub returns-clause-below : goal.returns-clause-below
+returns-clause-below c = λ _. all-done _ _ _ _ (omega arith) c.loop-at.invariant.done
+
+pub returns-then-not-is_settled-clause-dealt : goal.returns-then-not-is_settled-clause-dealt
+returns-then-not-is_settled-clause-dealt c =
+    dealt-last c.args.side c.args.direction.now c.loop-at.direction c.settle.new.direction c.args.rows.now.items c.loop-at.rows.items c.loop-at.at
+    c.index_mut-row.result.now c.settle.new.self c.loop-at.invariant.dealt c.loop-at.invariant.rest (omega arith) (omega arith)
+    c.index_mut-row.ensures.value (c.is_of.ensures.0 c.if-is_of.true) c.in_ok-settle.ensures.dealt
+
+pub returns-clause-dealt : goal.returns-clause-dealt
+returns-clause-dealt c =
+    dealt-all c.args.side c.args.direction.now c.loop-at.direction c.args.rows.now.items c.loop-at.rows.items c.loop-at.at
+    c.loop-at.invariant.dealt (omega arith) (omega arith)
